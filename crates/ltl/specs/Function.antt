@@ -1,0 +1,42 @@
+-- Functions of LTL as plain data, and those that are in range (Leroy 2009, section 3.3).
+use Rattle.std.specs.Prelude.{◌≡◌, ℕ, ◌<◌, ◌≤◌, List, length, Option, Some, None}
+use Rattle.std.specs.List.{AllByRecursion}
+use Rattle.machine.specs.declared.location.Location.{Location}
+use Rattle.machine.specs.declared.act.Act.{Act}
+use Rattle.machine.specs.Fits.{ParametersFit, MovesFit, ActFits, TestFits, ValueFits, slot_limit}
+use Rattle.ltl.specs.declared.block.Block.{Block}
+use Rattle.ltl.specs.declared.block.Body.{Body}
+use Rattle.ltl.specs.declared.block.Body.TheVariants.{Go, Branch, Return}
+
+-- where the parameters lie, the number of slots, the entry, and the blocks by node number
+pub record FunctionData : Type 0 where
+  pub parameters : List Location
+  pub slots : ℕ
+  pub entry : ℕ
+  pub blocks : List Block
+
+-- a function has at most so many nodes
+abbrev pub node_limit : ℕ
+node_limit = 65535
+
+abbrev pub MaybeActFits : Option Act → Type 0
+MaybeActFits None = Unit {0}
+MaybeActFits (Some act) = ActFits act
+
+-- a body among so many slots and nodes
+abbrev pub BodyFits : ℕ → ℕ → Body → Type 0
+BodyFits slots nodes (Go act after successor) = MaybeActFits act × MovesFit slots after × (successor < nodes)
+BodyFits slots nodes (Branch test taken other) = TestFits test × (taken < nodes) × (other < nodes)
+BodyFits slots nodes (Return value) = ValueFits value
+
+pub record BlockFits (slots nodes : ℕ) (b : Block) : Type 0 where
+  pub before : MovesFit slots b.before
+  pub body : BodyFits slots nodes b.body
+
+-- every part is in range
+pub record IsFunction (f : FunctionData) : Type 0 where
+  pub parameters : ParametersFit f.slots f.parameters
+  pub slots : f.slots ≤ slot_limit
+  pub entry : f.entry < length f.blocks
+  pub nodes : length f.blocks ≤ node_limit
+  pub each : AllByRecursion (BlockFits f.slots (length f.blocks)) f.blocks

@@ -1,0 +1,10 @@
+pub mod Function
+pub mod Meaning
+pub mod Growth
+pub use Rattle.machine.specs.Data
+pub use Rattle.machine.specs.Acts
+pub use Rattle.machine.specs.Frames
+pub use Rattle.machine.specs.Fits
+pub use Rattle.lang.specs.Behaviour
+pub use Rattle.lang.specs.Programs
+pub use Rattle.lang.specs.Machine

@@ -1,0 +1,9 @@
+//! LTL, the third language of the pipeline: a graph of blocks over registers and slots. Each function
+//! has one spelling, and a program's run is counted in blocks.
+#![tactic(auto)]
+
+mod block;
+mod function;
+
+pub use block::{Block, Body};
+pub use function::Function;

@@ -1,0 +1,4 @@
+pub mod Data
+pub mod Acts
+pub mod Frames
+pub mod Fits
