@@ -11,5 +11,5 @@ mod test;
 pub use act::Act;
 pub use arguments::Arguments;
 pub use location::{Location, Move};
-pub use register::Register;
+pub use register::{REGISTER_COUNT, Register};
 pub use test::Test;

@@ -1,0 +1,9 @@
+pub mod Agree
+pub mod Bits
+pub mod Bounds
+pub mod Codes
+pub mod CondCodes
+pub mod Numbered
+pub mod Quotients
+pub mod Readings
+pub mod Wrapping

@@ -1,0 +1,5 @@
+use Rattle.ints.proofs.CondCodes.{cond_codes_lead_back}
+use Rattle.ints.proofs.laws.condition_codes_lead_back.Goals as goal
+
+pub returns : goal.returns
+returns c = cond_codes_lead_back

@@ -1,0 +1,5 @@
+use Rattle.ints.proofs.Quotients.{divides}
+use Rattle.ints.proofs.laws.quotients_divide.Goals as goal
+
+pub returns : goal.returns
+returns c = divides

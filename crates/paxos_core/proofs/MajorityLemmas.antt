@@ -1,0 +1,217 @@
+-- A node learns exactly once the votes noted of a majority have had one ballot.
+use Rattle.std.proofs.Common.{◌≡◌, ℕ, suc, ◌+◌, ◌*◌, ◌<◌, ◌≤◌, ◌⊎◌, Bool, true, false, cond, ◌&&◌, ltb, eqb, List, [], ◌∷◌, ◌++◌, set, length, Option, Some, None, is_some, IsTrue, IsSome, refl, sym, ap, ◌∙◌, subst, inl, inr, arith}
+use Rattle.std.proofs.lemmas.Bool.{ltb-true, lt-ltb, eqb-true, eq-eqb, and_parts, cases_eq}
+use Rattle.std.proofs.lemmas.List.{get_or-set_same}
+use Rattle.paxos_world.specs.KeptPart.{KeptPart, vote}
+use Rattle.paxos_world.specs.Quorum.{count_below, IsQuorum}
+use Rattle.paxos_world.specs.declared.msg.Msg.{Msg}
+use Rattle.paxos_world.specs.declared.msg.Msg.TheVariants.{Prepare, Promise, Propose, Accepted}
+use Rattle.paxos_world.specs.declared.vote.Vote.{Vote}
+use Rattle.paxos_model.proofs.Quorums.{meet, quorum_grows}
+use Rattle.paxos_core.specs.Acceptor.{is_vote, promises, accepts}
+use Rattle.paxos_core.specs.Call.{Call, Offer, Start, Proposal, On, Restart, has_ballot, after_call, after_calls}
+use Rattle.paxos_core.specs.Learner.{is_at_most, notes_promise, notes_vote, votes_with, learned_with, voted}
+use Rattle.paxos_core.specs.Majority.{HasNoRestart, HasMajority, WasMajority, LearnsFromMajority, MajorityIsLearned}
+use Rattle.paxos_core.specs.NodeState.{NodeState, node_with, nothing_noted}
+use Rattle.paxos_core.specs.Notes.{note_of, is_under, has_voted, is_majority}
+use Rattle.paxos_core.specs.Proposer.{proposal, after_answer}
+use Rattle.paxos_core.proofs.CallLemmas.{IsNode, node_with-is, after_call-is}
+use Rattle.paxos_core.proofs.NoteLemmas.{note_of-set, note_of-nothing, voted_vote}
+
+-- ---- what a call changes of votes and of what is learned
+
+-- the call is no restart and notes no vote: votes and what is learned stay
+pub record KeepsVotes (s t : NodeState) : Type 0 where
+  pub count : t.count ≡ s.count
+  pub votes : t.votes ≡ s.votes
+  pub learned : t.learned ≡ s.learned
+
+-- the call noted this vote of node a
+pub record Notes (s t : NodeState) (a : ℕ) (x : Vote) : Type 0 where
+  pub may : notes_vote s a x ≡ true
+  pub is : t ≡ voted s a x
+
+-- either of the two
+abbrev pub VotesChange : NodeState → NodeState → Type 0
+VotesChange s t = KeepsVotes s t ⊎ ((a : ℕ) × (x : Vote) × Notes s t a x)
+
+either : (b : Bool) (s t : NodeState) → t.count ≡ s.count → t.votes ≡ s.votes → t.learned ≡ s.learned → VotesChange s (cond b t s)
+either true s t c v l = inl (record { count = c; votes = v; learned = l })
+either false s t c v l = inl (record { count = refl; votes = refl; learned = refl })
+
+vote_or_not : (b : Bool) (s : NodeState) (a : ℕ) (x : Vote) → notes_vote s a x ≡ b → VotesChange s (cond b (voted s a x) s)
+vote_or_not true s a x e = inr (a, x, record { may = e; is = refl })
+vote_or_not false s a x e = inl (record { count = refl; votes = refl; learned = refl })
+
+after_answer_votes : (s : NodeState) (answer : Option Msg) → VotesChange s (after_answer s answer)
+after_answer_votes s None = inl (record { count = refl; votes = refl; learned = refl })
+after_answer_votes s (Some m) = inl (record { count = refl; votes = refl; learned = refl })
+
+votes_change : (s : NodeState) (c : Call) → HasNoRestart (c ∷ []) → VotesChange s (after_call s c)
+votes_change s Offer h = inl (record { count = refl; votes = refl; learned = refl })
+votes_change s Start h = either (has_ballot s) s _ refl refl refl
+votes_change s Proposal h = after_answer_votes s (proposal s)
+votes_change s (On (Prepare b)) h = either (promises s b) s _ refl refl refl
+votes_change s (On (Propose b v)) h = either (accepts s (vote b v)) s _ refl refl refl
+votes_change s (On (Promise a b report)) h = either (notes_promise s a b report) s _ refl refl refl
+votes_change s (On (Accepted a b v)) h = vote_or_not (notes_vote s a (vote b v)) s a (vote b v) refl
+votes_change s Restart h = absurd h
+
+-- ---- what was learned stays
+
+stays_with : (o : Option ℕ) (q : Bool) (v : ℕ) → IsSome o → IsSome (learned_with o q v)
+stays_with (Some u) q v h = refl
+stays_with None q v h = absurd (cc)
+
+stays : (s t : NodeState) → VotesChange s t → IsSome s.learned → IsSome t.learned
+stays s t d h = elim d [
+  | inl e ↦ rw e.learned h
+  | inr e ↦ rw e.2.is (stays_with s.learned (is_majority s.count (has_voted (votes_with s e.0 e.1) e.1.ballot)) e.1.value h)
+]
+
+-- ---- a majority is learned
+
+-- once a majority has voted under a ballot, a value is learned
+abbrev HasLearned : NodeState → Type 0
+HasLearned s = (b : ℕ) → HasMajority s b → IsSome s.learned
+
+learned_now : (o : Option ℕ) (q : Bool) (v : ℕ) → q ≡ true → IsSome (learned_with o q v)
+learned_now (Some u) q v h = refl
+learned_now None true v h = refl
+learned_now None false v h = absurd (cc)
+
+under_vote : (o : Option Vote) (b : ℕ) (y : Vote) → o ≡ Some y → y.ballot ≡ b → is_under b o ≡ true
+under_vote None b y e h = absurd (cc)
+under_vote (Some z) b y e h = let same : z ≡ y = cc in eq-eqb z.ballot b (ap (λ (u : Vote). u.ballot) same ∙ h)
+
+-- who has voted under another ballot had voted under it before
+voted_before : (s : NodeState) (a : ℕ) (x : Vote) (b : ℕ) → (x.ballot ≡ b → ⊥) → (k : ℕ) → k < s.count → IsTrue (has_voted (votes_with s a x) b k) → IsTrue (has_voted s.votes b k)
+voted_before s a x b other k below h =
+    let y = voted_vote (votes_with s a x) b k h in
+    elim (note_of-set s.votes a k x y.0 y.1) [
+      | inl e ↦ absurd (other (ap (λ (z : Vote). z.ballot) e.1 ∙ y.2))
+      | inr e ↦ under_vote (note_of s.votes k) b y.0 e y.2
+    ]
+
+-- the majority, in terms of what it was before
+majority_of : (n m b : ℕ) (vs us : List (Option Vote)) → n ≡ m → vs ≡ us → IsQuorum n (has_voted vs b) → IsQuorum m (has_voted us b)
+majority_of n m b vs us e f h = rw (← e, ← f) h
+
+learned_vote : (s : NodeState) (a : ℕ) (x : Vote) → HasLearned s → HasLearned (voted s a x)
+learned_vote s a x h b q = elim (cases_eq x.ballot b) [
+  | inl same ↦ learned_now s.learned (is_majority s.count (has_voted (votes_with s a x) x.ballot)) x.value
+      (lt-ltb s.count (2 * count_below s.count (has_voted (votes_with s a x) x.ballot)) (subst (λ c. IsQuorum s.count (has_voted (votes_with s a x) c)) (sym same) q))
+  | inr other ↦ stays_with s.learned (is_majority s.count (has_voted (votes_with s a x) x.ballot)) x.value
+      (h b (quorum_grows s.count (has_voted (votes_with s a x) b) (has_voted s.votes b) (voted_before s a x b other) q))
+]
+
+learned_after : (s t : NodeState) → VotesChange s t → HasLearned s → HasLearned t
+learned_after s t d h = elim d [
+  | inl e ↦ λ b q. rw e.learned (h b (majority_of t.count s.count b t.votes s.votes e.count e.votes q))
+  | inr e ↦ subst HasLearned (sym e.2.is) (learned_vote s e.0 e.1 h)
+]
+
+-- ---- over the calls since a restart
+
+no_restart_tail : (c : Call) (cs : List Call) → HasNoRestart (c ∷ cs) → HasNoRestart cs
+no_restart_tail Offer cs h = h
+no_restart_tail Start cs h = h
+no_restart_tail Proposal cs h = h
+no_restart_tail (On m) cs h = h
+no_restart_tail Restart cs h = absurd h
+
+no_restart_head : (c : Call) (cs : List Call) → HasNoRestart (c ∷ cs) → HasNoRestart (c ∷ [])
+no_restart_head Offer cs h = tt
+no_restart_head Start cs h = tt
+no_restart_head Proposal cs h = tt
+no_restart_head (On m) cs h = tt
+no_restart_head Restart cs h = h
+
+no_restart_earlier : (later earlier : List Call) → HasNoRestart (later ++ earlier) → HasNoRestart earlier
+no_restart_earlier [] earlier h = h
+no_restart_earlier (c ∷ later) earlier h = no_restart_earlier later earlier (no_restart_tail c (later ++ earlier) h)
+
+change_by : (s : NodeState) (c : Call) (cs : List Call) → HasNoRestart (c ∷ cs) → VotesChange (after_calls s cs) (after_calls s (c ∷ cs))
+change_by s c cs h = votes_change (after_calls s cs) c (no_restart_head c cs h)
+
+no_votes : (b a : ℕ) → IsTrue (has_voted nothing_noted b a) → ⊥
+no_votes b a h = let y = voted_vote nothing_noted b a h in note_of-nothing a y.0 y.1
+
+count_none : (n : ℕ) (q : ℕ → Bool) → ((a : ℕ) → IsTrue (q a) → ⊥) → IsQuorum n q → ⊥
+count_none n q h k = let one = meet n q q k k in h one.node one.left
+
+-- what is learned was learned before, or is learned now from a majority
+learned_cases : (o : Option ℕ) (q : Bool) (u v : ℕ) → learned_with o q u ≡ Some v → (o ≡ Some v) ⊎ ((q ≡ true) × (u ≡ v))
+learned_cases (Some w) q u v h = inl h
+learned_cases None true u v h = inr (refl, cc)
+learned_cases None false u v h = absurd (cc)
+
+module _ (me n : ℕ) (kept : KeptPart) where
+  abbrev fresh : NodeState
+  fresh = node_with me n kept
+
+  all_learned : (cs : List Call) → HasNoRestart cs → HasLearned (after_calls fresh cs)
+  all_learned [] h = λ b q. absurd (count_none n (has_voted nothing_noted b) (no_votes b) q)
+  all_learned (c ∷ cs) h = learned_after (after_calls fresh cs) (after_calls fresh (c ∷ cs)) (change_by fresh c cs h) (all_learned cs (no_restart_tail c cs h))
+
+  stays_learned : (later earlier : List Call) → HasNoRestart (later ++ earlier) → IsSome (after_calls fresh earlier).learned → IsSome (after_calls fresh (later ++ earlier)).learned
+  stays_learned [] earlier h k = k
+  stays_learned (c ∷ later) earlier h k =
+      stays (after_calls fresh (later ++ earlier)) _ (change_by fresh c (later ++ earlier) h) (stays_learned later earlier (no_restart_tail c (later ++ earlier) h) k)
+
+  is_node : (cs : List Call) → IsNode me n (after_calls fresh cs)
+  is_node [] = node_with-is me n kept
+  is_node (c ∷ cs) = after_call-is me n (after_calls fresh cs) c (is_node cs)
+
+  later_than : (c : Call) (cs : List Call) (v : ℕ) → WasMajority fresh cs v → WasMajority fresh (c ∷ cs) v
+  later_than c cs v h =
+      record {
+        later = c ∷ h.later;
+        earlier = h.earlier;
+        split = ap (λ xs. c ∷ xs) h.split;
+        ballot = h.ballot;
+        majority = h.majority;
+        node = h.node;
+        noted = h.noted;
+      }
+
+  -- the vote that was noted last completed the majority
+  completed : (c : Call) (cs : List Call) (a : ℕ) (x : Vote) (v : ℕ) → n ≤ 7 → Notes (after_calls fresh cs) (after_calls fresh (c ∷ cs)) a x → is_majority (after_calls fresh cs).count (has_voted (votes_with (after_calls fresh cs) a x) x.ballot) ≡ true → x.value ≡ v → WasMajority fresh (c ∷ cs) v
+  completed c cs a x v few noted q e =
+      record {
+        later = [];
+        earlier = c ∷ cs;
+        split = refl;
+        ballot = x.ballot;
+        majority = subst (λ t. HasMajority t x.ballot) (sym noted.is) (ltb-true s.count (2 * count_below s.count (has_voted (votes_with s a x) x.ballot)) q);
+        node = a;
+        noted = ap (λ (t : NodeState). note_of t.votes a) noted.is ∙ (get_or-set_same s.votes a (Some x) None inside ∙ ap (λ u. Some (vote x.ballot u)) e);
+      }
+    where
+      s : NodeState
+      s = after_calls fresh cs
+
+      below : a < s.count
+      below = ltb-true a s.count (and_parts (ltb a s.count) (is_vote s.count x && is_at_most (note_of s.votes a) x.ballot) noted.may).0
+
+      inside : a < length s.votes
+      inside = let under = below in let places = (is_node cs).places in let count = (is_node cs).count in omega arith
+
+  learned_from : (cs : List Call) (v : ℕ) → n ≤ 7 → HasNoRestart cs → (after_calls fresh cs).learned ≡ Some v → WasMajority fresh cs v
+  learned_from [] v few h e = absurd (cc)
+  learned_from (c ∷ cs) v few h e =
+      let tail = no_restart_tail c cs h in
+      elim (change_by fresh c cs h) [
+        | inl same ↦ later_than c cs v (learned_from cs v few tail (sym same.learned ∙ e))
+        | inr noted ↦ elim (learned_cases (after_calls fresh cs).learned _ noted.1.value v (sym (ap (λ (t : NodeState). t.learned) noted.2.is) ∙ e)) [
+          | inl before ↦ later_than c cs v (learned_from cs v few tail before)
+          | inr now ↦ completed c cs noted.0 noted.1 v few noted.2 now.0 now.1
+        ]
+      ]
+
+pub learns_from_majority : LearnsFromMajority
+learns_from_majority me n kept calls v few h e = learned_from me n kept calls v few h e
+
+pub majority_is_learned : MajorityIsLearned
+majority_is_learned me n kept later earlier b h q =
+    stays_learned me n kept later earlier h (all_learned me n kept earlier (no_restart_earlier later earlier h) b q)

@@ -1,0 +1,157 @@
+-- A schedule is a run of the protocol.
+use Rattle.std.proofs.Common.{◌≡◌, ℕ, suc, ◌<◌, ◌≤◌, ◌⊎◌, Bool, true, false, cond, eqb, leb, List, [], ◌∷◌, ◌++◌, Option, Some, None, IfSome, refl, sym, ap, ◌∙◌, subst, inl, inr, arith}
+use Rattle.std.specs.Option.{option_to_list}
+use Rattle.std.proofs.lemmas.Bool.{leb-true, eqb-true, eqb-false, cond-true, cond-false, eq-eqb, cases_Bool}
+use Rattle.paxos_world.specs.KeptPart.{KeptPart, vote}
+use Rattle.paxos_world.specs.Run.{IsRun, reached}
+use Rattle.paxos_world.specs.Settled.{Settled}
+use Rattle.paxos_world.specs.Step.{Label, Offers, Starts, Promises, Proposes, Accepts, Learns, Restarts, Allowed, after}
+use Rattle.paxos_world.specs.World.{World, Has, opening}
+use Rattle.paxos_world.specs.declared.msg.Msg.{Msg}
+use Rattle.paxos_world.specs.declared.msg.Msg.TheVariants.{Prepare, Promise, Propose, Accepted}
+use Rattle.paxos_model.proofs.Reopens.{reached-append, run_append}
+use Rattle.paxos_model.specs.Agreement.{IsSettledRun}
+use Rattle.paxos_core.specs.Acceptor.{promises, accepts}
+use Rattle.paxos_core.specs.Belongs.{Belongs}
+use Rattle.paxos_core.specs.Call.{Call, Offer, Start, Proposal, On, Restart, has_ballot, after_call, answer_to, taken_by}
+use Rattle.paxos_core.specs.Learner.{notes_promise, notes_vote}
+use Rattle.paxos_core.specs.NodeState.{NodeState, node_with}
+use Rattle.paxos_core.specs.Notes.{highest_below}
+use Rattle.paxos_core.specs.Proposer.{next_ballot, started, choice, may_propose, proposal_under, proposal, after_answer}
+use Rattle.paxos_core.specs.Reached.{IsReached}
+use Rattle.paxos_core.specs.Schedule.{Room, opened, NodeCall, put_node, room_after, played, WasSent, IsSchedule, steps_of, IsPlayed, AllLearnOne}
+use Rattle.paxos_core.specs.Taken.{proposes, taken_by_start, learns_from}
+use Rattle.paxos_core.specs.Takes.{Takes, IsStepOf, AreStepsOf}
+use Rattle.paxos_core.proofs.BelongsLemmas.{belongs_with, belongs_after_others}
+use Rattle.paxos_core.proofs.CallLemmas.{IsNode, node_with-is, after_call-is}
+use Rattle.paxos_core.proofs.ReachedLemmas.{learned_one}
+use Rattle.paxos_core.proofs.TakesLemmas.{offer_takes, start_takes, propose_takes, on_takes, restart_takes}
+
+-- ---- each call takes its steps
+
+start_if : (t : Bool) (n : ℕ) (w : World) (s : NodeState) → IsReached n w → Belongs n w s → has_ballot s ≡ t → Takes n w (cond t (taken_by_start s) []) (cond t (started s) s) (cond t (Some (Prepare (next_ballot s))) None)
+start_if true n w s r h t = start_takes s (leb-true (next_ballot s) 65535 t) n w r h
+start_if false n w s r h t = record { run = tt; own = tt; belongs = h; sent = tt }
+
+pub call_takes : (n : ℕ) (w : World) (s : NodeState) (c : Call) → IsReached n w → Belongs n w s → WasSent w.sent c → Takes n w (taken_by s c) (after_call s c) (answer_to s c)
+call_takes n w s Offer r h m = offer_takes s n w r h
+call_takes n w s Start r h m = start_if (has_ballot s) n w s r h refl
+call_takes n w s Proposal r h m = propose_takes s n w r h
+call_takes n w s (On message) r h m = on_takes s message n w r h m
+call_takes n w s Restart r h m = restart_takes s s.kept n w h.number h.count h.kept
+
+-- ---- what is sent is the answer
+
+sent_by_offer : (t : Bool) (i : ℕ) (w : World) → (reached w (cond t [] (Offers i ∷ []))).sent ≡ w.sent
+sent_by_offer true i w = refl
+sent_by_offer false i w = refl
+
+sent_by_start : (t : Bool) (i b : ℕ) (w : World) → (reached w (cond t (Starts i b ∷ []) [])).sent ≡ option_to_list (cond t (Some (Prepare b)) None) ++ w.sent
+sent_by_start true i b w = refl
+sent_by_start false i b w = refl
+
+sent_by_proposal : (o : Option ℕ) (t : Bool) (c : Option ℕ) (w : World) → (reached w (proposes (proposal_under o t c))).sent ≡ option_to_list (proposal_under o t c) ++ w.sent
+sent_by_proposal None t c w = refl
+sent_by_proposal (Some b) false c w = refl
+sent_by_proposal (Some b) true None w = refl
+sent_by_proposal (Some b) true (Some v) w = refl
+
+sent_by_prepare : (t : Bool) (b : ℕ) (w : World) (s : NodeState) → w.nodes s.me ≡ s.kept → (reached w (cond t (Promises s.me b ∷ []) [])).sent ≡ option_to_list (cond t (Some (Promise s.me b s.kept.accepted)) None) ++ w.sent
+sent_by_prepare true b w s e = ap {B = List Msg} (λ (k : KeptPart). Promise s.me b k.accepted ∷ w.sent) e
+sent_by_prepare false b w s e = refl
+
+sent_by_propose : (t : Bool) (i b v : ℕ) (w : World) → (reached w (cond t (Accepts i b v ∷ []) [])).sent ≡ option_to_list (cond t (Some (Accepted i b v)) None) ++ w.sent
+sent_by_propose true i b v w = refl
+sent_by_propose false i b v w = refl
+
+sent_by_vote : (t : Bool) (i v : ℕ) (w : World) → (reached w (cond t (Learns i v ∷ []) [])).sent ≡ w.sent
+sent_by_vote true i v w = refl
+sent_by_vote false i v w = refl
+
+call_sends : (n : ℕ) (w : World) (s : NodeState) (c : Call) → Belongs n w s → (reached w (taken_by s c)).sent ≡ option_to_list (answer_to s c) ++ w.sent
+call_sends n w s Offer h = sent_by_offer s.kept.offered s.me w
+call_sends n w s Start h = sent_by_start (has_ballot s) s.me (next_ballot s) w
+call_sends n w s Proposal h = sent_by_proposal s.ballot (may_propose s) (choice (highest_below s.count s.promises) s.kept.offered s.me) w
+call_sends n w s (On (Prepare b)) h = sent_by_prepare (promises s b) b w s h.kept
+call_sends n w s (On (Propose b v)) h = sent_by_propose (accepts s (vote b v)) s.me b v w
+call_sends n w s (On (Promise a b report)) h = refl
+call_sends n w s (On (Accepted a b v)) h = sent_by_vote (learns_from s a (vote b v)) s.me v w
+call_sends n w s Restart h = refl
+
+-- ---- the other nodes
+
+-- steps of node j leave the other nodes in the world
+others_belong : (n : ℕ) (w : World) (ls : List Label) (s : NodeState) (j : ℕ) → Belongs n w s → AreStepsOf n j ls → (s.me ≡ j → ⊥) → Belongs n (reached w ls) s
+others_belong n w [] s j h o d = h
+others_belong n w (l ∷ ls) s j h o d = belongs_after_others n (reached w ls) l s j (others_belong n w ls s j h o.1 d) o.0 d
+
+-- ---- a schedule, call by call
+
+-- what holds of the new node at i, and of the others that stood, holds of each node
+put_cases : (P : ℕ → NodeState → Type 0) (nodes : ℕ → NodeState) (i j : ℕ) (s : NodeState) → P i s → ((j ≡ i → ⊥) → P j (nodes j)) → P j (put_node nodes i s j)
+put_cases P nodes i j s here there = elim (cases_Bool (eqb j i)) [
+  | inl t ↦ subst (P j) (sym (cond-true (eqb j i) s (nodes j) t)) (subst (λ k. P k s) (sym (eqb-true j i t)) here)
+  | inr f ↦ subst (P j) (sym (cond-false (eqb j i) s (nodes j) f)) (there (eqb-false j i f))
+]
+
+was_sent : (c : Call) (xs ys : List Msg) → xs ≡ ys → WasSent xs c → WasSent ys c
+was_sent c xs ys e h = subst (λ zs. WasSent zs c) e h
+
+module _ (n : ℕ) (kept : ℕ → KeptPart) where
+  -- the world after a schedule
+  abbrev world_of : List NodeCall → World
+  world_of calls = reached (opening n kept) (steps_of (opened n kept) calls)
+
+  -- each node keeps its number
+  played_nodes : (calls : List NodeCall) (i : ℕ) → IsNode i n ((played (opened n kept) calls).nodes i)
+  played_nodes [] i = node_with-is i n (kept i)
+  played_nodes (c ∷ calls) i =
+      put_cases (λ j s. IsNode j n s) (played (opened n kept) calls).nodes c.node i _ (after_call-is c.node n _ c.call (played_nodes calls c.node)) (λ d. played_nodes calls i)
+
+  played_reached : (calls : List NodeCall) → Settled n kept → IsPlayed n kept calls → IsReached n (world_of calls)
+  played_reached calls settled h =
+      record { nodes = kept; steps = steps_of (opened n kept) calls; run = record { settled = settled; run = h.run }; world = refl }
+
+  played_none : IsPlayed n kept []
+  played_none = record { run = tt; number = λ i h. refl; nodes = λ i h. belongs_with n (opening n kept) i (kept i) h refl; sent = refl }
+
+  played_more : (c : NodeCall) (calls : List NodeCall) → IsPlayed n kept calls → c.node < n → Takes n (world_of calls) (taken_by ((played (opened n kept) calls).nodes c.node) c.call) (after_call ((played (opened n kept) calls).nodes c.node) c.call) (answer_to ((played (opened n kept) calls).nodes c.node) c.call) → IsPlayed n kept (c ∷ calls)
+  played_more c calls h below t =
+      record {
+        run = run_append n (opening n kept) labels (steps_of (opened n kept) calls) h.run t.run;
+        number = λ j k. (played_nodes (c ∷ calls) j).number;
+        nodes = λ j k. subst (λ (w : World). Belongs n w (put_node room.nodes c.node (after_call s c.call) j)) (sym appended) (put_cases (λ i x. Belongs n (reached (world_of calls) labels) x) room.nodes c.node j (after_call s c.call) t.belongs (λ d. other j k d));
+        sent = ap (λ xs. option_to_list (answer_to s c.call) ++ xs) h.sent ∙ sym (ap (λ (w : World). w.sent) appended ∙ call_sends n (world_of calls) s c.call (h.nodes c.node below));
+      }
+    where
+      room : Room
+      room = played (opened n kept) calls
+
+      s : NodeState
+      s = room.nodes c.node
+
+      labels : List Label
+      labels = taken_by s c.call
+
+      appended : world_of (c ∷ calls) ≡ reached (world_of calls) labels
+      appended = reached-append (opening n kept) labels (steps_of (opened n kept) calls)
+
+      own : AreStepsOf n s.me labels
+      own = subst (λ i. AreStepsOf n i labels) ((after_call-is c.node n s c.call (played_nodes calls c.node)).number ∙ sym (played_nodes calls c.node).number) t.own
+
+      other : (j : ℕ) → j < n → (j ≡ c.node → ⊥) → Belongs n (reached (world_of calls) labels) (room.nodes j)
+      other j k d = others_belong n (world_of calls) labels (room.nodes j) s.me (h.nodes j k) own (λ e. d (sym (h.number j k) ∙ (e ∙ h.number c.node below)))
+
+  pub plays : (calls : List NodeCall) → Settled n kept → IsSchedule n (opened n kept) calls → IsPlayed n kept calls
+  plays [] settled h = played_none
+  plays (c ∷ calls) settled h =
+      let before = plays calls settled h.0 in
+      let s = (played (opened n kept) calls).nodes c.node in
+      played_more c calls before h.1
+      (call_takes n (world_of calls) s c.call (played_reached calls settled before) (before.nodes c.node h.1) (was_sent c.call _ _ before.sent h.2))
+
+  -- what nodes have learned was learned in the world, where it is one value
+  pub learns_one : (calls : List NodeCall) → Settled n kept → IsSchedule n (opened n kept) calls → AllLearnOne n (played (opened n kept) calls)
+  learns_one calls settled h i j v u k l e f =
+      let all = plays calls settled h in
+      learned_one n (world_of calls) _ _ v u (played_reached calls settled all) ((all.nodes i k).learned v e) ((all.nodes j l).learned u f)

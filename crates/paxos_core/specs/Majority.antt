@@ -1,0 +1,42 @@
+-- What it takes to learn (Lamport, Paxos Made Simple, section 2.3), over all the calls of a node since a restart.
+use Rattle.std.specs.Prelude.{◌≡◌, ℕ, ◌≤◌, List, [], ◌∷◌, ◌++◌, Some, IsSome}
+use Rattle.paxos_world.specs.KeptPart.{KeptPart, vote}
+use Rattle.paxos_world.specs.Quorum.{IsQuorum}
+use Rattle.paxos_core.specs.Call.{Call, Offer, Start, Proposal, On, Restart, after_calls}
+use Rattle.paxos_core.specs.NodeState.{NodeState, node_with}
+use Rattle.paxos_core.specs.Notes.{note_of, has_voted}
+
+-- none of the calls is a restart
+abbrev pub HasNoRestart : List Call → Type 0
+HasNoRestart [] = Unit {0}
+HasNoRestart (Offer ∷ cs) = HasNoRestart cs
+HasNoRestart (Start ∷ cs) = HasNoRestart cs
+HasNoRestart (Proposal ∷ cs) = HasNoRestart cs
+HasNoRestart (On message ∷ cs) = HasNoRestart cs
+HasNoRestart (Restart ∷ cs) = ⊥
+
+-- the votes noted of a majority have this one ballot
+abbrev pub HasMajority : NodeState → ℕ → Type 0
+HasMajority s b = IsQuorum s.count (has_voted s.votes b)
+
+-- at some moment of these calls the votes noted of a majority had one ballot, and a vote under it for v was noted
+pub record WasMajority (s : NodeState) (calls : List Call) (v : ℕ) : Type 0 where
+  pub later : List Call
+  pub earlier : List Call
+  pub split : calls ≡ later ++ earlier
+  pub ballot : ℕ
+  pub majority : HasMajority (after_calls s earlier) ballot
+  pub node : ℕ
+  pub noted : note_of (after_calls s earlier).votes node ≡ Some (vote ballot v)
+
+-- what a node of a room has learned since a restart, it learned from such a majority
+abbrev pub LearnsFromMajority : Type 0
+LearnsFromMajority =
+    (me n : ℕ) (kept : KeptPart) (calls : List Call) (v : ℕ) → n ≤ 7 → HasNoRestart calls
+    → (after_calls (node_with me n kept) calls).learned ≡ Some v → WasMajority (node_with me n kept) calls v
+
+-- and once there was such a majority, it has learned
+abbrev pub MajorityIsLearned : Type 0
+MajorityIsLearned =
+    (me n : ℕ) (kept : KeptPart) (later earlier : List Call) (b : ℕ) → HasNoRestart (later ++ earlier)
+    → HasMajority (after_calls (node_with me n kept) earlier) b → IsSome (after_calls (node_with me n kept) (later ++ earlier)).learned

@@ -1,0 +1,22 @@
+//! One node of a room that agrees on a value by Lamport's Paxos, and the theorem of agreement over every run.
+//! Each call of [`Node`] answers and leaves what the definitions of `specs/` say, and takes the steps of the
+//! protocol that they name. No call takes memory, waits, or knows what a value stands for.
+#![tactic(auto)]
+
+mod ballot;
+mod error;
+mod node;
+mod step;
+mod tally;
+#[cfg(test)]
+mod tests;
+mod theorem;
+
+pub use error::CoreError;
+pub use node::Node;
+pub use paxos_model::settled::settled;
+pub use paxos_world::kept::Kept;
+pub use paxos_world::msg::Msg;
+pub use paxos_world::vote::Vote;
+pub use step::Step;
+pub use theorem::agreement;

@@ -1,0 +1,275 @@
+ghost use Rattle.std.specs.Prelude.{◌≡◌, ℕ, ◌<◌, ◌≤◌, ◌⊎◌, ◌↔◌, IsTrue, IsErr, IsNone, OnErr, IfOk, false};
+ghost use Rattle.paxos_world.specs.KeptPart.{nothing_kept};
+ghost use Rattle.paxos_world.specs.World.{World};
+ghost use Rattle.paxos_world.specs.declared.msg.Msg.TheVariants.{Prepare};
+ghost use Rattle.paxos_core.specs.Acceptor.{promise_to, after_prepare, vote_for, after_propose, is_vote};
+ghost use Rattle.paxos_core.specs.Learner.{after_promise, after_vote, is_at_most, is_report};
+ghost use Rattle.paxos_core.specs.Message.{reply, after_message};
+ghost use Rattle.paxos_core.specs.NextBallot.{IsLeastAbove, IsSpent};
+ghost use Rattle.paxos_core.specs.NodeState.{new_node, offered, restarted};
+ghost use Rattle.paxos_core.specs.Belongs.{Belongs};
+ghost use Rattle.paxos_core.specs.Taken.{taken_by_offer, taken_by_start, taken_by_propose, taken_by_restart, taken_on, LearnsAtMost};
+ghost use Rattle.paxos_core.specs.Takes.{Takes, TakesSteps, TakesStepsOn};
+ghost use Rattle.paxos_core.specs.Proposer.{floor_of, next_ballot, started, proposal, after_proposal};
+
+use crate::ballot::next_ballot;
+use crate::error::CoreError;
+use crate::tally::{count_promises, count_votes, highest_report};
+use paxos_world::kept::Kept;
+use paxos_world::msg::Msg;
+use paxos_world::vote::Vote;
+use std::marker::Model;
+
+/// A room has at most so many nodes.
+pub const MOST_NODES: usize = 7;
+
+/// One node of a room. It is proposer, acceptor and learner; it sends nothing itself, but answers what is to be sent
+/// to all.
+#[derive(Debug, Drop)]
+pub struct Node {
+    me: u8,
+    count: u8,
+    kept: Kept,
+    ballot: Option<u16>,
+    proposed: bool,
+    promises: [Option<Option<Vote>>; MOST_NODES],
+    votes: [Option<Vote>; MOST_NODES],
+    learned: Option<u8>,
+}
+
+impl Model for Node {
+    ghost use Rattle.std.specs.Prelude.{◌<◌, ◌≤◌};
+    ghost use Rattle.paxos_core.specs.NodeState.{NodeState};
+
+    ghost Value = { NodeState };
+
+    ghost view = { λ s. record {
+      me = s.me;
+      count = s.count;
+      kept = s.kept;
+      ballot = s.ballot;
+      proposed = s.proposed;
+      promises = s.promises;
+      votes = s.votes;
+      learned = s.learned;
+    } };
+
+    ghost invariant = { λ s. (s.me < s.count) × (s.count ≤ 7) };
+}
+
+impl Node {
+    /// Node `me` of a room of `n`, which has done nothing yet.
+    pub fn new(me: u8, n: u8) -> Self
+        requires size { (n ≡ 3) ⊎ (n ≡ 5) ⊎ (n ≡ 7) }
+        requires number { me < n }
+        ensures state { result ≡ new_node me n }
+        ensures belongs { (w : World) → w.nodes me ≡ nothing_kept → Belongs n w result }
+    {
+        Node {
+            me,
+            count: n,
+            kept: Kept::nothing(),
+            ballot: None,
+            proposed: false,
+            promises: [None; MOST_NODES],
+            votes: [None; MOST_NODES],
+            learned: None,
+        }
+    }
+
+    /// Its number.
+    pub fn me(&self) -> u8
+        ensures { result ≡ self.now.me }
+    {
+        self.me
+    }
+
+    /// How many nodes the room has.
+    pub fn count(&self) -> u8
+        ensures { result ≡ self.now.count }
+    {
+        self.count
+    }
+
+    /// The ballot under way, that the node started last since its last restart.
+    pub fn ballot(&self) -> Option<u16>
+        ensures { result ≡ self.now.ballot }
+    {
+        self.ballot
+    }
+
+    /// What has to outlive a restart.
+    pub fn kept(&self) -> Kept
+        ensures { result ≡ self.now.kept }
+    {
+        self.kept
+    }
+
+    /// The value that the node has learned since its last restart, the number of the node whose offer it is.
+    pub fn learned(&self) -> Option<u8>
+        ensures { result ≡ self.now.learned }
+    {
+        self.learned
+    }
+
+    /// The node after a restart with what was kept.
+    pub fn restart(self, kept: Kept) -> Self
+        ensures state { result ≡ restarted self kept }
+        ensures step { (n : ℕ) (w : World) → self.me < n → self.count ≡ n → w.nodes self.me ≡ kept
+            → Takes n w (taken_by_restart self) result None }
+    {
+        Node {
+            me: self.me,
+            count: self.count,
+            kept,
+            ballot: None,
+            proposed: false,
+            promises: [None; MOST_NODES],
+            votes: [None; MOST_NODES],
+            learned: None,
+        }
+    }
+
+    /// Makes the node's offer; false where it had offered.
+    pub fn offer(&mut self) -> bool
+        ensures answer { IsTrue result ↔ (self.old.kept.offered ≡ false) }
+        ensures state { self.new ≡ offered self.old }
+        ensures step { TakesSteps self.old self.new (taken_by_offer self.old) None }
+    {
+        let first = !self.kept.offered();
+        self.kept = self.kept.with_offer();
+        first
+    }
+
+    /// Starts the node's least own ballot above all that it has started or promised: phase 1a.
+    pub fn start(&mut self) -> Result<Msg, CoreError>
+        ensures ok { IfOk result (λ sent. (sent ≡ Prepare (next_ballot self.old)) × (self.new ≡ started self.old)) }
+        ensures least { IsLeastAbove self.old.me self.old.count (floor_of self.old) (next_ballot self.old) }
+        ensures spent { IsErr result ↔ (65535 < next_ballot self.old) }
+        ensures none_left { OnErr result (IsSpent self.old.me self.old.count (floor_of self.old)) }
+        ensures err { OnErr result (self.new ≡ self.old) }
+        ensures step { IfOk result (λ sent. TakesSteps self.old self.new (taken_by_start self.old) (Some sent)) }
+    {
+        let floor = self.kept.started().max(self.kept.promised());
+        let Some(ballot) = next_ballot(self.me, self.count, floor) else {
+            return Err(CoreError::BallotsSpent);
+        };
+        self.kept = self.kept.with_start(ballot);
+        self.ballot = Some(ballot);
+        self.proposed = false;
+        self.promises = [None; MOST_NODES];
+        Ok(Msg::Prepare(ballot))
+    }
+
+    /// Proposes under the ballot under way, once, where a majority's promises are noted: phase 2a.
+    pub fn propose(&mut self) -> Option<Msg>
+        ensures answer { result ≡ proposal self.old }
+        ensures state { self.new ≡ after_proposal self.old }
+        ensures step { TakesSteps self.old self.new (taken_by_propose self.old) result }
+    {
+        let ballot = self.ballot?;
+        let count = usize::from(self.count);
+        if self.proposed || 2 * count_promises(&self.promises, count) <= count {
+            return None;
+        }
+        let value = match highest_report(&self.promises, count) {
+            Some(vote) => vote.value,
+            None if self.kept.offered() => u16::from(self.me),
+            None => return None,
+        };
+        self.proposed = true;
+        Some(Msg::Propose(ballot, value))
+    }
+
+    /// Takes a message, and answers what is to be sent: a promise or a vote.
+    pub fn on(&mut self, message: &Msg) -> Option<Msg>
+        ensures answer { result ≡ reply self.old message.now }
+        ensures state { self.new ≡ after_message self.old message.now }
+        ensures step { TakesStepsOn self.old message.now self.new (taken_on self.old message.now) result }
+        ensures quiet { IsNone result → LearnsAtMost self.old.me (taken_on self.old message.now) }
+    {
+        match *message {
+            Msg::Prepare(ballot) => self.promise(ballot),
+            Msg::Propose(ballot, value) => self.accept(Vote { ballot, value }),
+            Msg::Promise(from, ballot, report) => {
+                self.note_promise(from, ballot, report);
+                None
+            }
+            Msg::Accepted(from, ballot, value) => {
+                self.note_vote(from, Vote { ballot, value });
+                None
+            }
+        }
+    }
+
+    fn promise(&mut self, ballot: u16) -> Option<Msg>
+        ensures answer { result ≡ promise_to self.old ballot }
+        ensures state { self.new ≡ after_prepare self.old ballot }
+    {
+        if ballot <= self.kept.promised() {
+            return None;
+        }
+        let report = self.kept.accepted();
+        self.kept = self.kept.with_promise(ballot);
+        Some(Msg::Promise(self.me, ballot, report))
+    }
+
+    fn accept(&mut self, vote: Vote) -> Option<Msg>
+        ensures answer { result ≡ vote_for self.old vote }
+        ensures state { self.new ≡ after_propose self.old vote }
+    {
+        if !is_vote(self.count, vote) || vote.ballot < self.kept.promised() {
+            return None;
+        }
+        self.kept = self.kept.with_vote(vote);
+        Some(Msg::Accepted(self.me, vote.ballot, vote.value))
+    }
+
+    fn note_promise(&mut self, from: u8, ballot: u16, report: Option<Vote>)
+        ensures { self.new ≡ after_promise self.old from ballot report }
+    {
+        let sound = 0 < ballot && from < self.count && is_report(self.count, ballot, report);
+        if sound && self.ballot == Some(ballot) {
+            self.promises[usize::from(from)] = Some(report);
+        }
+    }
+
+    fn note_vote(&mut self, from: u8, vote: Vote)
+        ensures { self.new ≡ after_vote self.old from vote }
+    {
+        let sound = from < self.count && is_vote(self.count, vote);
+        if !sound || !is_at_most(self.votes[usize::from(from)], vote.ballot) {
+            return;
+        }
+        self.votes[usize::from(from)] = Some(vote);
+        let count = usize::from(self.count);
+        let majority = count < 2 * count_votes(&self.votes, count, vote.ballot);
+        if majority && self.learned.is_none() {
+            self.learned = Some(vote.value as u8);
+        }
+    }
+}
+
+fn is_vote(count: u8, vote: Vote) -> bool
+    ensures { result ≡ is_vote count vote }
+{
+    0 < vote.ballot && vote.value < u16::from(count)
+}
+
+fn is_report(count: u8, ballot: u16, report: Option<Vote>) -> bool
+    ensures { result ≡ is_report count ballot report }
+{
+    match report {
+        Some(vote) => is_vote(count, vote) && vote.ballot < ballot,
+        None => true,
+    }
+}
+
+fn is_at_most(noted: Option<Vote>, ballot: u16) -> bool
+    ensures { result ≡ is_at_most noted ballot }
+{
+    match noted {
+        Some(vote) => vote.ballot <= ballot,
+        None => true,
+    }
+}

@@ -1,0 +1,2 @@
+pub mod Played
+pub use Rattle.paxos_core.specs.Schedule

@@ -1,0 +1,125 @@
+ghost use Rattle.std.specs.Prelude.{◌≡◌, ℕ, ◌<◌, Contains, Some, IfOk, IfSome};
+ghost use Rattle.pure_room.specs.Played.{IsLearnedByAll};
+
+use paxos_core::Node;
+use paxos_world::msg::Msg;
+use std::alloc::{AllocError, Global};
+use std::marker::Model;
+
+/// How many messages are handed on at most. A room of three in which one node starts sends eight.
+const MOST_MESSAGES: usize = 1000;
+
+/// Three nodes, and the messages that they sent, the oldest first.
+#[derive(Drop)]
+struct Room {
+    nodes: [Node; 3],
+    sent: Vec<Msg>,
+}
+
+impl Model for Room {
+    ghost use Rattle.pure_room.specs.Played.{RoomState, CameAbout};
+
+    ghost Value = { RoomState };
+
+    ghost view = { λ r. record { nodes = r.nodes; sent = r.sent.items } };
+
+    ghost invariant = { λ r. CameAbout (record { nodes = r.nodes; sent = r.sent.items }) };
+}
+
+impl Room {
+    fn new(alloc: Global) -> Room {
+        Room {
+            nodes: [Node::new(0, 3), Node::new(1, 3), Node::new(2, 3)],
+            sent: Vec::new(alloc),
+        }
+    }
+
+    fn offer(&mut self, node: usize)
+        requires { node < 3 }
+    {
+        let _first = self.nodes[node].offer();
+    }
+
+    /// Where no ballot is left the node sends nothing.
+    fn start(&mut self, node: usize) -> Result<(), AllocError>
+        requires { node < 3 }
+    {
+        if let Ok(message) = self.nodes[node].start() {
+            self.sent.push(message)?;
+        }
+        Ok(())
+    }
+
+    /// Hands the message to the node, whose answer is sent.
+    fn hand(&mut self, node: usize, place: usize) -> Result<(), AllocError>
+        requires { node < 3 }
+    {
+        let Some(message) = message_at(&self.sent, place) else {
+            return Ok(());
+        };
+        if let Some(answer) = self.nodes[node].on(&message) {
+            self.sent.push(answer)?;
+        }
+        Ok(())
+    }
+
+    fn propose(&mut self, node: usize) -> Result<(), AllocError>
+        requires { node < 3 }
+    {
+        if let Some(message) = self.nodes[node].propose() {
+            self.sent.push(message)?;
+        }
+        Ok(())
+    }
+
+    /// The value that all three have learned, if they have learned one.
+    fn learned_by_all(&self) -> Option<u8>
+        ensures { IfSome result IsLearnedByAll }
+    {
+        let value = self.nodes[0].learned()?;
+        let all = self.nodes[1].learned() == Some(value) && self.nodes[2].learned() == Some(value);
+        if all { Some(value) } else { None }
+    }
+}
+
+fn message_at(sent: &[Msg], place: usize) -> Option<Msg>
+    ensures { IfSome result (Contains sent.now) }
+{
+    sent.get(place).copied()
+}
+
+/// Three nodes make their offers and node 0 starts. Then each message, in the order of sending, is
+/// handed to nodes 0, 1 and 2, whose answers are sent, and after each message node 0 is asked to
+/// propose. The value that all three learn, or none.
+pub fn agree(alloc: Global) -> Result<Option<u8>, AllocError>
+    ensures { IfOk result (λ learned. IfSome learned IsLearnedByAll) }
+{
+    let mut room = Room::new(alloc);
+    for node in 0..3 {
+        room.offer(node);
+    }
+    room.start(0)?;
+    for place in 0..MOST_MESSAGES {
+        if place >= room.sent.len() {
+            break;
+        }
+        for node in 0..3 {
+            room.hand(node, place)?;
+        }
+        room.propose(0)?;
+    }
+    Ok(room.learned_by_all())
+}
+
+#[cfg(test)]
+mod tests {
+    use super::*;
+    use std::test::Fail;
+
+    /// Node 0 alone starts, so its own offer is the one that is learned.
+    #[test]
+    fn all_learn_node_zero(rt: HostRuntime) -> Result<(), Fail> {
+        assert_eq!(rt; agree(rt.alloc())?, Some(0));
+        Ok(())
+    }
+}
