@@ -56,3 +56,7 @@ pub end_stays_to : (a : Behaviour) → IsRun a → (n m : ℕ) → n ≤ m → I
 end_stays_to a run n m le over =
     let e : m ≡ n + (m - n) = omega arith in
     ap a e ∙ end_stays a run n over (m - n)
+
+-- what stands before more is a beginning of what that is a beginning of
+pub IsBeginningOf-front : (xs text ys zs : List ℕ) → ys ≡ xs ++ text → IsBeginningOf ys zs → IsBeginningOf xs zs
+IsBeginningOf-front xs text ys zs e q = IsBeginningOf-trans xs ys zs (text, sym e) q

@@ -4,3 +4,5 @@ pub mod Keeps
 pub mod Machine
 pub mod Programs
 pub mod Soundness
+pub mod Reading
+pub mod Texts

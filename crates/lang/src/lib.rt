@@ -9,8 +9,10 @@ mod language;
 mod oracle;
 mod pass;
 mod program;
+mod reading;
 mod row;
 mod shown;
+mod writing;
 
 pub use errors::{FormError, NoMemory, PassError};
 pub use keeping::{keeps_all, keeps_composes};
@@ -18,5 +20,7 @@ pub use language::Language;
 pub use oracle::Oracle;
 pub use pass::Pass;
 pub use program::{Global, Named, Program};
+pub use reading::{read_byte, read_count, read_u16, read_u16_below, read_u32};
 pub use row::Row;
 pub use shown::Shown;
+pub use writing::{push_byte, push_u16, push_u32};

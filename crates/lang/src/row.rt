@@ -1,5 +1,7 @@
-ghost use Rattle.std.specs.Prelude.{◌≡◌, ◌==◌, length};
+ghost use Rattle.std.specs.Prelude.{◌≡◌, ◌==◌, length, IfOk};
 
+use crate::errors::NoMemory;
+use std::alloc::Global;
 use std::marker::Model;
 
 /// Items in order. Two rows are equal where their items are: how much room each has does not count.
@@ -48,6 +50,15 @@ impl<T> Row<T> {
         ensures { result ≡ (length self.now == 0) }
     {
         self.items.is_empty()
+    }
+}
+
+impl<T: Copy> Row<T> {
+    /// The same items, in memory of their own.
+    pub fn copied(&self, alloc: Global) -> Result<Row<T>, NoMemory>
+        ensures { IfOk result (λ copy. copy ≡ self.now) }
+    {
+        Ok(Row::from_vec(Vec::from_slice(alloc, self.as_slice())?))
     }
 }
 

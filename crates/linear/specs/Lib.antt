@@ -1,6 +1,11 @@
 pub mod Function
 pub mod Labels
 pub mod Meaning
+pub mod Spelling
+pub mod Reading
+pub mod Flags
+pub mod Forms
+pub mod Equal
 pub mod Growth
 pub use Rattle.machine.specs.Data
 pub use Rattle.machine.specs.Acts

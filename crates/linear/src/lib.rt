@@ -2,8 +2,17 @@
 //! one spelling, and a program's run is counted in instructions, labels among them.
 #![tactic(auto)]
 
+mod equal;
 mod function;
 mod instruction;
+mod labels;
+mod language;
+mod reading;
+mod writing;
 
 pub use function::Function;
 pub use instruction::Instruction;
+pub use language::Linear;
+
+#[cfg(test)]
+mod tests;

@@ -1,9 +1,10 @@
 -- Functions of LTL as plain data, and those that are in range (Leroy 2009, section 3.3).
-use Rattle.std.specs.Prelude.{◌≡◌, ℕ, ◌<◌, ◌≤◌, List, length, Option, Some, None}
+use Rattle.std.specs.Prelude.{◌≡◌, ℕ, ◌<◌, ◌≤◌, List, [], length, Option, Some, None}
 use Rattle.std.specs.List.{AllByRecursion}
 use Rattle.machine.specs.declared.location.Location.{Location}
+use Rattle.machine.specs.declared.location.Move.{Move}
 use Rattle.machine.specs.declared.act.Act.{Act}
-use Rattle.machine.specs.Fits.{ParametersFit, MovesFit, ActFits, TestFits, ValueFits, slot_limit}
+use Rattle.machine.specs.Fits.{ParametersFit, MovesFit, ActFits, TestFits, ValueFits, slot_limit, move_limit}
 use Rattle.ltl.specs.declared.block.Block.{Block}
 use Rattle.ltl.specs.declared.block.Body.{Body}
 use Rattle.ltl.specs.declared.block.Body.TheVariants.{Go, Branch, Return}
@@ -32,6 +33,17 @@ BodyFits slots nodes (Return value) = ValueFits value
 pub record BlockFits (slots nodes : ℕ) (b : Block) : Type 0 where
   pub before : MovesFit slots b.before
   pub body : BodyFits slots nodes b.body
+
+-- the moves behind a body's instruction
+abbrev pub after_of : Body → List Move
+after_of (Go act after successor) = after
+after_of (Branch test taken other) = []
+after_of (Return value) = []
+
+-- lists of moves whose lengths a byte can say
+pub record HasShortLists (b : Block) : Type 0 where
+  pub before : length b.before ≤ move_limit
+  pub after : length (after_of b.body) ≤ move_limit
 
 -- every part is in range
 pub record IsFunction (f : FunctionData) : Type 0 where

@@ -1,6 +1,10 @@
 pub mod Function
 pub mod Meaning
 pub mod Growth
+pub mod Spelling
+pub mod Reading
+pub mod Forms
+pub mod Equal
 pub use Rattle.machine.specs.Data
 pub use Rattle.machine.specs.Acts
 pub use Rattle.machine.specs.Frames

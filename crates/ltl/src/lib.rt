@@ -3,7 +3,13 @@
 #![tactic(auto)]
 
 mod block;
+mod copying;
+mod equal;
 mod function;
+mod language;
+mod reading;
+mod writing;
 
 pub use block::{Block, Body};
 pub use function::Function;
+pub use language::Ltl;

@@ -2,3 +2,5 @@ pub mod Data
 pub mod Acts
 pub mod Frames
 pub mod Fits
+pub mod Spelling
+pub mod Reading

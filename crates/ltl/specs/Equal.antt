@@ -1,0 +1,79 @@
+-- Two functions are equal where their parts are, and then they are one.
+use Rattle.std.proofs.Common.{◌≡◌, ℕ, Bool, true, List, [], ◌∷◌, Option, Some, None, refl, ap}
+use Rattle.std.specs.Prelude.{◌&&◌, nat_eq}
+use Rattle.std.specs.Cmp.{IsEquivalence}
+use Rattle.std.specs.Cmp.Lexicographic.{pointwise}
+use Rattle.std.proofs.lemmas.Bool.{eqb-true, and_parts}
+use Rattle.std.proofs.lemmas.Cmp.{nat_eq_equiv, on_equiv, and_equiv, lists_equiv}
+use Rattle.machine.specs.declared.act.Act.{Act}
+use Rattle.machine.specs.contracts.location.LocationPartialEq.TheImpl as location_eq
+use Rattle.machine.specs.contracts.location.LocationEq.TheImpl.Laws as location_laws
+use Rattle.machine.specs.contracts.location.MovePartialEq.TheImpl as move_eq
+use Rattle.machine.specs.contracts.act.ActPartialEq.TheImpl as act_eq
+use Rattle.machine.specs.contracts.test.TestPartialEq.TheImpl as test_eq
+use Rattle.machine.proofs.Equal.{Tells, location_tells, move_tells, act_tells, test_tells}
+use Rattle.ltl.specs.contracts.block.BodyPartialEq.TheImpl as body_eq
+use Rattle.ltl.specs.contracts.block.BlockPartialEq.TheImpl as block_eq
+use Rattle.ltl.specs.contracts.block.BlockEq.TheImpl.Laws as block_laws
+use Rattle.ltl.specs.declared.block.Block.{Block}
+use Rattle.ltl.specs.declared.block.Body.{Body}
+use Rattle.ltl.specs.declared.block.Body.TheVariants.{Go, Branch, Return}
+use Rattle.ltl.specs.Function.{FunctionData}
+
+abbrev pub same_function : FunctionData → FunctionData → Bool
+same_function f g = ((pointwise (location_eq.ghosts).eq f.parameters g.parameters && nat_eq f.slots g.slots) && nat_eq f.entry g.entry) && pointwise (block_eq.ghosts).eq f.blocks g.blocks
+
+pub same_laws : IsEquivalence same_function
+same_laws =
+    and_equiv
+      (and_equiv
+        (and_equiv (on_equiv (λ (f : FunctionData). f.parameters) (lists_equiv location_laws.laws-law)) (on_equiv (λ (f : FunctionData). f.slots) nat_eq_equiv))
+        (on_equiv (λ (f : FunctionData). f.entry) nat_eq_equiv))
+      (on_equiv (λ (f : FunctionData). f.blocks) (lists_equiv block_laws.laws-law))
+
+lists_tell : {A : Type 0} (eq : A → A → Bool) → Tells eq → Tells (pointwise eq)
+lists_tell eq tells [] [] e = refl
+lists_tell eq tells [] (y ∷ ys) e = absurd cc
+lists_tell eq tells (x ∷ xs) [] e = absurd cc
+lists_tell eq tells (x ∷ xs) (y ∷ ys) e = let p = and_parts (eq x y) (pointwise eq xs ys) e in λ i. tells x y p.0 i ∷ lists_tell eq tells xs ys p.1 i
+
+moves_tell : Tells (pointwise (move_eq.ghosts).eq)
+moves_tell = lists_tell (move_eq.ghosts).eq move_tells
+
+value_tells : (v w : Option ℕ) → (body_eq.ghosts).eq (Return v) (Return w) ≡ true → v ≡ w
+value_tells None None e = refl
+value_tells None (Some r) e = absurd cc
+value_tells (Some r) None e = absurd cc
+value_tells (Some r) (Some q) e = ap (λ n. Some n) (eqb-true r q e)
+
+body_tells : Tells (body_eq.ghosts).eq
+body_tells (Go None ms s) (Go None ns t) e = let p = and_parts _ _ e in λ i. Go None (moves_tell ms ns p.0 i) (eqb-true s t p.1 i)
+body_tells (Go None ms s) (Go (Some b) ns t) e = absurd cc
+body_tells (Go (Some a) ms s) (Go None ns t) e = absurd cc
+body_tells (Go (Some a) ms s) (Go (Some b) ns t) e =
+    let p = and_parts ((act_eq.ghosts).eq a b) (pointwise (move_eq.ghosts).eq ms ns && nat_eq s t) e in
+    let q = and_parts (pointwise (move_eq.ghosts).eq ms ns) (nat_eq s t) p.1 in
+    λ i. Go (Some (act_tells a b p.0 i)) (moves_tell ms ns q.0 i) (eqb-true s t q.1 i)
+body_tells (Branch t a b) (Branch u c d) e =
+    let p = and_parts ((test_eq.ghosts).eq t u) (nat_eq a c && nat_eq b d) e in
+    let q = and_parts (nat_eq a c) (nat_eq b d) p.1 in
+    λ i. Branch (test_tells t u p.0 i) (eqb-true a c q.0 i) (eqb-true b d q.1 i)
+body_tells (Return v) (Return w) e = ap (λ x. Return x) (value_tells v w e)
+body_tells _ _ e = absurd cc
+
+block_tells : Tells (block_eq.ghosts).eq
+block_tells a b e =
+    let p = and_parts (pointwise (move_eq.ghosts).eq a.before b.before) ((body_eq.ghosts).eq a.body b.body) e in
+    λ i. record { before = moves_tell a.before b.before p.0 i; body = body_tells a.body b.body p.1 i }
+
+pub function_tells : Tells same_function
+function_tells f g e =
+    let p = and_parts ((pointwise (location_eq.ghosts).eq f.parameters g.parameters && nat_eq f.slots g.slots) && nat_eq f.entry g.entry) (pointwise (block_eq.ghosts).eq f.blocks g.blocks) e in
+    let q = and_parts (pointwise (location_eq.ghosts).eq f.parameters g.parameters && nat_eq f.slots g.slots) (nat_eq f.entry g.entry) p.0 in
+    let r = and_parts (pointwise (location_eq.ghosts).eq f.parameters g.parameters) (nat_eq f.slots g.slots) q.0 in
+    λ i. record {
+      parameters = lists_tell (location_eq.ghosts).eq location_tells f.parameters g.parameters r.0 i;
+      slots = eqb-true f.slots g.slots r.1 i;
+      entry = eqb-true f.entry g.entry q.1 i;
+      blocks = lists_tell (block_eq.ghosts).eq block_tells f.blocks g.blocks p.1 i;
+    }

@@ -1,0 +1,202 @@
+-- The reading of LTL is a form: each spelling is read again, and nothing else is read.
+use Rattle.std.proofs.Common.{◌≡◌, ◌≢◌, ℕ, ◌<◌, ◌≤◌, ◌^◌, Bool, true, false, List, [], ◌∷◌, ◌++◌, length, Option, Some, None, Ok, refl, sym, ap, subst, ◌∙◌, arith, append_assoc}
+use Rattle.std.specs.Prelude.{nat_lt}
+use Rattle.std.specs.Int.{w16, w32, to_be_bytes}
+use Rattle.std.specs.List.{AllByRecursion, flat_map}
+use Rattle.std.proofs.lemmas.Bool.{ltb-true, lt-ltb}
+use Rattle.lang.specs.declared.errors.FormError.TheVariants.{NotCanonical}
+use Rattle.lang.specs.Reading.{number, made, both, follow}
+use Rattle.lang.specs.Texts.{counted_text, EachFits}
+use Rattle.lang.proofs.Forms.{IsForm}
+use Rattle.lang.proofs.Parts.{number16_form, made_takes, made_again, made_form, tested_form, fits_form, below_form, both_form}
+use Rattle.lang.proofs.Lists.{more_form, each_fits, fits_each, HasCode, TakesBehind, follow_form, coded_form, tagged_form}
+use Rattle.machine.specs.declared.location.Location.{Location}
+use Rattle.machine.specs.declared.location.Move.{Move}
+use Rattle.machine.specs.declared.act.Act.{Act}
+use Rattle.machine.specs.declared.act.Act.TheVariants.{Constant, Operate}
+use Rattle.machine.specs.declared.test.Test.{Test}
+use Rattle.machine.specs.Fits.{MovesFit, ActFits, TestFits, slot_limit}
+use Rattle.machine.specs.Spelling.{act_code, act_body, moves_text, test_text, frame_text}
+use Rattle.machine.specs.Reading.{moves, test, value, act, frame}
+use Rattle.machine.proofs.Forms.{moves_form, test_form, value_form, act_form, FrameFits, frame_form}
+use Rattle.ltl.specs.declared.block.Block.{Block}
+use Rattle.ltl.specs.declared.block.Body.{Body}
+use Rattle.ltl.specs.declared.block.Body.TheVariants.{Go, Branch, Return}
+use Rattle.ltl.specs.Function.{FunctionData, BodyFits, BlockFits, IsFunction, node_limit}
+use Rattle.ltl.specs.Spelling.{any_code, any_body, going_text, body_code, body_body, body_text, block_text, graph_text, tag, spelling}
+use Rattle.ltl.specs.Reading.{node, going, branch, bodies, plain, body, block, ends, blocks, graph, parts, function}
+
+-- ---- a body
+
+node_form : (nodes : ℕ) → nodes ≤ 2 ^ 16 → IsForm (node nodes) (to_be_bytes w16) (λ n. n < nodes)
+unfolding node
+node_form nodes few = below_form nodes number16_form (λ n lt. omega arith)
+
+abbrev GoingFits : ℕ → ℕ → ℕ × List Move → Type 0
+GoingFits slots nodes p = (p.0 < nodes) × MovesFit slots p.1
+
+going_form : (slots nodes : ℕ) → slots ≤ 2 ^ 16 → nodes ≤ 2 ^ 16 → IsForm (going slots nodes) going_text (GoingFits slots nodes)
+unfolding going
+going_form slots nodes few_slots few =
+    both_form (node nodes) (to_be_bytes w16) (λ n. n < nodes) (node_form nodes few) (λ s. moves slots) (λ s. moves_text) (λ s. MovesFit slots) (λ s fits. moves_form slots few_slots)
+
+abbrev NodesFit : ℕ → ℕ × ℕ → Type 0
+NodesFit nodes p = (p.0 < nodes) × (p.1 < nodes)
+
+nodes_form : (nodes : ℕ) → nodes ≤ 2 ^ 16 → IsForm (both (node nodes) (λ taken. node nodes)) (λ p. to_be_bytes w16 p.0 ++ to_be_bytes w16 p.1) (NodesFit nodes)
+nodes_form nodes few =
+    both_form (node nodes) (to_be_bytes w16) (λ n. n < nodes) (node_form nodes few) (λ s. node nodes) (λ s. to_be_bytes w16) (λ s n. n < nodes) (λ s fits. node_form nodes few)
+
+abbrev BranchParts : Type 0
+BranchParts = Test × (ℕ × ℕ)
+
+abbrev branch_text : BranchParts → List ℕ
+branch_text p = test_text p.0 ++ (to_be_bytes w16 p.1.0 ++ to_be_bytes w16 p.1.1)
+
+abbrev BranchFits : ℕ → BranchParts → Type 0
+BranchFits nodes p = TestFits p.0 × NodesFit nodes p.1
+
+branch_parts : (nodes : ℕ) → nodes ≤ 2 ^ 16 → IsForm (both test (λ t. both (node nodes) (λ taken. node nodes))) branch_text (BranchFits nodes)
+branch_parts nodes few =
+    both_form test test_text TestFits test_form (λ t. both (node nodes) (λ taken. node nodes)) (λ t p. to_be_bytes w16 p.0 ++ to_be_bytes w16 p.1) (λ t. NodesFit nodes) (λ t fits. nodes_form nodes few)
+
+abbrev PlainParts : Type 0
+PlainParts = Act × (ℕ × List Move)
+
+abbrev plain_text : PlainParts → List ℕ
+plain_text p = act_body p.0 ++ going_text p.1
+
+abbrev PlainFits : ℕ → ℕ → ℕ → PlainParts → Type 0
+PlainFits slots nodes code p = HasCode act_code act_body ActFits code p.0 × GoingFits slots nodes p.1
+
+plain_parts : (slots nodes code : ℕ) → slots ≤ 2 ^ 16 → nodes ≤ 2 ^ 16 → IsForm (both (act code) (λ a. going slots nodes)) plain_text (PlainFits slots nodes code)
+plain_parts slots nodes code few_slots few =
+    both_form (act code) act_body (HasCode act_code act_body ActFits code) (act_form code) (λ a. going slots nodes) (λ a. going_text) (λ a. GoingFits slots nodes) (λ a fits. going_form slots nodes few_slots few)
+
+plain_takes : (slots nodes : ℕ) → slots ≤ 2 ^ 16 → nodes ≤ 2 ^ 16 → (code : ℕ) → TakesBehind body_code body_body (BodyFits slots nodes) code (plain slots nodes code)
+unfolding plain
+plain_takes slots nodes few_slots few code =
+    made_takes (λ (p : PlainParts). Go (Some p.0) p.1.1 p.1.0) (plain_parts slots nodes code few_slots few) body_body (HasCode body_code body_body (BodyFits slots nodes) code)
+      (λ p fits. (refl, ((fits.0.0, fits.1.1, fits.1.0), fits.0.1)))
+
+body_again : (slots nodes : ℕ) → slots ≤ 2 ^ 16 → nodes ≤ 2 ^ 16 → (b : Body) (rest : List ℕ) → BodyFits slots nodes b → follow (bodies slots nodes) (plain slots nodes) (body_code b) (body_body b ++ rest) ≡ Ok (b, rest)
+unfolding plain branch
+body_again slots nodes few_slots few (Go None after successor) rest fits =
+    made_again (λ (p : ℕ × List Move). Go None p.1 p.0) (going_form slots nodes few_slots few) (successor, after) rest (fits.2, fits.1)
+body_again slots nodes few_slots few (Go (Some (Constant target word)) after successor) rest fits =
+    made_again (λ (p : PlainParts). Go (Some p.0) p.1.1 p.1.0) (plain_parts slots nodes 1 few_slots few) (Constant target word, (successor, after)) rest ((fits.0, refl), (fits.2, fits.1))
+body_again slots nodes few_slots few (Go (Some (Operate op target arguments)) after successor) rest fits =
+    made_again (λ (p : PlainParts). Go (Some p.0) p.1.1 p.1.0) (plain_parts slots nodes 3 few_slots few) (Operate op target arguments, (successor, after)) rest ((fits.0, refl), (fits.2, fits.1))
+body_again slots nodes few_slots few (Branch test taken other) rest fits =
+    made_again (λ (p : BranchParts). Branch p.0 p.1.0 p.1.1) (branch_parts nodes few) (test, (taken, other)) rest (fits.0, (fits.1, fits.2))
+body_again slots nodes few_slots few (Return value) rest fits = made_again (λ v. Return v) value_form value rest fits
+
+branch_takes : (slots nodes : ℕ) → nodes ≤ 2 ^ 16 → TakesBehind body_code body_body (BodyFits slots nodes) 8 (branch nodes)
+unfolding branch
+branch_takes slots nodes few =
+    made_takes (λ (p : BranchParts). Branch p.0 p.1.0 p.1.1) (branch_parts nodes few) body_body (HasCode body_code body_body (BodyFits slots nodes) 8) (λ p fits. (refl, ((fits.0, fits.1.0, fits.1.1), refl)))
+
+body_form : (slots nodes : ℕ) → slots ≤ 2 ^ 16 → nodes ≤ 2 ^ 16 → IsForm (body slots nodes) body_text (BodyFits slots nodes)
+unfolding body
+body_form slots nodes few_slots few =
+    let at = HasCode body_code body_body (BodyFits slots nodes) in
+    coded_form body_code body_body (BodyFits slots nodes) (follow (bodies slots nodes) (plain slots nodes))
+      (follow_form body_code body_body (BodyFits slots nodes) (bodies slots nodes) (plain slots nodes)
+        (made_takes (λ (p : ℕ × List Move). Go None p.1 p.0) (going_form slots nodes few_slots few) body_body (at 0) (λ p fits. (refl, ((tt, fits.1, fits.0), refl))),
+          (branch_takes slots nodes few,
+            (made_takes (λ v. Return v) value_form body_body (at 9) (λ v fits. (refl, (fits, refl))), tt)))
+        (plain_takes slots nodes few_slots few)
+        (body_again slots nodes few_slots few))
+
+-- ---- a block
+
+block_form : (slots nodes : ℕ) → slots ≤ 2 ^ 16 → nodes ≤ 2 ^ 16 → IsForm (block slots nodes) block_text (BlockFits slots nodes)
+unfolding block
+block_form slots nodes few_slots few =
+    made_form (λ (p : List Move × Body). record { before = p.0; body = p.1 })
+      (both_form (moves slots) moves_text (MovesFit slots) (moves_form slots few_slots) (λ m. body slots nodes) (λ m. body_text) (λ m. BodyFits slots nodes) (λ m fits. body_form slots nodes few_slots few))
+      block_text (BlockFits slots nodes)
+      (λ p fits. (refl, record { before = fits.0; body = fits.1 }))
+      (λ b fits. ((b.before, b.body), (fits.before, fits.body), refl))
+
+-- ---- the graph
+
+abbrev EndsFit : ℕ × ℕ → Type 0
+EndsFit p = (p.0 < p.1) × (p.1 < 2 ^ 16)
+
+ends_form : IsForm ends (λ p. to_be_bytes w16 p.0 ++ to_be_bytes w16 p.1) EndsFit
+unfolding ends
+ends_form =
+    tested_form (λ p. nat_lt p.0 p.1) NotCanonical
+      (both_form (number w16) (to_be_bytes w16) (λ n. n < 2 ^ 16) number16_form (λ e. number w16) (λ e. to_be_bytes w16) (λ e n. n < 2 ^ 16) (λ e fits. number16_form))
+      EndsFit
+      (λ p fits passes. (ltb-true p.0 p.1 passes, fits.1))
+      (λ p fits. let lt : p.0 < 2 ^ 16 = omega (arith, fits.0, fits.1) in ((lt, fits.1), lt-ltb p.0 p.1 fits.0))
+
+abbrev BlocksFit : ℕ → ℕ → List Block → Type 0
+BlocksFit slots nodes bs = (length bs ≡ nodes) × AllByRecursion (BlockFits slots nodes) bs
+
+blocks_form : (slots nodes : ℕ) → slots ≤ 2 ^ 16 → nodes ≤ 2 ^ 16 → IsForm (blocks slots nodes) (flat_map block_text) (BlocksFit slots nodes)
+unfolding blocks
+blocks_form slots nodes few_slots few =
+    fits_form (more_form (λ before. block slots nodes) block_text (λ before. BlockFits slots nodes) (λ before. block_form slots nodes few_slots few) nodes)
+      (λ bs fits. (fits.0, each_fits (BlockFits slots nodes) [] bs fits.1))
+      (λ bs fits. (fits.0, fits_each (BlockFits slots nodes) [] bs fits.1))
+
+-- the entry is one of the blocks, which are not too many, and each is in range
+pub record GraphFits (slots : ℕ) (g : ℕ × List Block) : Type 0 where
+  pub entry : g.0 < length g.1
+  pub nodes : length g.1 < 2 ^ 16
+  pub each : AllByRecursion (BlockFits slots (length g.1)) g.1
+
+abbrev Ends : Type 0
+Ends = (ℕ × ℕ) × List Block
+
+graph_form : (slots : ℕ) → slots ≤ 2 ^ 16 → IsForm (graph slots) graph_text (GraphFits slots)
+unfolding graph
+graph_form slots few_slots =
+    made_form (λ (p : Ends). (p.0.0, p.1))
+      (both_form ends (λ p. to_be_bytes w16 p.0 ++ to_be_bytes w16 p.1) EndsFit ends_form (λ p. blocks slots p.1) (λ p. flat_map block_text) (λ p. BlocksFit slots p.1)
+        (λ p fits. let few : p.1 ≤ 2 ^ 16 = omega (arith, fits.1) in blocks_form slots p.1 few_slots few))
+      graph_text (GraphFits slots)
+      (λ p fits.
+          let len : length p.1 ≡ p.0.1 = fits.1.0 in
+          (ap (λ n. to_be_bytes w16 p.0.0 ++ (to_be_bytes w16 n ++ flat_map block_text p.1)) len ∙ sym (append_assoc (to_be_bytes w16 p.0.0) (to_be_bytes w16 p.0.1) (flat_map block_text p.1)),
+            record {
+              entry = subst (λ n. p.0.0 < n) (sym len) fits.0.0;
+              nodes = subst (λ n. n < 2 ^ 16) (sym len) fits.0.1;
+              each = subst (λ n. AllByRecursion (BlockFits slots n) p.1) (sym len) fits.1.1;
+            }))
+      (λ g fits. (((g.0, length g.1), g.1), ((fits.entry, fits.nodes), (refl, fits.each)), refl))
+
+-- ---- the function
+
+abbrev Parts : Type 0
+Parts = (List Location × ℕ) × (ℕ × List Block)
+
+abbrev pub function_of : Parts → FunctionData
+function_of p = record { parameters = p.0.0; slots = p.0.1; entry = p.1.0; blocks = p.1.1 }
+
+abbrev PartsFit : Parts → Type 0
+PartsFit p = FrameFits p.0 × GraphFits p.0.1 p.1
+
+abbrev parts_text : Parts → List ℕ
+parts_text p = frame_text p.0 ++ graph_text p.1
+
+pub parts_form : IsForm parts parts_text PartsFit
+unfolding parts
+parts_form = both_form frame frame_text FrameFits frame_form (λ f. graph f.1) (λ f. graph_text) (λ f. GraphFits f.1) (λ f fits. let few : f.1 ≤ 2 ^ 16 = omega (arith, fits.1) in graph_form f.1 few)
+
+pub parts_fit : (p : Parts) → PartsFit p → IsFunction (function_of p)
+parts_fit p fits = record { parameters = fits.0.0; slots = fits.0.1; entry = fits.1.entry; nodes = omega (arith, fits.1.nodes); each = fits.1.each }
+
+fit_parts : (f : FunctionData) → IsFunction f → PartsFit ((f.parameters, f.slots), (f.entry, f.blocks))
+fit_parts f fits = ((fits.parameters, fits.slots), record { entry = fits.entry; nodes = omega (arith, fits.nodes); each = fits.each })
+
+pub function_form : IsForm function spelling IsFunction
+unfolding function
+function_form =
+    tagged_form tag
+      (made_form function_of parts_form (λ f. frame_text (f.parameters, f.slots) ++ graph_text (f.entry, f.blocks)) IsFunction
+        (λ p fits. (refl, parts_fit p fits))
+        (λ f fits. (((f.parameters, f.slots), (f.entry, f.blocks)), fit_parts f fits, refl)))

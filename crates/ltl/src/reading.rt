@@ -1,0 +1,181 @@
+//! Readers of the parts of a function. Each is one function on lists, which says the value and the
+//! bytes behind it, or the first fault.
+
+ghost use Rattle.std.specs.Prelude.{ℕ, ◌<◌, [], slice_index};
+ghost use Rattle.lang.specs.Reading.{IsRead, Reads, items_of, more};
+ghost use Rattle.ltl.specs.Reading.{node, going, branch, plain, body, block, ends, blocks, graph, parts, function};
+
+use crate::block::{Block, Body};
+use crate::function::Function;
+use lang::{FormError, Row, read_byte, read_u16, read_u16_below};
+use machine::{Location, Move, read_act, read_frame, read_moves, read_test, read_value};
+use std::alloc::Global;
+
+/// One of so many nodes.
+#[tactic(auto, unfolding(crate::specs::Reading::node))]
+fn read_node(nodes: u32, bytes: &mut &[u8]) -> Result<u16, FormError>
+    ensures { IsRead (node nodes bytes.old.now) result bytes.new.now }
+{
+    read_u16_below(nodes, bytes)
+}
+
+/// The successor, and the moves behind the instruction.
+#[tactic(auto, unfolding(crate::specs::Reading::going))]
+fn read_going(
+    alloc: Global,
+    slots: u32,
+    nodes: u32,
+    bytes: &mut &[u8],
+) -> Result<(u16, Row<Move>), FormError>
+    ensures { Reads (going slots nodes bytes.old.now) result bytes.new.now }
+{
+    let successor = read_node(nodes, bytes)?;
+    let after = read_moves(alloc, slots, bytes)?;
+    Ok((successor, after))
+}
+
+#[tactic(auto, unfolding(crate::specs::Reading::branch))]
+fn read_branch(nodes: u32, bytes: &mut &[u8]) -> Result<Body, FormError>
+    ensures { IsRead (branch nodes bytes.old.now) result bytes.new.now }
+{
+    let test = read_test(bytes)?;
+    let taken = read_node(nodes, bytes)?;
+    let other = read_node(nodes, bytes)?;
+    Ok(Body::Branch { test, taken, other })
+}
+
+/// What follows the code of a plain instruction; no other code is one.
+#[tactic(auto, unfolding(crate::specs::Reading::plain))]
+fn read_plain(
+    alloc: Global,
+    slots: u32,
+    nodes: u32,
+    code: u8,
+    bytes: &mut &[u8],
+) -> Result<Body, FormError>
+    ensures { Reads (plain slots nodes code bytes.old.now) result bytes.new.now }
+{
+    let act = read_act(code, bytes)?;
+    let (successor, after) = read_going(alloc, slots, nodes, bytes)?;
+    Ok(Body::Go {
+        act: Some(act),
+        after,
+        successor,
+    })
+}
+
+/// What a block does behind its first moves.
+#[tactic(auto, unfolding(crate::specs::Reading::body))]
+fn read_body(alloc: Global, slots: u32, nodes: u32, bytes: &mut &[u8]) -> Result<Body, FormError>
+    ensures { Reads (body slots nodes bytes.old.now) result bytes.new.now }
+{
+    match read_byte(bytes)? {
+        0 => {
+            let (successor, after) = read_going(alloc, slots, nodes, bytes)?;
+            Ok(Body::Go {
+                act: None,
+                after,
+                successor,
+            })
+        }
+        8 => read_branch(nodes, bytes),
+        9 => Ok(Body::Return {
+            value: read_value(bytes)?,
+        }),
+        code => read_plain(alloc, slots, nodes, code, bytes),
+    }
+}
+
+#[tactic(auto, unfolding(crate::specs::Reading::block))]
+fn read_block(alloc: Global, slots: u32, nodes: u32, bytes: &mut &[u8]) -> Result<Block, FormError>
+    ensures { Reads (block slots nodes bytes.old.now) result bytes.new.now }
+{
+    let before = read_moves(alloc, slots, bytes)?;
+    let body = read_body(alloc, slots, nodes, bytes)?;
+    Ok(Block { before, body })
+}
+
+/// The entry and the number of nodes, of which it is one.
+#[tactic(auto, unfolding(crate::specs::Reading::ends))]
+fn read_ends(bytes: &mut &[u8]) -> Result<(u16, u16), FormError>
+    ensures { IsRead (ends bytes.old.now) result bytes.new.now }
+{
+    let entry = read_u16(bytes)?;
+    let nodes = read_u16(bytes)?;
+    if entry < nodes {
+        Ok((entry, nodes))
+    } else {
+        Err(FormError::NotCanonical)
+    }
+}
+
+/// As many blocks as there are nodes.
+#[tactic(auto, unfolding(crate::specs::Reading::blocks))]
+fn read_blocks(
+    alloc: Global,
+    slots: u32,
+    nodes: u32,
+    bytes: &mut &[u8],
+) -> Result<Vec<Block>, FormError>
+    ensures { Reads (blocks slots nodes bytes.old.now) (items_of result) bytes.new.now }
+{
+    read_so_many(alloc, slots, nodes, bytes)
+}
+
+fn read_so_many(
+    alloc: Global,
+    slots: u32,
+    nodes: u32,
+    bytes: &mut &[u8],
+) -> Result<Vec<Block>, FormError>
+    ensures { Reads (more (λ before. block slots nodes) [] nodes bytes.old.now) (items_of result) bytes.new.now }
+{
+    let mut blocks = Vec::new(alloc);
+    for _ in 0..nodes {
+        let block = read_block(alloc, slots, nodes, bytes)?;
+        blocks.push(block)?;
+    }
+    Ok(blocks)
+}
+
+/// The entry and the blocks.
+#[tactic(auto, unfolding(crate::specs::Reading::graph))]
+fn read_graph(alloc: Global, slots: u16, bytes: &mut &[u8]) -> Result<(u16, Row<Block>), FormError>
+    ensures { Reads (graph slots bytes.old.now) result bytes.new.now }
+{
+    let (entry, nodes) = read_ends(bytes)?;
+    let blocks = read_blocks(alloc, u32::from(slots), u32::from(nodes), bytes)?;
+    Ok((entry, Row::from_vec(blocks)))
+}
+
+/// The parameters, the slots, and the graph.
+#[tactic(auto, unfolding(crate::specs::Reading::parts))]
+fn read_parts(
+    alloc: Global,
+    bytes: &mut &[u8],
+) -> Result<((Row<Location>, u16), (u16, Row<Block>)), FormError>
+    ensures { Reads (parts bytes.old.now) result bytes.new.now }
+{
+    let frame = read_frame(alloc, bytes)?;
+    let graph = read_graph(alloc, frame.1, bytes)?;
+    Ok((frame, graph))
+}
+
+/// Each number of a slice of bytes is a byte.
+fn are_bytes(bytes: &[u8])
+    ensures { (i : ℕ) → slice_index bytes.now i < 256 }
+{
+}
+
+/// A function, its tag first.
+#[tactic(auto, unfolding(crate::specs::Reading::function))]
+pub fn read_function(alloc: Global, bytes: &mut &[u8]) -> Result<Function, FormError>
+    ensures { Reads (function bytes.old.now) result bytes.new.now }
+{
+    are_bytes(bytes);
+    if read_byte(bytes)? != 3 {
+        return Err(FormError::BadTag);
+    }
+    let ((parameters, slots), (entry, blocks)) = read_parts(alloc, bytes)?;
+    Ok(Function::new(parameters, slots, entry, blocks))
+}

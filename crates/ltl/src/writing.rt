@@ -1,0 +1,81 @@
+//! Writers of the parts of a function: each appends the text.
+
+ghost use Rattle.std.specs.Prelude.{◌≤◌, All, length};
+ghost use Rattle.std.specs.List.{flat_map};
+ghost use Rattle.lang.specs.Texts.{Appends};
+ghost use Rattle.machine.specs.Fits.{move_limit};
+ghost use Rattle.ltl.specs.Function.{HasShortLists, after_of};
+ghost use Rattle.ltl.specs.Spelling.{any_code, any_body, going_text, body_text, block_text, spelling};
+
+use crate::block::{Block, Body};
+use crate::function::Function;
+use lang::{NoMemory, push_byte, push_u16};
+use machine::{Move, push_act, push_frame, push_moves, push_test, push_value};
+
+/// The successor, and the moves behind the instruction.
+fn push_going(out: &mut Vec<u8>, successor: u16, after: &[Move]) -> Result<(), NoMemory>
+    requires { length after.now ≤ move_limit }
+    ensures { Appends result (going_text (successor, after.now)) out.old.items out.new.items }
+{
+    push_u16(out, successor)?;
+    push_moves(out, after)
+}
+
+fn push_body(out: &mut Vec<u8>, body: &Body) -> Result<(), NoMemory>
+    requires { length (after_of body.now) ≤ move_limit }
+    ensures { Appends result (body_text body.now) out.old.items out.new.items }
+{
+    match body {
+        Body::Go {
+            act,
+            after,
+            successor,
+        } => {
+            match act {
+                None => push_byte(out, 0)?,
+                Some(act) => push_act(out, act)?,
+            }
+            push_going(out, *successor, after.as_slice())
+        }
+        Body::Branch { test, taken, other } => {
+            push_byte(out, 8)?;
+            push_test(out, test)?;
+            push_u16(out, *taken)?;
+            push_u16(out, *other)
+        }
+        Body::Return { value } => {
+            push_byte(out, 9)?;
+            push_value(out, *value)
+        }
+    }
+}
+
+fn push_block(out: &mut Vec<u8>, block: &Block) -> Result<(), NoMemory>
+    requires { HasShortLists block.now }
+    ensures { Appends result (block_text block.now) out.old.items out.new.items }
+{
+    push_moves(out, block.before.as_slice())?;
+    push_body(out, &block.body)
+}
+
+fn push_each(out: &mut Vec<u8>, blocks: &[Block]) -> Result<(), NoMemory>
+    requires { All HasShortLists blocks.now }
+    ensures { Appends result (flat_map block_text blocks.now) out.old.items out.new.items }
+{
+    for block in blocks {
+        push_block(out, block)?;
+    }
+    Ok(())
+}
+
+/// A function, its tag first.
+pub fn push_function(out: &mut Vec<u8>, function: &Function) -> Result<(), NoMemory>
+    ensures { Appends result (spelling function.now) out.old.items out.new.items }
+{
+    let blocks = function.blocks().as_slice();
+    push_byte(out, 3)?;
+    push_frame(out, function.parameters().as_slice(), function.slots())?;
+    push_u16(out, function.entry())?;
+    push_u16(out, blocks.len() as u16)?;
+    push_each(out, blocks)
+}
