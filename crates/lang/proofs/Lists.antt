@@ -11,8 +11,6 @@ use Rattle.lang.specs.Texts.{option_code, option_body, optional_text, counted_te
 use Rattle.lang.proofs.Forms.{AreBytes, AreBytes-rest, Takes, IsForm, done, ok_is}
 use Rattle.lang.proofs.Parts.{bind_ok, byte_form, made_takes, made_again}
 
--- ---- so many of a kind
-
 module _ {A : Type 0} (part : List A → Reading A) (text : A → List ℕ) (Fits : List A → A → Type 0) (form : (before : List A) → IsForm (part before) text (Fits before)) where
   -- what is read behind those before
   record TakesMore (before : List A) (n : ℕ) (bytes : List ℕ) (xs : List A) (rest : List ℕ) : Type 0 where
@@ -88,8 +86,6 @@ pub fits_each : {A : Type 0} (Fits : A → Type 0) (before xs : List A) → AllB
 fits_each Fits before [] fits = tt
 fits_each Fits before (x ∷ xs) fits = (fits.0, fits_each Fits (before ++ x ∷ []) xs fits.1)
 
--- ---- tables
-
 module _ {A : Type 0} (code_of : A → ℕ) (text : A → List ℕ) (Fits : A → Type 0) where
   -- the values with a code
   abbrev pub HasCode : ℕ → A → Type 0
@@ -130,8 +126,6 @@ module _ {A : Type 0} (code_of : A → ℕ) (text : A → List ℕ) (Fits : A �
     again = λ x rest fits. (form (code_of x)).again x rest (fits, refl);
   }
 
--- ---- nothing, or a part
-
 option_again : {A : Type 0} {part : Reading A} {text : A → List ℕ} {Fits : A → Type 0} → IsForm part text Fits → (o : Option A) (rest : List ℕ) → IfSome o Fits → follow ((0, nothing) ∷ (1, made (λ x. Some x) part) ∷ []) unknown (option_code o) (option_body text o ++ rest) ≡ Ok (o, rest)
 option_again form None rest fits = refl
 option_again form (Some x) rest fits = made_again (λ x. Some x) form x rest fits
@@ -146,8 +140,6 @@ optional_form {A} {part} {text} {Fits} form =
     )
     (unknown_takes option_code (option_body text) (λ o. IfSome o Fits))
     (option_again form))
-
--- ---- tags
 
 behind_tag : {A : Type 0} (b : Bool) (r : Result A FormError) (z : A) → cond b r (Err BadTag) ≡ Ok z → (b ≡ true) × (r ≡ Ok z)
 behind_tag true r z e = (refl, e)

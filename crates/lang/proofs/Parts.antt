@@ -30,8 +30,6 @@ pub chosen : {A : Type 0} (b : Bool) (x y z : A) → cond b x y ≡ z → ((b �
 chosen true x y z e = inl (refl, e)
 chosen false x y z e = inr (refl, e)
 
--- ---- bytes and numbers
-
 abbrev pub byte_text : ℕ → List ℕ
 byte_text n = n ∷ []
 
@@ -91,8 +89,6 @@ number16_form = record { takes = number_takes w16 (2 ^ 16) wide16; again = numbe
 pub number32_form : IsForm (number w32) (to_be_bytes w32) (λ n. n < 2 ^ 32)
 number32_form = record { takes = number_takes w32 (2 ^ 32) wide32; again = number_again w32 (2 ^ 32) wide32 }
 
--- ---- what is made of a part
-
 module _ {A B : Type 0} (check : A → Result B FormError) {part : Reading A} {part_text : A → List ℕ} {PartFits : A → Type 0} (form : IsForm part part_text PartFits) (text : B → List ℕ) (Fits : B → Type 0) (there : (x : A) (y : B) → PartFits x → check x ≡ Ok y → (text y ≡ part_text x) × Fits y) where
   pub checked_takes : (bytes : List ℕ) (y : B) (rest : List ℕ) → AreBytes bytes → checked check part bytes ≡ Ok (y, rest) → Takes text Fits bytes y rest
   checked_takes bytes y rest are e =
@@ -149,8 +145,6 @@ below_form bound form wide = tested_form (λ n. nat_lt n bound) NotCanonical for
 
 pub up_to_form : {part : Reading ℕ} {text : ℕ → List ℕ} {PartFits : ℕ → Type 0} (limit : ℕ) → IsForm part text PartFits → ((n : ℕ) → n ≤ limit → PartFits n) → IsForm (up_to limit part) text (λ n. n ≤ limit)
 up_to_form limit form wide = tested_form (λ n. nat_le n limit) TooLarge form (λ n. n ≤ limit) (λ n fits passes. leb-true n limit passes) (λ n le. (wide n le, le-leb n limit le))
-
--- ---- one part made of others
 
 module _ {A B : Type 0} (first : Reading A) (first_text : A → List ℕ) (FirstFits : A → Type 0) (first_form : IsForm first first_text FirstFits) (second : A → Reading B) (second_text : A → B → List ℕ) (SecondFits : A → B → Type 0) (second_form : (x : A) → FirstFits x → IsForm (second x) (second_text x) (SecondFits x)) where
   abbrev BothText : A × B → List ℕ

@@ -1,5 +1,5 @@
 -- Two functions are equal where their parts are, and then they are one.
-use Rattle.std.proofs.Common.{◌≡◌, ℕ, Bool, true, List, [], ◌∷◌, Option, Some, None, refl, ap}
+use Rattle.std.proofs.Common.{◌≡◌, ℕ, Bool, true, [], ◌∷◌, Option, Some, None, refl, ap}
 use Rattle.std.specs.Prelude.{◌&&◌, nat_eq}
 use Rattle.std.specs.Cmp.{IsEquivalence}
 use Rattle.std.specs.Cmp.Lexicographic.{pointwise}
@@ -11,7 +11,6 @@ use Rattle.machine.specs.contracts.test.TestPartialEq.TheImpl as test_eq
 use Rattle.machine.proofs.Equal.{Tells, location_tells, move_tells, act_tells, test_tells}
 use Rattle.linear.specs.contracts.instruction.InstructionPartialEq.TheImpl as instruction_eq
 use Rattle.linear.specs.contracts.instruction.InstructionEq.TheImpl.Laws as instruction_laws
-use Rattle.linear.specs.declared.instruction.Instruction.{Instruction}
 use Rattle.linear.specs.declared.instruction.Instruction.TheVariants.{Do, Copy, Branch, Return, Label, Goto}
 use Rattle.linear.specs.Function.{FunctionData}
 
@@ -30,7 +29,7 @@ value_tells None (Some r) e = absurd cc
 value_tells (Some r) None e = absurd cc
 value_tells (Some r) (Some q) e = ap (λ n. Some n) (eqb-true r q e)
 
-instruction_tells : Tells (instruction_eq.ghosts).eq
+pub instruction_tells : Tells (instruction_eq.ghosts).eq
 instruction_tells (Do a) (Do b) e = ap (λ x. Do x) (act_tells a b e)
 instruction_tells (Copy a) (Copy b) e = ap (λ x. Copy x) (move_tells a b e)
 instruction_tells (Branch t l) (Branch u m) e = let p = and_parts ((test_eq.ghosts).eq t u) (nat_eq l m) e in λ i. Branch (test_tells t u p.0 i) (eqb-true l m p.1 i)
@@ -39,7 +38,7 @@ instruction_tells (Label l) (Label m) e = ap (λ x. Label x) (eqb-true l m e)
 instruction_tells (Goto l) (Goto m) e = ap (λ x. Goto x) (eqb-true l m e)
 instruction_tells _ _ e = absurd cc
 
-lists_tell : {A : Type 0} (eq : A → A → Bool) → Tells eq → Tells (pointwise eq)
+pub lists_tell : {A : Type 0} (eq : A → A → Bool) → Tells eq → Tells (pointwise eq)
 lists_tell eq tells [] [] e = refl
 lists_tell eq tells [] (y ∷ ys) e = absurd cc
 lists_tell eq tells (x ∷ xs) [] e = absurd cc

@@ -1,21 +1,21 @@
 -- The reading of Linear is a form: each spelling is read again, and nothing else is read.
-use Rattle.std.proofs.Common.{◌≡◌, ◌≢◌, ℕ, ◌<◌, ◌≤◌, ◌^◌, Bool, true, false, List, [], ◌∷◌, ◌++◌, length, Option, Some, None, Ok, refl, sym, ap, subst, ◌∙◌, arith}
+use Rattle.std.proofs.Common.{◌≡◌, ℕ, ◌<◌, ◌≤◌, ◌^◌, true, List, [], ◌∷◌, ◌++◌, length, Option, Some, None, Ok, refl, sym, ap, subst, ◌∙◌, arith}
 use Rattle.std.specs.Prelude.{nat_eq}
 use Rattle.std.specs.Int.{w16, w32, to_be_bytes}
 use Rattle.std.specs.List.{AllByRecursion}
 use Rattle.std.proofs.lemmas.Bool.{eqb-true, eq-eqb, not-true, not_from_false}
 use Rattle.lang.specs.declared.errors.FormError.TheVariants.{NotCanonical}
-use Rattle.lang.specs.Reading.{number, made, both, follow}
-use Rattle.lang.specs.Texts.{counted_text, EachFits}
+use Rattle.lang.specs.Reading.{number, both, follow}
+use Rattle.lang.specs.Texts.{counted_text}
 use Rattle.lang.proofs.Forms.{IsForm}
 use Rattle.lang.proofs.Parts.{number16_form, number32_form, made_takes, made_again, made_form, tested_form, fits_form, both_form}
 use Rattle.lang.proofs.Lists.{counted_form, each_fits, fits_each, HasCode, TakesBehind, follow_form, coded_form, tagged_form}
 use Rattle.machine.specs.declared.location.Location.{Location}
 use Rattle.machine.specs.declared.act.Act.TheVariants.{Constant, Operate}
 use Rattle.machine.specs.declared.test.Test.{Test}
-use Rattle.machine.specs.Fits.{TestFits, AreDistinct, slot_limit}
+use Rattle.machine.specs.Fits.{TestFits, AreDistinct}
 use Rattle.machine.specs.Spelling.{test_text, frame_text}
-use Rattle.machine.specs.Reading.{one_move, test, value, frame}
+use Rattle.machine.specs.Reading.{test, value, frame}
 use Rattle.machine.proofs.Distinct.{each_both, both_each, none_same, same_none, key_before, keys_of, IsNewKey, each_distinct, distinct_each}
 use Rattle.machine.proofs.Forms.{move_form, test_form, value_form, act_form, FrameFits, frame_form}
 use Rattle.linear.specs.declared.instruction.Instruction.{Instruction}

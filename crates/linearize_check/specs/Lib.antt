@@ -1,6 +1,12 @@
 pub mod Layout
 pub mod Rules
+pub mod Orders
+pub mod Faults
+pub mod Marks
+pub mod OrderForm
+pub mod Reach
 pub mod Places
 pub mod Related
 pub mod Steps
 pub mod Sound
+pub mod PassLaws

@@ -1,5 +1,5 @@
 -- Where the stretches stand in the code: a label leads to its node's stretch.
-use Rattle.std.proofs.Common.{◌≡◌, ◌≢◌, ℕ, zero, suc, ◌+◌, ◌<◌, ◌≤◌, List, [], ◌∷◌, length, get_or, Option, Some, None, Bool, true, false, cond, drop, refl, sym, ap, ◌∙◌, subst, arith, inl, inr, ◌⊎◌}
+use Rattle.std.proofs.Common.{◌≡◌, ℕ, zero, suc, ◌+◌, ◌<◌, List, [], ◌∷◌, length, get_or, Option, Some, None, Bool, true, false, cond, drop, refl, sym, ap, ◌∙◌, subst, arith, inl, inr, ◌⊎◌}
 use Rattle.std.specs.Prelude.{slice_get, Contains, nat_eq}
 use Rattle.std.specs.Option.{option_map}
 use Rattle.std.proofs.lemmas.List.{drop-drop}
@@ -13,7 +13,7 @@ use Rattle.ltl.specs.declared.block.Body.TheVariants as body
 use Rattle.linear.specs.declared.instruction.Instruction.{Instruction}
 use Rattle.linear.specs.declared.instruction.Instruction.TheVariants.{Do, Copy, Branch, Return, Label, Goto}
 use Rattle.linear.specs.Labels.{label_of, is_label, place_of}
-use Rattle.linearize_check.specs.Layout.{copies, act_code, is_next, jump, body_code, stretch, order_code}
+use Rattle.linearize_check.specs.Layout.{copies, act_code, is_next, body_code, stretch, order_code}
 
 -- the first instruction of what stands at a place
 pub slice_get-drop : (code : List Instruction) (place : ℕ) (i : Instruction) (rest : List Instruction) → drop place code ≡ i ∷ rest → slice_get code place ≡ Some i

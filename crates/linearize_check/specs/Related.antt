@@ -1,5 +1,5 @@
 -- When a state of the laid-out program stands where a state of the program does.
-use Rattle.std.proofs.Common.{◌≡◌, ℕ, List, [], ◌∷◌, Option, Some, drop}
+use Rattle.std.proofs.Common.{◌≡◌, ℕ, List, [], ◌∷◌, Some, drop}
 use Rattle.std.specs.Prelude.{slice_get, Contains}
 use Rattle.lang.specs.Programs.{NamedFunction}
 use Rattle.machine.specs.Frames.{Frame, State}

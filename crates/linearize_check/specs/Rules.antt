@@ -1,5 +1,5 @@
 -- What the pass accepts.
-use Rattle.std.specs.Prelude.{◌≡◌, ℕ, ◌<◌, ◌^◌, List, length, Option, Some, slice_get, All, Contains}
+use Rattle.std.specs.Prelude.{◌≡◌, ℕ, ◌<◌, ◌^◌, List, length, Some, slice_get, All, Contains}
 use Rattle.machine.specs.Fits.{AreDistinct}
 use Rattle.ltl.specs.Function as ltl
 use Rattle.linear.specs.Function as linear

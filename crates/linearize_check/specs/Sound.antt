@@ -1,10 +1,9 @@
 -- What the pass accepts keeps the meaning of whole programs.
-use Rattle.std.proofs.Common.{◌≡◌, ◌≢◌, ℕ, zero, suc, List, [], ◌∷◌, length, Option, Some, None, Bool, true, false, cond, ◌&&◌, refl, sym, ap, ◌∙◌, subst, arith}
+use Rattle.std.proofs.Common.{◌≡◌, ℕ, zero, suc, List, [], ◌∷◌, length, Option, Some, None, cond, ◌&&◌, refl, sym, ap, ◌∙◌, subst, arith}
 use Rattle.std.specs.Prelude.{slice_get, Contains, ◌==◌, codes}
 use Rattle.std.specs.Str.{bytes_eq}
-use Rattle.lang.specs.Behaviour.{NeverWrong}
 use Rattle.lang.specs.Keeps.{Keeps}
-use Rattle.lang.specs.Machine.{Next, Goes, Ends, Fails, showing, shows, Leads, Matches}
+use Rattle.lang.specs.Machine.{showing, shows, Leads, Matches}
 use Rattle.lang.specs.Programs.{GlobalData, NamedFunction, ProgramOf}
 use Rattle.lang.specs.Soundness.{Accepted, AcceptedInTurn}
 use Rattle.lang.specs.declared.shown.Shown.TheVariants as shown
@@ -17,7 +16,7 @@ use Rattle.linear.specs.Meaning as code
 use Rattle.linear.specs.Growth as growth
 use Rattle.linearize_check.specs.Layout.{order_code}
 use Rattle.linearize_check.specs.Rules.{IsLaidOut}
-use Rattle.linearize_check.specs.Related.{Pair, FramesRelated, Related}
+use Rattle.linearize_check.specs.Related.{Pair, Related}
 use Rattle.linearize_check.specs.Steps.{block_goes, block_ends}
 
 -- each step of the program is matched by its stretch of the code

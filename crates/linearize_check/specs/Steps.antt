@@ -1,17 +1,17 @@
 -- Single steps: what each block does, its stretch of the code does.
-use Rattle.std.proofs.Common.{◌≡◌, ℕ, zero, suc, ◌+◌, ◌<◌, ◌≤◌, List, [], ◌∷◌, length, get_or, Option, Some, None, Bool, true, false, cond, drop, refl, sym, ap, ◌∙◌, subst, arith, inl, inr, ◌⊎◌}
-use Rattle.std.specs.Prelude.{slice_get, Contains, nat_eq, All}
+use Rattle.std.proofs.Common.{◌≡◌, ℕ, zero, suc, ◌+◌, ◌<◌, ◌≤◌, List, [], ◌∷◌, length, get_or, Option, Some, None, Bool, true, false, cond, drop, refl, sym, ap, ◌∙◌, subst, arith}
+use Rattle.std.specs.Prelude.{slice_get, Contains, All}
 use Rattle.std.specs.Option.{option_map}
 use Rattle.std.proofs.lemmas.Bool.{eqb-true}
-use Rattle.lang.specs.Machine.{Next, Goes, Ends, Fails, showing, shows, Leads}
+use Rattle.lang.specs.Machine.{Goes, Ends, showing, shows, Leads}
 use Rattle.lang.specs.Programs.{NamedFunction}
 use Rattle.lang.specs.declared.shown.Shown.TheVariants as shown
 use Rattle.machine.specs.declared.location.Move.{Move}
 use Rattle.machine.specs.declared.act.Act.{Act}
 use Rattle.machine.specs.declared.test.Test.{Test}
 use Rattle.machine.specs.Data.{Data, moved, all_moved}
-use Rattle.machine.specs.Acts.{does, holds}
-use Rattle.machine.specs.Frames.{Frame, State, printed, goes_to, returned, comes_back, resumed, restored, with_result}
+use Rattle.machine.specs.Acts.{holds}
+use Rattle.machine.specs.Frames.{Frame, State, printed, goes_to, returned, comes_back, resumed}
 use Rattle.machine.proofs.Outputs.{output-all_moved}
 use Rattle.ltl.specs.declared.block.Block.{Block}
 use Rattle.ltl.specs.declared.block.Body.{Body}
@@ -25,8 +25,8 @@ use Rattle.linear.specs.Labels.{place_of}
 use Rattle.linear.specs.Meaning as code
 use Rattle.linearize_check.specs.Layout.{copies, act_code, is_next, jump, body_code, stretch, order_code, successors, successors_of}
 use Rattle.linearize_check.specs.Rules.{IsLaidOut}
-use Rattle.linearize_check.specs.Places.{slice_get-drop, drop-behind, AreBlocks, Finds, finds-order}
-use Rattle.linearize_check.specs.Related.{Pair, FrameRelated, FramesRelated, Related}
+use Rattle.linearize_check.specs.Places.{slice_get-drop, drop-behind, AreBlocks, finds-order}
+use Rattle.linearize_check.specs.Related.{Pair, FramesRelated, Related}
 
 -- no step, or more, lead from s to t
 pub record Comes (targets : List (NamedFunction linear.FunctionData)) (s t : State) : Type 0 where

@@ -2,5 +2,23 @@
 //! says whether the code is laid out by it. What is accepted keeps the meaning of whole programs.
 #![tactic(auto)]
 
-/// Nothing yet.
-pub fn nothing() {}
+mod base;
+mod faults;
+mod form;
+mod layout;
+mod order;
+mod pass;
+mod proposals;
+mod reach;
+#[cfg(test)]
+mod tests;
+mod verdict;
+mod walk;
+mod whole;
+
+pub use layout::lay_out;
+pub use order::{Fault, Order};
+pub use pass::Linearize;
+pub use proposals::arrange;
+pub use reach::{reachable, rising};
+pub use verdict::{check, why};

@@ -26,10 +26,10 @@ same_function f g = ((pointwise (location_eq.ghosts).eq f.parameters g.parameter
 pub same_laws : IsEquivalence same_function
 same_laws =
     and_equiv
-      (and_equiv
-        (and_equiv (on_equiv (λ (f : FunctionData). f.parameters) (lists_equiv location_laws.laws-law)) (on_equiv (λ (f : FunctionData). f.slots) nat_eq_equiv))
-        (on_equiv (λ (f : FunctionData). f.entry) nat_eq_equiv))
-      (on_equiv (λ (f : FunctionData). f.blocks) (lists_equiv block_laws.laws-law))
+    (and_equiv
+    (and_equiv (on_equiv (λ (f : FunctionData). f.parameters) (lists_equiv location_laws.laws-law)) (on_equiv (λ (f : FunctionData). f.slots) nat_eq_equiv))
+    (on_equiv (λ (f : FunctionData). f.entry) nat_eq_equiv))
+    (on_equiv (λ (f : FunctionData). f.blocks) (lists_equiv block_laws.laws-law))
 
 lists_tell : {A : Type 0} (eq : A → A → Bool) → Tells eq → Tells (pointwise eq)
 lists_tell eq tells [] [] e = refl

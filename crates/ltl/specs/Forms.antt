@@ -77,7 +77,7 @@ plain_takes : (slots nodes : ℕ) → slots ≤ 2 ^ 16 → nodes ≤ 2 ^ 16 → 
 unfolding plain
 plain_takes slots nodes few_slots few code =
     made_takes (λ (p : PlainParts). Go (Some p.0) p.1.1 p.1.0) (plain_parts slots nodes code few_slots few) body_body (HasCode body_code body_body (BodyFits slots nodes) code)
-      (λ p fits. (refl, ((fits.0.0, fits.1.1, fits.1.0), fits.0.1)))
+    (λ p fits. (refl, ((fits.0.0, fits.1.1, fits.1.0), fits.0.1)))
 
 body_again : (slots nodes : ℕ) → slots ≤ 2 ^ 16 → nodes ≤ 2 ^ 16 → (b : Body) (rest : List ℕ) → BodyFits slots nodes b → follow (bodies slots nodes) (plain slots nodes) (body_code b) (body_body b ++ rest) ≡ Ok (b, rest)
 unfolding plain branch
@@ -101,12 +101,15 @@ unfolding body
 body_form slots nodes few_slots few =
     let at = HasCode body_code body_body (BodyFits slots nodes) in
     coded_form body_code body_body (BodyFits slots nodes) (follow (bodies slots nodes) (plain slots nodes))
-      (follow_form body_code body_body (BodyFits slots nodes) (bodies slots nodes) (plain slots nodes)
-        (made_takes (λ (p : ℕ × List Move). Go None p.1 p.0) (going_form slots nodes few_slots few) body_body (at 0) (λ p fits. (refl, ((tt, fits.1, fits.0), refl))),
-          (branch_takes slots nodes few,
-            (made_takes (λ v. Return v) value_form body_body (at 9) (λ v fits. (refl, (fits, refl))), tt)))
-        (plain_takes slots nodes few_slots few)
-        (body_again slots nodes few_slots few))
+    (follow_form body_code body_body (BodyFits slots nodes) (bodies slots nodes) (plain slots nodes) (
+      made_takes (λ (p : ℕ × List Move). Go None p.1 p.0) (going_form slots nodes few_slots few) body_body (at 0) (λ p fits. (refl, ((tt, fits.1, fits.0), refl))),
+      (
+        branch_takes slots nodes few,
+        (made_takes (λ v. Return v) value_form body_body (at 9) (λ v fits. (refl, (fits, refl))), tt),
+      ),
+    )
+    (plain_takes slots nodes few_slots few)
+    (body_again slots nodes few_slots few))
 
 -- ---- a block
 
@@ -114,10 +117,10 @@ block_form : (slots nodes : ℕ) → slots ≤ 2 ^ 16 → nodes ≤ 2 ^ 16 → I
 unfolding block
 block_form slots nodes few_slots few =
     made_form (λ (p : List Move × Body). record { before = p.0; body = p.1 })
-      (both_form (moves slots) moves_text (MovesFit slots) (moves_form slots few_slots) (λ m. body slots nodes) (λ m. body_text) (λ m. BodyFits slots nodes) (λ m fits. body_form slots nodes few_slots few))
-      block_text (BlockFits slots nodes)
-      (λ p fits. (refl, record { before = fits.0; body = fits.1 }))
-      (λ b fits. ((b.before, b.body), (fits.before, fits.body), refl))
+    (both_form (moves slots) moves_text (MovesFit slots) (moves_form slots few_slots) (λ m. body slots nodes) (λ m. body_text) (λ m. BodyFits slots nodes) (λ m fits. body_form slots nodes few_slots few))
+    block_text (BlockFits slots nodes)
+    (λ p fits. (refl, record { before = fits.0; body = fits.1 }))
+    (λ b fits. ((b.before, b.body), (fits.before, fits.body), refl))
 
 -- ---- the graph
 
@@ -128,10 +131,10 @@ ends_form : IsForm ends (λ p. to_be_bytes w16 p.0 ++ to_be_bytes w16 p.1) EndsF
 unfolding ends
 ends_form =
     tested_form (λ p. nat_lt p.0 p.1) NotCanonical
-      (both_form (number w16) (to_be_bytes w16) (λ n. n < 2 ^ 16) number16_form (λ e. number w16) (λ e. to_be_bytes w16) (λ e n. n < 2 ^ 16) (λ e fits. number16_form))
-      EndsFit
-      (λ p fits passes. (ltb-true p.0 p.1 passes, fits.1))
-      (λ p fits. let lt : p.0 < 2 ^ 16 = omega (arith, fits.0, fits.1) in ((lt, fits.1), lt-ltb p.0 p.1 fits.0))
+    (both_form (number w16) (to_be_bytes w16) (λ n. n < 2 ^ 16) number16_form (λ e. number w16) (λ e. to_be_bytes w16) (λ e n. n < 2 ^ 16) (λ e fits. number16_form))
+    EndsFit
+    (λ p fits passes. (ltb-true p.0 p.1 passes, fits.1))
+    (λ p fits. let lt : p.0 < 2 ^ 16 = omega (arith, fits.0, fits.1) in ((lt, fits.1), lt-ltb p.0 p.1 fits.0))
 
 abbrev BlocksFit : ℕ → ℕ → List Block → Type 0
 BlocksFit slots nodes bs = (length bs ≡ nodes) × AllByRecursion (BlockFits slots nodes) bs
@@ -140,8 +143,8 @@ blocks_form : (slots nodes : ℕ) → slots ≤ 2 ^ 16 → nodes ≤ 2 ^ 16 → 
 unfolding blocks
 blocks_form slots nodes few_slots few =
     fits_form (more_form (λ before. block slots nodes) block_text (λ before. BlockFits slots nodes) (λ before. block_form slots nodes few_slots few) nodes)
-      (λ bs fits. (fits.0, each_fits (BlockFits slots nodes) [] bs fits.1))
-      (λ bs fits. (fits.0, fits_each (BlockFits slots nodes) [] bs fits.1))
+    (λ bs fits. (fits.0, each_fits (BlockFits slots nodes) [] bs fits.1))
+    (λ bs fits. (fits.0, fits_each (BlockFits slots nodes) [] bs fits.1))
 
 -- the entry is one of the blocks, which are not too many, and each is in range
 pub record GraphFits (slots : ℕ) (g : ℕ × List Block) : Type 0 where
@@ -156,18 +159,19 @@ graph_form : (slots : ℕ) → slots ≤ 2 ^ 16 → IsForm (graph slots) graph_t
 unfolding graph
 graph_form slots few_slots =
     made_form (λ (p : Ends). (p.0.0, p.1))
-      (both_form ends (λ p. to_be_bytes w16 p.0 ++ to_be_bytes w16 p.1) EndsFit ends_form (λ p. blocks slots p.1) (λ p. flat_map block_text) (λ p. BlocksFit slots p.1)
-        (λ p fits. let few : p.1 ≤ 2 ^ 16 = omega (arith, fits.1) in blocks_form slots p.1 few_slots few))
-      graph_text (GraphFits slots)
-      (λ p fits.
-          let len : length p.1 ≡ p.0.1 = fits.1.0 in
-          (ap (λ n. to_be_bytes w16 p.0.0 ++ (to_be_bytes w16 n ++ flat_map block_text p.1)) len ∙ sym (append_assoc (to_be_bytes w16 p.0.0) (to_be_bytes w16 p.0.1) (flat_map block_text p.1)),
-            record {
-              entry = subst (λ n. p.0.0 < n) (sym len) fits.0.0;
-              nodes = subst (λ n. n < 2 ^ 16) (sym len) fits.0.1;
-              each = subst (λ n. AllByRecursion (BlockFits slots n) p.1) (sym len) fits.1.1;
-            }))
-      (λ g fits. (((g.0, length g.1), g.1), ((fits.entry, fits.nodes), (refl, fits.each)), refl))
+    (both_form ends (λ p. to_be_bytes w16 p.0 ++ to_be_bytes w16 p.1) EndsFit ends_form (λ p. blocks slots p.1) (λ p. flat_map block_text) (λ p. BlocksFit slots p.1)
+    (λ p fits. let few : p.1 ≤ 2 ^ 16 = omega (arith, fits.1) in blocks_form slots p.1 few_slots few))
+    graph_text (GraphFits slots)
+    (λ p fits.
+    let len : length p.1 ≡ p.0.1 = fits.1.0 in (
+      ap (λ n. to_be_bytes w16 p.0.0 ++ (to_be_bytes w16 n ++ flat_map block_text p.1)) len ∙ sym (append_assoc (to_be_bytes w16 p.0.0) (to_be_bytes w16 p.0.1) (flat_map block_text p.1)),
+      record {
+        entry = subst (λ n. p.0.0 < n) (sym len) fits.0.0;
+        nodes = subst (λ n. n < 2 ^ 16) (sym len) fits.0.1;
+        each = subst (λ n. AllByRecursion (BlockFits slots n) p.1) (sym len) fits.1.1;
+      },
+    ))
+    (λ g fits. (((g.0, length g.1), g.1), ((fits.entry, fits.nodes), (refl, fits.each)), refl))
 
 -- ---- the function
 
@@ -197,6 +201,6 @@ pub function_form : IsForm function spelling IsFunction
 unfolding function
 function_form =
     tagged_form tag
-      (made_form function_of parts_form (λ f. frame_text (f.parameters, f.slots) ++ graph_text (f.entry, f.blocks)) IsFunction
-        (λ p fits. (refl, parts_fit p fits))
-        (λ f fits. (((f.parameters, f.slots), (f.entry, f.blocks)), fit_parts f fits, refl)))
+    (made_form function_of parts_form (λ f. frame_text (f.parameters, f.slots) ++ graph_text (f.entry, f.blocks)) IsFunction
+    (λ p fits. (refl, parts_fit p fits))
+    (λ f fits. (((f.parameters, f.slots), (f.entry, f.blocks)), fit_parts f fits, refl)))

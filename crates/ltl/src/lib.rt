@@ -13,3 +13,6 @@ mod writing;
 pub use block::{Block, Body};
 pub use function::Function;
 pub use language::Ltl;
+
+#[cfg(test)]
+mod tests;

@@ -164,8 +164,7 @@ fn read_parts(
 /// Each number of a slice of bytes is a byte.
 fn are_bytes(bytes: &[u8])
     ensures { (i : ℕ) → slice_index bytes.now i < 256 }
-{
-}
+{}
 
 /// A function, its tag first.
 #[tactic(auto, unfolding(crate::specs::Reading::function))]

@@ -89,6 +89,7 @@ module _ {A K : Type 0} (key : A → Option K) where
 
   pub distinct_each : (before xs : List A) → AreDistinct (keys_of key (before ++ xs)) → EachFits (λ b x. IsNewKey (keys_of key b) (key x)) before xs
   distinct_each before [] d = tt
-  distinct_each before (x ∷ xs) d =
-      (new_one (keys_of key before) (key x) (keys_of key xs) (subst AreDistinct (keys_of-append key before (x ∷ xs)) d),
-        distinct_each (before ++ x ∷ []) xs (subst (λ l. AreDistinct (keys_of key l)) (sym (append_assoc before (x ∷ []) xs)) d))
+  distinct_each before (x ∷ xs) d = (
+    new_one (keys_of key before) (key x) (keys_of key xs) (subst AreDistinct (keys_of-append key before (x ∷ xs)) d),
+    distinct_each (before ++ x ∷ []) xs (subst (λ l. AreDistinct (keys_of key l)) (sym (append_assoc before (x ∷ []) xs)) d),
+  )

@@ -46,11 +46,12 @@ unfolding location
 location_form slots few =
     let at = HasCode location_code location_body (LocationFits slots) in
     coded_form location_code location_body (LocationFits slots) (follow (locations slots) unknown)
-      (follow_form location_code location_body (LocationFits slots) (locations slots) unknown
-        (made_takes (λ r. InRegister r) register_form location_body (at 0) (λ r fits. (refl, (fits, refl))),
-          (made_takes (λ s. InSlot s) (below_form slots number16_form (λ n lt. omega arith)) location_body (at 1) (λ s fits. (refl, (fits, refl))), tt))
-        (unknown_takes location_code location_body (LocationFits slots))
-        (location_again slots few))
+    (follow_form location_code location_body (LocationFits slots) (locations slots) unknown (
+      made_takes (λ r. InRegister r) register_form location_body (at 0) (λ r fits. (refl, (fits, refl))),
+      (made_takes (λ s. InSlot s) (below_form slots number16_form (λ n lt. omega arith)) location_body (at 1) (λ s fits. (refl, (fits, refl))), tt),
+    )
+    (unknown_takes location_code location_body (LocationFits slots))
+    (location_again slots few))
 
 through : (target source : Location) → not (is_slot target && is_slot source) ≡ true → HasRegister target source
 through (InRegister r) source e = tt
@@ -73,19 +74,19 @@ unfolding one_move
 move_form slots few =
     let one = location_form slots few in
     let ends : IsForm (tested (λ p. not (is_slot p.0 && is_slot p.1)) NotCanonical (both (location slots) (λ target. location slots))) ends_text (EndsFit slots) =
-        tested_form (λ p. not (is_slot p.0 && is_slot p.1)) NotCanonical (both_form (location slots) location_text (LocationFits slots) one (λ target. location slots) (λ target. location_text) (λ target. LocationFits slots) (λ target fits. one)) (EndsFit slots)
-          (λ p fits passes. (fits, through p.0 p.1 passes))
-          (λ p fits. (fits.0, through_back p.0 p.1 fits.1)) in
+    tested_form (λ p. not (is_slot p.0 && is_slot p.1)) NotCanonical (both_form (location slots) location_text (LocationFits slots) one (λ target. location slots) (λ target. location_text) (λ target. LocationFits slots) (λ target fits. one)) (EndsFit slots)
+    (λ p fits passes. (fits, through p.0 p.1 passes))
+    (λ p fits. (fits.0, through_back p.0 p.1 fits.1)) in
     made_form (λ (p : Location × Location). record { target = p.0; source = p.1 }) ends move_text (MoveFits slots)
-      (λ p fits. (refl, record { target = fits.0.0; source = fits.0.1; through = fits.1 }))
-      (λ m fits. ((m.target, m.source), ((fits.target, fits.source), fits.through), refl))
+    (λ p fits. (refl, record { target = fits.0.0; source = fits.0.1; through = fits.1 }))
+    (λ m fits. ((m.target, m.source), ((fits.target, fits.source), fits.through), refl))
 
 pub moves_form : (slots : ℕ) → slots ≤ 2 ^ 16 → IsForm (moves slots) moves_text (MovesFit slots)
 unfolding moves
 moves_form slots few =
     fits_form (counted_form (λ before. one_move slots) move_text (λ before. MoveFits slots) (λ before. move_form slots few) byte byte_text (λ n. n < 256) byte_form)
-      (λ ms fits. record { few = omega (arith, fits.0); each = each_fits (MoveFits slots) [] ms fits.1 })
-      (λ ms fits. (omega (arith, fits.few), fits_each (MoveFits slots) [] ms fits.each))
+    (λ ms fits. record { few = omega (arith, fits.0); each = each_fits (MoveFits slots) [] ms fits.1 })
+    (λ ms fits. (omega (arith, fits.few), fits_each (MoveFits slots) [] ms fits.each))
 
 -- ---- arguments, tests and values
 
@@ -105,7 +106,7 @@ two_form : IsForm (arguments 2) arguments_text (ArgumentsFit 2)
 unfolding arguments
 two_form =
     made_form (λ (p : ℕ × ℕ). Two p.0 p.1) (both_form register byte_text RegisterFits register_form (λ a. register) (λ a. byte_text) (λ a. RegisterFits) (λ a fits. register_form)) arguments_text (ArgumentsFit 2)
-      (λ p fits. (refl, (refl, fits.0, fits.1))) two_back
+    (λ p fits. (refl, (refl, fits.0, fits.1))) two_back
 
 pub arguments_form : (count : ℕ) → (count ≡ 1) ⊎ (count ≡ 2) → IsForm (arguments count) arguments_text (ArgumentsFit count)
 arguments_form count (inl one) = subst (λ n. IsForm (arguments n) arguments_text (ArgumentsFit n)) (sym one) one_form
@@ -139,10 +140,10 @@ unfolding test
 test_form =
     let conditions = decoded_form cond_of_code cond_code_of byte_form cond_codes_lead_back.known cond_codes_lead_back.only in
     made_form (λ (p : Cond × Arguments). record { condition = p.0; arguments = p.1 })
-      (both_form _ _ _ conditions (λ condition. arguments (cond_argument_count_of condition)) (λ condition. arguments_text) (λ condition. ArgumentsFit (cond_argument_count_of condition)) (λ condition fits. arguments_form (cond_argument_count_of condition) (cond_argument_count_range condition)))
-      test_text TestFits
-      (λ p fits. (refl, fits.1))
-      (λ t fits. ((t.condition, t.arguments), (cond_code_small t.condition, fits), refl))
+    (both_form _ _ _ conditions (λ condition. arguments (cond_argument_count_of condition)) (λ condition. arguments_text) (λ condition. ArgumentsFit (cond_argument_count_of condition)) (λ condition fits. arguments_form (cond_argument_count_of condition) (cond_argument_count_range condition)))
+    test_text TestFits
+    (λ p fits. (refl, fits.1))
+    (λ t fits. ((t.condition, t.arguments), (cond_code_small t.condition, fits), refl))
 
 value_fits : (o : Option ℕ) → IfSome o RegisterFits → ValueFits o
 value_fits None fits = tt
@@ -177,8 +178,8 @@ operation_text p = byte_text (code_of p.0) ++ (byte_text p.1.0 ++ arguments_text
 operation_parts : IsForm (both (decoded op_of_code byte) (λ op. both register (λ target. arguments (argument_count_of op)))) operation_text OperationFits
 operation_parts =
     both_form (decoded op_of_code byte) (λ op. byte_text (code_of op)) (λ op. code_of op < 256) (decoded_form op_of_code code_of byte_form codes_lead_back.known codes_lead_back.only)
-      (λ op. both register (λ target. arguments (argument_count_of op))) (λ op p. byte_text p.0 ++ arguments_text p.1) (λ op p. RegisterFits p.0 × ArgumentsFit (argument_count_of op) p.1)
-      (λ op small. both_form register byte_text RegisterFits register_form (λ target. arguments (argument_count_of op)) (λ target. arguments_text) (λ target. ArgumentsFit (argument_count_of op)) (λ target fits. arguments_form (argument_count_of op) (argument_count_range op)))
+    (λ op. both register (λ target. arguments (argument_count_of op))) (λ op p. byte_text p.0 ++ arguments_text p.1) (λ op p. RegisterFits p.0 × ArgumentsFit (argument_count_of op) p.1)
+    (λ op small. both_form register byte_text RegisterFits register_form (λ target. arguments (argument_count_of op)) (λ target. arguments_text) (λ target. ArgumentsFit (argument_count_of op)) (λ target fits. arguments_form (argument_count_of op) (argument_count_range op)))
 
 operation_takes : TakesBehind act_code act_body ActFits 3 operation
 unfolding operation
@@ -213,8 +214,8 @@ parameter_form : (before : List Location) → IsForm (parameter before) location
 unfolding parameter
 parameter_form before =
     tested_form (λ l. not (list_any (λ k. same_location k l) before)) NotCanonical (location_form (2 ^ 16) (omega arith)) (ParameterFits before)
-      (λ l fits passes. (fits, none_same same_location same_tells same_itself l before (not-true _ passes)))
-      (λ l fits. (fits.0, not_from_false _ (same_none same_location same_tells same_itself l before fits.1)))
+    (λ l fits passes. (fits, none_same same_location same_tells same_itself l before (not-true _ passes)))
+    (λ l fits. (fits.0, not_from_false _ (same_none same_location same_tells same_itself l before fits.1)))
 
 parameters_form : IsForm parameters (counted_text byte_text location_text) (λ ps. (length ps ≤ parameter_limit) × EachFits ParameterFits [] ps)
 unfolding parameters
@@ -263,12 +264,14 @@ WithinFits f = ReadFits f × (list_all (lies_within f.1) f.0 ≡ true)
 
 frame_fits : (f : List Location × ℕ) → WithinFits f → nat_le f.1 slot_limit ≡ true → FrameFits f
 frame_fits f fits few =
-    let split = both_each (λ b. LocationFits (2 ^ 16)) (λ b l. AllByRecursion (λ k. k ≢ l) b) [] f.0 fits.0.0.1 in
-    (record {
-      few = fits.0.0.0;
-      each = narrow_all f.1 f.0 (each_fits (LocationFits (2 ^ 16)) [] f.0 split.0) fits.1;
-      distinct = subst AreDistinct (keys_themselves f.0) (each_distinct (λ l. Some l) [] f.0 tt (new_key [] f.0 split.1));
-    }, leb-true f.1 slot_limit few)
+    let split = both_each (λ b. LocationFits (2 ^ 16)) (λ b l. AllByRecursion (λ k. k ≢ l) b) [] f.0 fits.0.0.1 in (
+      record {
+        few = fits.0.0.0;
+        each = narrow_all f.1 f.0 (each_fits (LocationFits (2 ^ 16)) [] f.0 split.0) fits.1;
+        distinct = subst AreDistinct (keys_themselves f.0) (each_distinct (λ l. Some l) [] f.0 tt (new_key [] f.0 split.1));
+      },
+      leb-true f.1 slot_limit few,
+    )
 
 fits_frame : (f : List Location × ℕ) → FrameFits f → WithinFits f × (nat_le f.1 slot_limit ≡ true)
 fits_frame f fits =
@@ -281,5 +284,5 @@ unfolding frame
 frame_form =
     let parts = both_form parameters (counted_text byte_text location_text) (λ ps. (length ps ≤ parameter_limit) × EachFits ParameterFits [] ps) parameters_form (λ ps. number w16) (λ ps. to_be_bytes w16) (λ ps n. n < 2 ^ 16) (λ ps fits. number16_form) in
     tested_form (λ (f : List Location × ℕ). nat_le f.1 slot_limit) TooLarge
-      (tested_form (λ (f : List Location × ℕ). list_all (lies_within f.1) f.0) NotCanonical parts WithinFits (λ f fits within. (fits, within)) (λ f fits. fits))
-      FrameFits frame_fits fits_frame
+    (tested_form (λ (f : List Location × ℕ). list_all (lies_within f.1) f.0) NotCanonical parts WithinFits (λ f fits within. (fits, within)) (λ f fits. fits))
+    FrameFits frame_fits fits_frame

@@ -20,9 +20,8 @@ use std::alloc::Global;
 fn read_register(bytes: &mut &[u8]) -> Result<Register, FormError>
     ensures { IsRead (register bytes.old.now) result bytes.new.now }
 {
-    // LEAD (remove this line): Register is an alias of u8 now, see /tmp/brief/register_decision.md
     let number = read_byte(bytes)?;
-    if number < 8 {
+    if number < REGISTER_COUNT {
         Ok(number)
     } else {
         Err(FormError::NotCanonical)

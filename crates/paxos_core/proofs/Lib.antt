@@ -1,9 +1,3 @@
-pub mod BallotLemmas
-pub mod NoteLemmas
-pub mod WorldLemmas
-pub mod ReachedLemmas
-pub mod BelongsLemmas
-pub mod TakesLemmas
 pub mod CallLemmas
 pub mod MajorityLemmas
 pub mod ScheduleLemmas

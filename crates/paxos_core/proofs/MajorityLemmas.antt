@@ -8,15 +8,15 @@ use Rattle.paxos_world.specs.declared.msg.Msg.{Msg}
 use Rattle.paxos_world.specs.declared.msg.Msg.TheVariants.{Prepare, Promise, Propose, Accepted}
 use Rattle.paxos_world.specs.declared.vote.Vote.{Vote}
 use Rattle.paxos_model.proofs.Quorums.{meet, quorum_grows}
-use Rattle.paxos_core.specs.Acceptor.{is_vote, promises, accepts}
+use Rattle.paxos_law.specs.Acceptor.{is_vote, promises, accepts}
 use Rattle.paxos_core.specs.Call.{Call, Offer, Start, Proposal, On, Restart, has_ballot, after_call, after_calls}
-use Rattle.paxos_core.specs.Learner.{is_at_most, notes_promise, notes_vote, votes_with, learned_with, voted}
+use Rattle.paxos_law.specs.Learner.{is_at_most, notes_promise, notes_vote, votes_with, learned_with, voted}
 use Rattle.paxos_core.specs.Majority.{HasNoRestart, HasMajority, WasMajority, LearnsFromMajority, MajorityIsLearned}
-use Rattle.paxos_core.specs.NodeState.{NodeState, node_with, nothing_noted}
-use Rattle.paxos_core.specs.Notes.{note_of, is_under, has_voted, is_majority}
-use Rattle.paxos_core.specs.Proposer.{proposal, after_answer}
+use Rattle.paxos_law.specs.NodeState.{NodeState, node_with, nothing_noted}
+use Rattle.paxos_law.specs.Notes.{note_of, is_under, has_voted, is_majority}
+use Rattle.paxos_law.specs.Proposer.{proposal, after_answer}
 use Rattle.paxos_core.proofs.CallLemmas.{IsNode, node_with-is, after_call-is}
-use Rattle.paxos_core.proofs.NoteLemmas.{note_of-set, note_of-nothing, voted_vote}
+use Rattle.paxos_law.proofs.NoteLemmas.{note_of-set, note_of-nothing, voted_vote}
 
 -- ---- what a call changes of votes and of what is learned
 

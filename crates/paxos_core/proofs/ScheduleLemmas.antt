@@ -11,21 +11,21 @@ use Rattle.paxos_world.specs.declared.msg.Msg.{Msg}
 use Rattle.paxos_world.specs.declared.msg.Msg.TheVariants.{Prepare, Promise, Propose, Accepted}
 use Rattle.paxos_model.proofs.Reopens.{reached-append, run_append}
 use Rattle.paxos_model.specs.Agreement.{IsSettledRun}
-use Rattle.paxos_core.specs.Acceptor.{promises, accepts}
-use Rattle.paxos_core.specs.Belongs.{Belongs}
+use Rattle.paxos_law.specs.Acceptor.{promises, accepts}
+use Rattle.paxos_law.specs.Belongs.{Belongs}
 use Rattle.paxos_core.specs.Call.{Call, Offer, Start, Proposal, On, Restart, has_ballot, after_call, answer_to, taken_by}
-use Rattle.paxos_core.specs.Learner.{notes_promise, notes_vote}
-use Rattle.paxos_core.specs.NodeState.{NodeState, node_with}
-use Rattle.paxos_core.specs.Notes.{highest_below}
-use Rattle.paxos_core.specs.Proposer.{next_ballot, started, choice, may_propose, proposal_under, proposal, after_answer}
-use Rattle.paxos_core.specs.Reached.{IsReached}
+use Rattle.paxos_law.specs.Learner.{notes_promise, notes_vote}
+use Rattle.paxos_law.specs.NodeState.{NodeState, node_with}
+use Rattle.paxos_law.specs.Notes.{highest_below}
+use Rattle.paxos_law.specs.Proposer.{next_ballot, started, choice, may_propose, proposal_under, proposal, after_answer}
+use Rattle.paxos_law.specs.Reached.{IsReached}
 use Rattle.paxos_core.specs.Schedule.{Room, opened, NodeCall, put_node, room_after, played, WasSent, IsSchedule, steps_of, IsPlayed, AllLearnOne}
-use Rattle.paxos_core.specs.Taken.{proposes, taken_by_start, learns_from}
-use Rattle.paxos_core.specs.Takes.{Takes, IsStepOf, AreStepsOf}
-use Rattle.paxos_core.proofs.BelongsLemmas.{belongs_with, belongs_after_others}
+use Rattle.paxos_law.specs.Taken.{proposes, taken_by_start, learns_from}
+use Rattle.paxos_law.specs.Takes.{Takes, IsStepOf, AreStepsOf}
+use Rattle.paxos_law.proofs.BelongsLemmas.{belongs_with, belongs_after_others}
 use Rattle.paxos_core.proofs.CallLemmas.{IsNode, node_with-is, after_call-is}
-use Rattle.paxos_core.proofs.ReachedLemmas.{learned_one}
-use Rattle.paxos_core.proofs.TakesLemmas.{offer_takes, start_takes, propose_takes, on_takes, restart_takes}
+use Rattle.paxos_law.proofs.ReachedLemmas.{learned_one}
+use Rattle.paxos_law.proofs.TakesLemmas.{offer_takes, start_takes, propose_takes, on_takes, restart_takes}
 
 -- ---- each call takes its steps
 

@@ -1,14 +1,3 @@
-pub mod NextBallot
-pub mod Notes
-pub mod NodeState
-pub mod Proposer
-pub mod Acceptor
-pub mod Learner
-pub mod Message
-pub mod Reached
-pub mod Belongs
-pub mod Taken
-pub mod Takes
 pub mod Call
 pub mod Schedule
 pub mod Majority

@@ -6,7 +6,6 @@
 mod ballot;
 mod error;
 mod node;
-mod step;
 mod tally;
 #[cfg(test)]
 mod tests;
@@ -14,9 +13,9 @@ mod theorem;
 
 pub use error::CoreError;
 pub use node::Node;
+pub use paxos_law::step::Step;
 pub use paxos_model::settled::settled;
 pub use paxos_world::kept::Kept;
 pub use paxos_world::msg::Msg;
 pub use paxos_world::vote::Vote;
-pub use step::Step;
 pub use theorem::agreement;

@@ -2,15 +2,15 @@ ghost use Rattle.std.specs.Prelude.{◌≡◌, ℕ, ◌<◌, ◌≤◌, ◌⊎�
 ghost use Rattle.paxos_world.specs.KeptPart.{nothing_kept};
 ghost use Rattle.paxos_world.specs.World.{World};
 ghost use Rattle.paxos_world.specs.declared.msg.Msg.TheVariants.{Prepare};
-ghost use Rattle.paxos_core.specs.Acceptor.{promise_to, after_prepare, vote_for, after_propose, is_vote};
-ghost use Rattle.paxos_core.specs.Learner.{after_promise, after_vote, is_at_most, is_report};
-ghost use Rattle.paxos_core.specs.Message.{reply, after_message};
-ghost use Rattle.paxos_core.specs.NextBallot.{IsLeastAbove, IsSpent};
-ghost use Rattle.paxos_core.specs.NodeState.{new_node, offered, restarted};
-ghost use Rattle.paxos_core.specs.Belongs.{Belongs};
-ghost use Rattle.paxos_core.specs.Taken.{taken_by_offer, taken_by_start, taken_by_propose, taken_by_restart, taken_on, LearnsAtMost};
-ghost use Rattle.paxos_core.specs.Takes.{Takes, TakesSteps, TakesStepsOn};
-ghost use Rattle.paxos_core.specs.Proposer.{floor_of, next_ballot, started, proposal, after_proposal};
+ghost use Rattle.paxos_law.specs.Acceptor.{promise_to, after_prepare, vote_for, after_propose, is_vote};
+ghost use Rattle.paxos_law.specs.Learner.{after_promise, after_vote, is_at_most, is_report};
+ghost use Rattle.paxos_law.specs.Message.{reply, after_message};
+ghost use Rattle.paxos_law.specs.NextBallot.{IsLeastAbove, IsSpent};
+ghost use Rattle.paxos_law.specs.NodeState.{new_node, node_with, offered, restarted};
+ghost use Rattle.paxos_law.specs.Belongs.{Belongs};
+ghost use Rattle.paxos_law.specs.Taken.{taken_by_offer, taken_by_start, taken_by_propose, taken_by_restart, taken_on, LearnsAtMost};
+ghost use Rattle.paxos_law.specs.Takes.{Takes, TakesSteps, TakesStepsOn};
+ghost use Rattle.paxos_law.specs.Proposer.{floor_of, next_ballot, started, proposal, after_proposal};
 
 use crate::ballot::next_ballot;
 use crate::error::CoreError;
@@ -23,8 +23,8 @@ use std::marker::Model;
 /// A room has at most so many nodes.
 pub const MOST_NODES: usize = 7;
 
-/// One node of a room. It is proposer, acceptor and learner; it sends nothing itself, but answers what is to be sent
-/// to all.
+/// One node of a room: proposer, acceptor and learner in one. It sends nothing itself; what its calls answer is to be
+/// sent to all nodes, itself among them.
 #[derive(Debug, Drop)]
 pub struct Node {
     me: u8,
@@ -39,7 +39,7 @@ pub struct Node {
 
 impl Model for Node {
     ghost use Rattle.std.specs.Prelude.{◌<◌, ◌≤◌};
-    ghost use Rattle.paxos_core.specs.NodeState.{NodeState};
+    ghost use Rattle.paxos_law.specs.NodeState.{NodeState};
 
     ghost Value = { NodeState };
 
@@ -65,16 +65,7 @@ impl Node {
         ensures state { result ≡ new_node me n }
         ensures belongs { (w : World) → w.nodes me ≡ nothing_kept → Belongs n w result }
     {
-        Node {
-            me,
-            count: n,
-            kept: Kept::nothing(),
-            ballot: None,
-            proposed: false,
-            promises: [None; MOST_NODES],
-            votes: [None; MOST_NODES],
-            learned: None,
-        }
+        Node::with(me, n, Kept::nothing())
     }
 
     /// Its number.
@@ -118,9 +109,17 @@ impl Node {
         ensures step { (n : ℕ) (w : World) → self.me < n → self.count ≡ n → w.nodes self.me ≡ kept
             → Takes n w (taken_by_restart self) result None }
     {
+        Node::with(self.me, self.count, kept)
+    }
+
+    fn with(me: u8, count: u8, kept: Kept) -> Self
+        requires number { me < count }
+        requires few { count ≤ 7 }
+        ensures { result ≡ node_with me count kept }
+    {
         Node {
-            me: self.me,
-            count: self.count,
+            me,
+            count,
             kept,
             ballot: None,
             proposed: false,
@@ -181,7 +180,8 @@ impl Node {
         Some(Msg::Propose(ballot, value))
     }
 
-    /// Takes a message, and answers what is to be sent: a promise or a vote.
+    /// Takes a message, and answers what is to be sent: a promise or a vote. A promise for the ballot under way and a
+    /// vote are noted; a message that no node can send, as with a ballot 0 or a number that is no node's, is not.
     pub fn on(&mut self, message: &Msg) -> Option<Msg>
         ensures answer { result ≡ reply self.old message.now }
         ensures state { self.new ≡ after_message self.old message.now }

@@ -1,5 +1,5 @@
 ghost use Rattle.std.specs.Prelude.{◌≡◌, ◌≤◌, length};
-ghost use Rattle.paxos_core.specs.Notes.{has_promised, has_voted, is_under, higher, highest_below};
+ghost use Rattle.paxos_law.specs.Notes.{has_promised, has_voted, is_under, higher, highest_below};
 ghost use Rattle.paxos_world.specs.Quorum.{count_below};
 
 use paxos_world::vote::Vote;

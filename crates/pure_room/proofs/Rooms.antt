@@ -7,10 +7,10 @@ use Rattle.std.proofs.lemmas.List.Elements.{Contains-append_cases}
 use Rattle.std.proofs.lemmas.Option.{get_or_from_slice_get}
 use Rattle.paxos_world.specs.World.{Has}
 use Rattle.paxos_world.specs.declared.msg.Msg.{Msg}
-use Rattle.paxos_core.specs.NodeState.{NodeState}
+use Rattle.paxos_law.specs.NodeState.{NodeState}
 use Rattle.std.proofs.lemmas.Bool.{le-leb}
 use Rattle.paxos_world.specs.declared.msg.Msg.TheVariants.{Prepare}
-use Rattle.paxos_core.specs.Proposer.{next_ballot, started}
+use Rattle.paxos_law.specs.Proposer.{next_ballot, started}
 use Rattle.paxos_core.specs.Call.{Call, Start, after_call, answer_to}
 use Rattle.paxos_core.specs.Schedule.{Room, NodeCall, opened, played, put_node, room_after, WasSent, IsSchedule}
 use Rattle.pure_room.specs.Played.{RoomState, start, CameAbout}

@@ -2,7 +2,7 @@
 use Rattle.std.specs.Prelude.{◌≡◌, ℕ, ◌<◌, List, Some, slice_get, Contains}
 use Rattle.paxos_world.specs.World.{Has, no_nodes}
 use Rattle.paxos_world.specs.declared.msg.Msg.{Msg}
-use Rattle.paxos_core.specs.NodeState.{NodeState}
+use Rattle.paxos_law.specs.NodeState.{NodeState}
 use Rattle.paxos_core.specs.Schedule.{Room, NodeCall, opened, played, IsSchedule}
 
 -- the nodes by their numbers, and the messages that were sent

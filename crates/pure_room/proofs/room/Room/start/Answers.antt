@@ -1,5 +1,5 @@
 use Rattle.std.proofs.Common.{get_or, ◌<◌, ◌∙◌, sym, ap, Some}
-use Rattle.paxos_core.specs.Proposer.{next_ballot}
+use Rattle.paxos_law.specs.Proposer.{next_ballot}
 use Rattle.paxos_core.specs.Call as call
 use Rattle.pure_room.proofs.Rooms.{node_read, came_about-quiet, came_about-sends, start_after, start_answer}
 use Rattle.pure_room.proofs.room.Room.start.Goals as goal

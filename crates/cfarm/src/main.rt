@@ -1,0 +1,37 @@
+//! `cfarm`: a farm of compiler nodes in one process. `main` reads the command line and the files, and
+//! calls the crate `commands`.
+#![tactic(auto)]
+
+mod command_line;
+mod settling;
+
+use std::process::ExitCode;
+use std::{env, io};
+
+/// The status for want of memory outside a command.
+const NO_MEMORY: u8 = 7;
+
+fn main(rt: HostRuntime) -> ExitCode {
+    match run(&rt) {
+        Ok(status) => ExitCode::from(status),
+        Err(_) => ExitCode::from(NO_MEMORY),
+    }
+}
+
+/// Does what the command line asks, and gives the status. An error is want of memory for the command
+/// line itself, or a standard error that takes nothing.
+fn run(rt: &HostRuntime) -> io::Result<u8> {
+    let alloc = rt.alloc();
+    let words: Vec<String> = env::args(rt)?.collect(alloc)?;
+    let command = command_line::command(alloc)?;
+    match command.try_get_matches_from(words.as_slice()) {
+        Ok(matches) => match matches.subcommand() {
+            Some(("settle", words)) => settling::run(rt, words),
+            _ => Ok(0),
+        },
+        Err(error) => {
+            error.print(rt)?;
+            Ok(if error.exit_code() == 0 { 0 } else { 2 })
+        }
+    }
+}

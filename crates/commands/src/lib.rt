@@ -1,0 +1,10 @@
+//! The commands of the program as functions over bytes and writers: what `main` and the tests call.
+#![tactic(auto)]
+
+mod agreed;
+mod error;
+mod orders;
+mod settling;
+
+pub use error::SettleError;
+pub use settling::settle;

@@ -1,0 +1,48 @@
+//! The orders in which the three nodes list a function's reachable nodes, the entry first.
+
+use lang::NoMemory;
+use linearize_check::rising;
+use ltl::{Body, Function};
+use std::alloc::Global;
+
+/// The others in falling order.
+pub fn falling(alloc: Global, function: &Function) -> Result<Vec<u16>, NoMemory> {
+    let mut order = rising(alloc, function)?;
+    if let Some((_, others)) = order.split_first_mut() {
+        others.reverse();
+    }
+    Ok(order)
+}
+
+/// Depth first, with the second successor of a branch first. The stack is on the heap, and holds each
+/// node at most once for each edge to it.
+pub fn depth_first(alloc: Global, function: &Function) -> Result<Vec<u16>, NoMemory> {
+    let blocks = function.blocks().as_slice();
+    let mut listed = vec![in alloc; false; blocks.len()]?;
+    let mut order = Vec::new(alloc);
+    let mut stack = vec![in alloc; function.entry()]?;
+    // Each listed node pushes at most two, so there are no more turns than this.
+    for _ in 0..=2 * blocks.len() {
+        let Some(node) = stack.pop() else { break };
+        let place = usize::from(node);
+        if place < listed.len() && !listed[place] {
+            listed[place] = true;
+            order.push(node)?;
+            push_successors(&mut stack, &blocks[place].body)?;
+        }
+    }
+    Ok(order)
+}
+
+/// The successor that is to be listed first is pushed last.
+fn push_successors(stack: &mut Vec<u16>, body: &Body) -> Result<(), NoMemory> {
+    match body {
+        Body::Go { successor, .. } => stack.push(*successor)?,
+        Body::Branch { taken, other, .. } => {
+            stack.push(*taken)?;
+            stack.push(*other)?;
+        }
+        Body::Return { .. } => {}
+    }
+    Ok(())
+}

@@ -1,0 +1,7 @@
+use Rattle.std.proofs.lemmas.Slice.Eq.{slice_eq-Decides}
+use Rattle.machine.proofs.Equal.{tells_decides, location_tells}
+use Rattle.machine.specs.contracts.location.LocationEq.TheImpl.Laws as location_laws
+use Rattle.linearize_check.proofs.verdict.are_same.Goals as goal
+
+pub returns : goal.returns
+returns c = slice_eq-Decides (tells_decides location_laws.laws-law location_tells) _ _ _ c.eq.ensures

@@ -1,0 +1,28 @@
+//! What an offer is worth, as contracts of calls that do nothing else.
+
+ghost use Rattle.std.specs.Prelude.{◌≡◌, ℕ, List, ◌++◌};
+ghost use Rattle.lang.specs.Keeps.{Keeps};
+ghost use Rattle.lang.specs.Programs.{GlobalData};
+ghost use Rattle.offers.specs.declared.parts.Parts.{Parts};
+ghost use Rattle.offers.specs.OneFunction.{program_of_one};
+ghost use Rattle.offers.specs.Text.{text_of, PartsFit};
+
+use crate::offer::Offer;
+use lang::Pass;
+
+/// The program of an offer's output alone keeps the meaning of the program of its input, whatever
+/// the function's name and whatever globals stand beside it.
+pub fn offer_keeps<P: Pass>(offer: &Offer<P>)
+    ensures { (globals : List GlobalData) (name : List ℕ) →
+        Keeps (P.In.run (program_of_one globals name offer.now.input)) (P.Out.run (program_of_one globals name offer.now.output)) }
+{
+    offer.validated();
+}
+
+/// No offer's text is a beginning of another's, and no two offers share one.
+pub fn one_text<P: Pass>()
+    ensures { (p q : Parts P.In.Fun P.Out.Fun P.Cert) (x y : List ℕ) →
+        PartsFit P.In.fits P.Out.fits P.cert_fits p → PartsFit P.In.fits P.Out.fits P.cert_fits q →
+        text_of P.NUMBER P.In.spelling P.Out.spelling P.cert_spelling p ++ x ≡ text_of P.NUMBER P.In.spelling P.Out.spelling P.cert_spelling q ++ y →
+        (p ≡ q) × (x ≡ y) }
+{}

@@ -1,0 +1,6 @@
+pub mod BallotLemmas
+pub mod NoteLemmas
+pub mod WorldLemmas
+pub mod ReachedLemmas
+pub mod BelongsLemmas
+pub mod TakesLemmas

@@ -1,0 +1,4 @@
+pub mod ToyLanguage
+pub mod ToyLanguageLaws
+pub mod ToyPass
+pub mod ToyPassLaws
