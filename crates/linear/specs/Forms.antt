@@ -15,7 +15,7 @@ use Rattle.machine.specs.declared.act.Act.TheVariants.{Constant, Operate}
 use Rattle.machine.specs.declared.test.Test.{Test}
 use Rattle.machine.specs.Fits.{TestFits, AreDistinct}
 use Rattle.machine.specs.Spelling.{test_text, frame_text}
-use Rattle.machine.specs.Reading.{test, value, frame}
+use Rattle.machine.specs.Reading.{asked, value, frame}
 use Rattle.machine.proofs.Distinct.{each_both, both_each, none_same, same_none, key_before, keys_of, IsNewKey, each_distinct, distinct_each}
 use Rattle.machine.proofs.Forms.{move_form, test_form, value_form, act_form, FrameFits, frame_form}
 use Rattle.linear.specs.declared.instruction.Instruction.{Instruction}
@@ -30,8 +30,8 @@ use Rattle.linear.specs.Reading.{instructions, plain, instruction, is_new, place
 abbrev BranchFits : Test × ℕ → Type 0
 BranchFits p = TestFits p.0 × (p.1 < 2 ^ 16)
 
-branch_parts : IsForm (both test (λ t. number w16)) (λ p. test_text p.0 ++ to_be_bytes w16 p.1) BranchFits
-branch_parts = both_form test test_text TestFits test_form (λ t. number w16) (λ t. to_be_bytes w16) (λ t label. label < 2 ^ 16) (λ t fits. number16_form)
+branch_parts : IsForm (both asked (λ t. number w16)) (λ p. test_text p.0 ++ to_be_bytes w16 p.1) BranchFits
+branch_parts = both_form asked test_text TestFits test_form (λ t. number w16) (λ t. to_be_bytes w16) (λ t label. label < 2 ^ 16) (λ t fits. number16_form)
 
 plain_takes : (slots code : ℕ) → TakesBehind instruction_code instruction_body (InstructionFits slots) code (plain code)
 plain_takes slots code = made_takes (λ a. Do a) (act_form code) instruction_body (HasCode instruction_code instruction_body (InstructionFits slots) code) (λ a fits. (refl, fits))

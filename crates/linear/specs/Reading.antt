@@ -5,7 +5,7 @@ use Rattle.std.specs.List.{list_any}
 use Rattle.lang.specs.declared.errors.FormError.TheVariants.{NotCanonical}
 use Rattle.lang.specs.Reading.{Reading, number, made, tested, both, counted, Table, follow, coded, tagged}
 use Rattle.machine.specs.declared.location.Location.{Location}
-use Rattle.machine.specs.Reading.{one_move, test, value, act, frame}
+use Rattle.machine.specs.Reading.{one_move, asked, value, act, frame}
 use Rattle.linear.specs.declared.instruction.Instruction.{Instruction}
 use Rattle.linear.specs.declared.instruction.Instruction.TheVariants.{Do, Copy, Branch, Return, Label, Goto}
 use Rattle.linear.specs.Function.{FunctionData}
@@ -16,7 +16,7 @@ use Rattle.linear.specs.Spelling.{tag}
 abbrev pub instructions : ℕ → Table Instruction
 instructions slots =
     (2, made (λ step. Copy step) (one_move slots)) ∷
-    (8, made (λ p. Branch p.0 p.1) (both test (λ t. number w16))) ∷
+    (8, made (λ p. Branch p.0 p.1) (both asked (λ t. number w16))) ∷
     (9, made (λ value. Return value) value) ∷
     (10, made (λ label. Label label) (number w16)) ∷
     (11, made (λ label. Goto label) (number w16)) ∷ []

@@ -17,7 +17,7 @@ use Rattle.machine.specs.declared.act.Act.TheVariants.{Constant, Operate}
 use Rattle.machine.specs.declared.test.Test.{Test}
 use Rattle.machine.specs.Fits.{MovesFit, ActFits, TestFits, slot_limit}
 use Rattle.machine.specs.Spelling.{act_code, act_body, moves_text, test_text, frame_text}
-use Rattle.machine.specs.Reading.{moves, test, value, act, frame}
+use Rattle.machine.specs.Reading.{moves, asked, value, act, frame}
 use Rattle.machine.proofs.Forms.{moves_form, test_form, value_form, act_form, FrameFits, frame_form}
 use Rattle.ltl.specs.declared.block.Block.{Block}
 use Rattle.ltl.specs.declared.block.Body.{Body}
@@ -56,9 +56,9 @@ branch_text p = test_text p.0 ++ (to_be_bytes w16 p.1.0 ++ to_be_bytes w16 p.1.1
 abbrev BranchFits : ℕ → BranchParts → Type 0
 BranchFits nodes p = TestFits p.0 × NodesFit nodes p.1
 
-branch_parts : (nodes : ℕ) → nodes ≤ 2 ^ 16 → IsForm (both test (λ t. both (node nodes) (λ taken. node nodes))) branch_text (BranchFits nodes)
+branch_parts : (nodes : ℕ) → nodes ≤ 2 ^ 16 → IsForm (both asked (λ t. both (node nodes) (λ taken. node nodes))) branch_text (BranchFits nodes)
 branch_parts nodes few =
-    both_form test test_text TestFits test_form (λ t. both (node nodes) (λ taken. node nodes)) (λ t p. to_be_bytes w16 p.0 ++ to_be_bytes w16 p.1) (λ t. NodesFit nodes) (λ t fits. nodes_form nodes few)
+    both_form asked test_text TestFits test_form (λ t. both (node nodes) (λ taken. node nodes)) (λ t p. to_be_bytes w16 p.0 ++ to_be_bytes w16 p.1) (λ t. NodesFit nodes) (λ t fits. nodes_form nodes few)
 
 abbrev PlainParts : Type 0
 PlainParts = Act × (ℕ × List Move)

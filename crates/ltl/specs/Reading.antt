@@ -5,7 +5,7 @@ use Rattle.lang.specs.declared.errors.FormError.TheVariants.{NotCanonical}
 use Rattle.lang.specs.Reading.{Reading, number, made, tested, below, both, more, Table, follow, coded, tagged}
 use Rattle.machine.specs.declared.location.Location.{Location}
 use Rattle.machine.specs.declared.location.Move.{Move}
-use Rattle.machine.specs.Reading.{moves, test, value, act, frame}
+use Rattle.machine.specs.Reading.{moves, asked, value, act, frame}
 use Rattle.ltl.specs.declared.block.Block.{Block}
 use Rattle.ltl.specs.declared.block.Body.{Body}
 use Rattle.ltl.specs.declared.block.Body.TheVariants.{Go, Branch, Return}
@@ -22,7 +22,7 @@ going slots nodes bytes = both (node nodes) (λ successor. moves slots) bytes
 
 -- a test, and where it goes on
 unfoldable pub branch : ℕ → Reading Body
-branch nodes bytes = made (λ p. Branch p.0 p.1.0 p.1.1) (both test (λ t. both (node nodes) (λ taken. node nodes))) bytes
+branch nodes bytes = made (λ p. Branch p.0 p.1.0 p.1.1) (both asked (λ t. both (node nodes) (λ taken. node nodes))) bytes
 
 -- what follows the codes that are not those of plain instructions, among so many slots and nodes
 abbrev pub bodies : ℕ → ℕ → Table Body

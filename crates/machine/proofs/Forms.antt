@@ -28,7 +28,7 @@ use Rattle.machine.specs.declared.act.Act.TheVariants.{Constant, Operate}
 use Rattle.machine.specs.declared.test.Test.{Test}
 use Rattle.machine.specs.Fits.{parameter_limit, slot_limit, move_limit, RegisterFits, LocationFits, HasRegister, MoveFits, MovesFit, ArgumentsFit, ActFits, TestFits, ValueFits, AreDistinct, ParametersFit}
 use Rattle.machine.specs.Spelling.{byte_text, location_code, location_body, location_text, move_text, moves_text, arguments_text, test_text, value_text, act_code, act_body, frame_text}
-use Rattle.machine.specs.Reading.{register, locations, location, is_slot, one_move, moves, arguments, test, value, constant, operation, act, same_location, parameter, parameters, lies_within, frame}
+use Rattle.machine.specs.Reading.{register, locations, location, is_slot, one_move, moves, arguments, asked, value, constant, operation, act, same_location, parameter, parameters, lies_within, frame}
 use Rattle.machine.proofs.Distinct.{each_both, both_each, none_same, same_none, keys_of, IsNewKey, each_distinct, distinct_each}
 
 pub register_form : IsForm register byte_text RegisterFits
@@ -135,8 +135,8 @@ unfolding cond_code_of
 cond_code_small Nz = lit< tt
 cond_code_small _ = lit< tt
 
-pub test_form : IsForm test test_text TestFits
-unfolding test
+pub test_form : IsForm asked test_text TestFits
+unfolding asked
 test_form =
     let conditions = decoded_form cond_of_code cond_code_of byte_form cond_codes_lead_back.known cond_codes_lead_back.only in
     made_form (λ (p : Cond × Arguments). record { condition = p.0; arguments = p.1 })

@@ -44,8 +44,8 @@ unfoldable pub arguments : ℕ → Reading Arguments
 arguments count bytes = if count == 1 then made (λ a. One a) register bytes else made (λ p. Two p.0 p.1) (both register (λ a. register)) bytes
 
 -- a condition, and as many registers as it takes
-unfoldable pub test : Reading Test
-test bytes = made (λ p. record { condition = p.0; arguments = p.1 }) (both (decoded cond_of_code byte) (λ condition. arguments (cond_argument_count_of condition))) bytes
+unfoldable pub asked : Reading Test
+asked bytes = made (λ p. record { condition = p.0; arguments = p.1 }) (both (decoded cond_of_code byte) (λ condition. arguments (cond_argument_count_of condition))) bytes
 
 -- what a return names, if anything
 unfoldable pub value : Reading (Option ℕ)

@@ -4,7 +4,7 @@
 ghost use Rattle.std.specs.Prelude.{◌≡◌, [], ◌^◌, ◌&&◌};
 ghost use Rattle.std.specs.List.{list_all};
 ghost use Rattle.lang.specs.Reading.{IsRead, Reads, items_of, more};
-ghost use Rattle.machine.specs.Reading.{register, location, is_slot, one_move, moves, arguments, test, value, constant, operation, act, parameter, parameters, lies_within, frame};
+ghost use Rattle.machine.specs.Reading.{register, location, is_slot, one_move, moves, arguments, asked, value, constant, operation, act, parameter, parameters, lies_within, frame};
 
 use crate::act::Act;
 use crate::arguments::Arguments;
@@ -98,9 +98,9 @@ fn read_arguments(count: usize, bytes: &mut &[u8]) -> Result<Arguments, FormErro
 }
 
 /// What a branch asks.
-#[tactic(auto, unfolding(crate::specs::Reading::test))]
+#[tactic(auto, unfolding(crate::specs::Reading::asked))]
 pub fn read_test(bytes: &mut &[u8]) -> Result<Test, FormError>
-    ensures { IsRead (test bytes.old.now) result bytes.new.now }
+    ensures { IsRead (asked bytes.old.now) result bytes.new.now }
 {
     let condition = Cond::from_code(read_byte(bytes)?).ok_or(FormError::NotCanonical)?;
     let arguments = read_arguments(condition.argument_count(), bytes)?;
