@@ -10,8 +10,6 @@ mod order;
 mod pass;
 mod proposals;
 mod reach;
-#[cfg(test)]
-mod tests;
 mod verdict;
 mod walk;
 mod whole;
