@@ -3,8 +3,10 @@
 
 mod agreed;
 mod error;
+mod keeping;
 mod orders;
 mod settling;
 
 pub use error::SettleError;
+pub use keeping::settled_keeps;
 pub use settling::settle;

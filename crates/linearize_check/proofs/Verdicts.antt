@@ -11,17 +11,15 @@ use Rattle.ltl.specs.Function as ltl
 use Rattle.linear.specs.Function as linear
 use Rattle.linearize_check.specs.declared.order.Fault.{Fault}
 use Rattle.linearize_check.specs.declared.order.Fault.TheVariants.{Shape, Node}
-use Rattle.linearize_check.specs.Layout.{order_code, successors_of}
-use Rattle.linearize_check.specs.Rules.{IsLaidOut}
-use Rattle.linearize_check.specs.Orders.{ListsNodes, IsOrder}
+use Rattle.linearize_sound.specs.Layout.{successors_of}
+use Rattle.linearize_sound.specs.Orders.{ListsNodes, IsOrder}
+use Rattle.linearize_sound.specs.Rules.{IsLaidOut, laid_out}
+use Rattle.linearize_sound.proofs.Places.{Contains-later}
 use Rattle.linearize_check.specs.Faults.{HasShape, IsFreshAt, IsClosedAt, StandsAt, IsRightAt, TellsLowest, lesser, TellsFault}
 use Rattle.linearize_check.proofs.Lowest.{lowest-same, lowest-both}
 use Rattle.linearize_check.proofs.Positions.{code-from_stands, code-stands}
 
 -- ---- no node twice
-
-Contains-later : (x : ℕ) (xs : List ℕ) (y : ℕ) → Contains xs y → Contains (x ∷ xs) y
-Contains-later x xs y h = (suc h.0, omega (arith, h.1), h.2)
 
 pub distinct-from_fresh : (order : List ℕ) → ((i : ℕ) → i < length order → IsFreshAt order i) → AreDistinct order
 distinct-from_fresh [] fresh = tt
@@ -61,15 +59,10 @@ order-exact f order (Some n) answer e lists told = (
 )
 
 -- what is laid out by an order that is allowed
-pub laid_out-by_order : (f : ltl.FunctionData) (order : List ℕ) → IsOrder f order → IsLaidOut f (record { parameters = f.parameters; slots = f.slots; code = order_code f.blocks order }) order
+pub laid_out-by_order : (f : ltl.FunctionData) (order : List ℕ) → IsOrder f order → IsLaidOut f (laid_out f order) order
 laid_out-by_order f order h = record {
-  few = h.lists.few;
-  entry = h.lists.entry;
-  nodes = h.lists.nodes;
-  distinct = h.distinct;
-  closed = h.closed;
-  parameters = refl;
-  slots = refl;
+  allowed = h;
+  frame = record { parameters = refl; slots = refl };
   code = refl;
 }
 
@@ -78,27 +71,26 @@ laid_out-by_order f order h = record {
 module _ (input : ltl.FunctionData) (output : linear.FunctionData) (order : List ℕ) where
   pub laid_out-from_right : HasShape input output order → ((i : ℕ) → i < length order → IsRightAt input.blocks output.code order i) → IsLaidOut input output order
   laid_out-from_right shape right = record {
-    few = shape.lists.few;
-    entry = shape.lists.entry;
-    nodes = shape.lists.nodes;
-    distinct = distinct-from_fresh order (λ i below. (right i below).fresh);
-    closed = all-from_closed input.blocks order (λ i below. (right i below).closed);
-    parameters = shape.frame.parameters;
-    slots = shape.frame.slots;
+    allowed = record {
+      lists = shape.lists;
+      distinct = distinct-from_fresh order (λ i below. (right i below).fresh);
+      closed = all-from_closed input.blocks order (λ i below. (right i below).closed);
+    };
+    frame = shape.frame;
     code = code-from_stands input.blocks order output.code (λ i below. (right i below).stands) shape.no_more;
   }
 
   pub shape-from_laid_out : IsLaidOut input output order → HasShape input output order
   shape-from_laid_out laid = record {
-    lists = record { few = laid.few; entry = laid.entry; nodes = laid.nodes };
-    frame = record { parameters = laid.parameters; slots = laid.slots };
+    lists = laid.allowed.lists;
+    frame = laid.frame;
     no_more = omega (arith, ap length laid.code);
   }
 
   pub right-from_laid_out : IsLaidOut input output order → (i : ℕ) → i < length order → IsRightAt input.blocks output.code order i
   right-from_laid_out laid i below = record {
-    fresh = fresh-from_distinct order laid.distinct i below;
-    closed = laid.closed i 0 below;
+    fresh = fresh-from_distinct order laid.allowed.distinct i below;
+    closed = laid.allowed.closed i 0 below;
     stands = subst (λ code. StandsAt input.blocks code order i) (sym laid.code) (code-stands input.blocks order i below);
   }
 

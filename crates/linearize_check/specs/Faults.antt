@@ -6,9 +6,9 @@ use Rattle.linear.specs.declared.instruction.Instruction.{Instruction}
 use Rattle.linear.specs.Function as linear
 use Rattle.linearize_check.specs.declared.order.Fault.{Fault}
 use Rattle.linearize_check.specs.declared.order.Fault.TheVariants.{Shape, Node}
-use Rattle.linearize_check.specs.Layout.{stretch, order_code, successors_of}
-use Rattle.linearize_check.specs.Rules.{IsLaidOut}
-use Rattle.linearize_check.specs.Orders.{ListsNodes, HasFrame}
+use Rattle.linearize_sound.specs.Layout.{stretch, order_code, successors_of}
+use Rattle.linearize_sound.specs.Orders.{ListsNodes}
+use Rattle.linearize_sound.specs.Rules.{HasFrame, IsLaidOut}
 
 -- The form: the order lists nodes, the entry first; the frame is the same; no code stands behind the last stretch.
 pub record HasShape (input : ltl.FunctionData) (output : linear.FunctionData) (order : List ℕ) : Type 0 where

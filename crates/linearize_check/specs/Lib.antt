@@ -1,12 +1,8 @@
-pub mod Layout
-pub mod Rules
-pub mod Orders
 pub mod Faults
-pub mod Marks
 pub mod OrderForm
-pub mod Reach
-pub mod Places
-pub mod Related
-pub mod Steps
-pub mod Sound
 pub mod PassLaws
+pub use Rattle.linearize_sound.specs.Layout
+pub use Rattle.linearize_sound.specs.Orders
+pub use Rattle.linearize_sound.specs.Rules
+pub use Rattle.linearize_layout.specs.Reach
+pub use Rattle.linearize_layout.specs.Marks

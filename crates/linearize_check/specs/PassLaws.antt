@@ -1,6 +1,6 @@
 -- The laws that the pass owes as one of the pipeline.
-use Rattle.std.proofs.Common.{◌≡◌, ℕ, suc, ◌<◌, ◌≤◌, ◌^◌, List, [], ◌∷◌, ◌++◌, length, get_or, arith}
-use Rattle.std.specs.List.{AllByRecursion}
+use Rattle.std.proofs.Common.{◌≡◌, ℕ, ◌<◌, ◌≤◌, ◌^◌, List, ◌++◌, length, arith}
+use Rattle.std.proofs.lemmas.List.Elements.{recursion_from_All}
 use Rattle.lang.specs.Keeps.{Keeps}
 use Rattle.lang.specs.Programs.{ProgramOf}
 use Rattle.lang.specs.Soundness.{AllFit, Accepted}
@@ -9,9 +9,9 @@ use Rattle.ltl.specs.Function as ltl
 use Rattle.ltl.specs.Meaning as blocks
 use Rattle.linear.specs.Function as linear
 use Rattle.linear.specs.Meaning as code
-use Rattle.linearize_check.specs.Rules.{IsLaidOut}
+use Rattle.linearize_sound.specs.Rules.{IsLaidOut}
 use Rattle.linearize_check.specs.OrderForm.{CertFits, cert_text, order_form}
-use Rattle.linearize_check.specs.Sound.{sound}
+use Rattle.linearize_sound.proofs.Sound.{sound}
 
 -- every function has a baseline
 abbrev pub never : ltl.FunctionData → Type 0
@@ -21,15 +21,11 @@ never f = ⊥
 pub sound_law : (p : ProgramOf ltl.FunctionData) (q : ProgramOf linear.FunctionData) → AllFit ltl.IsFunction p → AllFit linear.IsFunction q → Accepted IsLaidOut p q → Keeps (blocks.run p) (code.run q)
 sound_law p q fits also accepted = sound p q accepted
 
-all_by_recursion : (P : ℕ → Type 0) (ns : List ℕ) → ((k d : ℕ) → k < length ns → P (get_or ns k d)) → AllByRecursion P ns
-all_by_recursion P [] h = tt
-all_by_recursion P (n ∷ ns) h = (h 0 n (omega arith), all_by_recursion P ns (λ k d below. h (suc k) d (omega arith)))
-
 -- an order that is accepted can be written
 pub laid_out_fits : (i : ltl.FunctionData) (o : linear.FunctionData) (c : List ℕ) → ltl.IsFunction i → linear.IsFunction o → IsLaidOut i o c → CertFits i c
 laid_out_fits i o c fits also laid = record {
   few_nodes = fits.nodes;
-  each = record { few = laid.few; each = all_by_recursion (λ n. n < length i.blocks) c laid.nodes };
+  each = record { few = laid.allowed.lists.few; each = recursion_from_All (λ n. n < length i.blocks) c laid.allowed.lists.nodes };
 }
 
 -- one order a spelling

@@ -1,11 +1,10 @@
 ghost use Rattle.std.specs.Prelude.{◌≡◌, IfOk};
-ghost use Rattle.linearize_check.specs.Reach.{IsRising};
-ghost use Rattle.linearize_check.specs.Rules.{IsLaidOut};
+ghost use Rattle.linearize_layout.specs.Reach.{IsRising};
+ghost use Rattle.linearize_sound.specs.Rules.{IsLaidOut};
 
 use crate::order::Order;
-use crate::reach::rising;
-use crate::whole::whole;
 use lang::NoMemory;
+use linearize_layout::{lay_out_function, rising};
 use std::alloc::Global;
 
 /// The function laid out by the nodes that are reached, the entry first and the others rising.
@@ -14,6 +13,6 @@ pub fn baseline(alloc: Global, input: &ltl::Function) -> Result<(linear::Functio
     ensures rising { IfOk result (λ made. IsRising input.now made.1) }
 {
     let nodes = rising(alloc, input)?;
-    let output = whole(alloc, input, nodes.as_slice())?;
+    let output = lay_out_function(alloc, input, nodes.as_slice())?;
     Ok((output, Order::from_vec(nodes)))
 }

@@ -5,18 +5,14 @@
 mod base;
 mod faults;
 mod form;
-mod layout;
 mod order;
 mod pass;
 mod proposals;
-mod reach;
 mod verdict;
 mod walk;
-mod whole;
 
-pub use layout::lay_out;
+pub use linearize_layout::{lay_out, reachable, rising};
 pub use order::{Fault, Order};
 pub use pass::Linearize;
 pub use proposals::arrange;
-pub use reach::{reachable, rising};
 pub use verdict::{check, why};

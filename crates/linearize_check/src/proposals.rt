@@ -1,13 +1,13 @@
 //! Orders that anybody proposes, and the functions that are laid out by them.
 
 ghost use Rattle.std.specs.Prelude.{◌≡◌, ◌↔◌, ◌<◌, All, length, Some, slice_get, IsTrue, IfOk, IsSome, IfSome};
-ghost use Rattle.linearize_check.specs.Rules.{IsLaidOut};
-ghost use Rattle.linearize_check.specs.Orders.{ListsNodes, IsOrder};
+ghost use Rattle.linearize_sound.specs.Rules.{IsLaidOut};
+ghost use Rattle.linearize_sound.specs.Orders.{ListsNodes, IsOrder};
 
 use crate::faults::lowest_disordered;
 use crate::order::Order;
-use crate::whole::whole;
 use lang::NoMemory;
+use linearize_layout::lay_out_function;
 use std::alloc::Global;
 
 /// The function laid out by the order that is proposed, with the order as its certificate, where
@@ -24,7 +24,7 @@ pub fn arrange(
     if !is_order(alloc, input, nodes.as_slice())? {
         return Ok(None);
     }
-    let output = whole(alloc, input, nodes.as_slice())?;
+    let output = lay_out_function(alloc, input, nodes.as_slice())?;
     Ok(Some((output, Order::from_vec(nodes))))
 }
 

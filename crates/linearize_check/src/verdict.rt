@@ -1,8 +1,7 @@
 //! Whether an output is laid out by an order, and where it is not.
 
 ghost use Rattle.std.specs.Prelude.{◌≡◌, ◌↔◌, IsTrue, IfOk};
-ghost use Rattle.linearize_check.specs.Rules.{IsLaidOut};
-ghost use Rattle.linearize_check.specs.Orders.{HasFrame};
+ghost use Rattle.linearize_sound.specs.Rules.{HasFrame, IsLaidOut};
 ghost use Rattle.linearize_check.specs.Faults.{TellsFault};
 
 use crate::faults::{lesser, lowest_disordered};

@@ -1,0 +1,5 @@
+pub mod Stretches
+pub mod InRange
+pub mod Tables
+pub mod Searches
+pub mod Risings

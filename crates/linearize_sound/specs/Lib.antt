@@ -1,0 +1,4 @@
+pub mod Layout
+pub mod Orders
+pub mod Rules
+pub mod Related
