@@ -2,6 +2,9 @@
 //! calls the crate `commands`.
 #![tactic(auto)]
 
+ghost use Rattle.std.specs.Prelude.{IfOk};
+ghost use Rattle.commands.specs.Statuses.{IsStatus};
+
 mod command_line;
 mod settling;
 
@@ -20,7 +23,9 @@ fn main(rt: HostRuntime) -> ExitCode {
 
 /// Does what the command line asks, and gives the status. An error is want of memory for the command
 /// line itself, or a standard error that takes nothing.
-fn run(rt: &HostRuntime) -> io::Result<u8> {
+fn run(rt: &HostRuntime) -> io::Result<u8>
+    ensures { IfOk result (λ status. IsStatus status) }
+{
     let alloc = rt.alloc();
     let words: Vec<String> = env::args(rt)?.collect(alloc)?;
     let command = command_line::command(alloc)?;

@@ -1,5 +1,8 @@
 //! `cfarm settle FILE`.
 
+ghost use Rattle.std.specs.Prelude.{IfOk};
+ghost use Rattle.commands.specs.Statuses.{IsStatus};
+
 use crate::command_line::FILE;
 use clap::ArgMatches;
 use commands::settle;
@@ -9,7 +12,9 @@ use std::{fs, io};
 const UNREADABLE: u8 = 2;
 
 /// Reads the file and settles its function. The status of the program.
-pub fn run(rt: &HostRuntime, words: &ArgMatches<'_>) -> io::Result<u8> {
+pub fn run(rt: &HostRuntime, words: &ArgMatches<'_>) -> io::Result<u8>
+    ensures { IfOk result (λ status. IsStatus status) }
+{
     let alloc = rt.alloc();
     let path = words.get_str(FILE).unwrap_or("");
     let bytes = match fs::read(rt, path) {

@@ -1,0 +1,2 @@
+mod FallingLemmas
+mod ReadingLemmas

@@ -1,5 +1,7 @@
 -- The exit statuses of the program.
-use Rattle.std.specs.Prelude.{ℕ}
+use Rattle.std.specs.Prelude.{◌≡◌, ◌⊎◌, ℕ}
+use Rattle.lang.specs.declared.errors.FormError.{FormError}
+use Rattle.lang.specs.declared.errors.FormError.TheVariants as F
 use Rattle.commands.specs.declared.error.SettleError.{SettleError}
 use Rattle.commands.specs.declared.error.SettleError.TheVariants.{NoMemory, Form, Undecided, Write}
 
@@ -8,3 +10,15 @@ status_of NoMemory = 7
 status_of (Form fault) = 1
 status_of Undecided = 3
 status_of Write = 4
+
+-- Why a function is not settled where its bytes are refused: want of memory is no fault of the bytes.
+abbrev pub refusal_of : FormError → SettleError
+refusal_of F.NoMemory = NoMemory
+refusal_of F.Short = Form F.Short
+refusal_of F.BadTag = Form F.BadTag
+refusal_of F.NotCanonical = Form F.NotCanonical
+refusal_of F.TooLarge = Form F.TooLarge
+
+-- A status of the program: 0 where it is done, 2 for the command line or a file that cannot be read, else a refusal's.
+abbrev pub IsStatus : ℕ → Type 0
+IsStatus status = (status ≡ 0) ⊎ (status ≡ 2) ⊎ ((e : SettleError) × (status ≡ status_of e))

@@ -1,60 +1,82 @@
 //! The offers of three nodes, and the one that they agree on.
 
-use crate::error::SettleError;
+ghost use Rattle.std.specs.Prelude.{◌≡◌, ◌≤◌, ℕ, IfOk, IfSome};
+ghost use Rattle.linearize_check.specs.Orders.{IsOrder};
+ghost use Rattle.commands.specs.NodeOrders.{IsOrderOf};
+ghost use Rattle.pure_room.specs.Played.{IsLearnedByAll};
+
 use crate::orders::{depth_first, falling};
-use lang::{Language, NoMemory, Pass};
+use lang::{Language, NoMemory};
 use linearize_check::{Linearize, arrange, rising};
 use ltl::{Function, Ltl};
-use offers::{Offer, OfferError};
+use offers::Offer;
+use paxos_core::agreement;
 use pure_room::agree;
 use std::alloc::Global;
 
-/// The function laid out in an order or, where that is no order of all that is reached, by the
-/// baseline.
+/// The function laid out in an order that is allowed.
+fn offer_in(
+    alloc: Global,
+    function: &Function,
+    order: Vec<u16>,
+) -> Result<Offer<Linearize>, NoMemory>
+    requires { IsOrder function.now order.items }
+    ensures input { IfOk result (λ offer. offer.input ≡ function.now) }
+    ensures order { IfOk result (λ offer. offer.certificate ≡ order.items) }
+{
+    let input = Ltl::copy(alloc, function)?;
+    let (output, order) = arrange(alloc, &input, order)?.unwrap();
+    Ok(Offer::known(input, output, order))
+}
+
+/// The function laid out in the order that is proposed or, where that is not allowed, with the nodes
+/// that are reached rising.
 fn offer_by(
     alloc: Global,
     function: &Function,
-    nodes: Vec<u16>,
-) -> Result<Offer<Linearize>, NoMemory> {
-    if let Some((output, order)) = arrange(alloc, function, nodes)? {
-        let input = Ltl::copy(alloc, function)?;
-        match Offer::check(alloc, input, output, order) {
-            Ok(offer) => return Ok(offer),
-            Err(OfferError::NoMemory) => return Err(NoMemory),
-            Err(_) => {}
-        }
-    }
-    baseline_offer(alloc, function)
-}
-
-fn baseline_offer(alloc: Global, function: &Function) -> Result<Offer<Linearize>, NoMemory> {
+    proposed: Vec<u16>,
+) -> Result<Offer<Linearize>, NoMemory>
+    ensures { IfOk result (λ offer. offer.input ≡ function.now) }
+{
     let input = Ltl::copy(alloc, function)?;
-    match Linearize::baseline(alloc, &input) {
-        Ok((output, order)) => Ok(Offer::known(input, output, order)),
-        Err(_) => Err(NoMemory),
+    match arrange(alloc, &input, proposed)? {
+        Some((output, order)) => Ok(Offer::known(input, output, order)),
+        None => offer_in(alloc, function, rising(alloc, function)?),
     }
 }
 
 /// The offer of a node, which lists the nodes that are reached in its own order: node 0 rising, node 1
 /// falling, and any other depth first.
-fn offer_of(alloc: Global, node: u8, function: &Function) -> Result<Offer<Linearize>, NoMemory> {
-    let order = match node {
-        0 => rising(alloc, function)?,
-        1 => falling(alloc, function)?,
-        _ => depth_first(alloc, function)?,
-    };
-    offer_by(alloc, function, order)
+fn offer_of(alloc: Global, node: u8, function: &Function) -> Result<Offer<Linearize>, NoMemory>
+    ensures input { IfOk result (λ offer. offer.input ≡ function.now) }
+    ensures order { IfOk result (λ offer. IsOrderOf node function.now offer.certificate) }
+{
+    match node {
+        0 => offer_in(alloc, function, rising(alloc, function)?),
+        1 => offer_in(alloc, function, falling(alloc, function)?),
+        _ => offer_by(alloc, function, depth_first(alloc, function)?),
+    }
 }
 
-/// The offer that all three nodes learn. Each node makes its offer before anything is agreed.
-pub fn agreed_offer(alloc: Global, function: &Function) -> Result<Offer<Linearize>, SettleError> {
+/// The offer that all three nodes learn, or none where they have not all learned one. Each node makes
+/// its offer before anything is agreed.
+pub fn agreed_offer(
+    alloc: Global,
+    function: &Function,
+) -> Result<Option<Offer<Linearize>>, NoMemory>
+    ensures input { IfOk result (λ agreed. IfSome agreed (λ offer. offer.input ≡ function.now)) }
+    ensures learned { IfOk result (λ agreed. IfSome agreed (λ offer.
+        (node : ℕ) × IsLearnedByAll node × IsOrderOf node function.now offer.certificate)) }
+{
     let first = offer_of(alloc, 0, function)?;
     let second = offer_of(alloc, 1, function)?;
     let third = offer_of(alloc, 2, function)?;
+    // No other value can be learned in this room, whatever its messages.
+    agreement();
     match agree(alloc)? {
-        Some(0) => Ok(first),
-        Some(1) => Ok(second),
-        Some(2) => Ok(third),
-        _ => Err(SettleError::Undecided),
+        Some(0) => Ok(Some(first)),
+        Some(1) => Ok(Some(second)),
+        Some(2) => Ok(Some(third)),
+        _ => Ok(None),
     }
 }

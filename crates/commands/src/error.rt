@@ -47,6 +47,20 @@ impl fmt::Display for SettleError {
 
 impl std::error::Error for SettleError {}
 
+impl From<FormError> for SettleError {
+    ghost use Rattle.std.specs.Prelude.{◌≡◌};
+    ghost use Rattle.commands.specs.Statuses.{refusal_of};
+
+    ghost from_gives = { λ fault e. e ≡ refusal_of fault };
+
+    fn from(fault: FormError) -> SettleError {
+        match fault {
+            FormError::NoMemory => SettleError::NoMemory,
+            _ => SettleError::Form(fault),
+        }
+    }
+}
+
 impl From<NoMemory> for SettleError {
     ghost use Rattle.std.specs.Prelude.{◌≡◌};
     ghost use Rattle.commands.specs.declared.error.SettleError.TheVariants.{NoMemory};

@@ -1,21 +1,39 @@
 //! The orders in which the three nodes list a function's reachable nodes, the entry first.
 
+ghost use Rattle.std.specs.Prelude.{◌≡◌, ℕ, List, ◌∷◌, reverse, IfOk};
+ghost use Rattle.linearize_check.specs.Orders.{IsOrder};
+ghost use Rattle.commands.specs.NodeOrders.{IsFalling};
+
 use lang::NoMemory;
 use linearize_check::rising;
 use ltl::{Body, Function};
-use std::alloc::Global;
+use std::alloc::{AllocError, Global};
 
 /// The others in falling order.
-pub fn falling(alloc: Global, function: &Function) -> Result<Vec<u16>, NoMemory> {
-    let mut order = rising(alloc, function)?;
-    if let Some((_, others)) = order.split_first_mut() {
-        others.reverse();
-    }
+pub fn falling(alloc: Global, function: &Function) -> Result<Vec<u16>, NoMemory>
+    ensures falling { IfOk result (λ order. IsFalling function.now order.items) }
+    ensures allowed { IfOk result (λ order. IsOrder function.now order.items) }
+{
+    let rising = rising(alloc, function)?;
+    Ok(with_others_reversed(alloc, rising.as_slice())?)
+}
+
+/// The first stays where it is.
+fn with_others_reversed(alloc: Global, nodes: &[u16]) -> Result<Vec<u16>, AllocError>
+    ensures { IfOk result (λ order. (first : ℕ) (others : List ℕ) → nodes.now ≡ first ∷ others → order.items ≡ first ∷ reverse others) }
+{
+    let [first, others @ ..] = nodes else {
+        return Ok(Vec::new(alloc));
+    };
+    let mut order = others.to_vec(alloc)?;
+    order.reverse();
+    order.insert(0, *first)?;
     Ok(order)
 }
 
 /// Depth first, with the second successor of a branch first. The stack is on the heap, and holds each
-/// node at most once for each edge to it.
+/// node at most once for each edge to it. Nothing is promised of the order: what is no order of all
+/// that is reached is not laid out.
 pub fn depth_first(alloc: Global, function: &Function) -> Result<Vec<u16>, NoMemory> {
     let blocks = function.blocks().as_slice();
     let mut listed = vec![in alloc; false; blocks.len()]?;

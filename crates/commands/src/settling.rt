@@ -1,13 +1,27 @@
+ghost use Rattle.std.specs.Prelude.{◌≡◌, ◌≢◌, ℕ, List, ◌++◌, OnOk, IfOk, IfErr};
+ghost use Rattle.std.specs.Io.KnownBytes.{Appends};
+ghost use Rattle.std.specs.String.{string_bytes};
+ghost use Rattle.ltl.specs.Spelling as ltl_spelling;
+ghost use Rattle.hex.specs.Hex.{encode_lower};
+ghost use Rattle.linear.specs.Spelling as linear_spelling;
+ghost use Rattle.commands.specs.Settled.{IsNoFunction, IsRefused, IsSettled, ending};
+
 use crate::agreed::agreed_offer;
 use crate::error::SettleError;
-use lang::{FormError, Language};
+use crate::keeping::settled_keeps;
+use lang::{FormError, Language, NoMemory};
 use linear::Linear;
+use linearize_check::Linearize;
 use ltl::{Function, Ltl};
+use offers::Offer;
 use std::alloc::Global;
 use std::io::Write;
 
 /// The one function that the bytes spell: bytes behind it are a fault.
-fn read_function(alloc: Global, bytes: &[u8]) -> Result<Function, FormError> {
+fn read_function(alloc: Global, bytes: &[u8]) -> Result<Function, FormError>
+    ensures read { IfOk result (λ function. bytes.now ≡ ltl_spelling.spelling function) }
+    ensures refused { IfErr result (λ fault. fault ≢ FormError.NoMemory → IsNoFunction bytes.now) }
+{
     let (function, length) = Ltl::read(alloc, bytes)?;
     if length < bytes.len() {
         return Err(FormError::NotCanonical);
@@ -17,19 +31,32 @@ fn read_function(alloc: Global, bytes: &[u8]) -> Result<Function, FormError> {
 
 /// Settles one LTL function: three nodes agree on an order of its blocks, and the Linear code in that
 /// order is written in lower case hex on one line, and then `agreed 3`.
-pub fn settle<W: Write>(alloc: Global, bytes: &[u8], out: &mut W) -> Result<(), SettleError> {
-    let function = match read_function(alloc, bytes) {
-        Ok(function) => function,
-        Err(FormError::NoMemory) => return Err(SettleError::NoMemory),
-        Err(fault) => return Err(SettleError::Form(fault)),
+pub fn settle<W: Write>(alloc: Global, bytes: &[u8], out: &mut W) -> Result<(), SettleError>
+    ensures settled { OnOk result ((printed : List ℕ) × IsSettled bytes.now printed × Appends (W.contents out.old) (W.contents out.new) printed) }
+    ensures refused { IfErr result (λ fault. IsRefused bytes.now fault) }
+
+    // What is refused prints nothing; a writer that fails may hold a beginning of the output.
+    ensures silent { IfErr result (λ fault. fault ≢ SettleError.Write → W.contents out.new ≡ W.contents out.old) }
+{
+    let function = read_function(alloc, bytes)?;
+    let Some(agreed) = agreed_offer(alloc, &function)? else {
+        return Err(SettleError::Undecided);
     };
-    let agreed = agreed_offer(alloc, &function)?;
-    let mut code = Vec::new(alloc);
-    Linear::write(agreed.output(), &mut code)?;
-    let mut text = hex::encode(alloc, code.as_slice())?;
-    text.push_str("\nagreed 3\n")?;
+    settled_keeps(&agreed);
+    let text = printed(alloc, &agreed)?;
     match out.write_all(text.as_bytes()) {
         Ok(()) => Ok(()),
         Err(_) => Err(SettleError::Write),
     }
+}
+
+/// What is printed of the offer that is agreed on.
+fn printed(alloc: Global, agreed: &Offer<Linearize>) -> Result<String, NoMemory>
+    ensures { IfOk result (λ text. string_bytes text ≡ encode_lower (linear_spelling.spelling agreed.now.output) ++ ending) }
+{
+    let mut code = Vec::new(alloc);
+    Linear::write(agreed.output(), &mut code)?;
+    let mut text = hex::encode(alloc, code.as_slice())?;
+    text.push_str("\nagreed 3\n")?;
+    Ok(text)
 }
