@@ -3,6 +3,8 @@
 #![tactic(auto)]
 
 #[cfg(test)]
+mod schedules;
+#[cfg(test)]
 mod settle_rows;
 pub mod toy_language;
 pub mod toy_offers;

@@ -1,0 +1,5 @@
+pub mod Choices
+pub mod Found
+pub mod FromOne
+pub mod OpeningLemmas
+pub mod Quorums
