@@ -9,4 +9,5 @@ mod settling;
 
 pub use error::SettleError;
 pub use keeping::settled_keeps;
+pub use orders::{depth_first, falling};
 pub use settling::settle;

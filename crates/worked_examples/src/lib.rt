@@ -3,6 +3,8 @@
 #![tactic(auto)]
 
 #[cfg(test)]
+mod node_orders;
+#[cfg(test)]
 mod schedules;
 #[cfg(test)]
 mod settle_rows;
