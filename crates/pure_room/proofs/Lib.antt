@@ -1,1 +1,2 @@
+pub mod HandOn
 pub mod Rooms

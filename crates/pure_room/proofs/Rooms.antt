@@ -1,6 +1,6 @@
 -- A call of a node of a room that came about leaves one that came about.
-use Rattle.std.proofs.Common.{◌≡◌, ℕ, zero, suc, ◌<◌, List, [], ◌∷◌, ◌++◌, length, get_or, set, Option, Some, None, Bool, true, false, cond, refl, sym, ap, ◌∙◌, subst, arith, ◌⊎◌, inl, inr, ⊎_elim}
-use Rattle.std.specs.Prelude.{slice_get, slice_set, Contains, ◌==◌}
+use Rattle.std.proofs.Common.{◌≡◌, ℕ, zero, suc, ◌<◌, List, [], ◌∷◌, ◌++◌, get_or, Some, None, cond, refl, sym, ap, ◌∙◌, subst, arith, ◌⊎◌, inl, inr}
+use Rattle.std.specs.Prelude.{slice_get, slice_set, Contains}
 use Rattle.std.specs.Option.{option_to_list}
 use Rattle.std.proofs.lemmas.Bool.Decides.{eqb_tells}
 use Rattle.std.proofs.lemmas.List.Elements.{Contains-append_cases}
@@ -12,8 +12,8 @@ use Rattle.std.proofs.lemmas.Bool.{le-leb}
 use Rattle.paxos_world.specs.declared.msg.Msg.TheVariants.{Prepare}
 use Rattle.paxos_law.specs.Proposer.{next_ballot, started}
 use Rattle.paxos_core.specs.Call.{Call, Start, after_call, answer_to}
-use Rattle.paxos_core.specs.Schedule.{Room, NodeCall, opened, played, put_node, room_after, WasSent, IsSchedule}
-use Rattle.pure_room.specs.Played.{RoomState, start, CameAbout}
+use Rattle.paxos_core.specs.Schedule.{Room, NodeCall, played, put_node, WasSent}
+use Rattle.pure_room.specs.Played.{start, CameAbout}
 
 slice_get-set_same : (nodes : List NodeState) (i : ℕ) (s t : NodeState) → slice_get nodes i ≡ Some s → slice_get (slice_set nodes i t) i ≡ Some t
 slice_get-set_same [] i s t e = cc

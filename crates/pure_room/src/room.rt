@@ -1,4 +1,6 @@
-ghost use Rattle.std.specs.Prelude.{◌≡◌, ℕ, ◌<◌, Contains, Some, IfOk, IfSome};
+ghost use Rattle.std.specs.Prelude.{◌≡◌, ℕ, ◌<◌, Contains, Some, IfOk, IfSome, OnOk, length, slice_get};
+ghost use Rattle.paxos_core.specs.Call.{Offer, Proposal, Start};
+ghost use Rattle.pure_room.specs.HandedOn.{HaveLearned, after_call_of, after_message_to, new_room};
 ghost use Rattle.pure_room.specs.Played.{IsLearnedByAll};
 
 use paxos_core::Node;
@@ -27,15 +29,24 @@ impl Model for Room {
 }
 
 impl Room {
-    fn new(alloc: Global) -> Room {
+    fn new(alloc: Global) -> Room
+        ensures { result ≡ new_room }
+    {
         Room {
             nodes: [Node::new(0, 3), Node::new(1, 3), Node::new(2, 3)],
             sent: Vec::new(alloc),
         }
     }
 
+    fn sent_count(&self) -> usize
+        ensures { result ≡ length self.now.sent }
+    {
+        self.sent.len()
+    }
+
     fn offer(&mut self, node: usize)
         requires { node < 3 }
+        ensures { self.new ≡ after_call_of self.old node Offer }
     {
         let _first = self.nodes[node].offer();
     }
@@ -43,6 +54,7 @@ impl Room {
     /// Where no ballot is left the node sends nothing.
     fn start(&mut self, node: usize) -> Result<(), AllocError>
         requires { node < 3 }
+        ensures { OnOk result (self.new ≡ after_call_of self.old node Start) }
     {
         if let Ok(message) = self.nodes[node].start() {
             self.sent.push(message)?;
@@ -53,6 +65,7 @@ impl Room {
     /// Hands the message to the node, whose answer is sent.
     fn hand(&mut self, node: usize, place: usize) -> Result<(), AllocError>
         requires { node < 3 }
+        ensures { OnOk result (self.new ≡ after_message_to self.old node (slice_get self.old.sent place)) }
     {
         let Some(message) = message_at(&self.sent, place) else {
             return Ok(());
@@ -65,6 +78,7 @@ impl Room {
 
     fn propose(&mut self, node: usize) -> Result<(), AllocError>
         requires { node < 3 }
+        ensures { OnOk result (self.new ≡ after_call_of self.old node Proposal) }
     {
         if let Some(message) = self.nodes[node].propose() {
             self.sent.push(message)?;
@@ -74,7 +88,8 @@ impl Room {
 
     /// The value that all three have learned, if they have learned one.
     fn learned_by_all(&self) -> Option<u8>
-        ensures { IfSome result IsLearnedByAll }
+        ensures all { IfSome result IsLearnedByAll }
+        ensures value { (v : ℕ) → HaveLearned self.now v → result ≡ Some v }
     {
         let value = self.nodes[0].learned()?;
         let all = self.nodes[1].learned() == Some(value) && self.nodes[2].learned() == Some(value);
@@ -83,16 +98,18 @@ impl Room {
 }
 
 fn message_at(sent: &[Msg], place: usize) -> Option<Msg>
-    ensures { IfSome result (Contains sent.now) }
+    ensures value { result ≡ slice_get sent.now place }
+    ensures one { IfSome result (Contains sent.now) }
 {
     sent.get(place).copied()
 }
 
 /// Three nodes make their offers and node 0 starts. Then each message, in the order of sending, is
 /// handed to nodes 0, 1 and 2, whose answers are sent, and after each message node 0 is asked to
-/// propose. The value that all three learn, or none.
+/// propose. The value that all three then have learned is node 0's.
 pub fn agree(alloc: Global) -> Result<Option<u8>, AllocError>
-    ensures { IfOk result (λ learned. IfSome learned IsLearnedByAll) }
+    ensures played { IfOk result (λ learned. IfSome learned IsLearnedByAll) }
+    ensures value { IfOk result (λ learned. learned ≡ Some 0) }
 {
     let mut room = Room::new(alloc);
     for node in 0..3 {
@@ -100,7 +117,7 @@ pub fn agree(alloc: Global) -> Result<Option<u8>, AllocError>
     }
     room.start(0)?;
     for place in 0..MOST_MESSAGES {
-        if place >= room.sent.len() {
+        if place >= room.sent_count() {
             break;
         }
         for node in 0..3 {
