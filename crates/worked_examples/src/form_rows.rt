@@ -8,15 +8,15 @@ use std::alloc::Global;
 use std::process::Abort;
 use std::test::Fail;
 
-/// r0 = 7; return r0, in LTL and in Linear.
-const RETURN_SEVEN: [&str; 2] = [
+/// In LTL: r0 = 7; return r0. A branch on a parameter in r0.
+const LTL: [&str; 2] = [
     "03000000000000020001000000000700010000090100",
-    "04000000000000040a00000100000000070a0001090100",
+    "0301000000000000000300080000000100020001000000000500020000090100",
 ];
 
-/// A branch on a parameter in r0, in LTL and in Linear in both orders of its blocks.
-const BRANCH: [&str; 3] = [
-    "0301000000000000000300080000000100020001000000000500020000090100",
+/// The same in Linear, the branch in both orders of its blocks.
+const LINEAR: [&str; 3] = [
+    "04000000000000040a00000100000000070a0001090100",
     "040100000000000000070a000008000000010b00020a00010100000000050a0002090100",
     "040100000000000000070a000008000000010a00020901000a00010100000000050b0002",
 ];
@@ -44,35 +44,57 @@ fn told_by_tag(alloc: Global, bytes: &[u8]) -> Result<String, Fail> {
     }
 }
 
-/// The bytes, each of their strict fronts, one byte more, and every change of one byte.
-fn near<R: Abort>(rt: &R, alloc: Global, text: &str) -> Result<(), Fail> {
+/// Each strict front of the bytes ends within the form, and a byte behind them is left over.
+fn fronts<R: Abort>(rt: &R, alloc: Global, text: &str) -> Result<(), Fail> {
     let mut bytes = hex::decode(alloc, text)?;
     let whole = format!(in alloc; "ok{}", bytes.len())?;
     assert_eq!(rt; told_by_tag(alloc, &bytes)?.as_str(), whole.as_str());
-    for length in 1..bytes.len() {
-        assert_eq!(rt; told_by_tag(alloc, &bytes[..length])?.as_str(), "no101", "{length}");
-    }
-    for place in 1..bytes.len() {
-        let right = bytes[place];
-        for byte in 0..=u8::MAX {
-            bytes[place] = byte;
-            let told = told_by_tag(alloc, &bytes)?;
-            assert!(rt; told.as_str() != "another function", "byte {byte} at {place}");
-        }
-        bytes[place] = right;
+    for length in 0..bytes.len() {
+        assert_eq!(rt;
+            told_by_tag(alloc, &bytes[..length])?.as_str(),
+            "no101",
+            "{length}"
+        );
     }
     bytes.push(0)?;
     assert_eq!(rt; told_by_tag(alloc, &bytes)?.as_str(), whole.as_str());
     Ok(())
 }
 
-#[test]
-fn near_the_worked_inputs(rt: HostRuntime) -> Result<(), Fail> {
-    for text in RETURN_SEVEN {
-        near(&rt, rt.alloc(), text)?;
+/// One byte changed to this one, at each place behind the tag.
+fn changes<R: Abort>(rt: &R, alloc: Global, text: &str, byte: u8) -> Result<(), Fail> {
+    let mut bytes = hex::decode(alloc, text)?;
+    for place in 1..bytes.len() {
+        let right = bytes[place];
+        bytes[place] = byte;
+        let told = told_by_tag(alloc, &bytes)?;
+        assert!(rt;
+            told.as_str() != "another function",
+            "byte {byte} at {place}"
+        );
+        bytes[place] = right;
     }
-    for text in BRANCH {
-        near(&rt, rt.alloc(), text)?;
+    Ok(())
+}
+
+#[test]
+fn near_functions_of_ltl(rt: HostRuntime) -> Result<(), Fail> {
+    for text in LTL {
+        fronts(&rt, rt.alloc(), text)?;
+        for byte in 0..=u8::MAX {
+            changes(&rt, rt.alloc(), text, byte)?;
+        }
+    }
+    Ok(())
+}
+
+#[test]
+fn near_functions_of_linear(rt: HostRuntime) -> Result<(), Fail> {
+    for text in LINEAR {
+        fronts(&rt, rt.alloc(), text)?;
+        for byte in [0, 1, 2, 3, 7, 10, 11, 255] {
+            changes(&rt, rt.alloc(), text, byte)?;
+        }
     }
     Ok(())
 }

