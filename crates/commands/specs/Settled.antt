@@ -39,9 +39,9 @@ pub record IsSettled (bytes printed : List ℕ) : Type 0 where
 abbrev pub IsNoFunction : List ℕ → Type 0
 IsNoFunction bytes = (f : ltl.FunctionData) → ltl.IsFunction f → bytes ≡ ltl_spelling.spelling f → ⊥
 
--- what each refusal says of the bytes
+-- what each refusal says of the bytes; in a room whose messages all arrive, nothing stays undecided
 abbrev pub IsRefused : List ℕ → SettleError → Type 0
 IsRefused bytes NoMemory = Unit {0}
 IsRefused bytes (Form fault) = IsNoFunction bytes
-IsRefused bytes Undecided = Unit {0}
+IsRefused bytes Undecided = ⊥
 IsRefused bytes Write = Unit {0}

@@ -1,6 +1,6 @@
 //! The offers of three nodes, and the one that they agree on.
 
-ghost use Rattle.std.specs.Prelude.{◌≡◌, ◌≤◌, ℕ, IfOk, IfSome};
+ghost use Rattle.std.specs.Prelude.{◌≡◌, ◌≤◌, ℕ, IfOk, IsSome, IfSome};
 ghost use Rattle.linearize_check.specs.Orders.{IsOrder};
 ghost use Rattle.commands.specs.NodeOrders.{IsOrderOf};
 ghost use Rattle.pure_room.specs.Played.{IsLearnedByAll};
@@ -58,8 +58,8 @@ fn offer_of(alloc: Global, node: u8, function: &Function) -> Result<Offer<Linear
     }
 }
 
-/// The offer that all three nodes learn, or none where they have not all learned one. Each node makes
-/// its offer before anything is agreed.
+/// The offer that all three nodes learn; none where they have not all learned one, which does not come
+/// to pass in this room. Each node makes its offer before anything is agreed.
 pub fn agreed_offer(
     alloc: Global,
     function: &Function,
@@ -67,6 +67,7 @@ pub fn agreed_offer(
     ensures input { IfOk result (λ agreed. IfSome agreed (λ offer. offer.input ≡ function.now)) }
     ensures learned { IfOk result (λ agreed. IfSome agreed (λ offer.
         (node : ℕ) × IsLearnedByAll node × IsOrderOf node function.now offer.certificate)) }
+    ensures decided { IfOk result (λ agreed. IsSome agreed) }
 {
     let first = offer_of(alloc, 0, function)?;
     let second = offer_of(alloc, 1, function)?;
