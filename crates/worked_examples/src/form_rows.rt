@@ -1,6 +1,6 @@
 //! The forms of LTL and Linear on worked inputs, on all that is near them, and on what others say of them.
 
-use crate::told::forms_told;
+use crate::told::{forms_told, functions_to_come};
 use lang::Language;
 use linear::Linear;
 use ltl::Ltl;
@@ -111,6 +111,14 @@ fn forms_as_they_are_told(rt: HostRuntime) -> Result<(), Fail> {
             _ => form_told::<Linear>(alloc, &bytes)?,
         };
         assert_eq!(rt; found.as_str(), told, "{text}");
+    }
+    for text in functions_to_come().split_whitespace() {
+        let bytes = hex::decode(alloc, text)?;
+        assert_eq!(rt;
+            form_told::<Ltl>(alloc, &bytes)?.as_str(),
+            "no103",
+            "{text}"
+        );
     }
     Ok(())
 }

@@ -1,11 +1,11 @@
 //! The pass from LTL to Linear on worked inputs: written offers and their names, orders and what is laid
 //! out by them, and why the rest is refused.
 
-use crate::told::{functions_to_come, offers_told, orders_laid_out};
+use crate::told::{offers_told, orders_laid_out};
 use commands::settled_keeps;
 use lang::{FormError, Language, Pass};
 use linear::Linear;
-use linearize_check::{Fault, Linearize, Order, arrange, check, lay_out, reachable, rising, why};
+use linearize_check::{Fault, Linearize, Order, arrange, check, reachable, rising, why};
 use ltl::Ltl;
 use offers::{Offer, OfferError, PartsOf};
 use std::alloc::Global;
@@ -32,6 +32,7 @@ const BRANCH_RISING: &str =
 const BRANCH_FALLING: &str =
     "040100000000000000070a000008000000010a00020901000a00010100000000050b0002";
 
+/// The function that is spelled so; bytes behind it are an error.
 fn function_of<L: Language>(alloc: Global, text: &str) -> Result<L::Fun, Fail> {
     let bytes = hex::decode(alloc, text)?;
     let (function, length) = L::read(alloc, &bytes)?;
@@ -47,8 +48,46 @@ fn text_of<L: Language>(alloc: Global, function: &L::Fun) -> Result<String, Fail
     Ok(hex::encode(alloc, &bytes)?)
 }
 
-fn order_of(alloc: Global, nodes: &[u16]) -> Result<Order, Fail> {
-    Ok(Order::from_vec(Vec::from_slice(alloc, nodes)?))
+/// What is wrong with an output and the order of these nodes.
+fn fault_of(
+    alloc: Global,
+    input: &str,
+    output: &str,
+    nodes: &[u16],
+) -> Result<Option<Fault>, Fail> {
+    let input = function_of::<Ltl>(alloc, input)?;
+    let output = function_of::<Linear>(alloc, output)?;
+    let order = Order::from_vec(Vec::from_slice(alloc, nodes)?);
+    Ok(why(alloc, &input, &output, &order)?)
+}
+
+/// The output that is laid out by the nodes, where they are an order of the function.
+fn laid_out_by(alloc: Global, input: &str, nodes: Vec<u16>) -> Result<Option<String>, Fail> {
+    let input = function_of::<Ltl>(alloc, input)?;
+    match arrange(alloc, &input, nodes)? {
+        None => Ok(None),
+        Some((output, _order)) => Ok(Some(text_of::<Linear>(alloc, &output)?)),
+    }
+}
+
+/// The baseline's output and the nodes of its order.
+fn baseline_of(alloc: Global, input: &str) -> Result<(String, Vec<u16>), Fail> {
+    let input = function_of::<Ltl>(alloc, input)?;
+    let (output, order) = Linearize::baseline(alloc, &input)?;
+    Ok((text_of::<Linear>(alloc, &output)?, order.into_vec()))
+}
+
+fn reached_of(alloc: Global, input: &str) -> Result<(Vec<bool>, Vec<u16>), Fail> {
+    let input = function_of::<Ltl>(alloc, input)?;
+    Ok((reachable(alloc, &input)?, rising(alloc, &input)?))
+}
+
+/// The written offer of the function laid out by the nodes.
+fn offer_by(alloc: Global, input: &str, nodes: &[u16]) -> Result<Vec<u8>, Fail> {
+    let input = function_of::<Ltl>(alloc, input)?;
+    let nodes = Vec::from_slice(alloc, nodes)?;
+    let (output, order) = arrange(alloc, &input, nodes)?.ok_or("no order")?;
+    Ok(offered::<Linearize>(alloc, input, output, order)?)
 }
 
 /// Calls of offers of any pass, which promise nothing here: what a test asserts of them, it runs.
@@ -119,11 +158,7 @@ fn an_offer_and_its_name(rt: HostRuntime) -> Result<(), Fail> {
     assert!(rt; written_again::<Linearize>(alloc, &text)? == text);
     let name = hex::encode(alloc, &name_of::<Linearize>(alloc, &text)?)?;
     assert_eq!(rt; name.as_str(), RETURN_SEVEN_NAME);
-    let parts = parts_of::<Linearize>(alloc, &text)?;
-    let nodes = parts.certificate.into_vec();
-    assert!(rt; nodes.as_slice() == [0, 1].as_slice());
-    let code = lay_out(alloc, parts.input.blocks().as_slice(), &nodes)?;
-    assert!(rt; code.as_slice() == parts.output.code().as_slice());
+    assert_eq!(rt; told_of(alloc, &text)?.as_str(), "yes");
     Ok(())
 }
 
@@ -180,16 +215,16 @@ fn a_node_listed_twice(rt: HostRuntime) -> Result<(), Fail> {
 #[test]
 fn a_branch_in_both_orders(rt: HostRuntime) -> Result<(), Fail> {
     let alloc = rt.alloc();
-    let input = function_of::<Ltl>(alloc, BRANCH)?;
-    assert!(rt; reachable(alloc, &input)?.as_slice() == [true, true, true].as_slice());
-    assert!(rt; rising(alloc, &input)?.as_slice() == [0, 1, 2].as_slice());
-    let (output, order) = Linearize::baseline(alloc, &input)?;
-    assert_eq!(rt; text_of::<Linear>(alloc, &output)?.as_str(), BRANCH_RISING);
-    assert!(rt; order.into_vec().as_slice() == [0, 1, 2].as_slice());
+    let (marks, nodes) = reached_of(alloc, BRANCH)?;
+    assert!(rt; marks.as_slice() == [true, true, true].as_slice());
+    assert!(rt; nodes.as_slice() == [0, 1, 2].as_slice());
+    let (output, nodes) = baseline_of(alloc, BRANCH)?;
+    assert_eq!(rt; output.as_str(), BRANCH_RISING);
+    assert!(rt; nodes.as_slice() == [0, 1, 2].as_slice());
     let nodes = Vec::from_slice(alloc, &[0, 2, 1])?;
-    let (output, order) = arrange(alloc, &input, nodes)?.ok_or("an order of all nodes")?;
-    assert_eq!(rt; text_of::<Linear>(alloc, &output)?.as_str(), BRANCH_FALLING);
-    let text = offered::<Linearize>(alloc, input, output, order)?;
+    let output = laid_out_by(alloc, BRANCH, nodes)?.ok_or("an order of all nodes")?;
+    assert_eq!(rt; output.as_str(), BRANCH_FALLING);
+    let text = offer_by(alloc, BRANCH, &[0, 2, 1])?;
     assert_eq!(rt; text.len(), 77);
     assert!(rt; text.as_slice().ends_with(&[0, 3, 0, 0, 0, 2, 0, 1]));
     Ok(())
@@ -198,8 +233,6 @@ fn a_branch_in_both_orders(rt: HostRuntime) -> Result<(), Fail> {
 #[test]
 fn orders_that_are_none(rt: HostRuntime) -> Result<(), Fail> {
     let alloc = rt.alloc();
-    let input = function_of::<Ltl>(alloc, BRANCH)?;
-    let output = function_of::<Linear>(alloc, BRANCH_FALLING)?;
     let cases: [(&[u16], Fault); 8] = [
         (&[], Fault::Shape),
         (&[1, 0, 2], Fault::Shape),
@@ -211,25 +244,20 @@ fn orders_that_are_none(rt: HostRuntime) -> Result<(), Fail> {
         (&[0, 0, 2, 1], Fault::Node(0)),
     ];
     for (nodes, fault) in cases {
-        let order = order_of(alloc, nodes)?;
-        let told = why(alloc, &input, &output, &order)?;
+        let told = fault_of(alloc, BRANCH, BRANCH_FALLING, nodes)?;
         assert!(rt; told == Some(fault), "{fault:?} of {nodes:?}");
-        assert!(rt; !check(alloc, &input, &output, &order)?);
-        assert!(rt; arrange(alloc, &input, order.into_vec())?.is_none());
+        let none = laid_out_by(alloc, BRANCH, Vec::from_slice(alloc, nodes)?)?;
+        assert!(rt; none.is_none(), "{nodes:?}");
     }
-    let rising = order_of(alloc, &[0, 1, 2])?;
-    assert!(rt; why(alloc, &input, &output, &rising)? == Some(Fault::Node(0)));
-    let falling = order_of(alloc, &[0, 2, 1])?;
-    assert!(rt; why(alloc, &input, &output, &falling)? == None);
+    let other_order = fault_of(alloc, BRANCH, BRANCH_FALLING, &[0, 1, 2])?;
+    assert!(rt; other_order == Some(Fault::Node(0)));
+    assert!(rt; fault_of(alloc, BRANCH, BRANCH_FALLING, &[0, 2, 1])? == None);
     Ok(())
 }
 
-/// Another slot count, other parameters, and a last jump that is missing or stands twice.
+/// Another slot count, other parameters, and a last jump that stands twice or is missing.
 #[test]
 fn outputs_that_are_not_laid_out(rt: HostRuntime) -> Result<(), Fail> {
-    let alloc = rt.alloc();
-    let input = function_of::<Ltl>(alloc, BRANCH)?;
-    let falling = order_of(alloc, &[0, 2, 1])?;
     let cases = [
         (
             "040100000001000000070a000008000000010a00020901000a00010100000000050b0002",
@@ -249,8 +277,7 @@ fn outputs_that_are_not_laid_out(rt: HostRuntime) -> Result<(), Fail> {
         ),
     ];
     for (text, fault) in cases {
-        let output = function_of::<Linear>(alloc, text)?;
-        let told = why(alloc, &input, &output, &falling)?;
+        let told = fault_of(rt.alloc(), BRANCH, text, &[0, 2, 1])?;
         assert!(rt; told == Some(fault), "{fault:?} of {text}");
     }
     Ok(())
@@ -285,18 +312,8 @@ fn functions_laid_out_as_they_are_told(rt: HostRuntime) -> Result<(), Fail> {
     for line in orders_laid_out().split_whitespace() {
         let (text, rest) = line.split_once(':').ok_or("no colon")?;
         let (order, told) = rest.split_once(':').ok_or("no second colon")?;
-        let input = function_of::<Ltl>(alloc, text)?;
-        let nodes = nodes_of(alloc, order)?;
-        let (output, order) = arrange(alloc, &input, nodes)?.ok_or("no order")?;
-        assert_eq!(rt; text_of::<Linear>(alloc, &output)?.as_str(), told, "{text}");
-        assert!(rt; check(alloc, &input, &output, &order)?);
-    }
-    for text in functions_to_come().split_whitespace() {
-        let bytes = hex::decode(alloc, text)?;
-        assert!(rt;
-            matches!(Ltl::read(alloc, &bytes), Err(FormError::NotCanonical)),
-            "{text}"
-        );
+        let output = laid_out_by(alloc, text, nodes_of(alloc, order)?)?.ok_or("no order")?;
+        assert_eq!(rt; output.as_str(), told, "{text}");
     }
     Ok(())
 }
