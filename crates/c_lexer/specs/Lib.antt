@@ -1,0 +1,12 @@
+pub mod Bytes
+pub mod Characters
+pub mod Faults
+pub mod Found
+pub mod Keywords
+pub mod Lexemes
+pub mod Lookups
+pub mod Numbers
+pub mod Parts
+pub mod Punctuators
+pub mod Refusals
+pub mod Texts
