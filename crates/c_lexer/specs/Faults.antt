@@ -24,15 +24,19 @@ pub record IsOpenComment (text : List ℕ) : Type 0 where
   pub opened : text ≡ codes "/*" ++ body
   pub never_closed : (before behind : List ℕ) → body ≢ before ++ (codes "*/" ++ behind)
 
--- a word that begins with a digit, and spells no constant
+-- a word that begins with a digit and spells no constant
+pub record IsRefused (word : List ℕ) : Type 0 where
+  pub digit_first : IsTrue (begins_with_digit word)
+  pub no_constant : constant_of word ≡ None
+
+-- such a word, the longest
 pub record IsBadNumber (text : List ℕ) : Type 0 where
   pub word : List ℕ
   pub rest : List ℕ
   pub split : text ≡ word ++ rest
   pub is_word : IsWord word
-  pub digit_first : IsTrue (begins_with_digit word)
   pub longest : IsLongest word rest
-  pub no_constant : constant_of word ≡ None
+  pub refused : IsRefused word
 
 -- a quote that begins no character constant
 pub record IsBadCharacter (text : List ℕ) : Type 0 where

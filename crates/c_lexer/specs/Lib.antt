@@ -1,5 +1,6 @@
 pub mod Bytes
 pub mod Characters
+pub mod Closings
 pub mod Faults
 pub mod Found
 pub mod Keywords

@@ -1,10 +1,11 @@
--- The keyword and the punctuator of some bytes, as the lexer looks them up.
-use Rattle.std.specs.Prelude.{ℕ, List, [], ◌∷◌, length, Option, Some, None, nat_eq, ◌==◌, ◌&&◌, if◌then◌else◌, slice_index}
+-- The keyword, the punctuator and the character constant of some bytes, as the lexer looks them up.
+use Rattle.std.specs.Prelude.{ℕ, List, [], ◌∷◌, length, Option, Some, None, nat_eq, ◌==◌, ◌&&◌, option_map, if◌then◌else◌, slice_index}
 use Rattle.std.specs.Cmp.Lexicographic.{pointwise}
 use Rattle.c_tokens.specs.declared.keyword.Keyword.{Keyword}
 use Rattle.c_tokens.specs.declared.keyword.Keyword.TheVariants as words
 use Rattle.c_tokens.specs.declared.punctuator.Punctuator.{Punctuator}
 use Rattle.c_tokens.specs.declared.punctuator.Punctuator.TheVariants.{LeftParenthesis, RightParenthesis, LeftBrace, RightBrace, LeftBracket, RightBracket, Semicolon, Comma, Question, Colon, Assign, Equal, NotEqual, Less, Greater, LessEqual, GreaterEqual, ShiftLeft, ShiftRight, Plus, Minus, Star, Slash, Percent, And, AndAnd, Or, OrOr, Caret, Tilde, Exclamation, Increment, Decrement, PlusAssign, MinusAssign, StarAssign, SlashAssign, PercentAssign, AndAssign, OrAssign, CaretAssign, ShiftLeftAssign, ShiftRightAssign}
+use Rattle.c_lexer.specs.Characters.{is_plain, escape_of}
 use Rattle.c_lexer.specs.Keywords.{keyword_text}
 
 -- the first of some values whose text the bytes are
@@ -52,68 +53,49 @@ keywords_of_length n =
 abbrev pub keyword_of : List ℕ → Option Keyword
 keyword_of bytes = lookup keyword_text (keywords_of_length (length bytes)) bytes
 
--- the punctuator of one byte
-abbrev pub alone : ℕ → Option Punctuator
-alone a =
-    if a == 40 then Some LeftParenthesis
-    else (if a == 41 then Some RightParenthesis
-    else (if a == 123 then Some LeftBrace
-    else (if a == 125 then Some RightBrace
-    else (if a == 91 then Some LeftBracket
-    else (if a == 93 then Some RightBracket
-    else (if a == 59 then Some Semicolon
-    else (if a == 44 then Some Comma
-    else (if a == 63 then Some Question
-    else (if a == 58 then Some Colon
-    else (if a == 61 then Some Assign
-    else (if a == 60 then Some Less
-    else (if a == 62 then Some Greater
-    else (if a == 43 then Some Plus
-    else (if a == 45 then Some Minus
-    else (if a == 42 then Some Star
-    else (if a == 47 then Some Slash
-    else (if a == 37 then Some Percent
-    else (if a == 38 then Some And
-    else (if a == 124 then Some Or
-    else (if a == 94 then Some Caret
-    else (if a == 126 then Some Tilde
-    else (if a == 33 then Some Exclamation
-    else None))))))))))))))))))))))
+-- the row of a byte in a table
+abbrev pub row_of : List (ℕ × Punctuator) → ℕ → Option Punctuator
+row_of [] b = None
+row_of (row ∷ rows) b = if b == row.0 then Some row.1 else row_of rows b
 
--- a byte and `=`
-abbrev pub with_equals : ℕ → Option Punctuator
-with_equals a =
-    if a == 61 then Some Equal
-    else (if a == 33 then Some NotEqual
-    else (if a == 60 then Some LessEqual
-    else (if a == 62 then Some GreaterEqual
-    else (if a == 43 then Some PlusAssign
-    else (if a == 45 then Some MinusAssign
-    else (if a == 42 then Some StarAssign
-    else (if a == 47 then Some SlashAssign
-    else (if a == 37 then Some PercentAssign
-    else (if a == 38 then Some AndAssign
-    else (if a == 124 then Some OrAssign
-    else (if a == 94 then Some CaretAssign
-    else None)))))))))))
+-- the punctuators of one byte
+abbrev pub alone : List (ℕ × Punctuator)
+alone = (40, LeftParenthesis) ∷ (41, RightParenthesis) ∷ (123, LeftBrace) ∷ (125, RightBrace) ∷ (91, LeftBracket) ∷ (93, RightBracket) ∷ (59, Semicolon) ∷ (44, Comma) ∷ (63, Question) ∷ (58, Colon) ∷ (61, Assign) ∷ (60, Less) ∷ (62, Greater) ∷ (43, Plus) ∷ (45, Minus) ∷ (42, Star) ∷ (47, Slash) ∷ (37, Percent) ∷ (38, And) ∷ (124, Or) ∷ (94, Caret) ∷ (126, Tilde) ∷ (33, Exclamation) ∷ []
 
--- a byte other than `=`, twice
-abbrev pub doubled : ℕ → Option Punctuator
-doubled a =
-    if a == 60 then Some ShiftLeft
-    else (if a == 62 then Some ShiftRight
-    else (if a == 38 then Some AndAnd
-    else (if a == 124 then Some OrOr
-    else (if a == 43 then Some Increment
-    else (if a == 45 then Some Decrement
-    else None)))))
+-- of a byte and `=`
+abbrev pub with_equals : List (ℕ × Punctuator)
+with_equals = (61, Equal) ∷ (33, NotEqual) ∷ (60, LessEqual) ∷ (62, GreaterEqual) ∷ (43, PlusAssign) ∷ (45, MinusAssign) ∷ (42, StarAssign) ∷ (47, SlashAssign) ∷ (37, PercentAssign) ∷ (38, AndAssign) ∷ (124, OrAssign) ∷ (94, CaretAssign) ∷ []
+
+-- of a byte other than `=`, twice
+abbrev pub doubled : List (ℕ × Punctuator)
+doubled = (60, ShiftLeft) ∷ (62, ShiftRight) ∷ (38, AndAnd) ∷ (124, OrOr) ∷ (43, Increment) ∷ (45, Decrement) ∷ []
 
 abbrev pub pair : ℕ → ℕ → Option Punctuator
-pair a b = if b == 61 then with_equals a else (if b == a then doubled a else None)
+pair a b = if b == 61 then row_of with_equals a else (if b == a then row_of doubled a else None)
 
 -- a byte twice and `=`
 abbrev pub triple : ℕ → ℕ → ℕ → Option Punctuator
 triple a b c =
     if (a == 60) && ((b == 60) && (c == 61)) then Some ShiftLeftAssign
     else (if (a == 62) && ((b == 62) && (c == 61)) then Some ShiftRightAssign
+    else None)
+
+-- what comes first, and with its length
+abbrev pub first_of : {A : Type 0} → Option A → Option A → Option A
+first_of (Some x) other = Some x
+first_of None other = other
+
+abbrev pub sized : ℕ → Option Punctuator → Option (Punctuator × ℕ)
+sized n None = None
+sized n (Some p) = Some (p, n)
+
+-- the longest punctuator that three bytes begin with, and its length
+abbrev pub longest_of : ℕ → ℕ → ℕ → Option (Punctuator × ℕ)
+longest_of a b c = first_of (sized 3 (triple a b c)) (first_of (sized 2 (pair a b)) (sized 1 (row_of alone a)))
+
+-- the value of the character constant whose bytes behind the quote begin so, and its length
+abbrev pub character_of : ℕ → ℕ → ℕ → Option (ℕ × ℕ)
+character_of a b c =
+    if is_plain a && (b == 39) then Some (a, 3)
+    else (if (a == 92) && (c == 39) then option_map (λ n. (n, 4)) (escape_of b)
     else None)

@@ -1,9 +1,11 @@
 //! Character constants (C99 6.4.4.4).
 
-ghost use Rattle.std.specs.Prelude.{◌≡◌, ◌<◌, ℕ, length, slice_index};
+ghost use Rattle.std.specs.Prelude.{◌≡◌, ◌<◌, length, slice_index};
 ghost use Rattle.c_lexer.specs.Characters.{is_plain, escape_of};
 ghost use Rattle.c_lexer.specs.Found.{IsFound};
+ghost use Rattle.c_lexer.specs.Lookups.{character_of};
 
+use crate::bytes::byte_at;
 use crate::errors::LexError;
 use crate::found::Found;
 use c_tokens::{Constant, IntegerType, TokenKind};
@@ -29,32 +31,37 @@ fn escape_of(e: u8) -> Option<u8>
     }
 }
 
-fn found(value: u8, len: usize) -> Found
-    ensures { result ≡ character_found value len }
+/// The value of the character constant whose bytes behind the quote begin so, and its length.
+fn value_of(a: u8, b: u8, c: u8) -> Option<(u8, usize)>
+    ensures { result ≡ character_of a b c }
 {
-    let constant = Constant {
-        value: u32::from(value),
-        kind: IntegerType::Int,
-    };
-    Found {
-        kind: Some(TokenKind::Constant(constant)),
-        len,
+    if is_plain(a) && b == b'\'' {
+        return Some((a, 3));
     }
+    if a == b'\\' && c == b'\'' {
+        let value = escape_of(b)?;
+        return Some((value, 4));
+    }
+    None
 }
 
 /// The character constant at the front of a text that begins with a quote.
 pub fn character(offset: usize, text: &[u8]) -> Result<Found, LexError>
-    requires quote { slice_index text.now 0 ≡ 39 }
     requires some { 0 < length text.now }
+    requires quote { slice_index text.now 0 ≡ 39 }
     ensures { IsFound offset text.now result }
 {
-    if text.len() >= 3 && is_plain(text[1]) && text[2] == b'\'' {
-        return Ok(found(text[1], 3));
-    }
-    if text.len() >= 4 && text[1] == b'\\' && text[3] == b'\'' {
-        if let Some(value) = escape_of(text[2]) {
-            return Ok(found(value, 4));
+    match value_of(byte_at(text, 1), byte_at(text, 2), byte_at(text, 3)) {
+        Some((value, len)) => {
+            let constant = Constant {
+                value: u32::from(value),
+                kind: IntegerType::Int,
+            };
+            Ok(Found {
+                kind: Some(TokenKind::Constant(constant)),
+                len,
+            })
         }
+        None => Err(LexError::BadChar(offset)),
     }
-    Err(LexError::BadChar(offset))
 }

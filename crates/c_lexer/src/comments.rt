@@ -1,6 +1,7 @@
 //! Comments (C99 6.4.9).
 
 ghost use Rattle.std.specs.Prelude.{◌≡◌, ◌≢◌, ◌<◌, ◌≤◌, ◌+◌, ℕ, length, drop, slice_index, MatchOption};
+ghost use Rattle.c_lexer.specs.Closings.{NoClose, IsFirstClose};
 ghost use Rattle.c_lexer.specs.Found.{IsFound};
 
 use crate::errors::LexError;
@@ -21,7 +22,7 @@ fn line_len(text: &[u8]) -> usize
 
 /// Where the first `*/` stands.
 fn close_of(text: &[u8]) -> Option<usize>
-    ensures { MatchOption result (NoClose text.now) (λ n. IsFirstClose text.now n) }
+    ensures { MatchOption result (NoClose text.now (length text.now)) (λ n. IsFirstClose text.now n) }
 {
     let mut n = 0;
     while n + 1 < text.len() {
@@ -38,7 +39,7 @@ pub fn line_comment(text: &[u8]) -> Found
     requires some { 1 < length text.now }
     requires first { slice_index text.now 0 ≡ 47 }
     requires second { slice_index text.now 1 ≡ 47 }
-    ensures { IsFound 0 text.now (Result.Ok result) }
+    ensures { IsFound 0 text.now (Ok result) }
 {
     Found {
         kind: None,

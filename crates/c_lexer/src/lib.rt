@@ -2,9 +2,15 @@
 #![tactic(auto)]
 
 mod bytes;
+mod characters;
+mod comments;
 mod errors;
 mod found;
 mod keywords;
+mod lexer;
+mod numbers;
+mod parts;
 mod punctuators;
+mod words;
 
 pub use errors::LexError;

@@ -5,6 +5,9 @@ ghost use Rattle.c_lexer.specs.Numbers.{digit_worth, number_of, is_hexadecimal, 
 
 use c_tokens::{Constant, IntegerType};
 
+/// The values of `int` are below it.
+const INT_LIMIT: u32 = 0x8000_0000;
+
 /// What a byte is worth as a digit; 16 where it is none.
 fn digit_worth(b: u8) -> u8
     ensures value { result ≡ digit_worth b }
@@ -82,13 +85,22 @@ pub fn constant(word: &[u8]) -> Option<Constant>
 {
     if is_suffixed(word) {
         let value = magnitude(&word[..word.len() - 1])?;
-        Some(Constant { value, kind: IntegerType::Unsigned })
+        Some(Constant {
+            value,
+            kind: IntegerType::Unsigned,
+        })
     } else {
         let value = magnitude(word)?;
-        if value <= i32::MAX as u32 {
-            Some(Constant { value, kind: IntegerType::Int })
+        if value < INT_LIMIT {
+            Some(Constant {
+                value,
+                kind: IntegerType::Int,
+            })
         } else if begins_with_zero(word) {
-            Some(Constant { value, kind: IntegerType::Unsigned })
+            Some(Constant {
+                value,
+                kind: IntegerType::Unsigned,
+            })
         } else {
             None
         }

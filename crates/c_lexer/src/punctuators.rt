@@ -1,12 +1,18 @@
 //! Punctuators (C99 6.4.6), the longest first.
 
-ghost use Rattle.std.specs.Prelude.{◌≡◌};
-ghost use Rattle.c_lexer.specs.Lookups.{alone, with_equals, doubled, pair, triple};
+ghost use Rattle.std.specs.Prelude.{◌≡◌, ◌≢◌, ◌<◌, length, slice_index, IsFalse};
+ghost use Rattle.c_lexer.specs.Bytes.{is_white, is_word_byte};
+ghost use Rattle.c_lexer.specs.Found.{IsFound};
+ghost use Rattle.c_lexer.specs.Lookups.{row_of, alone, with_equals, doubled, pair, triple, longest_of};
+ghost use Rattle.c_lexer.specs.Parts.{BeginsComment};
 
-use c_tokens::Punctuator;
+use crate::bytes::byte_at;
+use crate::errors::LexError;
+use crate::found::Found;
+use c_tokens::{Punctuator, TokenKind};
 
 fn alone(a: u8) -> Option<Punctuator>
-    ensures { result ≡ alone a }
+    ensures { result ≡ row_of alone a }
 {
     match a {
         b'(' => Some(Punctuator::LeftParenthesis),
@@ -37,7 +43,7 @@ fn alone(a: u8) -> Option<Punctuator>
 }
 
 fn with_equals(a: u8) -> Option<Punctuator>
-    ensures { result ≡ with_equals a }
+    ensures { result ≡ row_of with_equals a }
 {
     match a {
         b'=' => Some(Punctuator::Equal),
@@ -57,7 +63,7 @@ fn with_equals(a: u8) -> Option<Punctuator>
 }
 
 fn doubled(a: u8) -> Option<Punctuator>
-    ensures { result ≡ doubled a }
+    ensures { result ≡ row_of doubled a }
 {
     match a {
         b'<' => Some(Punctuator::ShiftLeft),
@@ -91,5 +97,38 @@ fn triple(a: u8, b: u8, c: u8) -> Option<Punctuator>
         Some(Punctuator::ShiftRightAssign)
     } else {
         None
+    }
+}
+
+/// The longest punctuator that three bytes begin with, and its length.
+fn longest(a: u8, b: u8, c: u8) -> Option<(Punctuator, usize)>
+    ensures { result ≡ longest_of a b c }
+{
+    if let Some(punctuator) = triple(a, b, c) {
+        return Some((punctuator, 3));
+    }
+    if let Some(punctuator) = pair(a, b) {
+        return Some((punctuator, 2));
+    }
+    let punctuator = alone(a)?;
+    Some((punctuator, 1))
+}
+
+/// The punctuator at the front of a text that begins neither with white space, a word, a quote nor a
+/// comment.
+pub fn punctuator(offset: usize, text: &[u8]) -> Result<Found, LexError>
+    requires some { 0 < length text.now }
+    requires no_white { IsFalse (is_white (slice_index text.now 0)) }
+    requires no_word { IsFalse (is_word_byte (slice_index text.now 0)) }
+    requires no_quote { slice_index text.now 0 ≢ 39 }
+    requires no_comment { BeginsComment text.now → ⊥ }
+    ensures { IsFound offset text.now result }
+{
+    match longest(byte_at(text, 0), byte_at(text, 1), byte_at(text, 2)) {
+        Some((punctuator, len)) => Ok(Found {
+            kind: Some(TokenKind::Punctuator(punctuator)),
+            len,
+        }),
+        None => Err(LexError::BadByte(offset)),
     }
 }

@@ -1,8 +1,10 @@
 //! Words: names, keywords and numbers.
 
-ghost use Rattle.std.specs.Prelude.{◌≡◌, ◌<◌, ◌≤◌, ℕ, length, take, drop, slice_index, IsTrue, IsFalse};
+ghost use Rattle.std.specs.Prelude.{◌≡◌, ◌<◌, ◌≤◌, ℕ, length, take, drop, slice_index, IsTrue, IsFalse, IfOk, MatchOption};
 ghost use Rattle.c_lexer.specs.Bytes.{is_word_byte};
+ghost use Rattle.c_lexer.specs.Faults.{IsRefused};
 ghost use Rattle.c_lexer.specs.Found.{IsFound};
+ghost use Rattle.c_lexer.specs.Lexemes.{IsWord, Spells};
 
 use crate::bytes::is_word_byte;
 use crate::errors::LexError;
@@ -26,6 +28,26 @@ fn word_len(text: &[u8]) -> usize
     n
 }
 
+/// The token that a word spells; none where it begins with a digit and is no constant.
+fn kind_of(alloc: Global, word: &[u8]) -> Result<Option<TokenKind>, NoMemory>
+    requires { IsWord word.now }
+    ensures { IfOk result (λ kind. MatchOption kind (IsRefused word.now) (λ k. Spells k word.now)) }
+{
+    if word[0].is_ascii_digit() {
+        return match constant(word) {
+            Some(constant) => Ok(Some(TokenKind::Constant(constant))),
+            None => Ok(None),
+        };
+    }
+    match keyword(word) {
+        Some(keyword) => Ok(Some(TokenKind::Keyword(keyword))),
+        None => {
+            let name = Row::from_vec(Vec::from_slice(alloc, word)?);
+            Ok(Some(TokenKind::Name(name)))
+        }
+    }
+}
+
 /// The word at the front of a text.
 pub fn word(alloc: Global, offset: usize, text: &[u8]) -> Result<Found, LexError>
     requires first { IsTrue (is_word_byte (slice_index text.now 0)) }
@@ -33,20 +55,12 @@ pub fn word(alloc: Global, offset: usize, text: &[u8]) -> Result<Found, LexError
     ensures { IsFound offset text.now result }
 {
     let len = word_len(text);
-    let word = &text[..len];
-    let kind = if word[0].is_ascii_digit() {
-        match constant(word) {
-            Some(constant) => TokenKind::Constant(constant),
-            None => return Err(LexError::LiteralRange(offset)),
-        }
-    } else {
-        match keyword(word) {
-            Some(keyword) => TokenKind::Keyword(keyword),
-            None => TokenKind::Name(Row::from_vec(Vec::from_slice(alloc, word)?)),
-        }
-    };
-    Ok(Found {
-        kind: Some(kind),
-        len,
-    })
+    let kind = kind_of(alloc, &text[..len])?;
+    match kind {
+        Some(kind) => Ok(Found {
+            kind: Some(kind),
+            len,
+        }),
+        None => Err(LexError::LiteralRange(offset)),
+    }
 }

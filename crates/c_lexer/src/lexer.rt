@@ -1,0 +1,33 @@
+//! The whole text.
+
+ghost use Rattle.std.specs.Prelude.{◌≡◌, ◌≢◌, IfOk, IfErr, MatchResult, List};
+ghost use Rattle.c_tokens.specs.declared.token.Token.{Token};
+ghost use Rattle.c_lexer.specs.Faults.{HasFault};
+ghost use Rattle.c_lexer.specs.Texts.{HasTokens};
+
+use crate::errors::LexError;
+use crate::parts::first_part;
+use c_tokens::Token;
+use std::alloc::Global;
+
+/// Reads part after part, up to the end or the first fault.
+fn read(alloc: Global, text: &[u8]) -> Result<Vec<Token>, LexError>
+    ensures ok { IfOk result (λ tokens. HasTokens text.now tokens.items) }
+    ensures err { IfErr result (λ e. e ≢ LexError.NoMemory → HasFault text.now e) }
+{
+    let mut tokens = Vec::new(alloc);
+    let mut at = 0;
+    while at < text.len() {
+        let found = first_part(alloc, at, &text[at..])?;
+        let end = at + found.len;
+        if let Some(kind) = found.kind {
+            tokens.push(Token {
+                kind,
+                start: at,
+                end,
+            })?;
+        }
+        at = end;
+    }
+    Ok(tokens)
+}
