@@ -54,6 +54,12 @@ character_length : (bytes : List ℕ) (n : ℕ) → IsCharacter bytes n → leng
 character_length bytes n (IsCharacter.plain is e) = omega (arith, ap (λ (l : List ℕ). length l) e)
 character_length bytes n (IsCharacter.escape c is e) = omega (arith, ap (λ (l : List ℕ). length l) e)
 
+pub plain_found : (a c : ℕ) → is_plain a ≡ true → character_of a 39 c ≡ Some (a, 3)
+plain_found a c is = ap (λ b. cond (b && true) (found a 3) (cond (eqb a 92 && eqb c 39) (option_map {U = ℕ × ℕ} (λ n. (n, 4)) (escape_of 39)) None)) is
+
+pub escape_found : (b n : ℕ) → escape_of b ≡ Some n → character_of 92 b 39 ≡ Some (n, 4)
+escape_found b n is = ap (λ (o : Option ℕ). option_map {U = ℕ × ℕ} (λ n. (n, 4)) o) is
+
 module _ (text : List ℕ) (quote : get_or text 0 0 ≡ 39) where
   plain_most : (v : ℕ) → is_plain v ≡ true → get_or text 1 0 ≡ v → (other behind : List ℕ) (n : ℕ) → IsCharacter other n → text ≡ other ++ behind → length other ≤ 3
   plain_most v is second other behind n (IsCharacter.plain here e) split = omega (arith, ap (λ (l : List ℕ). length l) e)
@@ -101,12 +107,6 @@ module _ (text : List ℕ) (quote : get_or text 0 0 ≡ 39) where
           no_comment = λ c. absurd (omega (arith, quote, comment_first text (subst BeginsComment (take-append-drop len text) c)));
         },
       )
-
-  plain_found : (a c : ℕ) → is_plain a ≡ true → character_of a 39 c ≡ Some (a, 3)
-  plain_found a c is = ap (λ b. cond (b && true) (found a 3) (cond (eqb a 92 && eqb c 39) (option_map {U = ℕ × ℕ} (λ n. (n, 4)) (escape_of 39)) None)) is
-
-  escape_found : (b n : ℕ) → escape_of b ≡ Some n → character_of 92 b 39 ≡ Some (n, 4)
-  escape_found b n is = ap (λ (o : Option ℕ). option_map {U = ℕ × ℕ} (λ n. (n, 4)) o) is
 
   no_character : character_of (get_or text 1 0) (get_or text 2 0) (get_or text 3 0) ≡ None → (bytes rest : List ℕ) (n : ℕ) → IsCharacter bytes n → text ≢ bytes ++ rest
   no_character none bytes rest n (IsCharacter.plain is e) split =

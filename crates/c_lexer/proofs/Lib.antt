@@ -2,6 +2,8 @@ pub mod CharacterFronts
 pub mod CommentFronts
 pub mod IntConstants
 pub mod KeywordTexts
+pub mod Lexed
+pub mod OneReading
 pub mod PunctuatorFronts
 pub mod Sequences
 pub mod Starts

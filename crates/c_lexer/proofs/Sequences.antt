@@ -1,10 +1,13 @@
 -- The parts of a text, one behind the other.
-use Rattle.std.proofs.Common.{◌≡◌, ℕ, ◌+◌, ◌<◌, ◌≤◌, Option, Some, None, List, [], ◌∷◌, ◌++◌, length, take, drop, refl, sym, ap, ◌∙◌, subst, arith, append_assoc, length-append, length-take-le, take-append-drop}
-use Rattle.std.proofs.lemmas.List.{append-nil, drop-drop, drop_all}
+use Rattle.std.proofs.Common.{◌≡◌, ℕ, ◌+◌, ◌-◌, ◌<◌, ◌≤◌, Result, Ok, Err, Option, Some, None, List, [], ◌∷◌, ◌++◌, length, take, drop, refl, sym, ap, ◌∙◌, subst, arith, append_assoc, length-append, length-drop, length-take-le, take-append-drop}
+use Rattle.std.proofs.lemmas.List.{append-nil, drop-drop, drop_all, take_rest}
 use Rattle.c_tokens.specs.declared.token.Token.{Token}
 use Rattle.c_tokens.specs.declared.token.TokenKind.{TokenKind}
+use Rattle.c_lexer.specs.declared.found.Found.{Found}
+use Rattle.c_lexer.specs.Found.{IsFound}
 use Rattle.c_lexer.specs.Parts.{IsPart}
 use Rattle.c_lexer.specs.Texts.{Part, bytes_of, AreParts, token_of, tokens_of, ReadsTo, HasTokens}
+use Rattle.c_lexer.proofs.Unique.{part_some}
 
 bytes_push : (parts : List Part) (p : Part) → bytes_of (parts ++ p ∷ []) ≡ bytes_of parts ++ p.bytes
 bytes_push [] p = append-nil p.bytes
@@ -47,3 +50,32 @@ pub reads_all : (text : List ℕ) (tokens : List Token) (at : ℕ) → ReadsTo t
 reads_all text tokens at reads low high =
     let end : at ≡ length text = omega arith in
     subst (ReadsTo text tokens (length text)) (drop_all at text high) (subst (λ n. ReadsTo text tokens n (drop at text)) end reads)
+
+-- what is found at the front of a slice that goes on to the end of the text
+found_behind : (text : List ℕ) (at : ℕ) (f : Found) → IsFound at (take (length text - at) (drop at text)) (Ok f) → IsFound at (drop at text) (Ok f)
+found_behind text at f is = subst (λ (l : List ℕ). IsFound at l (Ok f)) (take_rest text at) is
+
+module _ (text : List ℕ) (tokens : List Token) (at : ℕ) (f : Found) (reads : ReadsTo text tokens at (drop at text)) (is : IsFound at (take (length text - at) (drop at text)) (Ok f)) where
+  pub found_len : at ≤ length text → at + f.len ≤ length text
+  found_len fits = let found = found_behind text at f is in let behind = length-drop at text in let len : f.len ≤ length (drop at text) = found.0 in omega arith
+
+  next : (kind : Option TokenKind) → f.kind ≡ kind → ReadsTo text (tokens ++ token_of at (take f.len (drop at text)) kind) (at + f.len) (drop (at + f.len) text)
+  next kind e =
+      let found = found_behind text at f is in
+      reads_more text tokens at f.len kind reads found.0 (subst (λ k. IsPart k (take f.len (drop at text)) (drop f.len (drop at text))) e found.1)
+
+  pub read_token : (kind : TokenKind) → f.kind ≡ Some kind → ReadsTo text (tokens ++ record { kind = kind; start = at; end = at + f.len } ∷ []) (at + f.len) (drop (at + f.len) text)
+  read_token kind e =
+      let found = found_behind text at f is in
+      let len : length (take f.len (drop at text)) ≡ f.len = length-take-le f.len (drop at text) found.0 in
+      subst (λ n. ReadsTo text (tokens ++ record { kind = kind; start = at; end = at + n } ∷ []) (at + f.len) (drop (at + f.len) text)) len (next (Some kind) e)
+
+  pub read_gap : f.kind ≡ None → ReadsTo text tokens (at + f.len) (drop (at + f.len) text)
+  read_gap e = subst (λ (l : List Token). ReadsTo text l (at + f.len) (drop (at + f.len) text)) (append-nil tokens) (next None e)
+
+  pub found_some : 0 < f.len
+  found_some =
+      let found = found_behind text at f is in
+      let len : length (take f.len (drop at text)) ≡ f.len = length-take-le f.len (drop at text) found.0 in
+      let some = part_some f.kind (take f.len (drop at text)) (drop f.len (drop at text)) found.1 in
+      omega arith

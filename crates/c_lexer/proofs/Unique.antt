@@ -60,7 +60,7 @@ kind_of_number bytes word digit = kind_of_word bytes (word_first bytes word) ∙
 
 kind_of_name : (bytes : List ℕ) → IsWord bytes → begins_with_digit bytes ≡ false → kind_of bytes ≡ Some (word_kind bytes (keyword_of bytes))
 unfolding of_word
-kind_of_name bytes word no = kind_of_word bytes (word_first bytes word) ∙ ap (λ b. cond b (option_map (λ c. kinds.Constant c) (constant_of bytes)) (Some (word_kind bytes (keyword_of bytes)))) no
+kind_of_name bytes word letter = kind_of_word bytes (word_first bytes word) ∙ ap (λ b. cond b (option_map (λ c. kinds.Constant c) (constant_of bytes)) (Some (word_kind bytes (keyword_of bytes)))) letter
 
 no_keyword_kind : (bytes : List ℕ) → ((k : Keyword) → bytes ≢ keyword_text k) → (o : Option Keyword) → keyword_of bytes ≡ o → word_kind bytes o ≡ kinds.Name bytes
 unfolding word_kind

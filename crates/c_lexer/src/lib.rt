@@ -14,3 +14,4 @@ mod punctuators;
 mod words;
 
 pub use errors::LexError;
+pub use lexer::lex;
