@@ -1,12 +1,11 @@
 -- An answer that is right where it is one is the only one.
-use Rattle.std.proofs.Common.{◌≡◌, ◌≢◌, ℕ, List, Result, Ok, Err, Option, Some, None, refl, sym}
+use Rattle.std.proofs.Common.{◌≡◌, ◌≢◌, ℕ, List, Result, Ok, Err, Option, Some, None, refl}
 use Rattle.std.specs.Prelude.{IfOk, IfErr, IsErrAnd, MatchResult}
 use Rattle.std.specs.Global.{Vec}
 use Rattle.c_tokens.specs.declared.token.Token.{Token}
-use Rattle.c_lexer.specs.declared.errors.LexError.{LexError}
-use Rattle.c_lexer.specs.declared.errors.LexError.TheVariants.{NoMemory, BadByte, OpenComment, LiteralRange, BadChar}
-use Rattle.c_lexer.specs.Faults.{HasFault}
-use Rattle.c_lexer.specs.Texts.{HasTokens}
+use Rattle.c_parts.specs.declared.errors.LexError.{LexError}
+use Rattle.c_parts.specs.declared.errors.LexError.TheVariants.{NoMemory, BadByte, OpenComment, LiteralRange, BadChar}
+use Rattle.c_lexer.specs.Texts.{HasTokens, HasFault}
 use Rattle.c_lexer.proofs.OneReading.{same_tokens, no_fault, one_fault}
 
 pub none_left : {A : Type 0} (o : Option A) → ((x : A) → o ≡ Some x → ⊥) → o ≡ None

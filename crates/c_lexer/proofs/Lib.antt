@@ -1,12 +1,4 @@
-pub mod CharacterFronts
-pub mod CommentFronts
-pub mod IntConstants
-pub mod KeywordTexts
 pub mod Lexed
 pub mod OneReading
-pub mod PunctuatorFronts
 pub mod Sequences
-pub mod Starts
 pub mod Unique
-pub mod WordFronts
-pub mod Worths

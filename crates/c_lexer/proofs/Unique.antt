@@ -1,6 +1,8 @@
 -- At most one part, and no fault beside it, begins at a place: so a text has one reading.
-use Rattle.std.proofs.Common.{◌≡◌, ◌≢◌, ℕ, ◌+◌, ◌<◌, ◌≤◌, Bool, true, false, cond, eqb, Option, Some, None, List, [], ◌∷◌, ◌++◌, length, get_or, take, drop, refl, sym, ap, ◌∙◌, subst, arith, ◌⊎◌, ⊎_elim, inl, inr, append_assoc}
+use Rattle.std.proofs.Common.{◌≡◌, ◌≢◌, ℕ, ◌<◌, ◌≤◌, Bool, true, false, cond, eqb, Option, Some, None, List, [], ◌∷◌, ◌++◌, length, get_or, take, refl, sym, ap, ◌∙◌, subst, arith, ⊎_elim, inl, inr, append_assoc}
 use Rattle.std.specs.Prelude.{codes, All, option_map}
+use Rattle.std.proofs.lemmas.Bool.{ltb-true}
+use Rattle.std.proofs.lemmas.List.Sums.{AllPass-from_list_all}
 use Rattle.std.proofs.lemmas.Bool.Decides.{nat_tests}
 use Rattle.std.proofs.lemmas.List.{append_cancel_left, take_at, get_or_at}
 use Rattle.std.proofs.str.Laws.{order}
@@ -11,17 +13,20 @@ use Rattle.c_tokens.specs.declared.punctuator.Punctuator.{Punctuator}
 use Rattle.c_tokens.specs.declared.punctuator.Punctuator.TheVariants.{Slash}
 use Rattle.c_tokens.specs.declared.token.TokenKind.{TokenKind}
 use Rattle.c_tokens.specs.declared.token.TokenKind.TheVariants as kinds
-use Rattle.c_lexer.specs.Bytes.{is_white, is_word_byte, begins_with_digit}
-use Rattle.c_lexer.specs.Characters.{IsCharacter}
-use Rattle.c_lexer.specs.Keywords.{keyword_text}
-use Rattle.c_lexer.specs.Lexemes.{IsWord, IsLexeme, IsLongest, IsName, IsNumber, Spells}
-use Rattle.c_lexer.specs.Lookups.{keyword_of, character_of, longest_of}
-use Rattle.c_lexer.specs.Numbers.{constant_of}
-use Rattle.c_lexer.specs.Parts.{IsLineEnd, ClosesFirst, IsGap, BeginsComment, IsToken, IsPart}
-use Rattle.c_lexer.specs.Punctuators.{punctuator_text}
-use Rattle.c_lexer.proofs.CharacterFronts.{plain_found, escape_found}
-use Rattle.c_lexer.proofs.KeywordTexts.{keyword_is, keyword_found, keyword_word, keyword_no_digit}
-use Rattle.c_lexer.proofs.Starts.{some_is, none_some, found, byte_of_front, length_of_front, word_first, punctuator_first, punctuator_white, punctuator_some, punctuator_quote, character_first, character_some, lexeme_some, comment_first, not_both}
+use Rattle.c_spellings.specs.Bytes.{is_white, is_word_byte, begins_with_digit}
+use Rattle.c_spellings.specs.Characters.{IsCharacter}
+use Rattle.c_spellings.specs.Keywords.{keyword_text}
+use Rattle.c_parts.specs.Lexemes.{IsWord, IsLexeme, IsLongest, IsNumber, Spells}
+use Rattle.c_spellings.specs.Lookups.{keyword_of, character_of, longest_of}
+use Rattle.c_spellings.specs.Numbers.{constant_of}
+use Rattle.c_parts.specs.Parts.{IsLineEnd, IsGap, IsToken, IsPart}
+use Rattle.c_spellings.specs.Punctuators.{punctuator_text}
+use Rattle.c_parts.proofs.CharacterFronts.{plain_found, escape_found}
+use Rattle.c_spellings.proofs.KeywordTexts.{keyword_is, keyword_found, keyword_bytes, keyword_some, keyword_no_digit}
+use Rattle.c_parts.proofs.Starts.{some_is, none_some, byte_of_front, length_of_front, word_first, punctuator_white, character_first, lexeme_some, not_both}
+
+keyword_word : (k : Keyword) → IsWord (keyword_text k)
+keyword_word k = record { some = ltb-true 0 (length (keyword_text k)) (keyword_some k); all = AllPass-from_list_all is_word_byte (keyword_text k) (keyword_bytes k) }
 
 -- What spells a token is a lexeme.
 pub spelled_lexeme : (k : TokenKind) (bytes : List ℕ) → Spells k bytes → IsLexeme bytes

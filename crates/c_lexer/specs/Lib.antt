@@ -1,13 +1,1 @@
-pub mod Bytes
-pub mod Characters
-pub mod Closings
-pub mod Faults
-pub mod Found
-pub mod Keywords
-pub mod Lexemes
-pub mod Lookups
-pub mod Numbers
-pub mod Parts
-pub mod Punctuators
-pub mod Refusals
 pub mod Texts

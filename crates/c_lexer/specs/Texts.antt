@@ -1,8 +1,10 @@
--- The tokens of a text.
+-- The tokens of a text, and its first fault.
 use Rattle.std.specs.Prelude.{◌≡◌, ℕ, ◌+◌, List, [], ◌∷◌, ◌++◌, length, Option, Some, None, flat_map}
 use Rattle.c_tokens.specs.declared.token.Token.{Token}
 use Rattle.c_tokens.specs.declared.token.TokenKind.{TokenKind}
-use Rattle.c_lexer.specs.Parts.{IsPart}
+use Rattle.c_parts.specs.declared.errors.LexError.{LexError}
+use Rattle.c_parts.specs.Faults.{IsFaultAt}
+use Rattle.c_parts.specs.Parts.{IsPart}
 
 -- a part: its bytes, and the token that it is, or none
 pub record Part : Type 0 where
@@ -38,3 +40,11 @@ pub record ReadsTo (text : List ℕ) (tokens : List Token) (offset : ℕ) (rest 
 -- These are the tokens of the text.
 abbrev pub HasTokens : List ℕ → List Token → Type 0
 HasTokens text tokens = ReadsTo text tokens (length text) []
+
+-- The text has tokens up to this fault, which is the first.
+pub record HasFault (text : List ℕ) (e : LexError) : Type 0 where
+  pub tokens : List Token
+  pub offset : ℕ
+  pub rest : List ℕ
+  pub reads : ReadsTo text tokens offset rest
+  pub fault : IsFaultAt offset rest e

@@ -2,12 +2,10 @@
 
 ghost use Rattle.std.specs.Prelude.{◌≡◌, ◌≢◌, IfOk, IfErr, IsErrAnd, MatchResult, List};
 ghost use Rattle.c_tokens.specs.declared.token.Token.{Token};
-ghost use Rattle.c_lexer.specs.declared.errors.LexError.{LexError};
-ghost use Rattle.c_lexer.specs.Faults.{HasFault};
-ghost use Rattle.c_lexer.specs.Texts.{HasTokens};
+ghost use Rattle.c_parts.specs.declared.errors.LexError.{LexError};
+ghost use Rattle.c_lexer.specs.Texts.{HasFault, HasTokens};
 
-use crate::errors::LexError;
-use crate::parts::first_part;
+use c_parts::{LexError, first_part};
 use c_tokens::Token;
 use std::alloc::Global;
 
