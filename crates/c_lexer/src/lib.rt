@@ -2,6 +2,8 @@
 #![tactic(auto)]
 
 mod lexer;
+#[cfg(test)]
+mod tests;
 
 pub use c_parts::LexError;
 pub use lexer::lex;

@@ -1,13 +1,11 @@
 -- What is refused, and where.
 use Rattle.std.specs.Prelude.{◌≡◌, ◌≢◌, ℕ, List, ◌∷◌, ◌++◌, None, IsTrue, IsFalse, codes}
-use Rattle.c_tokens.specs.declared.token.Token.{Token}
 use Rattle.c_parts.specs.declared.errors.LexError.{LexError}
 use Rattle.c_parts.specs.declared.errors.LexError.TheVariants.{NoMemory, BadByte, OpenComment, LiteralRange, BadChar}
 use Rattle.c_spellings.specs.Bytes.{is_white, begins_with_digit}
 use Rattle.c_spellings.specs.Characters.{IsCharacter}
 use Rattle.c_parts.specs.Lexemes.{IsWord, IsLexeme, IsLongest}
 use Rattle.c_spellings.specs.Numbers.{constant_of}
-use Rattle.c_lexer.specs.Texts.{ReadsTo}
 
 -- a byte that begins nothing, and is no quote
 pub record IsBadByte (text : List ℕ) : Type 0 where
