@@ -1,0 +1,4 @@
+pub mod Lexed
+pub mod OneReading
+pub mod Sequences
+pub mod Unique

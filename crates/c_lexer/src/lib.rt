@@ -1,0 +1,9 @@
+//! The lexer: from the bytes of a C text to its tokens (C99 6.4, cut to this project's profile).
+#![tactic(auto)]
+
+mod lexer;
+#[cfg(test)]
+mod tests;
+
+pub use c_parts::LexError;
+pub use lexer::lex;

@@ -1,0 +1,3 @@
+pub mod IntConstants
+pub mod KeywordTexts
+pub mod Worths

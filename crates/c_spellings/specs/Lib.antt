@@ -1,0 +1,6 @@
+pub mod Bytes
+pub mod Characters
+pub mod Keywords
+pub mod Lookups
+pub mod Numbers
+pub mod Punctuators
