@@ -1,0 +1,1 @@
+//! Which operators the signs stand for.
