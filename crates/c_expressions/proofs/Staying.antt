@@ -145,15 +145,16 @@ module _ (less more : Levels) (below_stays : (level : ℕ) (ts : List Token) →
     unfolding chain
     chain_stays level zero zero left ts many = by_next_stays (next level ts) (λ o. Err TooDeep) (λ o. Err TooDeep) (Err TooDeep) (Err TooDeep) (left, ts) (λ o. inl refl) (inl refl)
     chain_stays level zero (suc count) left ts many =
-        by_next_stays (next level ts) (λ o. Err TooDeep) (λ o. if_room wide left (operated more o left ts >>= (λ whole. chain more wide level count whole.0 whole.1))) (Err TooDeep) (if_room wide left (chosen more left ts)) (left, ts) (λ o. inl refl) (inl refl)
+        by_next_stays (next level ts) (λ o. Err TooDeep) (λ o. if_room wide left (operated more o left ts) >>= (λ whole. chain more wide level count whole.0 whole.1)) (Err TooDeep) (if_room wide left (chosen more left ts)) (left, ts) (λ o. inl refl) (inl refl)
     chain_stays level (suc few) zero left ts many = absurd (omega arith)
     chain_stays level (suc few) (suc count) left ts many =
         by_next_stays (next level ts)
-        (λ o. if_room room left (operated less o left ts >>= (λ whole. chain less room level few whole.0 whole.1)))
-        (λ o. if_room wide left (operated more o left ts >>= (λ whole. chain more wide level count whole.0 whole.1)))
+        (λ o. if_room room left (operated less o left ts) >>= (λ whole. chain less room level few whole.0 whole.1))
+        (λ o. if_room wide left (operated more o left ts) >>= (λ whole. chain more wide level count whole.0 whole.1))
         (if_room room left (chosen less left ts))
         (if_room wide left (chosen more left ts))
         (left, ts)
-        (λ o. if_room_stays left (operated less o left ts >>= (λ whole. chain less room level few whole.0 whole.1)) (operated more o left ts >>= (λ whole. chain more wide level count whole.0 whole.1))
-          (stays_bind (operated less o left ts) (operated more o left ts) (λ whole. chain less room level few whole.0 whole.1) (λ whole. chain more wide level count whole.0 whole.1) (operated_stays o left ts) (λ whole _. chain_stays level few count whole.0 whole.1 (omega arith))))
+        (λ o. stays_bind (if_room room left (operated less o left ts)) (if_room wide left (operated more o left ts)) (λ whole. chain less room level few whole.0 whole.1) (λ whole. chain more wide level count whole.0 whole.1)
+          (if_room_stays left (operated less o left ts) (operated more o left ts) (operated_stays o left ts))
+          (λ whole _. chain_stays level few count whole.0 whole.1 (omega arith)))
         (if_room_stays left (chosen less left ts) (chosen more left ts) (chosen_stays left ts))

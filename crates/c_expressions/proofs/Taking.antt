@@ -243,11 +243,11 @@ module _ (below : Levels) (room : ℕ) (below_takes : (level : ℕ) (ts : List T
         | Stop ↦ λ is e. stop_takes level m whole left ts r le before is e
       ] refl e
   chain_takes level (suc count) m whole left ts r le before e =
-      elim (next level ts) as (λ n. next level ts ≡ n → by_next n (λ o. if_room room left (operated below o left ts >>= (λ whole. chain below room level count whole.0 whole.1))) (if_room room left (chosen below left ts)) (Ok (left, ts)) ≡ Ok r → Reads (suc room) level whole r) [
+      elim (next level ts) as (λ n. next level ts ≡ n → by_next n (λ o. if_room room left (operated below o left ts) >>= (λ whole. chain below room level count whole.0 whole.1)) (if_room room left (chosen below left ts)) (Ok (left, ts)) ≡ Ok r → Reads (suc room) level whole r) [
         | Operator o ↦ λ is e.
-            let fits = room_is left (operated below o left ts >>= (λ whole. chain below room level count whole.0 whole.1)) r e in
-            let w = bind_ok (operated below o left ts) (λ whole. chain below room level count whole.0 whole.1) r fits.1 in
-            let now = operated_takes level m whole left o ts w.0 before fits.0 is w.1 in
+            let w = bind_ok (if_room room left (operated below o left ts)) (λ whole. chain below room level count whole.0 whole.1) r e in
+            let fits = room_is left (operated below o left ts) w.0 w.1 in
+            let now = operated_takes level m whole left o ts w.0 before fits.0 is fits.1 in
             chain_takes level count (binding o) whole w.0.0 w.0.1 r now.0 now.1 w.2
         | Choice ↦ λ is e.
             let fits = room_is left (chosen below left ts) r e in

@@ -46,7 +46,7 @@ unfoldable pub chain : Levels → (room level count : ℕ) → ExpressionTree �
 chain below room level zero left ts = by_next (next level ts) (λ o. Err TooDeep) (Err TooDeep) (Ok (left, ts))
 chain below room level (suc count) left ts =
     by_next (next level ts)
-    (λ o. if_room room left (operated below o left ts >>= (λ whole. chain below room level count whole.0 whole.1)))
+    (λ o. if_room room left (operated below o left ts) >>= (λ whole. chain below room level count whole.0 whole.1))
     (if_room room left (chosen below left ts))
     (Ok (left, ts))
 

@@ -2,6 +2,7 @@
 //! long as they bind strongly enough. It is bounded by a room: what is higher is refused.
 #![tactic(auto)]
 
+mod measured;
 mod next;
 mod operators;
 mod reading;
