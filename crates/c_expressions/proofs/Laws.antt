@@ -31,7 +31,8 @@ deep_takes : (ts : List Token) (r : Found) → deep begins_operand ts ≡ Ok r �
 deep_takes [] r e = cc
 deep_takes (t ∷ ts) r e = deep_gives_none (begins_operand t.kind) t ts r e
 
-reads : (room level : ℕ) (ts : List Token) (r : Found) → expression_at room level ts ≡ Ok r → Reads room level ts r
+-- the same, of both at once
+pub reads : (room level : ℕ) (ts : List Token) (r : Found) → expression_at room level ts ≡ Ok r → Reads room level ts r
 unfolding expression_at
 reads zero level ts r e = absurd (deep_takes ts r e)
 reads (suc room) level ts r e =
