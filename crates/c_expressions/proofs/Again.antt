@@ -187,10 +187,13 @@ module _ (below : Levels) (room : ℕ) (below_again : (level : ℕ) (t : Express
       let colon : Ends 0 (p.1 ++ rest) = rw split (ends_behind P.Colon refl refl refl 0 q.0 (q.1 ++ rest) q.2) in
       let first = below_again 0 a p.0 (p.1 ++ rest) p.2 low colon in
       rw (
-        parts_behind ts s.0 s.1 rest s.4, sign_again P.Question s.0 (s.1 ++ rest) s.2,
-        parts_behind s.1 p.0 p.1 rest p.4, first,
-        split, sign_again P.Colon q.0 (q.1 ++ rest) q.2,
-        below_again 0 b q.1 rest q.3 low' ends
+        parts_behind ts s.0 s.1 rest s.4,
+        sign_again P.Question s.0 (s.1 ++ rest) s.2,
+        parts_behind s.1 p.0 p.1 rest p.4,
+        first,
+        split,
+        sign_again P.Colon q.0 (q.1 ++ rest) q.2,
+        below_again 0 b q.1 rest q.3 low' ends,
       ) refl
 
   chain_operator : (level count : ℕ) (o : BinaryOperator) (a b : ExpressionTree) (ts rest : List Token) → level ≤ binding o → (Sign (binary_sign o) ⨾ IsExpressionAt (suc (binding o)) b) ts → expression_height a ≤ room → expression_height b ≤ room → Ends (suc (binding o)) rest → chain below room level (suc count) a (ts ++ rest) ≡ chain below room level count (E.Binary o a b) rest

@@ -1,5 +1,6 @@
 -- What is read is spelled so, what is spelled so is read, and more room changes nothing but what was too high.
-use Rattle.std.proofs.Common.{◌≡◌, ℕ, zero, suc, ◌+◌, ◌≤◌, Bool, true, false, cond, List, [], ◌∷◌, ◌++◌, Result, Ok, Err, inl, inr, arith}
+use Rattle.std.proofs.Common.{◌≡◌, ℕ, zero, suc, ◌+◌, ◌≤◌, Bool, true, false, cond, List, [], ◌∷◌, ◌++◌, Result, Ok, Err, inl, inr, sym, ap, ◌∙◌, arith}
+use Rattle.std.specs.Prelude.{max}
 use Rattle.c_tokens.specs.declared.token.Token.{Token}
 use Rattle.c_tree.specs.Trees.{ExpressionTree}
 use Rattle.c_tree.specs.Signs.{operand_level}
@@ -8,11 +9,11 @@ use Rattle.c_tree.specs.Heights.{expression_height}
 use Rattle.c_reading.specs.declared.fault.Fault.{Fault}
 use Rattle.c_reading.specs.declared.fault.Fault.TheVariants.{TooDeep}
 use Rattle.c_reading.specs.Reading.{misfit, deep, Takes, Stays}
-use Rattle.c_reading.proofs.Laws.{bind_ok, stays_refl, stays_bind}
+use Rattle.c_reading.proofs.Laws.{ok_is, bind_ok, stays_refl, stays_bind}
 use Rattle.c_expressions.specs.Operators.{begins_operand, Stops, Ends}
 use Rattle.c_expressions.specs.Operands.{operand}
 use Rattle.c_expressions.specs.Reading.{chain, expression_at}
-use Rattle.c_expressions.proofs.Continuing.{stops_operand, height-positive}
+use Rattle.c_expressions.proofs.Continuing.{stops_operand, ends_nothing, height-positive}
 use Rattle.c_expressions.proofs.Taking.{Found, Reads, operand_takes, chain_takes}
 use Rattle.c_expressions.proofs.Again.{level_again}
 use Rattle.c_expressions.proofs.Staying.{deep_stays, operand_stays, chain_stays}
@@ -66,3 +67,11 @@ expression_stays (suc room) (suc more) level ts le =
     stays_bind (operand (expression_at room) ts) (operand (expression_at more) ts) (λ left. chain (expression_at room) room level room left.0 left.1) (λ left. chain (expression_at more) more level more left.0 left.1)
     (operand_stays (expression_at room) (expression_at more) below ts)
     (λ left _. chain_stays (expression_at room) (expression_at more) below room more (omega arith) level room more left.0 left.1 (omega arith))
+
+-- No two trees are spelled by the same tokens: with room for both, the reader gives one.
+pub one_tree : (t u : ExpressionTree) (ts : List Token) → IsExpressionAt 0 t ts → IsExpressionAt 0 u ts → t ≡ u
+one_tree t u ts s s' =
+    let room = max (expression_height t) (expression_height u) in
+    let one = expression_again room 0 t ts [] s (omega arith) (ends_nothing 0) in
+    let other = expression_again room 0 u ts [] s' (omega arith) (ends_nothing 0) in
+    ap (λ (r : Found). r.0) (ok_is (t, []) (u, []) (sym one ∙ other))

@@ -75,8 +75,8 @@ module _ (less more : Levels) (below_stays : (level : ℕ) (ts : List Token) →
       stays_bind (integer_type ts) (integer_type ts) (λ t. sign P.RightParenthesis t.1 >>= λ rest. less operand_level rest >>= λ e. done (Cast t.0 e.0, e.1)) (λ t. sign P.RightParenthesis t.1 >>= λ rest. more operand_level rest >>= λ e. done (Cast t.0 e.0, e.1))
       (stays_refl (integer_type ts))
       (λ t _. stays_bind (sign P.RightParenthesis t.1) (sign P.RightParenthesis t.1) (λ rest. less operand_level rest >>= λ e. done (Cast t.0 e.0, e.1)) (λ rest. more operand_level rest >>= λ e. done (Cast t.0 e.0, e.1))
-        (stays_refl (sign P.RightParenthesis t.1))
-        (λ rest _. stays_bind (less operand_level rest) (more operand_level rest) (λ e. done (Cast t.0 e.0, e.1)) (λ e. done (Cast t.0 e.0, e.1)) (below_stays operand_level rest) (λ e _. stays_refl _)))
+      (stays_refl (sign P.RightParenthesis t.1))
+      (λ rest _. stays_bind (less operand_level rest) (more operand_level rest) (λ e. done (Cast t.0 e.0, e.1)) (λ e. done (Cast t.0 e.0, e.1)) (below_stays operand_level rest) (λ e _. stays_refl _)))
 
   parenthesized_stays : (ts : List Token) → Stays (parenthesized less ts) (parenthesized more ts)
   unfolding parenthesized
@@ -121,10 +121,10 @@ module _ (less more : Levels) (below_stays : (level : ℕ) (ts : List Token) →
       stays_bind (sign P.Question ts) (sign P.Question ts) (λ inner. less 0 inner >>= λ a. sign P.Colon a.1 >>= λ other. less 0 other >>= λ b. done (Conditional c a.0 b.0, b.1)) (λ inner. more 0 inner >>= λ a. sign P.Colon a.1 >>= λ other. more 0 other >>= λ b. done (Conditional c a.0 b.0, b.1))
       (stays_refl (sign P.Question ts))
       (λ inner _. stays_bind (less 0 inner) (more 0 inner) (λ a. sign P.Colon a.1 >>= λ other. less 0 other >>= λ b. done (Conditional c a.0 b.0, b.1)) (λ a. sign P.Colon a.1 >>= λ other. more 0 other >>= λ b. done (Conditional c a.0 b.0, b.1))
-        (below_stays 0 inner)
-        (λ a _. stays_bind (sign P.Colon a.1) (sign P.Colon a.1) (λ other. less 0 other >>= λ b. done (Conditional c a.0 b.0, b.1)) (λ other. more 0 other >>= λ b. done (Conditional c a.0 b.0, b.1))
-          (stays_refl (sign P.Colon a.1))
-          (λ other _. stays_bind (less 0 other) (more 0 other) (λ b. done (Conditional c a.0 b.0, b.1)) (λ b. done (Conditional c a.0 b.0, b.1)) (below_stays 0 other) (λ b _. stays_refl _))))
+      (below_stays 0 inner)
+      (λ a _. stays_bind (sign P.Colon a.1) (sign P.Colon a.1) (λ other. less 0 other >>= λ b. done (Conditional c a.0 b.0, b.1)) (λ other. more 0 other >>= λ b. done (Conditional c a.0 b.0, b.1))
+      (stays_refl (sign P.Colon a.1))
+      (λ other _. stays_bind (less 0 other) (more 0 other) (λ b. done (Conditional c a.0 b.0, b.1)) (λ b. done (Conditional c a.0 b.0, b.1)) (below_stays 0 other) (λ b _. stays_refl _))))
 
   module _ (room wide : ℕ) (le : room ≤ wide) where
     if_room_by : (left : ExpressionTree) (x y : Result Found Fault) (b : Bool) → leb (expression_height left) room ≡ b → Stays x y → Stays (cond b x (Err TooDeep)) (if_room wide left y)
@@ -155,6 +155,6 @@ module _ (less more : Levels) (below_stays : (level : ℕ) (ts : List Token) →
         (if_room wide left (chosen more left ts))
         (left, ts)
         (λ o. stays_bind (if_room room left (operated less o left ts)) (if_room wide left (operated more o left ts)) (λ whole. chain less room level few whole.0 whole.1) (λ whole. chain more wide level count whole.0 whole.1)
-          (if_room_stays left (operated less o left ts) (operated more o left ts) (operated_stays o left ts))
-          (λ whole _. chain_stays level few count whole.0 whole.1 (omega arith)))
+        (if_room_stays left (operated less o left ts) (operated more o left ts) (operated_stays o left ts))
+        (λ whole _. chain_stays level few count whole.0 whole.1 (omega arith)))
         (if_room_stays left (chosen less left ts) (chosen more left ts) (chosen_stays left ts))

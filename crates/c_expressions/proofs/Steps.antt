@@ -1,6 +1,5 @@
 -- The steps of the reader, one after another.
 use Rattle.std.proofs.Common.{◌≡◌, ℕ, zero, suc, ◌+◌, ◌-◌, ◌<◌, List, Result, Ok, Err, refl, ap, ◌∙◌, arith}
-use Rattle.std.specs.Prelude.{IfOk, IfErr}
 use Rattle.c_tokens.specs.declared.token.Token.{Token}
 use Rattle.c_tree.specs.declared.expression.BinaryOperator.{BinaryOperator}
 use Rattle.c_tree.specs.Trees.{ExpressionTree}
@@ -10,14 +9,6 @@ use Rattle.c_expressions.specs.declared.next.Next.TheVariants.{Operator}
 use Rattle.c_expressions.specs.Operators.{next}
 use Rattle.c_expressions.specs.Operands.{Levels, operand}
 use Rattle.c_expressions.specs.Reading.{operated, if_room, chain, expression_at}
-
-pub if_ok : {A E : Type 0} (r : Result A E) (P Q : A → Type 0) → ((x : A) → P x → Q x) → IfOk r P → IfOk r Q
-if_ok (Ok x) P Q then h = then x h
-if_ok (Err e) P Q then h = h
-
-pub if_err : {A E : Type 0} (r : Result A E) (P Q : E → Type 0) → ((e : E) → P e → Q e) → IfErr r P → IfErr r Q
-if_err (Ok x) P Q then h = h
-if_err (Err e) P Q then h = then e h
 
 -- behind the first operand of an expression
 pub behind_operand : (room level : ℕ) (ts : List Token) (left : ExpressionTree) (rest : List Token) → 0 < room → operand (expression_at (room - 1)) ts ≡ Ok (left, rest) → expression_at room level ts ≡ chain (expression_at (room - 1)) (room - 1) level (room - 1) left rest

@@ -88,11 +88,11 @@ module _ (below : Levels) (room : ℕ) (below_takes : (level : ℕ) (ts : List T
       elim (which (is_sign_next P.LeftBracket x.0.1) (indexed below x.0.0 x.0.1) (Ok (Variable x.0.0, x.0.1)) (done r) x.2) [
         | inl holds ↦ indexed_takes ts x.0.0 x.0.1 r name holds.1
         | inr fails ↦ ends_in (ReadsOperand (suc room) ts) (Variable x.0.0, x.0.1) r fails.1 (record {
-            front = name.front;
-        spelled = λ level. name.spelled;
-        parts = name.parts;
-            low = omega arith;
-          })
+          front = name.front;
+          spelled = λ level. name.spelled;
+          parts = name.parts;
+          low = omega arith;
+        })
       ]
 
   cast_takes : (all ts : List Token) (r : Found) → Takes (Sign P.LeftParenthesis) all ts → cast below ts ≡ Ok r → ReadsOperand (suc room) all r
@@ -197,13 +197,15 @@ module _ (below : Levels) (room : ℕ) (below_takes : (level : ℕ) (ts : List T
       let t = before.takes in
       let lowered : Takes (IsExpressionAt (binding o) left) whole ts = record { front = t.front; spelled = lower_level (binding o) m left t.front (let b = between.1 in omega arith) before.above t.spelled; parts = t.parts } in
       let all = takes_then lowered (takes_then (sign_takes (binary_sign o) ts i.0 i.1) right.takes) in
-      let low = right.low in
-      (between.0, ends_in (λ r. IsLeft (binding o) whole r.0 r.1) (Binary o left x.0.0, x.0.1) r x.2 (record {
-        takes = record { front = all.front; spelled = (omega arith, all.spelled); parts = all.parts };
-        above = strong;
-        stops = right.stops;
-        low = omega arith;
-      }))
+      let low = right.low in (
+        between.0,
+        ends_in (λ r. IsLeft (binding o) whole r.0 r.1) (Binary o left x.0.0, x.0.1) r x.2 (record {
+          takes = record { front = all.front; spelled = (omega arith, all.spelled); parts = all.parts };
+          above = strong;
+          stops = right.stops;
+          low = omega arith;
+        }),
+      )
 
   chosen_takes : (level m : ℕ) (whole : List Token) (left : ExpressionTree) (ts : List Token) (r : Found) → IsLeft m whole left ts → expression_height left ≤ room → level ≡ 0 → chosen below left ts ≡ Ok r → Reads (suc room) level whole r
   unfolding chosen

@@ -6,6 +6,9 @@ mod measured;
 mod next;
 mod operators;
 mod reading;
+#[cfg(test)]
+mod tests;
+mod uniqueness;
 
-pub use next::Next;
 pub use reading::expression;
+pub use uniqueness::one_tree;

@@ -2,6 +2,7 @@
 use Rattle.std.proofs.Common.{◌≡◌, ℕ, Bool, true, false, cond, List, [], ◌∷◌, ◌++◌, Option, Some, None, Result, Ok, Err, inl, inr, refl, sym, ap, ◌∙◌, subst, rules}
 use Rattle.std.specs.Prelude.{◌⊎◌}
 use denote.Enum.Bare.{same_true}
+use Rattle.lang.proofs.Parts.{chosen}
 use Rattle.c_tokens.specs.declared.constant.Constant.{Constant}
 use Rattle.c_tokens.specs.declared.constant.IntegerType.{IntegerType}
 use Rattle.c_tokens.specs.declared.constant.IntegerType.TheVariants.{Int, Unsigned}
@@ -58,10 +59,6 @@ pub is_word_next-again : (k : Keyword) (xs rest : List Token) → Word k xs → 
 is_word_next-again k xs rest s = rw s.2 (is_word-same k s.0.kind s.1)
 
 -- ---- one token that passes a test
-
-chosen : {A : Type 0} (b : Bool) (x y z : A) → cond b x y ≡ z → ((b ≡ true) × (x ≡ z)) ⊎ ((b ≡ false) × (y ≡ z))
-chosen true x y z e = inl (refl, e)
-chosen false x y z e = inr (refl, e)
 
 passed_takes : (passes : TokenKind → Bool) (ts rest : List Token) → passed passes ts ≡ Ok rest → (t : Token) × (passes t.kind ≡ true) × (ts ≡ t ∷ rest)
 passed_takes passes [] rest e = absurd cc
