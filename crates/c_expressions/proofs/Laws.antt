@@ -1,5 +1,5 @@
 -- What is read is spelled so, what is spelled so is read, and more room changes nothing but what was too high.
-use Rattle.std.proofs.Common.{◌≡◌, ℕ, zero, suc, ◌+◌, ◌≤◌, Bool, true, false, cond, List, [], ◌∷◌, ◌++◌, Result, Ok, Err, inl, inr, sym, ap, ◌∙◌, arith}
+use Rattle.std.proofs.Common.{◌≡◌, ℕ, zero, suc, ◌+◌, ◌≤◌, Bool, true, false, cond, List, [], ◌∷◌, ◌++◌, Option, Result, Ok, Err, inl, inr, sym, ap, ◌∙◌, arith}
 use Rattle.std.specs.Prelude.{max}
 use Rattle.c_tokens.specs.declared.token.Token.{Token}
 use Rattle.c_tree.specs.Trees.{ExpressionTree}
@@ -7,7 +7,7 @@ use Rattle.c_tree.specs.Signs.{operand_level}
 use Rattle.c_tree.specs.Expressions.{IsExpressionAt}
 use Rattle.c_tree.specs.Heights.{expression_height}
 use Rattle.c_reading.specs.declared.fault.Fault.{Fault}
-use Rattle.c_reading.specs.declared.fault.Fault.TheVariants.{TooDeep}
+use Rattle.c_reading.specs.declared.fault.Fault.TheVariants.{Syntax, TooDeep}
 use Rattle.c_reading.specs.Reading.{misfit, deep, Takes, Stays}
 use Rattle.c_reading.proofs.Laws.{ok_is, bind_ok, stays_refl, stays_bind}
 use Rattle.c_expressions.specs.Operators.{begins_operand, Stops, Ends}
@@ -75,3 +75,13 @@ one_tree t u ts s s' =
     let one = expression_again room 0 t ts [] s (omega arith) (ends_nothing 0) in
     let other = expression_again room 0 u ts [] s' (omega arith) (ends_nothing 0) in
     ap (λ (r : Found). r.0) (ok_is (t, []) (u, []) (sym one ∙ other))
+
+-- A fault of syntax stays with more room, where each spelled expression would be read.
+pub expression_refused : (room level : ℕ) (ts : List Token) (place : Option ℕ) → expression_at room level ts ≡ Err (Syntax place) → (t : ExpressionTree) (front rest : List Token) → IsExpressionAt level t front → Ends level rest → ts ≡ front ++ rest → ⊥
+expression_refused room level ts place e t front rest s ends parts =
+    let more = max room (expression_height t) in
+    let read = expression_again more level t front rest s (omega arith) ends in
+    elim (expression_stays room more level ts (omega arith)) [
+      | inl deep ↦ absurd cc
+      | inr same ↦ let again = sym e ∙ same ∙ ap (expression_at more level) parts ∙ read in absurd cc
+    ]

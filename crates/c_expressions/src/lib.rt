@@ -2,13 +2,13 @@
 //! long as they bind strongly enough. It is bounded by a room: what is higher is refused.
 #![tactic(auto)]
 
+mod grammar;
 mod measured;
 mod next;
 mod operators;
 mod reading;
 #[cfg(test)]
 mod tests;
-mod uniqueness;
 
+pub use grammar::{fault_is_due, one_tree, read_is_spelled, spelled_is_read};
 pub use reading::expression;
-pub use uniqueness::one_tree;
