@@ -1,0 +1,14 @@
+//! The reader of expressions (C99 6.5), by precedence climbing: an operand, and behind it operators as
+//! long as they bind strongly enough. It is bounded by a room: what is higher is refused.
+#![tactic(auto)]
+
+mod grammar;
+mod measured;
+mod next;
+mod operators;
+mod reading;
+#[cfg(test)]
+mod tests;
+
+pub use grammar::{fault_is_due, one_tree, read_is_spelled, spelled_is_read};
+pub use reading::expression;
