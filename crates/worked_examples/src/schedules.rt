@@ -212,21 +212,21 @@ fn play(rt: &impl Abort, alloc: Global, count: u8, streams: u64, turns: u32) -> 
 
 #[test]
 fn three_nodes(rt: HostRuntime) -> Result<(), Fail> {
-    let learned = play(&rt, rt.alloc(), 3, 20_000, 500)?;
-    assert!(rt; learned > 10_000, "{learned} of 20000");
+    let learned = play(&rt, rt.alloc(), 3, 4000, 500)?;
+    assert!(rt; learned > 2000, "{learned} of 4000");
     Ok(())
 }
 
 #[test]
 fn five_nodes(rt: HostRuntime) -> Result<(), Fail> {
-    let learned = play(&rt, rt.alloc(), 5, 8_000, 1000)?;
-    assert!(rt; learned > 4_000, "{learned} of 8000");
+    let learned = play(&rt, rt.alloc(), 5, 1500, 1000)?;
+    assert!(rt; learned > 750, "{learned} of 1500");
     Ok(())
 }
 
 #[test]
 fn seven_nodes(rt: HostRuntime) -> Result<(), Fail> {
-    let learned = play(&rt, rt.alloc(), 7, 3_000, 2000)?;
-    assert!(rt; learned > 1_500, "{learned} of 3000");
+    let learned = play(&rt, rt.alloc(), 7, 500, 2000)?;
+    assert!(rt; learned > 250, "{learned} of 500");
     Ok(())
 }
