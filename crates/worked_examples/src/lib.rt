@@ -3,17 +3,9 @@
 #![tactic(auto)]
 
 #[cfg(test)]
-mod form_rows;
-#[cfg(test)]
-mod linearize_rows;
-#[cfg(test)]
 mod node_orders;
 #[cfg(test)]
-mod schedules;
-#[cfg(test)]
 mod settle_rows;
-#[cfg(test)]
-mod told;
 pub mod toy_language;
 pub mod toy_offers;
 pub mod toy_pass;
