@@ -35,6 +35,7 @@ is_hexadecimal w = (slice_index w 0 == 48) && ((slice_index w 1 == 120) || (slic
 abbrev pub begins_with_zero : List ℕ → Bool
 begins_with_zero w = slice_index w 0 == 48
 
+-- the number that a word without its suffix stands for
 abbrev pub magnitude_of : List ℕ → Option ℕ
 magnitude_of w =
     if is_hexadecimal w then number_of 16 (drop 2 w)
@@ -45,6 +46,7 @@ magnitude_of w =
 abbrev pub is_suffixed : List ℕ → Bool
 is_suffixed w = (slice_index w (length w - 1) == 117) || (slice_index w (length w - 1) == 85)
 
+-- the word before its suffix, or the whole of it
 abbrev pub without_suffix : List ℕ → List ℕ
 without_suffix w = if is_suffixed w then take (length w - 1) w else w
 
@@ -64,9 +66,10 @@ abbrev pub first_type : List IntegerType → ℕ → Option IntegerType
 first_type [] n = None
 first_type (t ∷ ts) n = if nat_lt n (limit_of t) then Some t else first_type ts n
 
--- the constant that a word spells, if it spells one
+-- a number of its type, where it fits one
 abbrev pub typed : List ℕ → ℕ → Option Constant
 typed w n = option_map (λ t. record { value = n; kind = t }) (first_type (types_of w) n)
 
+-- the constant that a word spells, if it spells one
 abbrev pub constant_of : List ℕ → Option Constant
 constant_of w = option_and_then (typed w) (magnitude_of (without_suffix w))
