@@ -1,12 +1,11 @@
 -- What is read is spelled so, what is spelled so is read, and more room changes nothing but what was too high.
-use Rattle.std.proofs.Common.{◌≡◌, ℕ, zero, suc, ◌+◌, ◌≤◌, Bool, true, false, cond, List, [], ◌∷◌, ◌++◌, Option, Result, Ok, Err, inl, inr, sym, ap, ◌∙◌, arith}
+use Rattle.std.proofs.Common.{◌≡◌, ℕ, zero, suc, ◌+◌, ◌≤◌, Bool, true, false, cond, List, [], ◌∷◌, ◌++◌, Option, Ok, Err, inl, inr, sym, ap, ◌∙◌, arith}
 use Rattle.std.specs.Prelude.{max}
 use Rattle.c_tokens.specs.declared.token.Token.{Token}
 use Rattle.c_tree.specs.Trees.{ExpressionTree}
 use Rattle.c_tree.specs.Signs.{operand_level}
 use Rattle.c_tree.specs.Expressions.{IsExpressionAt}
 use Rattle.c_tree.specs.Heights.{expression_height}
-use Rattle.c_reading.specs.declared.fault.Fault.{Fault}
 use Rattle.c_reading.specs.declared.fault.Fault.TheVariants.{Syntax, TooDeep}
 use Rattle.c_reading.specs.Reading.{misfit, deep, Takes, Stays}
 use Rattle.c_reading.proofs.Laws.{ok_is, bind_ok, stays_refl, stays_bind}

@@ -1,10 +1,9 @@
 -- The steps of the reader, one after another.
-use Rattle.std.proofs.Common.{◌≡◌, ℕ, zero, suc, ◌+◌, ◌-◌, ◌<◌, List, Result, Ok, Err, refl, ap, ◌∙◌, arith}
+use Rattle.std.proofs.Common.{◌≡◌, ℕ, zero, suc, ◌+◌, ◌-◌, ◌<◌, List, Ok, Err, refl, arith}
 use Rattle.c_tokens.specs.declared.token.Token.{Token}
 use Rattle.c_tree.specs.declared.expression.BinaryOperator.{BinaryOperator}
 use Rattle.c_tree.specs.Trees.{ExpressionTree}
 use Rattle.c_reading.specs.declared.fault.Fault.{Fault}
-use Rattle.c_reading.specs.Reading.{◌>>=◌}
 use Rattle.c_expressions.specs.declared.next.Next.TheVariants.{Operator}
 use Rattle.c_expressions.specs.Operators.{next}
 use Rattle.c_expressions.specs.Operands.{Levels, operand}

@@ -1,14 +1,12 @@
 -- How operands are read (C99 6.5.1 to 6.5.4), over a reading of expressions that are one lower.
-use Rattle.std.specs.Prelude.{ℕ, Bool, List, [], ◌∷◌, Option, Some, None, Result, Ok, if◌then◌else◌}
+use Rattle.std.specs.Prelude.{ℕ, [], ◌∷◌, Option, Some, None, Ok, if◌then◌else◌}
 use Rattle.c_tokens.specs.declared.punctuator.Punctuator.TheVariants as P
-use Rattle.c_tokens.specs.declared.token.Token.{Token}
 use Rattle.c_tokens.specs.declared.token.TokenKind.{TokenKind}
 use Rattle.c_tokens.specs.declared.token.TokenKind.TheVariants as T
 use Rattle.c_tree.specs.declared.identifier.Identifier.{Identifier}
 use Rattle.c_tree.specs.declared.expression.UnaryOperator.{UnaryOperator}
 use Rattle.c_tree.specs.Trees.{ExpressionTree, Number, Variable, Element, Parenthesis, Cast, Unary}
 use Rattle.c_tree.specs.Signs.{unary_sign, operand_level}
-use Rattle.c_reading.specs.declared.fault.Fault.{Fault}
 use Rattle.c_reading.specs.Reading.{Reading, ◌>>=◌, misfit}
 use Rattle.c_reading.specs.Peeking.{is_sign, is_sign_next, is_type_next}
 use Rattle.c_reading.specs.Tokens.{sign, placed_name, constant, integer_type}

@@ -1,8 +1,7 @@
 -- How expressions are read, by precedence climbing: an operand, and behind it operators as long as they bind
 -- at least as strongly as the level (C99 6.5.5 to 6.5.15). A room bounds the height of what is read.
-use Rattle.std.specs.Prelude.{ℕ, zero, suc, nat_le, List, Result, Ok, Err, if◌then◌else◌}
+use Rattle.std.specs.Prelude.{ℕ, zero, suc, nat_le, Result, Ok, Err, if◌then◌else◌}
 use Rattle.c_tokens.specs.declared.punctuator.Punctuator.TheVariants.{Question, Colon}
-use Rattle.c_tokens.specs.declared.token.Token.{Token}
 use Rattle.c_tree.specs.declared.expression.BinaryOperator.{BinaryOperator}
 use Rattle.c_tree.specs.Trees.{ExpressionTree, Binary, Conditional}
 use Rattle.c_tree.specs.Signs.{binary_sign, binding}

@@ -1,10 +1,8 @@
 -- How readings follow one another.
-use Rattle.std.proofs.Common.{◌≡◌, List, [], ◌∷◌, ◌++◌, Result, Ok, Err, inl, inr, refl, sym, ap, ◌∙◌, append_assoc}
-use Rattle.std.specs.Prelude.{◌⊎◌}
+use Rattle.std.proofs.Common.{◌≡◌, List, ◌++◌, Result, Ok, Err, inl, inr, refl, sym, ap, ◌∙◌, append_assoc}
 use Rattle.c_tokens.specs.declared.token.Token.{Token}
 use Rattle.c_tree.specs.Parts.{◌⨾◌}
 use Rattle.c_reading.specs.declared.fault.Fault.{Fault}
-use Rattle.c_reading.specs.declared.fault.Fault.TheVariants.{TooDeep}
 use Rattle.c_reading.specs.Reading.{◌>>=◌, Takes, Stays}
 
 abbrev pub done : {A : Type 0} → A → Result A Fault

@@ -1,6 +1,5 @@
 -- Single tokens and types: what is read is spelled so, and what is spelled so is read.
-use Rattle.std.proofs.Common.{◌≡◌, ℕ, Bool, true, false, cond, List, [], ◌∷◌, ◌++◌, Option, Some, None, Result, Ok, Err, inl, inr, refl, sym, ap, ◌∙◌, subst, rules}
-use Rattle.std.specs.Prelude.{◌⊎◌}
+use Rattle.std.proofs.Common.{◌≡◌, ℕ, Bool, true, false, cond, List, [], ◌∷◌, ◌++◌, Option, Some, None, Result, Ok, inl, inr, refl, ap, ◌∙◌, subst, rules}
 use denote.Enum.Bare.{same_true}
 use Rattle.lang.proofs.Parts.{chosen}
 use Rattle.c_tokens.specs.declared.constant.Constant.{Constant}
