@@ -2,11 +2,11 @@
 
 ghost use Rattle.std.specs.Prelude.{◌≡◌, ◌≢◌, ◌<◌, ◌≤◌, ◌+◌, IfOk, IfErr, Ok, Err};
 ghost use Rattle.c_tree.specs.Views.{expression_tree};
-ghost use Rattle.c_expressions.specs.Operands.{number, indexed, variable, cast, enclosed, parenthesized, signed, perhaps_signed, operand};
-ghost use Rattle.c_expressions.specs.Reading.{operated, chosen, if_room, chain, expression_at};
+ghost use Rattle.c_expression_laws.specs.Operands.{number, indexed, variable, cast, enclosed, parenthesized, signed, perhaps_signed, operand};
+ghost use Rattle.c_expression_laws.specs.Reading.{operated, chosen, if_room, chain, expression_at};
 
 use crate::measured::Measured;
-use crate::next::Next;
+use c_expression_laws::Next;
 use crate::operators::{binary_sign, binding, deep, next, unary_operator, unary_sign};
 use c_reading::{
     Fault, is_sign_next, is_type_next, misfit, read_constant, read_name, read_sign, read_type,

@@ -19,9 +19,9 @@ use Rattle.c_tree.specs.Heights.{expression_height}
 use Rattle.c_tree.specs.Expressions.{IsExpressionAt}
 use Rattle.c_tree.specs.Parts.{Sign}
 use Rattle.c_reading.specs.Peeking.{is_sign, is_sign_next}
-use Rattle.c_expressions.specs.declared.next.Next.{Next}
-use Rattle.c_expressions.specs.declared.next.Next.TheVariants.{Operator, Choice, Stop}
-use Rattle.c_expressions.specs.Operators.{unary_of, binary_of, binary_at, taken_at, next, Stops, Ends}
+use Rattle.c_expression_laws.specs.declared.next.Next.{Next}
+use Rattle.c_expression_laws.specs.declared.next.Next.TheVariants.{Operator, Choice, Stop}
+use Rattle.c_expression_laws.specs.Operators.{unary_of, binary_of, binary_at, taken_at, next, Stops, Ends}
 
 -- ---- signs
 

@@ -26,11 +26,11 @@ use Rattle.c_reading.specs.Peeking.{is_sign, is_sign_next, is_word, is_word_next
 use Rattle.c_reading.specs.Tokens.{sign, placed_name, constant, integer_type}
 use Rattle.c_reading.proofs.Laws.{parts_behind}
 use Rattle.c_reading.proofs.Tokens.{sign_again, is_sign_next-again, is_word_next-again, placed_name_again, constant_again, integer_type_again}
-use Rattle.c_expressions.specs.declared.next.Next.TheVariants.{Operator, Choice, Stop}
-use Rattle.c_expressions.specs.Operators.{unary_of, next, Stops, Ends}
-use Rattle.c_expressions.specs.Operands.{Levels, number, indexed, variable, cast, enclosed, parenthesized, signed, operand_at, operand}
-use Rattle.c_expressions.specs.Reading.{operated, chosen, chain}
-use Rattle.c_expressions.proofs.Continuing.{unary_of-sign, unary_is_no_parenthesis, is_operator, ends_behind, ends_above, ends_choice, next_choice, ends_operator, next_operator, stops_operand, height-positive}
+use Rattle.c_expression_laws.specs.declared.next.Next.TheVariants.{Operator, Choice, Stop}
+use Rattle.c_expression_laws.specs.Operators.{unary_of, next, Stops, Ends}
+use Rattle.c_expression_laws.specs.Operands.{Levels, number, indexed, variable, cast, enclosed, parenthesized, signed, operand_at, operand}
+use Rattle.c_expression_laws.specs.Reading.{operated, chosen, chain}
+use Rattle.c_expression_laws.proofs.Continuing.{unary_of-sign, unary_is_no_parenthesis, is_operator, ends_behind, ends_above, ends_choice, next_choice, ends_operator, next_operator, stops_operand, height-positive}
 
 -- an operand is read by its first token
 operand_one : (below : Levels) (kind : TokenKind) (xs rest : List Token) → One kind xs → operand below (xs ++ rest) ≡ operand_at below kind (xs ++ rest)

@@ -23,12 +23,12 @@ use Rattle.c_reading.specs.Peeking.{is_sign, is_sign_next, is_type_next}
 use Rattle.c_reading.specs.Tokens.{sign, placed_name, constant, integer_type}
 use Rattle.c_reading.proofs.Laws.{done, ok_is, bind_ok, takes_then}
 use Rattle.c_reading.proofs.Tokens.{sign_takes, placed_name_takes, constant_takes, integer_type_takes}
-use Rattle.c_expressions.specs.declared.next.Next.{Next}
-use Rattle.c_expressions.specs.declared.next.Next.TheVariants.{Operator, Choice, Stop}
-use Rattle.c_expressions.specs.Operators.{unary_of, next, Stops}
-use Rattle.c_expressions.specs.Operands.{Levels, number, indexed, variable, cast, enclosed, parenthesized, signed, perhaps_signed, operand_at, operand}
-use Rattle.c_expressions.specs.Reading.{operated, chosen, if_room, by_next, chain}
-use Rattle.c_expressions.proofs.Continuing.{IsOperator, is_operator, next-between, choice_level, stops_operand, height-positive, lower_level}
+use Rattle.c_expression_laws.specs.declared.next.Next.{Next}
+use Rattle.c_expression_laws.specs.declared.next.Next.TheVariants.{Operator, Choice, Stop}
+use Rattle.c_expression_laws.specs.Operators.{unary_of, next, Stops}
+use Rattle.c_expression_laws.specs.Operands.{Levels, number, indexed, variable, cast, enclosed, parenthesized, signed, perhaps_signed, operand_at, operand}
+use Rattle.c_expression_laws.specs.Reading.{operated, chosen, if_room, by_next, chain}
+use Rattle.c_expression_laws.proofs.Continuing.{IsOperator, is_operator, next-between, choice_level, stops_operand, height-positive, lower_level}
 
 abbrev pub Found : Type 0
 Found = ExpressionTree × List Token
