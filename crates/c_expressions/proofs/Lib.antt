@@ -1,6 +1,3 @@
-pub mod Continuing
-pub mod Taking
-pub mod Again
-pub mod Staying
-pub mod Laws
+pub use Rattle.c_expression_laws.proofs.Laws
+pub use Rattle.c_expression_laws.proofs.Continuing
 pub mod Steps

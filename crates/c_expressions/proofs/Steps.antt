@@ -1,13 +1,14 @@
 -- The steps of the reader, one after another.
-use Rattle.std.proofs.Common.{◌≡◌, ℕ, zero, suc, ◌+◌, ◌-◌, ◌<◌, List, Ok, Err, refl, arith}
+use Rattle.std.proofs.Common.{◌≡◌, ℕ, zero, suc, ◌+◌, ◌-◌, ◌<◌, List, Result, Ok, Err, refl, ap, ◌∙◌, arith}
 use Rattle.c_tokens.specs.declared.token.Token.{Token}
 use Rattle.c_tree.specs.declared.expression.BinaryOperator.{BinaryOperator}
 use Rattle.c_tree.specs.Trees.{ExpressionTree}
 use Rattle.c_reading.specs.declared.fault.Fault.{Fault}
-use Rattle.c_expressions.specs.declared.next.Next.TheVariants.{Operator}
-use Rattle.c_expressions.specs.Operators.{next}
-use Rattle.c_expressions.specs.Operands.{Levels, operand}
-use Rattle.c_expressions.specs.Reading.{operated, if_room, chain, expression_at}
+use Rattle.c_reading.specs.Reading.{◌>>=◌}
+use Rattle.c_expression_laws.specs.declared.next.Next.TheVariants.{Operator}
+use Rattle.c_expression_laws.specs.Operators.{next}
+use Rattle.c_expression_laws.specs.Operands.{Levels, operand}
+use Rattle.c_expression_laws.specs.Reading.{operated, if_room, chain, expression_at}
 
 -- behind the first operand of an expression
 pub behind_operand : (room level : ℕ) (ts : List Token) (left : ExpressionTree) (rest : List Token) → 0 < room → operand (expression_at (room - 1)) ts ≡ Ok (left, rest) → expression_at room level ts ≡ chain (expression_at (room - 1)) (room - 1) level (room - 1) left rest

@@ -1,3 +1,3 @@
-pub mod Operators
-pub mod Operands
-pub mod Reading
+pub use Rattle.c_expression_laws.specs.Operators
+pub use Rattle.c_expression_laws.specs.Operands
+pub use Rattle.c_expression_laws.specs.Reading

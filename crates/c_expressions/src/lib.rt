@@ -2,13 +2,11 @@
 //! long as they bind strongly enough. It is bounded by a room: what is higher is refused.
 #![tactic(auto)]
 
-mod grammar;
 mod measured;
-mod next;
 mod operators;
 mod reading;
 #[cfg(test)]
 mod tests;
 
-pub use grammar::{fault_is_due, one_tree, read_is_spelled, spelled_is_read};
+pub use c_expression_laws::{fault_is_due, one_tree, read_is_spelled, spelled_is_read};
 pub use reading::expression;

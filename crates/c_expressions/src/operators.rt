@@ -4,9 +4,9 @@ ghost use Rattle.std.specs.Prelude.{◌≡◌, ◌≤◌, Err};
 ghost use Rattle.c_tree.specs.Trees.{ExpressionTree};
 ghost use Rattle.c_tree.specs.Signs.{unary_sign, binary_sign, binding};
 ghost use Rattle.c_reading.specs.Reading.{deep};
-ghost use Rattle.c_expressions.specs.Operators.{unary_of, binary_of, begins_operand, next_at, next};
+ghost use Rattle.c_expression_laws.specs.Operators.{unary_of, binary_of, begins_operand, next_at, next};
 
-use crate::next::Next;
+use c_expression_laws::Next;
 use c_reading::{Fault, misfit};
 use c_tokens::{Punctuator, Token, TokenKind};
 use c_tree::{BinaryOperator, UnaryOperator};
@@ -128,7 +128,7 @@ fn next_at(level: u8, kind: &TokenKind) -> Next
 }
 
 /// How an expression of a level goes on.
-#[tactic(auto, unfolding(crate::specs::Operators::next))]
+#[tactic(auto, unfolding(c_expression_laws::specs::Operators::next))]
 pub fn next(level: u8, tokens: &[Token]) -> Next
     ensures { result ≡ next level tokens.now }
 {

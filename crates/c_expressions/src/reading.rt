@@ -2,11 +2,11 @@
 
 ghost use Rattle.std.specs.Prelude.{◌≡◌, ◌≢◌, ◌<◌, ◌≤◌, ◌+◌, IfOk, IfErr, Ok, Err};
 ghost use Rattle.c_tree.specs.Views.{expression_tree};
-ghost use Rattle.c_expressions.specs.Operands.{number, indexed, variable, cast, enclosed, parenthesized, signed, perhaps_signed, operand};
-ghost use Rattle.c_expressions.specs.Reading.{operated, chosen, if_room, chain, expression_at};
+ghost use Rattle.c_expression_laws.specs.Operands.{number, indexed, variable, cast, enclosed, parenthesized, signed, perhaps_signed, operand};
+ghost use Rattle.c_expression_laws.specs.Reading.{operated, chosen, if_room, chain, expression_at};
 
 use crate::measured::Measured;
-use crate::next::Next;
+use c_expression_laws::Next;
 use crate::operators::{binary_sign, binding, deep, next, unary_operator, unary_sign};
 use c_reading::{
     Fault, is_sign_next, is_type_next, misfit, read_constant, read_name, read_sign, read_type,
@@ -36,7 +36,7 @@ pub fn expression(
 
 /// An expression with its height, which is at most the room.
 #[cycle(expressions)]
-#[tactic(auto, unfolding(crate::specs::Reading::expression_at))]
+#[tactic(auto, unfolding(c_expression_laws::specs::Reading::expression_at))]
 fn read_at(
     alloc: Global,
     room: u8,
@@ -56,7 +56,7 @@ fn read_at(
 
 /// An operand, by its first token. Its parts have so much room.
 #[cycle(expressions)]
-#[tactic(auto, unfolding(crate::specs::Operands::operand))]
+#[tactic(auto, unfolding(c_expression_laws::specs::Operands::operand))]
 fn operand(alloc: Global, below: u8, tokens: &[Token]) -> Result<(Measured, &[Token]), Fault>
     ensures ok { IfOk result (λ r. operand (expression_at below) tokens.now ≡ Ok (expression_tree r.0.expression, r.1.now)) }
     ensures err { IfErr result (λ e. e ≢ Fault.NoMemory → operand (expression_at below) tokens.now ≡ Err e) }
@@ -78,7 +78,7 @@ fn operand(alloc: Global, below: u8, tokens: &[Token]) -> Result<(Measured, &[To
 }
 
 /// A constant.
-#[tactic(auto, unfolding(crate::specs::Operands::number))]
+#[tactic(auto, unfolding(c_expression_laws::specs::Operands::number))]
 fn number(tokens: &[Token]) -> Result<(Measured, &[Token]), Fault>
     ensures ok { IfOk result (λ r. number tokens.now ≡ Ok (expression_tree r.0.expression, r.1.now)) }
     ensures err { IfErr result (λ e. e ≢ Fault.NoMemory → number tokens.now ≡ Err e) }
@@ -89,7 +89,7 @@ fn number(tokens: &[Token]) -> Result<(Measured, &[Token]), Fault>
 
 /// A name, or a cell of an array.
 #[cycle(expressions)]
-#[tactic(auto, unfolding(crate::specs::Operands::variable))]
+#[tactic(auto, unfolding(c_expression_laws::specs::Operands::variable))]
 fn variable(alloc: Global, below: u8, tokens: &[Token]) -> Result<(Measured, &[Token]), Fault>
     ensures ok { IfOk result (λ r. variable (expression_at below) tokens.now ≡ Ok (expression_tree r.0.expression, r.1.now)) }
     ensures err { IfErr result (λ e. e ≢ Fault.NoMemory → variable (expression_at below) tokens.now ≡ Err e) }
@@ -104,7 +104,7 @@ fn variable(alloc: Global, below: u8, tokens: &[Token]) -> Result<(Measured, &[T
 
 /// The index behind an array's name.
 #[cycle(expressions)]
-#[tactic(auto, unfolding(crate::specs::Operands::indexed))]
+#[tactic(auto, unfolding(c_expression_laws::specs::Operands::indexed))]
 fn indexed(
     alloc: Global,
     below: u8,
@@ -122,7 +122,7 @@ fn indexed(
 
 /// A cast, or an expression in parentheses.
 #[cycle(expressions)]
-#[tactic(auto, unfolding(crate::specs::Operands::parenthesized))]
+#[tactic(auto, unfolding(c_expression_laws::specs::Operands::parenthesized))]
 fn parenthesized(alloc: Global, below: u8, tokens: &[Token]) -> Result<(Measured, &[Token]), Fault>
     ensures ok { IfOk result (λ r. parenthesized (expression_at below) tokens.now ≡ Ok (expression_tree r.0.expression, r.1.now)) }
     ensures err { IfErr result (λ e. e ≢ Fault.NoMemory → parenthesized (expression_at below) tokens.now ≡ Err e) }
@@ -137,7 +137,7 @@ fn parenthesized(alloc: Global, below: u8, tokens: &[Token]) -> Result<(Measured
 
 /// Behind `(`: the rest of a cast.
 #[cycle(expressions)]
-#[tactic(auto, unfolding(crate::specs::Operands::cast))]
+#[tactic(auto, unfolding(c_expression_laws::specs::Operands::cast))]
 fn cast(alloc: Global, below: u8, tokens: &[Token]) -> Result<(Measured, &[Token]), Fault>
     ensures ok { IfOk result (λ r. cast (expression_at below) tokens.now ≡ Ok (expression_tree r.0.expression, r.1.now)) }
     ensures err { IfErr result (λ e. e ≢ Fault.NoMemory → cast (expression_at below) tokens.now ≡ Err e) }
@@ -150,7 +150,7 @@ fn cast(alloc: Global, below: u8, tokens: &[Token]) -> Result<(Measured, &[Token
 
 /// Behind `(`: an expression and `)`.
 #[cycle(expressions)]
-#[tactic(auto, unfolding(crate::specs::Operands::enclosed))]
+#[tactic(auto, unfolding(c_expression_laws::specs::Operands::enclosed))]
 fn enclosed(alloc: Global, below: u8, tokens: &[Token]) -> Result<(Measured, &[Token]), Fault>
     ensures ok { IfOk result (λ r. enclosed (expression_at below) tokens.now ≡ Ok (expression_tree r.0.expression, r.1.now)) }
     ensures err { IfErr result (λ e. e ≢ Fault.NoMemory → enclosed (expression_at below) tokens.now ≡ Err e) }
@@ -162,7 +162,7 @@ fn enclosed(alloc: Global, below: u8, tokens: &[Token]) -> Result<(Measured, &[T
 
 /// A unary operator, if there is one, and its operand.
 #[cycle(expressions)]
-#[tactic(auto, unfolding(crate::specs::Operands::signed))]
+#[tactic(auto, unfolding(c_expression_laws::specs::Operands::signed))]
 fn perhaps_signed(
     alloc: Global,
     below: u8,
@@ -182,7 +182,7 @@ fn perhaps_signed(
 
 /// Behind a left operand: operators that bind at least as strongly as the level, as long as there are any.
 #[cycle(expressions)]
-#[tactic(auto, unfolding(crate::specs::Reading::chain))]
+#[tactic(auto, unfolding(c_expression_laws::specs::Reading::chain))]
 fn chain(
     alloc: Global,
     below: u8,
@@ -213,7 +213,7 @@ fn chain(
 
 /// A left operand, which leaves room for an operator above it; the operator, and the right operand.
 #[cycle(expressions)]
-#[tactic(auto, unfolding(crate::specs::Reading::operated))]
+#[tactic(auto, unfolding(c_expression_laws::specs::Reading::operated))]
 fn operated(
     alloc: Global,
     below: u8,
@@ -234,7 +234,7 @@ fn operated(
 
 /// A condition, which leaves room for a choice above it; `?`, a value, `:` and a value.
 #[cycle(expressions)]
-#[tactic(auto, unfolding(crate::specs::Reading::chosen))]
+#[tactic(auto, unfolding(c_expression_laws::specs::Reading::chosen))]
 fn chosen(
     alloc: Global,
     below: u8,

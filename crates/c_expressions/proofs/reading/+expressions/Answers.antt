@@ -1,8 +1,8 @@
-use Rattle.std.proofs.Common.{◌∙◌, arith}
+use Rattle.std.proofs.Common.{◌≡◌, ◌-◌, ◌∙◌, arith}
 use Rattle.std.proofs.lemmas.Result.{err_from_is_err_and, IfOk-weaker, IfErr-weaker}
 use Rattle.c_tree.specs.Views.{expression_tree}
-use Rattle.c_expressions.specs.Reading.{expression_at}
-use Rattle.c_expressions.proofs.Laws.{reads}
+use Rattle.c_expression_laws.specs.Reading.{chain, expression_at}
+use Rattle.c_expression_laws.proofs.Laws.{reads}
 use Rattle.c_expressions.proofs.Steps.{behind_operand, goes_on, is_refused}
 use Rattle.c_expressions.proofs.reading.+expressions.Goals as goal
 

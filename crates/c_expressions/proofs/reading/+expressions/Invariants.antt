@@ -1,6 +1,6 @@
 use Rattle.std.proofs.Common.{◌≡◌, ◌*◌, ◌+◌, ◌-◌}
 use Rattle.c_tree.specs.Views.{expression_tree}
-use Rattle.c_expressions.specs.Reading.{chain, expression_at}
+use Rattle.c_expression_laws.specs.Reading.{chain, expression_at}
 use Rattle.c_expressions.proofs.reading.+expressions.Given as goal
 
 abbrev pub decreases-read_at : goal.decreases-read_at

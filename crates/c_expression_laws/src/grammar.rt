@@ -7,8 +7,8 @@ ghost use Rattle.c_tree.specs.Expressions.{IsExpression, IsExpressionAt};
 ghost use Rattle.c_tree.specs.Heights.{expression_height};
 ghost use Rattle.c_reading.specs.declared.fault.Fault.TheVariants.{Syntax};
 ghost use Rattle.c_reading.specs.Reading.{Takes};
-ghost use Rattle.c_expressions.specs.Operators.{Ends};
-ghost use Rattle.c_expressions.specs.Reading.{expression_at};
+ghost use Rattle.c_expression_laws.specs.Operators.{Ends};
+ghost use Rattle.c_expression_laws.specs.Reading.{expression_at};
 
 /// What is read is spelled by the tokens before the rest, and is low.
 pub fn read_is_spelled()

@@ -10,10 +10,10 @@ use Rattle.c_reading.specs.declared.fault.Fault.{Fault}
 use Rattle.c_reading.specs.declared.fault.Fault.TheVariants.{TooDeep}
 use Rattle.c_reading.specs.Reading.{Reading, ◌>>=◌, deep}
 use Rattle.c_reading.specs.Tokens.{sign}
-use Rattle.c_expressions.specs.declared.next.Next.{Next}
-use Rattle.c_expressions.specs.declared.next.Next.TheVariants.{Operator, Choice, Stop}
-use Rattle.c_expressions.specs.Operators.{next, begins_operand}
-use Rattle.c_expressions.specs.Operands.{Levels, operand}
+use Rattle.c_expression_laws.specs.declared.next.Next.{Next}
+use Rattle.c_expression_laws.specs.declared.next.Next.TheVariants.{Operator, Choice, Stop}
+use Rattle.c_expression_laws.specs.Operators.{next, begins_operand}
+use Rattle.c_expression_laws.specs.Operands.{Levels, operand}
 
 -- behind a left operand: an operator and the right operand, which has the next level
 unfoldable pub operated : Levels → BinaryOperator → ExpressionTree → Reading ExpressionTree

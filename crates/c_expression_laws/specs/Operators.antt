@@ -11,8 +11,8 @@ use Rattle.c_tree.specs.declared.expression.BinaryOperator.{BinaryOperator}
 use Rattle.c_tree.specs.declared.expression.BinaryOperator.TheVariants as B
 use Rattle.c_tree.specs.Signs.{binding}
 use Rattle.c_reading.specs.Peeking.{is_sign, is_sign_next}
-use Rattle.c_expressions.specs.declared.next.Next.{Next}
-use Rattle.c_expressions.specs.declared.next.Next.TheVariants.{Operator, Choice, Stop}
+use Rattle.c_expression_laws.specs.declared.next.Next.{Next}
+use Rattle.c_expression_laws.specs.declared.next.Next.TheVariants.{Operator, Choice, Stop}
 
 abbrev pub unary_of : Punctuator → Option UnaryOperator
 unary_of P.Minus = Some U.Minus

@@ -18,12 +18,12 @@ use Rattle.c_reading.specs.Reading.{◌>>=◌, misfit, deep, Stays}
 use Rattle.c_reading.specs.Peeking.{is_sign, is_sign_next, is_type_next}
 use Rattle.c_reading.specs.Tokens.{sign, placed_name, integer_type}
 use Rattle.c_reading.proofs.Laws.{done, stays_refl, stays_bind}
-use Rattle.c_expressions.specs.declared.next.Next.{Next}
-use Rattle.c_expressions.specs.declared.next.Next.TheVariants.{Operator, Choice, Stop}
-use Rattle.c_expressions.specs.Operators.{unary_of, next, begins_operand}
-use Rattle.c_expressions.specs.Operands.{Levels, number, indexed, variable, cast, enclosed, parenthesized, signed, perhaps_signed, operand_at, operand}
-use Rattle.c_expressions.specs.Reading.{operated, chosen, if_room, by_next, chain}
-use Rattle.c_expressions.proofs.Taking.{Found}
+use Rattle.c_expression_laws.specs.declared.next.Next.{Next}
+use Rattle.c_expression_laws.specs.declared.next.Next.TheVariants.{Operator, Choice, Stop}
+use Rattle.c_expression_laws.specs.Operators.{unary_of, next, begins_operand}
+use Rattle.c_expression_laws.specs.Operands.{Levels, number, indexed, variable, cast, enclosed, parenthesized, signed, perhaps_signed, operand_at, operand}
+use Rattle.c_expression_laws.specs.Reading.{operated, chosen, if_room, by_next, chain}
+use Rattle.c_expression_laws.proofs.Taking.{Found}
 
 stays_if : (b : Bool) (x y u v : Result Found Fault) → Stays x u → Stays y v → Stays (cond b x y) (cond b u v)
 stays_if true x y u v first second = first

@@ -9,13 +9,13 @@ use Rattle.c_tree.specs.Heights.{expression_height}
 use Rattle.c_reading.specs.declared.fault.Fault.TheVariants.{Syntax, TooDeep}
 use Rattle.c_reading.specs.Reading.{misfit, deep, Takes, Stays}
 use Rattle.c_reading.proofs.Laws.{ok_is, bind_ok, stays_refl, stays_bind}
-use Rattle.c_expressions.specs.Operators.{begins_operand, Stops, Ends}
-use Rattle.c_expressions.specs.Operands.{operand}
-use Rattle.c_expressions.specs.Reading.{chain, expression_at}
-use Rattle.c_expressions.proofs.Continuing.{stops_operand, ends_nothing, height-positive}
-use Rattle.c_expressions.proofs.Taking.{Found, Reads, operand_takes, chain_takes}
-use Rattle.c_expressions.proofs.Again.{level_again}
-use Rattle.c_expressions.proofs.Staying.{deep_stays, operand_stays, chain_stays}
+use Rattle.c_expression_laws.specs.Operators.{begins_operand, Stops, Ends}
+use Rattle.c_expression_laws.specs.Operands.{operand}
+use Rattle.c_expression_laws.specs.Reading.{chain, expression_at}
+use Rattle.c_expression_laws.proofs.Continuing.{stops_operand, ends_nothing, height-positive}
+use Rattle.c_expression_laws.proofs.Taking.{Found, Reads, operand_takes, chain_takes}
+use Rattle.c_expression_laws.proofs.Again.{level_again}
+use Rattle.c_expression_laws.proofs.Staying.{deep_stays, operand_stays, chain_stays}
 
 -- what is read is spelled at its level, is low, and does not go on
 pub record TakesExpression (room level : ℕ) (ts : List Token) (t : ExpressionTree) (rest : List Token) : Type 0 where

@@ -1,7 +1,9 @@
 -- What is read is spelled at its level, is low, and does not go on.
-use Rattle.std.proofs.Common.{◌≡◌, ℕ, zero, suc, ◌≤◌, cond, leb, List, [], ◌∷◌, ◌++◌, Option, Some, None, Result, Ok, Err, inl, inr, refl, subst, arith}
+use Rattle.std.proofs.Common.{◌≡◌, ℕ, zero, suc, ◌≤◌, ◌<◌, Bool, true, false, cond, leb, List, [], ◌∷◌, ◌++◌, Option, Some, None, Result, Ok, Err, inl, inr, refl, sym, ap, subst, ◌∙◌, append_assoc, arith}
+use Rattle.std.specs.Prelude.{max}
 use Rattle.std.proofs.lemmas.Bool.{leb-true}
 use Rattle.lang.proofs.Parts.{chosen as which}
+use Rattle.c_tokens.specs.declared.punctuator.Punctuator.{Punctuator}
 use Rattle.c_tokens.specs.declared.punctuator.Punctuator.TheVariants as P
 use Rattle.c_tokens.specs.declared.token.Token.{Token}
 use Rattle.c_tokens.specs.declared.token.TokenKind.{TokenKind}
@@ -13,19 +15,20 @@ use Rattle.c_tree.specs.Trees.{ExpressionTree, Number, Variable, Element, Parent
 use Rattle.c_tree.specs.Signs.{unary_sign, binary_sign, binding, operand_level}
 use Rattle.c_tree.specs.Heights.{expression_height}
 use Rattle.c_tree.specs.Expressions.{IsExpressionAt}
-use Rattle.c_tree.specs.Parts.{Sign, IsName}
+use Rattle.c_tree.specs.Parts.{Sign, IsName, ◌⨾◌}
 use Rattle.c_reading.specs.declared.fault.Fault.{Fault}
 use Rattle.c_reading.specs.declared.fault.Fault.TheVariants.{TooDeep}
-use Rattle.c_reading.specs.Reading.{◌>>=◌, Takes}
+use Rattle.c_reading.specs.Reading.{◌>>=◌, misfit, Takes}
 use Rattle.c_reading.specs.Peeking.{is_sign, is_sign_next, is_type_next}
 use Rattle.c_reading.specs.Tokens.{sign, placed_name, constant, integer_type}
 use Rattle.c_reading.proofs.Laws.{done, ok_is, bind_ok, takes_then}
 use Rattle.c_reading.proofs.Tokens.{sign_takes, placed_name_takes, constant_takes, integer_type_takes}
-use Rattle.c_expressions.specs.declared.next.Next.TheVariants.{Operator, Choice, Stop}
-use Rattle.c_expressions.specs.Operators.{unary_of, next, Stops}
-use Rattle.c_expressions.specs.Operands.{Levels, number, indexed, variable, cast, enclosed, parenthesized, signed, perhaps_signed, operand_at, operand}
-use Rattle.c_expressions.specs.Reading.{operated, chosen, if_room, by_next, chain}
-use Rattle.c_expressions.proofs.Continuing.{is_operator, next-between, choice_level, height-positive, lower_level}
+use Rattle.c_expression_laws.specs.declared.next.Next.{Next}
+use Rattle.c_expression_laws.specs.declared.next.Next.TheVariants.{Operator, Choice, Stop}
+use Rattle.c_expression_laws.specs.Operators.{unary_of, next, Stops}
+use Rattle.c_expression_laws.specs.Operands.{Levels, number, indexed, variable, cast, enclosed, parenthesized, signed, perhaps_signed, operand_at, operand}
+use Rattle.c_expression_laws.specs.Reading.{operated, chosen, if_room, by_next, chain}
+use Rattle.c_expression_laws.proofs.Continuing.{IsOperator, is_operator, next-between, choice_level, stops_operand, height-positive, lower_level}
 
 abbrev pub Found : Type 0
 Found = ExpressionTree × List Token

@@ -10,7 +10,7 @@ use Rattle.c_tree.specs.Signs.{unary_sign, operand_level}
 use Rattle.c_reading.specs.Reading.{Reading, ◌>>=◌, misfit}
 use Rattle.c_reading.specs.Peeking.{is_sign, is_sign_next, is_type_next}
 use Rattle.c_reading.specs.Tokens.{sign, placed_name, constant, integer_type}
-use Rattle.c_expressions.specs.Operators.{unary_of}
+use Rattle.c_expression_laws.specs.Operators.{unary_of}
 
 -- a reading of expressions at each level of the grammar
 abbrev pub Levels : Type 0
