@@ -6,8 +6,8 @@ ghost use Rattle.c_expression_laws.specs.Operands.{number, indexed, variable, ca
 ghost use Rattle.c_expression_laws.specs.Reading.{operated, chosen, if_room, chain, expression_at};
 
 use crate::measured::Measured;
-use c_expression_laws::Next;
 use crate::operators::{binary_sign, binding, deep, next, unary_operator, unary_sign};
+use c_expression_laws::Next;
 use c_reading::{
     Fault, is_sign_next, is_type_next, misfit, read_constant, read_name, read_sign, read_type,
 };
