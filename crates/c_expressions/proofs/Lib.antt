@@ -1,0 +1,6 @@
+pub mod Continuing
+pub mod Taking
+pub mod Again
+pub mod Staying
+pub mod Laws
+pub mod Steps
