@@ -3,4 +3,7 @@ pub mod Commas
 pub mod Repeating
 pub mod Listing
 pub mod Readers
-pub mod Globals
+pub mod OfGlobals
+pub mod Functions
+pub mod Declaring
+pub mod Laws

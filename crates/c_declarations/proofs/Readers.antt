@@ -94,7 +94,7 @@ expression_filled (E.Binary o a b) level s = left_filled (expression_filled a (b
 expression_filled (E.Conditional c a b) level s = left_filled (expression_filled c 1) s.1
 
 pub other_sign : (p q : Punctuator) → is_sign q (T.Punctuator p) ≡ false → (xs rest : List Token) → Sign p xs → is_sign_next q (xs ++ rest) ≡ false
-other_sign p q no xs rest s = rw (s.2, s.1) no
+other_sign p q other xs rest s = rw (s.2, s.1) other
 
 pub sign_no_word : (p : Punctuator) (k : Keyword) (xs rest : List Token) → Sign p xs → is_word_next k (xs ++ rest) ≡ false
 sign_no_word p k xs rest s = rw (s.2, s.1) refl

@@ -11,8 +11,8 @@ use Rattle.c_reading.specs.Reading.{Reading, ◌>>=◌, misfit, Takes, Stays}
 use Rattle.c_reading.specs.Peeking.{is_sign_next}
 use Rattle.c_reading.specs.Tokens.{sign}
 use Rattle.c_statements.specs.Combining.{◌▷◌, ◌&◌, made, either, repeated, each, commas}
-use Rattle.c_statements.proofs.Laws.{IsReader, IsTaken, Any, ok_is, bind_ok, bind_is, chosen, Keeps, keeps_same, keeps_either, keeps_made, keeps_both}
-use Rattle.c_declarations.specs.Reading.{here}
+use Rattle.c_statements.proofs.Laws.{IsReader, IsTaken, Any, done, ok_is, bind_ok, bind_is, chosen, Keeps, keeps_same, keeps_either, keeps_made, keeps_both}
+use Rattle.c_declarations.specs.Reading.{here, is_next_there}
 
 -- Some part that is spelled has a token.
 abbrev pub IsFilled : {A : Type 0} → (A → List Token → Type 0) → Type 0
@@ -47,7 +47,7 @@ module _ {A : Type 0} {part : Reading A} {F : A → Type 0} {P L E : A → List 
   placed = record { takes = placed_takes; again = placed_again }
 
 module _ {A : Type 0} (goes : List Token → Bool) {part : Reading A} {F : A → Type 0} {P L E : A → List Token → Type 0} (p : IsReader part F P L E) where
-  none_taken : (ts : List Token) (xs : List A) (rest : List Token) → Ok ([], ts) ≡ Ok (xs, rest) → IsTaken (AllByRecursion F) (Many P) Any ts xs rest
+  none_taken : (ts : List Token) (xs : List A) (rest : List Token) → done ([], ts) ≡ done (xs, rest) → IsTaken (AllByRecursion F) (Many P) Any ts xs rest
   none_taken ts xs rest e =
       subst (λ (z : List A × List Token). IsTaken (AllByRecursion F) (Many P) Any ts z.0 z.1) (ok_is ([], ts) (xs, rest) e)
       (record { fits = tt; leaves = tt; front = []; spelled = refl; parts = refl })
@@ -111,6 +111,29 @@ module _ {A : Type 0} (goes : List Token → Bool) {part : Reading A} {F : A →
         let one : part (us ++ (vs ++ rest)) ≡ Ok (x, vs ++ rest) = p.again x us (vs ++ rest) fits.0 s.2 (between x xs vs rest s.3 end) in
         let more : repeated goes part limit (vs ++ rest) ≡ Ok (xs, rest) = repeated_again limit xs vs rest fits.1 s.3 (shorter x us vs limit s.2 (subst (λ (l : List Token). length l ≤ suc limit) s.4 le)) end in
         rw (e, go, one, more) refl
+
+-- Parts up to the end leave nothing.
+module _ {A : Type 0} {part : Reading A} {F : A → Type 0} {P L E : A → List Token → Type 0} (p : IsReader part F P L E) (filled : IsFilled P) where
+  left_less : (x : A) (us rest ts : List Token) (limit : ℕ) → P x us → ts ≡ us ++ rest → length ts ≤ suc limit → length rest ≤ limit
+  left_less x [] rest ts limit s e le = absurd (filled x s)
+  left_less x (u ∷ us) rest ts limit s e le =
+      let n = ap (λ (l : List Token). length l) e in
+      let m = length-append us rest in
+      omega arith
+
+  pub repeated_whole : (limit : ℕ) (ts : List Token) (xs : List A) (rest : List Token) → length ts ≤ limit → repeated is_next_there part limit ts ≡ Ok (xs, rest) → rest ≡ []
+  unfolding repeated
+  repeated_whole zero [] xs rest le e = ap (λ (z : List A × List Token). z.1) (ok_is (xs, rest) ([], []) (sym e))
+  repeated_whole zero (t ∷ ts) xs rest le e = absurd (omega arith)
+  repeated_whole (suc limit) [] xs rest le e = ap (λ (z : List A × List Token). z.1) (ok_is (xs, rest) ([], []) (sym e))
+  repeated_whole (suc limit) (t ∷ ts) xs rest le e =
+      let a = bind_ok ((part & repeated is_next_there part limit) (t ∷ ts)) (λ (x : (A × List A) × List Token). Ok (x.0.0 ∷ x.0.1, x.1)) (xs, rest) e in
+      let b = bind_ok (part (t ∷ ts)) (λ x. repeated is_next_there part limit x.1 >>= λ y. Ok ((x.0, y.0), y.1)) a.0 a.1 in
+      let c = bind_ok (repeated is_next_there part limit b.0.1) (λ y. Ok ((b.0.0, y.0), y.1)) a.0 b.2 in
+      let one = p.takes (t ∷ ts) b.0.0 b.0.1 b.1 in
+      let end = repeated_whole limit b.0.1 c.0.0 c.0.1 (left_less b.0.0 one.front b.0.1 (t ∷ ts) limit one.spelled one.parts le) c.1 in
+      let same = ap (λ (z : (A × List A) × List Token). z.1) (ok_is ((b.0.0, c.0.0), c.0.1) a.0 c.2) ∙ ap (λ (z : List A × List Token). z.1) (ok_is (a.0.0.0 ∷ a.0.0.1, a.0.1) (xs, rest) a.2) in
+      sym same ∙ end
 
 -- What reads the same with more room does so again and again.
 pub keeps_repeated : {A : Type 0} (goes : List Token → Bool) {part more : Reading A} → Keeps part more → (limit : ℕ) → Keeps (repeated goes part limit) (repeated goes more limit)

@@ -32,7 +32,7 @@ use Rattle.c_declarations.proofs.Readers.{sign_mark, constant_law, name_law, typ
 module _ {A B : Type 0} (make : A → B) (back : B → A) (same : (y : B) → make (back y) ≡ y) {part : Reading A} {F : A → Type 0} {P L E : A → List Token → Type 0} (p : IsReader part F P L E) (G : B → Type 0) (Q D : B → List Token → Type 0) (fits : (x : A) → F x → G (make x)) (spells : (x : A) (xs : List Token) → P x xs → Q (make x) xs) (fit : (y : B) → G y → F (back y)) (spell : (y : B) (xs : List Token) → Q y xs → P (back y) xs) (end : (y : B) (rest : List Token) → D y rest → E (back y) rest) where
   pub made_law : IsReader (made make part) G Q Any D
   made_law = record {
-    takes = made_takes make p {G} {Q} {Any} fits spells (λ x rest l. tt);
+    takes = made_takes make p {G = G} {Q = Q} {M = Any} fits spells (λ x rest l. tt);
     again = λ y xs rest g q d. made_again make p (back y) xs rest (fit y g) (spell y xs q) (end y rest d) ∙ ap (λ (z : B). Ok (z, rest)) (same y);
   }
 
@@ -94,8 +94,8 @@ pub initializer_law : (room : ℕ) → IsReader (initializer room) (FitsInitiali
 unfolding initializer
 initializer_law room = record {
   takes = either_takes (is_sign_next LeftBrace) (made (λ is. T.Braced is) (sign LeftBrace ▷ commas (initial room) ◁ sign RightBrace)) (made (λ i. T.Single i) (initial room))
-      (λ ts x rest h. made_takes (λ is. T.Braced is) (braces_law room) {FitsInitializer room} {IsInitializer} {Any} (λ is f. f) braces_spelled (λ is rest l. tt) ts x rest)
-      (λ ts x rest h. made_takes (λ i. T.Single i) (initial_law room) {FitsInitializer room} {IsInitializer} {Any} (λ i f. f) (λ i xs s. s) (λ i rest l. tt) ts x rest);
+      (λ ts x rest h. made_takes (λ is. T.Braced is) (braces_law room) {G = FitsInitializer room} {Q = IsInitializer} {M = Any} (λ is f. f) braces_spelled (λ is rest l. tt) ts x rest)
+      (λ ts x rest h. made_takes (λ i. T.Single i) (initial_law room) {G = FitsInitializer room} {Q = IsInitializer} {M = Any} (λ i f. f) (λ i xs s. s) (λ i rest l. tt) ts x rest);
   again = initializer_again room;
 }
 

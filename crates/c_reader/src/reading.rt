@@ -1,0 +1,78 @@
+//! The reader of a whole text.
+
+ghost use Rattle.std.specs.Prelude.{◌≡◌, IfOk, IfErr, Ok, map, []};
+ghost use Rattle.c_tree.specs.Heights.{highest};
+ghost use Rattle.c_tree.specs.Declarations.{end_of};
+ghost use Rattle.c_tree.specs.Views.{declaration_tree};
+ghost use Rattle.c_declarations.specs.Reading.{declarations};
+ghost use Rattle.c_reader.specs.Telling.{IsFault, Tells};
+
+use crate::errors::ReadError;
+use crate::unit::Unit;
+use c_declarations::{Misread, read_declaration};
+use c_reading::Fault;
+use c_tokens::Token;
+use c_tree::Declaration;
+use std::alloc::Global;
+
+/// Where the last token ends, 0 where there is none.
+fn end_of(tokens: &[Token]) -> usize
+    ensures { result ≡ end_of tokens.now }
+{
+    match tokens.last() {
+        Some(token) => token.end,
+        None => 0,
+    }
+}
+
+/// The byte offset of the first token.
+fn begin_of(tokens: &[Token]) -> usize {
+    match tokens {
+        [] => 0,
+        [token, _rest @ ..] => token.start,
+    }
+}
+
+/// What is told where a declaration that begins with these tokens is not read.
+fn told(misread: Misread, tokens: &[Token], end: usize) -> ReadError
+    ensures { IsFault result misread.fault }
+{
+    match misread.fault {
+        Fault::NoMemory => ReadError::NoMemory,
+        Fault::Syntax(at) => ReadError::Syntax(at.unwrap_or(end)),
+        Fault::TooDeep => ReadError::TooDeep(misread.initial.unwrap_or(begin_of(tokens))),
+    }
+}
+
+/// Declarations up to the end, which is at this offset.
+fn read_declarations(
+    alloc: Global,
+    tokens: &[Token],
+    end: usize,
+) -> Result<(Vec<Declaration>, &[Token]), ReadError>
+    ensures ok { IfOk result (λ r. declarations highest tokens.now ≡ Ok (map declaration_tree r.0.items, r.1.now)) }
+    ensures err { IfErr result (λ e. Tells e (declarations highest tokens.now)) }
+{
+    let mut read = Vec::new(alloc);
+    let mut rest = tokens;
+    for _ in 0..tokens.len() {
+        if rest.is_empty() {
+            break;
+        }
+        match read_declaration(alloc, rest) {
+            Ok((declaration, behind)) => {
+                read.push(declaration)?;
+                rest = behind;
+            }
+            Err(misread) => return Err(told(misread, rest, end)),
+        }
+    }
+    Ok((read, rest))
+}
+
+/// The text that the tokens spell.
+pub fn read(alloc: Global, tokens: &[Token]) -> Result<Unit, ReadError> {
+    let end = end_of(tokens);
+    let (declarations, _rest) = read_declarations(alloc, tokens, end)?;
+    Ok(Unit::new(declarations, end))
+}
