@@ -24,7 +24,7 @@ use Rattle.c_reading.proofs.Tokens.{is_sign_next-again, is_word_next-again, inte
 use Rattle.c_statements.specs.Combining.{◌▷◌, made, either, repeated}
 use Rattle.c_statements.specs.Parts.{under}
 use Rattle.c_statements.specs.Reading.{block_in, statement_at}
-use Rattle.c_statements.proofs.Laws.{IsReader, IsTaken, Any, Whatever, after, made_takes, made_again, either_takes, either_first, either_second, chosen, bind_ok, bind_is, ok_is, under_law, Keeps, keeps_same, keeps_made, keeps_either, keeps_under, stays_bind}
+use Rattle.c_declarations.proofs.Combining.{IsReader, IsTaken, Any, Whatever, after, made_takes, made_again, either_takes, either_first, either_second, chosen, bind_ok, bind_is, ok_is, under_law, Keeps, keeps_same, keeps_made, keeps_either, keeps_under, stays_bind}
 use Rattle.c_declarations.specs.Parameters.{all_named}
 use Rattle.c_declarations.specs.Reading.{heading, body, function, headed, callable, is_callable_next, is_call_behind, global, declaration, is_next_there, declarations}
 use Rattle.c_declarations.proofs.Repeating.{IsFilled, Many, Repeats, repeated_takes, repeated_again, keeps_each}
@@ -67,15 +67,16 @@ IsBehind p (T.Global g) xs = ⊥
 IsBehind p (T.Function f) xs = (p.result ≡ f.result) × (p.name ≡ f.name) × (all_named p.parameters ≡ Some f.parameters) × IsBody f.body xs
 IsBehind p (T.Prototype' q) xs = (p ≡ q) × Sign Semicolon xs
 
-no_value : (ts : List Token) (d : DeclarationTree) (rest : List Token) → misfit ts ≡ Ok (d, rest) → ⊥
+no_value : (ts : List Token) (d : DeclarationTree) (rest : List Token) → misfit {A = DeclarationTree × List Token} ts ≡ Ok (d, rest) → ⊥
 no_value [] d rest e = cc
 no_value (t ∷ ts) d rest e = cc
 
 abbrev pub open_prototype : Prototype → Reading DeclarationTree
 open_prototype p = sign Semicolon ▷ (λ rest. Ok (T.Prototype' p, rest))
 
-module _ (block_law : (r : ℕ) → IsReader (block_in (statement_at r)) (FitsBlock r) IsBody Any Any) where
-  body_law : (room : ℕ) → IsReader (body room) (FitsBody room) IsBody Any Any
+-- what may follow a block is not asked where only what was read counts
+module _ {E : StatementsTree → List Token → Type 0} (block_law : (r : ℕ) → IsReader (block_in (statement_at r)) (FitsBlock r) IsBody Any E) where
+  pub body_law : (room : ℕ) → IsReader (body room) (FitsBody room) IsBody Any E
   unfolding body
   body_law room = under_law FitsBody block_law (λ r s f. omega arith) (λ r s f. omega arith) (λ s f. omega arith) room
 
@@ -134,12 +135,13 @@ module _ (block_law : (r : ℕ) → IsReader (block_in (statement_at r)) (FitsBl
       (λ ts d rest h e. callable_takes room ts d rest e)
       (λ ts d rest h e. made_takes (λ g. T.Global g) (global_law room) {G = FitsDeclaration room} {Q = IsDeclaration} {M = Any} (λ g f. f) (λ g xs s. s) (λ g rest l. tt) ts d rest e)
 
-  -- ---- whatever is spelled is read
+-- ---- whatever is spelled is read
 
+module _ (block_law : (r : ℕ) → IsReader (block_in (statement_at r)) (FitsBlock r) IsBody Any Any) where
   function_again : (room : ℕ) (p : Prototype) (f : FunctionTree) (xs rest : List Token) → FitsBody room f.body → IsBehind p (T.Function f) xs → function room p (all_named p.parameters) (xs ++ rest) ≡ Ok (T.Function f, rest)
   function_again room p f xs rest fits b =
       ap (λ o. function room p o (xs ++ rest)) b.2
-      ∙ made_again (λ s. T.Function (record { result = p.result; name = p.name; parameters = f.parameters; body = s })) (body_law room) f.body xs rest fits b.3 tt
+      ∙ made_again (λ s. T.Function (record { result = p.result; name = p.name; parameters = f.parameters; body = s })) (body_law block_law room) f.body xs rest fits b.3 tt
       ∙ ap (λ r. Ok (T.Function (record { result = r; name = p.name; parameters = f.parameters; body = f.body }), rest)) b.0
       ∙ ap (λ x. Ok (T.Function (record { result = f.result; name = x; parameters = f.parameters; body = f.body }), rest)) b.1
 

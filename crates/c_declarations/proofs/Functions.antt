@@ -20,7 +20,7 @@ use Rattle.c_reading.specs.Peeking.{is_sign_next, is_word_next, is_name_next}
 use Rattle.c_reading.specs.Tokens.{sign, word, integer_type, placed_name}
 use Rattle.c_reading.proofs.Tokens.{is_word_next-again}
 use Rattle.c_statements.specs.Combining.{◌▷◌, ◌◁◌, ◌&◌, made, either, missing, there, commas}
-use Rattle.c_statements.proofs.Laws.{IsReader, IsTaken, Any, Whatever, after, before, both, made_takes, made_again, either_takes, either_first, either_second, only, bind_ok, bind_is, ok_is}
+use Rattle.c_declarations.proofs.Combining.{IsReader, IsTaken, Any, Whatever, after, before, both, made_takes, made_again, either_takes, either_first, either_second, only, bind_ok, bind_is, ok_is}
 use Rattle.c_declarations.specs.Parameters.{named_by, named, joined, all_named}
 use Rattle.c_declarations.specs.Reading.{here, open_parameter, open_parameters, return_type, heading}
 use Rattle.c_declarations.proofs.Repeating.{placed}

@@ -9,7 +9,7 @@ use Rattle.c_tokens.specs.declared.token.Token.{Token}
 use Rattle.c_tree.specs.declared.declaration.ReturnType.{ReturnType}
 use Rattle.c_tree.specs.declared.declaration.ReturnType.TheVariants as R
 use Rattle.c_tree.specs.declared.declaration.Prototype.{Prototype}
-use Rattle.c_tree.specs.Trees.{DeclarationTree, InitializerTree}
+use Rattle.c_tree.specs.Trees.{StatementsTree, DeclarationTree, InitializerTree}
 use Rattle.c_tree.specs.Trees as T
 use Rattle.c_tree.specs.Heights.{highest, IsLow, IsLowInitializer, IfThere}
 use Rattle.c_tree.specs.Parts.{◌⨾◌, Nothing}
@@ -19,7 +19,7 @@ use Rattle.c_reading.specs.Reading.{Reading, ◌>>=◌, Stays}
 use Rattle.c_reading.specs.Peeking.{is_sign_next}
 use Rattle.c_statements.specs.Combining.{made, either, repeated}
 use Rattle.c_statements.specs.Reading.{block_in, statement_at}
-use Rattle.c_statements.proofs.Laws.{IsReader, IsTaken, Any, made_again, either_first, either_second, Keeps, keeps_same, keeps_made, keeps_either, keeps_under, stays_bind}
+use Rattle.c_declarations.proofs.Combining.{IsReader, IsTaken, Any, made_again, either_first, either_second, Keeps, keeps_same, keeps_made, keeps_either, keeps_under, stays_bind}
 use Rattle.c_declarations.specs.Reading.{heading, body, function, headed, callable, is_callable_next, global, declaration, is_next_there, declarations}
 use Rattle.c_declarations.specs.Parameters.{all_named}
 use Rattle.c_declarations.proofs.Repeating.{IsFilled, Many, Repeats, repeated_takes, repeated_again, keeps_each, repeated_whole}
@@ -52,6 +52,22 @@ some_there d (x ∷ xs) rest s = refl
 abbrev AtEnd : List Token → Type 0
 AtEnd rest = rest ≡ []
 
+abbrev Never : {A : Type 0} → A → List Token → Type 0
+Never x rest = ⊥
+
+module _ {E : StatementsTree → List Token → Type 0} (block_law : (r : ℕ) → IsReader (block_in (statement_at r)) (FitsBlock r) IsBody Any E) where
+  declaration_sound : (room : ℕ) → IsReader (declaration room) (FitsDeclaration room) IsDeclaration Any Never
+  declaration_sound room = record { takes = declaration_takes block_law room; again = λ d xs rest fits s end. absurd end }
+
+  -- What is read is spelled so, up to the end, and fits the room.
+  pub declarations_takes : (room : ℕ) (ts : List Token) (ds : List DeclarationTree) (rest : List Token) → declarations room ts ≡ Ok (ds, rest) → AreDeclarations ds ts × AllByRecursion (FitsDeclaration room) ds × (rest ≡ [])
+  unfolding declarations
+  declarations_takes room ts ds rest e =
+      let t = repeated_takes is_next_there (declaration_sound room) (length ts) ts ds rest e in
+      let end = repeated_whole (declaration_sound room) declaration_filled (length ts) ts ds rest (omega arith) e in
+      let same : ts ≡ t.front = t.parts ∙ ap (λ (l : List Token). t.front ++ l) end ∙ append-nil t.front in
+      (subst (λ (l : List Token). AreDeclarations ds l) (sym same) (from_many ds t.front t.spelled), t.fits, end)
+
 module _ (block_law : (r : ℕ) → IsReader (block_in (statement_at r)) (FitsBlock r) IsBody Any Any) where
   callable_again : (room : ℕ) (p : Prototype) (d : DeclarationTree) (xs rest : List Token) → FitsDeclaration room d → (IsHeading p ⨾ IsBehind p d) xs → declaration room (xs ++ rest) ≡ Ok (d, rest)
   unfolding declaration
@@ -79,15 +95,6 @@ module _ (block_law : (r : ℕ) → IsReader (block_in (statement_at r)) (FitsBl
     last = λ x rest end. tt;
     stops = λ rest end. ap is_next_there end;
   }
-
-  -- What is read is spelled so, up to the end, and fits the room.
-  pub declarations_takes : (room : ℕ) (ts : List Token) (ds : List DeclarationTree) (rest : List Token) → declarations room ts ≡ Ok (ds, rest) → AreDeclarations ds ts × AllByRecursion (FitsDeclaration room) ds × (rest ≡ [])
-  unfolding declarations
-  declarations_takes room ts ds rest e =
-      let t = repeated_takes is_next_there (declaration_law room) (length ts) ts ds rest e in
-      let end = repeated_whole (declaration_law room) declaration_filled (length ts) ts ds rest (omega arith) e in
-      let same : ts ≡ t.front = t.parts ∙ ap (λ (l : List Token). t.front ++ l) end ∙ append-nil t.front in
-      (subst (λ (l : List Token). AreDeclarations ds l) (sym same) (from_many ds t.front t.spelled), t.fits, end)
 
   -- What is spelled so, and fits the room, is read.
   pub declarations_again : (room : ℕ) (ts : List Token) (ds : List DeclarationTree) → AreDeclarations ds ts → AllByRecursion (FitsDeclaration room) ds → declarations room ts ≡ Ok (ds, [])

@@ -1,3 +1,4 @@
+pub mod Combining
 pub mod Naming
 pub mod Commas
 pub mod Repeating
@@ -7,3 +8,4 @@ pub mod OfGlobals
 pub mod Functions
 pub mod Declaring
 pub mod Laws
+pub mod Refusing

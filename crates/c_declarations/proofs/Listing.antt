@@ -11,7 +11,7 @@ use Rattle.c_reading.specs.Peeking.{is_sign_next}
 use Rattle.c_reading.specs.Tokens.{sign}
 use Rattle.c_reading.proofs.Tokens.{sign_takes, sign_again, is_sign_next-again}
 use Rattle.c_statements.specs.Combining.{◌▷◌, ◌&◌, made, repeated, each, commas}
-use Rattle.c_statements.proofs.Laws.{IsMark, IsReader, IsTaken, Any, ok_is, bind_ok, after, Keeps, keeps_made, keeps_both, keeps_after}
+use Rattle.c_declarations.proofs.Combining.{IsMark, IsReader, IsTaken, Any, ok_is, bind_ok, after, Keeps, keeps_made, keeps_both, keeps_after}
 use Rattle.c_declarations.proofs.Repeating.{IsFilled, Many, Repeats, repeated_takes, repeated_again, keeps_each}
 
 -- at least one, and commas

@@ -22,7 +22,7 @@ use Rattle.c_expressions.specs.Reading.{expression_at}
 use Rattle.c_expressions.proofs.Continuing.{ends_behind}
 use Rattle.c_expressions.proofs.Laws.{expression_stays}
 use Rattle.c_statements.specs.Combining.{◌▷◌, ◌◁◌, ◌&◌, made, either, missing, there, commas}
-use Rattle.c_statements.proofs.Laws.{IsReader, IsTaken, Any, Whatever, EndsOption, after, before, both, made_takes, made_again, either_takes, either_first, either_second, only, Keeps, keeps_same, keeps_after, keeps_before, keeps_both, keeps_made, keeps_either}
+use Rattle.c_declarations.proofs.Combining.{IsReader, IsTaken, Any, Whatever, EndsOption, after, before, both, made_takes, made_again, either_takes, either_first, either_second, only, Keeps, keeps_same, keeps_after, keeps_before, keeps_both, keeps_made, keeps_either}
 use Rattle.c_declarations.specs.Reading.{here, initial, initializer, size, beginning, global}
 use Rattle.c_declarations.proofs.Repeating.{placed}
 use Rattle.c_declarations.proofs.Listing.{Listed, Lists, listed, keeps_commas}

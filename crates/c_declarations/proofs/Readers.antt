@@ -27,7 +27,7 @@ use Rattle.c_reading.proofs.Tokens.{sign_takes, sign_again, word_takes, word_aga
 use Rattle.c_expressions.specs.Operators.{Ends}
 use Rattle.c_expressions.specs.Reading.{expression_at}
 use Rattle.c_expressions.proofs.Laws.{expression_takes, expression_again}
-use Rattle.c_statements.proofs.Laws.{IsMark, IsReader, IsTaken, Any, Whatever}
+use Rattle.c_declarations.proofs.Combining.{IsMark, IsReader, IsTaken, Any, Whatever}
 
 pub sign_mark : (p : Punctuator) → IsMark (sign p) (Sign p)
 sign_mark p = record { takes = sign_takes p; again = sign_again p }

@@ -11,7 +11,7 @@ use Rattle.c_reading.specs.Reading.{Reading, ◌>>=◌, misfit, Takes, Stays}
 use Rattle.c_reading.specs.Peeking.{is_sign_next}
 use Rattle.c_reading.specs.Tokens.{sign}
 use Rattle.c_statements.specs.Combining.{◌▷◌, ◌&◌, made, either, repeated, each, commas}
-use Rattle.c_statements.proofs.Laws.{IsReader, IsTaken, Any, done, ok_is, bind_ok, bind_is, chosen, Keeps, keeps_same, keeps_either, keeps_made, keeps_both}
+use Rattle.c_declarations.proofs.Combining.{IsReader, IsTaken, Any, done, ok_is, bind_ok, bind_is, chosen, Keeps, keeps_same, keeps_either, keeps_made, keeps_both}
 use Rattle.c_declarations.specs.Reading.{here, is_next_there}
 
 -- Some part that is spelled has a token.
@@ -47,7 +47,7 @@ module _ {A : Type 0} {part : Reading A} {F : A → Type 0} {P L E : A → List 
   placed = record { takes = placed_takes; again = placed_again }
 
 module _ {A : Type 0} (goes : List Token → Bool) {part : Reading A} {F : A → Type 0} {P L E : A → List Token → Type 0} (p : IsReader part F P L E) where
-  none_taken : (ts : List Token) (xs : List A) (rest : List Token) → done ([], ts) ≡ done (xs, rest) → IsTaken (AllByRecursion F) (Many P) Any ts xs rest
+  none_taken : (ts : List Token) (xs : List A) (rest : List Token) → done {A = List A × List Token} ([], ts) ≡ done (xs, rest) → IsTaken (AllByRecursion F) (Many P) Any ts xs rest
   none_taken ts xs rest e =
       subst (λ (z : List A × List Token). IsTaken (AllByRecursion F) (Many P) Any ts z.0 z.1) (ok_is ([], ts) (xs, rest) e)
       (record { fits = tt; leaves = tt; front = []; spelled = refl; parts = refl })

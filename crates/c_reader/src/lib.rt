@@ -9,3 +9,6 @@ mod unit;
 pub use errors::ReadError;
 pub use reading::read;
 pub use unit::Unit;
+
+#[cfg(test)]
+mod tests;

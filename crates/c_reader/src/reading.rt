@@ -1,10 +1,11 @@
 //! The reader of a whole text.
 
-ghost use Rattle.std.specs.Prelude.{◌≡◌, IfOk, IfErr, Ok, map, []};
+ghost use Rattle.std.specs.Prelude.{◌≡◌, IfOk, IfErr, Ok, List, map};
 ghost use Rattle.c_tree.specs.Heights.{highest};
 ghost use Rattle.c_tree.specs.Declarations.{end_of};
 ghost use Rattle.c_tree.specs.Views.{declaration_tree};
-ghost use Rattle.c_declarations.specs.Reading.{declarations};
+ghost use Rattle.c_tokens.specs.declared.token.Token.{Token};
+ghost use Rattle.c_declarations.specs.Reading.{is_next_there, declarations};
 ghost use Rattle.c_reader.specs.Telling.{IsFault, Tells};
 
 use crate::errors::ReadError;
@@ -16,12 +17,23 @@ use c_tree::Declaration;
 use std::alloc::Global;
 
 /// Where the last token ends, 0 where there is none.
+#[tactic(auto, using(crate::proofs::Ends::last_end))]
 fn end_of(tokens: &[Token]) -> usize
     ensures { result ≡ end_of tokens.now }
 {
     match tokens.last() {
         Some(token) => token.end,
         None => 0,
+    }
+}
+
+/// Whether a token is next.
+fn is_next_there(tokens: &[Token]) -> bool
+    ensures { result ≡ is_next_there tokens.now }
+{
+    match tokens {
+        [] => false,
+        [_token, _rest @ ..] => true,
     }
 }
 
@@ -45,6 +57,7 @@ fn told(misread: Misread, tokens: &[Token], end: usize) -> ReadError
 }
 
 /// Declarations up to the end, which is at this offset.
+#[tactic(auto, using(c_statements::proofs::Loops::each_begins), unfolding(c_declarations::specs::Reading::declarations))]
 fn read_declarations(
     alloc: Global,
     tokens: &[Token],
@@ -56,7 +69,7 @@ fn read_declarations(
     let mut read = Vec::new(alloc);
     let mut rest = tokens;
     for _ in 0..tokens.len() {
-        if rest.is_empty() {
+        if !is_next_there(rest) {
             break;
         }
         match read_declaration(alloc, rest) {
@@ -71,7 +84,10 @@ fn read_declarations(
 }
 
 /// The text that the tokens spell.
-pub fn read(alloc: Global, tokens: &[Token]) -> Result<Unit, ReadError> {
+pub fn read(alloc: Global, tokens: &[Token]) -> Result<Unit, ReadError>
+    ensures ok { IfOk result (λ u. (rest : List Token) × (declarations highest tokens.now ≡ Ok (u.declarations, rest)) × (u.end ≡ end_of tokens.now)) }
+    ensures err { IfErr result (λ e. Tells e (declarations highest tokens.now)) }
+{
     let end = end_of(tokens);
     let (declarations, _rest) = read_declarations(alloc, tokens, end)?;
     Ok(Unit::new(declarations, end))

@@ -1,8 +1,7 @@
 use c_tree::Declaration;
 use std::marker::Model;
 
-/// What a text declares, in order, and where its last token ends. No function and no initial expression is
-/// higher than 200.
+/// What a text declares, in order, and where its last token ends.
 #[derive(Drop)]
 pub struct Unit {
     declarations: Vec<Declaration>,
@@ -11,26 +10,19 @@ pub struct Unit {
 
 impl Model for Unit {
     ghost use Rattle.std.specs.Prelude.{map};
-    ghost use Rattle.std.specs.List.{AllByRecursion};
-    ghost use Rattle.c_tree.specs.Heights.{IsLow};
     ghost use Rattle.c_tree.specs.Trees.{UnitTree};
     ghost use Rattle.c_tree.specs.Views.{declaration_tree};
 
     ghost Value = { UnitTree };
 
     ghost view = { λ u. record { declarations = map declaration_tree u.declarations.items; end = u.end } };
-
-    ghost invariant = { λ u. AllByRecursion IsLow (map declaration_tree u.declarations.items) };
 }
 
 impl Unit {
     ghost use Rattle.std.specs.Prelude.{◌≡◌, map};
-    ghost use Rattle.std.specs.List.{AllByRecursion};
-    ghost use Rattle.c_tree.specs.Heights.{IsLow};
     ghost use Rattle.c_tree.specs.Views.{declaration_tree};
 
     pub(crate) fn new(declarations: Vec<Declaration>, end: usize) -> Unit
-        requires { AllByRecursion IsLow (map declaration_tree declarations.items) }
         ensures { result ≡ record { declarations = map declaration_tree declarations.items; end = end } }
     {
         Unit { declarations, end }
@@ -39,7 +31,6 @@ impl Unit {
     /// The declarations, in the order of the text.
     pub fn declarations(&self) -> &[Declaration]
         ensures { map declaration_tree result.now ≡ self.now.declarations }
-        ensures low { AllByRecursion IsLow (map declaration_tree result.now) }
     {
         self.declarations.as_slice()
     }
