@@ -1,5 +1,5 @@
 -- A list whose first part is not read.
-use Rattle.std.proofs.Common.{◌≡◌, List, Result, Ok, Err, refl}
+use Rattle.std.proofs.Common.{◌≡◌, List, Err, refl}
 use Rattle.c_tokens.specs.declared.token.Token.{Token}
 use Rattle.c_reading.specs.declared.fault.Fault.{Fault}
 use Rattle.c_reading.specs.Reading.{Reading}

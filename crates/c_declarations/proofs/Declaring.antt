@@ -1,10 +1,7 @@
 -- What declarations are read from, and whatever spells some is read; and what more room changes.
-use Rattle.std.proofs.Common.{◌≡◌, ℕ, zero, suc, ◌≤◌, ◌+◌, Bool, true, false, List, [], ◌∷◌, ◌++◌, length, map, Option, Some, None, Result, Ok, Err, inl, inr, refl, sym, ap, subst, ◌∙◌, append_assoc, append-nil, arith}
-use Rattle.std.proofs.lemmas.List.{length-append}
-use Rattle.std.specs.List.{AllByRecursion}
-use Rattle.std.specs.Prelude.{◌⊎◌}
+use Rattle.std.proofs.Common.{◌≡◌, ℕ, suc, ◌≤◌, true, false, List, [], ◌∷◌, ◌++◌, map, Option, Some, None, Ok, refl, sym, ap, subst, ◌∙◌, append_assoc, arith}
 use Rattle.c_tokens.specs.declared.keyword.Keyword.TheVariants as K
-use Rattle.c_tokens.specs.declared.punctuator.Punctuator.TheVariants.{LeftParenthesis, RightParenthesis, LeftBrace, RightBrace, LeftBracket, Semicolon, Assign, Comma}
+use Rattle.c_tokens.specs.declared.punctuator.Punctuator.TheVariants.{LeftParenthesis, RightParenthesis, LeftBrace, RightBrace, LeftBracket, Semicolon, Assign}
 use Rattle.c_tokens.specs.declared.token.Token.{Token}
 use Rattle.c_tree.specs.declared.declaration.ReturnType.{ReturnType}
 use Rattle.c_tree.specs.declared.declaration.ReturnType.TheVariants as R
@@ -12,24 +9,21 @@ use Rattle.c_tree.specs.declared.declaration.Parameter.{Parameter}
 use Rattle.c_tree.specs.declared.declaration.Prototype.{Prototype}
 use Rattle.c_tree.specs.Trees.{StatementsTree, GlobalTree, FunctionTree, DeclarationTree}
 use Rattle.c_tree.specs.Trees as T
-use Rattle.c_tree.specs.Heights.{statements_height, highest, IsLow, IsLowInitializer, IsLowInitial, IfThere}
-use Rattle.c_tree.specs.Parts.{Sign, Word, IsName, IsType, ◌⨾◌, Nothing, Perhaps}
+use Rattle.c_tree.specs.Heights.{statements_height}
+use Rattle.c_tree.specs.Parts.{Sign, IsName, ◌⨾◌, Nothing, Perhaps}
 use Rattle.c_tree.specs.Statements.{AreStatements}
-use Rattle.c_tree.specs.Declarations.{IsReturnType, IsParameter, IsOpenParameter, AreParameters, IsSize, IsBeginning, IsDeclaration, AreDeclarations}
-use Rattle.c_reading.specs.declared.fault.Fault.{Fault}
-use Rattle.c_reading.specs.Reading.{Reading, ◌>>=◌, misfit, Stays}
+use Rattle.c_tree.specs.Declarations.{IsReturnType, IsOpenParameter, AreParameters, IsSize, IsBeginning, IsDeclaration}
+use Rattle.c_reading.specs.Reading.{Reading, misfit}
 use Rattle.c_reading.specs.Peeking.{is_sign_next, is_word_next, is_call_next}
 use Rattle.c_reading.specs.Tokens.{sign, integer_type}
 use Rattle.c_reading.proofs.Tokens.{is_sign_next-again, is_word_next-again, integer_type_again}
-use Rattle.c_statements.specs.Combining.{◌▷◌, made, either, repeated}
-use Rattle.c_statements.specs.Parts.{under}
+use Rattle.c_statements.specs.Combining.{◌▷◌, made}
 use Rattle.c_statements.specs.Reading.{block_in, statement_at}
-use Rattle.c_declarations.proofs.Combining.{IsReader, IsTaken, Any, Whatever, after, made_takes, made_again, either_takes, either_first, either_second, chosen, bind_ok, bind_is, ok_is, under_law, Keeps, keeps_same, keeps_made, keeps_either, keeps_under, stays_bind}
+use Rattle.c_declarations.proofs.Combining.{IsReader, IsTaken, Any, after, made_takes, made_again, either_takes, either_first, either_second, bind_ok, bind_is, under_law}
 use Rattle.c_declarations.specs.Parameters.{all_named}
-use Rattle.c_declarations.specs.Reading.{heading, body, function, headed, callable, is_callable_next, is_call_behind, global, declaration, is_next_there, declarations}
-use Rattle.c_declarations.proofs.Repeating.{IsFilled, Many, Repeats, repeated_takes, repeated_again, keeps_each}
-use Rattle.c_declarations.proofs.Readers.{sign_mark, begun, left_filled, type_filled, word_filled, other_sign, name_no_word, type_no_void}
-use Rattle.c_declarations.proofs.OfGlobals.{FitsInitializer, FitsGlobal, IsGlobal, global_law, global_keeps}
+use Rattle.c_declarations.specs.Reading.{heading, body, function, headed, callable, is_callable_next, global, declaration}
+use Rattle.c_declarations.proofs.Readers.{sign_mark, begun, other_sign, name_no_word, type_no_void}
+use Rattle.c_declarations.proofs.OfGlobals.{FitsGlobal, IsGlobal, global_law}
 use Rattle.c_declarations.proofs.Functions.{IsHeading, heading_law, nothing_law, alone, with_nothing, opened, opened_named, named_parameters, open_parameters_spelled}
 
 -- ---- parts behind one another, grouped otherwise

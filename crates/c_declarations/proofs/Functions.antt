@@ -1,10 +1,9 @@
 -- What functions and prototypes are read from, and whatever spells one is read.
-use Rattle.std.proofs.Common.{◌≡◌, ℕ, zero, suc, ◌≤◌, Bool, true, false, List, [], ◌∷◌, ◌++◌, map, Option, Some, None, Result, Ok, Err, inl, inr, refl, sym, ap, subst, ◌∙◌, append_assoc, append-nil, arith}
+use Rattle.std.proofs.Common.{◌≡◌, ℕ, false, List, [], ◌∷◌, ◌++◌, map, Option, Some, None, Ok, refl, sym, ap, subst, ◌∙◌, append-nil}
 use Rattle.std.specs.List.{AllByRecursion}
-use Rattle.std.specs.Prelude.{◌⊎◌}
 use Rattle.c_tokens.specs.declared.constant.IntegerType.{IntegerType}
 use Rattle.c_tokens.specs.declared.keyword.Keyword.TheVariants as K
-use Rattle.c_tokens.specs.declared.punctuator.Punctuator.TheVariants.{LeftParenthesis, RightParenthesis, LeftBrace, RightBrace, Semicolon, Comma}
+use Rattle.c_tokens.specs.declared.punctuator.Punctuator.TheVariants.{LeftParenthesis, RightParenthesis, Comma}
 use Rattle.c_tokens.specs.declared.token.Token.{Token}
 use Rattle.c_tree.specs.declared.identifier.Identifier.{Identifier}
 use Rattle.c_tree.specs.declared.declaration.ReturnType.{ReturnType}
@@ -17,12 +16,12 @@ use Rattle.c_tree.specs.Parts.{Sign, Word, IsName, IsType, ◌⨾◌, PlacedAt, 
 use Rattle.c_tree.specs.Declarations.{IsReturnType, IsParameter, IsOpenParameter, AreParameters}
 use Rattle.c_reading.specs.Reading.{Reading}
 use Rattle.c_reading.specs.Peeking.{is_sign_next, is_word_next, is_name_next}
-use Rattle.c_reading.specs.Tokens.{sign, word, integer_type, placed_name}
+use Rattle.c_reading.specs.Tokens.{word, integer_type, placed_name}
 use Rattle.c_reading.proofs.Tokens.{is_word_next-again}
-use Rattle.c_statements.specs.Combining.{◌▷◌, ◌◁◌, ◌&◌, made, either, missing, there, commas}
-use Rattle.c_declarations.proofs.Combining.{IsReader, IsTaken, Any, Whatever, after, before, both, made_takes, made_again, either_takes, either_first, either_second, only, bind_ok, bind_is, ok_is}
+use Rattle.c_statements.specs.Combining.{◌▷◌, ◌&◌, made, either, missing, there, commas}
+use Rattle.c_declarations.proofs.Combining.{IsReader, IsTaken, Any, Whatever, after, before, both, made_takes, made_again, either_takes, either_first, either_second, only, ok_is}
 use Rattle.c_declarations.specs.Parameters.{named_by, named, joined, all_named}
-use Rattle.c_declarations.specs.Reading.{here, open_parameter, open_parameters, return_type, heading}
+use Rattle.c_declarations.specs.Reading.{open_parameter, open_parameters, return_type, heading}
 use Rattle.c_declarations.proofs.Repeating.{placed}
 use Rattle.c_declarations.proofs.Listing.{Listed, Lists, listed}
 use Rattle.c_declarations.proofs.OfGlobals.{made_law}

@@ -1,9 +1,7 @@
 -- Declarations up to the end: what is read is spelled so, what is spelled so is read, and more room changes
 -- nothing but what was too high. The laws of blocks are taken as given here.
-use Rattle.std.proofs.Common.{◌≡◌, ℕ, zero, suc, ◌≤◌, ◌+◌, Bool, true, false, List, [], ◌∷◌, ◌++◌, length, Option, Some, None, Result, Ok, Err, inl, inr, refl, sym, ap, subst, ◌∙◌, append_assoc, append-nil, arith}
-use Rattle.std.proofs.lemmas.List.{length-append}
+use Rattle.std.proofs.Common.{◌≡◌, ℕ, ◌≤◌, true, List, [], ◌∷◌, ◌++◌, length, Option, Some, None, Ok, inr, refl, sym, ap, subst, ◌∙◌, append_assoc, append-nil, arith}
 use Rattle.std.specs.List.{AllByRecursion}
-use Rattle.std.specs.Prelude.{◌⊎◌}
 use Rattle.c_tokens.specs.declared.keyword.Keyword.TheVariants as K
 use Rattle.c_tokens.specs.declared.token.Token.{Token}
 use Rattle.c_tree.specs.declared.declaration.ReturnType.{ReturnType}
@@ -12,17 +10,17 @@ use Rattle.c_tree.specs.declared.declaration.Prototype.{Prototype}
 use Rattle.c_tree.specs.Trees.{StatementsTree, DeclarationTree, InitializerTree}
 use Rattle.c_tree.specs.Trees as T
 use Rattle.c_tree.specs.Heights.{highest, IsLow, IsLowInitializer, IfThere}
-use Rattle.c_tree.specs.Parts.{◌⨾◌, Nothing}
+use Rattle.c_tree.specs.Parts.{◌⨾◌}
 use Rattle.c_tree.specs.Declarations.{IsReturnType, IsDeclaration, AreDeclarations}
 use Rattle.c_tokens.specs.declared.punctuator.Punctuator.TheVariants.{LeftBrace}
-use Rattle.c_reading.specs.Reading.{Reading, ◌>>=◌, Stays}
+use Rattle.c_reading.specs.Reading.{Stays}
 use Rattle.c_reading.specs.Peeking.{is_sign_next}
-use Rattle.c_statements.specs.Combining.{made, either, repeated}
+use Rattle.c_statements.specs.Combining.{made, repeated}
 use Rattle.c_statements.specs.Reading.{block_in, statement_at}
-use Rattle.c_declarations.proofs.Combining.{IsReader, IsTaken, Any, made_again, either_first, either_second, Keeps, keeps_same, keeps_made, keeps_either, keeps_under, stays_bind}
+use Rattle.c_declarations.proofs.Combining.{IsReader, Any, made_again, either_first, either_second, Keeps, keeps_same, keeps_made, keeps_either, keeps_under, stays_bind}
 use Rattle.c_declarations.specs.Reading.{heading, body, function, headed, callable, is_callable_next, global, declaration, is_next_there, declarations}
 use Rattle.c_declarations.specs.Parameters.{all_named}
-use Rattle.c_declarations.proofs.Repeating.{IsFilled, Many, Repeats, repeated_takes, repeated_again, keeps_each, repeated_whole}
+use Rattle.c_declarations.proofs.Repeating.{Many, Repeats, repeated_takes, repeated_again, keeps_each, repeated_whole}
 use Rattle.c_declarations.proofs.Readers.{left_filled, type_filled, word_filled}
 use Rattle.c_declarations.proofs.OfGlobals.{FitsInitializer, global_law, global_keeps}
 use Rattle.c_declarations.proofs.Functions.{IsHeading}

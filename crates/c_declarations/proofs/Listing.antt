@@ -1,18 +1,17 @@
 -- What is read and spelled where parts have a comma between each two.
-use Rattle.std.proofs.Common.{◌≡◌, ℕ, suc, ◌≤◌, ◌+◌, Bool, true, false, List, [], ◌∷◌, ◌++◌, length, Result, Ok, Err, refl, sym, ap, subst, ◌∙◌, append_assoc, append-nil, arith}
+use Rattle.std.proofs.Common.{◌≡◌, ◌≤◌, true, false, List, [], ◌∷◌, ◌++◌, length, Ok, refl, sym, ap, subst, ◌∙◌, append_assoc, append-nil, arith}
 use Rattle.std.proofs.lemmas.List.{length-append}
 use Rattle.std.specs.List.{AllByRecursion}
 use Rattle.c_tokens.specs.declared.token.Token.{Token}
 use Rattle.c_tokens.specs.declared.punctuator.Punctuator.TheVariants.{Comma}
 use Rattle.c_tree.specs.Parts.{◌⨾◌, Commas, Sign}
-use Rattle.c_reading.specs.declared.fault.Fault.{Fault}
 use Rattle.c_reading.specs.Reading.{Reading, ◌>>=◌}
 use Rattle.c_reading.specs.Peeking.{is_sign_next}
 use Rattle.c_reading.specs.Tokens.{sign}
 use Rattle.c_reading.proofs.Tokens.{sign_takes, sign_again, is_sign_next-again}
-use Rattle.c_statements.specs.Combining.{◌▷◌, ◌&◌, made, repeated, each, commas}
+use Rattle.c_statements.specs.Combining.{◌▷◌, ◌&◌, repeated, each, commas}
 use Rattle.c_declarations.proofs.Combining.{IsMark, IsReader, IsTaken, Any, ok_is, bind_ok, after, Keeps, keeps_made, keeps_both, keeps_after}
-use Rattle.c_declarations.proofs.Repeating.{IsFilled, Many, Repeats, repeated_takes, repeated_again, keeps_each}
+use Rattle.c_declarations.proofs.Repeating.{Many, Repeats, repeated_takes, repeated_again, keeps_each}
 
 -- at least one, and commas
 abbrev pub Listed : {A : Type 0} → (A → List Token → Type 0) → List A → List Token → Type 0

@@ -1,5 +1,5 @@
 -- What globals are read from, and whatever spells one is read.
-use Rattle.std.proofs.Common.{◌≡◌, ℕ, ◌≤◌, Bool, true, false, List, [], ◌∷◌, ◌++◌, Option, Some, None, Result, Ok, Err, refl, sym, ap, subst, ◌∙◌}
+use Rattle.std.proofs.Common.{◌≡◌, ℕ, ◌≤◌, true, false, List, [], ◌∷◌, ◌++◌, Option, Some, None, Ok, refl, sym, ap, subst, ◌∙◌}
 use Rattle.std.specs.List.{AllByRecursion}
 use Rattle.c_tokens.specs.declared.constant.Constant.{Constant}
 use Rattle.c_tokens.specs.declared.constant.IntegerType.{IntegerType}
@@ -10,19 +10,17 @@ use Rattle.c_tree.specs.declared.identifier.Identifier.{Identifier}
 use Rattle.c_tree.specs.Trees.{ExpressionTree, InitialTree, InitializerTree, GlobalTree}
 use Rattle.c_tree.specs.Trees as T
 use Rattle.c_tree.specs.Heights.{expression_height, IfThere}
-use Rattle.c_tree.specs.Parts.{Sign, IsConstant, IsName, IsType, ◌⨾◌, PlacedAt, Nothing, Perhaps, Commas}
-use Rattle.c_tree.specs.Expressions.{IsExpression}
+use Rattle.c_tree.specs.Parts.{Sign, IsName, IsType, ◌⨾◌, Perhaps}
 use Rattle.c_tree.specs.Declarations.{IsInitial, IsInitializer, IsSize, IsBeginning}
-use Rattle.c_reading.specs.Reading.{Reading, Stays}
+use Rattle.c_reading.specs.Reading.{Reading}
 use Rattle.c_reading.specs.Peeking.{is_sign_next, is_word_next}
-use Rattle.c_reading.specs.Tokens.{sign, integer_type, placed_name, constant}
+use Rattle.c_reading.specs.Tokens.{sign, integer_type, placed_name}
 use Rattle.c_reading.proofs.Tokens.{is_sign_next-again}
 use Rattle.c_expressions.specs.Operators.{Ends}
-use Rattle.c_expressions.specs.Reading.{expression_at}
 use Rattle.c_expressions.proofs.Continuing.{ends_behind}
 use Rattle.c_expressions.proofs.Laws.{expression_stays}
-use Rattle.c_statements.specs.Combining.{◌▷◌, ◌◁◌, ◌&◌, made, either, missing, there, commas}
-use Rattle.c_declarations.proofs.Combining.{IsReader, IsTaken, Any, Whatever, EndsOption, after, before, both, made_takes, made_again, either_takes, either_first, either_second, only, Keeps, keeps_same, keeps_after, keeps_before, keeps_both, keeps_made, keeps_either}
+use Rattle.c_statements.specs.Combining.{◌▷◌, ◌◁◌, made, missing, commas}
+use Rattle.c_declarations.proofs.Combining.{IsReader, Any, Whatever, EndsOption, after, before, both, made_takes, made_again, either_takes, either_first, either_second, only, Keeps, keeps_same, keeps_after, keeps_before, keeps_both, keeps_made, keeps_either}
 use Rattle.c_declarations.specs.Reading.{here, initial, initializer, size, beginning, global}
 use Rattle.c_declarations.proofs.Repeating.{placed}
 use Rattle.c_declarations.proofs.Listing.{Listed, Lists, listed, keeps_commas}

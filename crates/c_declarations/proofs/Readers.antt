@@ -1,6 +1,5 @@
 -- What single tokens, types and expressions are read from, how they begin, and what may follow them.
-use Rattle.std.proofs.Common.{◌≡◌, ℕ, ◌≤◌, Bool, true, false, List, [], ◌∷◌, ◌++◌, Option, Some, None, Result, Ok, Err, inl, inr, refl, sym, ap, subst, ◌∙◌, append_assoc}
-use Rattle.std.specs.Prelude.{◌⊎◌}
+use Rattle.std.proofs.Common.{◌≡◌, ℕ, ◌≤◌, true, false, List, [], ◌∷◌, ◌++◌, inl, inr, refl, sym, ap, subst, ◌∙◌, append_assoc}
 use Rattle.c_tokens.specs.declared.constant.Constant.{Constant}
 use Rattle.c_tokens.specs.declared.constant.IntegerType.{IntegerType}
 use Rattle.c_tokens.specs.declared.constant.IntegerType.TheVariants.{Int, Unsigned}
@@ -16,10 +15,10 @@ use Rattle.c_tree.specs.declared.expression.UnaryOperator.{UnaryOperator}
 use Rattle.c_tree.specs.declared.expression.UnaryOperator.TheVariants as U
 use Rattle.c_tree.specs.Trees.{ExpressionTree}
 use Rattle.c_tree.specs.Trees as E
-use Rattle.c_tree.specs.Signs.{unary_sign, binding, operand_level}
+use Rattle.c_tree.specs.Signs.{unary_sign, binding}
 use Rattle.c_tree.specs.Heights.{expression_height}
 use Rattle.c_tree.specs.Expressions.{IsExpressionAt, IsExpression}
-use Rattle.c_tree.specs.Parts.{One, OneAt, Sign, Word, IsConstant, IsName, IsType, ◌⨾◌}
+use Rattle.c_tree.specs.Parts.{One, Sign, Word, IsConstant, IsName, IsType, ◌⨾◌}
 use Rattle.c_reading.specs.Reading.{Takes}
 use Rattle.c_reading.specs.Peeking.{is_sign, is_sign_next, is_word_next, is_name_next}
 use Rattle.c_reading.specs.Tokens.{sign, word, placed_name, constant, integer_type}

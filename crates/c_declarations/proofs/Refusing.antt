@@ -1,16 +1,15 @@
 -- Where declarations are not read, none are spelled: too deep means none that are low, all else none at all.
 -- The laws of blocks are taken as given here.
-use Rattle.std.proofs.Common.{◌≡◌, ℕ, zero, suc, ◌≤◌, ◌+◌, List, [], ◌∷◌, Option, Some, None, Result, Ok, Err, inl, inr, refl, sym, ◌∙◌, arith}
+use Rattle.std.proofs.Common.{◌≡◌, ℕ, suc, ◌≤◌, ◌+◌, List, [], ◌∷◌, Option, Some, None, Result, Ok, Err, inl, inr, sym, ◌∙◌, arith}
 use Rattle.std.specs.List.{AllByRecursion}
-use Rattle.std.specs.Prelude.{◌⊎◌}
 use Rattle.c_tokens.specs.declared.token.Token.{Token}
 use Rattle.c_tree.specs.Trees.{InitialTree, InitializerTree, DeclarationTree}
 use Rattle.c_tree.specs.Trees as T
 use Rattle.c_tree.specs.Heights.{highest, expression_height, statements_height, IsLow, IfThere}
 use Rattle.c_tree.specs.Declarations.{AreDeclarations}
 use Rattle.c_reading.specs.declared.fault.Fault.{Fault}
-use Rattle.c_reading.specs.declared.fault.Fault.TheVariants.{Syntax, TooDeep}
-use Rattle.c_reading.specs.Reading.{Reading, Stays}
+use Rattle.c_reading.specs.declared.fault.Fault.TheVariants.{Syntax}
+use Rattle.c_reading.specs.Reading.{Stays}
 use Rattle.c_statements.specs.Reading.{block_in, statement_at}
 use Rattle.c_declarations.proofs.Combining.{IsReader, Any, Keeps}
 use Rattle.c_declarations.specs.Reading.{declarations}

@@ -1,16 +1,11 @@
 -- What is read and spelled where parts are repeated, and where a place stands before a part.
-use Rattle.std.proofs.Common.{◌≡◌, ℕ, zero, suc, ◌≤◌, ◌+◌, Bool, true, false, cond, List, [], ◌∷◌, ◌++◌, length, Option, Some, None, Result, Ok, Err, inl, inr, refl, sym, ap, subst, ◌∙◌, append_assoc, append-nil, arith}
+use Rattle.std.proofs.Common.{◌≡◌, ℕ, zero, suc, ◌≤◌, Bool, true, false, cond, List, [], ◌∷◌, ◌++◌, length, Ok, inl, inr, refl, sym, ap, subst, ◌∙◌, append_assoc, arith}
 use Rattle.std.proofs.lemmas.List.{length-append}
 use Rattle.std.specs.List.{AllByRecursion}
-use Rattle.std.specs.Prelude.{◌⊎◌}
 use Rattle.c_tokens.specs.declared.token.Token.{Token}
-use Rattle.c_tokens.specs.declared.punctuator.Punctuator.TheVariants.{Comma}
-use Rattle.c_tree.specs.Parts.{◌⨾◌, Nothing, PlacedAt, BeginsAt, Commas, Sign}
-use Rattle.c_reading.specs.declared.fault.Fault.{Fault}
-use Rattle.c_reading.specs.Reading.{Reading, ◌>>=◌, misfit, Takes, Stays}
-use Rattle.c_reading.specs.Peeking.{is_sign_next}
-use Rattle.c_reading.specs.Tokens.{sign}
-use Rattle.c_statements.specs.Combining.{◌▷◌, ◌&◌, made, either, repeated, each, commas}
+use Rattle.c_tree.specs.Parts.{◌⨾◌, Nothing, PlacedAt}
+use Rattle.c_reading.specs.Reading.{Reading, ◌>>=◌}
+use Rattle.c_statements.specs.Combining.{◌&◌, made, repeated, each}
 use Rattle.c_declarations.proofs.Combining.{IsReader, IsTaken, Any, done, ok_is, bind_ok, bind_is, chosen, Keeps, keeps_same, keeps_either, keeps_made, keeps_both}
 use Rattle.c_declarations.specs.Reading.{here, is_next_there}
 

@@ -1,5 +1,5 @@
 -- How declarations are read. The number is the room: an initial expression or a function that is higher is not read.
-use Rattle.std.specs.Prelude.{ℕ, Bool, true, false, List, [], ◌∷◌, Option, Some, None, Result, Ok, Err, ◌||◌, if◌then◌else◌}
+use Rattle.std.specs.Prelude.{ℕ, Bool, true, false, List, [], ◌∷◌, Option, Some, None, Result, Ok, Err, ◌||◌}
 use Rattle.c_tokens.specs.declared.constant.Constant.{Constant}
 use Rattle.c_tokens.specs.declared.constant.IntegerType.{IntegerType}
 use Rattle.c_tokens.specs.declared.keyword.Keyword.TheVariants as K
