@@ -50,7 +50,7 @@ some_there d (x ∷ xs) rest s = refl
 abbrev AtEnd : List Token → Type 0
 AtEnd rest = rest ≡ []
 
-abbrev Never : {A : Type 0} → A → List Token → Type 0
+abbrev pub Never : {A : Type 0} → A → List Token → Type 0
 Never x rest = ⊥
 
 module _ {E : StatementsTree → List Token → Type 0} (block_law : (r : ℕ) → IsReader (block_in (statement_at r)) (FitsBlock r) IsBody Any E) where

@@ -11,4 +11,6 @@ end_at (Some t) = t.end
 pub last_end : (ts : List Token) → end_at (slice_get ts (length ts - 1)) ≡ end_of ts
 last_end [] = refl
 last_end (t ∷ []) = refl
-last_end (t ∷ u ∷ ts) = last_end (u ∷ ts)
+last_end (t ∷ u ∷ ts) =
+    let k : length (t ∷ u ∷ ts) - 1 ≡ suc (length (u ∷ ts) - 1) = omega arith in
+    ap (λ (n : ℕ). end_at (slice_get (t ∷ u ∷ ts) n)) k ∙ last_end (u ∷ ts)

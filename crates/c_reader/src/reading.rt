@@ -1,11 +1,12 @@
 //! The reader of a whole text.
 
-ghost use Rattle.std.specs.Prelude.{◌≡◌, IfOk, IfErr, Ok, List, map};
-ghost use Rattle.c_tree.specs.Heights.{highest};
-ghost use Rattle.c_tree.specs.Declarations.{end_of};
+ghost use Rattle.std.specs.Prelude.{◌≡◌, IfOk, IfErr, Ok, map};
+ghost use Rattle.c_tree.specs.Heights.{highest, IsLow};
+ghost use Rattle.c_tree.specs.Declarations.{end_of, IsUnit};
 ghost use Rattle.c_tree.specs.Views.{declaration_tree};
-ghost use Rattle.c_tokens.specs.declared.token.Token.{Token};
+ghost use Rattle.std.specs.List.{AllByRecursion};
 ghost use Rattle.c_declarations.specs.Reading.{is_next_there, declarations};
+ghost use Rattle.c_reader.specs.Units.{unit_tree};
 ghost use Rattle.c_reader.specs.Telling.{IsFault, Tells};
 
 use crate::errors::ReadError;
@@ -17,7 +18,6 @@ use c_tree::Declaration;
 use std::alloc::Global;
 
 /// Where the last token ends, 0 where there is none.
-#[tactic(auto, using(crate::proofs::Ends::last_end))]
 fn end_of(tokens: &[Token]) -> usize
     ensures { result ≡ end_of tokens.now }
 {
@@ -83,9 +83,11 @@ fn read_declarations(
     Ok((read, rest))
 }
 
-/// The text that the tokens spell.
+/// The text that the tokens spell. Reading is linear in the tokens.
+#[tactic(auto, using(crate::proofs::Sound::spelled_read, crate::proofs::Sound::low_read))]
 pub fn read(alloc: Global, tokens: &[Token]) -> Result<Unit, ReadError>
-    ensures ok { IfOk result (λ u. (rest : List Token) × (declarations highest tokens.now ≡ Ok (u.declarations, rest)) × (u.end ≡ end_of tokens.now)) }
+    ensures ok { IfOk result (λ u. IsUnit (unit_tree u) tokens.now) }
+    ensures low { IfOk result (λ u. AllByRecursion IsLow (unit_tree u).declarations) }
     ensures err { IfErr result (λ e. Tells e (declarations highest tokens.now)) }
 {
     let end = end_of(tokens);

@@ -1,7 +1,8 @@
 use c_tree::Declaration;
 use std::marker::Model;
 
-/// What a text declares, in order, and where its last token ends.
+/// What a text declares, in order, and where its last token ends. No function and no initial expression is
+/// higher than 200.
 #[derive(Drop)]
 pub struct Unit {
     declarations: Vec<Declaration>,
@@ -10,27 +11,35 @@ pub struct Unit {
 
 impl Model for Unit {
     ghost use Rattle.std.specs.Prelude.{map};
-    ghost use Rattle.c_tree.specs.Trees.{UnitTree};
+    ghost use Rattle.std.specs.List.{AllByRecursion};
+    ghost use Rattle.c_tree.specs.Heights.{IsLow};
+    ghost use Rattle.c_reader.specs.Units.{Contents};
     ghost use Rattle.c_tree.specs.Views.{declaration_tree};
 
-    ghost Value = { UnitTree };
+    ghost Value = { Contents };
 
-    ghost view = { λ u. record { declarations = map declaration_tree u.declarations.items; end = u.end } };
+    ghost view = { λ u. record { declarations = u.declarations.items; end = u.end } };
+
+    ghost invariant = { λ u. AllByRecursion IsLow (map declaration_tree u.declarations.items) };
 }
 
 impl Unit {
     ghost use Rattle.std.specs.Prelude.{◌≡◌, map};
+    ghost use Rattle.std.specs.List.{AllByRecursion};
+    ghost use Rattle.c_tree.specs.Heights.{IsLow};
     ghost use Rattle.c_tree.specs.Views.{declaration_tree};
 
     pub(crate) fn new(declarations: Vec<Declaration>, end: usize) -> Unit
-        ensures { result ≡ record { declarations = map declaration_tree declarations.items; end = end } }
+        requires { AllByRecursion IsLow (map declaration_tree declarations.items) }
+        ensures { result ≡ record { declarations = declarations.items; end = end } }
     {
         Unit { declarations, end }
     }
 
     /// The declarations, in the order of the text.
     pub fn declarations(&self) -> &[Declaration]
-        ensures { map declaration_tree result.now ≡ self.now.declarations }
+        ensures { result.now ≡ self.now.declarations }
+        ensures low { AllByRecursion IsLow (map declaration_tree result.now) }
     {
         self.declarations.as_slice()
     }
