@@ -3,7 +3,5 @@
 #![tactic(auto)]
 
 mod first;
-mod parts;
-mod reading;
 
-pub use reading::read_block;
+pub use first::First;
