@@ -3,5 +3,7 @@
 #![tactic(auto)]
 
 mod first;
+mod parts;
+mod reading;
 
-pub use first::First;
+pub use reading::read_block;
