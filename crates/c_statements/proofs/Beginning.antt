@@ -1,5 +1,6 @@
 -- With which tokens expressions begin.
 use Rattle.std.proofs.Common.{◌≡◌, ℕ, suc, Bool, true, false, cond, List, [], ◌∷◌, ◌++◌, refl, sym, ap, subst, ◌∙◌, append_assoc}
+use Rattle.std.specs.Prelude.{◌&&◌}
 use Rattle.c_tokens.specs.declared.punctuator.Punctuator.{Punctuator}
 use Rattle.c_tokens.specs.declared.punctuator.Punctuator.TheVariants as P
 use Rattle.c_tokens.specs.declared.token.Token.{Token}
@@ -90,7 +91,7 @@ unnamed kind xs rest e t ts k p = rw (p, k, e) refl
 
 named_alone : (xs rest : List Token) (t : Token) (ts : List Token) → xs ≡ t ∷ ts → is_sign_next P.LeftParenthesis (ts ++ rest) ≡ false → is_call_next (xs ++ rest) ≡ false
 named_alone xs rest t ts p e = rw (p, e) (never (is_name t.kind)) where
-  never : (b : Bool) → cond b false false ≡ false
+  never : (b : Bool) → (b && false) ≡ false
   never true = refl
   never false = refl
 

@@ -225,7 +225,7 @@ abbrev pub AllFit : {A : Type 0} → (A → Type 0) → List A → Type 0
 AllFit F [] = Unit {0}
 AllFit F (x ∷ xs) = F x × AllFit F xs
 
-none_taken : {A : Type 0} {F : A → Type 0} {P : A → List Token → Type 0} (ts : List Token) (all : List A) (rest : List Token) → Ok ([], ts) ≡ done (all, rest) → IsTaken (AllFit F) (Each P) Any ts all rest
+none_taken : {A : Type 0} {F : A → Type 0} {P : A → List Token → Type 0} (ts : List Token) (all : List A) (rest : List Token) → done {A = List A × List Token} ([], ts) ≡ done (all, rest) → IsTaken (AllFit F) (Each P) Any ts all rest
 none_taken {A} {F} {P} ts all rest e =
     subst (λ (z : List A × List Token). IsTaken (AllFit F) (Each P) Any ts z.0 z.1) (ok_is ([], ts) (all, rest) e)
     (record { fits = tt; leaves = tt; front = []; spelled = refl; parts = refl })

@@ -198,7 +198,7 @@ module _ (below : Below) (room : ℕ) (sound : (block : Bool) → IsSound (below
       (r.3.0, (d.0, d.1, d.2, (p.0, p.1, p.2, (q.0, q.1, q.2, (r.0, r.1, r.2, r.3.1, r.4), q.4), p.4), d.4))
 
   branched_leaves : (e : ExpressionTree) (s : StatementTree) (o : Option StatementTree) (rest : List Token) → LeavesBranches o rest → Leaves (branched e s o) rest
-  branched_leaves e s None rest l open = l
+  branched_leaves e s None rest l ends = l
   branched_leaves e s (Some t) rest l = l
 
   if_sound : (block : Bool) → IsSound (if_in below room) (Low (suc room)) (IsStatementIn block) Leaves

@@ -14,7 +14,7 @@ use Rattle.c_expressions.proofs.Laws.{expression_stays}
 use Rattle.c_statements.specs.declared.first.First.{First}
 use Rattle.c_statements.specs.declared.first.First.TheVariants as F
 use Rattle.c_statements.specs.Combining.{◌▷◌, ◌◁◌, ◌&◌, made, either, missing, there, repeated, each, commas}
-use Rattle.c_statements.specs.Parts.{under, name, arguments, call, value, is_cell_next, cell, place, set, local_value, local, start_local, start_set, start_nothing, start}
+use Rattle.c_statements.specs.Parts.{less, under, name, arguments, call, value, is_cell_next, cell, place, set, local_value, local, start_local, start_set, start_nothing, start}
 use Rattle.c_statements.specs.Reading.{first_of, empty, call_statement, assign, store, break_statement, continue_statement, returned, return_statement, branched, statements_of, Below, goes_on, items_in, block_in, else_in, branches_in, if_in, while_in, condition, step, for_in, by_first, too_high, statement_at}
 use Rattle.c_statements.proofs.Laws.{Keeps, keeps_same, keeps_after, keeps_before, keeps_both, keeps_made, keeps_either, keeps_under}
 
@@ -107,7 +107,7 @@ assign_keeps room more le ts =
 
 -- The index has one less room than the value: each of the two has more.
 store_keeps : (room more : ℕ) → room ≤ more → Keeps (store room) (store more)
-unfolding store
+unfolding store less
 store_keeps zero zero le ts = inr refl
 store_keeps zero (suc s) le ts = inl refl
 store_keeps (suc r) zero le ts = absurd (omega arith)
