@@ -7,3 +7,4 @@ pub mod Stays
 pub mod Blocks
 pub mod Beginning
 pub mod PartsAgain
+pub mod StatementsAgain

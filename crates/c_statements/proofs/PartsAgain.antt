@@ -203,7 +203,7 @@ value_whole room = record { again = value_again room }
 
 -- ---- what a `for` sets
 
-closed_semicolon : (xs rest : List Token) → Sign Semicolon xs → Closed (xs ++ rest)
+pub closed_semicolon : (xs rest : List Token) → Sign Semicolon xs → Closed (xs ++ rest)
 closed_semicolon = closed_by Semicolon refl refl (λ us r t. ends_behind Semicolon refl refl refl 0 us r t)
 
 -- one token of this kind, and more behind it
@@ -282,10 +282,10 @@ local_value_again room None xs rest low d s c =
 local_value_again room (Some v) xs rest low d s c =
     (only' (is_sign_next Assign) (after' (sign_mark Assign) (value_whole room)) (λ v ys r e. begins_assign v ys r e)).again (Some v) xs rest low d c
 
-name_no_int : (x : Identifier) (xs rest : List Token) → Starts (Kind.Name x.name) xs → is_word_next K.Int (xs ++ rest) ≡ false
+pub name_no_int : (x : Identifier) (xs rest : List Token) → Starts (Kind.Name x.name) xs → is_word_next K.Int (xs ++ rest) ≡ false
 name_no_int x xs rest s = rw (s.parts, s.is) refl
 
-local_again : (room : ℕ) (l : LocalTree) (xs rest : List Token) → local_height l ≤ suc room → IsLocal l xs → local room (xs ++ rest) ≡ Ok (l, rest)
+pub local_again : (room : ℕ) (l : LocalTree) (xs rest : List Token) → local_height l ≤ suc room → IsLocal l xs → local room (xs ++ rest) ≡ Ok (l, rest)
 unfolding local
 local_again room l xs rest low d =
     made_again (λ v. record { kind = v.0; name = v.1.0; value = v.1.1 })

@@ -84,8 +84,17 @@ return_sound room block = record {
 
 local_statement_sound : (room : ℕ) → IsSound (made (λ l. T.Local l) (local room)) (Low (suc room)) (IsStatementIn true) Leaves
 local_statement_sound room = record {
-  takes = made_takes (λ l. T.Local l) (local_sound room) (Low (suc room)) (IsStatementIn true) Leaves (λ v f. f) (λ v xs d. (tt, d)) (λ v rest l. closed rest);
+  takes = made_takes (λ l. T.Local l) (local_sound room) (Low (suc room)) (IsStatementIn true) Leaves (λ v f. f) (λ v xs d. (refl, d)) (λ v rest l. closed rest);
 }
+
+-- an `if`'s statement, and what stands behind `else`, if that is there
+abbrev pub SpellsBranches : StatementTree → Option StatementTree → List Token → Type 0
+SpellsBranches s None xs = IsStatementIn false s xs
+SpellsBranches s (Some t) xs = (ends_open s ≡ false) × (IsStatementIn false s ⨾ (Word K.Else ⨾ IsStatementIn false t)) xs
+
+abbrev pub LeavesBranches : Option StatementTree → List Token → Type 0
+LeavesBranches None rest = is_word_next K.Else rest ≡ false
+LeavesBranches (Some t) rest = Leaves t rest
 
 -- Statements with parts that are statements, over a reading of these that is sound.
 module _ (below : Below) (room : ℕ) (sound : (block : Bool) → IsSound (below block) (Low room) (IsStatementIn block) Leaves) where
@@ -139,14 +148,6 @@ module _ (below : Below) (room : ℕ) (sound : (block : Bool) → IsSound (below
   abbrev pub LowBranches : StatementTree × Option StatementTree → Type 0
   LowBranches v = Low room v.0 × IfThere (Low room) v.1
 
-  abbrev pub SpellsBranches : StatementTree → Option StatementTree → List Token → Type 0
-  SpellsBranches s None xs = IsStatementIn false s xs
-  SpellsBranches s (Some t) xs = (ends_open s ≡ false) × (IsStatementIn false s ⨾ (Word K.Else ⨾ IsStatementIn false t)) xs
-
-  abbrev pub LeavesBranches : Option StatementTree → List Token → Type 0
-  LeavesBranches None rest = is_word_next K.Else rest ≡ false
-  LeavesBranches (Some t) rest = Leaves t rest
-
   not_open : (b : Bool) (rest : List Token) → (b ≡ true → is_word_next K.Else rest ≡ false) → is_word_next K.Else rest ≡ true → b ≡ false
   not_open true rest h e = absurd (let f = h refl in cc)
   not_open false rest h e = refl
@@ -198,7 +199,7 @@ module _ (below : Below) (room : ℕ) (sound : (block : Bool) → IsSound (below
       (r.3.0, (d.0, d.1, d.2, (p.0, p.1, p.2, (q.0, q.1, q.2, (r.0, r.1, r.2, r.3.1, r.4), q.4), p.4), d.4))
 
   branched_leaves : (e : ExpressionTree) (s : StatementTree) (o : Option StatementTree) (rest : List Token) → LeavesBranches o rest → Leaves (branched e s o) rest
-  branched_leaves e s None rest l ends = l
+  branched_leaves e s None rest l = λ ends. l
   branched_leaves e s (Some t) rest l = l
 
   if_sound : (block : Bool) → IsSound (if_in below room) (Low (suc room)) (IsStatementIn block) Leaves
