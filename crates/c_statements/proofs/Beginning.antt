@@ -102,7 +102,7 @@ expression_no_call level (T.Element a e) xs rest s free =
     let n = s.2 in
     let d = s.3 in
     let behind : is_sign_next P.LeftParenthesis (s.1 ++ rest) ≡ false =
-        subst (λ l. is_sign_next P.LeftParenthesis l ≡ false) (sym (parts_behind s.1 d.0 d.1 rest d.4)) (sign_no_parenthesis P.LeftBracket refl d.0 (d.1 ++ rest) d.2) in
+    subst (λ l. is_sign_next P.LeftParenthesis l ≡ false) (sym (parts_behind s.1 d.0 d.1 rest d.4)) (sign_no_parenthesis P.LeftBracket refl d.0 (d.1 ++ rest) d.2) in
     named_alone xs rest n.0 s.1 (s.4 ∙ ap (λ l. l ++ s.1) n.3) behind
 expression_no_call level (T.Parenthesis e) xs rest s free =
     let n = s.2 in unnamed (Kind.Punctuator P.LeftParenthesis) xs rest refl n.0 s.1 n.1 (s.4 ∙ ap (λ l. l ++ s.1) n.2)
@@ -114,11 +114,11 @@ expression_no_call level (T.Binary o a b) xs rest s free =
     let d = s.1 in
     let q = d.3 in
     let behind : is_sign_next P.LeftParenthesis (d.1 ++ rest) ≡ false =
-        subst (λ l. is_sign_next P.LeftParenthesis l ≡ false) (sym (parts_behind d.1 q.0 q.1 rest q.4)) (sign_no_parenthesis (binary_sign o) (no_parenthesis o) q.0 (q.1 ++ rest) q.2) in
+    subst (λ l. is_sign_next P.LeftParenthesis l ≡ false) (sym (parts_behind d.1 q.0 q.1 rest q.4)) (sign_no_parenthesis (binary_sign o) (no_parenthesis o) q.0 (q.1 ++ rest) q.2) in
     subst (λ l. is_call_next l ≡ false) (sym (parts_behind xs d.0 d.1 rest d.4)) (expression_no_call (binding o) a d.0 (d.1 ++ rest) d.2 behind)
 expression_no_call level (T.Conditional c a b) xs rest s free =
     let d = s.1 in
     let q = d.3 in
     let behind : is_sign_next P.LeftParenthesis (d.1 ++ rest) ≡ false =
-        subst (λ l. is_sign_next P.LeftParenthesis l ≡ false) (sym (parts_behind d.1 q.0 q.1 rest q.4)) (sign_no_parenthesis P.Question refl q.0 (q.1 ++ rest) q.2) in
+    subst (λ l. is_sign_next P.LeftParenthesis l ≡ false) (sym (parts_behind d.1 q.0 q.1 rest q.4)) (sign_no_parenthesis P.Question refl q.0 (q.1 ++ rest) q.2) in
     subst (λ l. is_call_next l ≡ false) (sym (parts_behind xs d.0 d.1 rest d.4)) (expression_no_call 1 c d.0 (d.1 ++ rest) d.2 behind)

@@ -8,3 +8,4 @@ pub mod Blocks
 pub mod Beginning
 pub mod PartsAgain
 pub mod StatementsAgain
+pub mod Body

@@ -186,7 +186,7 @@ called c xs rest d =
     let q = d.3 in
     let s = q.2 in
     let next : is_sign_next LeftParenthesis (d.1 ++ rest) ≡ true =
-        subst (λ l. is_sign_next LeftParenthesis l ≡ true) (sym (parts_behind d.1 q.0 q.1 rest q.4)) (is_sign_next-again LeftParenthesis q.0 (q.1 ++ rest) s) in
+    subst (λ l. is_sign_next LeftParenthesis l ≡ true) (sym (parts_behind d.1 q.0 q.1 rest q.4)) (is_sign_next-again LeftParenthesis q.0 (q.1 ++ rest) s) in
     subst (λ l. is_call_next l ≡ true) (sym (parts_behind xs d.0 d.1 rest d.4)) (rw (n.3, n.1, next) refl)
 
 value_again : (room : ℕ) (v : ValueTree) (xs rest : List Token) → value_height v ≤ room → IsValue v xs → Closed rest → value room (xs ++ rest) ≡ Ok (v, rest)
@@ -247,7 +247,7 @@ place_again room (T.Cell a e) xs rest low d free =
     let n = d.2 in
     let q = d.3 in
     let behind : is_sign_next LeftBracket (d.1 ++ rest) ≡ true =
-        subst (λ l. is_sign_next LeftBracket l ≡ true) (sym (parts_behind d.1 q.0 q.1 rest q.4)) (is_sign_next-again LeftBracket q.0 (q.1 ++ rest) q.2) in
+    subst (λ l. is_sign_next LeftBracket l ≡ true) (sym (parts_behind d.1 q.0 q.1 rest q.4)) (is_sign_next-again LeftBracket q.0 (q.1 ++ rest) q.2) in
     let next : is_cell_next (xs ++ rest) ≡ true = subst (λ l. is_cell_next l ≡ true) (sym (parts_behind xs d.0 d.1 rest d.4)) (rw (n.3, n.1, behind) refl) in
     either_first is_cell_next (cell room) (made (λ x. T.Name x) (name room)) (xs ++ rest) next ∙ cell_again room a e xs rest low d
 
@@ -260,7 +260,7 @@ set_again zero s xs rest low d e = absurd (omega arith)
 set_again (suc r) s xs rest low d e =
     made_again (λ v. record { place = v.0; value = v.1 })
     (both' (place_whole r) (after' (sign_mark Assign) (expression_whole r)) (λ p y ys rest d k.
-      passes_is (is_sign LeftBracket) (Kind.Punctuator Assign) false refl ys rest (starts_then (Kind.Punctuator Assign) ys d (starts_sign Assign d.0 d.2))))
+    passes_is (is_sign LeftBracket) (Kind.Punctuator Assign) false refl ys rest (starts_then (Kind.Punctuator Assign) ys d (starts_sign Assign d.0 d.2))))
     (s.place, s.value) xs rest (omega arith, omega arith) d e
 
 pub set_whole : (room : ℕ) → IsWhole (set room) (λ s. set_height s ≤ room) IsSet (λ s rest. Ends 0 rest)
@@ -290,7 +290,7 @@ unfolding local
 local_again room l xs rest low d =
     made_again (λ v. record { kind = v.0; name = v.1.0; value = v.1.1 })
     (both' type_whole (both' (name_whole room) (before' value (sign_mark Semicolon) (λ o ys r s. (record { token = s.0; more = r; is = s.1; parts = ap (λ l. l ++ r) s.2 }, closed_semicolon ys r s))) (λ x y ys r e k. tt))
-      (λ t v ys r e k. name_no_int v.0 ys r (starts_then (Kind.Name v.0.name) ys e (starts_name v.0 e.0 e.2))))
+    (λ t v ys r e k. name_no_int v.0 ys r (starts_then (Kind.Name v.0.name) ys e (starts_name v.0 e.0 e.2))))
     (l.kind, (l.name, l.value)) xs rest (tt, (omega arith, omega arith)) d tt where
-  value : IsWhole (local_value room) (λ o. optional_height value_height o ≤ room) IsLocalValue (λ o r. Starts (Kind.Punctuator Semicolon) r × Closed r)
-  value = record { again = λ o ys r f e k. local_value_again room o ys r f e k.0 k.1 }
+      value : IsWhole (local_value room) (λ o. optional_height value_height o ≤ room) IsLocalValue (λ o r. Starts (Kind.Punctuator Semicolon) r × Closed r)
+      value = record { again = λ o ys r f e k. local_value_again room o ys r f e k.0 k.1 }

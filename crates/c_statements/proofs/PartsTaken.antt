@@ -70,9 +70,13 @@ together : {A : Type 0} (P : A → List Token → Type 0) (x : A) (ys : List A) 
 together P x [] xs d = subst (P x) (sym (d.4 ∙ ap (λ l. d.0 ++ l) d.3 ∙ append-nil d.0)) d.2
 together P x (y ∷ ys) xs d =
     let next = d.3 in
-    let one = next.2 in
-    (d.0, one.0 ++ (one.1 ++ next.1), d.2, (one.0, one.1 ++ next.1, one.2, together P y ys (one.1 ++ next.1) (one.1, next.1, one.3, next.3, refl), refl),
-    d.4 ∙ ap (λ l. d.0 ++ l) (next.4 ∙ ap (λ l. l ++ next.1) one.4 ∙ append_assoc one.0 one.1 next.1))
+    let one = next.2 in (
+      d.0,
+      one.0 ++ (one.1 ++ next.1),
+      d.2,
+      (one.0, one.1 ++ next.1, one.2, together P y ys (one.1 ++ next.1) (one.1, next.1, one.3, next.3, refl), refl),
+      d.4 ∙ ap (λ l. d.0 ++ l) (next.4 ∙ ap (λ l. l ++ next.1) one.4 ∙ append_assoc one.0 one.1 next.1),
+    )
 
 pub commas_sound : {A : Type 0} {part : Reading A} {F : A → Type 0} {P L : A → List Token → Type 0} → IsSound part F P L → IsSound (commas part) (AllFit F) (Commas P) Any
 unfolding commas
@@ -99,9 +103,9 @@ pub call_sound : (room : ℕ) → IsSound (call room) (λ c. call_height c ≤ r
 unfolding call
 call_sound room = record {
   takes = under_takes (λ r c. call_height c ≤ r) (λ r. record {
-      takes = made_takes (λ v. record { callee = v.0; arguments = v.1 }) (both (name_sound r) (after (sign_mark LeftParenthesis) (before (arguments_sound r) (sign_mark RightParenthesis)))) (λ c. call_height c ≤ suc r) IsCall Any
-          (λ v f. let low = arguments_low r v.1 f.0 f.1 in omega arith) (λ v xs d. d) (λ v rest l. tt);
-    }) (λ r x f. f) room;
+    takes = made_takes (λ v. record { callee = v.0; arguments = v.1 }) (both (name_sound r) (after (sign_mark LeftParenthesis) (before (arguments_sound r) (sign_mark RightParenthesis)))) (λ c. call_height c ≤ suc r) IsCall Any
+        (λ v f. let low = arguments_low r v.1 f.0 f.1 in omega arith) (λ v xs d. d) (λ v rest l. tt);
+  }) (λ r x f. f) room;
 }
 
 pub value_sound : (room : ℕ) → IsSound (value room) (λ v. value_height v ≤ room) IsValue Any
@@ -118,9 +122,9 @@ cell_sound : (room : ℕ) → IsSound (cell room) (λ p. place_height p ≤ room
 unfolding cell
 cell_sound room = record {
   takes = under_takes (λ r p. place_height p ≤ r) (λ r. record {
-      takes = made_takes (λ v. T.Cell v.0 v.1) (both (name_sound r) (after (sign_mark LeftBracket) (before (expression_sound r) (sign_mark RightBracket)))) (λ p. place_height p ≤ suc r) IsPlace Any
-          (λ v f. let one = f.0 in let low = f.1 in omega arith) (λ v xs d. d) (λ v rest l. tt);
-    }) (λ r x f. f) room;
+    takes = made_takes (λ v. T.Cell v.0 v.1) (both (name_sound r) (after (sign_mark LeftBracket) (before (expression_sound r) (sign_mark RightBracket)))) (λ p. place_height p ≤ suc r) IsPlace Any
+        (λ v f. let one = f.0 in let low = f.1 in omega arith) (λ v xs d. d) (λ v rest l. tt);
+  }) (λ r x f. f) room;
 }
 
 pub place_sound : (room : ℕ) → IsSound (place room) (λ p. place_height p ≤ room) IsPlace Any
@@ -135,9 +139,9 @@ pub set_sound : (room : ℕ) → IsSound (set room) (λ s. set_height s ≤ room
 unfolding set
 set_sound room = record {
   takes = under_takes (λ r s. set_height s ≤ r) (λ r. record {
-      takes = made_takes (λ v. record { place = v.0; value = v.1 }) (both (place_sound r) (after (sign_mark Assign) (expression_sound r))) (λ s. set_height s ≤ suc r) IsSet Any
-          (λ v f. let one = f.0 in let low = f.1 in omega arith) (λ v xs d. d) (λ v rest l. tt);
-    }) (λ r x f. f) room;
+    takes = made_takes (λ v. record { place = v.0; value = v.1 }) (both (place_sound r) (after (sign_mark Assign) (expression_sound r))) (λ s. set_height s ≤ suc r) IsSet Any
+        (λ v f. let one = f.0 in let low = f.1 in omega arith) (λ v xs d. d) (λ v rest l. tt);
+  }) (λ r x f. f) room;
 }
 
 -- ---- locals

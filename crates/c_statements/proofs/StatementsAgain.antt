@@ -71,7 +71,7 @@ start_local_again : (room : ℕ) (t : IntegerType) (x : Identifier) (e : Express
 unfolding start_local
 start_local_again room t x e xs rest low d =
     let parts : (r : ℕ) → IsWhole (name r & sign Assign ▷ expression_at r 0 ◁ sign Semicolon) (λ v. (1 ≤ r) × (expression_height v.1 ≤ r)) (λ v. IsName v.0 ⨾ (Sign Assign ⨾ (IsExpression v.1 ⨾ Sign Semicolon))) Any =
-        λ r. both' (name_whole r) (after' (sign_mark Assign) (before' (expression_whole r) (sign_mark Semicolon) (λ e ys r s. ends_behind Semicolon refl refl refl 0 ys r s))) (λ x e ys r d k. tt) in
+    λ r. both' (name_whole r) (after' (sign_mark Assign) (before' (expression_whole r) (sign_mark Semicolon) (λ e ys r s. ends_behind Semicolon refl refl refl 0 ys r s))) (λ x e ys r d k. tt) in
     let behind : IsWhole (under (λ r. name r & sign Assign ▷ expression_at r 0 ◁ sign Semicolon) room) (λ v. suc (max 1 (expression_height v.1)) ≤ room) (λ v. IsName v.0 ⨾ (Sign Assign ⨾ (IsExpression v.1 ⨾ Sign Semicolon))) Any = record {
       again = under_again (λ r v. suc (max 1 (expression_height v.1)) ≤ r) parts (λ r v f. (omega arith, omega arith)) (λ v f. absurd (omega arith)) room;
     } in
@@ -299,8 +299,8 @@ module _ (below : Below) (room : ℕ) (whole : (block : Bool) → IsWhole (below
       let q = d.1 in
       let w = q.3 in
       let otherwise : else_in below (q.1 ++ rest) ≡ Ok (Some t, rest) =
-          either_first (is_word_next K.Else) (there (word K.Else ▷ below false)) missing (q.1 ++ rest) (passes_is (is_word K.Else) (Kind.Keyword K.Else) true refl q.1 rest (starts_then (Kind.Keyword K.Else) q.1 w (starts_word K.Else w.0 w.2)))
-          ∙ made_again (λ x. Some x) (after' (word_mark K.Else) (whole false)) t q.1 rest f w e in
+      either_first (is_word_next K.Else) (there (word K.Else ▷ below false)) missing (q.1 ++ rest) (passes_is (is_word K.Else) (Kind.Keyword K.Else) true refl q.1 rest (starts_then (Kind.Keyword K.Else) q.1 w (starts_word K.Else w.0 w.2)))
+      ∙ made_again (λ x. Some x) (after' (word_mark K.Else) (whole false)) t q.1 rest f w e in
       ap (branches_in below) (parts_behind xs q.0 q.1 rest q.4)
       ∙ bind_is (below false (q.0 ++ (q.1 ++ rest))) (λ x. else_in below x.1 >>= λ y. Ok ((x.0, y.0), y.1)) (s, q.1 ++ rest) ((whole false).again s q.0 (q.1 ++ rest) low q.2 (λ h. absurd (let closed = d.0 in cc)))
       ∙ bind_is (else_in below (q.1 ++ rest)) (λ y. Ok ((s, y.0), y.1)) (Some t, rest) otherwise
@@ -312,24 +312,24 @@ module _ (below : Below) (room : ℕ) (whole : (block : Bool) → IsWhole (below
         again = λ v ys r k d l. branches_again v.0 v.1 ys r k.0 k.1 d l;
       } in
       made_again (λ v. branched v.0 v.1.0 v.1.1) (after' (word_mark K.If) (after' (sign_mark LeftParenthesis) (both' (expression_whole room) (after' (sign_mark RightParenthesis) branches)
-        (λ e v ys r d l. ends_then RightParenthesis refl refl refl ys r d)))) (e, (s, o)) xs rest (low, (f, g)) d l
+      (λ e v ys r d l. ends_then RightParenthesis refl refl refl ys r d)))) (e, (s, o)) xs rest (low, (f, g)) d l
 
   while_again : (block : Bool) (e : ExpressionTree) (s : StatementTree) (xs rest : List Token) → Low (suc room) (T.While e s) → IsStatementIn block (T.While e s) xs → Leaves (T.While e s) rest → while_in below room (xs ++ rest) ≡ Ok (T.While e s, rest)
   unfolding while_in
   while_again block e s xs rest low d l =
       made_again (λ v. T.While v.0 v.1) (after' (word_mark K.While) (after' (sign_mark LeftParenthesis) (both' (expression_whole room) (after' (sign_mark RightParenthesis) (whole false))
-        (λ e v ys r d l. ends_then RightParenthesis refl refl refl ys r d)))) (e, s) xs rest (omega arith, omega arith) d l
+      (λ e v ys r d l. ends_then RightParenthesis refl refl refl ys r d)))) (e, s) xs rest (omega arith, omega arith) d l
 
   for_again : (block : Bool) (start : StartTree) (e : Option ExpressionTree) (step : Option SetTree) (s : StatementTree) (xs rest : List Token) → Low (suc room) (T.For start e step s) → IsStatementIn block (T.For start e step s) xs → Leaves (T.For start e step s) rest → for_in below room (xs ++ rest) ≡ Ok (T.For start e step s, rest)
   unfolding for_in
   for_again block start e step s xs rest low d l =
       made_again (λ v. T.For v.0 v.1.0 v.1.1.0 v.1.1.1)
       (after' (word_mark K.For) (after' (sign_mark LeftParenthesis) (both' (start_whole room)
-        (both' (condition_whole room) (after' (sign_mark Semicolon)
-          (both' (step_whole room) (after' (sign_mark RightParenthesis) (whole false))
-            (λ o v ys r d l. (next_then RightParenthesis refl ys r d, ends_then RightParenthesis refl refl refl ys r d))))
-          (λ o v ys r d l. (next_then Semicolon refl ys r d, ends_then Semicolon refl refl refl ys r d)))
-        (λ o v ys r d l. tt))))
+      (both' (condition_whole room) (after' (sign_mark Semicolon)
+      (both' (step_whole room) (after' (sign_mark RightParenthesis) (whole false))
+      (λ o v ys r d l. (next_then RightParenthesis refl ys r d, ends_then RightParenthesis refl refl refl ys r d))))
+      (λ o v ys r d l. (next_then Semicolon refl ys r d, ends_then Semicolon refl refl refl ys r d)))
+      (λ o v ys r d l. tt))))
       (start, (e, (step, s))) xs rest (omega arith, (omega arith, (omega arith, omega arith))) d l
 
   local_case : (block : Bool) (l : LocalTree) (xs rest : List Token) → Low (suc room) (T.Local l) → IsTrue block → IsLocal l xs → by_first below room (first_of block (xs ++ rest)) (xs ++ rest) ≡ Ok (T.Local l, rest)
@@ -355,13 +355,13 @@ module _ (below : Below) (room : ℕ) (whole : (block : Bool) → IsWhole (below
   unfolding store
   store_case block a i e xs rest low d =
       let parts : (r : ℕ) → IsWhole (name r & sign LeftBracket ▷ expression_at r 0 & sign RightBracket ▷ sign Assign ▷ expression_at room 0 ◁ sign Semicolon)
-          (λ v. (1 ≤ r) × ((expression_height v.1.0 ≤ r) × (expression_height v.1.1 ≤ room)))
-          (λ v. IsName v.0 ⨾ (Sign LeftBracket ⨾ (IsExpression v.1.0 ⨾ (Sign RightBracket ⨾ (Sign Assign ⨾ (IsExpression v.1.1 ⨾ Sign Semicolon)))))) Any =
-          λ r. both' (name_whole r) (after' (sign_mark LeftBracket) (both' (expression_whole r) (after' (sign_mark RightBracket) (after' (sign_mark Assign) (before' (expression_whole room) (sign_mark Semicolon) (λ e ys r s. ends_behind Semicolon refl refl refl 0 ys r s))))
-            (λ e v ys r d l. ends_then RightBracket refl refl refl ys r d))) (λ x v ys r d e. tt) in
+      (λ v. (1 ≤ r) × ((expression_height v.1.0 ≤ r) × (expression_height v.1.1 ≤ room)))
+      (λ v. IsName v.0 ⨾ (Sign LeftBracket ⨾ (IsExpression v.1.0 ⨾ (Sign RightBracket ⨾ (Sign Assign ⨾ (IsExpression v.1.1 ⨾ Sign Semicolon)))))) Any =
+      λ r. both' (name_whole r) (after' (sign_mark LeftBracket) (both' (expression_whole r) (after' (sign_mark RightBracket) (after' (sign_mark Assign) (before' (expression_whole room) (sign_mark Semicolon) (λ e ys r s. ends_behind Semicolon refl refl refl 0 ys r s))))
+      (λ e v ys r d l. ends_then RightBracket refl refl refl ys r d))) (λ x v ys r d e. tt) in
       let whole_parts : IsWhole (under (λ r. name r & sign LeftBracket ▷ expression_at r 0 & sign RightBracket ▷ sign Assign ▷ expression_at room 0 ◁ sign Semicolon) room)
-          (λ v. (suc (max 1 (expression_height v.1.0)) ≤ room) × (expression_height v.1.1 ≤ room))
-          (λ v. IsName v.0 ⨾ (Sign LeftBracket ⨾ (IsExpression v.1.0 ⨾ (Sign RightBracket ⨾ (Sign Assign ⨾ (IsExpression v.1.1 ⨾ Sign Semicolon)))))) Any = record {
+      (λ v. (suc (max 1 (expression_height v.1.0)) ≤ room) × (expression_height v.1.1 ≤ room))
+      (λ v. IsName v.0 ⨾ (Sign LeftBracket ⨾ (IsExpression v.1.0 ⨾ (Sign RightBracket ⨾ (Sign Assign ⨾ (IsExpression v.1.1 ⨾ Sign Semicolon)))))) Any = record {
         again = under_again (λ r v. (suc (max 1 (expression_height v.1.0)) ≤ r) × (expression_height v.1.1 ≤ room)) parts
             (λ r v f. let one = f.0 in (omega arith, (omega arith, f.1))) (λ v f. absurd (let one = f.0 in omega arith)) room;
       } in

@@ -53,8 +53,8 @@ store_sound : (room : ℕ) (block : Bool) → IsSound (store room) (Low (suc roo
 unfolding store
 store_sound room block =
     let parts : IsSound (under (λ r. name r & sign LeftBracket ▷ expression_at r 0 & sign RightBracket ▷ sign Assign ▷ expression_at room 0 ◁ sign Semicolon) room)
-        (λ v. (suc (max 1 (expression_height v.1.0)) ≤ room) × (expression_height v.1.1 ≤ room))
-        (λ v. IsName v.0 ⨾ (Sign LeftBracket ⨾ (IsExpression v.1.0 ⨾ (Sign RightBracket ⨾ (Sign Assign ⨾ (IsExpression v.1.1 ⨾ Sign Semicolon)))))) Any = record {
+    (λ v. (suc (max 1 (expression_height v.1.0)) ≤ room) × (expression_height v.1.1 ≤ room))
+    (λ v. IsName v.0 ⨾ (Sign LeftBracket ⨾ (IsExpression v.1.0 ⨾ (Sign RightBracket ⨾ (Sign Assign ⨾ (IsExpression v.1.1 ⨾ Sign Semicolon)))))) Any = record {
       takes = under_takes (λ r v. (suc (max 1 (expression_height v.1.0)) ≤ r) × (expression_height v.1.1 ≤ room))
           (λ r. both (name_sound r) (after (sign_mark LeftBracket) (both (expression_sound r) (after (sign_mark RightBracket) (after (sign_mark Assign) (before (expression_sound room) (sign_mark Semicolon)))))))
           (λ r v f. (let one = f.0 in let low = f.1.0 in omega arith, f.1.1)) room;

@@ -85,7 +85,7 @@ unfolding start_local
 start_local_keeps room more le ts =
     keeps_made (λ v. T.StartLocal v.0 v.1.0 v.1.1)
     (keeps_both (keeps_same integer_type) (keeps_under (λ r. name r & sign Assign ▷ expression_at r 0 ◁ sign Semicolon)
-      (λ r s l. keeps_both (name_keeps r s l) (keeps_after (sign Assign) (keeps_before (sign Semicolon) (expression_keeps r s l)))) room more le)) ts
+    (λ r s l. keeps_both (name_keeps r s l) (keeps_after (sign Assign) (keeps_before (sign Semicolon) (expression_keeps r s l)))) room more le)) ts
 
 start_set_keeps : (room more : ℕ) → room ≤ more → Keeps (start_set room) (start_set more)
 unfolding start_set

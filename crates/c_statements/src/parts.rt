@@ -157,11 +157,7 @@ fn read_place(alloc: Global, room: u8, tokens: &[Token]) -> Result<(Place, &[Tok
 
 /// What a `for` sets.
 #[tactic(auto, unfolding(crate::specs::Parts::set))]
-pub(crate) fn read_set(
-    alloc: Global,
-    room: u8,
-    tokens: &[Token],
-) -> Result<(Set, &[Token]), Fault>
+pub(crate) fn read_set(alloc: Global, room: u8, tokens: &[Token]) -> Result<(Set, &[Token]), Fault>
     ensures ok { IfOk result (λ r. set room tokens.now ≡ Ok (set_tree r.0, r.1.now)) }
     ensures err { IfErr result (λ e. e ≢ Fault.NoMemory → set room tokens.now ≡ Err e) }
 {
@@ -225,11 +221,7 @@ fn read_start_local(
 }
 
 #[tactic(auto, unfolding(crate::specs::Parts::start_set))]
-fn read_start_set(
-    alloc: Global,
-    room: u8,
-    tokens: &[Token],
-) -> Result<(ForStart, &[Token]), Fault>
+fn read_start_set(alloc: Global, room: u8, tokens: &[Token]) -> Result<(ForStart, &[Token]), Fault>
     ensures ok { IfOk result (λ r. start_set room tokens.now ≡ Ok (start_tree r.0, r.1.now)) }
     ensures err { IfErr result (λ e. e ≢ Fault.NoMemory → start_set room tokens.now ≡ Err e) }
 {

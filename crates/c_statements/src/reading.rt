@@ -120,11 +120,7 @@ fn read_call_statement(
 }
 
 #[tactic(auto, unfolding(crate::specs::Reading::assign))]
-fn read_assign(
-    alloc: Global,
-    room: u8,
-    tokens: &[Token],
-) -> Result<(Statement, &[Token]), Fault>
+fn read_assign(alloc: Global, room: u8, tokens: &[Token]) -> Result<(Statement, &[Token]), Fault>
     ensures ok { IfOk result (λ r. assign room tokens.now ≡ Ok (statement_tree r.0, r.1.now)) }
     ensures err { IfErr result (λ e. e ≢ Fault.NoMemory → assign room tokens.now ≡ Err e) }
 {
@@ -136,11 +132,7 @@ fn read_assign(
 }
 
 #[tactic(auto, unfolding(crate::specs::Reading::store))]
-fn read_store(
-    alloc: Global,
-    room: u8,
-    tokens: &[Token],
-) -> Result<(Statement, &[Token]), Fault>
+fn read_store(alloc: Global, room: u8, tokens: &[Token]) -> Result<(Statement, &[Token]), Fault>
     ensures ok { IfOk result (λ r. store room tokens.now ≡ Ok (statement_tree r.0, r.1.now)) }
     ensures err { IfErr result (λ e. e ≢ Fault.NoMemory → store room tokens.now ≡ Err e) }
 {
@@ -191,11 +183,7 @@ fn read_returned(
 }
 
 #[tactic(auto, unfolding(crate::specs::Reading::return_statement))]
-fn read_return(
-    alloc: Global,
-    room: u8,
-    tokens: &[Token],
-) -> Result<(Statement, &[Token]), Fault>
+fn read_return(alloc: Global, room: u8, tokens: &[Token]) -> Result<(Statement, &[Token]), Fault>
     ensures ok { IfOk result (λ r. return_statement room tokens.now ≡ Ok (statement_tree r.0, r.1.now)) }
     ensures err { IfErr result (λ e. e ≢ Fault.NoMemory → return_statement room tokens.now ≡ Err e) }
 {
@@ -222,11 +210,7 @@ fn read_condition(
 }
 
 /// What a `for` sets behind each turn.
-fn read_step(
-    alloc: Global,
-    room: u8,
-    tokens: &[Token],
-) -> Result<(Option<Set>, &[Token]), Fault>
+fn read_step(alloc: Global, room: u8, tokens: &[Token]) -> Result<(Option<Set>, &[Token]), Fault>
     ensures ok { IfOk result (λ r. step room tokens.now ≡ Ok (optional_tree set_tree r.0, r.1.now)) }
     ensures err { IfErr result (λ e. e ≢ Fault.NoMemory → step room tokens.now ≡ Err e) }
 {
@@ -299,11 +283,7 @@ pub fn read_block(
 
 #[cycle(statements)]
 #[tactic(auto, unfolding(crate::specs::Reading::while_in))]
-fn read_while(
-    alloc: Global,
-    room: u8,
-    tokens: &[Token],
-) -> Result<(Statement, &[Token]), Fault>
+fn read_while(alloc: Global, room: u8, tokens: &[Token]) -> Result<(Statement, &[Token]), Fault>
     ensures ok { IfOk result (λ r. while_in (statement_at room) room tokens.now ≡ Ok (statement_tree r.0, r.1.now)) }
     ensures err { IfErr result (λ e. e ≢ Fault.NoMemory → while_in (statement_at room) room tokens.now ≡ Err e) }
 {
@@ -337,11 +317,7 @@ fn read_branches(
 
 #[cycle(statements)]
 #[tactic(auto, unfolding(crate::specs::Reading::if_in))]
-fn read_if(
-    alloc: Global,
-    room: u8,
-    tokens: &[Token],
-) -> Result<(Statement, &[Token]), Fault>
+fn read_if(alloc: Global, room: u8, tokens: &[Token]) -> Result<(Statement, &[Token]), Fault>
     ensures ok { IfOk result (λ r. if_in (statement_at room) room tokens.now ≡ Ok (statement_tree r.0, r.1.now)) }
     ensures err { IfErr result (λ e. e ≢ Fault.NoMemory → if_in (statement_at room) room tokens.now ≡ Err e) }
 {
@@ -356,11 +332,7 @@ fn read_if(
 
 #[cycle(statements)]
 #[tactic(auto, unfolding(crate::specs::Reading::for_in))]
-fn read_for(
-    alloc: Global,
-    room: u8,
-    tokens: &[Token],
-) -> Result<(Statement, &[Token]), Fault>
+fn read_for(alloc: Global, room: u8, tokens: &[Token]) -> Result<(Statement, &[Token]), Fault>
     ensures ok { IfOk result (λ r. for_in (statement_at room) room tokens.now ≡ Ok (statement_tree r.0, r.1.now)) }
     ensures err { IfErr result (λ e. e ≢ Fault.NoMemory → for_in (statement_at room) room tokens.now ≡ Err e) }
 {
