@@ -20,7 +20,12 @@ one_more : {A : Type 0} (before : List A) (x : A) (read : Result (List A × List
 one_more before x (Ok more) = ap (λ l. Ok (l, more.1)) (sym (append_assoc before (x ∷ []) more.0))
 one_more before x (Err e) = refl
 
-pub consed : {A : Type 0} (x : A) (read : Result (List A × List Token) Fault) → (read >>= λ y. Ok ((x, y.0), y.1)) >>= (λ v. Ok (v.0.0 ∷ v.0.1, v.1)) ≡ (read >>= λ more. Ok (x ∷ more.0, more.1))
+abbrev pub consing : {A : Type 0} → A → Result (List A × List Token) Fault → Result (List A × List Token) Fault
+consing {A} x read =
+    let both : Result ((A × List A) × List Token) Fault = read >>= λ y. Ok ((x, y.0), y.1) in
+    both >>= λ v. Ok (v.0.0 ∷ v.0.1, v.1)
+
+pub consed : {A : Type 0} (x : A) (read : Result (List A × List Token) Fault) → consing x read ≡ (read >>= λ more. Ok (x ∷ more.0, more.1))
 consed x (Ok more) = refl
 consed x (Err e) = refl
 

@@ -47,8 +47,8 @@ unfoldable pub assign : ℕ → Reading StatementTree
 assign room ts = made (λ v. T.Assign v.0 v.1) (name room & sign Assign ▷ value room ◁ sign Semicolon) ts
 
 unfoldable pub store : ℕ → Reading StatementTree
-store room ts = under (λ r. made (λ v. T.Store v.0 v.1.0 v.1.1)
-    (name r & sign LeftBracket ▷ expression_at r 0 & sign RightBracket ▷ sign Assign ▷ expression_at room 0 ◁ sign Semicolon)) room ts
+store room ts = made (λ v. T.Store v.0 v.1.0 v.1.1)
+    (under (λ r. name r & sign LeftBracket ▷ expression_at r 0 & sign RightBracket ▷ sign Assign ▷ expression_at room 0 ◁ sign Semicolon) room) ts
 
 unfoldable pub break_statement : Reading StatementTree
 break_statement ts = made (λ at. T.Break at) (placed_word K.Break ◁ sign Semicolon) ts
@@ -87,12 +87,16 @@ items_in below ts = each goes_on (below true) ts
 unfoldable pub block_in : Below → Reading StatementsTree
 block_in below ts = made statements_of (sign LeftBrace ▷ items_in below ◁ sign RightBrace) ts
 
-unfoldable pub else_in : Below → Reading (Option StatementTree)
+-- An `else` that is next belongs to the nearest `if`.
+abbrev pub else_in : Below → Reading (Option StatementTree)
 else_in below ts = either (is_word_next K.Else) (there (word K.Else ▷ below false)) missing ts
+
+unfoldable pub branches_in : Below → Reading (StatementTree × Option StatementTree)
+branches_in below ts = (below false & else_in below) ts
 
 unfoldable pub if_in : Below → ℕ → Reading StatementTree
 if_in below room ts = made (λ v. branched v.0 v.1.0 v.1.1)
-    (word K.If ▷ sign LeftParenthesis ▷ expression_at room 0 & sign RightParenthesis ▷ below false & else_in below) ts
+    (word K.If ▷ sign LeftParenthesis ▷ expression_at room 0 & sign RightParenthesis ▷ branches_in below) ts
 
 unfoldable pub while_in : Below → ℕ → Reading StatementTree
 while_in below room ts = made (λ v. T.While v.0 v.1)

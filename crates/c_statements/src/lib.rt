@@ -5,5 +5,7 @@
 mod first;
 mod parts;
 mod reading;
+#[cfg(test)]
+mod tests;
 
 pub use reading::read_block;

@@ -18,7 +18,7 @@ use std::alloc::Global;
 
 /// One less room, for the parts of something.
 #[tactic(auto, unfolding(crate::specs::Parts::less))]
-pub(crate) fn one_less(room: usize) -> Result<usize, Fault>
+pub(crate) fn one_less(room: u8) -> Result<u8, Fault>
     ensures ok { IfOk result (λ r. less room ≡ Ok r) }
     ensures err { IfErr result (λ e. less room ≡ Err e) }
 {
@@ -31,7 +31,7 @@ pub(crate) fn one_less(room: usize) -> Result<usize, Fault>
 #[tactic(auto, unfolding(crate::specs::Parts::name))]
 pub(crate) fn read_name_in(
     alloc: Global,
-    room: usize,
+    room: u8,
     tokens: &[Token],
 ) -> Result<(Identifier, &[Token]), Fault>
     ensures ok { IfOk result (λ r. name room tokens.now ≡ Ok (r.0, r.1.now)) }
@@ -45,7 +45,7 @@ pub(crate) fn read_name_in(
 #[tactic(auto, unfolding(crate::specs::Combining::commas))]
 fn read_expressions(
     alloc: Global,
-    room: usize,
+    room: u8,
     tokens: &[Token],
 ) -> Result<(Vec<Expression>, &[Token]), Fault>
     ensures ok { IfOk result (λ r. commas (expression_at room 0) tokens.now ≡ Ok (map expression_tree r.0.items, r.1.now)) }
@@ -69,7 +69,7 @@ fn read_expressions(
 #[tactic(auto, unfolding(crate::specs::Parts::arguments))]
 fn read_arguments(
     alloc: Global,
-    room: usize,
+    room: u8,
     tokens: &[Token],
 ) -> Result<(Row<Expression>, &[Token]), Fault>
     ensures ok { IfOk result (λ r. arguments room tokens.now ≡ Ok (map expression_tree r.0, r.1.now)) }
@@ -86,7 +86,7 @@ fn read_arguments(
 #[tactic(auto, unfolding(crate::specs::Parts::call))]
 pub(crate) fn read_call(
     alloc: Global,
-    room: usize,
+    room: u8,
     tokens: &[Token],
 ) -> Result<(Call, &[Token]), Fault>
     ensures ok { IfOk result (λ r. call room tokens.now ≡ Ok (call_tree r.0, r.1.now)) }
@@ -104,7 +104,7 @@ pub(crate) fn read_call(
 #[tactic(auto, unfolding(crate::specs::Parts::value))]
 pub(crate) fn read_value(
     alloc: Global,
-    room: usize,
+    room: u8,
     tokens: &[Token],
 ) -> Result<(Value, &[Token]), Fault>
     ensures ok { IfOk result (λ r. value room tokens.now ≡ Ok (value_tree r.0, r.1.now)) }
@@ -131,7 +131,7 @@ pub(crate) fn is_cell_next(tokens: &[Token]) -> bool
 }
 
 #[tactic(auto, unfolding(crate::specs::Parts::cell))]
-fn read_cell(alloc: Global, room: usize, tokens: &[Token]) -> Result<(Place, &[Token]), Fault>
+fn read_cell(alloc: Global, room: u8, tokens: &[Token]) -> Result<(Place, &[Token]), Fault>
     ensures ok { IfOk result (λ r. cell room tokens.now ≡ Ok (place_tree r.0, r.1.now)) }
     ensures err { IfErr result (λ e. e ≢ Fault.NoMemory → cell room tokens.now ≡ Err e) }
 {
@@ -144,7 +144,7 @@ fn read_cell(alloc: Global, room: usize, tokens: &[Token]) -> Result<(Place, &[T
 }
 
 #[tactic(auto, unfolding(crate::specs::Parts::place))]
-fn read_place(alloc: Global, room: usize, tokens: &[Token]) -> Result<(Place, &[Token]), Fault>
+fn read_place(alloc: Global, room: u8, tokens: &[Token]) -> Result<(Place, &[Token]), Fault>
     ensures ok { IfOk result (λ r. place room tokens.now ≡ Ok (place_tree r.0, r.1.now)) }
     ensures err { IfErr result (λ e. e ≢ Fault.NoMemory → place room tokens.now ≡ Err e) }
 {
@@ -157,11 +157,7 @@ fn read_place(alloc: Global, room: usize, tokens: &[Token]) -> Result<(Place, &[
 
 /// What a `for` sets.
 #[tactic(auto, unfolding(crate::specs::Parts::set))]
-pub(crate) fn read_set(
-    alloc: Global,
-    room: usize,
-    tokens: &[Token],
-) -> Result<(Set, &[Token]), Fault>
+pub(crate) fn read_set(alloc: Global, room: u8, tokens: &[Token]) -> Result<(Set, &[Token]), Fault>
     ensures ok { IfOk result (λ r. set room tokens.now ≡ Ok (set_tree r.0, r.1.now)) }
     ensures err { IfErr result (λ e. e ≢ Fault.NoMemory → set room tokens.now ≡ Err e) }
 {
@@ -175,7 +171,7 @@ pub(crate) fn read_set(
 #[tactic(auto, unfolding(crate::specs::Parts::local_value))]
 fn read_local_value(
     alloc: Global,
-    room: usize,
+    room: u8,
     tokens: &[Token],
 ) -> Result<(Option<Value>, &[Token]), Fault>
     ensures ok { IfOk result (λ r. local_value room tokens.now ≡ Ok (optional_tree value_tree r.0, r.1.now)) }
@@ -193,7 +189,7 @@ fn read_local_value(
 #[tactic(auto, unfolding(crate::specs::Parts::local))]
 pub(crate) fn read_local(
     alloc: Global,
-    room: usize,
+    room: u8,
     tokens: &[Token],
 ) -> Result<(Local, &[Token]), Fault>
     ensures ok { IfOk result (λ r. local room tokens.now ≡ Ok (local_tree r.0, r.1.now)) }
@@ -209,7 +205,7 @@ pub(crate) fn read_local(
 #[tactic(auto, unfolding(crate::specs::Parts::start_local))]
 fn read_start_local(
     alloc: Global,
-    room: usize,
+    room: u8,
     tokens: &[Token],
 ) -> Result<(ForStart, &[Token]), Fault>
     ensures ok { IfOk result (λ r. start_local room tokens.now ≡ Ok (start_tree r.0, r.1.now)) }
@@ -225,11 +221,7 @@ fn read_start_local(
 }
 
 #[tactic(auto, unfolding(crate::specs::Parts::start_set))]
-fn read_start_set(
-    alloc: Global,
-    room: usize,
-    tokens: &[Token],
-) -> Result<(ForStart, &[Token]), Fault>
+fn read_start_set(alloc: Global, room: u8, tokens: &[Token]) -> Result<(ForStart, &[Token]), Fault>
     ensures ok { IfOk result (λ r. start_set room tokens.now ≡ Ok (start_tree r.0, r.1.now)) }
     ensures err { IfErr result (λ e. e ≢ Fault.NoMemory → start_set room tokens.now ≡ Err e) }
 {
@@ -242,7 +234,7 @@ fn read_start_set(
 #[tactic(auto, unfolding(crate::specs::Parts::start, crate::specs::Parts::start_nothing))]
 pub(crate) fn read_start(
     alloc: Global,
-    room: usize,
+    room: u8,
     tokens: &[Token],
 ) -> Result<(ForStart, &[Token]), Fault>
     ensures ok { IfOk result (λ r. start room tokens.now ≡ Ok (start_tree r.0, r.1.now)) }

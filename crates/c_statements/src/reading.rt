@@ -5,7 +5,7 @@ ghost use Rattle.c_tree.specs.Views.{statement_tree, statements_tree, optional_t
 ghost use Rattle.c_tree.specs.Trees as T;
 ghost use Rattle.c_statements.specs.Combining.{made};
 ghost use Rattle.c_statements.specs.Parts.{local};
-ghost use Rattle.c_statements.specs.Reading.{first_word, first_of, empty, call_statement, assign, store, break_statement, continue_statement, returned, return_statement, condition, step, branched, items_in, block_in, else_in, if_in, while_in, for_in, too_high, statement_at};
+ghost use Rattle.c_statements.specs.Reading.{first_word, first_of, empty, call_statement, assign, store, break_statement, continue_statement, returned, return_statement, condition, step, branched, items_in, block_in, branches_in, if_in, while_in, for_in, by_first, too_high, statement_at};
 
 use crate::first::First;
 use crate::parts::{
@@ -95,7 +95,7 @@ fn read_empty(tokens: &[Token]) -> Result<(Statement, &[Token]), Fault>
 
 fn read_local_statement(
     alloc: Global,
-    room: usize,
+    room: u8,
     tokens: &[Token],
 ) -> Result<(Statement, &[Token]), Fault>
     ensures ok { IfOk result (λ r. made (λ l. T.Local l) (local room) tokens.now ≡ Ok (statement_tree r.0, r.1.now)) }
@@ -108,7 +108,7 @@ fn read_local_statement(
 #[tactic(auto, unfolding(crate::specs::Reading::call_statement))]
 fn read_call_statement(
     alloc: Global,
-    room: usize,
+    room: u8,
     tokens: &[Token],
 ) -> Result<(Statement, &[Token]), Fault>
     ensures ok { IfOk result (λ r. call_statement room tokens.now ≡ Ok (statement_tree r.0, r.1.now)) }
@@ -120,11 +120,7 @@ fn read_call_statement(
 }
 
 #[tactic(auto, unfolding(crate::specs::Reading::assign))]
-fn read_assign(
-    alloc: Global,
-    room: usize,
-    tokens: &[Token],
-) -> Result<(Statement, &[Token]), Fault>
+fn read_assign(alloc: Global, room: u8, tokens: &[Token]) -> Result<(Statement, &[Token]), Fault>
     ensures ok { IfOk result (λ r. assign room tokens.now ≡ Ok (statement_tree r.0, r.1.now)) }
     ensures err { IfErr result (λ e. e ≢ Fault.NoMemory → assign room tokens.now ≡ Err e) }
 {
@@ -136,11 +132,7 @@ fn read_assign(
 }
 
 #[tactic(auto, unfolding(crate::specs::Reading::store))]
-fn read_store(
-    alloc: Global,
-    room: usize,
-    tokens: &[Token],
-) -> Result<(Statement, &[Token]), Fault>
+fn read_store(alloc: Global, room: u8, tokens: &[Token]) -> Result<(Statement, &[Token]), Fault>
     ensures ok { IfOk result (λ r. store room tokens.now ≡ Ok (statement_tree r.0, r.1.now)) }
     ensures err { IfErr result (λ e. e ≢ Fault.NoMemory → store room tokens.now ≡ Err e) }
 {
@@ -177,7 +169,7 @@ fn read_continue(tokens: &[Token]) -> Result<(Statement, &[Token]), Fault>
 
 fn read_returned(
     alloc: Global,
-    room: usize,
+    room: u8,
     tokens: &[Token],
 ) -> Result<(Option<Value>, &[Token]), Fault>
     ensures ok { IfOk result (λ r. returned room tokens.now ≡ Ok (optional_tree value_tree r.0, r.1.now)) }
@@ -191,11 +183,7 @@ fn read_returned(
 }
 
 #[tactic(auto, unfolding(crate::specs::Reading::return_statement))]
-fn read_return(
-    alloc: Global,
-    room: usize,
-    tokens: &[Token],
-) -> Result<(Statement, &[Token]), Fault>
+fn read_return(alloc: Global, room: u8, tokens: &[Token]) -> Result<(Statement, &[Token]), Fault>
     ensures ok { IfOk result (λ r. return_statement room tokens.now ≡ Ok (statement_tree r.0, r.1.now)) }
     ensures err { IfErr result (λ e. e ≢ Fault.NoMemory → return_statement room tokens.now ≡ Err e) }
 {
@@ -208,7 +196,7 @@ fn read_return(
 /// The condition of a `for`.
 fn read_condition(
     alloc: Global,
-    room: usize,
+    room: u8,
     tokens: &[Token],
 ) -> Result<(Option<Expression>, &[Token]), Fault>
     ensures ok { IfOk result (λ r. condition room tokens.now ≡ Ok (optional_tree expression_tree r.0, r.1.now)) }
@@ -222,11 +210,7 @@ fn read_condition(
 }
 
 /// What a `for` sets behind each turn.
-fn read_step(
-    alloc: Global,
-    room: usize,
-    tokens: &[Token],
-) -> Result<(Option<Set>, &[Token]), Fault>
+fn read_step(alloc: Global, room: u8, tokens: &[Token]) -> Result<(Option<Set>, &[Token]), Fault>
     ensures ok { IfOk result (λ r. step room tokens.now ≡ Ok (optional_tree set_tree r.0, r.1.now)) }
     ensures err { IfErr result (λ e. e ≢ Fault.NoMemory → step room tokens.now ≡ Err e) }
 {
@@ -261,7 +245,7 @@ fn branched(
 #[cycle(statements)]
 fn read_items(
     alloc: Global,
-    room: usize,
+    room: u8,
     tokens: &[Token],
 ) -> Result<(Vec<Statement>, &[Token]), Fault>
     ensures ok { IfOk result (λ r. items_in (statement_at room) tokens.now ≡ Ok (map statement_tree r.0.items, r.1.now)) }
@@ -282,10 +266,10 @@ fn read_items(
 
 /// A block whose statements have this room (C99 6.8.2).
 #[cycle(statements)]
-#[tactic(auto, unfolding(crate::specs::Reading::block_in))]
+#[tactic(auto, using(crate::proofs::Trees::statements_named), unfolding(crate::specs::Reading::block_in))]
 pub fn read_block(
     alloc: Global,
-    room: usize,
+    room: u8,
     tokens: &[Token],
 ) -> Result<(Vec<Statement>, &[Token]), Fault>
     ensures ok { IfOk result (λ r. block_in (statement_at room) tokens.now ≡ Ok (statements_tree r.0.items, r.1.now)) }
@@ -299,11 +283,7 @@ pub fn read_block(
 
 #[cycle(statements)]
 #[tactic(auto, unfolding(crate::specs::Reading::while_in))]
-fn read_while(
-    alloc: Global,
-    room: usize,
-    tokens: &[Token],
-) -> Result<(Statement, &[Token]), Fault>
+fn read_while(alloc: Global, room: u8, tokens: &[Token]) -> Result<(Statement, &[Token]), Fault>
     ensures ok { IfOk result (λ r. while_in (statement_at room) room tokens.now ≡ Ok (statement_tree r.0, r.1.now)) }
     ensures err { IfErr result (λ e. e ≢ Fault.NoMemory → while_in (statement_at room) room tokens.now ≡ Err e) }
 {
@@ -315,32 +295,29 @@ fn read_while(
     Ok((Statement::While(condition, Box::new(alloc, body)?), rest))
 }
 
+/// The statement of an `if`, and the one behind `else`, if that is next (C99 6.8.4.1).
 #[cycle(statements)]
-#[tactic(auto, unfolding(crate::specs::Reading::else_in))]
-fn read_else(
+#[tactic(auto, unfolding(crate::specs::Reading::branches_in))]
+fn read_branches(
     alloc: Global,
-    room: usize,
+    room: u8,
     tokens: &[Token],
-) -> Result<(Option<Statement>, &[Token]), Fault>
-    ensures ok { IfOk result (λ r. else_in (statement_at room) tokens.now ≡ Ok (optional_tree statement_tree r.0, r.1.now)) }
-    ensures err { IfErr result (λ e. e ≢ Fault.NoMemory → else_in (statement_at room) tokens.now ≡ Err e) }
+) -> Result<((Statement, Option<Statement>), &[Token]), Fault>
+    ensures ok { IfOk result (λ r. branches_in (statement_at room) tokens.now ≡ Ok ((statement_tree r.0.0, optional_tree statement_tree r.0.1), r.1.now)) }
+    ensures err { IfErr result (λ e. e ≢ Fault.NoMemory → branches_in (statement_at room) tokens.now ≡ Err e) }
 {
-    if !is_word_next(Keyword::Else, tokens) {
-        return Ok((None, tokens));
+    let (then, rest) = read_statement(alloc, room, false, tokens)?;
+    if !is_word_next(Keyword::Else, rest) {
+        return Ok(((then, None), rest));
     }
-    let rest = read_word(Keyword::Else, tokens)?;
-    let (statement, rest) = read_statement(alloc, room, false, rest)?;
-    Ok((Some(statement), rest))
+    let rest = read_word(Keyword::Else, rest)?;
+    let (other, rest) = read_statement(alloc, room, false, rest)?;
+    Ok(((then, Some(other)), rest))
 }
 
-/// An `else` that is next belongs to this `if` (C99 6.8.4.1).
 #[cycle(statements)]
 #[tactic(auto, unfolding(crate::specs::Reading::if_in))]
-fn read_if(
-    alloc: Global,
-    room: usize,
-    tokens: &[Token],
-) -> Result<(Statement, &[Token]), Fault>
+fn read_if(alloc: Global, room: u8, tokens: &[Token]) -> Result<(Statement, &[Token]), Fault>
     ensures ok { IfOk result (λ r. if_in (statement_at room) room tokens.now ≡ Ok (statement_tree r.0, r.1.now)) }
     ensures err { IfErr result (λ e. e ≢ Fault.NoMemory → if_in (statement_at room) room tokens.now ≡ Err e) }
 {
@@ -348,18 +325,14 @@ fn read_if(
     let rest = read_sign(Punctuator::LeftParenthesis, rest)?;
     let (condition, rest) = expression(alloc, room, 0, rest)?;
     let rest = read_sign(Punctuator::RightParenthesis, rest)?;
-    let (then, rest) = read_statement(alloc, room, false, rest)?;
-    let (other, rest) = read_else(alloc, room, rest)?;
-    Ok((branched(alloc, condition, then, other)?, rest))
+    let ((then, other), rest) = read_branches(alloc, room, rest)?;
+    let statement = branched(alloc, condition, then, other)?;
+    Ok((statement, rest))
 }
 
 #[cycle(statements)]
 #[tactic(auto, unfolding(crate::specs::Reading::for_in))]
-fn read_for(
-    alloc: Global,
-    room: usize,
-    tokens: &[Token],
-) -> Result<(Statement, &[Token]), Fault>
+fn read_for(alloc: Global, room: u8, tokens: &[Token]) -> Result<(Statement, &[Token]), Fault>
     ensures ok { IfOk result (λ r. for_in (statement_at room) room tokens.now ≡ Ok (statement_tree r.0, r.1.now)) }
     ensures err { IfErr result (λ e. e ≢ Fault.NoMemory → for_in (statement_at room) room tokens.now ≡ Err e) }
 {
@@ -375,12 +348,50 @@ fn read_for(
     Ok((Statement::For(start, condition, step, body), rest))
 }
 
+/// A block as a statement.
+fn block_of(statements: Vec<Statement>) -> Statement
+    ensures { statement_tree result ≡ T.Block (statements_tree statements.items) }
+{
+    Statement::Block(statements)
+}
+
+/// What begins so, with parts of this room.
+#[cycle(statements)]
+fn read_by_first(
+    alloc: Global,
+    room: u8,
+    first: First,
+    tokens: &[Token],
+) -> Result<(Statement, &[Token]), Fault>
+    ensures ok { IfOk result (λ r. by_first (statement_at room) room first tokens.now ≡ Ok (statement_tree r.0, r.1.now)) }
+    ensures err { IfErr result (λ e. e ≢ Fault.NoMemory → by_first (statement_at room) room first tokens.now ≡ Err e) }
+{
+    match first {
+        First::Empty => read_empty(tokens),
+        First::Local => read_local_statement(alloc, room, tokens),
+        First::Block => {
+            let (statements, rest) = read_block(alloc, room, tokens)?;
+            Ok((block_of(statements), rest))
+        }
+        First::Call => read_call_statement(alloc, room, tokens),
+        First::Assign => read_assign(alloc, room, tokens),
+        First::Store => read_store(alloc, room, tokens),
+        First::If => read_if(alloc, room, tokens),
+        First::While => read_while(alloc, room, tokens),
+        First::For => read_for(alloc, room, tokens),
+        First::Break => read_break(tokens),
+        First::Continue => read_continue(tokens),
+        First::Return => read_return(alloc, room, tokens),
+        First::Other => Err(misfit(tokens)),
+    }
+}
+
 /// A statement, or in a block a local, which is at most as high as the room.
 #[cycle(statements)]
-#[tactic(auto, unfolding(crate::specs::Reading::statement_at))]
+#[tactic(auto, using(crate::proofs::Trees::with_room, crate::proofs::Trees::without_room))]
 fn read_statement(
     alloc: Global,
-    room: usize,
+    room: u8,
     block: bool,
     tokens: &[Token],
 ) -> Result<(Statement, &[Token]), Fault>
@@ -391,23 +402,5 @@ fn read_statement(
     if room == 0 {
         return Err(too_high(first, tokens));
     }
-    let below = room - 1;
-    match first {
-        First::Empty => read_empty(tokens),
-        First::Local => read_local_statement(alloc, below, tokens),
-        First::Block => {
-            let (statements, rest) = read_block(alloc, below, tokens)?;
-            Ok((Statement::Block(statements), rest))
-        }
-        First::Call => read_call_statement(alloc, below, tokens),
-        First::Assign => read_assign(alloc, below, tokens),
-        First::Store => read_store(alloc, below, tokens),
-        First::If => read_if(alloc, below, tokens),
-        First::While => read_while(alloc, below, tokens),
-        First::For => read_for(alloc, below, tokens),
-        First::Break => read_break(tokens),
-        First::Continue => read_continue(tokens),
-        First::Return => read_return(alloc, below, tokens),
-        First::Other => Err(misfit(tokens)),
-    }
+    read_by_first(alloc, room - 1, first, tokens)
 }
