@@ -187,8 +187,8 @@ unfolding heading
 heading_law =
     made_law (λ (v : Head). record { result = v.0; name = v.1.0; parameters = v.1.1 }) (λ p. (p.result, (p.name, p.parameters))) (λ p. refl)
     (both return_law
-      (both name_law (after (sign_mark LeftParenthesis) (before open_parameters_law (sign_mark RightParenthesis) closed)) (λ x ps xs rest s end. tt))
-      (λ r v xs rest s end. begun (λ l. is_word_next K.Int l ≡ false) (name_no_word v.0 K.Int) xs rest s))
+    (both name_law (after (sign_mark LeftParenthesis) (before open_parameters_law (sign_mark RightParenthesis) closed)) (λ x ps xs rest s end. tt))
+    (λ r v xs rest s end. begun (λ l. is_word_next K.Int l ≡ false) (name_no_word v.0 K.Int) xs rest s))
     Whatever IsHeading Any
     (λ v f. tt) (λ v xs s. s) (λ p f. (tt, (tt, tt))) (λ p xs s. s) (λ p rest d. tt)
 

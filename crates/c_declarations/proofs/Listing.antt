@@ -98,7 +98,7 @@ module _ {A : Type 0} {part : Reading A} {F : A → Type 0} {P L E : A → List 
         let e : ts ++ rest ≡ us ++ (vs ++ rest) = ap (λ (t : List Token). t ++ rest) m.4 ∙ append_assoc us vs rest in
         let one : part (us ++ (vs ++ rest)) ≡ Ok (x, vs ++ rest) = p.again x us (vs ++ rest) fits.0 m.2 (first_follows x xs vs rest m.3 end) in
         let more : repeated (is_sign_next Comma) (sign Comma ▷ part) (length (vs ++ rest)) (vs ++ rest) ≡ Ok (xs, rest) =
-            repeated_again (is_sign_next Comma) (after comma_mark p) next_repeats (length (vs ++ rest)) xs vs rest fits.1 m.3 (longer vs rest) end in
+        repeated_again (is_sign_next Comma) (after comma_mark p) next_repeats (length (vs ++ rest)) xs vs rest fits.1 m.3 (longer vs rest) end in
         rw (e, one, more) refl
 
     -- parts with a comma between each two

@@ -151,10 +151,10 @@ unfolding global
 global_law room =
     made_law (λ (v : Parts). record { kind = v.0; name = v.1.0; size = v.1.1.0; initializer = v.1.1.1 }) (λ g. (g.kind, (g.name, (g.size, g.initializer)))) (λ g. refl)
     (both type_law
-      (both name_law
-        (both size_law (before (beginning_law room) (sign_mark Semicolon) ended) (λ c i xs rest s end. sized c i xs rest s))
-        (λ x v xs rest s end. tt))
-      (λ t v xs rest s end. begun (λ l. is_word_next K.Int l ≡ false) (name_no_word v.0 K.Int) xs rest s))
+    (both name_law
+    (both size_law (before (beginning_law room) (sign_mark Semicolon) ended) (λ c i xs rest s end. sized c i xs rest s))
+    (λ x v xs rest s end. tt))
+    (λ t v xs rest s end. begun (λ l. is_word_next K.Int l ≡ false) (name_no_word v.0 K.Int) xs rest s))
     (FitsGlobal room) IsGlobal Any
     (λ v f. f.1.1.1) (λ v xs s. s) (λ g f. (tt, (tt, (no_size_fits g.size, f)))) (λ g xs s. s) (λ g rest d. tt)
 

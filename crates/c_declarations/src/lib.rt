@@ -9,3 +9,6 @@ mod reading;
 
 pub use misread::Misread;
 pub use reading::read_declaration;
+
+#[cfg(test)]
+mod tests;

@@ -7,6 +7,7 @@ ghost use Rattle.c_tree.specs.Views.{declaration_tree};
 ghost use Rattle.std.specs.List.{AllByRecursion};
 ghost use Rattle.c_declarations.specs.Reading.{is_next_there, declarations};
 ghost use Rattle.c_reader.specs.Units.{unit_tree};
+ghost use Rattle.c_reader.specs.Refusing.{Refuses};
 ghost use Rattle.c_reader.specs.Telling.{IsFault, Tells};
 
 use crate::errors::ReadError;
@@ -84,11 +85,11 @@ fn read_declarations(
 }
 
 /// The text that the tokens spell. Reading is linear in the tokens.
-#[tactic(auto, using(crate::proofs::Sound::spelled_read, crate::proofs::Sound::low_read))]
+#[tactic(auto, using(crate::proofs::Sound::spelled_read, crate::proofs::Sound::low_read, crate::proofs::Sound::refused))]
 pub fn read(alloc: Global, tokens: &[Token]) -> Result<Unit, ReadError>
     ensures ok { IfOk result (λ u. IsUnit (unit_tree u) tokens.now) }
     ensures low { IfOk result (λ u. AllByRecursion IsLow (unit_tree u).declarations) }
-    ensures err { IfErr result (λ e. Tells e (declarations highest tokens.now)) }
+    ensures err { IfErr result (λ e. Refuses e tokens.now) }
 {
     let end = end_of(tokens);
     let (declarations, _rest) = read_declarations(alloc, tokens, end)?;
