@@ -33,7 +33,7 @@ pub spelled_read : (ts : List Token) (ds : List DeclarationTree) (rest : List To
 spelled_read ts ds rest e = (declarations_takes block_law highest ts ds rest e).0
 
 pub low_read : (ts : List Token) (ds : List DeclarationTree) (rest : List Token) → declarations highest ts ≡ Ok (ds, rest) → AllByRecursion IsLow ds
-low_read ts ds rest e = declarations_low ds (declarations_takes block_law highest ts ds rest e).1.0
+low_read ts ds rest e = declarations_low ds (declarations_takes block_law highest ts ds rest e).1
 
 pub refused : (e : ReadError) (ts : List Token) → Tells e (declarations highest ts) → Refuses e ts
 refused E.NoMemory ts t = tt

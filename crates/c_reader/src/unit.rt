@@ -16,7 +16,12 @@ impl Model for Unit {
     ghost use Rattle.c_reader.specs.Units.{Contents};
     ghost use Rattle.c_tree.specs.Views.{declaration_tree};
 
+    ghost use Rattle.c_tree.specs.contracts.declaration.Declaration as d;
+    ghost use Rattle.std.specs.Coded.{codes};
+
     ghost Value = { Contents };
+
+    ghost coded = { Prim.hlevel (codes, d.the_row.coded) };
 
     ghost view = { λ u. record { declarations = u.declarations.items; end = u.end } };
 
@@ -38,7 +43,7 @@ impl Unit {
 
     /// The declarations, in the order of the text.
     pub fn declarations(&self) -> &[Declaration]
-        ensures { result.now ≡ self.now.declarations }
+        ensures items { result.now ≡ self.now.declarations }
         ensures low { AllByRecursion IsLow (map declaration_tree result.now) }
     {
         self.declarations.as_slice()
