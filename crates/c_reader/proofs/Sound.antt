@@ -1,0 +1,41 @@
+-- What is read is spelled by the tokens, and low; and where nothing is read, nothing is.
+use Rattle.std.proofs.Common.{◌≡◌, ℕ, ◌≤◌, List, Result, Ok, Err}
+use Rattle.std.specs.List.{AllByRecursion}
+use Rattle.c_tokens.specs.declared.token.Token.{Token}
+use Rattle.c_tree.specs.Trees.{DeclarationTree}
+use Rattle.c_tree.specs.Heights.{highest, IsLow}
+use Rattle.c_tree.specs.Declarations.{AreDeclarations}
+use Rattle.c_reading.specs.declared.fault.Fault.TheVariants as F
+use Rattle.c_statements.specs.Reading.{block_in, statement_at}
+use Rattle.c_statements.proofs.Body.{block_takes, block_again, block_stays}
+use Rattle.c_declarations.specs.Reading.{declarations}
+use Rattle.c_declarations.proofs.Combining.{IsReader, Any, Keeps}
+use Rattle.c_declarations.proofs.Declaring.{IsBody, FitsBlock}
+use Rattle.c_declarations.proofs.Laws.{declarations_takes, declarations_low}
+use Rattle.c_declarations.proofs.Refusing.{low_refused, all_refused}
+use Rattle.c_reader.specs.declared.errors.ReadError.{ReadError}
+use Rattle.c_reader.specs.declared.errors.ReadError.TheVariants as E
+use Rattle.c_reader.specs.Telling.{Tells}
+use Rattle.c_reader.specs.Refusing.{Refuses}
+
+block_law : (room : ℕ) → IsReader (block_in (statement_at room)) (FitsBlock room) IsBody Any Any
+block_law room = record {
+  takes = λ ts s rest e.
+      let t = block_takes room ts s rest e in
+      record { fits = t.fits; leaves = tt; front = t.front; spelled = t.spelled; parts = t.parts };
+  again = λ s xs rest fits p end. block_again room s xs rest fits p;
+}
+
+block_keeps : (room more : ℕ) → room ≤ more → Keeps (block_in (statement_at room)) (block_in (statement_at more))
+block_keeps room more le ts = block_stays room more ts le
+
+pub spelled_read : (ts : List Token) (ds : List DeclarationTree) (rest : List Token) → declarations highest ts ≡ Ok (ds, rest) → AreDeclarations ds ts
+spelled_read ts ds rest e = (declarations_takes block_law highest ts ds rest e).0
+
+pub low_read : (ts : List Token) (ds : List DeclarationTree) (rest : List Token) → declarations highest ts ≡ Ok (ds, rest) → AllByRecursion IsLow ds
+low_read ts ds rest e = declarations_low ds (declarations_takes block_law highest ts ds rest e).1
+
+pub refused : (e : ReadError) (ts : List Token) → Tells e (declarations highest ts) → Refuses e ts
+refused E.NoMemory ts t = tt
+refused (E.Syntax at) ts t = λ u s. all_refused block_law block_keeps ts t.0 t.1 u.declarations s.0
+refused (E.TooDeep at) ts t = λ u s low. low_refused block_law ts F.TooDeep t u.declarations s.0 low

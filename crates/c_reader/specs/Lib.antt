@@ -1,0 +1,4 @@
+pub mod Numbers
+pub mod Telling
+pub mod Units
+pub mod Refusing

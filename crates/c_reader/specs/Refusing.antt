@@ -1,0 +1,15 @@
+-- What a refusal says of the tokens: that none of the grammar's trees are spelled by them, or none that are low.
+use Rattle.std.specs.Prelude.{List}
+use Rattle.std.specs.List.{AllByRecursion}
+use Rattle.c_tokens.specs.declared.token.Token.{Token}
+use Rattle.c_tree.specs.Trees.{UnitTree}
+use Rattle.c_tree.specs.Heights.{IsLow}
+use Rattle.c_tree.specs.Declarations.{IsUnit}
+use Rattle.c_reader.specs.declared.errors.ReadError.{ReadError}
+use Rattle.c_reader.specs.declared.errors.ReadError.TheVariants as E
+
+-- Syntax: no tree, however high. A want of memory says nothing.
+abbrev pub Refuses : ReadError → List Token → Type 0
+Refuses E.NoMemory ts = Unit {0}
+Refuses (E.Syntax at) ts = (u : UnitTree) → IsUnit u ts → ⊥
+Refuses (E.TooDeep at) ts = (u : UnitTree) → IsUnit u ts → AllByRecursion IsLow u.declarations → ⊥

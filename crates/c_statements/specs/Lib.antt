@@ -1,0 +1,3 @@
+pub mod Combining
+pub mod Parts
+pub mod Reading

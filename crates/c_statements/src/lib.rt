@@ -1,0 +1,11 @@
+//! Reading statements (C99 6.8): each reader gives what it read and the tokens behind it, or the first
+//! fault from the front. A room bounds the height of what is read.
+#![tactic(auto)]
+
+mod first;
+mod parts;
+mod reading;
+#[cfg(test)]
+mod tests;
+
+pub use reading::read_block;

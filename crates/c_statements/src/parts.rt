@@ -1,0 +1,251 @@
+//! Readers of the parts of statements that are no statements.
+
+ghost use Rattle.std.specs.Prelude.{◌≡◌, ◌≢◌, ◌<◌, suc, IfOk, IfErr, Ok, Err, map, length};
+ghost use Rattle.c_tree.specs.Views.{expression_tree, call_tree, value_tree, place_tree, set_tree, local_tree, start_tree, optional_tree};
+ghost use Rattle.c_reading.specs.Tokens.{sign};
+ghost use Rattle.c_expressions.specs.Reading.{expression_at};
+ghost use Rattle.c_statements.specs.Combining.{commas};
+ghost use Rattle.c_statements.specs.Parts.{less, name, arguments, call, value, is_cell_next, cell, place, set, local_value, local, start_local, start_set, start};
+
+use c_expressions::expression;
+use c_reading::{
+    Fault, is_call_next, is_name_next, is_sign_next, is_type_next, read_name, read_sign, read_type,
+};
+use c_tokens::{Punctuator, Token};
+use c_tree::{Call, Expression, ForStart, Identifier, Local, Place, Set, Value};
+use lang::Row;
+use std::alloc::Global;
+
+/// One less room, for the parts of something.
+#[tactic(auto, unfolding(crate::specs::Parts::less))]
+pub(crate) fn one_less(room: u8) -> Result<u8, Fault>
+    ensures ok { IfOk result (λ r. less room ≡ Ok r) }
+    ensures err { IfErr result (λ e. less room ≡ Err e) }
+{
+    if room == 0 {
+        return Err(Fault::TooDeep);
+    }
+    Ok(room - 1)
+}
+
+#[tactic(auto, unfolding(crate::specs::Parts::name))]
+pub(crate) fn read_name_in(
+    alloc: Global,
+    room: u8,
+    tokens: &[Token],
+) -> Result<(Identifier, &[Token]), Fault>
+    ensures ok { IfOk result (λ r. name room tokens.now ≡ Ok (r.0, r.1.now)) }
+    ensures err { IfErr result (λ e. e ≢ Fault.NoMemory → name room tokens.now ≡ Err e) }
+{
+    let _below = one_less(room)?;
+    read_name(alloc, tokens)
+}
+
+/// Expressions with a comma between each two.
+#[tactic(auto, unfolding(crate::specs::Combining::commas))]
+fn read_expressions(
+    alloc: Global,
+    room: u8,
+    tokens: &[Token],
+) -> Result<(Vec<Expression>, &[Token]), Fault>
+    ensures ok { IfOk result (λ r. commas (expression_at room 0) tokens.now ≡ Ok (map expression_tree r.0.items, r.1.now)) }
+    ensures err { IfErr result (λ e. e ≢ Fault.NoMemory → commas (expression_at room 0) tokens.now ≡ Err e) }
+{
+    let (first, mut rest) = expression(alloc, room, 0, tokens)?;
+    let mut expressions = Vec::new(alloc);
+    expressions.push(first)?;
+    for _ in 0..rest.len() {
+        if !is_sign_next(Punctuator::Comma, rest) {
+            break;
+        }
+        let behind = read_sign(Punctuator::Comma, rest)?;
+        let (next, behind) = expression(alloc, room, 0, behind)?;
+        expressions.push(next)?;
+        rest = behind;
+    }
+    Ok((expressions, rest))
+}
+
+#[tactic(auto, unfolding(crate::specs::Parts::arguments))]
+fn read_arguments(
+    alloc: Global,
+    room: u8,
+    tokens: &[Token],
+) -> Result<(Row<Expression>, &[Token]), Fault>
+    ensures ok { IfOk result (λ r. arguments room tokens.now ≡ Ok (map expression_tree r.0, r.1.now)) }
+    ensures err { IfErr result (λ e. e ≢ Fault.NoMemory → arguments room tokens.now ≡ Err e) }
+{
+    if is_sign_next(Punctuator::RightParenthesis, tokens) {
+        return Ok((Row::from_vec(Vec::new(alloc)), tokens));
+    }
+    let (expressions, rest) = read_expressions(alloc, room, tokens)?;
+    Ok((Row::from_vec(expressions), rest))
+}
+
+/// A call (C99 6.5.2.2).
+#[tactic(auto, unfolding(crate::specs::Parts::call))]
+pub(crate) fn read_call(
+    alloc: Global,
+    room: u8,
+    tokens: &[Token],
+) -> Result<(Call, &[Token]), Fault>
+    ensures ok { IfOk result (λ r. call room tokens.now ≡ Ok (call_tree r.0, r.1.now)) }
+    ensures err { IfErr result (λ e. e ≢ Fault.NoMemory → call room tokens.now ≡ Err e) }
+{
+    let below = one_less(room)?;
+    let (callee, rest) = read_name_in(alloc, below, tokens)?;
+    let rest = read_sign(Punctuator::LeftParenthesis, rest)?;
+    let (arguments, rest) = read_arguments(alloc, below, rest)?;
+    let rest = read_sign(Punctuator::RightParenthesis, rest)?;
+    Ok((Call { callee, arguments }, rest))
+}
+
+/// The right side of an assignment and the like: a call or an expression.
+#[tactic(auto, unfolding(crate::specs::Parts::value))]
+pub(crate) fn read_value(
+    alloc: Global,
+    room: u8,
+    tokens: &[Token],
+) -> Result<(Value, &[Token]), Fault>
+    ensures ok { IfOk result (λ r. value room tokens.now ≡ Ok (value_tree r.0, r.1.now)) }
+    ensures err { IfErr result (λ e. e ≢ Fault.NoMemory → value room tokens.now ≡ Err e) }
+{
+    if is_call_next(tokens) {
+        let (call, rest) = read_call(alloc, room, tokens)?;
+        return Ok((Value::Call(call), rest));
+    }
+    let (value, rest) = expression(alloc, room, 0, tokens)?;
+    Ok((Value::Expression(value), rest))
+}
+
+/// Whether a cell is next: a name and `[`.
+pub(crate) fn is_cell_next(tokens: &[Token]) -> bool
+    ensures { result ≡ is_cell_next tokens.now }
+{
+    match tokens {
+        [] => false,
+        [_token, rest @ ..] => {
+            is_name_next(tokens) && is_sign_next(Punctuator::LeftBracket, rest)
+        }
+    }
+}
+
+#[tactic(auto, unfolding(crate::specs::Parts::cell))]
+fn read_cell(alloc: Global, room: u8, tokens: &[Token]) -> Result<(Place, &[Token]), Fault>
+    ensures ok { IfOk result (λ r. cell room tokens.now ≡ Ok (place_tree r.0, r.1.now)) }
+    ensures err { IfErr result (λ e. e ≢ Fault.NoMemory → cell room tokens.now ≡ Err e) }
+{
+    let below = one_less(room)?;
+    let (array, rest) = read_name_in(alloc, below, tokens)?;
+    let rest = read_sign(Punctuator::LeftBracket, rest)?;
+    let (index, rest) = expression(alloc, below, 0, rest)?;
+    let rest = read_sign(Punctuator::RightBracket, rest)?;
+    Ok((Place::Element(array, index), rest))
+}
+
+#[tactic(auto, unfolding(crate::specs::Parts::place))]
+fn read_place(alloc: Global, room: u8, tokens: &[Token]) -> Result<(Place, &[Token]), Fault>
+    ensures ok { IfOk result (λ r. place room tokens.now ≡ Ok (place_tree r.0, r.1.now)) }
+    ensures err { IfErr result (λ e. e ≢ Fault.NoMemory → place room tokens.now ≡ Err e) }
+{
+    if is_cell_next(tokens) {
+        return read_cell(alloc, room, tokens);
+    }
+    let (variable, rest) = read_name_in(alloc, room, tokens)?;
+    Ok((Place::Variable(variable), rest))
+}
+
+/// What a `for` sets.
+#[tactic(auto, unfolding(crate::specs::Parts::set))]
+pub(crate) fn read_set(alloc: Global, room: u8, tokens: &[Token]) -> Result<(Set, &[Token]), Fault>
+    ensures ok { IfOk result (λ r. set room tokens.now ≡ Ok (set_tree r.0, r.1.now)) }
+    ensures err { IfErr result (λ e. e ≢ Fault.NoMemory → set room tokens.now ≡ Err e) }
+{
+    let below = one_less(room)?;
+    let (place, rest) = read_place(alloc, below, tokens)?;
+    let rest = read_sign(Punctuator::Assign, rest)?;
+    let (value, rest) = expression(alloc, below, 0, rest)?;
+    Ok((Set { place, value }, rest))
+}
+
+#[tactic(auto, unfolding(crate::specs::Parts::local_value))]
+fn read_local_value(
+    alloc: Global,
+    room: u8,
+    tokens: &[Token],
+) -> Result<(Option<Value>, &[Token]), Fault>
+    ensures ok { IfOk result (λ r. local_value room tokens.now ≡ Ok (optional_tree value_tree r.0, r.1.now)) }
+    ensures err { IfErr result (λ e. e ≢ Fault.NoMemory → local_value room tokens.now ≡ Err e) }
+{
+    if !is_sign_next(Punctuator::Assign, tokens) {
+        return Ok((None, tokens));
+    }
+    let rest = read_sign(Punctuator::Assign, tokens)?;
+    let (value, rest) = read_value(alloc, room, rest)?;
+    Ok((Some(value), rest))
+}
+
+/// The declaration of a local (C99 6.7), whose parts have this room.
+#[tactic(auto, unfolding(crate::specs::Parts::local))]
+pub(crate) fn read_local(
+    alloc: Global,
+    room: u8,
+    tokens: &[Token],
+) -> Result<(Local, &[Token]), Fault>
+    ensures ok { IfOk result (λ r. local room tokens.now ≡ Ok (local_tree r.0, r.1.now)) }
+    ensures err { IfErr result (λ e. e ≢ Fault.NoMemory → local room tokens.now ≡ Err e) }
+{
+    let (kind, rest) = read_type(tokens)?;
+    let (name, rest) = read_name_in(alloc, room, rest)?;
+    let (value, rest) = read_local_value(alloc, room, rest)?;
+    let rest = read_sign(Punctuator::Semicolon, rest)?;
+    Ok((Local { kind, name, value }, rest))
+}
+
+#[tactic(auto, unfolding(crate::specs::Parts::start_local))]
+fn read_start_local(
+    alloc: Global,
+    room: u8,
+    tokens: &[Token],
+) -> Result<(ForStart, &[Token]), Fault>
+    ensures ok { IfOk result (λ r. start_local room tokens.now ≡ Ok (start_tree r.0, r.1.now)) }
+    ensures err { IfErr result (λ e. e ≢ Fault.NoMemory → start_local room tokens.now ≡ Err e) }
+{
+    let (kind, rest) = read_type(tokens)?;
+    let below = one_less(room)?;
+    let (name, rest) = read_name_in(alloc, below, rest)?;
+    let rest = read_sign(Punctuator::Assign, rest)?;
+    let (value, rest) = expression(alloc, below, 0, rest)?;
+    let rest = read_sign(Punctuator::Semicolon, rest)?;
+    Ok((ForStart::Local(kind, name, value), rest))
+}
+
+#[tactic(auto, unfolding(crate::specs::Parts::start_set))]
+fn read_start_set(alloc: Global, room: u8, tokens: &[Token]) -> Result<(ForStart, &[Token]), Fault>
+    ensures ok { IfOk result (λ r. start_set room tokens.now ≡ Ok (start_tree r.0, r.1.now)) }
+    ensures err { IfErr result (λ e. e ≢ Fault.NoMemory → start_set room tokens.now ≡ Err e) }
+{
+    let (set, rest) = read_set(alloc, room, tokens)?;
+    let rest = read_sign(Punctuator::Semicolon, rest)?;
+    Ok((ForStart::Set(set), rest))
+}
+
+/// How a `for` begins, with the `;` behind it (C99 6.8.5.3).
+#[tactic(auto, unfolding(crate::specs::Parts::start, crate::specs::Parts::start_nothing))]
+pub(crate) fn read_start(
+    alloc: Global,
+    room: u8,
+    tokens: &[Token],
+) -> Result<(ForStart, &[Token]), Fault>
+    ensures ok { IfOk result (λ r. start room tokens.now ≡ Ok (start_tree r.0, r.1.now)) }
+    ensures err { IfErr result (λ e. e ≢ Fault.NoMemory → start room tokens.now ≡ Err e) }
+{
+    if is_sign_next(Punctuator::Semicolon, tokens) {
+        let rest = read_sign(Punctuator::Semicolon, tokens)?;
+        return Ok((ForStart::Nothing, rest));
+    }
+    if is_type_next(tokens) {
+        return read_start_local(alloc, room, tokens);
+    }
+    read_start_set(alloc, room, tokens)
+}
