@@ -1,5 +1,5 @@
 -- With which tokens expressions begin.
-use Rattle.std.proofs.Common.{◌≡◌, ℕ, suc, Bool, true, false, cond, List, [], ◌∷◌, ◌++◌, refl, sym, ap, subst, ◌∙◌, append_assoc}
+use Rattle.std.proofs.Common.{◌≡◌, ℕ, Bool, true, false, List, [], ◌∷◌, ◌++◌, refl, sym, ap, subst, ◌∙◌}
 use Rattle.std.specs.Prelude.{◌&&◌}
 use Rattle.c_tokens.specs.declared.punctuator.Punctuator.{Punctuator}
 use Rattle.c_tokens.specs.declared.punctuator.Punctuator.TheVariants as P
@@ -12,7 +12,7 @@ use Rattle.c_tree.specs.declared.expression.BinaryOperator.{BinaryOperator}
 use Rattle.c_tree.specs.declared.expression.BinaryOperator.TheVariants as B
 use Rattle.c_tree.specs.Trees.{ExpressionTree}
 use Rattle.c_tree.specs.Trees as T
-use Rattle.c_tree.specs.Signs.{unary_sign, binary_sign, binding, operand_level}
+use Rattle.c_tree.specs.Signs.{unary_sign, binary_sign, binding}
 use Rattle.c_tree.specs.Parts.{Sign}
 use Rattle.c_tree.specs.Expressions.{IsExpressionAt}
 use Rattle.c_reading.specs.Peeking.{is_sign, is_name, is_next, is_sign_next, is_call_next}

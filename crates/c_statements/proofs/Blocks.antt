@@ -1,5 +1,5 @@
 -- A block's statements, in memory and as a list.
-use Rattle.std.proofs.Common.{◌≡◌, List, [], ◌∷◌, refl, sym, ap, ◌∙◌, rules}
+use Rattle.std.proofs.Common.{◌≡◌, refl, ap, rules}
 use Rattle.std.specs.Global.{Vec}
 use Rattle.c_tree.specs.Trees as T
 use Rattle.c_tree.specs.Views.{statement_tree, statements_tree, row_tree}

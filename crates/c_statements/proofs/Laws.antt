@@ -1,12 +1,11 @@
 -- What is read is spelled so, what is spelled so is read, and more room reads the same: of readings that are
 -- put together.
-use Rattle.std.proofs.Common.{◌≡◌, ℕ, zero, suc, ◌≤◌, Bool, true, false, cond, List, [], ◌∷◌, ◌++◌, length, Option, Some, None, Result, Ok, Err, inl, inr, refl, sym, ap, subst, ◌∙◌, append_assoc, append-nil, arith}
+use Rattle.std.proofs.Common.{◌≡◌, ℕ, zero, suc, ◌≤◌, Bool, true, false, cond, List, [], ◌∷◌, ◌++◌, length, Option, Some, None, Result, Ok, Err, inl, inr, refl, sym, ap, subst, ◌∙◌, append_assoc, arith}
 use Rattle.std.specs.Prelude.{◌⊎◌}
 use Rattle.c_tokens.specs.declared.token.Token.{Token}
 use Rattle.c_tree.specs.Parts.{◌⨾◌, Nothing, Perhaps}
 use Rattle.c_tree.specs.Heights.{IfThere}
 use Rattle.c_reading.specs.declared.fault.Fault.{Fault}
-use Rattle.c_reading.specs.declared.fault.Fault.TheVariants.{TooDeep}
 use Rattle.c_reading.specs.Reading.{Reading, ◌>>=◌, Takes, Stays}
 use Rattle.c_reading.proofs.Laws.{done, ok_is, bind_ok, parts_behind}
 use Rattle.c_statements.specs.Combining.{Mark, ◌▷◌, ◌◁◌, ◌&◌, made, either, missing, there, repeated, each}

@@ -1,12 +1,12 @@
 -- Reading parts as long as a test holds, as a loop does.
-use Rattle.std.proofs.Common.{◌≡◌, ℕ, zero, suc, ◌-◌, ◌+◌, ◌≤◌, ◌<◌, Bool, true, false, List, [], ◌∷◌, ◌++◌, length, Result, Ok, Err, refl, sym, ap, ◌∙◌, append_assoc, append-nil, arith}
+use Rattle.std.proofs.Common.{◌≡◌, ℕ, suc, ◌-◌, ◌+◌, ◌≤◌, ◌<◌, Bool, true, false, List, [], ◌∷◌, ◌++◌, length, Result, Ok, Err, refl, sym, ap, ◌∙◌, append_assoc, append-nil, arith}
 use Rattle.c_tokens.specs.declared.token.Token.{Token}
 use Rattle.c_tokens.specs.declared.punctuator.Punctuator.TheVariants.{Comma}
 use Rattle.c_reading.specs.declared.fault.Fault.{Fault}
 use Rattle.c_reading.specs.Peeking.{is_sign_next}
 use Rattle.c_reading.specs.Tokens.{sign}
 use Rattle.c_reading.specs.Reading.{Reading, ◌>>=◌}
-use Rattle.c_statements.specs.Combining.{◌▷◌, ◌&◌, made, repeated, each, commas}
+use Rattle.c_statements.specs.Combining.{◌▷◌, repeated, each, commas}
 
 unchanged_by : {A : Type 0} (read : Result (List A × List Token) Fault) → (read >>= λ more. Ok ([] ++ more.0, more.1)) ≡ read
 unchanged_by (Ok more) = refl

@@ -1,8 +1,6 @@
 -- Parts of statements that are no statements: what is spelled so and is no higher than the room is read.
-use Rattle.std.proofs.Common.{◌≡◌, ℕ, zero, suc, ◌+◌, ◌≤◌, Bool, true, false, cond, List, [], ◌∷◌, ◌++◌, length, Option, Some, None, Result, Ok, Err, refl, sym, ap, subst, ◌∙◌, append_assoc, append-nil, arith}
-use Rattle.std.specs.Prelude.{max}
+use Rattle.std.proofs.Common.{◌≡◌, ℕ, zero, suc, ◌+◌, ◌≤◌, Bool, true, false, List, [], ◌∷◌, ◌++◌, length, Option, Some, None, Ok, refl, sym, ap, subst, ◌∙◌, append_assoc, append-nil, arith}
 use Rattle.std.proofs.lemmas.List.{length-append}
-use Rattle.c_tokens.specs.declared.constant.IntegerType.{IntegerType}
 use Rattle.c_tokens.specs.declared.keyword.Keyword.{Keyword}
 use Rattle.c_tokens.specs.declared.keyword.Keyword.TheVariants as K
 use Rattle.c_tokens.specs.declared.punctuator.Punctuator.{Punctuator}
@@ -13,25 +11,24 @@ use Rattle.c_tokens.specs.declared.token.TokenKind.{TokenKind}
 use Rattle.c_tree.specs.declared.identifier.Identifier.{Identifier}
 use Rattle.c_tree.specs.Trees.{ExpressionTree, CallTree, ValueTree, PlaceTree, SetTree, LocalTree, StartTree}
 use Rattle.c_tree.specs.Trees as T
-use Rattle.c_tree.specs.Parts.{OneAt, Sign, Word, IsName, IsType, ◌⨾◌, Nothing, Perhaps, Commas}
+use Rattle.c_tree.specs.Parts.{OneAt, Sign, Word, IsName, IsType, ◌⨾◌, Commas}
 use Rattle.c_tree.specs.Expressions.{IsExpression}
-use Rattle.c_tree.specs.Statements.{IsCall, IsValue, IsPlace, IsSet, IsLocalValue, IsLocal, IsStart}
-use Rattle.c_tree.specs.Heights.{expression_height, arguments_height, call_height, value_height, place_height, set_height, optional_height, local_height, start_height, IfThere}
-use Rattle.c_reading.specs.declared.fault.Fault.{Fault}
+use Rattle.c_tree.specs.Statements.{IsCall, IsValue, IsPlace, IsSet, IsLocalValue, IsLocal}
+use Rattle.c_tree.specs.Heights.{expression_height, arguments_height, call_height, value_height, place_height, set_height, optional_height, local_height, IfThere}
 use Rattle.c_reading.specs.Reading.{Reading, ◌>>=◌}
-use Rattle.c_reading.specs.Peeking.{is_sign, is_next, is_sign_next, is_word_next, is_type_next, is_call_next}
-use Rattle.c_reading.specs.Tokens.{sign, word, placed_word, placed_name, integer_type}
+use Rattle.c_reading.specs.Peeking.{is_sign, is_next, is_sign_next, is_word_next, is_call_next}
+use Rattle.c_reading.specs.Tokens.{sign, placed_word, placed_name, integer_type}
 use Rattle.c_reading.proofs.Laws.{done, parts_behind}
 use Rattle.c_reading.proofs.Tokens.{is_sign_next-again, placed_word_again, placed_name_again, integer_type_again}
-use Rattle.c_expressions.specs.Operators.{Ends, begins_operand}
+use Rattle.c_expressions.specs.Operators.{Ends}
 use Rattle.c_expressions.specs.Reading.{expression_at}
-use Rattle.c_expressions.proofs.Continuing.{ends_behind, height-positive}
+use Rattle.c_expressions.proofs.Continuing.{ends_behind}
 use Rattle.c_expressions.proofs.Laws.{expression_again}
-use Rattle.c_statements.specs.Combining.{◌▷◌, ◌◁◌, ◌&◌, made, either, missing, there, repeated, each, commas}
-use Rattle.c_statements.specs.Parts.{less, under, name, arguments, call, value, is_cell_next, cell, place, set, local_value, local}
+use Rattle.c_statements.specs.Combining.{◌▷◌, ◌◁◌, ◌&◌, made, repeated, each, commas}
+use Rattle.c_statements.specs.Parts.{less, name, arguments, call, value, is_cell_next, cell, place, set, local_value, local}
 use Rattle.c_statements.proofs.Laws.{IsWhole, Any, Whatever, after', before', both', made_again, only', either_first, either_second, under_again, Each, AllFit}
-use Rattle.c_statements.proofs.PartsTaken.{sign_mark, word_mark}
-use Rattle.c_statements.proofs.Beginning.{Begins, expression_begins, not_sign, expression_no_call}
+use Rattle.c_statements.proofs.PartsTaken.{sign_mark}
+use Rattle.c_statements.proofs.Beginning.{expression_begins, not_sign, expression_no_call}
 
 placed_name_whole : IsWhole placed_name Whatever IsName Any
 placed_name_whole = record { again = λ x xs rest f d e. placed_name_again x xs rest d }

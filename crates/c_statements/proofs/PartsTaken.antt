@@ -1,7 +1,6 @@
 -- Parts of statements that are no statements: what is read is spelled so, and is no higher than the room.
-use Rattle.std.proofs.Common.{◌≡◌, ℕ, zero, suc, ◌≤◌, Bool, true, false, List, [], ◌∷◌, ◌++◌, Option, Some, None, Result, Ok, Err, refl, sym, ap, subst, ◌∙◌, append_assoc, append-nil, arith}
+use Rattle.std.proofs.Common.{◌≡◌, ℕ, suc, ◌≤◌, List, [], ◌∷◌, ◌++◌, Option, Some, None, Ok, refl, sym, ap, subst, ◌∙◌, append_assoc, append-nil, arith}
 use Rattle.std.specs.Prelude.{max}
-use Rattle.c_tokens.specs.declared.constant.IntegerType.{IntegerType}
 use Rattle.c_tokens.specs.declared.keyword.Keyword.{Keyword}
 use Rattle.c_tokens.specs.declared.punctuator.Punctuator.{Punctuator}
 use Rattle.c_tokens.specs.declared.punctuator.Punctuator.TheVariants.{LeftParenthesis, RightParenthesis, LeftBracket, RightBracket, Semicolon, Assign, Comma}
@@ -10,20 +9,19 @@ use Rattle.c_tokens.specs.declared.token.TokenKind.TheVariants as Kind
 use Rattle.c_tree.specs.declared.identifier.Identifier.{Identifier}
 use Rattle.c_tree.specs.Trees.{ExpressionTree, CallTree, ValueTree, PlaceTree, SetTree, LocalTree, StartTree}
 use Rattle.c_tree.specs.Trees as T
-use Rattle.c_tree.specs.Parts.{OneAt, Sign, Word, IsName, IsType, ◌⨾◌, Nothing, Perhaps, Commas}
+use Rattle.c_tree.specs.Parts.{OneAt, Sign, Word, IsName, IsType, ◌⨾◌, Perhaps, Commas}
 use Rattle.c_tree.specs.Expressions.{IsExpression}
 use Rattle.c_tree.specs.Statements.{IsCall, IsValue, IsPlace, IsSet, IsLocalValue, IsLocal, IsStart}
 use Rattle.c_tree.specs.Heights.{expression_height, arguments_height, call_height, value_height, place_height, set_height, optional_height, local_height, start_height, IfThere}
-use Rattle.c_reading.specs.declared.fault.Fault.{Fault}
-use Rattle.c_reading.specs.Reading.{Reading, ◌>>=◌}
+use Rattle.c_reading.specs.Reading.{Reading}
 use Rattle.c_reading.specs.Peeking.{is_sign_next, is_type_next, is_call_next}
 use Rattle.c_reading.specs.Tokens.{sign, word, placed_word, placed_name, integer_type}
 use Rattle.c_reading.proofs.Laws.{done, ok_is, bind_ok}
 use Rattle.c_reading.proofs.Tokens.{sign_takes, sign_again, word_takes, word_again, placed_word_takes, placed_name_takes, integer_type_takes}
 use Rattle.c_expressions.specs.Reading.{expression_at}
 use Rattle.c_expressions.proofs.Laws.{expression_takes}
-use Rattle.c_statements.specs.Combining.{◌▷◌, ◌◁◌, ◌&◌, made, either, missing, there, each, commas}
-use Rattle.c_statements.specs.Parts.{less, under, name, arguments, call, value, is_cell_next, cell, place, set, local_value, local, start_local, start_set, start_nothing, start}
+use Rattle.c_statements.specs.Combining.{◌▷◌, ◌◁◌, ◌&◌, made, either, commas}
+use Rattle.c_statements.specs.Parts.{under, name, arguments, call, value, is_cell_next, cell, place, set, local_value, local, start_local, start_set, start_nothing, start}
 use Rattle.c_statements.proofs.Laws.{IsMark, IsTaken, IsSound, Any, Whatever, after, before, both, made_takes, either_takes, only, under_takes, Each, AllFit, each_sound}
 
 pub sign_mark : (p : Punctuator) → IsMark (sign p) (Sign p)

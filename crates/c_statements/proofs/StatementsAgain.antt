@@ -1,7 +1,6 @@
 -- Statements: what is spelled so and is no higher than the room is read, where no `else` follows an open `if`.
-use Rattle.std.proofs.Common.{◌≡◌, ℕ, zero, suc, ◌+◌, ◌≤◌, Bool, true, false, cond, IsTrue, List, [], ◌∷◌, ◌++◌, length, Option, Some, None, Result, Ok, Err, inl, inr, refl, sym, ap, subst, ◌∙◌, arith}
-use Rattle.std.specs.Prelude.{max, ◌⊎◌, ◌&&◌, not}
-use Rattle.std.proofs.lemmas.List.{length-append}
+use Rattle.std.proofs.Common.{◌≡◌, ℕ, zero, suc, ◌≤◌, Bool, true, false, cond, IsTrue, List, [], ◌∷◌, ◌++◌, length, Option, Some, None, Ok, inl, inr, refl, sym, ap, subst, ◌∙◌, arith}
+use Rattle.std.specs.Prelude.{max, not}
 use Rattle.c_tokens.specs.declared.constant.IntegerType.{IntegerType}
 use Rattle.c_tokens.specs.declared.constant.IntegerType.TheVariants.{Int, Unsigned}
 use Rattle.c_tokens.specs.declared.keyword.Keyword.TheVariants as K
@@ -14,13 +13,13 @@ use Rattle.c_tokens.specs.declared.token.TokenKind.TheVariants as Kind
 use Rattle.c_tree.specs.declared.identifier.Identifier.{Identifier}
 use Rattle.c_tree.specs.Trees.{ExpressionTree, CallTree, LocalTree, ValueTree, PlaceTree, SetTree, StartTree, StatementTree, StatementsTree}
 use Rattle.c_tree.specs.Trees as T
-use Rattle.c_tree.specs.Parts.{OneAt, Sign, Word, IsName, IsType, ◌⨾◌, Nothing, Perhaps}
+use Rattle.c_tree.specs.Parts.{OneAt, Sign, Word, IsName, IsType, ◌⨾◌, Perhaps}
 use Rattle.c_tree.specs.Expressions.{IsExpression}
-use Rattle.c_tree.specs.Statements.{IsCall, IsLocal, IsValue, IsPlace, IsSet, IsStart, ends_open, IsStatementIn, AreStatements}
+use Rattle.c_tree.specs.Statements.{IsCall, IsLocal, IsValue, IsPlace, IsSet, IsStart, IsStatementIn, AreStatements}
 use Rattle.c_tree.specs.Heights.{expression_height, call_height, value_height, set_height, optional_height, start_height, statement_height, statements_height, IfThere}
-use Rattle.c_reading.specs.Reading.{Reading, ◌>>=◌}
-use Rattle.c_reading.specs.Peeking.{is_sign, is_word, is_next, is_sign_next, is_word_next, is_type_next, is_call_next}
-use Rattle.c_reading.specs.Tokens.{sign, word, placed_word, integer_type}
+use Rattle.c_reading.specs.Reading.{◌>>=◌}
+use Rattle.c_reading.specs.Peeking.{is_sign, is_word, is_sign_next, is_word_next, is_type_next, is_call_next}
+use Rattle.c_reading.specs.Tokens.{sign, word, placed_word}
 use Rattle.c_reading.proofs.Laws.{done, parts_behind}
 use Rattle.c_reading.proofs.Tokens.{is_sign-true, sign_again, is_sign_next-again}
 use Rattle.c_expressions.specs.Operators.{binary_of, Ends}
@@ -29,7 +28,7 @@ use Rattle.c_expressions.proofs.Continuing.{ends_behind}
 use Rattle.c_statements.specs.declared.first.First.{First}
 use Rattle.c_statements.specs.declared.first.First.TheVariants as F
 use Rattle.c_statements.specs.Combining.{◌▷◌, ◌◁◌, ◌&◌, made, either, missing, there, each}
-use Rattle.c_statements.specs.Parts.{less, under, name, call, value, is_cell_next, set, local, start_local, start_set, start_nothing, start}
+use Rattle.c_statements.specs.Parts.{under, name, call, is_cell_next, local, start_local, start_set, start_nothing, start}
 use Rattle.c_statements.specs.Reading.{Below, goes_on, items_in, block_in, first_of, empty, call_statement, assign, store, break_statement, continue_statement, returned, return_statement, condition, step, statements_of, branched, else_in, branches_in, if_in, while_in, for_in, by_first, statement_at}
 use Rattle.c_statements.proofs.Laws.{IsWhole, Any, after', before', both', made_again, unless', EndsOption, Passes, Each, AllFit, either_first, either_second, under_again, bind_is}
 use Rattle.c_statements.proofs.PartsTaken.{sign_mark, word_mark}

@@ -1,28 +1,26 @@
 -- Statements: what is read is spelled so, is no higher than the room, and takes an `else` that is next.
-use Rattle.std.proofs.Common.{◌≡◌, ℕ, zero, suc, ◌≤◌, Bool, true, false, cond, IsTrue, List, [], ◌∷◌, ◌++◌, Option, Some, None, Result, Ok, Err, inl, inr, refl, sym, ap, subst, ◌∙◌, append_assoc, append-nil, arith}
-use Rattle.std.specs.Prelude.{max, ◌⊎◌, ◌&&◌}
+use Rattle.std.proofs.Common.{◌≡◌, ℕ, zero, suc, ◌≤◌, Bool, true, false, cond, List, [], ◌∷◌, ◌++◌, Option, Some, None, Ok, inl, inr, refl, sym, ap, subst, ◌∙◌, append_assoc, arith}
+use Rattle.std.specs.Prelude.{max}
 use Rattle.c_tokens.specs.declared.keyword.Keyword.TheVariants as K
 use Rattle.c_tokens.specs.declared.punctuator.Punctuator.TheVariants.{LeftParenthesis, RightParenthesis, LeftBracket, RightBracket, LeftBrace, RightBrace, Semicolon, Assign}
 use Rattle.c_tokens.specs.declared.token.Token.{Token}
 use Rattle.c_tree.specs.Trees.{ExpressionTree, SetTree, StartTree, StatementTree, StatementsTree}
 use Rattle.c_tree.specs.Trees as T
-use Rattle.c_tree.specs.Parts.{OneAt, Sign, Word, IsName, ◌⨾◌, Nothing, Perhaps}
+use Rattle.c_tree.specs.Parts.{Sign, Word, IsName, ◌⨾◌}
 use Rattle.c_tree.specs.Expressions.{IsExpression}
-use Rattle.c_tree.specs.Statements.{IsValue, IsSet, IsStart, ends_open, IsStatementIn, AreStatements}
-use Rattle.c_tree.specs.Heights.{expression_height, value_height, set_height, optional_height, start_height, statement_height, statements_height, IfThere}
-use Rattle.c_reading.specs.declared.fault.Fault.{Fault}
-use Rattle.c_reading.specs.declared.fault.Fault.TheVariants.{TooDeep}
-use Rattle.c_reading.specs.Reading.{Reading, ◌>>=◌, misfit}
-use Rattle.c_reading.specs.Peeking.{is_sign_next, is_word_next, is_name_next, is_type_next, is_call_next}
-use Rattle.c_reading.specs.Tokens.{sign, word, placed_word}
+use Rattle.c_tree.specs.Statements.{ends_open, IsStatementIn, AreStatements}
+use Rattle.c_tree.specs.Heights.{expression_height, value_height, set_height, start_height, statement_height, statements_height, IfThere}
+use Rattle.c_reading.specs.Reading.{◌>>=◌, misfit}
+use Rattle.c_reading.specs.Peeking.{is_sign_next, is_word_next, is_name_next, is_call_next}
+use Rattle.c_reading.specs.Tokens.{sign, word}
 use Rattle.c_reading.proofs.Laws.{done, ok_is, bind_ok}
 use Rattle.c_expressions.specs.Reading.{expression_at}
 use Rattle.c_statements.specs.declared.first.First.{First}
 use Rattle.c_statements.specs.declared.first.First.TheVariants as F
-use Rattle.c_statements.specs.Combining.{◌▷◌, ◌◁◌, ◌&◌, made, either, missing, there, each}
-use Rattle.c_statements.specs.Parts.{under, name, call, value, is_cell_next, set, local, start}
-use Rattle.c_statements.specs.Reading.{first_word, first_of, empty, call_statement, assign, store, break_statement, continue_statement, returned, return_statement, branched, statements_of, Below, goes_on, items_in, block_in, else_in, branches_in, if_in, while_in, condition, step, for_in, by_first, too_high, statement_at}
-use Rattle.c_statements.proofs.Laws.{chosen, IsMark, IsTaken, IsSound, Any, Whatever, after, before, both, made_takes, either_takes, unless, only, under_takes, Each, AllFit, each_sound}
+use Rattle.c_statements.specs.Combining.{◌▷◌, ◌◁◌, ◌&◌, made, missing, there}
+use Rattle.c_statements.specs.Parts.{under, name, is_cell_next, local, start}
+use Rattle.c_statements.specs.Reading.{first_word, first_of, empty, call_statement, assign, store, break_statement, continue_statement, return_statement, branched, statements_of, Below, goes_on, items_in, block_in, else_in, branches_in, if_in, while_in, for_in, by_first, too_high, statement_at}
+use Rattle.c_statements.proofs.Laws.{chosen, IsTaken, IsSound, Any, after, before, both, made_takes, unless, under_takes, Each, AllFit, each_sound}
 use Rattle.c_statements.proofs.PartsTaken.{sign_mark, word_mark, sound_as, placed_word_sound, expression_sound, name_sound, call_sound, value_sound, set_sound, option_low, local_sound, start_sound, marked_takes}
 
 -- no `else` is left behind an `if` without one

@@ -1,21 +1,19 @@
 -- With more room the same is read, unless there was too little.
-use Rattle.std.proofs.Common.{◌≡◌, ℕ, zero, suc, ◌≤◌, Bool, true, false, cond, List, [], ◌∷◌, length, Option, Some, None, Result, Ok, Err, inl, inr, refl, arith}
-use Rattle.std.specs.Prelude.{◌⊎◌}
+use Rattle.std.proofs.Common.{ℕ, zero, suc, ◌≤◌, Bool, true, false, List, [], ◌∷◌, length, Some, Ok, inl, inr, refl, arith}
 use Rattle.c_tokens.specs.declared.keyword.Keyword.TheVariants as K
 use Rattle.c_tokens.specs.declared.punctuator.Punctuator.TheVariants.{LeftParenthesis, RightParenthesis, LeftBracket, RightBracket, LeftBrace, RightBrace, Semicolon, Assign, Comma}
 use Rattle.c_tokens.specs.declared.token.Token.{Token}
 use Rattle.c_tree.specs.Trees as T
-use Rattle.c_reading.specs.declared.fault.Fault.TheVariants.{TooDeep}
-use Rattle.c_reading.specs.Reading.{Reading, ◌>>=◌, misfit, Stays}
+use Rattle.c_reading.specs.Reading.{Reading}
 use Rattle.c_reading.specs.Peeking.{is_sign_next, is_word_next, is_type_next, is_call_next}
 use Rattle.c_reading.specs.Tokens.{sign, word, placed_word, placed_name, integer_type}
 use Rattle.c_expressions.specs.Reading.{expression_at}
 use Rattle.c_expressions.proofs.Laws.{expression_stays}
 use Rattle.c_statements.specs.declared.first.First.{First}
 use Rattle.c_statements.specs.declared.first.First.TheVariants as F
-use Rattle.c_statements.specs.Combining.{◌▷◌, ◌◁◌, ◌&◌, made, either, missing, there, repeated, each, commas}
-use Rattle.c_statements.specs.Parts.{less, under, name, arguments, call, value, is_cell_next, cell, place, set, local_value, local, start_local, start_set, start_nothing, start}
-use Rattle.c_statements.specs.Reading.{first_of, empty, call_statement, assign, store, break_statement, continue_statement, returned, return_statement, branched, statements_of, Below, goes_on, items_in, block_in, else_in, branches_in, if_in, while_in, condition, step, for_in, by_first, too_high, statement_at}
+use Rattle.c_statements.specs.Combining.{◌▷◌, ◌◁◌, ◌&◌, made, missing, there, repeated, each, commas}
+use Rattle.c_statements.specs.Parts.{less, name, arguments, call, value, is_cell_next, cell, place, set, local_value, local, start_local, start_set, start_nothing, start}
+use Rattle.c_statements.specs.Reading.{first_of, call_statement, assign, store, return_statement, branched, statements_of, Below, goes_on, items_in, block_in, branches_in, if_in, while_in, for_in, by_first, too_high, statement_at}
 use Rattle.c_statements.proofs.Laws.{Keeps, keeps_same, keeps_after, keeps_before, keeps_both, keeps_made, keeps_either, keeps_under}
 
 pub repeated_keeps : {A : Type 0} (goes : List Token → Bool) {part more : Reading A} → Keeps part more → (limit : ℕ) → Keeps (repeated goes part limit) (repeated goes more limit)

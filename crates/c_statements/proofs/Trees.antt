@@ -1,5 +1,5 @@
 -- What values of the code stand for, and how a reading with room is made of one with less.
-use Rattle.std.proofs.Common.{◌≡◌, ℕ, zero, suc, ◌-◌, ◌<◌, Bool, true, false, not, List, [], ◌∷◌, map, Result, Ok, Err, refl, sym, ap, ◌∙◌, arith}
+use Rattle.std.proofs.Common.{◌≡◌, ℕ, zero, suc, ◌-◌, ◌<◌, Bool, true, false, not, List, [], ◌∷◌, map, Result, Ok, Err, refl, ap, ◌∙◌, arith}
 use Rattle.c_tokens.specs.declared.token.Token.{Token}
 use Rattle.c_tree.specs.Trees as T
 use Rattle.c_tree.specs.Views.{statement_tree, statements_tree}

@@ -1,6 +1,5 @@
 -- How readings are put together, in the order of the productions.
-use Rattle.std.specs.Prelude.{ℕ, suc, zero, Bool, List, [], ◌∷◌, length, Option, Some, None, Result, Ok, Err, if◌then◌else◌}
-use Rattle.c_tokens.specs.declared.punctuator.Punctuator.{Punctuator}
+use Rattle.std.specs.Prelude.{ℕ, suc, zero, Bool, List, [], ◌∷◌, length, Option, Some, None, Result, Ok, if◌then◌else◌}
 use Rattle.c_tokens.specs.declared.punctuator.Punctuator.TheVariants.{Comma}
 use Rattle.c_tokens.specs.declared.token.Token.{Token}
 use Rattle.c_reading.specs.declared.fault.Fault.{Fault}

@@ -1,13 +1,12 @@
 -- How statements are read. The number is the room: a tree that is higher is not read.
-use Rattle.std.specs.Prelude.{ℕ, zero, suc, Bool, true, false, not, ◌&&◌, List, [], ◌∷◌, length, Option, Some, None, Result, Ok, Err, if◌then◌else◌}
+use Rattle.std.specs.Prelude.{ℕ, zero, suc, Bool, true, false, not, ◌&&◌, List, [], ◌∷◌, Option, Some, None, Ok, Err, if◌then◌else◌}
 use Rattle.c_tokens.specs.declared.keyword.Keyword.TheVariants as K
 use Rattle.c_tokens.specs.declared.punctuator.Punctuator.TheVariants.{LeftParenthesis, RightParenthesis, LeftBracket, RightBracket, LeftBrace, RightBrace, Semicolon, Assign}
 use Rattle.c_tokens.specs.declared.token.Token.{Token}
 use Rattle.c_tree.specs.Trees.{ExpressionTree, ValueTree, SetTree, StatementTree, StatementsTree}
 use Rattle.c_tree.specs.Trees as T
-use Rattle.c_reading.specs.declared.fault.Fault.{Fault}
 use Rattle.c_reading.specs.declared.fault.Fault.TheVariants.{TooDeep}
-use Rattle.c_reading.specs.Reading.{Reading, ◌>>=◌, misfit}
+use Rattle.c_reading.specs.Reading.{Reading, misfit}
 use Rattle.c_reading.specs.Peeking.{is_sign_next, is_word_next, is_name_next, is_type_next, is_call_next}
 use Rattle.c_reading.specs.Tokens.{sign, word, placed_word}
 use Rattle.c_expressions.specs.Reading.{expression_at}

@@ -1,4 +1,4 @@
-use Rattle.std.proofs.Common.{◌+◌, ◌*◌, ◌≡◌, ◌≤◌, map, length, true}
+use Rattle.std.proofs.Common.{◌+◌, ◌*◌, map, length, true}
 use Rattle.c_tree.specs.Views.{statement_tree}
 use Rattle.c_statements.specs.Combining.{each}
 use Rattle.c_statements.specs.Reading.{goes_on, statement_at}
