@@ -3,7 +3,7 @@ use Rattle.std.proofs.Common.{◌≡◌, List, Err, refl}
 use Rattle.c_tokens.specs.declared.token.Token.{Token}
 use Rattle.c_reading.specs.declared.fault.Fault.{Fault}
 use Rattle.c_reading.specs.Reading.{Reading}
-use Rattle.c_statements.specs.Combining.{commas}
+use Rattle.c_productions.specs.Combining.{commas}
 
 pub commas_fail : {A : Type 0} (part : Reading A) (ts : List Token) (fault : Fault) → part ts ≡ Err fault → commas part ts ≡ Err fault
 unfolding commas

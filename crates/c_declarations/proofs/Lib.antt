@@ -1,11 +1,2 @@
-pub mod Combining
 pub mod Naming
 pub mod Commas
-pub mod Repeating
-pub mod Listing
-pub mod Readers
-pub mod OfGlobals
-pub mod Functions
-pub mod Declaring
-pub mod Laws
-pub mod Refusing

@@ -2,7 +2,7 @@
 use Rattle.std.proofs.Common.{◌≡◌, List, [], ◌∷◌, ◌++◌, Option, Some, None, refl, sym, ap, ◌∙◌, append_assoc, append-nil}
 use Rattle.c_tree.specs.declared.declaration.Parameter.{Parameter}
 use Rattle.c_tree.specs.declared.declaration.OpenParameter.{OpenParameter}
-use Rattle.c_declarations.specs.Parameters.{named, joined, all_named}
+use Rattle.c_declaration_laws.specs.Parameters.{named, joined, all_named}
 
 -- those named so far, and what becomes of the rest
 abbrev pub with_front : List Parameter → Option (List Parameter) → Option (List Parameter)

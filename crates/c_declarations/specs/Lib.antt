@@ -1,2 +1,3 @@
-pub mod Parameters
-pub mod Reading
+
+pub use Rattle.c_declaration_laws.specs.Parameters
+pub use Rattle.c_declaration_laws.specs.Reading

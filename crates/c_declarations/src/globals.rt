@@ -3,8 +3,8 @@
 ghost use Rattle.std.specs.Prelude.{◌≡◌, ◌≢◌, IfOk, IfErr, Ok, Err, map, length};
 ghost use Rattle.c_tree.specs.Heights.{highest};
 ghost use Rattle.c_tree.specs.Views.{initial_tree, initializer_tree, global_tree, optional_tree};
-ghost use Rattle.c_statements.specs.Combining.{commas};
-ghost use Rattle.c_declarations.specs.Reading.{here, initial, initializer, size, beginning, global};
+ghost use Rattle.c_productions.specs.Combining.{commas};
+ghost use Rattle.c_declaration_laws.specs.Reading.{here, initial, initializer, size, beginning, global};
 
 use crate::misread::Misread;
 use c_expressions::expression;
@@ -29,7 +29,7 @@ pub(crate) fn read_here(tokens: &[Token]) -> Result<usize, Fault>
 }
 
 /// An initial expression and its place.
-#[tactic(auto, unfolding(crate::specs::Reading::initial))]
+#[tactic(auto, unfolding(c_declaration_laws::specs::Reading::initial))]
 fn read_initial(alloc: Memory, tokens: &[Token]) -> Result<(Initial, &[Token]), Misread>
     ensures ok { IfOk result (λ r. initial highest tokens.now ≡ Ok (initial_tree r.0, r.1.now)) }
     ensures err { IfErr result (λ e. e.fault ≢ Fault.NoMemory → initial highest tokens.now ≡ Err e.fault) }
@@ -65,7 +65,7 @@ fn read_initials(alloc: Memory, tokens: &[Token]) -> Result<(Vec<Initial>, &[Tok
     Ok((initials, rest))
 }
 
-#[tactic(auto, unfolding(crate::specs::Reading::initializer))]
+#[tactic(auto, unfolding(c_declaration_laws::specs::Reading::initializer))]
 fn read_initializer(alloc: Memory, tokens: &[Token]) -> Result<(Initializer, &[Token]), Misread>
     ensures ok { IfOk result (λ r. initializer highest tokens.now ≡ Ok (initializer_tree r.0, r.1.now)) }
     ensures err { IfErr result (λ e. e.fault ≢ Fault.NoMemory → initializer highest tokens.now ≡ Err e.fault) }
@@ -80,7 +80,7 @@ fn read_initializer(alloc: Memory, tokens: &[Token]) -> Result<(Initializer, &[T
     Ok((Initializer::Braced(Row::from_vec(initials)), rest))
 }
 
-#[tactic(auto, unfolding(crate::specs::Reading::size))]
+#[tactic(auto, unfolding(c_declaration_laws::specs::Reading::size))]
 fn read_size(tokens: &[Token]) -> Result<(Option<Constant>, &[Token]), Fault>
     ensures ok { IfOk result (λ r. size tokens.now ≡ Ok (r.0, r.1.now)) }
     ensures err { IfErr result (λ e. size tokens.now ≡ Err e) }
@@ -95,7 +95,7 @@ fn read_size(tokens: &[Token]) -> Result<(Option<Constant>, &[Token]), Fault>
 }
 
 /// What a global begins with.
-#[tactic(auto, unfolding(crate::specs::Reading::beginning))]
+#[tactic(auto, unfolding(c_declaration_laws::specs::Reading::beginning))]
 fn read_beginning(
     alloc: Memory,
     tokens: &[Token],
@@ -112,7 +112,7 @@ fn read_beginning(
 }
 
 /// A global variable or array.
-#[tactic(auto, unfolding(crate::specs::Reading::global))]
+#[tactic(auto, unfolding(c_declaration_laws::specs::Reading::global))]
 pub(crate) fn read_global(alloc: Memory, tokens: &[Token]) -> Result<(Global, &[Token]), Misread>
     ensures ok { IfOk result (λ r. global highest tokens.now ≡ Ok (global_tree r.0, r.1.now)) }
     ensures err { IfErr result (λ e. e.fault ≢ Fault.NoMemory → global highest tokens.now ≡ Err e.fault) }

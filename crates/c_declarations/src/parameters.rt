@@ -1,11 +1,11 @@
 //! Readers of what a function and its prototype begin with (C99 6.7.5.3).
 
 ghost use Rattle.std.specs.Prelude.{◌≡◌, ◌≢◌, IfOk, IfErr, Ok, Err, length};
-ghost use Rattle.c_statements.specs.Combining.{commas, either, there, missing};
+ghost use Rattle.c_productions.specs.Combining.{commas, either, there, missing};
 ghost use Rattle.c_reading.specs.Peeking.{is_name_next};
 ghost use Rattle.c_reading.specs.Tokens.{placed_name};
-ghost use Rattle.c_declarations.specs.Parameters.{named, all_named};
-ghost use Rattle.c_declarations.specs.Reading.{open_parameter, open_parameters, return_type, heading};
+ghost use Rattle.c_declaration_laws.specs.Parameters.{named, all_named};
+ghost use Rattle.c_declaration_laws.specs.Reading.{open_parameter, open_parameters, return_type, heading};
 
 use crate::globals::read_here;
 use c_reading::{
@@ -27,7 +27,7 @@ fn read_open_name(alloc: Global, tokens: &[Token]) -> Result<(Option<Identifier>
     Ok((Some(name), rest))
 }
 
-#[tactic(auto, unfolding(crate::specs::Reading::open_parameter))]
+#[tactic(auto, unfolding(c_declaration_laws::specs::Reading::open_parameter))]
 fn read_open_parameter(alloc: Global, tokens: &[Token]) -> Result<(OpenParameter, &[Token]), Fault>
     ensures ok { IfOk result (λ r. open_parameter tokens.now ≡ Ok (r.0, r.1.now)) }
     ensures err { IfErr result (λ e. e ≢ Fault.NoMemory → open_parameter tokens.now ≡ Err e) }
@@ -59,7 +59,7 @@ fn read_listed(alloc: Global, tokens: &[Token]) -> Result<(Vec<OpenParameter>, &
     Ok((parameters, rest))
 }
 
-#[tactic(auto, unfolding(crate::specs::Reading::open_parameters))]
+#[tactic(auto, unfolding(c_declaration_laws::specs::Reading::open_parameters))]
 fn read_open_parameters(
     alloc: Global,
     tokens: &[Token],
@@ -75,7 +75,7 @@ fn read_open_parameters(
     Ok((Row::from_vec(parameters), rest))
 }
 
-#[tactic(auto, unfolding(crate::specs::Reading::return_type))]
+#[tactic(auto, unfolding(c_declaration_laws::specs::Reading::return_type))]
 fn read_return_type(tokens: &[Token]) -> Result<(ReturnType, &[Token]), Fault>
     ensures ok { IfOk result (λ r. return_type tokens.now ≡ Ok (r.0, r.1.now)) }
     ensures err { IfErr result (λ e. return_type tokens.now ≡ Err e) }
@@ -89,7 +89,7 @@ fn read_return_type(tokens: &[Token]) -> Result<(ReturnType, &[Token]), Fault>
 }
 
 /// What a function and its prototype begin with alike.
-#[tactic(auto, unfolding(crate::specs::Reading::heading))]
+#[tactic(auto, unfolding(c_declaration_laws::specs::Reading::heading))]
 pub(crate) fn read_heading(alloc: Global, tokens: &[Token]) -> Result<(Prototype, &[Token]), Fault>
     ensures ok { IfOk result (λ r. heading tokens.now ≡ Ok (r.0, r.1.now)) }
     ensures err { IfErr result (λ e. e ≢ Fault.NoMemory → heading tokens.now ≡ Err e) }

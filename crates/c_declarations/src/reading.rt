@@ -3,8 +3,8 @@
 ghost use Rattle.std.specs.Prelude.{◌≡◌, ◌≢◌, IfOk, IfErr, Ok, Err};
 ghost use Rattle.c_tree.specs.Heights.{highest};
 ghost use Rattle.c_tree.specs.Views.{statements_tree, declaration_tree};
-ghost use Rattle.c_declarations.specs.Parameters.{all_named};
-ghost use Rattle.c_declarations.specs.Reading.{body, function, headed, callable, is_callable_next, declaration};
+ghost use Rattle.c_declaration_laws.specs.Parameters.{all_named};
+ghost use Rattle.c_declaration_laws.specs.Reading.{body, function, headed, callable, is_callable_next, declaration};
 
 use crate::globals::{HIGHEST, read_global};
 use crate::misread::Misread;
@@ -17,7 +17,7 @@ use lang::Row;
 use std::alloc::Global;
 
 /// A body is as high as the block that it is.
-#[tactic(auto, unfolding(crate::specs::Reading::body, c_statements::specs::Parts::less))]
+#[tactic(auto, unfolding(c_declaration_laws::specs::Reading::body, c_statements::specs::Parts::less))]
 fn read_body(alloc: Global, tokens: &[Token]) -> Result<(Vec<Statement>, &[Token]), Fault>
     ensures ok { IfOk result (λ r. body highest tokens.now ≡ Ok (statements_tree r.0.items, r.1.now)) }
     ensures err { IfErr result (λ e. e ≢ Fault.NoMemory → body highest tokens.now ≡ Err e) }
@@ -53,7 +53,7 @@ fn read_function(
 }
 
 /// A function where a body is next, else a prototype.
-#[tactic(auto, unfolding(crate::specs::Reading::headed))]
+#[tactic(auto, unfolding(c_declaration_laws::specs::Reading::headed))]
 fn read_headed(
     alloc: Global,
     prototype: Prototype,
@@ -69,7 +69,7 @@ fn read_headed(
     Ok((Declaration::Prototype(prototype), rest))
 }
 
-#[tactic(auto, unfolding(crate::specs::Reading::callable))]
+#[tactic(auto, unfolding(c_declaration_laws::specs::Reading::callable))]
 fn read_callable(alloc: Global, tokens: &[Token]) -> Result<(Declaration, &[Token]), Fault>
     ensures ok { IfOk result (λ r. callable highest tokens.now ≡ Ok (declaration_tree r.0, r.1.now)) }
     ensures err { IfErr result (λ e. e ≢ Fault.NoMemory → callable highest tokens.now ≡ Err e) }
@@ -79,7 +79,7 @@ fn read_callable(alloc: Global, tokens: &[Token]) -> Result<(Declaration, &[Toke
 }
 
 /// Whether a function or a prototype is next.
-#[tactic(auto, unfolding(crate::specs::Reading::is_callable_next))]
+#[tactic(auto, unfolding(c_declaration_laws::specs::Reading::is_callable_next))]
 fn is_callable_next(tokens: &[Token]) -> bool
     ensures { result ≡ is_callable_next tokens.now }
 {
@@ -94,7 +94,7 @@ fn is_callable_next(tokens: &[Token]) -> bool
 
 /// A declaration, and the tokens behind it. Where it is too high, it is a function, or the fault tells
 /// where the initial expression begins.
-#[tactic(auto, unfolding(crate::specs::Reading::declaration))]
+#[tactic(auto, unfolding(c_declaration_laws::specs::Reading::declaration))]
 pub fn read_declaration(alloc: Global, tokens: &[Token]) -> Result<(Declaration, &[Token]), Misread>
     ensures ok { IfOk result (λ r. declaration highest tokens.now ≡ Ok (declaration_tree r.0, r.1.now)) }
     ensures err { IfErr result (λ e. e.fault ≢ Fault.NoMemory → declaration highest tokens.now ≡ Err e.fault) }

@@ -6,13 +6,13 @@ use Rattle.c_tree.specs.Trees.{DeclarationTree}
 use Rattle.c_tree.specs.Heights.{highest, IsLow}
 use Rattle.c_tree.specs.Declarations.{AreDeclarations}
 use Rattle.c_reading.specs.declared.fault.Fault.TheVariants as F
-use Rattle.c_statements.specs.Reading.{block_in, statement_at}
-use Rattle.c_statements.proofs.Body.{block_takes, block_again, block_stays}
-use Rattle.c_declarations.specs.Reading.{declarations}
-use Rattle.c_declarations.proofs.Combining.{IsReader, Any, Keeps}
-use Rattle.c_declarations.proofs.Declaring.{IsBody, FitsBlock}
-use Rattle.c_declarations.proofs.Laws.{declarations_takes, declarations_low}
-use Rattle.c_declarations.proofs.Refusing.{low_refused, all_refused}
+use Rattle.c_statement_laws.specs.Reading.{block_in, statement_at}
+use Rattle.c_statement_laws.proofs.Body.{block_takes, block_again, block_stays}
+use Rattle.c_declaration_laws.specs.Reading.{declarations}
+use Rattle.c_productions.proofs.Combining.{IsReader, Any, Keeps}
+use Rattle.c_declaration_laws.proofs.Declaring.{IsBody, FitsBlock}
+use Rattle.c_declaration_laws.proofs.Laws.{declarations_takes, declarations_low}
+use Rattle.c_declaration_laws.proofs.Refusing.{low_refused, all_refused}
 use Rattle.c_reader.specs.declared.errors.ReadError.{ReadError}
 use Rattle.c_reader.specs.declared.errors.ReadError.TheVariants as E
 use Rattle.c_reader.specs.Telling.{Tells}

@@ -5,7 +5,7 @@ ghost use Rattle.c_tree.specs.Heights.{highest, IsLow};
 ghost use Rattle.c_tree.specs.Declarations.{end_of, IsUnit};
 ghost use Rattle.c_tree.specs.Views.{declaration_tree};
 ghost use Rattle.std.specs.List.{AllByRecursion};
-ghost use Rattle.c_declarations.specs.Reading.{is_next_there, declarations};
+ghost use Rattle.c_declaration_laws.specs.Reading.{is_next_there, declarations};
 ghost use Rattle.c_reader.specs.Units.{unit_tree};
 ghost use Rattle.c_reader.specs.Refusing.{Refuses};
 ghost use Rattle.c_reader.specs.Telling.{IsFault, Tells};

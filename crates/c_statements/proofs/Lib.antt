@@ -1,11 +1,3 @@
-pub mod Laws
 pub mod Loops
 pub mod Trees
-pub mod PartsTaken
-pub mod StatementsTaken
-pub mod Stays
 pub mod Blocks
-pub mod Beginning
-pub mod PartsAgain
-pub mod StatementsAgain
-pub mod Body

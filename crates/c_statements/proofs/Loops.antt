@@ -6,7 +6,7 @@ use Rattle.c_reading.specs.declared.fault.Fault.{Fault}
 use Rattle.c_reading.specs.Peeking.{is_sign_next}
 use Rattle.c_reading.specs.Tokens.{sign}
 use Rattle.c_reading.specs.Reading.{Reading, ◌>>=◌}
-use Rattle.c_statements.specs.Combining.{◌▷◌, repeated, each, commas}
+use Rattle.c_productions.specs.Combining.{◌▷◌, repeated, each, commas}
 
 unchanged_by : {A : Type 0} (read : Result (List A × List Token) Fault) → (read >>= λ more. Ok ([] ++ more.0, more.1)) ≡ read
 unchanged_by (Ok more) = refl

@@ -5,11 +5,11 @@ use Rattle.c_tree.specs.Trees as T
 use Rattle.c_tree.specs.Views.{statement_tree, statements_tree}
 use Rattle.c_tree.specs.declared.statement.Statement.{Statement}
 use Rattle.c_reading.specs.declared.fault.Fault.{Fault}
-use Rattle.c_statements.specs.Combining.{Mark, ◌▷◌}
+use Rattle.c_productions.specs.Combining.{Mark, ◌▷◌}
 use Rattle.c_reading.specs.Reading.{Reading, ◌>>=◌}
 use Rattle.c_tokens.specs.declared.punctuator.Punctuator.TheVariants.{RightBrace}
 use Rattle.c_reading.specs.Peeking.{is_sign_next}
-use Rattle.c_statements.specs.Reading.{statements_of, goes_on, first_of, by_first, too_high, statement_at}
+use Rattle.c_statement_laws.specs.Reading.{statements_of, goes_on, first_of, by_first, too_high, statement_at}
 
 pub statements_named : (xs : List Statement) → statements_of (map statement_tree xs) ≡ statements_tree xs
 statements_named [] = refl

@@ -2,7 +2,6 @@
 //! fault from the front. A room bounds the height of what is read.
 #![tactic(auto)]
 
-mod first;
 mod parts;
 mod reading;
 #[cfg(test)]

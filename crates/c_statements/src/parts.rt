@@ -3,9 +3,9 @@
 ghost use Rattle.std.specs.Prelude.{◌≡◌, ◌≢◌, ◌<◌, suc, IfOk, IfErr, Ok, Err, map, length};
 ghost use Rattle.c_tree.specs.Views.{expression_tree, call_tree, value_tree, place_tree, set_tree, local_tree, start_tree, optional_tree};
 ghost use Rattle.c_reading.specs.Tokens.{sign};
-ghost use Rattle.c_expressions.specs.Reading.{expression_at};
-ghost use Rattle.c_statements.specs.Combining.{commas};
-ghost use Rattle.c_statements.specs.Parts.{less, name, arguments, call, value, is_cell_next, cell, place, set, local_value, local, start_local, start_set, start};
+ghost use Rattle.c_expression_laws.specs.Reading.{expression_at};
+ghost use Rattle.c_productions.specs.Combining.{commas};
+ghost use Rattle.c_productions.specs.Parts.{less, name, arguments, call, value, is_cell_next, cell, place, set, local_value, local, start_local, start_set, start};
 
 use c_expressions::expression;
 use c_reading::{
@@ -17,7 +17,7 @@ use lang::Row;
 use std::alloc::Global;
 
 /// One less room, for the parts of something.
-#[tactic(auto, unfolding(crate::specs::Parts::less))]
+#[tactic(auto, unfolding(c_productions::specs::Parts::less))]
 pub(crate) fn one_less(room: u8) -> Result<u8, Fault>
     ensures ok { IfOk result (λ r. less room ≡ Ok r) }
     ensures err { IfErr result (λ e. less room ≡ Err e) }
@@ -28,7 +28,7 @@ pub(crate) fn one_less(room: u8) -> Result<u8, Fault>
     Ok(room - 1)
 }
 
-#[tactic(auto, unfolding(crate::specs::Parts::name))]
+#[tactic(auto, unfolding(c_productions::specs::Parts::name))]
 pub(crate) fn read_name_in(
     alloc: Global,
     room: u8,
@@ -42,7 +42,7 @@ pub(crate) fn read_name_in(
 }
 
 /// Expressions with a comma between each two.
-#[tactic(auto, unfolding(crate::specs::Combining::commas))]
+#[tactic(auto, unfolding(c_productions::specs::Combining::commas))]
 fn read_expressions(
     alloc: Global,
     room: u8,
@@ -66,7 +66,7 @@ fn read_expressions(
     Ok((expressions, rest))
 }
 
-#[tactic(auto, unfolding(crate::specs::Parts::arguments))]
+#[tactic(auto, unfolding(c_productions::specs::Parts::arguments))]
 fn read_arguments(
     alloc: Global,
     room: u8,
@@ -83,7 +83,7 @@ fn read_arguments(
 }
 
 /// A call (C99 6.5.2.2).
-#[tactic(auto, unfolding(crate::specs::Parts::call))]
+#[tactic(auto, unfolding(c_productions::specs::Parts::call))]
 pub(crate) fn read_call(
     alloc: Global,
     room: u8,
@@ -101,7 +101,7 @@ pub(crate) fn read_call(
 }
 
 /// The right side of an assignment and the like: a call or an expression.
-#[tactic(auto, unfolding(crate::specs::Parts::value))]
+#[tactic(auto, unfolding(c_productions::specs::Parts::value))]
 pub(crate) fn read_value(
     alloc: Global,
     room: u8,
@@ -130,7 +130,7 @@ pub(crate) fn is_cell_next(tokens: &[Token]) -> bool
     }
 }
 
-#[tactic(auto, unfolding(crate::specs::Parts::cell))]
+#[tactic(auto, unfolding(c_productions::specs::Parts::cell))]
 fn read_cell(alloc: Global, room: u8, tokens: &[Token]) -> Result<(Place, &[Token]), Fault>
     ensures ok { IfOk result (λ r. cell room tokens.now ≡ Ok (place_tree r.0, r.1.now)) }
     ensures err { IfErr result (λ e. e ≢ Fault.NoMemory → cell room tokens.now ≡ Err e) }
@@ -143,7 +143,7 @@ fn read_cell(alloc: Global, room: u8, tokens: &[Token]) -> Result<(Place, &[Toke
     Ok((Place::Element(array, index), rest))
 }
 
-#[tactic(auto, unfolding(crate::specs::Parts::place))]
+#[tactic(auto, unfolding(c_productions::specs::Parts::place))]
 fn read_place(alloc: Global, room: u8, tokens: &[Token]) -> Result<(Place, &[Token]), Fault>
     ensures ok { IfOk result (λ r. place room tokens.now ≡ Ok (place_tree r.0, r.1.now)) }
     ensures err { IfErr result (λ e. e ≢ Fault.NoMemory → place room tokens.now ≡ Err e) }
@@ -156,7 +156,7 @@ fn read_place(alloc: Global, room: u8, tokens: &[Token]) -> Result<(Place, &[Tok
 }
 
 /// What a `for` sets.
-#[tactic(auto, unfolding(crate::specs::Parts::set))]
+#[tactic(auto, unfolding(c_productions::specs::Parts::set))]
 pub(crate) fn read_set(alloc: Global, room: u8, tokens: &[Token]) -> Result<(Set, &[Token]), Fault>
     ensures ok { IfOk result (λ r. set room tokens.now ≡ Ok (set_tree r.0, r.1.now)) }
     ensures err { IfErr result (λ e. e ≢ Fault.NoMemory → set room tokens.now ≡ Err e) }
@@ -168,7 +168,7 @@ pub(crate) fn read_set(alloc: Global, room: u8, tokens: &[Token]) -> Result<(Set
     Ok((Set { place, value }, rest))
 }
 
-#[tactic(auto, unfolding(crate::specs::Parts::local_value))]
+#[tactic(auto, unfolding(c_productions::specs::Parts::local_value))]
 fn read_local_value(
     alloc: Global,
     room: u8,
@@ -186,7 +186,7 @@ fn read_local_value(
 }
 
 /// The declaration of a local (C99 6.7), whose parts have this room.
-#[tactic(auto, unfolding(crate::specs::Parts::local))]
+#[tactic(auto, unfolding(c_productions::specs::Parts::local))]
 pub(crate) fn read_local(
     alloc: Global,
     room: u8,
@@ -202,7 +202,7 @@ pub(crate) fn read_local(
     Ok((Local { kind, name, value }, rest))
 }
 
-#[tactic(auto, unfolding(crate::specs::Parts::start_local))]
+#[tactic(auto, unfolding(c_productions::specs::Parts::start_local))]
 fn read_start_local(
     alloc: Global,
     room: u8,
@@ -220,7 +220,7 @@ fn read_start_local(
     Ok((ForStart::Local(kind, name, value), rest))
 }
 
-#[tactic(auto, unfolding(crate::specs::Parts::start_set))]
+#[tactic(auto, unfolding(c_productions::specs::Parts::start_set))]
 fn read_start_set(alloc: Global, room: u8, tokens: &[Token]) -> Result<(ForStart, &[Token]), Fault>
     ensures ok { IfOk result (λ r. start_set room tokens.now ≡ Ok (start_tree r.0, r.1.now)) }
     ensures err { IfErr result (λ e. e ≢ Fault.NoMemory → start_set room tokens.now ≡ Err e) }
@@ -231,7 +231,7 @@ fn read_start_set(alloc: Global, room: u8, tokens: &[Token]) -> Result<(ForStart
 }
 
 /// How a `for` begins, with the `;` behind it (C99 6.8.5.3).
-#[tactic(auto, unfolding(crate::specs::Parts::start, crate::specs::Parts::start_nothing))]
+#[tactic(auto, unfolding(c_productions::specs::Parts::start, c_productions::specs::Parts::start_nothing))]
 pub(crate) fn read_start(
     alloc: Global,
     room: u8,

@@ -3,11 +3,11 @@
 ghost use Rattle.std.specs.Prelude.{◌≡◌, ◌≢◌, ◌<◌, suc, zero, true, false, IfOk, IfErr, Ok, Err, length, map};
 ghost use Rattle.c_tree.specs.Views.{statement_tree, statements_tree, optional_tree, expression_tree, value_tree, set_tree};
 ghost use Rattle.c_tree.specs.Trees as T;
-ghost use Rattle.c_statements.specs.Combining.{made};
-ghost use Rattle.c_statements.specs.Parts.{local};
-ghost use Rattle.c_statements.specs.Reading.{first_word, first_of, empty, call_statement, assign, store, break_statement, continue_statement, returned, return_statement, condition, step, branched, items_in, block_in, branches_in, if_in, while_in, for_in, by_first, too_high, statement_at};
+ghost use Rattle.c_productions.specs.Combining.{made};
+ghost use Rattle.c_productions.specs.Parts.{local};
+ghost use Rattle.c_statement_laws.specs.Reading.{first_word, first_of, empty, call_statement, assign, store, break_statement, continue_statement, returned, return_statement, condition, step, branched, items_in, block_in, branches_in, if_in, while_in, for_in, by_first, too_high, statement_at};
 
-use crate::first::First;
+use c_statement_laws::First;
 use crate::parts::{
     is_cell_next, one_less, read_call, read_local, read_name_in, read_set, read_start, read_value,
 };
@@ -42,7 +42,7 @@ fn first_word(tokens: &[Token]) -> First
 }
 
 /// What begins. A local begins in a block alone.
-#[tactic(auto, unfolding(crate::specs::Reading::first_of))]
+#[tactic(auto, unfolding(c_statement_laws::specs::Reading::first_of))]
 fn first_of(block: bool, tokens: &[Token]) -> First
     ensures { result ≡ first_of block tokens.now }
 {
@@ -84,7 +84,7 @@ fn too_high(first: First, tokens: &[Token]) -> Fault
     }
 }
 
-#[tactic(auto, unfolding(crate::specs::Reading::empty))]
+#[tactic(auto, unfolding(c_statement_laws::specs::Reading::empty))]
 fn read_empty(tokens: &[Token]) -> Result<(Statement, &[Token]), Fault>
     ensures ok { IfOk result (λ r. empty tokens.now ≡ Ok (statement_tree r.0, r.1.now)) }
     ensures err { IfErr result (λ e. empty tokens.now ≡ Err e) }
@@ -105,7 +105,7 @@ fn read_local_statement(
     Ok((Statement::Local(local), rest))
 }
 
-#[tactic(auto, unfolding(crate::specs::Reading::call_statement))]
+#[tactic(auto, unfolding(c_statement_laws::specs::Reading::call_statement))]
 fn read_call_statement(
     alloc: Global,
     room: u8,
@@ -119,7 +119,7 @@ fn read_call_statement(
     Ok((Statement::Call(call), rest))
 }
 
-#[tactic(auto, unfolding(crate::specs::Reading::assign))]
+#[tactic(auto, unfolding(c_statement_laws::specs::Reading::assign))]
 fn read_assign(alloc: Global, room: u8, tokens: &[Token]) -> Result<(Statement, &[Token]), Fault>
     ensures ok { IfOk result (λ r. assign room tokens.now ≡ Ok (statement_tree r.0, r.1.now)) }
     ensures err { IfErr result (λ e. e ≢ Fault.NoMemory → assign room tokens.now ≡ Err e) }
@@ -131,7 +131,7 @@ fn read_assign(alloc: Global, room: u8, tokens: &[Token]) -> Result<(Statement, 
     Ok((Statement::Assign(name, value), rest))
 }
 
-#[tactic(auto, unfolding(crate::specs::Reading::store))]
+#[tactic(auto, unfolding(c_statement_laws::specs::Reading::store))]
 fn read_store(alloc: Global, room: u8, tokens: &[Token]) -> Result<(Statement, &[Token]), Fault>
     ensures ok { IfOk result (λ r. store room tokens.now ≡ Ok (statement_tree r.0, r.1.now)) }
     ensures err { IfErr result (λ e. e ≢ Fault.NoMemory → store room tokens.now ≡ Err e) }
@@ -147,7 +147,7 @@ fn read_store(alloc: Global, room: u8, tokens: &[Token]) -> Result<(Statement, &
     Ok((Statement::Store(array, index, value), rest))
 }
 
-#[tactic(auto, unfolding(crate::specs::Reading::break_statement))]
+#[tactic(auto, unfolding(c_statement_laws::specs::Reading::break_statement))]
 fn read_break(tokens: &[Token]) -> Result<(Statement, &[Token]), Fault>
     ensures ok { IfOk result (λ r. break_statement tokens.now ≡ Ok (statement_tree r.0, r.1.now)) }
     ensures err { IfErr result (λ e. break_statement tokens.now ≡ Err e) }
@@ -157,7 +157,7 @@ fn read_break(tokens: &[Token]) -> Result<(Statement, &[Token]), Fault>
     Ok((Statement::Break(at), rest))
 }
 
-#[tactic(auto, unfolding(crate::specs::Reading::continue_statement))]
+#[tactic(auto, unfolding(c_statement_laws::specs::Reading::continue_statement))]
 fn read_continue(tokens: &[Token]) -> Result<(Statement, &[Token]), Fault>
     ensures ok { IfOk result (λ r. continue_statement tokens.now ≡ Ok (statement_tree r.0, r.1.now)) }
     ensures err { IfErr result (λ e. continue_statement tokens.now ≡ Err e) }
@@ -182,7 +182,7 @@ fn read_returned(
     Ok((Some(value), rest))
 }
 
-#[tactic(auto, unfolding(crate::specs::Reading::return_statement))]
+#[tactic(auto, unfolding(c_statement_laws::specs::Reading::return_statement))]
 fn read_return(alloc: Global, room: u8, tokens: &[Token]) -> Result<(Statement, &[Token]), Fault>
     ensures ok { IfOk result (λ r. return_statement room tokens.now ≡ Ok (statement_tree r.0, r.1.now)) }
     ensures err { IfErr result (λ e. e ≢ Fault.NoMemory → return_statement room tokens.now ≡ Err e) }
@@ -266,7 +266,7 @@ fn read_items(
 
 /// A block whose statements have this room (C99 6.8.2).
 #[cycle(statements)]
-#[tactic(auto, using(crate::proofs::Trees::statements_named), unfolding(crate::specs::Reading::block_in))]
+#[tactic(auto, using(crate::proofs::Trees::statements_named), unfolding(c_statement_laws::specs::Reading::block_in))]
 pub fn read_block(
     alloc: Global,
     room: u8,
@@ -282,7 +282,7 @@ pub fn read_block(
 }
 
 #[cycle(statements)]
-#[tactic(auto, unfolding(crate::specs::Reading::while_in))]
+#[tactic(auto, unfolding(c_statement_laws::specs::Reading::while_in))]
 fn read_while(alloc: Global, room: u8, tokens: &[Token]) -> Result<(Statement, &[Token]), Fault>
     ensures ok { IfOk result (λ r. while_in (statement_at room) room tokens.now ≡ Ok (statement_tree r.0, r.1.now)) }
     ensures err { IfErr result (λ e. e ≢ Fault.NoMemory → while_in (statement_at room) room tokens.now ≡ Err e) }
@@ -297,7 +297,7 @@ fn read_while(alloc: Global, room: u8, tokens: &[Token]) -> Result<(Statement, &
 
 /// The statement of an `if`, and the one behind `else`, if that is next (C99 6.8.4.1).
 #[cycle(statements)]
-#[tactic(auto, unfolding(crate::specs::Reading::branches_in))]
+#[tactic(auto, unfolding(c_statement_laws::specs::Reading::branches_in))]
 fn read_branches(
     alloc: Global,
     room: u8,
@@ -316,7 +316,7 @@ fn read_branches(
 }
 
 #[cycle(statements)]
-#[tactic(auto, unfolding(crate::specs::Reading::if_in))]
+#[tactic(auto, unfolding(c_statement_laws::specs::Reading::if_in))]
 fn read_if(alloc: Global, room: u8, tokens: &[Token]) -> Result<(Statement, &[Token]), Fault>
     ensures ok { IfOk result (λ r. if_in (statement_at room) room tokens.now ≡ Ok (statement_tree r.0, r.1.now)) }
     ensures err { IfErr result (λ e. e ≢ Fault.NoMemory → if_in (statement_at room) room tokens.now ≡ Err e) }
@@ -331,7 +331,7 @@ fn read_if(alloc: Global, room: u8, tokens: &[Token]) -> Result<(Statement, &[To
 }
 
 #[cycle(statements)]
-#[tactic(auto, unfolding(crate::specs::Reading::for_in))]
+#[tactic(auto, unfolding(c_statement_laws::specs::Reading::for_in))]
 fn read_for(alloc: Global, room: u8, tokens: &[Token]) -> Result<(Statement, &[Token]), Fault>
     ensures ok { IfOk result (λ r. for_in (statement_at room) room tokens.now ≡ Ok (statement_tree r.0, r.1.now)) }
     ensures err { IfErr result (λ e. e ≢ Fault.NoMemory → for_in (statement_at room) room tokens.now ≡ Err e) }

@@ -4,13 +4,13 @@ use Rattle.std.proofs.lemmas.Result.{err_from_is_err_and}
 use Rattle.c_tokens.specs.declared.punctuator.Punctuator.TheVariants.{Comma}
 use Rattle.c_reading.specs.Peeking.{is_sign_next}
 use Rattle.c_reading.specs.Tokens.{sign}
-use Rattle.c_statements.specs.Combining.{◌▷◌, commas}
+use Rattle.c_productions.specs.Combining.{◌▷◌, commas}
 use Rattle.c_statements.proofs.Loops.{goes_on, stops, ends, is_done}
 use Rattle.c_statements.proofs.Trees.{mark_fails, behind_mark}
 use Rattle.c_declarations.proofs.Commas.{commas_fail}
 use Rattle.c_tree.specs.Heights.{highest}
 use Rattle.c_tree.specs.Views.{initial_tree}
-use Rattle.c_declarations.specs.Reading.{initial}
+use Rattle.c_declaration_laws.specs.Reading.{initial}
 use Rattle.c_declarations.proofs.globals.read_initials.Goals as goal
 use Rattle.c_declarations.proofs.globals.read_initials.Goals.{else-loop-test, then-loop-test+then-not-is_sign_next}
 

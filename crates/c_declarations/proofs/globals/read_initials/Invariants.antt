@@ -4,9 +4,9 @@ use Rattle.c_tree.specs.Heights.{highest}
 use Rattle.c_tree.specs.Views.{initial_tree}
 use Rattle.c_reading.specs.Peeking.{is_sign_next}
 use Rattle.c_reading.specs.Tokens.{sign}
-use Rattle.c_statements.specs.Combining.{◌▷◌, commas}
+use Rattle.c_productions.specs.Combining.{◌▷◌, commas}
 use Rattle.c_statements.proofs.Loops.{IsUnderWay}
-use Rattle.c_declarations.specs.Reading.{initial}
+use Rattle.c_declaration_laws.specs.Reading.{initial}
 use Rattle.c_declarations.proofs.globals.read_initials.Given as goal
 
 abbrev pub invariant-loop : goal.invariant-loop

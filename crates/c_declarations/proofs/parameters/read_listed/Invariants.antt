@@ -2,9 +2,9 @@ use Rattle.std.proofs.Common.{length}
 use Rattle.c_tokens.specs.declared.punctuator.Punctuator.TheVariants.{Comma}
 use Rattle.c_reading.specs.Peeking.{is_sign_next}
 use Rattle.c_reading.specs.Tokens.{sign}
-use Rattle.c_statements.specs.Combining.{◌▷◌, commas}
+use Rattle.c_productions.specs.Combining.{◌▷◌, commas}
 use Rattle.c_statements.proofs.Loops.{IsUnderWay}
-use Rattle.c_declarations.specs.Reading.{open_parameter}
+use Rattle.c_declaration_laws.specs.Reading.{open_parameter}
 use Rattle.c_declarations.proofs.parameters.read_listed.Given as goal
 
 abbrev pub invariant-loop : goal.invariant-loop

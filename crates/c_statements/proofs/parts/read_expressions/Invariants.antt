@@ -3,8 +3,8 @@ use Rattle.c_tokens.specs.declared.punctuator.Punctuator.TheVariants.{Comma}
 use Rattle.c_tree.specs.Views.{expression_tree}
 use Rattle.c_reading.specs.Peeking.{is_sign_next}
 use Rattle.c_reading.specs.Tokens.{sign}
-use Rattle.c_expressions.specs.Reading.{expression_at}
-use Rattle.c_statements.specs.Combining.{◌▷◌, commas}
+use Rattle.c_expression_laws.specs.Reading.{expression_at}
+use Rattle.c_productions.specs.Combining.{◌▷◌, commas}
 use Rattle.c_statements.proofs.Loops.{IsUnderWay}
 use Rattle.c_statements.proofs.parts.read_expressions.Given as goal
 

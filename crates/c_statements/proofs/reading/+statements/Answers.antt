@@ -4,9 +4,9 @@ use Rattle.std.proofs.lemmas.Result.{err_from_is_err_and}
 use Rattle.c_tokens.specs.declared.punctuator.Punctuator.TheVariants.{RightBrace}
 use Rattle.c_tree.specs.Views.{statement_tree}
 use Rattle.c_reading.specs.Peeking.{is_sign_next}
-use Rattle.c_statements.specs.Combining.{each}
-use Rattle.c_statements.specs.Reading as reading
-use Rattle.c_statements.specs.Reading.{statement_at, items_in}
+use Rattle.c_productions.specs.Combining.{each}
+use Rattle.c_statement_laws.specs.Reading as reading
+use Rattle.c_statement_laws.specs.Reading.{statement_at, items_in}
 use Rattle.c_statements.proofs.Loops.{goes_on, stops, ends, is_done}
 use Rattle.c_statements.proofs.Trees.{goes_on-true, goes_on-false}
 use Rattle.c_statements.proofs.reading.+statements.Goals as goal

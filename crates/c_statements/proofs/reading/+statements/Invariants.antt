@@ -1,7 +1,7 @@
 use Rattle.std.proofs.Common.{◌+◌, ◌*◌, map, length, true}
 use Rattle.c_tree.specs.Views.{statement_tree}
-use Rattle.c_statements.specs.Combining.{each}
-use Rattle.c_statements.specs.Reading.{goes_on, statement_at}
+use Rattle.c_productions.specs.Combining.{each}
+use Rattle.c_statement_laws.specs.Reading.{goes_on, statement_at}
 use Rattle.c_statements.proofs.Loops.{IsUnderWay}
 use Rattle.c_statements.proofs.reading.+statements.Given as goal
 

@@ -7,14 +7,14 @@ use Rattle.c_tree.specs.Trees as T
 use Rattle.c_reading.specs.Reading.{Reading}
 use Rattle.c_reading.specs.Peeking.{is_sign_next, is_word_next, is_type_next, is_call_next}
 use Rattle.c_reading.specs.Tokens.{sign, word, placed_word, placed_name, integer_type}
-use Rattle.c_expressions.specs.Reading.{expression_at}
-use Rattle.c_expressions.proofs.Laws.{expression_stays}
-use Rattle.c_statements.specs.declared.first.First.{First}
-use Rattle.c_statements.specs.declared.first.First.TheVariants as F
-use Rattle.c_statements.specs.Combining.{◌▷◌, ◌◁◌, ◌&◌, made, missing, there, repeated, each, commas}
-use Rattle.c_statements.specs.Parts.{less, name, arguments, call, value, is_cell_next, cell, place, set, local_value, local, start_local, start_set, start_nothing, start}
-use Rattle.c_statements.specs.Reading.{first_of, call_statement, assign, store, return_statement, branched, statements_of, Below, goes_on, items_in, block_in, branches_in, if_in, while_in, for_in, by_first, too_high, statement_at}
-use Rattle.c_statements.proofs.Laws.{Keeps, keeps_same, keeps_after, keeps_before, keeps_both, keeps_made, keeps_either, keeps_under}
+use Rattle.c_expression_laws.specs.Reading.{expression_at}
+use Rattle.c_expression_laws.proofs.Laws.{expression_stays}
+use Rattle.c_statement_laws.specs.declared.first.First.{First}
+use Rattle.c_statement_laws.specs.declared.first.First.TheVariants as F
+use Rattle.c_productions.specs.Combining.{◌▷◌, ◌◁◌, ◌&◌, made, missing, there, repeated, each, commas}
+use Rattle.c_productions.specs.Parts.{less, name, arguments, call, value, is_cell_next, cell, place, set, local_value, local, start_local, start_set, start_nothing, start}
+use Rattle.c_statement_laws.specs.Reading.{first_of, call_statement, assign, store, return_statement, branched, statements_of, Below, goes_on, items_in, block_in, branches_in, if_in, while_in, for_in, by_first, too_high, statement_at}
+use Rattle.c_productions.proofs.Laws.{Keeps, keeps_same, keeps_after, keeps_before, keeps_both, keeps_made, keeps_either, keeps_under}
 
 pub repeated_keeps : {A : Type 0} (goes : List Token → Bool) {part more : Reading A} → Keeps part more → (limit : ℕ) → Keeps (repeated goes part limit) (repeated goes more limit)
 unfolding repeated

@@ -11,8 +11,8 @@ use Rattle.c_reading.specs.declared.fault.Fault.TheVariants.{TooDeep}
 use Rattle.c_reading.specs.Reading.{Reading, ◌>>=◌}
 use Rattle.c_reading.specs.Peeking.{is_name, is_sign_next, is_type_next, is_call_next}
 use Rattle.c_reading.specs.Tokens.{sign, placed_name, integer_type}
-use Rattle.c_expressions.specs.Reading.{expression_at}
-use Rattle.c_statements.specs.Combining.{◌▷◌, ◌◁◌, ◌&◌, made, either, missing, there, commas}
+use Rattle.c_expression_laws.specs.Reading.{expression_at}
+use Rattle.c_productions.specs.Combining.{◌▷◌, ◌◁◌, ◌&◌, made, either, missing, there, commas}
 
 -- one less room, for the parts of something
 unfoldable pub less : ℕ → Result ℕ Fault

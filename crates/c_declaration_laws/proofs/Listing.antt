@@ -9,9 +9,9 @@ use Rattle.c_reading.specs.Reading.{Reading, ◌>>=◌}
 use Rattle.c_reading.specs.Peeking.{is_sign_next}
 use Rattle.c_reading.specs.Tokens.{sign}
 use Rattle.c_reading.proofs.Tokens.{sign_takes, sign_again, is_sign_next-again}
-use Rattle.c_statements.specs.Combining.{◌▷◌, ◌&◌, repeated, each, commas}
-use Rattle.c_declarations.proofs.Combining.{IsMark, IsReader, IsTaken, Any, ok_is, bind_ok, after, Keeps, keeps_made, keeps_both, keeps_after}
-use Rattle.c_declarations.proofs.Repeating.{Many, Repeats, repeated_takes, repeated_again, keeps_each}
+use Rattle.c_productions.specs.Combining.{◌▷◌, ◌&◌, repeated, each, commas}
+use Rattle.c_productions.proofs.Combining.{IsMark, IsReader, IsTaken, Any, ok_is, bind_ok, after, Keeps, keeps_made, keeps_both, keeps_after}
+use Rattle.c_declaration_laws.proofs.Repeating.{Many, Repeats, repeated_takes, repeated_again, keeps_each}
 
 -- at least one, and commas
 abbrev pub Listed : {A : Type 0} → (A → List Token → Type 0) → List A → List Token → Type 0

@@ -1,25 +1,15 @@
 -- What is read is spelled so, what is spelled so is read, and more room reads the same: of readings that are
 -- put together.
-use Rattle.std.proofs.Common.{◌≡◌, ℕ, zero, suc, ◌≤◌, Bool, true, false, cond, List, [], ◌++◌, Option, Some, None, Result, Ok, Err, inl, inr, refl, sym, ap, subst, ◌∙◌, append_assoc, arith}
+use Rattle.std.proofs.Common.{◌≡◌, ℕ, zero, suc, ◌≤◌, Bool, true, false, cond, List, [], ◌∷◌, ◌++◌, length, Option, Some, None, Result, Ok, Err, inl, inr, refl, sym, ap, subst, ◌∙◌, append_assoc, arith}
 use Rattle.std.specs.Prelude.{◌⊎◌}
 use Rattle.c_tokens.specs.declared.token.Token.{Token}
-use Rattle.c_tree.specs.Parts.{◌⨾◌, Perhaps}
+use Rattle.c_tree.specs.Parts.{◌⨾◌, Nothing, Perhaps}
 use Rattle.c_tree.specs.Heights.{IfThere}
 use Rattle.c_reading.specs.declared.fault.Fault.{Fault}
 use Rattle.c_reading.specs.Reading.{Reading, ◌>>=◌, Takes, Stays}
-use Rattle.c_statements.specs.Combining.{Mark, ◌▷◌, ◌◁◌, ◌&◌, made, either, missing, there}
-use Rattle.c_statements.specs.Parts.{less, under}
-
-abbrev pub done : {A : Type 0} → A → Result A Fault
-done x = Ok x
-
-pub ok_is : {A : Type 0} (x y : A) → done x ≡ done y → x ≡ y
-ok_is x y e = cc
-
--- the value of a step that did not fail
-pub bind_ok : {A B : Type 0} (r : Result A Fault) (f : A → Result B Fault) (y : B) → (r >>= f) ≡ Ok y → (x : A) × (r ≡ Ok x) × (f x ≡ Ok y)
-bind_ok (Ok x) f y e = (x, refl, e)
-bind_ok (Err d) f y e = absurd cc
+use Rattle.c_reading.proofs.Laws.{done, ok_is, bind_ok, parts_behind}
+use Rattle.c_productions.specs.Combining.{Mark, ◌▷◌, ◌◁◌, ◌&◌, made, either, missing, there, repeated, each}
+use Rattle.c_productions.specs.Parts.{less, under}
 
 pub bind_is : {A B : Type 0} (r : Result A Fault) (f : A → Result B Fault) (x : A) → r ≡ Ok x → (r >>= f) ≡ f x
 bind_is r f x e = ap (λ z. z >>= f) e
@@ -41,9 +31,12 @@ pub record IsTaken {A : Type 0} (Fits : A → Type 0) (Spells Leaves : A → Lis
   pub spelled : Spells x front
   pub parts : ts ≡ front ++ rest
 
--- A reading reads what it should, and whatever it should where this follows.
-pub record IsReader {A : Type 0} (reading : Reading A) (Fits : A → Type 0) (Spells Leaves Ends : A → List Token → Type 0) : Type 0 where
+-- What a reading reads is spelled so.
+pub record IsSound {A : Type 0} (reading : Reading A) (Fits : A → Type 0) (Spells Leaves : A → List Token → Type 0) : Type 0 where
   pub takes : (ts : List Token) (x : A) (rest : List Token) → reading ts ≡ Ok (x, rest) → IsTaken Fits Spells Leaves ts x rest
+
+-- A reading reads whatever fits and is spelled so, where this follows.
+pub record IsWhole {A : Type 0} (reading : Reading A) (Fits : A → Type 0) (Spells Ends : A → List Token → Type 0) : Type 0 where
   pub again : (x : A) (xs rest : List Token) → Fits x → Spells x xs → Ends x rest → reading (xs ++ rest) ≡ Ok (x, rest)
 
 -- nothing is known of the rest, and anything may follow
@@ -54,7 +47,7 @@ Any x rest = Unit {0}
 abbrev pub Whatever : {A : Type 0} → A → Type 0
 Whatever x = Unit {0}
 
-module _ {A : Type 0} {mark : Mark} {S : List Token → Type 0} {part : Reading A} {F : A → Type 0} {P L E : A → List Token → Type 0} (m : IsMark mark S) (p : IsReader part F P L E) where
+module _ {A : Type 0} {mark : Mark} {S : List Token → Type 0} {part : Reading A} {F : A → Type 0} {P L : A → List Token → Type 0} (m : IsMark mark S) (p : IsSound part F P L) where
   after_takes : (ts : List Token) (x : A) (rest : List Token) → (mark ▷ part) ts ≡ Ok (x, rest) → IsTaken F (λ y. S ⨾ P y) L ts x rest
   after_takes ts x rest e =
       let b = bind_ok (mark ts) part (x, rest) e in
@@ -68,15 +61,18 @@ module _ {A : Type 0} {mark : Mark} {S : List Token → Type 0} {part : Reading 
         parts = t.parts ∙ ap (λ (l : List Token). t.front ++ l) u.parts ∙ sym (append_assoc t.front u.front rest);
       }
 
+  pub after : IsSound (mark ▷ part) F (λ y. S ⨾ P y) L
+  after = record { takes = after_takes }
+
+module _ {A : Type 0} {mark : Mark} {S : List Token → Type 0} {part : Reading A} {F : A → Type 0} {P E : A → List Token → Type 0} (m : IsMark mark S) (p : IsWhole part F P E) where
   after_again : (x : A) (xs rest : List Token) → F x → (S ⨾ P x) xs → E x rest → (mark ▷ part) (xs ++ rest) ≡ Ok (x, rest)
   after_again x xs rest fits d ends =
-      let e : xs ++ rest ≡ d.0 ++ (d.1 ++ rest) = ap (λ (l : List Token). l ++ rest) d.4 ∙ append_assoc d.0 d.1 rest in
-      ap (mark ▷ part) e ∙ bind_is (mark (d.0 ++ (d.1 ++ rest))) part (d.1 ++ rest) (m.again d.0 (d.1 ++ rest) d.2) ∙ p.again x d.1 rest fits d.3 ends
+      ap (mark ▷ part) (parts_behind xs d.0 d.1 rest d.4) ∙ bind_is (mark (d.0 ++ (d.1 ++ rest))) part (d.1 ++ rest) (m.again d.0 (d.1 ++ rest) d.2) ∙ p.again x d.1 rest fits d.3 ends
 
-  pub after : IsReader (mark ▷ part) F (λ y. S ⨾ P y) L E
-  after = record { takes = after_takes; again = after_again }
+  pub after' : IsWhole (mark ▷ part) F (λ y. S ⨾ P y) E
+  after' = record { again = after_again }
 
-module _ {A : Type 0} {mark : Mark} {S : List Token → Type 0} {part : Reading A} {F : A → Type 0} {P L E : A → List Token → Type 0} (p : IsReader part F P L E) (m : IsMark mark S) (ends : (x : A) (ys rest : List Token) → S ys → E x (ys ++ rest)) where
+module _ {A : Type 0} {mark : Mark} {S : List Token → Type 0} {part : Reading A} {F : A → Type 0} {P L : A → List Token → Type 0} (p : IsSound part F P L) (m : IsMark mark S) where
   before_takes : (ts : List Token) (x : A) (rest : List Token) → (part ◁ mark) ts ≡ Ok (x, rest) → IsTaken F (λ y. P y ⨾ S) Any ts x rest
   before_takes ts x rest e =
       let b = bind_ok (part ts) (λ y. mark y.1 >>= λ r. Ok (y.0, r)) (x, rest) e in
@@ -92,17 +88,20 @@ module _ {A : Type 0} {mark : Mark} {S : List Token → Type 0} {part : Reading 
         parts = t.parts ∙ ap (λ (l : List Token). t.front ++ l) u.parts ∙ sym (append_assoc t.front u.front c.0);
       })
 
+  pub before : IsSound (part ◁ mark) F (λ y. P y ⨾ S) Any
+  before = record { takes = before_takes }
+
+module _ {A : Type 0} {mark : Mark} {S : List Token → Type 0} {part : Reading A} {F : A → Type 0} {P E : A → List Token → Type 0} (p : IsWhole part F P E) (m : IsMark mark S) (ends : (x : A) (ys rest : List Token) → S ys → E x (ys ++ rest)) where
   before_again : (x : A) (xs rest : List Token) → F x → (P x ⨾ S) xs → Any x rest → (part ◁ mark) (xs ++ rest) ≡ Ok (x, rest)
   before_again x xs rest fits d any =
-      let e : xs ++ rest ≡ d.0 ++ (d.1 ++ rest) = ap (λ (l : List Token). l ++ rest) d.4 ∙ append_assoc d.0 d.1 rest in
-      ap (part ◁ mark) e
+      ap (part ◁ mark) (parts_behind xs d.0 d.1 rest d.4)
       ∙ bind_is (part (d.0 ++ (d.1 ++ rest))) (λ y. mark y.1 >>= λ r. Ok (y.0, r)) (x, d.1 ++ rest) (p.again x d.0 (d.1 ++ rest) fits d.2 (ends x d.1 rest d.3))
       ∙ bind_is (mark (d.1 ++ rest)) (λ r. Ok (x, r)) rest (m.again d.1 rest d.3)
 
-  pub before : IsReader (part ◁ mark) F (λ y. P y ⨾ S) Any Any
-  before = record { takes = before_takes; again = before_again }
+  pub before' : IsWhole (part ◁ mark) F (λ y. P y ⨾ S) Any
+  before' = record { again = before_again }
 
-module _ {A B : Type 0} {first : Reading A} {F : A → Type 0} {P L E : A → List Token → Type 0} {second : Reading B} {G : B → Type 0} {Q M D : B → List Token → Type 0} (p : IsReader first F P L E) (q : IsReader second G Q M D) (ends : (x : A) (y : B) (ys rest : List Token) → Q y ys → D y rest → E x (ys ++ rest)) where
+module _ {A B : Type 0} {first : Reading A} {F : A → Type 0} {P L : A → List Token → Type 0} {second : Reading B} {G : B → Type 0} {Q M : B → List Token → Type 0} (p : IsSound first F P L) (q : IsSound second G Q M) where
   both_takes : (ts : List Token) (v : A × B) (rest : List Token) → (first & second) ts ≡ Ok (v, rest) → IsTaken (λ (w : A × B). F w.0 × G w.1) (λ w. P w.0 ⨾ Q w.1) (λ w. M w.1) ts v rest
   both_takes ts v rest e =
       let b = bind_ok (first ts) (λ x. second x.1 >>= λ y. Ok ((x.0, y.0), y.1)) (v, rest) e in
@@ -118,32 +117,35 @@ module _ {A B : Type 0} {first : Reading A} {F : A → Type 0} {P L E : A → Li
         parts = t.parts ∙ ap (λ (l : List Token). t.front ++ l) u.parts ∙ sym (append_assoc t.front u.front c.0.1);
       })
 
+  pub both : IsSound (first & second) (λ (w : A × B). F w.0 × G w.1) (λ w. P w.0 ⨾ Q w.1) (λ w. M w.1)
+  both = record { takes = both_takes }
+
+module _ {A B : Type 0} {first : Reading A} {F : A → Type 0} {P E : A → List Token → Type 0} {second : Reading B} {G : B → Type 0} {Q D : B → List Token → Type 0} (p : IsWhole first F P E) (q : IsWhole second G Q D) (ends : (x : A) (y : B) (ys rest : List Token) → Q y ys → D y rest → E x (ys ++ rest)) where
   both_again : (v : A × B) (xs rest : List Token) → F v.0 × G v.1 → (P v.0 ⨾ Q v.1) xs → D v.1 rest → (first & second) (xs ++ rest) ≡ Ok (v, rest)
   both_again v xs rest fits d end =
-      let e : xs ++ rest ≡ d.0 ++ (d.1 ++ rest) = ap (λ (l : List Token). l ++ rest) d.4 ∙ append_assoc d.0 d.1 rest in
-      ap (first & second) e
+      ap (first & second) (parts_behind xs d.0 d.1 rest d.4)
       ∙ bind_is (first (d.0 ++ (d.1 ++ rest))) (λ x. second x.1 >>= λ y. Ok ((x.0, y.0), y.1)) (v.0, d.1 ++ rest) (p.again v.0 d.0 (d.1 ++ rest) fits.0 d.2 (ends v.0 v.1 d.1 rest d.3 end))
       ∙ bind_is (second (d.1 ++ rest)) (λ y. Ok ((v.0, y.0), y.1)) (v.1, rest) (q.again v.1 d.1 rest fits.1 d.3 end)
 
-  pub both : IsReader (first & second) (λ (w : A × B). F w.0 × G w.1) (λ w. P w.0 ⨾ Q w.1) (λ w. M w.1) (λ w. D w.1)
-  both = record { takes = both_takes; again = both_again }
+  pub both' : IsWhole (first & second) (λ (w : A × B). F w.0 × G w.1) (λ w. P w.0 ⨾ Q w.1) (λ w. D w.1)
+  both' = record { again = both_again }
 
-module _ {A B : Type 0} (make : A → B) {part : Reading A} {F : A → Type 0} {P L E : A → List Token → Type 0} (p : IsReader part F P L E) where
-  pub made_takes : {G : B → Type 0} {Q M : B → List Token → Type 0} → ((x : A) → F x → G (make x)) → ((x : A) (xs : List Token) → P x xs → Q (make x) xs) → ((x : A) (rest : List Token) → L x rest → M (make x) rest) → (ts : List Token) (y : B) (rest : List Token) → made make part ts ≡ Ok (y, rest) → IsTaken G Q M ts y rest
-  made_takes {G} {Q} {M} fits spells leaves ts y rest e =
-      let b = bind_ok (part ts) (λ x. Ok (make x.0, x.1)) (y, rest) e in
-      let t = p.takes ts b.0.0 b.0.1 b.1 in
-      subst (λ (z : B × List Token). IsTaken G Q M ts z.0 z.1) (ok_is (make b.0.0, b.0.1) (y, rest) b.2)
-      (record {
-        fits = fits b.0.0 t.fits;
-        leaves = leaves b.0.0 b.0.1 t.leaves;
-        front = t.front;
-        spelled = spells b.0.0 t.front t.spelled;
-        parts = t.parts;
-      })
+-- what was read, as a value made of it
+pub made_takes : {A B : Type 0} (make : A → B) {part : Reading A} {F : A → Type 0} {P L : A → List Token → Type 0} → IsSound part F P L → (G : B → Type 0) (Q M : B → List Token → Type 0) → ((x : A) → F x → G (make x)) → ((x : A) (xs : List Token) → P x xs → Q (make x) xs) → ((x : A) (rest : List Token) → L x rest → M (make x) rest) → (ts : List Token) (y : B) (rest : List Token) → made make part ts ≡ Ok (y, rest) → IsTaken G Q M ts y rest
+made_takes {A} {B} make {part} p G Q M fits spells leaves ts y rest e =
+    let b = bind_ok (part ts) (λ x. Ok (make x.0, x.1)) (y, rest) e in
+    let t = p.takes ts b.0.0 b.0.1 b.1 in
+    subst (λ (z : B × List Token). IsTaken G Q M ts z.0 z.1) (ok_is (make b.0.0, b.0.1) (y, rest) b.2)
+    (record {
+      fits = fits b.0.0 t.fits;
+      leaves = leaves b.0.0 b.0.1 t.leaves;
+      front = t.front;
+      spelled = spells b.0.0 t.front t.spelled;
+      parts = t.parts;
+    })
 
-  pub made_again : (x : A) (xs rest : List Token) → F x → P x xs → E x rest → made make part (xs ++ rest) ≡ Ok (make x, rest)
-  made_again x xs rest fits d end = bind_is (part (xs ++ rest)) (λ y. Ok (make y.0, y.1)) (x, rest) (p.again x xs rest fits d end)
+pub made_again : {A B : Type 0} (make : A → B) {part : Reading A} {F : A → Type 0} {P E : A → List Token → Type 0} → IsWhole part F P E → (x : A) (xs rest : List Token) → F x → P x xs → E x rest → made make part (xs ++ rest) ≡ Ok (make x, rest)
+made_again make {part} p x xs rest fits d end = bind_is (part (xs ++ rest)) (λ y. Ok (make y.0, y.1)) (x, rest) (p.again x xs rest fits d end)
 
 -- One of two parts was read.
 pub either_takes : {A : Type 0} {F : A → Type 0} {P L : A → List Token → Type 0} (passes : List Token → Bool) (part other : Reading A) → ((ts : List Token) (x : A) (rest : List Token) → passes ts ≡ true → part ts ≡ Ok (x, rest) → IsTaken F P L ts x rest) → ((ts : List Token) (x : A) (rest : List Token) → passes ts ≡ false → other ts ≡ Ok (x, rest) → IsTaken F P L ts x rest) → (ts : List Token) (x : A) (rest : List Token) → either passes part other ts ≡ Ok (x, rest) → IsTaken F P L ts x rest
@@ -160,56 +162,85 @@ abbrev pub EndsOption : {A : Type 0} → (List Token → Type 0) → (A → List
 EndsOption Missing E None rest = Missing rest
 EndsOption Missing E (Some x) rest = E x rest
 
+abbrev pub Passes : (List Token → Bool) → Bool → List Token → Type 0
+Passes passes b rest = passes rest ≡ b
+
 missing_taken : {A : Type 0} {F : A → Type 0} {P : A → List Token → Type 0} (ts : List Token) (o : Option A) (rest : List Token) → missing ts ≡ Ok (o, rest) → IsTaken (IfThere F) (Perhaps P) Any ts o rest
 missing_taken {A} {F} {P} ts o rest e =
     subst (λ (z : Option A × List Token). IsTaken (IfThere F) (Perhaps P) Any ts z.0 z.1) (ok_is (None, ts) (o, rest) e)
     (record { fits = tt; leaves = tt; front = []; spelled = refl; parts = refl })
 
-module _ {A : Type 0} (passes : List Token → Bool) {part : Reading A} {F : A → Type 0} {P L E : A → List Token → Type 0} (p : IsReader part F P L E) where
+module _ {A : Type 0} (passes : List Token → Bool) {part : Reading A} {F : A → Type 0} {P L : A → List Token → Type 0} (p : IsSound part F P L) where
   there_taken : (ts : List Token) (o : Option A) (rest : List Token) → there part ts ≡ Ok (o, rest) → IsTaken (IfThere F) (Perhaps P) Any ts o rest
-  there_taken = made_takes (λ x. Some x) p (λ x f. f) (λ x xs d. d) (λ x rest l. tt)
+  there_taken = made_takes (λ x. Some x) p (IfThere F) (Perhaps P) Any (λ x f. f) (λ x xs d. d) (λ x rest l. tt)
 
-  unless_again : ((x : A) (xs rest : List Token) → P x xs → passes (xs ++ rest) ≡ false) → (o : Option A) (xs rest : List Token) → IfThere F o → Perhaps P o xs → EndsOption (λ rest. passes rest ≡ true) E o rest → either passes missing (there part) (xs ++ rest) ≡ Ok (o, rest)
+  -- a part that is missing where a test holds
+  pub unless : IsSound (either passes missing (there part)) (IfThere F) (Perhaps P) Any
+  unless = record { takes = either_takes passes missing (there part) (λ ts o rest h. missing_taken ts o rest) (λ ts o rest h. there_taken ts o rest) }
+
+  -- a part that is there only where a test holds
+  pub only : IsSound (either passes (there part) missing) (IfThere F) (Perhaps P) Any
+  only = record { takes = either_takes passes (there part) missing (λ ts o rest h. there_taken ts o rest) (λ ts o rest h. missing_taken ts o rest) }
+
+module _ {A : Type 0} (passes : List Token → Bool) {part : Reading A} {F : A → Type 0} {P E : A → List Token → Type 0} (p : IsWhole part F P E) where
+  unless_again : ((x : A) (xs rest : List Token) → P x xs → passes (xs ++ rest) ≡ false) → (o : Option A) (xs rest : List Token) → IfThere F o → Perhaps P o xs → EndsOption (Passes passes true) E o rest → either passes missing (there part) (xs ++ rest) ≡ Ok (o, rest)
   unless_again apart None xs rest fits d end =
       ap (λ (l : List Token). either passes missing (there part) (l ++ rest)) d ∙ either_first passes missing (there part) rest end
   unless_again apart (Some x) xs rest fits d end =
       either_second passes missing (there part) (xs ++ rest) (apart x xs rest d) ∙ made_again (λ y. Some y) p x xs rest fits d end
 
-  -- a part that is missing where a test holds
-  pub unless : ((x : A) (xs rest : List Token) → P x xs → passes (xs ++ rest) ≡ false) → IsReader (either passes missing (there part)) (IfThere F) (Perhaps P) Any (EndsOption (λ rest. passes rest ≡ true) E)
-  unless apart = record {
-    takes = either_takes passes missing (there part) (λ ts o rest h. missing_taken ts o rest) (λ ts o rest h. there_taken ts o rest);
-    again = unless_again apart;
-  }
+  pub unless' : ((x : A) (xs rest : List Token) → P x xs → passes (xs ++ rest) ≡ false) → IsWhole (either passes missing (there part)) (IfThere F) (Perhaps P) (EndsOption (Passes passes true) E)
+  unless' apart = record { again = unless_again apart }
 
-  only_again : ((x : A) (xs rest : List Token) → P x xs → passes (xs ++ rest) ≡ true) → (o : Option A) (xs rest : List Token) → IfThere F o → Perhaps P o xs → EndsOption (λ rest. passes rest ≡ false) E o rest → either passes (there part) missing (xs ++ rest) ≡ Ok (o, rest)
+  only_again : ((x : A) (xs rest : List Token) → P x xs → passes (xs ++ rest) ≡ true) → (o : Option A) (xs rest : List Token) → IfThere F o → Perhaps P o xs → EndsOption (Passes passes false) E o rest → either passes (there part) missing (xs ++ rest) ≡ Ok (o, rest)
   only_again begins None xs rest fits d end =
       ap (λ (l : List Token). either passes (there part) missing (l ++ rest)) d ∙ either_second passes (there part) missing rest end
   only_again begins (Some x) xs rest fits d end =
       either_first passes (there part) missing (xs ++ rest) (begins x xs rest d) ∙ made_again (λ y. Some y) p x xs rest fits d end
 
-  -- a part that is there only where a test holds
-  pub only : ((x : A) (xs rest : List Token) → P x xs → passes (xs ++ rest) ≡ true) → IsReader (either passes (there part) missing) (IfThere F) (Perhaps P) Any (EndsOption (λ rest. passes rest ≡ false) E)
-  only begins = record {
-    takes = either_takes passes (there part) missing (λ ts o rest h. there_taken ts o rest) (λ ts o rest h. missing_taken ts o rest);
-    again = only_again begins;
-  }
+  pub only' : ((x : A) (xs rest : List Token) → P x xs → passes (xs ++ rest) ≡ true) → IsWhole (either passes (there part) missing) (IfThere F) (Perhaps P) (EndsOption (Passes passes false) E)
+  only' begins = record { again = only_again begins }
 
-module _ {A : Type 0} {parts : ℕ → Reading A} {F : ℕ → A → Type 0} (G : ℕ → A → Type 0) {P L E : A → List Token → Type 0} (p : (r : ℕ) → IsReader (parts r) (F r) P L E) (up : (r : ℕ) (x : A) → F r x → G (suc r) x) (down : (r : ℕ) (x : A) → G (suc r) x → F r x) (none : (x : A) → G zero x → ⊥) where
-  under_takes : (room : ℕ) (ts : List Token) (x : A) (rest : List Token) → under parts room ts ≡ Ok (x, rest) → IsTaken (G room) P L ts x rest
+-- what is one higher than its parts
+module _ {A : Type 0} {parts : ℕ → Reading A} {F : ℕ → A → Type 0} (G : ℕ → A → Type 0) {P L : A → List Token → Type 0} (p : (r : ℕ) → IsSound (parts r) (F r) P L) (up : (r : ℕ) (x : A) → F r x → G (suc r) x) where
+  pub under_takes : (room : ℕ) (ts : List Token) (x : A) (rest : List Token) → under parts room ts ≡ Ok (x, rest) → IsTaken (G room) P L ts x rest
   unfolding less
   under_takes zero ts x rest e = absurd cc
   under_takes (suc r) ts x rest e =
       let t = (p r).takes ts x rest e in record { fits = up r x t.fits; leaves = t.leaves; front = t.front; spelled = t.spelled; parts = t.parts }
 
-  under_again : (room : ℕ) (x : A) (xs rest : List Token) → G room x → P x xs → E x rest → under parts room (xs ++ rest) ≡ Ok (x, rest)
+module _ {A : Type 0} {parts : ℕ → Reading A} {F : ℕ → A → Type 0} (G : ℕ → A → Type 0) {P E : A → List Token → Type 0} (p : (r : ℕ) → IsWhole (parts r) (F r) P E) (down : (r : ℕ) (x : A) → G (suc r) x → F r x) (none : (x : A) → G zero x → ⊥) where
+  pub under_again : (room : ℕ) (x : A) (xs rest : List Token) → G room x → P x xs → E x rest → under parts room (xs ++ rest) ≡ Ok (x, rest)
   unfolding less
   under_again zero x xs rest fits d end = absurd (none x fits)
   under_again (suc r) x xs rest fits d end = (p r).again x xs rest (down r x fits) d end
 
-  -- what is one higher than its parts
-  pub under_law : (room : ℕ) → IsReader (under parts room) (G room) P L E
-  under_law room = record { takes = under_takes room; again = under_again room }
+-- parts one behind another
+abbrev pub Each : {A : Type 0} → (A → List Token → Type 0) → List A → List Token → Type 0
+Each P [] = Nothing
+Each P (x ∷ xs) = P x ⨾ Each P xs
+
+abbrev pub AllFit : {A : Type 0} → (A → Type 0) → List A → Type 0
+AllFit F [] = Unit {0}
+AllFit F (x ∷ xs) = F x × AllFit F xs
+
+none_taken : {A : Type 0} {F : A → Type 0} {P : A → List Token → Type 0} (ts : List Token) (all : List A) (rest : List Token) → done {A = List A × List Token} ([], ts) ≡ done (all, rest) → IsTaken (AllFit F) (Each P) Any ts all rest
+none_taken {A} {F} {P} ts all rest e =
+    subst (λ (z : List A × List Token). IsTaken (AllFit F) (Each P) Any ts z.0 z.1) (ok_is ([], ts) (all, rest) e)
+    (record { fits = tt; leaves = tt; front = []; spelled = refl; parts = refl })
+
+module _ {A : Type 0} (goes : List Token → Bool) {part : Reading A} {F : A → Type 0} {P L : A → List Token → Type 0} (p : IsSound part F P L) where
+  pub repeated_takes : (limit : ℕ) (ts : List Token) (all : List A) (rest : List Token) → repeated goes part limit ts ≡ Ok (all, rest) → IsTaken (AllFit F) (Each P) Any ts all rest
+  unfolding repeated
+  repeated_takes zero ts all rest e = none_taken ts all rest e
+  repeated_takes (suc limit) ts all rest e =
+      either_takes goes (made (λ v. v.0 ∷ v.1) (part & repeated goes part limit)) (λ l. Ok ([], l))
+      (λ us some r h f. made_takes (λ v. v.0 ∷ v.1) (both p (record { takes = repeated_takes limit })) (AllFit F) (Each P) Any (λ v f. f) (λ v xs d. d) (λ v r l. tt) us some r f)
+      (λ us some r h f. none_taken us some r f)
+      ts all rest e
+
+  pub each_sound : IsSound (each goes part) (AllFit F) (Each P) Any
+  each_sound = record { takes = λ ts all rest e. repeated_takes (length ts) ts all rest e }
 
 -- With more room the same is read.
 abbrev pub Keeps : {A : Type 0} → Reading A → Reading A → Type 0

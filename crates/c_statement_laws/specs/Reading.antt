@@ -9,11 +9,11 @@ use Rattle.c_reading.specs.declared.fault.Fault.TheVariants.{TooDeep}
 use Rattle.c_reading.specs.Reading.{Reading, misfit}
 use Rattle.c_reading.specs.Peeking.{is_sign_next, is_word_next, is_name_next, is_type_next, is_call_next}
 use Rattle.c_reading.specs.Tokens.{sign, word, placed_word}
-use Rattle.c_expressions.specs.Reading.{expression_at}
-use Rattle.c_statements.specs.declared.first.First.{First}
-use Rattle.c_statements.specs.declared.first.First.TheVariants as F
-use Rattle.c_statements.specs.Combining.{◌▷◌, ◌◁◌, ◌&◌, made, either, missing, there, each}
-use Rattle.c_statements.specs.Parts.{under, name, call, value, is_cell_next, set, local, start}
+use Rattle.c_expression_laws.specs.Reading.{expression_at}
+use Rattle.c_statement_laws.specs.declared.first.First.{First}
+use Rattle.c_statement_laws.specs.declared.first.First.TheVariants as F
+use Rattle.c_productions.specs.Combining.{◌▷◌, ◌◁◌, ◌&◌, made, either, missing, there, each}
+use Rattle.c_productions.specs.Parts.{under, name, call, value, is_cell_next, set, local, start}
 
 -- what begins, by the next two tokens; a local begins in a block alone
 abbrev pub first_word : List Token → First

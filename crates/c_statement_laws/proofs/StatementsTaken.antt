@@ -14,14 +14,14 @@ use Rattle.c_reading.specs.Reading.{◌>>=◌, misfit}
 use Rattle.c_reading.specs.Peeking.{is_sign_next, is_word_next, is_name_next, is_call_next}
 use Rattle.c_reading.specs.Tokens.{sign, word}
 use Rattle.c_reading.proofs.Laws.{done, ok_is, bind_ok}
-use Rattle.c_expressions.specs.Reading.{expression_at}
-use Rattle.c_statements.specs.declared.first.First.{First}
-use Rattle.c_statements.specs.declared.first.First.TheVariants as F
-use Rattle.c_statements.specs.Combining.{◌▷◌, ◌◁◌, ◌&◌, made, missing, there}
-use Rattle.c_statements.specs.Parts.{under, name, is_cell_next, local, start}
-use Rattle.c_statements.specs.Reading.{first_word, first_of, empty, call_statement, assign, store, break_statement, continue_statement, return_statement, branched, statements_of, Below, goes_on, items_in, block_in, else_in, branches_in, if_in, while_in, for_in, by_first, too_high, statement_at}
-use Rattle.c_statements.proofs.Laws.{chosen, IsTaken, IsSound, Any, after, before, both, made_takes, unless, under_takes, Each, AllFit, each_sound}
-use Rattle.c_statements.proofs.PartsTaken.{sign_mark, word_mark, sound_as, placed_word_sound, expression_sound, name_sound, call_sound, value_sound, set_sound, option_low, local_sound, start_sound, marked_takes}
+use Rattle.c_expression_laws.specs.Reading.{expression_at}
+use Rattle.c_statement_laws.specs.declared.first.First.{First}
+use Rattle.c_statement_laws.specs.declared.first.First.TheVariants as F
+use Rattle.c_productions.specs.Combining.{◌▷◌, ◌◁◌, ◌&◌, made, missing, there}
+use Rattle.c_productions.specs.Parts.{under, name, is_cell_next, local, start}
+use Rattle.c_statement_laws.specs.Reading.{first_word, first_of, empty, call_statement, assign, store, break_statement, continue_statement, return_statement, branched, statements_of, Below, goes_on, items_in, block_in, else_in, branches_in, if_in, while_in, for_in, by_first, too_high, statement_at}
+use Rattle.c_productions.proofs.Laws.{chosen, IsTaken, IsSound, Any, after, before, both, made_takes, unless, under_takes, Each, AllFit, each_sound}
+use Rattle.c_productions.proofs.PartsTaken.{sign_mark, word_mark, sound_as, placed_word_sound, expression_sound, name_sound, call_sound, value_sound, set_sound, option_low, local_sound, start_sound, marked_takes}
 
 -- no `else` is left behind an `if` without one
 abbrev pub Leaves : StatementTree → List Token → Type 0

@@ -18,14 +18,14 @@ use Rattle.c_reading.specs.Reading.{Reading}
 use Rattle.c_reading.specs.Peeking.{is_sign_next, is_word_next, is_name_next}
 use Rattle.c_reading.specs.Tokens.{word, integer_type, placed_name}
 use Rattle.c_reading.proofs.Tokens.{is_word_next-again}
-use Rattle.c_statements.specs.Combining.{◌▷◌, ◌&◌, made, either, missing, there, commas}
-use Rattle.c_declarations.proofs.Combining.{IsReader, IsTaken, Any, Whatever, after, before, both, made_takes, made_again, either_takes, either_first, either_second, only, ok_is}
-use Rattle.c_declarations.specs.Parameters.{named_by, named, joined, all_named}
-use Rattle.c_declarations.specs.Reading.{open_parameter, open_parameters, return_type, heading}
-use Rattle.c_declarations.proofs.Repeating.{placed}
-use Rattle.c_declarations.proofs.Listing.{Listed, Lists, listed}
-use Rattle.c_declarations.proofs.OfGlobals.{made_law}
-use Rattle.c_declarations.proofs.Readers.{sign_mark, word_mark, name_law, type_law, begun, left_filled, type_filled, other_sign, sign_no_word, sign_no_name, name_no_word, name_next, type_no_void}
+use Rattle.c_productions.specs.Combining.{◌▷◌, ◌&◌, made, either, missing, there, commas}
+use Rattle.c_productions.proofs.Combining.{IsReader, IsTaken, Any, Whatever, after, before, both, made_takes, made_again, either_takes, either_first, either_second, only, ok_is}
+use Rattle.c_declaration_laws.specs.Parameters.{named_by, named, joined, all_named}
+use Rattle.c_declaration_laws.specs.Reading.{open_parameter, open_parameters, return_type, heading}
+use Rattle.c_declaration_laws.proofs.Repeating.{placed}
+use Rattle.c_declaration_laws.proofs.Listing.{Listed, Lists, listed}
+use Rattle.c_declaration_laws.proofs.OfGlobals.{made_law}
+use Rattle.c_productions.proofs.Readers.{sign_mark, word_mark, name_law, type_law, begun, left_filled, type_filled, other_sign, sign_no_word, sign_no_name, name_no_word, name_next, type_no_void}
 
 -- ---- one parameter
 

@@ -20,15 +20,15 @@ use Rattle.c_reading.specs.Peeking.{is_sign, is_next, is_sign_next, is_word_next
 use Rattle.c_reading.specs.Tokens.{sign, placed_word, placed_name, integer_type}
 use Rattle.c_reading.proofs.Laws.{done, parts_behind}
 use Rattle.c_reading.proofs.Tokens.{is_sign_next-again, placed_word_again, placed_name_again, integer_type_again}
-use Rattle.c_expressions.specs.Operators.{Ends}
-use Rattle.c_expressions.specs.Reading.{expression_at}
-use Rattle.c_expressions.proofs.Continuing.{ends_behind}
-use Rattle.c_expressions.proofs.Laws.{expression_again}
-use Rattle.c_statements.specs.Combining.{◌▷◌, ◌◁◌, ◌&◌, made, repeated, each, commas}
-use Rattle.c_statements.specs.Parts.{less, name, arguments, call, value, is_cell_next, cell, place, set, local_value, local}
-use Rattle.c_statements.proofs.Laws.{IsWhole, Any, Whatever, after', before', both', made_again, only', either_first, either_second, under_again, Each, AllFit}
-use Rattle.c_statements.proofs.PartsTaken.{sign_mark}
-use Rattle.c_statements.proofs.Beginning.{expression_begins, not_sign, expression_no_call}
+use Rattle.c_expression_laws.specs.Operators.{Ends}
+use Rattle.c_expression_laws.specs.Reading.{expression_at}
+use Rattle.c_expression_laws.proofs.Continuing.{ends_behind}
+use Rattle.c_expression_laws.proofs.Laws.{expression_again}
+use Rattle.c_productions.specs.Combining.{◌▷◌, ◌◁◌, ◌&◌, made, repeated, each, commas}
+use Rattle.c_productions.specs.Parts.{less, name, arguments, call, value, is_cell_next, cell, place, set, local_value, local}
+use Rattle.c_productions.proofs.Laws.{IsWhole, Any, Whatever, after', before', both', made_again, only', either_first, either_second, under_again, Each, AllFit}
+use Rattle.c_productions.proofs.PartsTaken.{sign_mark}
+use Rattle.c_productions.proofs.Beginning.{expression_begins, not_sign, expression_no_call}
 
 placed_name_whole : IsWhole placed_name Whatever IsName Any
 placed_name_whole = record { again = λ x xs rest f d e. placed_name_again x xs rest d }

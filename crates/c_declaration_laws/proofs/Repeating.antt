@@ -5,9 +5,9 @@ use Rattle.std.specs.List.{AllByRecursion}
 use Rattle.c_tokens.specs.declared.token.Token.{Token}
 use Rattle.c_tree.specs.Parts.{◌⨾◌, Nothing, PlacedAt}
 use Rattle.c_reading.specs.Reading.{Reading, ◌>>=◌}
-use Rattle.c_statements.specs.Combining.{◌&◌, made, repeated, each}
-use Rattle.c_declarations.proofs.Combining.{IsReader, IsTaken, Any, done, ok_is, bind_ok, bind_is, chosen, Keeps, keeps_same, keeps_either, keeps_made, keeps_both}
-use Rattle.c_declarations.specs.Reading.{here, is_next_there}
+use Rattle.c_productions.specs.Combining.{◌&◌, made, repeated, each}
+use Rattle.c_productions.proofs.Combining.{IsReader, IsTaken, Any, done, ok_is, bind_ok, bind_is, chosen, Keeps, keeps_same, keeps_either, keeps_made, keeps_both}
+use Rattle.c_declaration_laws.specs.Reading.{here, is_next_there}
 
 -- Some part that is spelled has a token.
 abbrev pub IsFilled : {A : Type 0} → (A → List Token → Type 0) → Type 0

@@ -22,19 +22,19 @@ use Rattle.c_reading.specs.Peeking.{is_sign, is_word, is_sign_next, is_word_next
 use Rattle.c_reading.specs.Tokens.{sign, word, placed_word}
 use Rattle.c_reading.proofs.Laws.{done, parts_behind}
 use Rattle.c_reading.proofs.Tokens.{is_sign-true, sign_again, is_sign_next-again}
-use Rattle.c_expressions.specs.Operators.{binary_of, Ends}
-use Rattle.c_expressions.specs.Reading.{expression_at}
-use Rattle.c_expressions.proofs.Continuing.{ends_behind}
-use Rattle.c_statements.specs.declared.first.First.{First}
-use Rattle.c_statements.specs.declared.first.First.TheVariants as F
-use Rattle.c_statements.specs.Combining.{◌▷◌, ◌◁◌, ◌&◌, made, either, missing, there, each}
-use Rattle.c_statements.specs.Parts.{under, name, call, is_cell_next, local, start_local, start_set, start_nothing, start}
-use Rattle.c_statements.specs.Reading.{Below, goes_on, items_in, block_in, first_of, empty, call_statement, assign, store, break_statement, continue_statement, returned, return_statement, condition, step, statements_of, branched, else_in, branches_in, if_in, while_in, for_in, by_first, statement_at}
-use Rattle.c_statements.proofs.Laws.{IsWhole, Any, after', before', both', made_again, unless', EndsOption, Passes, Each, AllFit, either_first, either_second, under_again, bind_is}
-use Rattle.c_statements.proofs.PartsTaken.{sign_mark, word_mark}
-use Rattle.c_statements.proofs.Beginning.{expression_begins, not_sign}
-use Rattle.c_statements.proofs.PartsAgain.{Starts, starts_sign, starts_word, starts_placed, starts_name, starts_then, passes_is, type_whole, expression_whole, name_whole, value_whole, set_whole, name_no_int, Closed, closed_semicolon, option_fits, each_whole, call_again, local_again, placed_word_whole}
-use Rattle.c_statements.proofs.StatementsTaken.{Leaves, Low, SpellsBranches, LeavesBranches}
+use Rattle.c_expression_laws.specs.Operators.{binary_of, Ends}
+use Rattle.c_expression_laws.specs.Reading.{expression_at}
+use Rattle.c_expression_laws.proofs.Continuing.{ends_behind}
+use Rattle.c_statement_laws.specs.declared.first.First.{First}
+use Rattle.c_statement_laws.specs.declared.first.First.TheVariants as F
+use Rattle.c_productions.specs.Combining.{◌▷◌, ◌◁◌, ◌&◌, made, either, missing, there, each}
+use Rattle.c_productions.specs.Parts.{under, name, call, is_cell_next, local, start_local, start_set, start_nothing, start}
+use Rattle.c_statement_laws.specs.Reading.{Below, goes_on, items_in, block_in, first_of, empty, call_statement, assign, store, break_statement, continue_statement, returned, return_statement, condition, step, statements_of, branched, else_in, branches_in, if_in, while_in, for_in, by_first, statement_at}
+use Rattle.c_productions.proofs.Laws.{IsWhole, Any, after', before', both', made_again, unless', EndsOption, Passes, Each, AllFit, either_first, either_second, under_again, bind_is}
+use Rattle.c_productions.proofs.PartsTaken.{sign_mark, word_mark}
+use Rattle.c_productions.proofs.Beginning.{expression_begins, not_sign}
+use Rattle.c_productions.proofs.PartsAgain.{Starts, starts_sign, starts_word, starts_placed, starts_name, starts_then, passes_is, type_whole, expression_whole, name_whole, value_whole, set_whole, name_no_int, Closed, closed_semicolon, option_fits, each_whole, call_again, local_again, placed_word_whole}
+use Rattle.c_statement_laws.proofs.StatementsTaken.{Leaves, Low, SpellsBranches, LeavesBranches}
 
 -- ---- with which tokens the parts begin
 

@@ -16,11 +16,11 @@ use Rattle.c_reading.specs.declared.fault.Fault.{Fault}
 use Rattle.c_reading.specs.Reading.{Reading, ◌>>=◌, misfit}
 use Rattle.c_reading.specs.Peeking.{is_sign_next, is_word_next, is_name_next, is_call_next}
 use Rattle.c_reading.specs.Tokens.{sign, word, placed_name, constant, integer_type}
-use Rattle.c_expressions.specs.Reading.{expression_at}
-use Rattle.c_statements.specs.Combining.{◌▷◌, ◌◁◌, ◌&◌, made, either, missing, there, each, commas}
-use Rattle.c_statements.specs.Parts.{under}
-use Rattle.c_statements.specs.Reading.{block_in, statement_at}
-use Rattle.c_declarations.specs.Parameters.{all_named}
+use Rattle.c_expression_laws.specs.Reading.{expression_at}
+use Rattle.c_productions.specs.Combining.{◌▷◌, ◌◁◌, ◌&◌, made, either, missing, there, each, commas}
+use Rattle.c_productions.specs.Parts.{under}
+use Rattle.c_statement_laws.specs.Reading.{block_in, statement_at}
+use Rattle.c_declaration_laws.specs.Parameters.{all_named}
 
 -- where the next token begins, which is left
 abbrev pub here : Reading ℕ

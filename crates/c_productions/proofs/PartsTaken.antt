@@ -18,11 +18,11 @@ use Rattle.c_reading.specs.Peeking.{is_sign_next, is_type_next, is_call_next}
 use Rattle.c_reading.specs.Tokens.{sign, word, placed_word, placed_name, integer_type}
 use Rattle.c_reading.proofs.Laws.{done, ok_is, bind_ok}
 use Rattle.c_reading.proofs.Tokens.{sign_takes, sign_again, word_takes, word_again, placed_word_takes, placed_name_takes, integer_type_takes}
-use Rattle.c_expressions.specs.Reading.{expression_at}
-use Rattle.c_expressions.proofs.Laws.{expression_takes}
-use Rattle.c_statements.specs.Combining.{◌▷◌, ◌◁◌, ◌&◌, made, either, commas}
-use Rattle.c_statements.specs.Parts.{under, name, arguments, call, value, is_cell_next, cell, place, set, local_value, local, start_local, start_set, start_nothing, start}
-use Rattle.c_statements.proofs.Laws.{IsMark, IsTaken, IsSound, Any, Whatever, after, before, both, made_takes, either_takes, only, under_takes, Each, AllFit, each_sound}
+use Rattle.c_expression_laws.specs.Reading.{expression_at}
+use Rattle.c_expression_laws.proofs.Laws.{expression_takes}
+use Rattle.c_productions.specs.Combining.{◌▷◌, ◌◁◌, ◌&◌, made, either, commas}
+use Rattle.c_productions.specs.Parts.{under, name, arguments, call, value, is_cell_next, cell, place, set, local_value, local, start_local, start_set, start_nothing, start}
+use Rattle.c_productions.proofs.Laws.{IsMark, IsTaken, IsSound, Any, Whatever, after, before, both, made_takes, either_takes, only, under_takes, Each, AllFit, each_sound}
 
 pub sign_mark : (p : Punctuator) → IsMark (sign p) (Sign p)
 sign_mark p = record { takes = sign_takes p; again = sign_again p }

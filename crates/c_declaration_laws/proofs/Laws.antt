@@ -15,16 +15,16 @@ use Rattle.c_tree.specs.Declarations.{IsReturnType, IsDeclaration, AreDeclaratio
 use Rattle.c_tokens.specs.declared.punctuator.Punctuator.TheVariants.{LeftBrace}
 use Rattle.c_reading.specs.Reading.{Stays}
 use Rattle.c_reading.specs.Peeking.{is_sign_next}
-use Rattle.c_statements.specs.Combining.{made, repeated}
-use Rattle.c_statements.specs.Reading.{block_in, statement_at}
-use Rattle.c_declarations.proofs.Combining.{IsReader, Any, made_again, either_first, either_second, Keeps, keeps_same, keeps_made, keeps_either, keeps_under, stays_bind}
-use Rattle.c_declarations.specs.Reading.{heading, body, function, headed, callable, is_callable_next, global, declaration, is_next_there, declarations}
-use Rattle.c_declarations.specs.Parameters.{all_named}
-use Rattle.c_declarations.proofs.Repeating.{Many, Repeats, repeated_takes, repeated_again, keeps_each, repeated_whole}
-use Rattle.c_declarations.proofs.Readers.{left_filled, type_filled, word_filled}
-use Rattle.c_declarations.proofs.OfGlobals.{FitsInitializer, global_law, global_keeps}
-use Rattle.c_declarations.proofs.Functions.{IsHeading}
-use Rattle.c_declarations.proofs.Declaring.{IsBody, IsBehind, FitsBlock, FitsDeclaration, function_heading, function_split, prototype_split, heading_next, global_next, open_prototype, split_again, declaration_takes}
+use Rattle.c_productions.specs.Combining.{made, repeated}
+use Rattle.c_statement_laws.specs.Reading.{block_in, statement_at}
+use Rattle.c_productions.proofs.Combining.{IsReader, Any, made_again, either_first, either_second, Keeps, keeps_same, keeps_made, keeps_either, keeps_under, stays_bind}
+use Rattle.c_declaration_laws.specs.Reading.{heading, body, function, headed, callable, is_callable_next, global, declaration, is_next_there, declarations}
+use Rattle.c_declaration_laws.specs.Parameters.{all_named}
+use Rattle.c_declaration_laws.proofs.Repeating.{Many, Repeats, repeated_takes, repeated_again, keeps_each, repeated_whole}
+use Rattle.c_productions.proofs.Readers.{left_filled, type_filled, word_filled}
+use Rattle.c_declaration_laws.proofs.OfGlobals.{FitsInitializer, global_law, global_keeps}
+use Rattle.c_declaration_laws.proofs.Functions.{IsHeading}
+use Rattle.c_declaration_laws.proofs.Declaring.{IsBody, IsBehind, FitsBlock, FitsDeclaration, function_heading, function_split, prototype_split, heading_next, global_next, open_prototype, split_again, declaration_takes}
 
 return_filled : (r : ReturnType) → IsReturnType r [] → ⊥
 return_filled R.Void s = word_filled K.Void s

@@ -8,12 +8,12 @@ use Rattle.c_tree.specs.Parts.{Sign, ◌⨾◌}
 use Rattle.c_tree.specs.Statements.{AreStatements}
 use Rattle.c_tree.specs.Heights.{statements_height}
 use Rattle.c_reading.specs.Reading.{Stays}
-use Rattle.c_statements.specs.Reading.{block_in, statement_at}
-use Rattle.c_statements.proofs.Laws.{IsTaken, Any}
-use Rattle.c_statements.proofs.StatementsTaken.{block_sound, statement_sound}
-use Rattle.c_statements.proofs.StatementsAgain as again
-use Rattle.c_statements.proofs.StatementsAgain.{statement_whole}
-use Rattle.c_statements.proofs.Stays.{block_keeps, statement_keeps}
+use Rattle.c_statement_laws.specs.Reading.{block_in, statement_at}
+use Rattle.c_productions.proofs.Laws.{IsTaken, Any}
+use Rattle.c_statement_laws.proofs.StatementsTaken.{block_sound, statement_sound}
+use Rattle.c_statement_laws.proofs.StatementsAgain as again
+use Rattle.c_statement_laws.proofs.StatementsAgain.{statement_whole}
+use Rattle.c_statement_laws.proofs.Stays.{block_keeps, statement_keeps}
 
 abbrev pub IsBlock : StatementsTree → List Token → Type 0
 IsBlock ss = Sign LeftBrace ⨾ (AreStatements ss ⨾ Sign RightBrace)

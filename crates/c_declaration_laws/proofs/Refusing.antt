@@ -10,12 +10,12 @@ use Rattle.c_tree.specs.Declarations.{AreDeclarations}
 use Rattle.c_reading.specs.declared.fault.Fault.{Fault}
 use Rattle.c_reading.specs.declared.fault.Fault.TheVariants.{Syntax}
 use Rattle.c_reading.specs.Reading.{Stays}
-use Rattle.c_statements.specs.Reading.{block_in, statement_at}
-use Rattle.c_declarations.proofs.Combining.{IsReader, Any, Keeps}
-use Rattle.c_declarations.specs.Reading.{declarations}
-use Rattle.c_declarations.proofs.OfGlobals.{FitsInitial, FitsInitializer}
-use Rattle.c_declarations.proofs.Declaring.{IsBody, FitsBlock, FitsDeclaration}
-use Rattle.c_declarations.proofs.Laws.{declarations_again, declarations_stays, low_declarations}
+use Rattle.c_statement_laws.specs.Reading.{block_in, statement_at}
+use Rattle.c_productions.proofs.Combining.{IsReader, Any, Keeps}
+use Rattle.c_declaration_laws.specs.Reading.{declarations}
+use Rattle.c_declaration_laws.proofs.OfGlobals.{FitsInitial, FitsInitializer}
+use Rattle.c_declaration_laws.proofs.Declaring.{IsBody, FitsBlock, FitsDeclaration}
+use Rattle.c_declaration_laws.proofs.Laws.{declarations_again, declarations_stays, low_declarations}
 
 -- ---- each tree fits some room
 

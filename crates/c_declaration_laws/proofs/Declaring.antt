@@ -17,14 +17,14 @@ use Rattle.c_reading.specs.Reading.{Reading, misfit}
 use Rattle.c_reading.specs.Peeking.{is_sign_next, is_word_next, is_call_next}
 use Rattle.c_reading.specs.Tokens.{sign, integer_type}
 use Rattle.c_reading.proofs.Tokens.{is_sign_next-again, is_word_next-again, integer_type_again}
-use Rattle.c_statements.specs.Combining.{◌▷◌, made}
-use Rattle.c_statements.specs.Reading.{block_in, statement_at}
-use Rattle.c_declarations.proofs.Combining.{IsReader, IsTaken, Any, after, made_takes, made_again, either_takes, either_first, either_second, bind_ok, bind_is, under_law}
-use Rattle.c_declarations.specs.Parameters.{all_named}
-use Rattle.c_declarations.specs.Reading.{heading, body, function, headed, callable, is_callable_next, global, declaration}
-use Rattle.c_declarations.proofs.Readers.{sign_mark, begun, other_sign, name_no_word, type_no_void}
-use Rattle.c_declarations.proofs.OfGlobals.{FitsGlobal, IsGlobal, global_law}
-use Rattle.c_declarations.proofs.Functions.{IsHeading, heading_law, nothing_law, alone, with_nothing, opened, opened_named, named_parameters, open_parameters_spelled}
+use Rattle.c_productions.specs.Combining.{◌▷◌, made}
+use Rattle.c_statement_laws.specs.Reading.{block_in, statement_at}
+use Rattle.c_productions.proofs.Combining.{IsReader, IsTaken, Any, after, made_takes, made_again, either_takes, either_first, either_second, bind_ok, bind_is, under_law}
+use Rattle.c_declaration_laws.specs.Parameters.{all_named}
+use Rattle.c_declaration_laws.specs.Reading.{heading, body, function, headed, callable, is_callable_next, global, declaration}
+use Rattle.c_productions.proofs.Readers.{sign_mark, begun, other_sign, name_no_word, type_no_void}
+use Rattle.c_declaration_laws.proofs.OfGlobals.{FitsGlobal, IsGlobal, global_law}
+use Rattle.c_declaration_laws.proofs.Functions.{IsHeading, heading_law, nothing_law, alone, with_nothing, opened, opened_named, named_parameters, open_parameters_spelled}
 
 -- ---- parts behind one another, grouped otherwise
 

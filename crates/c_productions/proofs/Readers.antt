@@ -23,10 +23,10 @@ use Rattle.c_reading.specs.Reading.{Takes}
 use Rattle.c_reading.specs.Peeking.{is_sign, is_sign_next, is_word_next, is_name_next}
 use Rattle.c_reading.specs.Tokens.{sign, word, placed_name, constant, integer_type}
 use Rattle.c_reading.proofs.Tokens.{sign_takes, sign_again, word_takes, word_again, placed_name_takes, placed_name_again, constant_takes, constant_again, integer_type_takes, integer_type_again}
-use Rattle.c_expressions.specs.Operators.{Ends}
-use Rattle.c_expressions.specs.Reading.{expression_at}
-use Rattle.c_expressions.proofs.Laws.{expression_takes, expression_again}
-use Rattle.c_declarations.proofs.Combining.{IsMark, IsReader, IsTaken, Any, Whatever}
+use Rattle.c_expression_laws.specs.Operators.{Ends}
+use Rattle.c_expression_laws.specs.Reading.{expression_at}
+use Rattle.c_expression_laws.proofs.Laws.{expression_takes, expression_again}
+use Rattle.c_productions.proofs.Combining.{IsMark, IsReader, IsTaken, Any, Whatever}
 
 pub sign_mark : (p : Punctuator) → IsMark (sign p) (Sign p)
 sign_mark p = record { takes = sign_takes p; again = sign_again p }

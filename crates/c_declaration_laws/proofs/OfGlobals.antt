@@ -16,15 +16,15 @@ use Rattle.c_reading.specs.Reading.{Reading}
 use Rattle.c_reading.specs.Peeking.{is_sign_next, is_word_next}
 use Rattle.c_reading.specs.Tokens.{sign, integer_type, placed_name}
 use Rattle.c_reading.proofs.Tokens.{is_sign_next-again}
-use Rattle.c_expressions.specs.Operators.{Ends}
-use Rattle.c_expressions.proofs.Continuing.{ends_behind}
-use Rattle.c_expressions.proofs.Laws.{expression_stays}
-use Rattle.c_statements.specs.Combining.{◌▷◌, ◌◁◌, made, missing, commas}
-use Rattle.c_declarations.proofs.Combining.{IsReader, Any, Whatever, EndsOption, after, before, both, made_takes, made_again, either_takes, either_first, either_second, only, Keeps, keeps_same, keeps_after, keeps_before, keeps_both, keeps_made, keeps_either}
-use Rattle.c_declarations.specs.Reading.{here, initial, initializer, size, beginning, global}
-use Rattle.c_declarations.proofs.Repeating.{placed}
-use Rattle.c_declarations.proofs.Listing.{Listed, Lists, listed, keeps_commas}
-use Rattle.c_declarations.proofs.Readers.{sign_mark, constant_law, name_law, type_law, expression_law, begun, expression_filled, other_sign, name_no_word, expression_no_brace}
+use Rattle.c_expression_laws.specs.Operators.{Ends}
+use Rattle.c_expression_laws.proofs.Continuing.{ends_behind}
+use Rattle.c_expression_laws.proofs.Laws.{expression_stays}
+use Rattle.c_productions.specs.Combining.{◌▷◌, ◌◁◌, made, missing, commas}
+use Rattle.c_productions.proofs.Combining.{IsReader, Any, Whatever, EndsOption, after, before, both, made_takes, made_again, either_takes, either_first, either_second, only, Keeps, keeps_same, keeps_after, keeps_before, keeps_both, keeps_made, keeps_either}
+use Rattle.c_declaration_laws.specs.Reading.{here, initial, initializer, size, beginning, global}
+use Rattle.c_declaration_laws.proofs.Repeating.{placed}
+use Rattle.c_declaration_laws.proofs.Listing.{Listed, Lists, listed, keeps_commas}
+use Rattle.c_productions.proofs.Readers.{sign_mark, constant_law, name_law, type_law, expression_law, begun, expression_filled, other_sign, name_no_word, expression_no_brace}
 
 -- a part that is made into a value from which it is had back
 module _ {A B : Type 0} (make : A → B) (back : B → A) (same : (y : B) → make (back y) ≡ y) {part : Reading A} {F : A → Type 0} {P L E : A → List Token → Type 0} (p : IsReader part F P L E) (G : B → Type 0) (Q D : B → List Token → Type 0) (fits : (x : A) → F x → G (make x)) (spells : (x : A) (xs : List Token) → P x xs → Q (make x) xs) (fit : (y : B) → G y → F (back y)) (spell : (y : B) (xs : List Token) → Q y xs → P (back y) xs) (end : (y : B) (rest : List Token) → D y rest → E (back y) rest) where

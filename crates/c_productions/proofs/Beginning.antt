@@ -18,7 +18,7 @@ use Rattle.c_tree.specs.Expressions.{IsExpressionAt}
 use Rattle.c_reading.specs.Peeking.{is_sign, is_name, is_next, is_sign_next, is_call_next}
 use Rattle.c_reading.proofs.Laws.{parts_behind}
 use Rattle.c_reading.proofs.Tokens.{is_sign-true}
-use Rattle.c_expressions.specs.Operators.{begins_operand}
+use Rattle.c_expression_laws.specs.Operators.{begins_operand}
 
 abbrev pub Begins : List Token → Type 0
 Begins xs = is_next begins_operand xs ≡ true

@@ -1,0 +1,4 @@
+pub mod StatementsTaken
+pub mod Stays
+pub mod StatementsAgain
+pub mod Body
