@@ -17,7 +17,7 @@ use lang::Row;
 use std::alloc::Global;
 
 /// A body is as high as the block that it is.
-#[tactic(auto, unfolding(c_declaration_laws::specs::Reading::body, c_statements::specs::Parts::less))]
+#[tactic(auto, unfolding(c_declaration_laws::specs::Reading::body, c_productions::specs::Parts::less))]
 fn read_body(alloc: Global, tokens: &[Token]) -> Result<(Vec<Statement>, &[Token]), Fault>
     ensures ok { IfOk result (λ r. body highest tokens.now ≡ Ok (statements_tree r.0.items, r.1.now)) }
     ensures err { IfErr result (λ e. e ≢ Fault.NoMemory → body highest tokens.now ≡ Err e) }
