@@ -1,5 +1,5 @@
 -- What is read is spelled by the tokens, and low; and where nothing is read, nothing is.
-use Rattle.std.proofs.Common.{◌≡◌, ℕ, ◌≤◌, List, Result, Ok, Err}
+use Rattle.std.proofs.Common.{◌≡◌, ℕ, ◌≤◌, List, Ok}
 use Rattle.std.specs.List.{AllByRecursion}
 use Rattle.c_tokens.specs.declared.token.Token.{Token}
 use Rattle.c_tree.specs.Trees.{DeclarationTree}

@@ -1,5 +1,5 @@
 -- What a refusal tells of a reading.
-use Rattle.std.specs.Prelude.{◌≡◌, ℕ, Option, Result, Ok, Err}
+use Rattle.std.specs.Prelude.{◌≡◌, ℕ, Option, Result, Err}
 use Rattle.c_reading.specs.declared.fault.Fault.{Fault}
 use Rattle.c_reading.specs.declared.fault.Fault.TheVariants as F
 use Rattle.c_reader.specs.declared.errors.ReadError.{ReadError}

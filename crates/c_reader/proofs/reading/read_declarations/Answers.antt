@@ -1,4 +1,4 @@
-use Rattle.std.proofs.Common.{◌≡◌, true, false, length, map, sym, ◌∙◌, rules}
+use Rattle.std.proofs.Common.{◌≡◌, true, false, length, map, rules}
 use Rattle.std.proofs.lemmas.List.{map-append}
 use Rattle.c_tree.specs.Heights.{highest}
 use Rattle.c_tree.specs.Views.{declaration_tree}
