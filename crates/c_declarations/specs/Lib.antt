@@ -1,3 +1,2 @@
-
 pub use Rattle.c_declaration_laws.specs.Parameters
 pub use Rattle.c_declaration_laws.specs.Reading

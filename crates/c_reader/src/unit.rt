@@ -15,7 +15,6 @@ impl Model for Unit {
     ghost use Rattle.c_tree.specs.Heights.{IsLow};
     ghost use Rattle.c_reader.specs.Units.{Contents};
     ghost use Rattle.c_tree.specs.Views.{declaration_tree};
-
     ghost use Rattle.c_tree.specs.contracts.declaration.Declaration as d;
     ghost use Rattle.std.specs.Coded.{codes};
 

@@ -1,4 +1,3 @@
-
 pub use Rattle.c_productions.specs.Combining
 pub use Rattle.c_productions.specs.Parts
 pub use Rattle.c_statement_laws.specs.Reading

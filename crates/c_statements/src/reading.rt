@@ -7,7 +7,6 @@ ghost use Rattle.c_productions.specs.Combining.{made};
 ghost use Rattle.c_productions.specs.Parts.{local};
 ghost use Rattle.c_statement_laws.specs.Reading.{first_word, first_of, empty, call_statement, assign, store, break_statement, continue_statement, returned, return_statement, condition, step, branched, items_in, block_in, branches_in, if_in, while_in, for_in, by_first, too_high, statement_at};
 
-use c_statement_laws::First;
 use crate::parts::{
     is_cell_next, one_less, read_call, read_local, read_name_in, read_set, read_start, read_value,
 };
@@ -16,6 +15,7 @@ use c_reading::{
     Fault, is_call_next, is_name_next, is_sign_next, is_type_next, is_word_next, misfit,
     read_placed_word, read_sign, read_word,
 };
+use c_statement_laws::First;
 use c_tokens::{Keyword, Punctuator, Token};
 use c_tree::{Expression, Set, Statement, Value};
 use std::alloc::Global;

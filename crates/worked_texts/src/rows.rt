@@ -47,7 +47,11 @@ fn refusals_of_small_texts(rt: HostRuntime) -> Result<(), Fail> {
     check_main(&rt, "return 2147483648;", "203 LiteralRange at 22")?;
     check_main(&rt, "return 0x80000000;", "ok")?;
     check_main(&rt, "return 2147483648u;", "ok")?;
-    check_main(&rt, "int x=1; int y=0; if(x) if(y) return 1; else return 2; return 3;", "ok")?;
+    check_main(
+        &rt,
+        "int x=1; int y=0; if(x) if(y) return 1; else return 2; return 3;",
+        "ok",
+    )?;
     Ok(())
 }
 
