@@ -1,5 +1,5 @@
 -- What no call of a node changes.
-use Rattle.std.proofs.Common.{◌≡◌, ℕ, Bool, cond, List, set, length, Option, Some, None, refl, ◌∙◌}
+use Rattle.std.proofs.Common.{◌≡◌, ℕ, Bool, cond, length, Option, Some, None, refl, ◌∙◌}
 use Rattle.std.proofs.Math.ListN.{length-set}
 use Rattle.std.proofs.lemmas.Bool.{cond_both}
 use Rattle.paxos_world.specs.KeptPart.{KeptPart, vote}

@@ -1,6 +1,6 @@
 -- A node learns exactly once the votes noted of a majority have had one ballot.
-use Rattle.std.proofs.Common.{◌≡◌, ℕ, suc, ◌+◌, ◌*◌, ◌<◌, ◌≤◌, ◌⊎◌, Bool, true, false, cond, ◌&&◌, ltb, eqb, List, [], ◌∷◌, ◌++◌, set, length, Option, Some, None, is_some, IsTrue, IsSome, refl, sym, ap, ◌∙◌, subst, inl, inr, arith}
-use Rattle.std.proofs.lemmas.Bool.{ltb-true, lt-ltb, eqb-true, eq-eqb, and_parts, cases_eq}
+use Rattle.std.proofs.Common.{◌≡◌, ℕ, ◌*◌, ◌<◌, ◌≤◌, ◌⊎◌, Bool, true, false, cond, ◌&&◌, ltb, List, [], ◌∷◌, ◌++◌, length, Option, Some, None, IsTrue, IsSome, refl, sym, ap, ◌∙◌, subst, inl, inr, arith}
+use Rattle.std.proofs.lemmas.Bool.{ltb-true, lt-ltb, eq-eqb, and_parts, cases_eq}
 use Rattle.std.proofs.lemmas.List.{get_or-set_same}
 use Rattle.paxos_world.specs.KeptPart.{KeptPart, vote}
 use Rattle.paxos_world.specs.Quorum.{count_below, IsQuorum}

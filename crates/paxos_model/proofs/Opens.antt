@@ -1,5 +1,5 @@
 -- The opening world of settled kept parts has the invariant.
-use Rattle.std.proofs.Common.{◌≡◌, ℕ, zero, suc, ◌<◌, ◌≤◌, ◌%◌, ◌⊎◌, Bool, true, false, not, IsTrue, List, [], ◌∷◌, ◌++◌, Option, Some, None, inl, inr, refl, sym, ap, subst, ◌∙◌, arith, eqb, leb-true, ltb-true, eq-eqb, eqb-true, nat_lt}
+use Rattle.std.proofs.Common.{◌≡◌, ℕ, zero, suc, ◌<◌, ◌≤◌, ◌%◌, ◌⊎◌, Bool, true, false, not, IsTrue, ◌++◌, Option, Some, None, inl, inr, refl, sym, ap, subst, ◌∙◌, arith, eqb, leb-true, ltb-true, eq-eqb, eqb-true, nat_lt}
 use Rattle.std.proofs.lemmas.Bool.{cases_eq, and_parts, and_from}
 use Rattle.paxos_world.specs.Ballot.{Owns}
 use Rattle.paxos_world.specs.KeptPart.{KeptPart, vote}
@@ -10,25 +10,12 @@ use Rattle.paxos_world.specs.World.{Has, opening, shown, shown_start, shown_vote
 use Rattle.paxos_world.specs.declared.msg.Msg.{Msg}
 use Rattle.paxos_world.specs.declared.msg.Msg.TheVariants.{Prepare, Promise, Propose, Accepted}
 use Rattle.paxos_world.specs.declared.vote.Vote.{Vote}
+use Rattle.paxos_world.proofs.Sent.{has-append, has-append_left, has-append_right}
 use Rattle.paxos_model.proofs.Invariant.{Invariant, VoteKept, Backed, IsPassed}
 use Rattle.paxos_model.proofs.Keeps.{within_at}
 use Rattle.paxos_model.proofs.Quorums.{find_below}
 
 -- ---- the messages that kept parts show
-
-has-append : {A : Type 0} (x : A) (xs ys : List A) → Has x (xs ++ ys) → Has x xs ⊎ Has x ys
-has-append x [] ys h = inr h
-has-append x (y ∷ xs) ys (inl e) = inl (inl e)
-has-append x (y ∷ xs) ys (inr h) = elim (has-append x xs ys h) [ inl old ↦ inl (inr old) | inr new ↦ inr new ]
-
-has-append_left : {A : Type 0} (x : A) (xs ys : List A) → Has x xs → Has x (xs ++ ys)
-has-append_left x (y ∷ xs) ys (inl e) = inl e
-has-append_left x (y ∷ xs) ys (inr h) = inr (has-append_left x xs ys h)
-has-append_left x [] ys h = absurd h
-
-has-append_right : {A : Type 0} (x : A) (xs ys : List A) → Has x ys → Has x (xs ++ ys)
-has-append_right x [] ys h = h
-has-append_right x (y ∷ xs) ys h = inr (has-append_right x xs ys h)
 
 -- node i's kept part shows this message: it is the Prepare of its started ballot, or the Accepted of its vote
 abbrev pub ShownBy : ℕ → KeptPart → Msg → Type 0

@@ -1,7 +1,8 @@
 -- Quorums meet: two sets of more than half of the nodes share one.
-use Rattle.std.proofs.Common.{◌≡◌, ℕ, zero, suc, ◌+◌, ◌<◌, ◌≤◌, ◌⊎◌, Bool, true, false, IsTrue, if◌then◌else◌, inl, inr, refl, sym, subst, arith, eqb, eqb-true}
+use Rattle.std.proofs.Common.{◌≡◌, ℕ, zero, suc, ◌+◌, ◌<◌, ◌⊎◌, Bool, true, false, IsTrue, if◌then◌else◌, inl, inr, refl, sym, subst, arith, eqb, eqb-true}
 use Rattle.std.proofs.lemmas.Bool.{eqb-false}
 use Rattle.paxos_world.specs.Quorum.{count_below, IsQuorum}
+use Rattle.paxos_world.proofs.Counting.{count_grows}
 
 -- a node in both sets
 pub record Shared (n : ℕ) (p q : ℕ → Bool) : Type 0 where
@@ -29,20 +30,7 @@ meet_below (suc n) p q h = meet_step n p q (meet_below n p q) (p n) (q n) refl r
 pub meet : (n : ℕ) (p q : ℕ → Bool) → IsQuorum n p → IsQuorum n q → Shared n p q
 meet n p q h k = meet_below n p q (omega arith)
 
--- a set that includes another has at least as many nodes
-count_step : (x y : Bool) → (x ≡ true → y ≡ true) → (if x then 1 else 0) ≤ (if y then 1 else 0)
-count_step true true h = omega arith
-count_step true false h = absurd (let e : false ≡ true = h refl in cc)
-count_step false true h = omega arith
-count_step false false h = omega arith
-
-count_grows : (n : ℕ) (p q : ℕ → Bool) → ((a : ℕ) → a < n → IsTrue (p a) → IsTrue (q a)) → count_below n p ≤ count_below n q
-count_grows zero p q h = omega arith
-count_grows (suc n) p q h =
-    let here = count_step (p n) (q n) (h n (omega arith)) in
-    let rest = count_grows n p q (λ a l. h a (omega arith)) in
-    omega arith
-
+-- a set that includes a quorum is one
 pub quorum_grows : (n : ℕ) (p q : ℕ → Bool) → ((a : ℕ) → a < n → IsTrue (p a) → IsTrue (q a)) → IsQuorum n p → IsQuorum n q
 quorum_grows n p q h k = let more = count_grows n p q h in omega arith
 

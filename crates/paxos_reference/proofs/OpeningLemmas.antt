@@ -1,14 +1,10 @@
 -- An opening shows no proposal.
-use Rattle.std.proofs.Common.{ℕ, zero, suc, ◌⊎◌, List, [], ◌∷◌, ◌++◌, Option, Some, None, inl, inr}
+use Rattle.std.proofs.Common.{ℕ, zero, suc, ◌++◌, Option, Some, None, inl, inr}
 use Rattle.paxos_world.specs.KeptPart.{KeptPart}
+use Rattle.paxos_world.proofs.Sent.{has-append}
 use Rattle.paxos_world.specs.World.{Has, shown, shown_start, shown_vote}
 use Rattle.paxos_world.specs.declared.msg.Msg.TheVariants.{Propose}
 use Rattle.paxos_world.specs.declared.vote.Vote.{Vote}
-
-has-append : {A : Type 0} (x : A) (xs ys : List A) → Has x (xs ++ ys) → Has x xs ⊎ Has x ys
-has-append x [] ys h = inr h
-has-append x (y ∷ xs) ys (inl e) = inl (inl e)
-has-append x (y ∷ xs) ys (inr h) = elim (has-append x xs ys h) [ inl old ↦ inl (inr old) | inr new ↦ inr new ]
 
 start_shows_none : (s b v : ℕ) → Has (Propose b v) (shown_start s) → ⊥
 start_shows_none zero b v h = h
