@@ -22,9 +22,13 @@ impl CoreError {
 }
 
 impl fmt::Display for CoreError {
+    ghost use Rattle.std.specs.Prelude.{Some, codes};
+
+    ghost output = { λ _. Some (codes "501 BallotsSpent") };
+
     fn fmt<W: fmt::Write>(&self, f: &mut fmt::Formatter<W>) -> fmt::Result {
         match self {
-            CoreError::BallotsSpent => write!(f, "{} BallotsSpent", self.number()),
+            CoreError::BallotsSpent => write!(f, "501 BallotsSpent"),
         }
     }
 }
