@@ -19,7 +19,7 @@ all_behind P [] y all h = (h, tt)
 all_behind P (x ∷ xs) y (first, all) h = (first, all_behind P xs y all h)
 
 -- one more that is none of them
-distinct_behind : {A : Type 0} (xs : List A) (y : A) → AreDistinct xs → AllByRecursion (λ x. x ≢ y) xs → AreDistinct (xs ++ y ∷ [])
+pub distinct_behind : {A : Type 0} (xs : List A) (y : A) → AreDistinct xs → AllByRecursion (λ x. x ≢ y) xs → AreDistinct (xs ++ y ∷ [])
 distinct_behind [] y distinct others = (tt, tt)
 distinct_behind (x ∷ xs) y (here, distinct) (other, others) =
     (all_behind (λ z. x ≢ z) xs y here other, distinct_behind xs y distinct others)

@@ -1,2 +1,3 @@
 mod FallingLemmas
+mod ListingLemmas
 mod ReadingLemmas

@@ -29,22 +29,6 @@ fn offer_in(
     Ok(Offer::known(input, output, order))
 }
 
-/// The function laid out in the order that is proposed or, where that is not allowed, with the nodes
-/// that are reached rising.
-fn offer_by(
-    alloc: Global,
-    function: &Function,
-    proposed: Vec<u16>,
-) -> Result<Offer<Linearize>, NoMemory>
-    ensures { IfOk result (λ offer. offer.input ≡ function.now) }
-{
-    let input = Ltl::copy(alloc, function)?;
-    match arrange(alloc, &input, proposed)? {
-        Some((output, order)) => Ok(Offer::known(input, output, order)),
-        None => offer_in(alloc, function, rising(alloc, function)?),
-    }
-}
-
 /// The offer of a node, which lists the nodes that are reached in its own order: node 0 rising, node 1
 /// falling, and any other depth first.
 fn offer_of(alloc: Global, node: u8, function: &Function) -> Result<Offer<Linearize>, NoMemory>
@@ -54,7 +38,7 @@ fn offer_of(alloc: Global, node: u8, function: &Function) -> Result<Offer<Linear
     match node {
         0 => offer_in(alloc, function, rising(alloc, function)?),
         1 => offer_in(alloc, function, falling(alloc, function)?),
-        _ => offer_by(alloc, function, depth_first(alloc, function)?),
+        _ => offer_in(alloc, function, depth_first(alloc, function)?),
     }
 }
 

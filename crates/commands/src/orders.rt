@@ -1,12 +1,13 @@
 //! The orders in which the three nodes list a function's reachable nodes, the entry first.
 
-ghost use Rattle.std.specs.Prelude.{◌≡◌, ℕ, List, ◌∷◌, reverse, IfOk};
+ghost use Rattle.std.specs.Prelude.{◌≡◌, ◌<◌, ℕ, List, [], ◌∷◌, ◌++◌, length, reverse, Some, true, false, slice_get, slice_set, IfOk, OnOk};
+ghost use Rattle.linearize_check.specs.Layout.{successors, successors_of};
 ghost use Rattle.linearize_check.specs.Orders.{IsOrder};
-ghost use Rattle.commands.specs.NodeOrders.{IsFalling};
+ghost use Rattle.commands.specs.NodeOrders.{IsFalling, IsListOfReached};
 
 use lang::NoMemory;
 use linearize_check::rising;
-use ltl::{Body, Function};
+use ltl::{Block, Body, Function};
 use std::alloc::{AllocError, Global};
 
 /// The others in falling order.
@@ -32,33 +33,55 @@ fn with_others_reversed(alloc: Global, nodes: &[u16]) -> Result<Vec<u16>, AllocE
 }
 
 /// Depth first, with the second successor of a branch first. The stack is on the heap, and holds each
-/// node at most once for each edge to it. Nothing is promised of the order: what is no order of all
-/// that is reached is not laid out.
-pub fn depth_first(alloc: Global, function: &Function) -> Result<Vec<u16>, NoMemory> {
+/// node at most once for each edge to it.
+pub fn depth_first(alloc: Global, function: &Function) -> Result<Vec<u16>, NoMemory>
+    ensures reached { IfOk result (λ order. IsListOfReached function.now order.items) }
+    ensures allowed { IfOk result (λ order. IsOrder function.now order.items) }
+{
     let blocks = function.blocks().as_slice();
-    let mut listed = vec![in alloc; false; blocks.len()]?;
+    let mut marks = vec![in alloc; false; blocks.len()]?;
     let mut order = Vec::new(alloc);
-    let mut stack = vec![in alloc; function.entry()]?;
-    // Each listed node pushes at most two, so there are no more turns than this.
-    for _ in 0..=2 * blocks.len() {
-        let Some(node) = stack.pop() else { break };
-        let place = usize::from(node);
-        if place < listed.len() && !listed[place] {
-            listed[place] = true;
-            order.push(node)?;
-            push_successors(&mut stack, &blocks[place].body)?;
-        }
+    let mut pending = Vec::new(alloc);
+    pending.push(function.entry())?;
+    while let Some(node) = pending.pop() {
+        visit(&mut order, &mut marks, &mut pending, blocks, node)?;
     }
     Ok(order)
 }
 
+/// Where the node has no mark, marks and lists it, and puts its successors on the stack.
+fn visit(
+    order: &mut Vec<u16>,
+    marks: &mut Vec<bool>,
+    pending: &mut Vec<u16>,
+    blocks: &[Block],
+    node: u16,
+) -> Result<(), NoMemory>
+    requires node { node < length blocks.now }
+    requires marks { length marks.old.items ≡ length blocks.now }
+    ensures seen { slice_get marks.old.items node ≡ Some true → OnOk result ((marks.new.items ≡ marks.old.items)
+        × (pending.new.items ≡ pending.old.items) × (order.new.items ≡ order.old.items)) }
+    ensures first { slice_get marks.old.items node ≡ Some false → OnOk result ((marks.new.items ≡ slice_set marks.old.items node true)
+        × (pending.new.items ≡ pending.old.items ++ successors_of (slice_get blocks.now node)) × (order.new.items ≡ order.old.items ++ node ∷ [])) }
+{
+    let place = usize::from(node);
+    if !marks[place] {
+        marks[place] = true;
+        order.push(node)?;
+        push_successors(pending, &blocks[place].body)?;
+    }
+    Ok(())
+}
+
 /// The successor that is to be listed first is pushed last.
-fn push_successors(stack: &mut Vec<u16>, body: &Body) -> Result<(), NoMemory> {
+fn push_successors(pending: &mut Vec<u16>, body: &Body) -> Result<(), NoMemory>
+    ensures { OnOk result (pending.new.items ≡ pending.old.items ++ successors body.now) }
+{
     match body {
-        Body::Go { successor, .. } => stack.push(*successor)?,
+        Body::Go { successor, .. } => pending.push(*successor)?,
         Body::Branch { taken, other, .. } => {
-            stack.push(*taken)?;
-            stack.push(*other)?;
+            pending.push(*taken)?;
+            pending.push(*other)?;
         }
         Body::Return { .. } => {}
     }

@@ -37,7 +37,8 @@ unmarked [] = 0
 unmarked (true ∷ ms) = unmarked ms
 unmarked (false ∷ ms) = suc (unmarked ms)
 
-unmarked-set : (marks : List Bool) (n : ℕ) → slice_get marks n ≡ Some false → unmarked (slice_set marks n true) + 1 ≡ unmarked marks
+-- one mark more
+pub unmarked-set : (marks : List Bool) (n : ℕ) → slice_get marks n ≡ Some false → unmarked (slice_set marks n true) + 1 ≡ unmarked marks
 unmarked-set [] n e = cc (e)
 unmarked-set (true ∷ ms) zero e = cc (e)
 unmarked-set (false ∷ ms) zero e = omega arith
