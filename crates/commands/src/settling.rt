@@ -6,7 +6,7 @@ ghost use Rattle.hex.specs.Hex.{encode_lower};
 ghost use Rattle.linear.specs.Spelling as linear_spelling;
 ghost use Rattle.commands.specs.Settled.{IsNoFunction, IsRefused, IsSettled, ending};
 
-use crate::agreed::agreed_offer;
+use crate::agreed::agreed_layout;
 use crate::error::SettleError;
 use crate::keeping::settled_keeps;
 use lang::{FormError, Language, NoMemory};
@@ -39,23 +39,24 @@ pub fn settle<W: Write>(alloc: Global, bytes: &[u8], out: &mut W) -> Result<(), 
     ensures silent { IfErr result (λ fault. fault ≢ SettleError.Write → W.contents out.new ≡ W.contents out.old) }
 {
     let function = read_function(alloc, bytes)?;
-    let Some(agreed) = agreed_offer(alloc, &function)? else {
+    let Some((output, order)) = agreed_layout(alloc, &function)? else {
         return Err(SettleError::Undecided);
     };
+    let agreed = Offer::<Linearize>::known(function, output, order);
     settled_keeps(&agreed);
-    let text = printed(alloc, &agreed)?;
+    let text = printed(alloc, agreed.output())?;
     match out.write_all(text.as_bytes()) {
         Ok(()) => Ok(()),
         Err(_) => Err(SettleError::Write),
     }
 }
 
-/// What is printed of the offer that is agreed on.
-fn printed(alloc: Global, agreed: &Offer<Linearize>) -> Result<String, NoMemory>
-    ensures { IfOk result (λ text. string_bytes text ≡ encode_lower (linear_spelling.spelling agreed.now.output) ++ ending) }
+/// What is printed of the code that is agreed on.
+fn printed(alloc: Global, agreed: &linear::Function) -> Result<String, NoMemory>
+    ensures { IfOk result (λ text. string_bytes text ≡ encode_lower (linear_spelling.spelling agreed.now) ++ ending) }
 {
     let mut code = Vec::new(alloc);
-    Linear::write(agreed.output(), &mut code)?;
+    Linear::write(agreed, &mut code)?;
     let mut text = hex::encode(alloc, code.as_slice())?;
     text.push_str("\nagreed 3\n")?;
     Ok(text)
