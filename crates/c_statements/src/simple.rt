@@ -50,7 +50,11 @@ pub(crate) fn read_call_statement(
 }
 
 #[tactic(auto, unfolding(c_statement_laws::specs::Reading::assign))]
-pub(crate) fn read_assign(alloc: Global, room: u8, tokens: &[Token]) -> Result<(Statement, &[Token]), Fault>
+pub(crate) fn read_assign(
+    alloc: Global,
+    room: u8,
+    tokens: &[Token],
+) -> Result<(Statement, &[Token]), Fault>
     ensures ok { IfOk result (λ r. assign room tokens.now ≡ Ok (statement_tree r.0, r.1.now)) }
     ensures err { IfErr result (λ e. e ≢ Fault.NoMemory → assign room tokens.now ≡ Err e) }
 {
@@ -62,7 +66,11 @@ pub(crate) fn read_assign(alloc: Global, room: u8, tokens: &[Token]) -> Result<(
 }
 
 #[tactic(auto, unfolding(c_statement_laws::specs::Reading::store))]
-pub(crate) fn read_store(alloc: Global, room: u8, tokens: &[Token]) -> Result<(Statement, &[Token]), Fault>
+pub(crate) fn read_store(
+    alloc: Global,
+    room: u8,
+    tokens: &[Token],
+) -> Result<(Statement, &[Token]), Fault>
     ensures ok { IfOk result (λ r. store room tokens.now ≡ Ok (statement_tree r.0, r.1.now)) }
     ensures err { IfErr result (λ e. e ≢ Fault.NoMemory → store room tokens.now ≡ Err e) }
 {
@@ -113,7 +121,11 @@ fn read_returned(
 }
 
 #[tactic(auto, unfolding(c_statement_laws::specs::Reading::return_statement))]
-pub(crate) fn read_return(alloc: Global, room: u8, tokens: &[Token]) -> Result<(Statement, &[Token]), Fault>
+pub(crate) fn read_return(
+    alloc: Global,
+    room: u8,
+    tokens: &[Token],
+) -> Result<(Statement, &[Token]), Fault>
     ensures ok { IfOk result (λ r. return_statement room tokens.now ≡ Ok (statement_tree r.0, r.1.now)) }
     ensures err { IfErr result (λ e. e ≢ Fault.NoMemory → return_statement room tokens.now ≡ Err e) }
 {
