@@ -1,6 +1,6 @@
 //! Readers of globals (C99 6.7.8).
 
-ghost use Rattle.std.specs.Prelude.{◌≡◌, ◌≢◌, IfOk, IfErr, Ok, Err, map, length};
+ghost use Rattle.std.specs.Prelude.{◌≡◌, ◌≢◌, ℕ, Some, IfOk, IfErr, Ok, Err, map, length};
 ghost use Rattle.c_tree.specs.Heights.{highest};
 ghost use Rattle.c_tree.specs.Views.{initial_tree, initializer_tree, global_tree, optional_tree};
 ghost use Rattle.c_productions.specs.Combining.{commas};
@@ -33,6 +33,8 @@ pub(crate) fn read_here(tokens: &[Token]) -> Result<usize, Fault>
 fn read_initial(alloc: Memory, tokens: &[Token]) -> Result<(Initial, &[Token]), Misread>
     ensures ok { IfOk result (λ r. initial highest tokens.now ≡ Ok (initial_tree r.0, r.1.now)) }
     ensures err { IfErr result (λ e. e.fault ≢ Fault.NoMemory → initial highest tokens.now ≡ Err e.fault) }
+    // Where it begins is told.
+    ensures place { IfErr result (λ e. (at : ℕ) → here tokens.now ≡ Ok (at, tokens.now) → e.initial ≡ Some at) }
 {
     let offset = read_here(tokens)?;
     match expression(alloc, HIGHEST, 0, tokens) {

@@ -9,6 +9,3 @@ mod reading;
 
 pub use misread::Misread;
 pub use reading::read_declaration;
-
-#[cfg(test)]
-mod tests;

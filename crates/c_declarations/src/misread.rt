@@ -10,9 +10,9 @@ pub struct Misread {
 }
 
 impl From<Fault> for Misread {
-    ghost use Rattle.std.specs.Prelude.{◌≡◌};
+    ghost use Rattle.std.specs.Prelude.{◌≡◌, None};
 
-    ghost from_gives = { λ e m. m.fault ≡ e };
+    ghost from_gives = { λ e m. (m.fault ≡ e) × (m.initial ≡ None) };
 
     fn from(fault: Fault) -> Misread {
         Misread {

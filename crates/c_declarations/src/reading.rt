@@ -1,6 +1,6 @@
 //! The reader of one declaration (C99 6.9).
 
-ghost use Rattle.std.specs.Prelude.{◌≡◌, ◌≢◌, IfOk, IfErr, Ok, Err};
+ghost use Rattle.std.specs.Prelude.{◌≡◌, ◌≢◌, true, None, IfOk, IfErr, Ok, Err};
 ghost use Rattle.c_tree.specs.Heights.{highest};
 ghost use Rattle.c_tree.specs.Views.{statements_tree, declaration_tree};
 ghost use Rattle.c_declaration_laws.specs.Parameters.{all_named};
@@ -98,6 +98,8 @@ fn is_callable_next(tokens: &[Token]) -> bool
 pub fn read_declaration(alloc: Global, tokens: &[Token]) -> Result<(Declaration, &[Token]), Misread>
     ensures ok { IfOk result (λ r. declaration highest tokens.now ≡ Ok (declaration_tree r.0, r.1.now)) }
     ensures err { IfErr result (λ e. e.fault ≢ Fault.NoMemory → declaration highest tokens.now ≡ Err e.fault) }
+    // No initial expression is told of in a function.
+    ensures function { is_callable_next tokens.now ≡ true → IfErr result (λ e. e.initial ≡ None) }
 {
     if is_callable_next(tokens) {
         return Ok(read_callable(alloc, tokens)?);

@@ -35,7 +35,7 @@ spelled_read ts ds rest e = (declarations_takes block_law highest ts ds rest e).
 pub low_read : (ts : List Token) (ds : List DeclarationTree) (rest : List Token) → declarations highest ts ≡ Ok (ds, rest) → AllByRecursion IsLow ds
 low_read ts ds rest e = declarations_low ds (declarations_takes block_law highest ts ds rest e).1
 
-pub refused : (e : ReadError) (ts : List Token) → Tells e (declarations highest ts) → Refuses e ts
-refused E.NoMemory ts t = tt
-refused (E.Syntax at) ts t = λ u s. all_refused block_law block_keeps ts t.0 t.1 u.declarations s.0
-refused (E.TooDeep at) ts t = λ u s low. low_refused block_law ts F.TooDeep t u.declarations s.0 low
+pub refused : (e : ReadError) (end : ℕ) (ts : List Token) → Tells e end (declarations highest ts) → Refuses e ts
+refused E.NoMemory end ts t = tt
+refused (E.Syntax at) end ts t = λ u s. all_refused block_law block_keeps ts t.0 t.1 u.declarations s.0
+refused (E.TooDeep at) end ts t = λ u s low. low_refused block_law ts F.TooDeep t u.declarations s.0 low

@@ -1,12 +1,11 @@
 -- What a refusal tells of a reading.
-use Rattle.std.proofs.Common.{◌≡◌, ◌≢◌, Result, Err, ap, ◌∙◌}
+use Rattle.std.proofs.Common.{◌≡◌, ◌≢◌, ℕ, List, Option, Result, Err, refl}
+use Rattle.c_tokens.specs.declared.token.Token.{Token}
 use Rattle.c_reading.specs.declared.fault.Fault.{Fault}
 use Rattle.c_reading.specs.declared.fault.Fault.TheVariants as F
-use Rattle.c_reader.specs.declared.errors.ReadError.{ReadError}
-use Rattle.c_reader.specs.declared.errors.ReadError.TheVariants as E
-use Rattle.c_reader.specs.Telling.{IsFault, Tells}
+use Rattle.c_reader.specs.Telling.{error_of, Tells}
 
-pub tells_fault : {A : Type 0} (e : ReadError) (f : Fault) (r : Result A Fault) → IsFault e f → (f ≢ F.NoMemory → r ≡ Err f) → Tells e r
-tells_fault E.NoMemory f r i h = tt
-tells_fault (E.Syntax at) f r i h = (i.0, h (λ e. let s = i.1 in cc) ∙ ap (λ g. Err g) i.1)
-tells_fault (E.TooDeep at) f r i h = h (λ e. cc) ∙ ap (λ g. Err g) i
+pub tells_fault : {A : Type 0} (f : Fault) (initial : Option ℕ) (ts : List Token) (end : ℕ) (r : Result A Fault) → (f ≢ F.NoMemory → r ≡ Err f) → Tells (error_of f initial ts end) end r
+tells_fault F.NoMemory initial ts end r h = tt
+tells_fault (F.Syntax at) initial ts end r h = (at, h (λ e. cc), refl)
+tells_fault F.TooDeep initial ts end r h = h (λ e. cc)

@@ -9,6 +9,3 @@ mod unit;
 pub use errors::ReadError;
 pub use reading::read;
 pub use unit::Unit;
-
-#[cfg(test)]
-mod tests;

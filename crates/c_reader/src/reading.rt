@@ -8,7 +8,7 @@ ghost use Rattle.std.specs.List.{AllByRecursion};
 ghost use Rattle.c_declaration_laws.specs.Reading.{is_next_there, declarations};
 ghost use Rattle.c_reader.specs.Units.{unit_tree};
 ghost use Rattle.c_reader.specs.Refusing.{Refuses};
-ghost use Rattle.c_reader.specs.Telling.{IsFault, Tells};
+ghost use Rattle.c_reader.specs.Telling.{begin_of, error_of, Tells};
 
 use crate::errors::ReadError;
 use crate::unit::Unit;
@@ -39,7 +39,9 @@ fn is_next_there(tokens: &[Token]) -> bool
 }
 
 /// The byte offset of the first token.
-fn begin_of(tokens: &[Token]) -> usize {
+fn begin_of(tokens: &[Token]) -> usize
+    ensures { result ≡ begin_of tokens.now }
+{
     match tokens {
         [] => 0,
         [token, _rest @ ..] => token.start,
@@ -48,7 +50,7 @@ fn begin_of(tokens: &[Token]) -> usize {
 
 /// What is told where a declaration that begins with these tokens is not read.
 fn told(misread: Misread, tokens: &[Token], end: usize) -> ReadError
-    ensures { IsFault result misread.fault }
+    ensures { result ≡ error_of misread.fault misread.initial tokens.now end }
 {
     match misread.fault {
         Fault::NoMemory => ReadError::NoMemory,
@@ -65,7 +67,7 @@ fn read_declarations(
     end: usize,
 ) -> Result<(Vec<Declaration>, &[Token]), ReadError>
     ensures ok { IfOk result (λ r. declarations highest tokens.now ≡ Ok (map declaration_tree r.0.items, r.1.now)) }
-    ensures err { IfErr result (λ e. Tells e (declarations highest tokens.now)) }
+    ensures err { IfErr result (λ e. Tells e end (declarations highest tokens.now)) }
 {
     let mut read = Vec::new(alloc);
     let mut rest = tokens;

@@ -2,9 +2,10 @@
 //! fault from the front. A room bounds the height of what is read.
 #![tactic(auto)]
 
+mod first;
+mod heads;
 mod parts;
 mod reading;
-#[cfg(test)]
-mod tests;
+mod simple;
 
 pub use reading::read_block;

@@ -5,3 +5,5 @@
 mod rows;
 #[cfg(test)]
 mod told;
+#[cfg(test)]
+mod trees;

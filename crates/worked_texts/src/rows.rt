@@ -111,6 +111,36 @@ fn what_is_too_deep(rt: HostRuntime) -> Result<(), Fail> {
     Ok(())
 }
 
+/// So many times one piece in front of a middle, and as often another behind it.
+fn check_nested(
+    alloc: Global,
+    (front, open, middle, close): (&str, &str, &str, &str),
+    times: u32,
+    told: &str,
+) -> Result<(), Fail> {
+    let mut text = repeated(alloc, front, open, times)?;
+    text.push_str(middle)?;
+    for _ in 0..times {
+        text.push_str(close)?;
+    }
+    check_text(alloc, text.as_str(), told)
+}
+
+/// A height of 200 is read, and one of 201 is not.
+#[test]
+fn what_is_just_high_enough(rt: HostRuntime) -> Result<(), Fail> {
+    let parentheses = ("int a=", "(", "1", ")");
+    check_nested(rt.alloc(), parentheses, 199, "210 Syntax at 405")?;
+    check_nested(rt.alloc(), parentheses, 200, "211 TooDeep at 6")?;
+    let braces = ("void f(void)", "{", "", "}");
+    check_nested(rt.alloc(), braces, 200, "ok")?;
+    check_nested(rt.alloc(), braces, 201, "211 TooDeep at 0")?;
+    let ifs = ("void f(void){", "if(1)", ";", "");
+    check_nested(rt.alloc(), ifs, 198, "210 Syntax at 1004")?;
+    check_nested(rt.alloc(), ifs, 199, "211 TooDeep at 0")?;
+    Ok(())
+}
+
 #[test]
 fn lines_from_outside(rt: HostRuntime) -> Result<(), Fail> {
     for line in texts_told().lines() {

@@ -24,7 +24,7 @@ returns-in_err-behind-clause-err c =
     let p = err_from_is_err_and c.from_residual-in_err-behind.result c.from_residual-in_err-behind.ensures.1 in
     let part = sign Comma ▷ initial highest in
     let next : is_sign_next Comma c.loop.rest.now ≡ true = search rules in
-    rw (p.1, p.2) (λ memory. stops (is_sign_next Comma) part (length c.in_ok-first.rest.now) (commas (initial highest) c.args.tokens.now) c.in_err-behind.field-0.0 (map initial_tree c.loop.initials.items) c.loop.counter c.loop.rest.now c.loop-test.true c.loop.invariant next
+    rw (p.1, p.2.0) (λ memory. stops (is_sign_next Comma) part (length c.in_ok-first.rest.now) (commas (initial highest) c.args.tokens.now) c.in_err-behind.field-0.0 (map initial_tree c.loop.initials.items) c.loop.counter c.loop.rest.now c.loop-test.true c.loop.invariant next
     (mark_fails (sign Comma) (initial highest) c.loop.rest.now c.in_err-behind.field-0.0 c.in_err-behind.ensures.err))
 
 pub returns-in_err-next-clause-err : goal.returns-in_err-next-clause-err

@@ -11,8 +11,8 @@ use Rattle.c_reader.proofs.reading.read_declarations.Goals.{else-loop-test, then
 pub returns-in-Err-clause-err : goal.returns-in-Err-clause-err
 returns-in-Err-clause-err c =
     let next : is_next_there c.loop.rest.now ≡ true = search rules in
-    tells_fault c.told.result c.in-Err.misread.fault (declarations highest c.args.tokens.now) c.told.ensures
-    (λ memory. stops is_next_there (declaration highest) (length c.args.tokens.now) (declarations highest c.args.tokens.now) c.in-Err.misread.fault (map declaration_tree c.loop.read.items) c.loop.counter c.loop.rest.now c.loop-test.true c.loop.invariant next (c.in-Err.ensures.err memory))
+    rw c.told.ensures (tells_fault c.in-Err.misread.fault c.in-Err.misread.initial c.loop.rest.now c.args.end (declarations highest c.args.tokens.now)
+    (λ memory. stops is_next_there (declaration highest) (length c.args.tokens.now) (declarations highest c.args.tokens.now) c.in-Err.misread.fault (map declaration_tree c.loop.read.items) c.loop.counter c.loop.rest.now c.loop-test.true c.loop.invariant next (c.in-Err.ensures.err memory)))
 
 pub loop-preserved : goal.loop-preserved
 loop-preserved c =
