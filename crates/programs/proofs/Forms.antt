@@ -1,12 +1,12 @@
 -- What stands before the functions, and a function's name, are forms: each text is read again, and nothing else is.
-use Rattle.std.proofs.Common.{◌≡◌, ℕ, ◌+◌, ◌<◌, ◌≤◌, ◌^◌, Bool, true, false, List, [], ◌∷◌, ◌++◌, length, Ok, refl, sym, ap, subst, ◌∙◌, arith}
+use Rattle.std.proofs.Common.{◌≡◌, ℕ, ◌+◌, ◌<◌, ◌≤◌, ◌^◌, true, List, [], ◌∷◌, ◌++◌, length, Ok, refl, ap, subst, ◌∙◌, arith}
 use Rattle.std.specs.Prelude.{not, nat_eq, nat_le}
 use Rattle.std.specs.Int.{w16, w32, to_be_bytes}
 use Rattle.std.specs.List.{AllByRecursion, flat_map}
 use Rattle.std.proofs.lemmas.Bool.{leb-true, le-leb}
 use Rattle.std.proofs.lemmas.Bool.Decides.{nat_tests}
 use Rattle.lang.specs.declared.errors.FormError.TheVariants.{NotCanonical, TooLarge}
-use Rattle.lang.specs.Reading.{Reading, byte, number, tested, below, up_to, both, counted}
+use Rattle.lang.specs.Reading.{Reading, byte, number, below, up_to, counted}
 use Rattle.lang.specs.Texts.{counted_text, EachFits}
 use Rattle.lang.specs.Programs.{GlobalData}
 use Rattle.lang.proofs.Forms.{IsForm}

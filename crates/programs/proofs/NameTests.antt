@@ -1,9 +1,9 @@
 -- What is tested of a name is what a name is.
-use Rattle.std.proofs.Common.{◌≡◌, ◌≢◌, ℕ, ◌<◌, Bool, true, false, List, [], ◌∷◌, ◌++◌, length, Option, Some, None, refl, sym, ap, ◌∙◌, arith}
+use Rattle.std.proofs.Common.{◌≡◌, ◌≢◌, ℕ, ◌<◌, Bool, true, List, [], ◌∷◌, length, Option, Some, None, refl, sym, ◌∙◌, arith}
 use Rattle.std.specs.Prelude.{not, ◌&&◌, ◌↔◌, nat_eq}
 use Rattle.std.specs.List.{list_all, AllByRecursion}
 use Rattle.std.specs.Option.{is_none}
-use Rattle.std.proofs.lemmas.Bool.{and_parts, and_from, not-true, not_from_false, eqb-true}
+use Rattle.std.proofs.lemmas.Bool.{and_parts, and_from, not-true, not_from_false}
 use Rattle.std.proofs.lemmas.Bool.Decides.{nat_tests}
 use Rattle.std.proofs.lemmas.List.Sums.{AllPass-from_list_all, list_all-from_AllPass}
 use Rattle.c_tokens.specs.declared.keyword.Keyword.{Keyword}
@@ -11,7 +11,7 @@ use Rattle.c_spellings.specs.Bytes.{is_word_byte, begins_with_digit}
 use Rattle.c_spellings.specs.Keywords.{keyword_text}
 use Rattle.c_spellings.specs.Lookups.{keyword_of}
 use Rattle.c_spellings.proofs.KeywordTexts.{keyword_is, no_keyword}
-use Rattle.c_parts.specs.Lexemes.{IsWord, IsName}
+use Rattle.c_parts.specs.Lexemes.{IsName}
 use Rattle.programs.specs.Reading.{is_word, is_name}
 
 none_is : {A : Type 0} (o : Option A) → is_none o ≡ true → o ≡ None

@@ -1,5 +1,5 @@
 -- Whole programs: a head, and as many functions behind it as it says.
-use Rattle.std.proofs.Common.{◌≡◌, ℕ, ◌≤◌, Bool, true, false, List, [], ◌++◌, length, take, ◌+◌, ◌-◌, Err, arith, refl, sym, ap, subst, ◌∙◌, append_assoc}
+use Rattle.std.proofs.Common.{◌≡◌, ℕ, ◌≤◌, true, false, List, ◌++◌, length, take, ◌+◌, ◌-◌, Err, arith, refl, sym, ap, subst, ◌∙◌, append_assoc}
 use Rattle.std.proofs.lemmas.List.{length-append, take_at}
 use Rattle.lang.specs.declared.errors.FormError.{FormError}
 use Rattle.lang.specs.Programs.{GlobalData, NamedFunction, ProgramOf}

@@ -1,5 +1,5 @@
 -- Which programs have a spelling, and the bytes of each.
-use Rattle.std.specs.Prelude.{◌≡◌, ◌≢◌, ℕ, ◌+◌, ◌-◌, ◌<◌, ◌≤◌, ◌^◌, Bool, not, ◌||◌, nat_eq, List, [], ◌∷◌, ◌++◌, length, slice_index, codes, IsTrue}
+use Rattle.std.specs.Prelude.{◌≢◌, ℕ, ◌+◌, ◌-◌, ◌<◌, ◌≤◌, ◌^◌, Bool, not, ◌||◌, nat_eq, List, [], ◌∷◌, ◌++◌, length, slice_index, codes, IsTrue}
 use Rattle.std.specs.Int.{w16, w32, to_be_bytes}
 use Rattle.std.specs.List.{AllByRecursion, list_any, flat_map}
 use Rattle.std.specs.Str.{bytes_eq}

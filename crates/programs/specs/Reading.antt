@@ -1,5 +1,5 @@
 -- How the parts of a program are read, up to its functions.
-use Rattle.std.specs.Prelude.{ℕ, ◌+◌, Bool, not, ◌&&◌, List, length, nat_eq, nat_lt, nat_le}
+use Rattle.std.specs.Prelude.{ℕ, ◌+◌, Bool, not, ◌&&◌, List, length, nat_eq, nat_le}
 use Rattle.std.specs.Int.{w16, w32}
 use Rattle.std.specs.List.{list_all}
 use Rattle.std.specs.Option.{is_none}

@@ -52,11 +52,7 @@ fn ends_well(words: &[u32]) -> bool
 
 /// The listed words, behind their number.
 #[tactic(auto, unfolding(crate::specs::Reading::words))]
-fn read_words(
-    alloc: alloc::Global,
-    cells: u32,
-    bytes: &mut &[u8],
-) -> Result<Vec<u32>, FormError>
+fn read_words(alloc: alloc::Global, cells: u32, bytes: &mut &[u8]) -> Result<Vec<u32>, FormError>
     ensures { Reads (words cells bytes.old.now) (items_of result) bytes.new.now }
 {
     let count = read_u32(bytes)?;
@@ -105,10 +101,7 @@ fn read_so_many_globals(
 
 /// The globals, behind their number.
 #[tactic(auto, unfolding(crate::specs::Reading::globals))]
-pub fn read_globals(
-    alloc: alloc::Global,
-    bytes: &mut &[u8],
-) -> Result<Vec<lang::Global>, FormError>
+pub fn read_globals(alloc: alloc::Global, bytes: &mut &[u8]) -> Result<Vec<lang::Global>, FormError>
     ensures { Reads (globals bytes.old.now) (globals_of result) bytes.new.now }
 {
     let count = read_u16(bytes)?;

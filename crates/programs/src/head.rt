@@ -10,10 +10,7 @@ use std::alloc;
 
 /// The globals, and the number of functions.
 #[tactic(auto, unfolding(crate::specs::Reading::body))]
-fn read_body(
-    alloc: alloc::Global,
-    bytes: &mut &[u8],
-) -> Result<(Vec<lang::Global>, u8), FormError>
+fn read_body(alloc: alloc::Global, bytes: &mut &[u8]) -> Result<(Vec<lang::Global>, u8), FormError>
     ensures { Reads (body bytes.old.now) (head_of result) bytes.new.now }
 {
     let globals = read_globals(alloc, bytes)?;

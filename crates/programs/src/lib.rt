@@ -13,4 +13,3 @@ mod writing;
 pub use laws::one_program;
 pub use names::is_name;
 pub use programs::{read_program, write_program};
-

@@ -47,11 +47,7 @@ pub fn is_name(bytes: &[u8]) -> bool
     passes(bytes)
 }
 
-fn read_so_many_bytes(
-    alloc: Global,
-    count: u8,
-    bytes: &mut &[u8],
-) -> Result<Vec<u8>, FormError>
+fn read_so_many_bytes(alloc: Global, count: u8, bytes: &mut &[u8]) -> Result<Vec<u8>, FormError>
     ensures { Reads (more (λ before. byte) [] count bytes.old.now) (items_of result) bytes.new.now }
 {
     let mut name = Vec::new(alloc);

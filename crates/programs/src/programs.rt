@@ -36,10 +36,7 @@ pub fn read_program<L: Language>(
     Ok((Program { globals, functions }, bytes.len() - rest.len()))
 }
 
-fn push_program<L: Language>(
-    out: &mut Vec<u8>,
-    program: &Program<L::Fun>,
-) -> Result<(), NoMemory>
+fn push_program<L: Language>(out: &mut Vec<u8>, program: &Program<L::Fun>) -> Result<(), NoMemory>
     requires { IsProgram L.fits (seen program.now) }
     ensures { Appends result (program_text L.TAG L.spelling (seen program.now)) out.old.items out.new.items }
 {

@@ -1,25 +1,24 @@
 -- The reading of RTL is a form: each spelling is read again, and nothing else is read.
-use Rattle.std.proofs.Common.{◌≡◌, ℕ, ◌<◌, ◌≤◌, ◌^◌, true, List, [], ◌∷◌, ◌++◌, length, Option, Some, None, Ok, refl, sym, ap, subst, ◌∙◌, arith, append_assoc}
+use Rattle.std.proofs.Common.{◌≡◌, ℕ, ◌<◌, ◌≤◌, ◌^◌, List, [], ◌++◌, length, Option, Ok, refl, sym, ap, subst, ◌∙◌, arith, append_assoc}
 use Rattle.std.specs.Prelude.{nat_lt}
-use Rattle.std.specs.Int.{w16, to_be_bytes}
+use Rattle.std.specs.Int.{w16}
 use Rattle.std.specs.List.{AllByRecursion, flat_map}
 use Rattle.std.proofs.lemmas.Bool.{ltb-true, lt-ltb}
 use Rattle.lang.specs.declared.errors.FormError.TheVariants.{NotCanonical}
-use Rattle.lang.specs.Reading.{byte, number, made, both, follow}
-use Rattle.lang.specs.Texts.{counted_text, EachFits}
+use Rattle.lang.specs.Reading.{byte, number, both, follow}
 use Rattle.lang.proofs.Forms.{IsForm}
 use Rattle.lang.proofs.Parts.{byte_form, number16_form, made_takes, made_again, made_form, tested_form, fits_form, below_form, both_form}
 use Rattle.lang.proofs.Lists.{counted_form, more_form, each_fits, fits_each, HasCode, TakesBehind, follow_form, coded_form, tagged_form}
 use Rattle.rtl_parts.specs.declared.act.Act.{Act}
 use Rattle.rtl_parts.specs.declared.act.Act.TheVariants.{Nop, Constant, Move, Operate, Load, Store, Put}
 use Rattle.rtl_parts.specs.declared.test.Test.{Test}
-use Rattle.rtl_parts.specs.Fits.{RegisterFits, TargetFits, ActFits, TestFits, register_limit}
+use Rattle.rtl_parts.specs.Fits.{RegisterFits, TargetFits, ActFits, TestFits}
 use Rattle.rtl_parts.specs.Spelling.{byte_text, register_text, registers_text, target_text, act_code, act_body, test_text, frame_text}
 use Rattle.rtl_parts.specs.Reading.{register, target, asked, act, frame}
 use Rattle.rtl_parts.proofs.Forms.{register_form, target_form, test_form, act_form, FrameFits, frame_form}
 use Rattle.rtl.specs.declared.instruction.Instruction.{Instruction}
 use Rattle.rtl.specs.declared.instruction.Instruction.TheVariants.{Do, Call, Branch, Return}
-use Rattle.rtl.specs.Function.{FunctionData, CallFits, InstructionFits, IsFunction, function_limit}
+use Rattle.rtl.specs.Function.{FunctionData, InstructionFits, IsFunction, function_limit}
 use Rattle.rtl.specs.Spelling.{node_text, instruction_code, instruction_body, instruction_text, graph_text, tag, spelling}
 use Rattle.rtl.specs.Reading.{node, function_number, call_arguments, call, branch, instructions, plain, instruction, ends, nodes, graph, parts, function}
 

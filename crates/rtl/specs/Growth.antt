@@ -1,5 +1,5 @@
 -- From one bound to the next the output of a program only grows, and an end or a fault stays.
-use Rattle.std.proofs.Common.{◌≡◌, ℕ, List, [], ◌∷◌, Option, Some, None, Bool, true, false, cond, length, refl, sym, subst}
+use Rattle.std.proofs.Common.{ℕ, List, [], ◌∷◌, Option, Some, None, Bool, true, false, cond, length, sym, subst}
 use Rattle.std.specs.Prelude.{slice_get, ◌==◌, map}
 use Rattle.lang.specs.Behaviour.{IsBeginningOf, IsRun}
 use Rattle.lang.specs.Machine.{Next, Goes, Ends, Fails, Grows}

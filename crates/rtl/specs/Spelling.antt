@@ -1,5 +1,5 @@
 -- The bytes of a function of RTL.
-use Rattle.std.specs.Prelude.{ℕ, List, ◌∷◌, ◌++◌, Option}
+use Rattle.std.specs.Prelude.{ℕ, List, ◌∷◌, ◌++◌}
 use Rattle.std.specs.Int.{w16, to_be_bytes}
 use Rattle.lang.specs.Texts.{counted_text}
 use Rattle.rtl_parts.specs.Spelling.{act_code, act_body, registers_text, target_text, test_text, frame_text}

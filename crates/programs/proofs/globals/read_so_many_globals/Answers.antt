@@ -1,8 +1,7 @@
-use Rattle.std.proofs.Common.{◌≡◌, ◌+◌, [], ◌∷◌, ◌++◌, List, refl, sym, ap, ◌∙◌, subst}
+use Rattle.std.proofs.Common.{◌≡◌, ◌+◌, [], ◌∷◌, ◌++◌, List, refl, sym, ap, ◌∙◌}
 use Rattle.std.specs.Prelude.{map}
 use Rattle.std.proofs.lemmas.Result.{err_from_is_err_and}
 use Rattle.lang.specs.declared.program.Global.{Global}
-use Rattle.lang.specs.Programs.{GlobalData}
 use Rattle.lang.proofs.Loops.{goes_on, stops}
 use Rattle.programs.specs.Form.{cells_of_all}
 use Rattle.programs.specs.Reading.{global}

@@ -1,5 +1,5 @@
-use Rattle.std.proofs.Common.{[], sym, ◌∙◌, arith, refl}
-use Rattle.programs.proofs.Texts.{functions_count, program_written, globals_short, functions_short}
+use Rattle.std.proofs.Common.{[], refl}
+use Rattle.programs.proofs.Texts.{program_written, globals_short, functions_short}
 use Rattle.programs.proofs.programs.push_program.Goals as goal
 
 pub push_head-requires-clause-short : goal.push_head-requires-clause-short
