@@ -1,0 +1,5 @@
+pub mod Data
+pub mod Acts
+pub mod Fits
+pub mod Spelling
+pub mod Reading

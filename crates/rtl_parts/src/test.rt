@@ -1,0 +1,9 @@
+use crate::arguments::Arguments;
+use ints::Cond;
+
+/// What a branch asks.
+#[derive(Clone, Copy, Debug, PartialEq, Eq)]
+pub struct Test {
+    pub condition: Cond,
+    pub arguments: Arguments,
+}
