@@ -1,0 +1,12 @@
+pub mod Results
+pub mod Same
+pub use Rattle.cminor_tree.specs.Trees
+pub use Rattle.cminor_tree.specs.Views
+pub use Rattle.cminor_tree.specs.Fits
+pub use Rattle.cminor_tree.specs.State
+pub use Rattle.cminor_tree.specs.Evaluation
+pub use Rattle.cminor_tree.specs.Meaning
+pub use Rattle.cminor_tree.specs.Growth
+pub use Rattle.cminor_forms.specs.Spelling
+pub use Rattle.lang.specs.Behaviour
+pub use Rattle.lang.specs.Programs

@@ -1,0 +1,2 @@
+pub mod ExpressionForms
+pub mod StatementForms
