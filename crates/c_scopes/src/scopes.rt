@@ -10,7 +10,8 @@ use std::alloc::Global;
 use std::marker::Model;
 
 /// The names that mean something at a place of a text, each with what it was bound to, the newest first. It takes
-/// memory in the number of the bindings and of the bytes of the names that were ever bound.
+/// memory in the number of the bindings and of the bytes of the names that were ever bound. Names are hashed with a
+/// fixed seed, so names that were chosen to collide are looked up slowly.
 #[derive(Drop)]
 pub struct Scopes<T> {
     symbols: IndexSet<Vec<u8>>,
