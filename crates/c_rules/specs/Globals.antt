@@ -11,7 +11,7 @@ use Rattle.c_rules.specs.declared.errors.CheckError.{CheckError}
 use Rattle.c_rules.specs.declared.errors.CheckError.TheVariants.{Undeclared, Redeclared, BadMain, NotConstant, Limit, ArrayUse}
 use Rattle.c_rules.specs.declared.meaning.Meaning.{Meaning}
 use Rattle.c_rules.specs.declared.meaning.Meaning.TheVariants as M
-use Rattle.c_rules.specs.Told.{unless}
+use Rattle.c_rules.specs.Told.{unless, first}
 use Rattle.c_rules.specs.Names.{Scope}
 use Rattle.c_rules.specs.Terms.{term_of}
 use Rattle.c_rules.specs.Expressions.{expression_faults}
@@ -54,14 +54,19 @@ constant_of scope e = value nothing_declared (term_of scope e)
 abbrev pub is_constant : Scope → ExpressionTree → Bool
 is_constant scope e = not (has_name e) && is_some (constant_of scope e)
 
--- a name at this very place that is not declared at all: that is told first
-abbrev pub undeclared_at : ℕ → List CheckError → List CheckError
-undeclared_at at (Undeclared place ∷ faults) = if place == at then Undeclared at ∷ [] else []
-undeclared_at at faults = []
+-- this fault is that of a name at this very place, which is not declared
+abbrev pub is_undeclared_at : ℕ → CheckError → Bool
+is_undeclared_at at (Undeclared place) = place == at
+is_undeclared_at at e = false
+
+-- What is no constant is told where it begins, unless the name there is not declared.
+abbrev pub not_constant : ℕ → Option CheckError → CheckError
+not_constant at None = NotConstant at
+not_constant at (Some e) = if is_undeclared_at at e then e else NotConstant at
 
 abbrev pub initial_faults : Scope → InitialTree → List CheckError
 initial_faults scope i =
-    if is_constant scope i.value then [] else undeclared_at i.offset (expression_faults scope i.value) ++ NotConstant i.offset ∷ []
+    if is_constant scope i.value then [] else not_constant i.offset (first (expression_faults scope i.value)) ∷ []
 
 abbrev pub initials_faults : Scope → List InitialTree → List CheckError
 initials_faults scope [] = []
