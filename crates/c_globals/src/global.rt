@@ -1,6 +1,6 @@
 //! Global variables and arrays (C99 6.9.2).
 
-ghost use Rattle.std.specs.Prelude.{◌≡◌, ◌≤◌, [], OnOk, IfOk, IfErr};
+ghost use Rattle.std.specs.Prelude.{◌≡◌, ◌≤◌, ◌+◌, [], IsTrue, OnOk, IfOk, IfErr};
 ghost use Rattle.c_tree.specs.Views.{optional_tree, initializer_tree, global_tree};
 ghost use Rattle.c_rules.specs.Told.{Tells};
 ghost use Rattle.c_rules.specs.Locals.{is_new};
@@ -61,7 +61,8 @@ fn suits(size: &Option<Constant>, initializer: &Option<Initializer>) -> bool
 /// Whether no limit is passed, with so many globals before, of so many cells.
 fn is_within(globals: usize, cells: usize, global: &GlobalTree) -> bool
     requires { cells ≤ 65536 }
-    ensures { result ≡ G.is_within globals cells (global_tree global.now) }
+    ensures value { result ≡ G.is_within globals cells (global_tree global.now) }
+    ensures small { IsTrue result → cells + G.size_of global.now.size ≤ 65536 }
 {
     let size = size_of(&global.size);
     globals < MOST_GLOBALS
@@ -78,6 +79,7 @@ fn check_name(
     global: &GlobalTree,
 ) -> Result<(), CheckError>
     requires { cells ≤ 65536 }
+    ensures small { OnOk result (cells + G.size_of global.now.size ≤ 65536) }
     ensures ok { OnOk result (G.global_name_faults scope.now globals cells (global_tree global.now) ≡ []) }
     ensures err { IfErr result (λ e. Tells e (G.global_name_faults scope.now globals cells (global_tree global.now))) }
 {
@@ -129,6 +131,7 @@ pub fn check_global(
 ) -> Result<GlobalVariable, CheckError>
     requires { cells ≤ 65536 }
     ensures ok { OnOk result (G.global_faults scope.old globals cells (global_tree global.now) ≡ []) }
+    ensures cells { OnOk result (cells + G.size_of global.now.size ≤ 65536) }
     ensures variable { IfOk result (λ v. v ≡ G.global_of (G.with_global globals scope.old (global_tree global.now)) (global_tree global.now)) }
     ensures scope { OnOk result (scope.new ≡ G.with_global globals scope.old (global_tree global.now)) }
     ensures err { IfErr result (λ e. Tells e (G.global_faults scope.old globals cells (global_tree global.now))) }
