@@ -1,0 +1,5 @@
+pub mod Blocks
+pub mod Grouping
+pub mod Heights
+pub mod Leaving
+pub mod Turns

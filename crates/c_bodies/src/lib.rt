@@ -1,0 +1,12 @@
+//! The checker of functions of C: whether their bodies are well formed, and the actions that they stand for
+//! (C99 6.8 and 6.9.1).
+#![tactic(auto)]
+
+mod here;
+mod locals;
+mod loops;
+mod parts;
+mod statements;
+
+pub use here::Here;
+pub use statements::check_statements;

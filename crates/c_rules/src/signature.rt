@@ -1,0 +1,11 @@
+use c_tokens::IntegerType;
+use c_tree::ReturnType;
+use lang::Row;
+
+/// The type of a function (C99 6.7.5.3).
+#[derive(PartialEq, Eq, Drop)]
+pub struct Signature {
+    pub result: ReturnType,
+    /// The types of its parameters.
+    pub kinds: Row<IntegerType>,
+}

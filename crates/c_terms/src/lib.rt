@@ -1,0 +1,17 @@
+//! The checker of expressions and calls of C: whether they are well formed, and the terms that they stand
+//! for (C99 6.5).
+#![tactic(auto)]
+
+mod calls;
+mod constants;
+mod expressions;
+mod functions;
+mod names;
+mod typed;
+
+pub use calls::{check_call, check_value, is_putchar};
+pub use constants::{constant_value, has_name};
+pub use expressions::check_expression;
+pub use functions::Functions;
+pub use names::{array, meaning_of, variable};
+pub use typed::Typed;

@@ -1,0 +1,73 @@
+//! Names of variables (C99 6.5.1).
+
+ghost use Rattle.std.specs.Prelude.{◌≡◌, [], IfOk, IfErr};
+ghost use Rattle.c_program.specs.Views.{term_tree};
+ghost use Rattle.c_rules.specs.Told.{Tells};
+ghost use Rattle.c_rules.specs.Names as N;
+ghost use Rattle.c_rules.specs.Types.{variable_type};
+ghost use Rattle.c_rules.specs.Terms.{variable_term, array_number};
+ghost use Rattle.c_rules.specs.Expressions.{variable_faults, array_faults};
+
+use crate::typed::Typed;
+use c_program::Term;
+use c_rules::{CheckError, Meaning};
+use c_scopes::Scopes;
+use c_tokens::IntegerType;
+use c_tree::Identifier;
+use std::alloc::Global;
+
+/// What a name means here, if it means anything.
+pub fn meaning_of(scope: &Scopes<Meaning>, name: &Identifier) -> Option<Meaning>
+    ensures { result ≡ N.meaning_of scope.now name.now }
+{
+    let binding = scope.find(name.name.as_slice())?;
+    Some(binding.value)
+}
+
+/// A variable without size: its term and type.
+pub fn variable(
+    alloc: Global,
+    scope: &Scopes<Meaning>,
+    name: &Identifier,
+) -> Result<Typed, CheckError>
+    ensures ok { IfOk result (λ t. variable_faults (N.meaning_of scope.now name.now) name.now.offset ≡ []) }
+    ensures kind { IfOk result (λ t. t.kind ≡ variable_type (N.meaning_of scope.now name.now)) }
+    ensures term { IfOk result (λ t. term_tree t.term ≡ variable_term (N.meaning_of scope.now name.now)) }
+    ensures err { IfErr result (λ e. Tells e (variable_faults (N.meaning_of scope.now name.now) name.now.offset)) }
+{
+    match meaning_of(scope, name) {
+        Some(Meaning::Local(number, kind)) => Ok(Typed {
+            term: Term::Local(number),
+            kind,
+        }),
+        Some(Meaning::Variable(number, kind)) => {
+            let cell = Box::new(alloc, Term::Constant(0))?;
+            Ok(Typed {
+                term: Term::Cell(number, cell),
+                kind,
+            })
+        }
+        Some(Meaning::Array(_number, _kind)) => Err(CheckError::ArrayUse(name.offset)),
+        Some(Meaning::Function(_number)) => Err(CheckError::Undeclared(name.offset)),
+        None => Err(CheckError::Undeclared(name.offset)),
+    }
+}
+
+/// A name that has an index: the array's number, and the type of its cells.
+pub fn array(
+    scope: &Scopes<Meaning>,
+    name: &Identifier,
+) -> Result<(usize, IntegerType), CheckError>
+    ensures ok { IfOk result (λ a. array_faults (N.meaning_of scope.now name.now) name.now.offset ≡ []) }
+    ensures number { IfOk result (λ a. a.0 ≡ array_number (N.meaning_of scope.now name.now)) }
+    ensures kind { IfOk result (λ a. a.1 ≡ variable_type (N.meaning_of scope.now name.now)) }
+    ensures err { IfErr result (λ e. Tells e (array_faults (N.meaning_of scope.now name.now) name.now.offset)) }
+{
+    match meaning_of(scope, name) {
+        Some(Meaning::Array(number, kind)) => Ok((number, kind)),
+        Some(Meaning::Local(_number, _kind)) => Err(CheckError::ArrayUse(name.offset)),
+        Some(Meaning::Variable(_number, _kind)) => Err(CheckError::ArrayUse(name.offset)),
+        Some(Meaning::Function(_number)) => Err(CheckError::Undeclared(name.offset)),
+        None => Err(CheckError::Undeclared(name.offset)),
+    }
+}
