@@ -1,5 +1,5 @@
 -- The faults of a `for` are those before its body and then those of its body.
-use Rattle.std.proofs.Common.{◌≡◌, List, ◌++◌, sym, ap, ◌∙◌, append_assoc}
+use Rattle.std.proofs.Common.{◌≡◌, ◌++◌, sym, ap, append_assoc}
 use Rattle.std.specs.Prelude.{Option}
 use Rattle.c_tree.specs.Trees.{ExpressionTree, SetTree, StartTree, StatementTree}
 use Rattle.c_rules.specs.declared.place.Place.{Place}

@@ -41,7 +41,7 @@ module _ (f : Functions) (p : Place) (start : Here) (all : List Statement) where
       let next : drop i all ≡ s ∷ drop (i + 1) all = drop_next all i s within item in
       let behind = statements_tree (drop (i + 1) all) in
       let whole : p.depth + statements_height (statements_tree (s ∷ drop (i + 1) all)) ≤ 1000 =
-          subst (λ l. p.depth + statements_height (statements_tree l) ≤ 1000) next so_far.low in
+      subst (λ l. p.depth + statements_height (statements_tree l) ≤ 1000) next so_far.low in
       record {
         low = rest_low p.depth (statement_height (statement_tree s)) (statements_height behind) whole;
         faults = so_far.faults ∙ ap (λ l. statements_faults f p now (statements_tree l)) next

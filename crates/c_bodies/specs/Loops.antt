@@ -31,6 +31,6 @@ for_faults f p h start e step s =
 abbrev pub for_action : Functions → ℕ → Here → StartTree → Option ExpressionTree → Option SetTree → StatementTree → ActionTree
 for_action f depth h start e step s =
     two (start_action depth h start)
-        (P.Loop (condition (with_start depth h start).scope e)
-                (action_of f depth (with_start depth h start) s)
-                (step_action (with_start depth h start).scope step))
+    (P.Loop (condition (with_start depth h start).scope e)
+    (action_of f depth (with_start depth h start) s)
+    (step_action (with_start depth h start).scope step))

@@ -20,9 +20,7 @@ use crate::locals::declare_local;
 use c_program::{Action, Target, Term, Value};
 use c_rules::{CheckError, Meaning};
 use c_scopes::Scopes;
-use c_terms::{
-    Functions, Typed, array, check_call, check_expression, check_value, meaning_of,
-};
+use c_terms::{Functions, Typed, array, check_call, check_expression, check_value, meaning_of};
 use c_tree::{Call, Expression, ForStart, Identifier, Local, Place, ReturnType, Set};
 use lang::NoMemory;
 use std::alloc::Global;

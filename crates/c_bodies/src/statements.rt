@@ -68,9 +68,7 @@ fn check_statement(
 {
     match statement {
         Statement::Empty => Ok(Action::Nothing),
-        Statement::Local(local) => {
-            check_declaration(alloc, functions, place.depth, here, local)
-        }
+        Statement::Local(local) => { check_declaration(alloc, functions, place.depth, here, local) }
         Statement::Block(all) => {
             let all = check_block(alloc, functions, place, here, all.as_slice())?;
             Ok(Action::Sequence(all))
@@ -101,7 +99,16 @@ fn check_statement(
             Ok(Action::Loop(condition.term, body, behind))
         }
         Statement::For(start, condition, step, inner) => {
-            check_for(alloc, functions, deeper(place), here, start, condition, step, inner)
+            check_for(
+                alloc,
+                functions,
+                deeper(place),
+                here,
+                start,
+                condition,
+                step,
+                inner,
+            )
         }
         Statement::Break(at) => in_loop(place.in_loop, *at, Action::Break),
         Statement::Continue(at) => in_loop(place.in_loop, *at, Action::Continue),

@@ -1,14 +1,14 @@
 -- What is told of an initial expression, by whether its names are declared, whether it has one, and what it is worth.
-use Rattle.std.proofs.Common.{rules, ◌≡◌, ◌≢◌, ℕ, Bool, true, false, List, [], ◌∷◌, ◌++◌, Option, Some, None, refl, sym, ap, ◌∙◌}
+use Rattle.std.proofs.Common.{rules, ◌≡◌, ℕ, Bool, true, false, List, [], ◌∷◌, ◌++◌, Some, None, refl}
 use Rattle.std.specs.Prelude.{◌||◌}
 use Rattle.c_tree.specs.Trees.{ExpressionTree, InitialTree}
 use Rattle.c_tree.specs.Trees as T
 use Rattle.c_rules.specs.declared.errors.CheckError.{CheckError}
-use Rattle.c_rules.specs.declared.errors.CheckError.TheVariants.{NoMemory, NotConstant}
-use Rattle.c_rules.specs.Told.{first, Tells}
+use Rattle.c_rules.specs.declared.errors.CheckError.TheVariants.{NotConstant}
+use Rattle.c_rules.specs.Told.{first}
 use Rattle.c_rules.specs.Names.{Scope}
 use Rattle.c_rules.specs.Expressions.{expression_faults}
-use Rattle.c_rules.specs.Globals.{has_name, constant_of, not_constant, initial_faults, or_zero}
+use Rattle.c_rules.specs.Globals.{has_name, constant_of, not_constant, initial_faults}
 
 or_left : (a b : Bool) → a ≡ true → (a || b) ≡ true
 or_left true b e = refl
@@ -37,8 +37,8 @@ faulty_named scope (T.Binary o a b) e told =
     either_part e (expression_faults scope a) (expression_faults scope b) (has_name a) (has_name b) (faulty_named scope a) (faulty_named scope b) told
 faulty_named scope (T.Conditional c a b) e told =
     either_part e (expression_faults scope c ++ expression_faults scope a) (expression_faults scope b) (has_name c || has_name a) (has_name b)
-        (λ f. either_part f (expression_faults scope c) (expression_faults scope a) (has_name c) (has_name a) (faulty_named scope c) (faulty_named scope a))
-        (faulty_named scope b) told
+    (λ f. either_part f (expression_faults scope c) (expression_faults scope a) (has_name c) (has_name a) (faulty_named scope c) (faulty_named scope a))
+    (faulty_named scope b) told
 
 pub constant_told : (scope : Scope) (i : InitialTree) (w : ℕ) → has_name i.value ≡ false → constant_of scope i.value ≡ Some w → initial_faults scope i ≡ []
 constant_told scope i w plain worth = search (rules, plain, worth)

@@ -1,7 +1,6 @@
 -- The first fault of parts that follow one another.
-use Rattle.std.proofs.Common.{rules, ◌≡◌, ◌≢◌, List, [], ◌∷◌, ◌++◌, Option, Some, None, refl, ap, ◌∙◌}
+use Rattle.std.proofs.Common.{rules, ◌≡◌, List, [], ◌∷◌, ◌++◌, Some, ap, ◌∙◌}
 use Rattle.c_rules.specs.declared.errors.CheckError.{CheckError}
-use Rattle.c_rules.specs.declared.errors.CheckError.TheVariants.{NoMemory}
 use Rattle.c_rules.specs.Told.{first, Tells}
 
 -- what is first in the front is first in the whole

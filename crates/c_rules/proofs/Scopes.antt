@@ -1,11 +1,11 @@
 -- What a statement declares stands before what was declared, so that its end is found by the number of names.
-use Rattle.std.proofs.Common.{rules, ◌≡◌, ℕ, suc, ◌-◌, ◌+◌, ◌≤◌, List, [], ◌∷◌, ◌++◌, length, drop, refl, sym, ap, ◌∙◌, append_assoc, arith}
+use Rattle.std.proofs.Common.{◌≡◌, ℕ, ◌-◌, ◌≤◌, [], ◌∷◌, ◌++◌, length, drop, refl, sym, ap, ◌∙◌, append_assoc, arith}
 use Rattle.std.proofs.lemmas.List.{length-append}
 use Rattle.std.proofs.Math.Seq.{drop-append_seam}
 use Rattle.c_tree.specs.Trees.{StartTree, StatementTree, StatementsTree}
 use Rattle.c_tree.specs.Trees as T
 use Rattle.c_rules.specs.Names.{Scope}
-use Rattle.c_rules.specs.Locals.{Here, left, with_local}
+use Rattle.c_rules.specs.Locals.{Here}
 use Rattle.c_rules.specs.Statements.{with_start, after, after_all}
 
 -- the longer scope ends with the shorter one

@@ -1,6 +1,6 @@
 -- What a statement stands for (C99 6.8): its names are resolved, each declaration is reached where it stands, and all three
 -- loops are one.
-use Rattle.std.specs.Prelude.{ℕ, suc, List, [], ◌∷◌, Option, Some, None}
+use Rattle.std.specs.Prelude.{ℕ, suc, Option, Some, None}
 use Rattle.c_tree.specs.Trees.{ExpressionTree, ValueTree, PlaceTree, SetTree, LocalTree, StartTree, StatementTree, StatementsTree}
 use Rattle.c_tree.specs.Trees as T
 use Rattle.c_program.specs.declared.action.Target.{Target}
@@ -71,9 +71,9 @@ abbrev mutual
   action_of f depth h (T.While e s) = P.Loop (term_of h.scope e) (action_of f depth h s) P.Nothing
   action_of f depth h (T.For start e step s) =
       two (start_action (suc depth) h start)
-          (P.Loop (condition (with_start (suc depth) h start).scope e)
-                  (action_of f (suc depth) (with_start (suc depth) h start) s)
-                  (step_action (with_start (suc depth) h start).scope step))
+      (P.Loop (condition (with_start (suc depth) h start).scope e)
+      (action_of f (suc depth) (with_start (suc depth) h start) s)
+      (step_action (with_start (suc depth) h start).scope step))
   action_of f depth h (T.Break at) = P.Break
   action_of f depth h (T.Continue at) = P.Continue
   action_of f depth h (T.Return at v) = returned f h.scope v

@@ -1,5 +1,5 @@
 -- Calls (C99 6.5.2.2): what is not well formed in one, and what it stands for.
-use Rattle.std.specs.Prelude.{◌≡◌, ℕ, ◌==◌, List, [], ◌∷◌, ◌++◌, length, map, Option, Some, None, is_some, Bool, true, false, not, ◌||◌, if◌then◌else◌, slice_get, codes}
+use Rattle.std.specs.Prelude.{ℕ, ◌==◌, List, [], ◌∷◌, ◌++◌, length, map, Option, Some, None, is_some, Bool, true, not, ◌||◌, if◌then◌else◌, slice_get, codes}
 use Rattle.std.specs.Str.{bytes_eq}
 use Rattle.c_scopes.specs.Bound.{Bound, found}
 use Rattle.c_tree.specs.declared.declaration.ReturnType.{ReturnType}

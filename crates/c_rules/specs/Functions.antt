@@ -1,5 +1,5 @@
 -- Functions and prototypes (C99 5.1.2.2.1, 6.7.5.3 and 6.9.1): what is not well formed in one, and what it stands for.
-use Rattle.std.specs.Prelude.{◌≡◌, ℕ, zero, suc, ◌==◌, List, [], ◌∷◌, ◌++◌, length, map, Option, Some, None, Bool, true, false, not, ◌&&◌, ◌||◌, if◌then◌else◌, nat_lt, slice_get}
+use Rattle.std.specs.Prelude.{ℕ, suc, ◌==◌, List, [], ◌∷◌, ◌++◌, length, map, Option, Some, None, Bool, true, false, not, ◌&&◌, ◌||◌, if◌then◌else◌, nat_lt}
 use Rattle.c_tokens.specs.declared.constant.IntegerType.{IntegerType}
 use Rattle.c_tokens.specs.declared.constant.IntegerType.TheVariants.{Int, Unsigned}
 use Rattle.c_scopes.specs.Bound.{Bound, found}
@@ -8,7 +8,6 @@ use Rattle.c_tree.specs.declared.declaration.ReturnType.{ReturnType}
 use Rattle.c_tree.specs.declared.declaration.ReturnType.TheVariants as R
 use Rattle.c_tree.specs.declared.declaration.Parameter.{Parameter}
 use Rattle.c_tree.specs.declared.declaration.OpenParameter.{OpenParameter}
-use Rattle.c_tree.specs.declared.declaration.Prototype.{Prototype}
 use Rattle.c_tree.specs.Trees.{FunctionTree}
 use Rattle.c_program.specs.declared.function.Ending.{Ending}
 use Rattle.c_program.specs.declared.function.Ending.TheVariants.{Returns, ReturnsZero, GoesWrong}

@@ -1,8 +1,7 @@
 -- Global variables and arrays (C99 6.7.8 and 6.9.2): what is not well formed in one, and what it begins with.
-use Rattle.std.specs.Prelude.{◌≡◌, ℕ, zero, suc, ◌+◌, ◌==◌, List, [], ◌∷◌, ◌++◌, length, map, Option, Some, None, is_some, Bool, true, false, not, ◌&&◌, ◌||◌, if◌then◌else◌, nat_lt, nat_le, codes}
+use Rattle.std.specs.Prelude.{ℕ, ◌+◌, ◌==◌, List, [], ◌∷◌, ◌++◌, length, map, Option, Some, None, is_some, Bool, true, false, not, ◌&&◌, ◌||◌, if◌then◌else◌, nat_lt, nat_le, codes}
 use Rattle.std.specs.Str.{bytes_eq}
 use Rattle.c_tokens.specs.declared.constant.Constant.{Constant}
-use Rattle.c_tree.specs.declared.identifier.Identifier.{Identifier}
 use Rattle.c_tree.specs.Trees.{ExpressionTree, InitialTree, InitializerTree, GlobalTree}
 use Rattle.c_tree.specs.Trees as T
 use Rattle.c_program.specs.declared.function.GlobalVariable.{GlobalVariable}

@@ -10,7 +10,6 @@ use Rattle.c_rules.specs.declared.meaning.Meaning.TheVariants as M
 use Rattle.c_rules.specs.declared.place.Place.{Place}
 use Rattle.c_rules.specs.Told.{unless}
 use Rattle.c_rules.specs.Names.{Scope}
-use Rattle.c_rules.specs.Calls.{Functions}
 
 -- in a block of this place
 abbrev pub deeper : Place → Place

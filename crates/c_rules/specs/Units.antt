@@ -1,5 +1,5 @@
 -- A whole text (C99 5.1.2.2.1 and 6.9): when it is well formed, and the program that it then stands for.
-use Rattle.std.specs.Prelude.{◌≡◌, ℕ, zero, suc, ◌+◌, List, [], ◌∷◌, ◌++◌, length, map, Option, Some, None, is_some, Bool, true, false, codes}
+use Rattle.std.specs.Prelude.{◌≡◌, ℕ, suc, ◌+◌, List, [], ◌∷◌, ◌++◌, map, Option, Some, None, is_some, codes}
 use Rattle.c_scopes.specs.Bound.{Bound, found}
 use Rattle.c_tree.specs.Trees.{GlobalTree, FunctionTree, DeclarationTree, UnitTree}
 use Rattle.c_tree.specs.Trees as T

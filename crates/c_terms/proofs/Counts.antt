@@ -1,5 +1,5 @@
 -- An operator with another number of words than it takes goes wrong.
-use Rattle.std.proofs.Common.{rules, ◌≡◌, ◌≢◌, ℕ, List, [], ◌∷◌, refl}
+use Rattle.std.proofs.Common.{◌≡◌, ◌≢◌, ℕ, [], ◌∷◌, refl}
 use Rattle.std.specs.Prelude.{None}
 use Rattle.ints.specs.declared.operators.Op.{Op}
 use Rattle.ints.specs.declared.operators.Op.TheVariants as O

@@ -54,10 +54,7 @@ pub fn variable(
 }
 
 /// A name that has an index: the array's number, and the type of its cells.
-pub fn array(
-    scope: &Scopes<Meaning>,
-    name: &Identifier,
-) -> Result<(usize, IntegerType), CheckError>
+pub fn array(scope: &Scopes<Meaning>, name: &Identifier) -> Result<(usize, IntegerType), CheckError>
     ensures ok { IfOk result (λ a. array_faults (N.meaning_of scope.now name.now) name.now.offset ≡ []) }
     ensures number { IfOk result (λ a. a.0 ≡ array_number (N.meaning_of scope.now name.now)) }
     ensures kind { IfOk result (λ a. a.1 ≡ variable_type (N.meaning_of scope.now name.now)) }

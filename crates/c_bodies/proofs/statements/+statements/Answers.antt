@@ -1,4 +1,4 @@
-use Rattle.std.proofs.Common.{rules, ◌≡◌, ℕ, suc, ◌+◌, ◌≤◌, length, sym, ap, subst, ◌∙◌}
+use Rattle.std.proofs.Common.{rules, suc, ◌+◌, ◌≤◌, length, sym, ap, subst, ◌∙◌}
 use Rattle.c_tree.specs.Heights.{statement_height, statements_height}
 use Rattle.c_tree.specs.Trees as T
 use Rattle.c_tree.specs.Views.{statement_tree, statements_tree}
@@ -10,7 +10,7 @@ use Rattle.c_bodies.proofs.statements.+statements.Goals as goal
 pub check_statement-check_block-requires : goal.check_statement-check_block-requires
 check_statement-check_block-requires t c =
     let low : c.args.place.depth + statement_height (T.Block (statements_tree c.in-Block.all.items)) ≤ 1000 =
-        subst (λ s. c.args.place.depth + statement_height s ≤ 1000) (ap statement_tree c.in-Block.is ∙ view_block c.in-Block.all) c.requires in
+    subst (λ s. c.args.place.depth + statement_height s ≤ 1000) (ap statement_tree c.in-Block.is ∙ view_block c.in-Block.all) c.requires in
     (search (rules, the_lemmas), subst (λ l. c.args.place.depth + suc (statements_height (statements_tree l)) ≤ 1000) (sym c.as_slice.ensures.value) low)
 
 pub check_statements-loop-statement-preserved : goal.check_statements-loop-statement-preserved

@@ -1,4 +1,3 @@
-use Rattle.std.proofs.Common.{◌≡◌}
 use Rattle.std.proofs.lemmas.Result.{err_from_is_err_and}
 use Rattle.c_tree.specs.Views.{global_tree}
 use Rattle.c_rules.specs.Globals.{global_name_faults, initials_faults, initials_of, with_global}

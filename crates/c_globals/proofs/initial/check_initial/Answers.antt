@@ -1,4 +1,3 @@
-use Rattle.std.proofs.Common.{◌≡◌}
 use Rattle.c_tree.specs.Views.{initial_tree}
 use Rattle.c_globals.proofs.Constants.{fault_told}
 use Rattle.c_globals.proofs.initial.check_initial.Goals as goal

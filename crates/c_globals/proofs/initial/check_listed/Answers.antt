@@ -1,4 +1,3 @@
-use Rattle.std.proofs.Common.{◌≡◌}
 use Rattle.std.proofs.lemmas.Result.{err_from_is_err_and}
 use Rattle.c_globals.proofs.Listed.{stops}
 use Rattle.c_globals.proofs.initial.check_listed.Goals as goal

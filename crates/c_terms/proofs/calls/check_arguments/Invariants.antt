@@ -1,4 +1,4 @@
-use Rattle.std.proofs.Common.{◌≡◌, ℕ, map, length, ◌++◌}
+use Rattle.std.proofs.Common.{◌≡◌, map, length, ◌++◌}
 use Rattle.c_tree.specs.Views.{expression_tree}
 use Rattle.c_program.specs.Views.{term_tree}
 use Rattle.c_rules.specs.Calls as C
