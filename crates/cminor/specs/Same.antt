@@ -60,7 +60,6 @@ same_function f g = (nat_eq f.parameters g.parameters && nat_eq f.variables g.va
 
 -- ---- what is called equal is one
 
-
 op_tells : Tells same_op
 op_tells o p e =
     let one = sym (codes_lead_back.known o) ∙ ap op_of_code (eqb-true (code_of o) (code_of p) e) ∙ codes_lead_back.known p in cc

@@ -114,9 +114,5 @@ pub fn copy_function(alloc: Global, function: &Function) -> Result<Function, NoM
     ensures { IfOk result (λ copied. copied ≡ function.now) }
 {
     let body = copy_statement(alloc, function.body())?;
-    Ok(Function::new(
-        function.parameters(),
-        function.variables(),
-        body,
-    ))
+    Ok(Function::new(function.parameters(), function.variables(), body))
 }

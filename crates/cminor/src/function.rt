@@ -19,13 +19,11 @@ impl Model for Function {
 
     ghost Value = { FunctionTree };
 
-    ghost coded = {
-        let n : Coded ExpressionNode = Prim.hlevel codes in
+    ghost coded = { let n : Coded ExpressionNode = Prim.hlevel codes in
         let e : Coded ExpressionTree = expression_code n in
         let m : Coded StatementNode = Prim.hlevel (codes, e) in
         let s : Coded StatementTree = statement_code m in
-        Prim.hlevel (codes, s)
-    };
+        Prim.hlevel (codes, s) };
 
     ghost view = { λ f. record { parameters = f.parameters; variables = f.variables; body = statement_tree f.body } };
 

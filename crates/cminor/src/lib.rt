@@ -11,4 +11,3 @@ mod same;
 
 pub use function::Function;
 pub use language::Cminor;
-

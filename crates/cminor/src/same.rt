@@ -188,12 +188,7 @@ fn is_store(left: &Statement, global: u16, index: &Expression, value: &Expressio
     }
 }
 
-fn is_call(
-    left: &Statement,
-    callee: u8,
-    target: Option<u16>,
-    arguments: &Row<Expression>,
-) -> bool
+fn is_call(left: &Statement, callee: u8, target: Option<u16>, arguments: &Row<Expression>) -> bool
     ensures { result ≡ same_statement (statement_tree left.now) (T.Call callee target (map expression_tree arguments.now)) }
 {
     match left {

@@ -18,11 +18,7 @@ use std::alloc::Global;
 const HEIGHT_LIMIT: u16 = 1000;
 
 /// The body of a function with so many variables.
-pub fn read_body(
-    alloc: Global,
-    variables: u16,
-    bytes: &mut &[u8],
-) -> Result<Statement, FormError>
+pub fn read_body(alloc: Global, variables: u16, bytes: &mut &[u8]) -> Result<Statement, FormError>
     ensures { Reads (statement height_limit variables bytes.old.now) (statement_of result) bytes.new.now }
 {
     read_statement(alloc, HEIGHT_LIMIT, variables, bytes)

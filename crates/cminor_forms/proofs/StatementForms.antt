@@ -208,10 +208,22 @@ module _ (variables : ℕ) (few : variables ≤ 2 ^ 16) (part : Reading Expressi
   plain_takes =
       rows_take code_of_statement body_of PartsFit (plain_statements variables part) (
         skip_takes,
-        (assign_takes, (store_takes, (call_takes, (put_takes, (
-          made_takes (λ n. Exit n) number16_form body_of (Behind 9) (λ n fits. (refl, (fits, refl))),
-          (made_takes (λ e. Return e) returned_form body_of (Behind 10) (λ e fits. (refl, (fits, refl))), tt),
-        ))))),
+        (
+          assign_takes,
+          (
+            store_takes,
+            (
+              call_takes,
+              (
+                put_takes,
+                (
+                  made_takes (λ n. Exit n) number16_form body_of (Behind 9) (λ n fits. (refl, (fits, refl))),
+                  (made_takes (λ e. Return e) returned_form body_of (Behind 10) (λ e fits. (refl, (fits, refl))), tt),
+                ),
+              ),
+            ),
+          ),
+        ),
       )
 
   -- ---- statements with statements in them
