@@ -17,14 +17,14 @@ const MOST_LOCALS: usize = 256;
 const LONGEST_NAME: usize = 255;
 
 /// Whether a name has at most 255 bytes.
-pub(crate) fn is_short(name: &Identifier) -> bool
+pub fn is_short(name: &Identifier) -> bool
     ensures { result ≡ L.is_short name.now }
 {
     name.name.len() <= LONGEST_NAME
 }
 
 /// Whether a name is not declared in the scope of this depth itself.
-pub(crate) fn is_new(depth: u32, scope: &Scopes<Meaning>, name: &Identifier) -> bool
+pub fn is_new(depth: u32, scope: &Scopes<Meaning>, name: &Identifier) -> bool
     ensures { result ≡ L.is_new depth scope.now name.now }
 {
     match scope.find(name.name.as_slice()) {

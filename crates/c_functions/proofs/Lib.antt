@@ -1,0 +1,4 @@
+pub mod Endings
+pub mod Entering
+pub mod Meanings
+pub mod Naming

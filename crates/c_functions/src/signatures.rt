@@ -1,0 +1,49 @@
+//! The types of functions (C99 6.7.5.3).
+
+ghost use Rattle.std.specs.Prelude.{◌≡◌, map, IfOk};
+ghost use Rattle.c_rules.specs.Functions as F;
+
+use c_rules::Signature;
+use c_tree::{OpenParameter, Parameter, ReturnType};
+use lang::{NoMemory, Row};
+use std::alloc::Global;
+
+/// The type of a function with a body.
+pub fn signature_of(
+    alloc: Global,
+    result_type: ReturnType,
+    parameters: &[Parameter],
+) -> Result<Signature, NoMemory>
+    ensures { IfOk result (λ s. s ≡ F.signature_of result_type (map F.opened parameters.now)) }
+{
+    let mut kinds = Vec::new(alloc);
+    let mut rest = parameters;
+    while let [parameter, behind @ ..] = rest {
+        kinds.push(parameter.kind)?;
+        rest = behind;
+    }
+    Ok(Signature {
+        result: result_type,
+        kinds: Row::from_vec(kinds),
+    })
+}
+
+/// The type of a function that a prototype declares.
+pub fn prototype_signature(
+    alloc: Global,
+    result_type: ReturnType,
+    parameters: &[OpenParameter],
+) -> Result<Signature, NoMemory>
+    ensures { IfOk result (λ s. s ≡ F.signature_of result_type parameters.now) }
+{
+    let mut kinds = Vec::new(alloc);
+    let mut rest = parameters;
+    while let [parameter, behind @ ..] = rest {
+        kinds.push(parameter.kind)?;
+        rest = behind;
+    }
+    Ok(Signature {
+        result: result_type,
+        kinds: Row::from_vec(kinds),
+    })
+}
