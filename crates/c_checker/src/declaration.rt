@@ -1,0 +1,136 @@
+//! Declarations at the outside of a text (C99 6.9).
+
+ghost use Rattle.std.specs.Prelude.{◌≡◌, ◌≤◌, ◌++◌, [], map, OnOk, IfErr};
+ghost use Rattle.c_tree.specs.Heights.{IsLow};
+ghost use Rattle.c_tree.specs.Trees as T;
+ghost use Rattle.c_tree.specs.Views.{declaration_tree, function_tree, global_tree};
+ghost use Rattle.c_program.specs.Views as V;
+ghost use Rattle.c_rules.specs.Told.{Tells};
+ghost use Rattle.c_rules.specs.Functions as F;
+ghost use Rattle.c_rules.specs.Units as U;
+ghost use Rattle.c_checker.specs.Reached.{file_of, globals_in, functions_in};
+
+use crate::progress::Progress;
+use c_functions::{
+    check_function, check_name, check_prototype, declare_function, prototype_signature,
+    signature_of,
+};
+use c_globals::check_global;
+use c_rules::{CheckError, Signature};
+use c_tree::{Declaration, Function, Global as GlobalTree, Identifier, Prototype};
+use std::alloc::Global;
+
+/// A global.
+fn take_global(
+    alloc: Global,
+    progress: &mut Progress,
+    global: &GlobalTree,
+) -> Result<(), CheckError>
+    requires { progress.old.cells ≤ 65536 }
+    ensures ok { OnOk result (U.declaration_faults progress.old.functions.bodies (file_of progress.old) (T.Global (global_tree global.now)) ≡ []) }
+    ensures file { OnOk result (file_of progress.new ≡ U.behind (file_of progress.old) (T.Global (global_tree global.now))) }
+    ensures bodies { OnOk result (progress.new.functions.bodies ≡ progress.old.functions.bodies) }
+    ensures globals { OnOk result (progress.new.globals.items ≡ progress.old.globals.items ++ globals_in (file_of progress.old) (T.Global (global_tree global.now))) }
+    ensures functions { OnOk result (map V.function_tree progress.new.defined.items ≡ map V.function_tree progress.old.defined.items ++ functions_in progress.old.functions.bodies (file_of progress.old) (T.Global (global_tree global.now))) }
+    ensures cells { OnOk result (progress.new.cells ≤ 65536) }
+    ensures err { IfErr result (λ e. Tells e (U.declaration_faults progress.old.functions.bodies (file_of progress.old) (T.Global (global_tree global.now)))) }
+{
+    let number = progress.globals.len();
+    let cells = progress.cells;
+    let variable = check_global(alloc, &mut progress.here.scope, number, cells, global)?;
+    progress.cells = cells + variable.cells;
+    progress.globals.push(variable)?;
+    Ok(())
+}
+
+/// The name of a function with this number, or of a prototype.
+fn declare(
+    progress: &mut Progress,
+    name: &Identifier,
+    signature: Signature,
+    number: Option<usize>,
+) -> Result<(), CheckError>
+    ensures ok { OnOk result (F.function_name_faults progress.old.functions progress.old.here.scope name.now signature number ≡ []) }
+    ensures scope { OnOk result (progress.new.here.scope ≡ F.with_function progress.old.functions.signatures progress.old.here.scope name.now) }
+    ensures functions { OnOk result (progress.new.functions ≡ record { signatures = F.with_signature progress.old.functions.signatures progress.old.here.scope name.now signature; bodies = progress.old.functions.bodies }) }
+    ensures globals { OnOk result (progress.new.globals ≡ progress.old.globals) }
+    ensures defined { OnOk result (progress.new.defined ≡ progress.old.defined) }
+    ensures cells { OnOk result (progress.new.cells ≡ progress.old.cells) }
+    ensures err { IfErr result (λ e. Tells e (F.function_name_faults progress.old.functions progress.old.here.scope name.now signature number)) }
+{
+    check_name(&progress.functions, &progress.here.scope, name, &signature, number)?;
+    declare_function(&mut progress.functions, &mut progress.here.scope, name, signature)?;
+    Ok(())
+}
+
+/// A function with its body.
+#[tactic(auto, using(c_rules::proofs::Firsts::tells_front, c_rules::proofs::Firsts::tells_behind))]
+fn take_function(
+    alloc: Global,
+    progress: &mut Progress,
+    function: &Function,
+) -> Result<(), CheckError>
+    requires low { IsLow (T.Function (function_tree function.now)) }
+    requires cells { progress.old.cells ≤ 65536 }
+    ensures ok { OnOk result (U.declaration_faults progress.old.functions.bodies (file_of progress.old) (T.Function (function_tree function.now)) ≡ []) }
+    ensures file { OnOk result (file_of progress.new ≡ U.behind (file_of progress.old) (T.Function (function_tree function.now))) }
+    ensures bodies { OnOk result (progress.new.functions.bodies ≡ progress.old.functions.bodies) }
+    ensures globals { OnOk result (progress.new.globals.items ≡ progress.old.globals.items ++ globals_in (file_of progress.old) (T.Function (function_tree function.now))) }
+    ensures functions { OnOk result (map V.function_tree progress.new.defined.items ≡ map V.function_tree progress.old.defined.items ++ functions_in progress.old.functions.bodies (file_of progress.old) (T.Function (function_tree function.now))) }
+    ensures cells { OnOk result (progress.new.cells ≤ 65536) }
+    ensures err { IfErr result (λ e. Tells e (U.declaration_faults progress.old.functions.bodies (file_of progress.old) (T.Function (function_tree function.now)))) }
+{
+    let number = progress.defined.len();
+    let parameters = function.parameters.as_slice();
+    let signature = signature_of(alloc, function.result, parameters)?;
+    declare(progress, &function.name, signature, Some(number))?;
+    let made = check_function(alloc, &progress.functions, &mut progress.here, function)?;
+    progress.defined.push(made)?;
+    Ok(())
+}
+
+/// A prototype.
+#[tactic(auto, using(c_rules::proofs::Firsts::tells_front, c_rules::proofs::Firsts::tells_behind))]
+fn take_prototype(
+    alloc: Global,
+    progress: &mut Progress,
+    prototype: &Prototype,
+) -> Result<(), CheckError>
+    requires { progress.old.cells ≤ 65536 }
+    ensures ok { OnOk result (U.declaration_faults progress.old.functions.bodies (file_of progress.old) (T.Prototype' prototype.now) ≡ []) }
+    ensures file { OnOk result (file_of progress.new ≡ U.behind (file_of progress.old) (T.Prototype' prototype.now)) }
+    ensures bodies { OnOk result (progress.new.functions.bodies ≡ progress.old.functions.bodies) }
+    ensures globals { OnOk result (progress.new.globals.items ≡ progress.old.globals.items ++ globals_in (file_of progress.old) (T.Prototype' prototype.now)) }
+    ensures functions { OnOk result (map V.function_tree progress.new.defined.items ≡ map V.function_tree progress.old.defined.items ++ functions_in progress.old.functions.bodies (file_of progress.old) (T.Prototype' prototype.now)) }
+    ensures cells { OnOk result (progress.new.cells ≤ 65536) }
+    ensures err { IfErr result (λ e. Tells e (U.declaration_faults progress.old.functions.bodies (file_of progress.old) (T.Prototype' prototype.now))) }
+{
+    let parameters = prototype.parameters.as_slice();
+    let signature = prototype_signature(alloc, prototype.result, parameters)?;
+    declare(progress, &prototype.name, signature, None)?;
+    check_prototype(&mut progress.here, prototype)?;
+    Ok(())
+}
+
+/// The next declaration.
+pub(crate) fn take(
+    alloc: Global,
+    progress: &mut Progress,
+    declaration: &Declaration,
+) -> Result<(), CheckError>
+    requires low { IsLow (declaration_tree declaration.now) }
+    requires cells { progress.old.cells ≤ 65536 }
+    ensures ok { OnOk result (U.declaration_faults progress.old.functions.bodies (file_of progress.old) (declaration_tree declaration.now) ≡ []) }
+    ensures file { OnOk result (file_of progress.new ≡ U.behind (file_of progress.old) (declaration_tree declaration.now)) }
+    ensures bodies { OnOk result (progress.new.functions.bodies ≡ progress.old.functions.bodies) }
+    ensures globals { OnOk result (progress.new.globals.items ≡ progress.old.globals.items ++ globals_in (file_of progress.old) (declaration_tree declaration.now)) }
+    ensures functions { OnOk result (map V.function_tree progress.new.defined.items ≡ map V.function_tree progress.old.defined.items ++ functions_in progress.old.functions.bodies (file_of progress.old) (declaration_tree declaration.now)) }
+    ensures cells { OnOk result (progress.new.cells ≤ 65536) }
+    ensures err { IfErr result (λ e. Tells e (U.declaration_faults progress.old.functions.bodies (file_of progress.old) (declaration_tree declaration.now))) }
+{
+    match declaration {
+        Declaration::Global(global) => take_global(alloc, progress, global),
+        Declaration::Function(function) => take_function(alloc, progress, function),
+        Declaration::Prototype(prototype) => take_prototype(alloc, progress, prototype),
+    }
+}

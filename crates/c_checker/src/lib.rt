@@ -1,0 +1,14 @@
+//! The checker of C texts: exactly the well formed are accepted, and each is then a program whose names are
+//! resolved (C99 6.2, 6.5 and 6.7 to 6.9).
+#![tactic(auto)]
+
+mod bodies;
+mod declaration;
+mod program;
+mod progress;
+mod unit;
+
+pub use bodies::bodies_of;
+pub use unit::take_all;
+pub use program::CProgram;
+pub use progress::Progress;

@@ -1,0 +1,15 @@
+use c_bodies::Here;
+use c_program::{Function, GlobalVariable};
+use c_terms::Functions;
+
+/// What is known of a text behind some of its declarations: its names, its functions' signatures and bodies,
+/// and the globals and functions with bodies so far.
+#[derive(Drop)]
+pub struct Progress {
+    pub(crate) here: Here,
+    pub(crate) functions: Functions,
+    pub(crate) globals: Vec<GlobalVariable>,
+    pub(crate) defined: Vec<Function>,
+    /// The cells of all globals so far.
+    pub(crate) cells: usize,
+}

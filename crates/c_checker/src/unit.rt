@@ -1,0 +1,63 @@
+//! A whole text (C99 6.9).
+
+ghost use Rattle.std.specs.Prelude.{◌≡◌, ◌≤◌, [], map, OnOk, IfOk, IfErr};
+ghost use Rattle.std.specs.List.{AllByRecursion};
+ghost use Rattle.c_scopes.specs.Bound.{Bound};
+ghost use Rattle.c_tree.specs.Heights.{IsLow};
+ghost use Rattle.c_tree.specs.Views.{declaration_tree};
+ghost use Rattle.c_program.specs.Views.{function_tree};
+ghost use Rattle.c_rules.specs.Told.{Tells};
+ghost use Rattle.c_rules.specs.Units as U;
+ghost use Rattle.c_checker.specs.Reached.{file_of};
+
+use crate::declaration::take;
+use crate::progress::Progress;
+use c_bodies::Here;
+use c_rules::CheckError;
+use c_scopes::Scopes;
+use c_terms::Functions;
+use c_tree::Declaration;
+use std::alloc::Global;
+
+/// What is known before the first declaration, with the functions that have bodies.
+fn beginning(alloc: Global, bodies: Scopes<usize>) -> Progress
+    ensures file { file_of result ≡ U.empty_file }
+    ensures bodies { result.functions.bodies ≡ bodies }
+    ensures globals { result.globals.items ≡ [] }
+    ensures defined { result.defined.items ≡ [] }
+    ensures cells { result.cells ≡ 0 }
+{
+    Progress {
+        here: Here {
+            scope: Scopes::new(alloc),
+            locals: 0,
+        },
+        functions: Functions {
+            signatures: Vec::new(alloc),
+            bodies,
+        },
+        globals: Vec::new(alloc),
+        defined: Vec::new(alloc),
+        cells: 0,
+    }
+}
+
+/// What is known behind these declarations, which are a whole text's; or the first fault in them.
+pub fn take_all(
+    alloc: Global,
+    bodies: Scopes<usize>,
+    declarations: &[Declaration],
+) -> Result<Progress, CheckError>
+    requires { AllByRecursion IsLow (map declaration_tree declarations.now) }
+    ensures ok { IfOk result (λ p. U.declarations_faults bodies U.empty_file (map declaration_tree declarations.now) ≡ []) }
+    ensures globals { IfOk result (λ p. p.globals.items ≡ U.globals_from U.empty_file (map declaration_tree declarations.now)) }
+    ensures functions { IfOk result (λ p. map function_tree p.defined.items ≡ U.functions_from bodies U.empty_file (map declaration_tree declarations.now)) }
+    ensures bodies { IfOk result (λ p. p.functions.bodies ≡ bodies) }
+    ensures err { IfErr result (λ e. Tells e (U.declarations_faults bodies U.empty_file (map declaration_tree declarations.now))) }
+{
+    let mut progress = beginning(alloc, bodies);
+    for declaration in declarations {
+        take(alloc, &mut progress, declaration)?;
+    }
+    Ok(progress)
+}
