@@ -1,3 +1,4 @@
 pub mod Numbering
 pub mod Telling
 pub mod Walking
+pub mod Whole

@@ -24,7 +24,7 @@ fn add_body(
 }
 
 /// The functions with bodies, each with its number in the order of the text.
-pub fn bodies_of(
+pub(crate) fn bodies_of(
     alloc: Global,
     declarations: &[Declaration],
 ) -> Result<Scopes<usize>, NoMemory>

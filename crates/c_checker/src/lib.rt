@@ -3,12 +3,11 @@
 #![tactic(auto)]
 
 mod bodies;
+mod checking;
 mod declaration;
 mod program;
 mod progress;
 mod unit;
 
-pub use bodies::bodies_of;
-pub use unit::take_all;
+pub use checking::check;
 pub use program::CProgram;
-pub use progress::Progress;

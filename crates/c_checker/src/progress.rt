@@ -5,7 +5,7 @@ use c_terms::Functions;
 /// What is known of a text behind some of its declarations: its names, its functions' signatures and bodies,
 /// and the globals and functions with bodies so far.
 #[derive(Drop)]
-pub struct Progress {
+pub(crate) struct Progress {
     pub(crate) here: Here,
     pub(crate) functions: Functions,
     pub(crate) globals: Vec<GlobalVariable>,

@@ -43,7 +43,7 @@ fn beginning(alloc: Global, bodies: Scopes<usize>) -> Progress
 }
 
 /// What is known behind these declarations, which are a whole text's; or the first fault in them.
-pub fn take_all(
+pub(crate) fn take_all(
     alloc: Global,
     bodies: Scopes<usize>,
     declarations: &[Declaration],
