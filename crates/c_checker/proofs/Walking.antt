@@ -106,4 +106,4 @@ module _ (bodies : List (Bound ℕ)) (all : List Declaration) (old : Progress) (
   pub told_on : (e : CheckError) → Tells e (declaration_faults old.functions.bodies (file_of old) (declaration_tree d)) → Tells e (declarations_faults bodies empty_file (map declaration_tree all))
   told_on e told =
       stops bodies all e (file_of old) old.globals.items (map function_tree old.defined.items) i d within item so_far.walk
-          (subst (λ b. Tells e (declaration_faults b (file_of old) (declaration_tree d))) so_far.kept told)
+      (subst (λ b. Tells e (declaration_faults b (file_of old) (declaration_tree d))) so_far.kept told)

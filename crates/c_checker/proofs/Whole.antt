@@ -1,5 +1,5 @@
 -- A text whose declarations have no faults and one of whose bodies is main's is well formed.
-use Rattle.std.proofs.Common.{rules, ◌≡◌, ℕ, Bool, true, List, [], ◌++◌, map, Option, Some, None, sym, ap, refl, subst, ◌∙◌}
+use Rattle.std.proofs.Common.{rules, ◌≡◌, ℕ, true, List, [], ◌++◌, Option, Some, None, sym, ap, refl, subst, ◌∙◌}
 use Rattle.std.specs.Prelude.{is_some, codes}
 use Rattle.std.specs.Option.{option_map}
 use Rattle.c_scopes.specs.Bound.{Bound, found, binding_of}

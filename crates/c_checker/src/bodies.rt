@@ -10,11 +10,7 @@ use lang::NoMemory;
 use std::alloc::Global;
 
 /// A function with a body of this number; of two of one name the first counts.
-fn add_body(
-    bodies: &mut Scopes<usize>,
-    number: usize,
-    name: &Identifier,
-) -> Result<(), NoMemory>
+fn add_body(bodies: &mut Scopes<usize>, number: usize, name: &Identifier) -> Result<(), NoMemory>
     ensures { OnOk result (bodies.new ≡ U.with_body number bodies.old name.now.name) }
 {
     if bodies.find(name.name.as_slice()).is_none() {

@@ -58,8 +58,19 @@ fn declare(
     ensures cells { OnOk result (progress.new.cells ≡ progress.old.cells) }
     ensures err { IfErr result (λ e. Tells e (F.function_name_faults progress.old.functions progress.old.here.scope name.now signature number)) }
 {
-    check_name(&progress.functions, &progress.here.scope, name, &signature, number)?;
-    declare_function(&mut progress.functions, &mut progress.here.scope, name, signature)?;
+    check_name(
+        &progress.functions,
+        &progress.here.scope,
+        name,
+        &signature,
+        number,
+    )?;
+    declare_function(
+        &mut progress.functions,
+        &mut progress.here.scope,
+        name,
+        signature,
+    )?;
     Ok(())
 }
 

@@ -28,7 +28,11 @@ impl CProgram {
     ghost use Rattle.std.specs.Prelude.{◌≡◌};
     ghost use Rattle.c_checker.specs.Checked.{program_tree, IsChecked};
 
-    pub(crate) fn new(globals: Vec<GlobalVariable>, functions: Vec<Function>, main: usize) -> CProgram
+    pub(crate) fn new(
+        globals: Vec<GlobalVariable>,
+        functions: Vec<Function>,
+        main: usize,
+    ) -> CProgram
         requires { IsChecked (program_tree (record { globals = globals.items; functions = functions.items; main = main })) }
         ensures { result ≡ record { globals = globals.items; functions = functions.items; main = main } }
     {

@@ -1,8 +1,8 @@
 -- What the end of a body means, for main and for the others.
-use Rattle.std.proofs.Common.{◌≡◌, ℕ, List, Bool, true, false, refl}
+use Rattle.std.proofs.Common.{◌≡◌, ℕ, List, true, false, refl}
 use Rattle.c_tree.specs.declared.declaration.ReturnType.{ReturnType}
 use Rattle.c_tree.specs.declared.declaration.ReturnType.TheVariants as R
-use Rattle.c_program.specs.declared.function.Ending.TheVariants.{Returns, ReturnsZero, GoesWrong}
+use Rattle.c_program.specs.declared.function.Ending.TheVariants.{Returns, ReturnsZero}
 use Rattle.c_rules.specs.Globals.{is_main}
 use Rattle.c_rules.specs.Functions.{ending_of}
 

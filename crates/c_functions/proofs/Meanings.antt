@@ -1,6 +1,6 @@
 -- A function may be declared under a name by what the name means.
 use Rattle.std.proofs.Common.{◌≡◌, List, refl}
-use Rattle.std.specs.Prelude.{Option, Some, None, true}
+use Rattle.std.specs.Prelude.{Option, Some, None}
 use Rattle.std.specs.Option.{option_map}
 use Rattle.c_scopes.specs.Bound.{Bound, found}
 use Rattle.c_tree.specs.declared.identifier.Identifier.{Identifier}

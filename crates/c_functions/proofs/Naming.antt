@@ -1,6 +1,6 @@
 -- A function's name that is new in its file, and one that is declared already.
-use Rattle.std.proofs.Common.{◌≡◌, ℕ, List, [], ◌∷◌, ◌++◌, length, refl}
-use Rattle.std.specs.Prelude.{Option, Some, None, Bool, true, false, is_some}
+use Rattle.std.proofs.Common.{◌≡◌, List, [], ◌∷◌, ◌++◌, length, refl}
+use Rattle.std.specs.Prelude.{Option, Some, None, true, false, is_some}
 use Rattle.std.specs.Option.{option_map}
 use Rattle.c_scopes.specs.Bound.{Bound, found, binding_of}
 use Rattle.c_tree.specs.declared.identifier.Identifier.{Identifier}

@@ -11,10 +11,10 @@ use std::alloc::Global;
 /// The type of a function with a body.
 pub fn signature_of(
     alloc: Global,
-    result_type: ReturnType,
+    gives: ReturnType,
     parameters: &[Parameter],
 ) -> Result<Signature, NoMemory>
-    ensures { IfOk result (λ s. s ≡ F.signature_of result_type (map F.opened parameters.now)) }
+    ensures { IfOk result (λ s. s ≡ F.signature_of gives (map F.opened parameters.now)) }
 {
     let mut kinds = Vec::new(alloc);
     let mut rest = parameters;
@@ -23,7 +23,7 @@ pub fn signature_of(
         rest = behind;
     }
     Ok(Signature {
-        result: result_type,
+        result: gives,
         kinds: Row::from_vec(kinds),
     })
 }
@@ -31,10 +31,10 @@ pub fn signature_of(
 /// The type of a function that a prototype declares.
 pub fn prototype_signature(
     alloc: Global,
-    result_type: ReturnType,
+    gives: ReturnType,
     parameters: &[OpenParameter],
 ) -> Result<Signature, NoMemory>
-    ensures { IfOk result (λ s. s ≡ F.signature_of result_type parameters.now) }
+    ensures { IfOk result (λ s. s ≡ F.signature_of gives parameters.now) }
 {
     let mut kinds = Vec::new(alloc);
     let mut rest = parameters;
@@ -43,7 +43,7 @@ pub fn prototype_signature(
         rest = behind;
     }
     Ok(Signature {
-        result: result_type,
+        result: gives,
         kinds: Row::from_vec(kinds),
     })
 }

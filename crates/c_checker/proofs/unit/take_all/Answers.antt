@@ -1,4 +1,3 @@
-use Rattle.std.proofs.Common.{◌≡◌}
 use Rattle.std.proofs.lemmas.Result.{err_from_is_err_and}
 use Rattle.c_checker.proofs.Walking.{taken_on, told_on}
 use Rattle.c_checker.proofs.unit.take_all.Goals as goal
@@ -11,4 +10,4 @@ returns-in_err-take-clause-err c =
 pub loop-declaration-preserved : goal.loop-declaration-preserved
 loop-declaration-preserved c =
     taken_on c.args.bodies c.args.declarations.now c.loop-declaration.progress c.loop-declaration.declaration-index c.declaration-item.result c.loop-declaration-test.true c.declaration-item.is c.loop-declaration.invariant c.take.new.progress
-        c.in_ok-take.ensures.ok c.in_ok-take.ensures.file c.in_ok-take.ensures.bodies c.in_ok-take.ensures.globals c.in_ok-take.ensures.functions c.in_ok-take.ensures.cells
+    c.in_ok-take.ensures.ok c.in_ok-take.ensures.file c.in_ok-take.ensures.bodies c.in_ok-take.ensures.globals c.in_ok-take.ensures.functions c.in_ok-take.ensures.cells
