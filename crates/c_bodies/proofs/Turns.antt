@@ -1,6 +1,5 @@
 -- Statements one behind the other, as a loop reads them.
 use Rattle.std.proofs.Common.{◌≡◌, ℕ, suc, ◌+◌, ◌≤◌, ◌<◌, List, [], ◌∷◌, ◌++◌, length, drop, ap, sym, refl, subst, ◌∙◌, arith}
-use Rattle.std.proofs.Math.Seq.{drop-cons}
 use Rattle.std.proofs.Math.ListN.{get_or, drop_of_length-le}
 use Rattle.c_tree.specs.declared.statement.Statement.{Statement}
 use Rattle.c_tree.specs.Heights.{statement_height, statements_height}
@@ -15,6 +14,7 @@ use Rattle.c_rules.specs.Locals.{Here}
 use Rattle.c_rules.specs.Statements.{after, after_all, statement_faults, statements_faults}
 use Rattle.c_rules.specs.Actions.{action_of, actions_of}
 use Rattle.c_bodies.proofs.Heights.{rest_low}
+use Rattle.c_rules.proofs.Lists.{drop_next}
 
 -- What is left has the faults of the whole and declares what the whole declares, and its actions end those of the whole.
 pub record IsUnderWay (f : Functions) (p : Place) (start : Here) (all : List Statement) (now : Here) (actions : List Action) (rest : List Statement) : Type 0 where
@@ -22,11 +22,6 @@ pub record IsUnderWay (f : Functions) (p : Place) (start : Here) (all : List Sta
   pub faults : statements_faults f p start (statements_tree all) ≡ statements_faults f p now (statements_tree rest)
   pub names : after_all p.depth start (statements_tree all) ≡ after_all p.depth now (statements_tree rest)
   pub made : actions_of f p.depth start (statements_tree all) ≡ before actions (actions_of f p.depth now (statements_tree rest))
-
-drop_next : {A : Type 0} (xs : List A) (i : ℕ) (x : A) → i < length xs → x ≡ get_or xs i x → drop i xs ≡ x ∷ drop (i + 1) xs
-drop_next xs i x within same =
-    let past : suc i ≡ i + 1 = omega arith in
-    drop-cons xs i x within ∙ ap (λ y. y ∷ drop (suc i) xs) (sym same) ∙ ap (λ n. x ∷ drop n xs) past
 
 module _ (f : Functions) (p : Place) (start : Here) (all : List Statement) where
   pub begins : p.depth + statements_height (statements_tree all) ≤ 1000 → IsUnderWay f p start all start [] all

@@ -9,5 +9,4 @@ mod parts;
 mod statements;
 
 pub use here::Here;
-pub use locals::{is_new, is_short};
 pub use statements::check_statements;

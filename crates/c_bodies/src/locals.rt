@@ -6,32 +6,12 @@ ghost use Rattle.c_rules.specs.Locals as L;
 
 use crate::here::Here;
 use c_rules::{CheckError, Meaning};
-use c_scopes::Scopes;
+use c_terms::{is_new, is_short};
 use c_tokens::IntegerType;
 use c_tree::Identifier;
 
 /// The most locals of a function, parameters among them.
 const MOST_LOCALS: usize = 256;
-
-/// The most bytes of a name.
-const LONGEST_NAME: usize = 255;
-
-/// Whether a name has at most 255 bytes.
-pub fn is_short(name: &Identifier) -> bool
-    ensures { result ≡ L.is_short name.now }
-{
-    name.name.len() <= LONGEST_NAME
-}
-
-/// Whether a name is not declared in the scope of this depth itself.
-pub fn is_new(depth: u32, scope: &Scopes<Meaning>, name: &Identifier) -> bool
-    ensures { result ≡ L.is_new depth scope.now name.now }
-{
-    match scope.find(name.name.as_slice()) {
-        Some(binding) => binding.depth != depth,
-        None => true,
-    }
-}
 
 /// Whether a local may be declared here.
 fn check_local(depth: u32, here: &Here, name: &Identifier) -> Result<(), CheckError>

@@ -1,21 +1,16 @@
 -- Functions with bodies, as a loop numbers them.
 use Rattle.std.proofs.Common.{◌≡◌, ℕ, suc, ◌+◌, ◌≤◌, ◌<◌, List, [], ◌∷◌, length, drop, map, sym, ap, ◌∙◌, arith}
-use Rattle.std.proofs.Math.Seq.{drop-cons}
 use Rattle.std.proofs.Math.ListN.{get_or, drop_of_length-le}
 use Rattle.c_scopes.specs.Bound.{Bound}
 use Rattle.c_tree.specs.declared.declaration.Declaration.{Declaration}
 use Rattle.c_tree.specs.Views.{declaration_tree}
 use Rattle.c_rules.specs.Units.{bodies_from}
+use Rattle.c_rules.proofs.Lists.{drop_next}
 
 -- What is left gives what the whole gives, and no number is above its place.
 pub record IsNumbering (all : List Declaration) (bodies : List (Bound ℕ)) (number index : ℕ) : Type 0 where
   pub small : number ≤ index
   pub same : bodies_from 0 [] (map declaration_tree all) ≡ bodies_from number bodies (map declaration_tree (drop index all))
-
-pub drop_next : {A : Type 0} (xs : List A) (i : ℕ) (x : A) → i < length xs → x ≡ get_or xs i x → drop i xs ≡ x ∷ drop (i + 1) xs
-drop_next xs i x within same =
-    let past : suc i ≡ i + 1 = omega arith in
-    drop-cons xs i x within ∙ ap (λ y. y ∷ drop (suc i) xs) (sym same) ∙ ap (λ n. x ∷ drop n xs) past
 
 -- the next declaration
 pub next_same : (all : List Declaration) (bodies : List (Bound ℕ)) (number index : ℕ) (d : Declaration) → index < length all → d ≡ get_or all index d →

@@ -17,7 +17,7 @@ use Rattle.c_rules.specs.Units.{File, empty_file, behind, declaration_faults, de
 use Rattle.c_rules.proofs.Firsts.{tells_front}
 use Rattle.c_checker.specs.declared.progress.Progress.{Progress}
 use Rattle.c_checker.specs.Reached.{file_of, globals_in, functions_in}
-use Rattle.c_checker.proofs.Numbering.{drop_next}
+use Rattle.c_rules.proofs.Lists.{drop_next}
 
 globals_next : (file : File) (d : DeclarationTree) (ds : List DeclarationTree) → globals_from file (d ∷ ds) ≡ globals_in file d ++ globals_from (behind file d) ds
 globals_next file (T.Global g) ds = refl

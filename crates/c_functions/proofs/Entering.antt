@@ -9,10 +9,7 @@ use Rattle.c_rules.specs.Locals.{Here}
 use Rattle.c_rules.specs.Statements.{after_all}
 use Rattle.c_rules.specs.Functions.{with_parameter, with_parameters}
 use Rattle.c_functions.specs.Parameters.{from_none}
-use Rattle.c_rules.proofs.Scopes.{Ends, after_all_ends, is_longer, shortened}
-
-further : (r s t : Scope) → Ends t s → Ends s r → Ends t r
-further r s t (xs, e) (ys, f) = (xs ++ ys, e ∙ ap (λ l. xs ++ l) f ∙ sym (append_assoc xs ys r))
+use Rattle.c_rules.proofs.Scopes.{Ends, further, after_all_ends, is_longer, shortened}
 
 parameter_ends : (h : Here) (t : IntegerType) (x : Option Identifier) (at : ℕ) → Ends (with_parameter h (record { kind = t; name = x; offset = at })).scope h.scope
 parameter_ends h t None at = ([], refl)

@@ -10,12 +10,11 @@ ghost use Rattle.c_rules.specs.Actions as A;
 ghost use Rattle.c_rules.specs.Functions as F;
 ghost use Rattle.c_functions.specs.Parameters.{from_none};
 
-use crate::names::is_main;
 use crate::parameters::{check_open_parameters, check_parameters};
 use c_bodies::{Here, check_statements};
 use c_program::{Action, Ending, Function};
 use c_rules::{CheckError, Place};
-use c_terms::Functions;
+use c_terms::{Functions, is_main};
 use c_tree::{Identifier, Prototype, ReturnType};
 use lang::Row;
 use std::alloc::Global;

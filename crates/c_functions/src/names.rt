@@ -7,22 +7,14 @@ ghost use Rattle.c_rules.specs.Functions as F;
 ghost use Rattle.c_functions.specs.Meant.{may_mean};
 ghost use Rattle.c_functions.specs.Parameters.{int_of};
 
-use c_bodies::is_short;
 use c_rules::{CheckError, Meaning, Signature};
 use c_scopes::Scopes;
-use c_terms::{Functions, is_putchar, meaning_of};
+use c_terms::{Functions, is_main, is_putchar, is_short, meaning_of};
 use c_tokens::IntegerType;
 use c_tree::{Identifier, ReturnType};
 
 /// The most functions with bodies.
 const MOST_FUNCTIONS: usize = 64;
-
-/// Whether a name is `main`.
-pub(crate) fn is_main(name: &Identifier) -> bool
-    ensures { result ≡ G.is_main name.now.name }
-{
-    name.name.as_slice() == b"main".as_slice()
-}
 
 /// Whether two types are the same.
 fn same_type(one: IntegerType, other: IntegerType) -> bool

@@ -5,8 +5,9 @@ ghost use Rattle.c_rules.specs.Told.{Tells};
 ghost use Rattle.c_rules.specs.Functions as F;
 ghost use Rattle.c_functions.specs.Parameters.{named};
 
-use c_bodies::{Here, is_new, is_short};
+use c_bodies::Here;
 use c_rules::{CheckError, Meaning};
+use c_terms::{is_new, is_short};
 use c_tokens::IntegerType;
 use c_tree::{Identifier, OpenParameter, Parameter};
 

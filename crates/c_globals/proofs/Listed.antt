@@ -1,6 +1,5 @@
 -- Initial expressions one behind the other, as a loop reads them.
 use Rattle.std.proofs.Common.{◌≡◌, ℕ, suc, ◌+◌, ◌≤◌, ◌<◌, List, [], ◌∷◌, ◌++◌, length, drop, map, sym, ap, ◌∙◌, append_assoc, append-nil, subst, arith}
-use Rattle.std.proofs.Math.Seq.{drop-cons}
 use Rattle.std.proofs.Math.ListN.{get_or, drop_of_length-le}
 use Rattle.c_tree.specs.declared.declaration.Initial.{Initial}
 use Rattle.c_tree.specs.Views.{initial_tree}
@@ -9,16 +8,12 @@ use Rattle.c_rules.specs.Told.{Tells}
 use Rattle.c_rules.specs.Names.{Scope}
 use Rattle.c_rules.specs.Globals.{initial_faults, initials_faults, initial_words, or_zero, constant_of}
 use Rattle.c_rules.proofs.Firsts.{tells_front}
+use Rattle.c_rules.proofs.Lists.{drop_next}
 
 -- What is left has the faults of the whole, and its words end those of the whole.
 pub record IsUnderWay (scope : Scope) (all : List Initial) (words : List ℕ) (rest : List Initial) : Type 0 where
   pub faults : initials_faults scope (map initial_tree all) ≡ initials_faults scope (map initial_tree rest)
   pub values : initial_words scope (map initial_tree all) ≡ words ++ initial_words scope (map initial_tree rest)
-
-drop_next : {A : Type 0} (xs : List A) (i : ℕ) (x : A) → i < length xs → x ≡ get_or xs i x → drop i xs ≡ x ∷ drop (i + 1) xs
-drop_next xs i x within same =
-    let past : suc i ≡ i + 1 = omega arith in
-    drop-cons xs i x within ∙ ap (λ y. y ∷ drop (suc i) xs) (sym same) ∙ ap (λ n. x ∷ drop n xs) past
 
 module _ (scope : Scope) (all : List Initial) where
   pub goes_on : (words : List ℕ) (i : ℕ) (x : Initial) (w : ℕ) → i < length all → x ≡ get_or all i x → IsUnderWay scope all words (drop i all) →

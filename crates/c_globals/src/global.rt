@@ -3,34 +3,26 @@
 ghost use Rattle.std.specs.Prelude.{◌≡◌, ◌≤◌, ◌+◌, [], IsTrue, OnOk, IfOk, IfErr};
 ghost use Rattle.c_tree.specs.Views.{optional_tree, initializer_tree, global_tree};
 ghost use Rattle.c_rules.specs.Told.{Tells};
-ghost use Rattle.c_rules.specs.Locals.{is_new};
 ghost use Rattle.c_rules.specs.Globals as G;
 
 use crate::initial::check_initializer;
 use c_program::GlobalVariable;
 use c_rules::{CheckError, Meaning};
 use c_scopes::Scopes;
-use c_terms::is_putchar;
+use c_terms::{is_main, is_new, is_putchar, is_short};
 use c_tokens::Constant;
 use c_tree::{Global as GlobalTree, Identifier, Initializer};
 use lang::Row;
 use std::alloc::Global;
+
+/// How deep the scope of a file is.
+const FILE_SCOPE: u32 = 0;
 
 /// The most globals.
 const MOST_GLOBALS: usize = 1024;
 
 /// The most cells of an array, and of all globals.
 const MOST_CELLS: usize = 65536;
-
-/// The most bytes of a name.
-const LONGEST_NAME: usize = 255;
-
-/// Whether a name is `main` (C99 5.1.2.2.1).
-fn is_main(name: &Identifier) -> bool
-    ensures { result ≡ G.is_main name.now.name }
-{
-    name.name.as_slice() == b"main".as_slice()
-}
 
 /// How many cells a global has: one where it has no size.
 fn size_of(size: &Option<Constant>) -> usize
@@ -68,7 +60,7 @@ fn is_within(globals: usize, cells: usize, global: &GlobalTree) -> bool
     globals < MOST_GLOBALS
         && (1 <= size && size <= MOST_CELLS)
         && cells + size <= MOST_CELLS
-        && global.name.name.len() <= LONGEST_NAME
+        && is_short(&global.name)
 }
 
 /// Whether a global of this name, size and kind of initializer may be declared here.
@@ -84,7 +76,7 @@ fn check_name(
     ensures err { IfErr result (λ e. Tells e (G.global_name_faults scope.now globals cells (global_tree global.now))) }
 {
     let at = global.name.offset;
-    if !is_new(scope, &global.name) || is_putchar(&global.name) {
+    if !is_new(FILE_SCOPE, scope, &global.name) || is_putchar(&global.name) {
         return Err(CheckError::Redeclared(at));
     }
     if is_main(&global.name) {
@@ -97,16 +89,6 @@ fn check_name(
         return Err(CheckError::ArrayUse(at));
     }
     Ok(())
-}
-
-/// Whether a name is not declared in the file's scope.
-fn is_new(scope: &Scopes<Meaning>, name: &Identifier) -> bool
-    ensures { result ≡ is_new 0 scope.now name.now }
-{
-    match scope.find(name.name.as_slice()) {
-        Some(binding) => binding.depth != 0,
-        None => true,
-    }
 }
 
 /// What a global's name stands for.
@@ -137,7 +119,11 @@ pub fn check_global(
     ensures err { IfErr result (λ e. Tells e (G.global_faults scope.old globals cells (global_tree global.now))) }
 {
     check_name(scope, globals, cells, global)?;
-    scope.bind(global.name.name.as_slice(), 0, meaning(globals, global))?;
+    scope.bind(
+        global.name.name.as_slice(),
+        FILE_SCOPE,
+        meaning(globals, global),
+    )?;
     let words = check_initializer(alloc, scope, &global.initializer)?;
     Ok(GlobalVariable {
         cells: size_of(&global.size),

@@ -1,17 +1,18 @@
--- What is read is spelled by the tokens, and low; and where nothing is read, nothing is.
-use Rattle.std.proofs.Common.{◌≡◌, ℕ, ◌≤◌, List, Ok}
+-- What is read is spelled by the tokens, and low, and no other tree that is low is; and where nothing is read, nothing is.
+use Rattle.std.proofs.Common.{◌≡◌, ℕ, ◌≤◌, List, [], Result, Ok, sym, ◌∙◌}
 use Rattle.std.specs.List.{AllByRecursion}
 use Rattle.c_tokens.specs.declared.token.Token.{Token}
-use Rattle.c_tree.specs.Trees.{DeclarationTree}
+use Rattle.c_tree.specs.Trees.{DeclarationTree, UnitTree}
 use Rattle.c_tree.specs.Heights.{highest, IsLow}
-use Rattle.c_tree.specs.Declarations.{AreDeclarations}
+use Rattle.c_tree.specs.Declarations.{AreDeclarations, IsUnit, end_of}
+use Rattle.c_reading.specs.declared.fault.Fault.{Fault}
 use Rattle.c_reading.specs.declared.fault.Fault.TheVariants as F
 use Rattle.c_statement_laws.specs.Reading.{block_in, statement_at}
 use Rattle.c_statement_laws.proofs.Body.{block_takes, block_again, block_stays}
 use Rattle.c_declaration_laws.specs.Reading.{declarations}
 use Rattle.c_productions.proofs.Combining.{IsReader, Any, Keeps}
 use Rattle.c_declaration_laws.proofs.Declaring.{IsBody, FitsBlock}
-use Rattle.c_declaration_laws.proofs.Laws.{declarations_takes, declarations_low}
+use Rattle.c_declaration_laws.proofs.Laws.{declarations_takes, declarations_again, declarations_low, low_declarations}
 use Rattle.c_declaration_laws.proofs.Refusing.{low_refused, all_refused}
 use Rattle.c_reader.specs.declared.errors.ReadError.{ReadError}
 use Rattle.c_reader.specs.declared.errors.ReadError.TheVariants as E
@@ -34,6 +35,16 @@ spelled_read ts ds rest e = (declarations_takes block_law highest ts ds rest e).
 
 pub low_read : (ts : List Token) (ds : List DeclarationTree) (rest : List Token) → declarations highest ts ≡ Ok (ds, rest) → AllByRecursion IsLow ds
 low_read ts ds rest e = declarations_low ds (declarations_takes block_law highest ts ds rest e).1
+
+-- the first part of what was read
+same_read : (x y : List DeclarationTree × List Token) (r : Result (List DeclarationTree × List Token) Fault) → r ≡ Ok x → r ≡ Ok y → x.0 ≡ y.0
+same_read x y r e f = cc
+
+pub one_tree : (ts : List Token) (ds : List DeclarationTree) (rest : List Token) (end : ℕ) → declarations highest ts ≡ Ok (ds, rest) → end ≡ end_of ts →
+    (u : UnitTree) → IsUnit u ts → AllByRecursion IsLow u.declarations → record { declarations = ds; end = end } ≡ u
+one_tree ts ds rest end e at u s low =
+    let again = declarations_again block_law highest ts u.declarations s.0 (low_declarations u.declarations low) in
+    λ k. record { declarations = same_read (ds, rest) (u.declarations, []) (declarations highest ts) e again k; end = (at ∙ sym s.1) k }
 
 pub refused : (e : ReadError) (end : ℕ) (ts : List Token) → Tells e end (declarations highest ts) → Refuses e ts
 refused E.NoMemory end ts t = tt

@@ -3,6 +3,7 @@
 ghost use Rattle.std.specs.Prelude.{◌≡◌, IfOk, IfErr, Ok, map};
 ghost use Rattle.c_tree.specs.Heights.{highest, IsLow};
 ghost use Rattle.c_tree.specs.Declarations.{end_of, IsUnit};
+ghost use Rattle.c_tree.specs.Trees.{UnitTree};
 ghost use Rattle.c_tree.specs.Views.{declaration_tree};
 ghost use Rattle.std.specs.List.{AllByRecursion};
 ghost use Rattle.c_declaration_laws.specs.Reading.{is_next_there, declarations};
@@ -86,11 +87,12 @@ fn read_declarations(
     Ok((read, rest))
 }
 
-/// The text that the tokens spell. Reading is linear in the tokens.
-#[tactic(auto, using(crate::proofs::Sound::spelled_read, crate::proofs::Sound::low_read, crate::proofs::Sound::refused))]
+/// The text that the tokens spell: they spell no other that is not too high. Reading is linear in the tokens.
+#[tactic(auto, using(crate::proofs::Sound::spelled_read, crate::proofs::Sound::low_read, crate::proofs::Sound::one_tree, crate::proofs::Sound::refused))]
 pub fn read(alloc: Global, tokens: &[Token]) -> Result<Unit, ReadError>
     ensures ok { IfOk result (λ u. IsUnit (unit_tree u) tokens.now) }
     ensures low { IfOk result (λ u. AllByRecursion IsLow (unit_tree u).declarations) }
+    ensures only { (u : UnitTree) → IsUnit u tokens.now → AllByRecursion IsLow u.declarations → IfOk result (λ v. unit_tree v ≡ u) }
     ensures err { IfErr result (λ e. Refuses e tokens.now) }
 {
     let end = end_of(tokens);

@@ -12,10 +12,10 @@ use Rattle.c_rules.specs.Statements.{with_start, after, after_all}
 abbrev pub Ends : Scope → Scope → Type 0
 Ends longer shorter = (added : Scope) × (longer ≡ added ++ shorter)
 
-same : (s : Scope) → Ends s s
+pub same : (s : Scope) → Ends s s
 same s = ([], refl)
 
-further : (r s t : Scope) → Ends t s → Ends s r → Ends t r
+pub further : (r s t : Scope) → Ends t s → Ends s r → Ends t r
 further r s t (xs, e) (ys, f) = (xs ++ ys, e ∙ ap (λ l. xs ++ l) f ∙ sym (append_assoc xs ys r))
 
 pub after_ends : (depth : ℕ) (h : Here) (s : StatementTree) → Ends (after depth h s).scope h.scope

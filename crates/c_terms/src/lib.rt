@@ -13,5 +13,5 @@ pub use calls::{check_call, check_value, is_putchar};
 pub use constants::{constant_value, has_name};
 pub use expressions::check_expression;
 pub use functions::Functions;
-pub use names::{array, meaning_of, variable};
+pub use names::{array, is_main, is_new, is_short, meaning_of, variable};
 pub use typed::Typed;

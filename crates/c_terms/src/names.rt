@@ -1,9 +1,11 @@
-//! Names of variables (C99 6.5.1).
+//! Names: what they mean, and which may be declared (C99 6.2.1 and 6.5.1).
 
 ghost use Rattle.std.specs.Prelude.{◌≡◌, [], IfOk, IfErr};
 ghost use Rattle.c_program.specs.Views.{term_tree};
 ghost use Rattle.c_rules.specs.Told.{Tells};
 ghost use Rattle.c_rules.specs.Names as N;
+ghost use Rattle.c_rules.specs.Locals as L;
+ghost use Rattle.c_rules.specs.Globals as G;
 ghost use Rattle.c_rules.specs.Types.{variable_type};
 ghost use Rattle.c_rules.specs.Terms.{variable_term, array_number};
 ghost use Rattle.c_rules.specs.Expressions.{variable_faults, array_faults};
@@ -15,6 +17,33 @@ use c_scopes::Scopes;
 use c_tokens::IntegerType;
 use c_tree::Identifier;
 use std::alloc::Global;
+
+/// The most bytes of a name.
+const LONGEST_NAME: usize = 255;
+
+/// Whether a name has at most 255 bytes.
+pub fn is_short(name: &Identifier) -> bool
+    ensures { result ≡ L.is_short name.now }
+{
+    name.name.len() <= LONGEST_NAME
+}
+
+/// Whether a name is `main` (C99 5.1.2.2.1).
+pub fn is_main(name: &Identifier) -> bool
+    ensures { result ≡ G.is_main name.now.name }
+{
+    name.name.as_slice() == b"main".as_slice()
+}
+
+/// Whether a name is not declared in the scope of this depth itself.
+pub fn is_new(depth: u32, scope: &Scopes<Meaning>, name: &Identifier) -> bool
+    ensures { result ≡ L.is_new depth scope.now name.now }
+{
+    match scope.find(name.name.as_slice()) {
+        Some(binding) => binding.depth != depth,
+        None => true,
+    }
+}
 
 /// What a name means here, if it means anything.
 pub fn meaning_of(scope: &Scopes<Meaning>, name: &Identifier) -> Option<Meaning>

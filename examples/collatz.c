@@ -1,0 +1,31 @@
+/* The longest of Collatz's walks that begin below 1000: where it begins, and its steps as the result. */
+int putchar(int);
+
+void number(unsigned n) {
+    if (n > 9u) number(n / 10u);
+    putchar('0' + (int)(n % 10u));
+}
+
+unsigned steps(unsigned n) {
+    unsigned taken = 0u;
+    while (n != 1u) {
+        n = n % 2u == 0u ? n / 2u : 3u * n + 1u;
+        taken = taken + 1u;
+    }
+    return taken;
+}
+
+int main(void) {
+    unsigned best = 1u;
+    unsigned longest = 0u;
+    for (unsigned n = 1u; n < 1000u; n = n + 1u) {
+        unsigned taken = steps(n);
+        if (taken > longest) {
+            longest = taken;
+            best = n;
+        }
+    }
+    number(best);
+    putchar('\n');
+    return (int)longest;
+}

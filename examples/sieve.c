@@ -1,0 +1,22 @@
+/* The primes below 100, by the sieve of Eratosthenes. */
+int putchar(int);
+
+int composite[100];
+
+void number(int n) {
+    if (n >= 10) putchar('0' + n / 10);
+    putchar('0' + n % 10);
+    putchar(' ');
+}
+
+int main(void) {
+    int count = 0;
+    for (int n = 2; n < 100; n = n + 1) {
+        if (composite[n]) continue;
+        number(n);
+        count = count + 1;
+        for (int m = n * n; m < 100; m = m + n) composite[m] = 1;
+    }
+    putchar('\n');
+    return count;
+}
