@@ -7,3 +7,6 @@ mod error;
 
 pub use accepting::accept;
 pub use error::TextError;
+
+#[cfg(test)]
+mod tests;
