@@ -47,7 +47,7 @@ prints-stores g s None w = IsBeginningOf-refl s.output
 prints-stores g s (Some i) None = IsBeginningOf-refl s.output
 prints-stores g s (Some i) (Some w) = prints-with_globals s (put_cell s.globals g i w)
 
-prints-arrives : (target : Target) (w : ℕ) (s : State) → PrintsOn s.output (arrives target w s)
+pub prints-arrives : (target : Target) (w : ℕ) (s : State) → PrintsOn s.output (arrives target w s)
 prints-arrives Nowhere w s = IsBeginningOf-refl s.output
 prints-arrives (Local n) w s = IsBeginningOf-refl s.output
 prints-arrives (Global g) w s = prints-stores g s (Some 0) (Some w)

@@ -190,14 +190,15 @@ shown (Returns (Some w) s) = record { shown = Ended w; output = s.output }
 shown (RunsOut printed) = record { shown = Running; output = printed }
 shown (Fails printed) = record { shown = Wrong; output = printed }
 
--- a global's cells at the start: the listed words, then zeros
+-- so many cells: the listed words, then zeros
+abbrev pub filled : ℕ → List ℕ → List ℕ
+filled zero words = []
+filled (suc n) [] = 0 ∷ filled n []
+filled (suc n) (w ∷ ws) = w ∷ filled n ws
+
+-- a global's cells at the start
 abbrev pub cells_of : GlobalVariable → List ℕ
 cells_of g = filled g.cells g.first_words
-  where
-    filled : ℕ → List ℕ → List ℕ
-    filled zero words = []
-    filled (suc n) [] = 0 ∷ filled n []
-    filled (suc n) (w ∷ ws) = w ∷ filled n ws
 
 -- the globals at the start, and nothing printed
 abbrev pub start : List GlobalVariable → State

@@ -1,7 +1,7 @@
 -- The line that closes a run.
 use Rattle.std.specs.Prelude.{ℕ, List, ◌++◌, codes}
 use Rattle.std.specs.Fmt.{signed_decimal}
-use Rattle.ints.specs.Signed.{signed}
+use Rattle.ints.specs.Words.{signed}
 use Rattle.lang.specs.declared.shown.Shown.{Shown}
 use Rattle.lang.specs.declared.shown.Shown.TheVariants.{Running, Ended, Wrong}
 

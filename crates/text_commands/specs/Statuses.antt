@@ -1,8 +1,8 @@
 -- The exit statuses of the program.
-use Rattle.std.specs.Prelude.{ℕ}
+use Rattle.std.specs.Prelude.{ℕ, ◌==◌, if◌then◌else◌}
 use Rattle.lang.specs.declared.shown.Shown.{Shown}
 use Rattle.lang.specs.declared.shown.Shown.TheVariants.{Running, Ended, Wrong}
-use Rattle.c_text.specs.declared.error.TextError.TheVariants as T
+use Rattle.c_text.specs.Refusals.{number_of}
 use Rattle.run_output.specs.declared.error.RunError.TheVariants as R
 use Rattle.text_commands.specs.declared.error.CommandError.{CommandError}
 use Rattle.text_commands.specs.declared.error.CommandError.TheVariants.{Text, Run}
@@ -13,11 +13,8 @@ status_of_shown (Ended result) = 0
 status_of_shown Wrong = 5
 status_of_shown Running = 6
 
--- where a command is not done
+-- where a command is not done: 7 for want of memory, whose number is 1
 abbrev pub status_of_error : CommandError → ℕ
-status_of_error (Text T.NoMemory) = 7
-status_of_error (Text (T.Lex fault)) = 1
-status_of_error (Text (T.Read fault)) = 1
-status_of_error (Text (T.Check fault)) = 1
+status_of_error (Text fault) = if number_of fault == 1 then 7 else 1
 status_of_error (Run R.NoMemory) = 7
 status_of_error (Run R.Write) = 4

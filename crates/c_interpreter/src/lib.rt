@@ -1,0 +1,21 @@
+//! Runs checked C programs on a stack of its own: the output and the end at a bound are those that the
+//! definition of C's meaning shows, and no run grows the native stack.
+#![tactic(auto)]
+
+mod acting;
+mod arriving;
+mod calling;
+mod cells;
+mod evaluation;
+mod globals;
+mod leaving;
+mod left;
+mod locals;
+mod looping;
+mod machine;
+mod next;
+mod running;
+mod stack;
+mod starting;
+
+pub use running::run_program;

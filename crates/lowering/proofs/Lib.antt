@@ -1,0 +1,9 @@
+pub mod Sees
+pub mod Words
+pub mod Follows
+pub mod Given
+pub mod Statements
+pub mod Functions
+pub mod Levels
+pub mod Globals
+pub mod Programs
