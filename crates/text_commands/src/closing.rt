@@ -28,7 +28,7 @@ impl fmt::Display for Closing {
     fn fmt<W: fmt::Write>(&self, f: &mut fmt::Formatter<W>) -> fmt::Result {
         match self.0 {
             Shown::Ended(result) => {
-                let signed = result as i32;
+                let signed = result.cast_signed();
                 write!(f, "ended {signed}")
             }
             Shown::Wrong => write!(f, "wrong"),

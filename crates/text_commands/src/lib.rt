@@ -11,3 +11,6 @@ pub use checking::check_text;
 pub use closing::{Closing, status_of};
 pub use error::CommandError;
 pub use interpreting::interpret;
+
+#[cfg(test)]
+mod tests;
