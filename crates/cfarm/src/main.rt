@@ -1,11 +1,14 @@
 //! `cfarm`: a farm of compiler nodes in one process. `main` reads the command line and the files, and
-//! calls the crate `commands`.
+//! calls the crates `text_commands` and `commands`.
 #![tactic(auto)]
 
 ghost use Rattle.std.specs.Prelude.{IfOk};
-ghost use Rattle.commands.specs.Statuses.{IsStatus};
+ghost use Rattle.cfarm.specs.Statuses.{IsStatus};
 
+mod checking;
 mod command_line;
+mod files;
+mod interpreting;
 mod settling;
 
 use std::process::ExitCode;
@@ -31,6 +34,8 @@ fn run(rt: &HostRuntime) -> io::Result<u8>
     let command = command_line::command(alloc)?;
     match command.try_get_matches_from(words.as_slice()) {
         Ok(matches) => match matches.subcommand() {
+            Some(("check", words)) => checking::run(rt, words),
+            Some(("interpret", words)) => interpreting::run(rt, words),
             Some(("settle", words)) => settling::run(rt, words),
             _ => Ok(0),
         },

@@ -1,5 +1,5 @@
--- The exit statuses of the program.
-use Rattle.std.specs.Prelude.{◌≡◌, ◌⊎◌, ℕ}
+-- The exit statuses of `settle`.
+use Rattle.std.specs.Prelude.{ℕ}
 use Rattle.lang.specs.declared.errors.FormError.{FormError}
 use Rattle.lang.specs.declared.errors.FormError.TheVariants as F
 use Rattle.commands.specs.declared.error.SettleError.{SettleError}
@@ -18,7 +18,3 @@ refusal_of F.Short = Form F.Short
 refusal_of F.BadTag = Form F.BadTag
 refusal_of F.NotCanonical = Form F.NotCanonical
 refusal_of F.TooLarge = Form F.TooLarge
-
--- A status of the program: 0 where it is done, 2 for the command line or a file that cannot be read, else a refusal's.
-abbrev pub IsStatus : ℕ → Type 0
-IsStatus status = (status ≡ 0) ⊎ (status ≡ 2) ⊎ ((e : SettleError) × (status ≡ status_of e))

@@ -11,6 +11,7 @@ pub use checking::check_text;
 pub use closing::{Closing, status_of};
 pub use error::CommandError;
 pub use interpreting::interpret;
+pub use run_output::RunError;
 
 #[cfg(test)]
 mod tests;

@@ -1,6 +1,5 @@
 //! Texts through the lexer and the reader, with their answers.
 
-use crate::told::texts_told;
 use c_lexer::{LexError, lex};
 use c_reader::{ReadError, read};
 use std::alloc::Global;
@@ -138,16 +137,5 @@ fn what_is_just_high_enough(rt: HostRuntime) -> Result<(), Fail> {
     let ifs = ("void f(void){", "if(1)", ";", "");
     check_nested(rt.alloc(), ifs, 198, "210 Syntax at 1004")?;
     check_nested(rt.alloc(), ifs, 199, "211 TooDeep at 0")?;
-    Ok(())
-}
-
-#[test]
-fn lines_from_outside(rt: HostRuntime) -> Result<(), Fail> {
-    for line in texts_told().lines() {
-        if let Some((text, told)) = line.split_once(':') {
-            let bytes = hex::decode(rt.alloc(), text)?;
-            check_bytes(rt.alloc(), bytes.as_slice(), told)?;
-        }
-    }
     Ok(())
 }

@@ -1,0 +1,12 @@
+-- The exit statuses of the program: 0 where it is done, 2 for the command line or a file that cannot be read, and those of
+-- each command's refusals and runs.
+use Rattle.std.specs.Prelude.{◌≡◌, ◌⊎◌, ℕ}
+use Rattle.lang.specs.declared.shown.Shown.{Shown}
+use Rattle.commands.specs.declared.error.SettleError.{SettleError}
+use Rattle.commands.specs.Statuses.{status_of}
+use Rattle.text_commands.specs.declared.error.CommandError.{CommandError}
+use Rattle.text_commands.specs.Statuses.{status_of_error, status_of_shown}
+
+abbrev pub IsStatus : ℕ → Type 0
+IsStatus status =
+    (status ≡ 0) ⊎ (status ≡ 2) ⊎ ((e : SettleError) × (status ≡ status_of e)) ⊎ ((e : CommandError) × (status ≡ status_of_error e)) ⊎ ((s : Shown) × (status ≡ status_of_shown s))
