@@ -1,0 +1,1 @@
+pub use Rattle.lowering.specs.Programs
