@@ -1,0 +1,10 @@
+//! What passes from RTL to RTL share that change instructions by facts of each node: when two
+//! functions differ in their instructions alone, and that such a pass keeps the meaning of whole
+//! programs where each node is matched wherever its facts hold.
+#![tactic(auto)]
+
+mod fault;
+mod shape;
+
+pub use fault::Fault;
+pub use shape::has_same_shape;
