@@ -1,6 +1,6 @@
 -- What instructions do leaves the number of registers as it was.
-use Rattle.std.proofs.Common.{◌≡◌, ℕ, List, [], ◌∷◌, length, set, Option, Some, None, Bool, true, false, cond, refl, sym, ap, ◌∙◌}
-use Rattle.std.specs.Prelude.{option_and_then, slice_get, slice_set, nat_lt, replicate}
+use Rattle.std.proofs.Common.{◌≡◌, ℕ, List, [], ◌∷◌, length, set, Option, Some, None, Bool, true, false, cond, refl, ◌∙◌}
+use Rattle.std.specs.Prelude.{option_and_then, slice_get, slice_set, nat_lt}
 use Rattle.std.specs.Option.{option_map}
 use Rattle.std.proofs.lemmas.List.{length-set}
 use Rattle.ints.specs.MachineTable.{machine_table}

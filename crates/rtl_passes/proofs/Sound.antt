@@ -1,5 +1,5 @@
 -- A pass that matches each node wherever its facts hold keeps the meaning of whole programs.
-use Rattle.std.proofs.Common.{◌≡◌, ℕ, zero, suc, List, [], ◌∷◌, length, Option, Some, None, cond, ◌&&◌, refl, sym, ap, ◌∙◌, subst}
+use Rattle.std.proofs.Common.{◌≡◌, ℕ, suc, List, [], ◌∷◌, length, Option, Some, None, cond, ◌&&◌, refl, sym, ap, ◌∙◌, subst}
 use Rattle.std.specs.Prelude.{slice_get, ◌==◌, codes, replicate}
 use Rattle.std.specs.Str.{bytes_eq}
 use Rattle.std.proofs.lemmas.List.{length-replicate}
@@ -12,7 +12,7 @@ use Rattle.machine.specs.Frames.{main_number}
 use Rattle.rtl_parts.specs.Data.{Data}
 use Rattle.rtl.specs.Function.{FunctionData}
 use Rattle.rtl.specs.Frames.{State, printed}
-use Rattle.rtl.specs.Meaning.{function_step, next, takes_none, begins, start, run}
+use Rattle.rtl.specs.Meaning.{function_step, next, takes_none, begins, run}
 use Rattle.rtl.specs.Growth.{grows}
 use Rattle.rtl_passes.specs.Facts.{IsStepwise, Pair, AreAlike}
 use Rattle.rtl_passes.proofs.Simulation.{pair_of, matches}

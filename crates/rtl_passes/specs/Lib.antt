@@ -1,4 +1,5 @@
 pub mod Shape
 pub mod Effects
 pub mod Facts
+pub mod Faults
 pub use Rattle.rtl.specs.Function

@@ -4,7 +4,9 @@
 #![tactic(auto)]
 
 mod fault;
+mod same;
 mod shape;
 
 pub use fault::Fault;
+pub use same::is_same;
 pub use shape::has_same_shape;

@@ -1,0 +1,4 @@
+pub mod Known
+pub mod Rules
+pub use Rattle.rtl_passes.specs.Shape
+pub use Rattle.rtl_passes.specs.Facts
