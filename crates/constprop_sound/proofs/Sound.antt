@@ -23,7 +23,7 @@ use Rattle.rtl_passes.specs.Facts.{IsMatched, IsStepwise}
 use Rattle.rtl_passes.proofs.Sound.{stepwise_keeps}
 use Rattle.constprop_sound.specs.declared.fact.Fact.{Fact}
 use Rattle.constprop_sound.specs.Known.{fact_at, known_value, known_behind, decided, arms, folded_act, folded, written_by, value_by}
-use Rattle.constprop_sound.specs.Rules.{facts_at, AreKnown, LeadsOn, MayBecome, IsRightAs, IsPropagated}
+use Rattle.constprop_sound.specs.Rules.{facts_at, LeadsTo, LeadsOn, MayBecome, IsRightAs, IsPropagated}
 use Rattle.constprop_sound.proofs.Holding.{FactsHold, fact_among, decided_holds, operate_known, act_known, call_known}
 
 -- the facts at a node hold
@@ -85,10 +85,10 @@ WithinAt lists d = (s r w : ℕ) → fact_at (facts_at lists s) r ≡ Some w →
 module _ (lists : List (List Fact)) (n : ℕ) (d : Data) (hold : HoldAt lists n d) (within : WithinAt lists d) where
   -- the facts at a node are known behind this one
   abbrev KnownAt : Instruction → ℕ → Type 0
-  KnownAt i s = AreKnown (written_by i) (value_by i (facts_at lists n)) (facts_at lists n) (facts_at lists s)
+  KnownAt i s = LeadsTo lists (facts_at lists n) i s
 
   known_at : (i : Instruction) (s : ℕ) → KnownAt i s → (r w : ℕ) → fact_at (facts_at lists s) r ≡ Some w → known_behind (written_by i) (value_by i (facts_at lists n)) (facts_at lists n) r ≡ Some w
-  known_at i s known r w e = fact_among (λ fact. known_behind (written_by i) (value_by i (facts_at lists n)) (facts_at lists n) fact.register ≡ Some fact.word) (facts_at lists s) known r w e
+  known_at i s known r w e = fact_among (λ fact. known_behind (written_by i) (value_by i (facts_at lists n)) (facts_at lists n) fact.register ≡ Some fact.word) (facts_at lists s) known.known r w e
 
   act_leads : (act : Act) (s : ℕ) (o : Option Data) → does act d ≡ o → KnownAt (Do act s) s → HoldsAfter (HoldAt lists) d (onward s o)
   act_leads act s None is known = tt

@@ -35,9 +35,13 @@ facts_at lists n = slice_index_or lists n []
 abbrev pub AreKnown : Option ℕ → Option ℕ → List Fact → List Fact → Type 0
 AreKnown written value before after = All (λ fact. known_behind written value before fact.register ≡ Some fact.word) after
 
--- behind the instruction, the facts at each node where it can go on are known
+-- behind the instruction, the facts at a node are known
+pub record LeadsTo (lists : List (List Fact)) (facts : List Fact) (i : Instruction) (s : ℕ) : Type 0 where
+  pub known : AreKnown (written_by i) (value_by i facts) facts (facts_at lists s)
+
+-- so it is at each node where it can go on
 abbrev pub LeadsOn : List (List Fact) → List Fact → Instruction → Type 0
-LeadsOn lists facts i = All (λ s. AreKnown (written_by i) (value_by i facts) facts (facts_at lists s)) (edges_of i facts)
+LeadsOn lists facts i = All (LeadsTo lists facts i) (edges_of i facts)
 
 -- the instruction itself, or what it is made where the facts allow that
 abbrev pub MayBecome : List Fact → Instruction → Instruction → Type 0
@@ -49,8 +53,12 @@ pub record IsRightAs (first : ℕ) (lists : List (List Fact)) (n : ℕ) (i o : I
   pub leads : LeadsOn lists (facts_at lists n) i
   pub becomes : MayBecome (facts_at lists n) i o
 
+-- so among these nodes of the input and the output
+abbrev pub IsRightIn : ℕ → List Instruction → List Instruction → List (List Fact) → ℕ → Type 0
+IsRightIn first inputs outputs lists n = (i o : Instruction) → slice_get inputs n ≡ Some i → slice_get outputs n ≡ Some o → IsRightAs first lists n i o
+
 abbrev pub IsRightAt : FunctionData → FunctionData → List (List Fact) → ℕ → Type 0
-IsRightAt input output lists n = (i o : Instruction) → slice_get input.nodes n ≡ Some i → slice_get output.nodes n ≡ Some o → IsRightAs input.entry lists n i o
+IsRightAt input output lists n = IsRightIn input.entry input.nodes output.nodes lists n
 
 -- What is accepted: the form is kept, and each node keeps the rules.
 pub record IsPropagated (input output : FunctionData) (lists : List (List Fact)) : Type 0 where

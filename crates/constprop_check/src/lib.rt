@@ -1,0 +1,14 @@
+//! The first pass, from RTL to RTL: anybody may propose an output and facts for each node, and the
+//! check says whether they keep the rules of constant propagation. What is accepted keeps the
+//! meaning of whole programs.
+#![tactic(auto)]
+
+mod edges;
+mod lists;
+mod nodes;
+mod verdict;
+
+pub use constprop_sound::Fact;
+pub use lists::FactLists;
+pub use rtl_passes::Fault;
+pub use verdict::{check, why};
