@@ -1,2 +1,3 @@
+pub mod Baseline
 pub mod Rising
 pub mod Verdicts

@@ -1,11 +1,11 @@
 -- The bytes of the facts: for each node their number and the facts, each a register and a word.
-use Rattle.std.proofs.Common.{◌≡◌, ℕ, ◌<◌, ◌≤◌, ◌^◌, List, ◌++◌, length, refl, arith}
+use Rattle.std.proofs.Common.{ℕ, ◌<◌, ◌≤◌, ◌^◌, List, ◌++◌, length, refl, arith}
 use Rattle.std.specs.Int.{w16, w32, to_be_bytes}
 use Rattle.lang.specs.Reading.{Reading, number, below, both, made}
 use Rattle.lang.proofs.Forms.{IsForm}
 use Rattle.lang.proofs.Parts.{number16_form, number32_form, below_form, both_form, made_form}
 use Rattle.rtl.specs.Function.{FunctionData}
-use Rattle.rtl_passes.specs.ListForm.{ListsFit, list_text, lists_text, list, lists, lists_form}
+use Rattle.rtl_passes.specs.ListForm.{ListsFit, lists_text, lists, lists_form}
 use Rattle.constprop_sound.specs.declared.fact.Fact.{Fact}
 use Rattle.constprop_sound.specs.Rules.{FactFits}
 
@@ -35,3 +35,7 @@ cert_text facts = lists_text fact_text facts
 -- what is read is spelled so, and what is spelled so is read
 pub facts_form : (registers count : ℕ) → registers ≤ 2 ^ 16 → IsForm (lists (fact registers) count) cert_text (ListsFit (FactFits registers) count)
 facts_form registers count few = lists_form (fact_form registers few) count
+
+-- a number of two bytes says how many facts there are
+pub record IsShort (facts : List Fact) : Type 0 where
+  pub few : length facts < 2 ^ 16

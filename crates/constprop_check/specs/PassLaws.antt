@@ -1,7 +1,5 @@
 -- The laws that the pass owes as one of the pipeline.
-use Rattle.std.proofs.Common.{◌≡◌, ℕ, ◌<◌, ◌≤◌, ◌^◌, List, [], ◌∷◌, ◌++◌, length, arith}
-use Rattle.std.specs.Prelude.{All}
-use Rattle.std.specs.List.{AllByRecursion}
+use Rattle.std.proofs.Common.{◌≡◌, ℕ, List, ◌++◌, length, arith}
 use Rattle.std.proofs.lemmas.List.Elements.{recursion_from_All}
 use Rattle.lang.specs.Keeps.{Keeps}
 use Rattle.lang.specs.Programs.{ProgramOf}

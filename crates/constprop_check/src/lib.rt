@@ -3,12 +3,16 @@
 //! meaning of whole programs.
 #![tactic(auto)]
 
+mod base;
 mod edges;
+mod form;
 mod lists;
 mod nodes;
+mod pass;
 mod verdict;
 
 pub use constprop_sound::Fact;
 pub use lists::FactLists;
+pub use pass::ConstProp;
 pub use rtl_passes::Fault;
 pub use verdict::{check, why};

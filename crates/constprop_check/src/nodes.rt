@@ -85,12 +85,7 @@ fn leads_on(lists: &[Row<Fact>], facts: &[Fact], instruction: &Instruction) -> b
 }
 
 /// Whether the facts at this node are known behind the instruction.
-fn leads_to(
-    lists: &[Row<Fact>],
-    facts: &[Fact],
-    instruction: &Instruction,
-    successor: u16,
-) -> bool
+fn leads_to(lists: &[Row<Fact>], facts: &[Fact], instruction: &Instruction, successor: u16) -> bool
     requires lists { All (RiseFrom 0) lists.now }
     requires facts { RiseFrom 0 facts.now }
     ensures { IsTrue result ↔ LeadsTo lists.now facts.now instruction.now successor }

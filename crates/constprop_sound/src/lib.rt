@@ -8,5 +8,7 @@ mod known;
 mod law;
 
 pub use fact::Fact;
-pub use known::{act_target, act_value, apply, decision, fold, holds, known_result, value, word_of, written};
+pub use known::{
+    act_target, act_value, apply, decision, fold, holds, known_result, value, word_of, written,
+};
 pub use law::propagated_keeps;

@@ -3,10 +3,12 @@
 //! programs where each node is matched wherever its facts hold.
 #![tactic(auto)]
 
+mod empty;
 mod fault;
 mod same;
 mod shape;
 
+pub use empty::empty_lists;
 pub use fault::Fault;
 pub use same::is_same;
 pub use shape::has_same_shape;

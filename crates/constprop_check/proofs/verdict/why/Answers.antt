@@ -1,4 +1,4 @@
-use Rattle.std.proofs.Common.{◌≡◌, length, rules}
+use Rattle.std.proofs.Common.{◌≡◌, rules}
 use Rattle.std.specs.Option.{option_map}
 use Rattle.rtl_passes.specs.declared.fault.Fault.TheVariants.{Node}
 use Rattle.constprop_check.proofs.Verdicts.{tells-lowest}
