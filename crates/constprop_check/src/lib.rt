@@ -12,7 +12,7 @@ mod pass;
 mod verdict;
 
 pub use constprop_sound::Fact;
-pub use lists::FactLists;
+pub use lists::{FactLists, facts_of};
 pub use pass::ConstProp;
 pub use rtl_passes::Fault;
 pub use verdict::{check, why};

@@ -13,7 +13,7 @@ use rtl_passes::has_same_shape;
 pub type FactLists = Row<Row<Fact>>;
 
 /// The facts at a node.
-pub(crate) fn facts_of(lists: &[Row<Fact>], node: usize) -> &[Fact]
+pub fn facts_of(lists: &[Row<Fact>], node: usize) -> &[Fact]
     ensures facts { result.now ≡ facts_at lists.now node }
 {
     match lists.get(node) {

@@ -1,8 +1,10 @@
 //! What facts say, and what is known of an instruction where they hold.
 
-ghost use Rattle.std.specs.Prelude.{◌≡◌, ◌==◌, [], ◌∷◌, option_and_then};
+ghost use Rattle.std.specs.Prelude.{◌≡◌, ◌==◌, ℕ, [], ◌∷◌, option_and_then, IfSome};
 ghost use Rattle.ints.specs.CondTable.{cond_table};
 ghost use Rattle.ints.specs.MachineTable.{machine_table};
+ghost use Rattle.rtl_parts.specs.Fits.{ActFits};
+ghost use Rattle.rtl.specs.Function.{InstructionFits};
 ghost use Rattle.constprop_sound.specs.Known.{fact_at, known_words, known_value, target_of, written_by, value_by, decided, folded_act, folded};
 
 use crate::fact::Fact;
@@ -115,7 +117,8 @@ pub fn value(instruction: &Instruction, facts: &[Fact]) -> Option<u32>
 }
 
 fn fold_act(act: &Act, facts: &[Fact]) -> Option<Act>
-    ensures { result ≡ folded_act act.now facts.now }
+    ensures value { result ≡ folded_act act.now facts.now }
+    ensures fits { (registers : ℕ) → ActFits registers act.now → IfSome result (ActFits registers) }
 {
     match act {
         Act::Move { target, .. } | Act::Operate { target, .. } => {
@@ -131,7 +134,8 @@ fn fold_act(act: &Act, facts: &[Fact]) -> Option<Act>
 
 /// The instruction made simpler, where the facts allow it; takes no memory.
 pub fn fold(instruction: &Instruction, facts: &[Fact]) -> Option<Instruction>
-    ensures { result ≡ folded instruction.now facts.now }
+    ensures value { result ≡ folded instruction.now facts.now }
+    ensures fits { (registers nodes : ℕ) → InstructionFits registers nodes instruction.now → IfSome result (InstructionFits registers nodes) }
 {
     match instruction {
         Instruction::Do { act, successor } => {

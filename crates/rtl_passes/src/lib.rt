@@ -5,10 +5,12 @@
 
 mod empty;
 mod fault;
+mod nodes;
 mod same;
 mod shape;
 
 pub use empty::empty_lists;
 pub use fault::Fault;
+pub use nodes::with_nodes;
 pub use same::is_same;
 pub use shape::has_same_shape;

@@ -1,0 +1,3 @@
+//! Worked rows of the passes over RTL: written offers, what is wrong with the rest, and what the
+//! optimisers propose.
+#![tactic(auto)]
