@@ -1,6 +1,5 @@
 -- Each node of a function in range is in range.
 use Rattle.std.proofs.Common.{◌≡◌, ◌<◌, ℕ, List, length, get_or, sym, subst, ap, ◌∙◌}
-use Rattle.std.specs.List.{AllByRecursion}
 use Rattle.std.proofs.lemmas.List.Elements.{All-from_recursion}
 use Rattle.rtl.specs.declared.instruction.Instruction.{Instruction}
 use Rattle.rtl.specs.Function.{FunctionData, InstructionFits, IsFunction}

@@ -13,6 +13,7 @@ use rtl_passes::with_nodes;
 use std::alloc::Global;
 
 /// Proposes constants, each where the next word is odd.
+#[derive(Clone, Copy, Debug)]
 pub struct ConstOracle;
 
 impl Oracle for ConstOracle {
