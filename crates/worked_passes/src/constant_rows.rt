@@ -2,7 +2,8 @@
 
 use crate::told::constants_told;
 use constprop_check::{ConstProp, Fault, check, why};
-use offers::Offer;
+use lang::{FormError, Pass};
+use offers::{Offer, PartsOf};
 use std::alloc::Global;
 use std::test::Fail;
 
@@ -32,11 +33,15 @@ const DIVIDES_NOT: &str = "0200000300000004\
     010002000000000003\
     09010002";
 
+fn parts_of<P: Pass>(alloc: Global, bytes: &[u8]) -> Result<PartsOf<P>, FormError> {
+    Offer::<P>::parts(alloc, bytes)
+}
+
 /// What is said of the offer that is written so: `yes`, `shape`, `node` with a number, or `form` with
 /// the number of a fault in the bytes.
 fn verdict(alloc: Global, text: &str) -> Result<String, Fail> {
     let bytes = hex::decode(alloc, text)?;
-    let parts = match Offer::<ConstProp>::parts(alloc, &bytes) {
+    let parts = match parts_of::<ConstProp>(alloc, &bytes) {
         Ok(parts) => parts,
         Err(fault) => return Ok(format!(in alloc; "form{}", fault.number())?),
     };
@@ -59,19 +64,44 @@ fn verdict_of(alloc: Global, input: &str, output: &str, facts: &str) -> Result<S
 #[test]
 fn a_product_becomes_its_value(rt: HostRuntime) -> Result<(), Fail> {
     let alloc = rt.alloc();
-    let told = verdict_of(alloc, SQUARE, FOUR, "000000010000000000020002000000000002000100000004")?;
+    let told = verdict_of(
+        alloc,
+        SQUARE,
+        FOUR,
+        "000000010000000000020002000000000002000100000004",
+    )?;
     assert_eq!(rt; told.as_str(), "yes");
     let told = verdict_of(alloc, SQUARE, SQUARE, "000000000000")?;
     assert_eq!(rt; told.as_str(), "yes");
-    let told = verdict_of(alloc, SQUARE, FOUR, "000000010000000000020002000000000002000100000005")?;
+    let told = verdict_of(
+        alloc,
+        SQUARE,
+        FOUR,
+        "000000010000000000020002000000000002000100000005",
+    )?;
     assert_eq!(rt; told.as_str(), "node1");
-    let told = verdict_of(alloc, SQUARE, FOUR, "000100000000000200010000000000020002000000000002000100000004")?;
+    let told = verdict_of(
+        alloc,
+        SQUARE,
+        FOUR,
+        "000100000000000200010000000000020002000000000002000100000004",
+    )?;
     assert_eq!(rt; told.as_str(), "node0");
     let told = verdict_of(alloc, SQUARE, FOUR, "000000000000")?;
     assert_eq!(rt; told.as_str(), "node1");
-    let told = verdict_of(alloc, SQUARE, FOUR, "000000010000000000020002000100000004000000000002")?;
+    let told = verdict_of(
+        alloc,
+        SQUARE,
+        FOUR,
+        "000000010000000000020002000100000004000000000002",
+    )?;
     assert_eq!(rt; told.as_str(), "shape");
-    let told = verdict_of(alloc, SQUARE, FOUR, "000000010000000000020002000000000002000000000002")?;
+    let told = verdict_of(
+        alloc,
+        SQUARE,
+        FOUR,
+        "000000010000000000020002000000000002000000000002",
+    )?;
     assert_eq!(rt; told.as_str(), "shape");
     let told = verdict_of(alloc, SQUARE, FOUR, "000000010000000000020001000200000002")?;
     assert_eq!(rt; told.as_str(), "form103");
@@ -83,11 +113,26 @@ fn a_product_becomes_its_value(rt: HostRuntime) -> Result<(), Fail> {
 #[test]
 fn a_fault_is_not_folded(rt: HostRuntime) -> Result<(), Fail> {
     let alloc = rt.alloc();
-    let told = verdict_of(alloc, DIVIDES, DIVIDES_NOT, "0000000100000000000100020000000000010001000000000000")?;
+    let told = verdict_of(
+        alloc,
+        DIVIDES,
+        DIVIDES_NOT,
+        "0000000100000000000100020000000000010001000000000000",
+    )?;
     assert_eq!(rt; told.as_str(), "node2");
-    let told = verdict_of(alloc, DIVIDES, DIVIDES, "0000000100000000000100020000000000010001000000000002000000000001000100000000")?;
+    let told = verdict_of(
+        alloc,
+        DIVIDES,
+        DIVIDES,
+        "0000000100000000000100020000000000010001000000000002000000000001000100000000",
+    )?;
     assert_eq!(rt; told.as_str(), "yes");
-    let told = verdict_of(alloc, DIVIDES, DIVIDES, "0000000100000000000100020000000000010001000000000001000200000000")?;
+    let told = verdict_of(
+        alloc,
+        DIVIDES,
+        DIVIDES,
+        "0000000100000000000100020000000000010001000000000001000200000000",
+    )?;
     assert_eq!(rt; told.as_str(), "node2");
     let told = verdict_of(alloc, SQUARE, DIVIDES, "000000000000")?;
     assert_eq!(rt; told.as_str(), "shape");

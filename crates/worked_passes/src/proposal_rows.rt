@@ -2,7 +2,7 @@
 
 use crate::told::constants_told;
 use constprop_check::ConstProp;
-use lang::{Language, Oracle};
+use lang::{Language, Oracle, Pass};
 use offers::Offer;
 use oracle_const::ConstOracle;
 use rand_pcg::Pcg32;
@@ -59,17 +59,28 @@ fn function_of(alloc: Global, text: &str) -> Result<Function, Fail> {
     Ok(function)
 }
 
-/// The output that is proposed for the input with the words of a seed, and accepted.
+/// The output that is proposed for the input with the words of a seed, where it is accepted.
+fn accepted<O: Oracle + Drop>(
+    alloc: Global,
+    mut oracle: O,
+    input: <<O::P as Pass>::In as Language>::Fun,
+    seed: u64,
+) -> Result<Option<String>, Fail> {
+    let mut words = Pcg32::new(seed, 0);
+    let Some((output, certificate)) = oracle.propose(alloc, &input, &mut words)? else {
+        return Ok(None);
+    };
+    let offer = Offer::<O::P>::check(alloc, input, output, certificate)?;
+    let mut bytes = Vec::new(alloc);
+    <O::P as Pass>::Out::write(offer.output(), &mut bytes)?;
+    Ok(Some(hex::encode(alloc, &bytes)?))
+}
+
+/// The same for the constants of the input that is spelled so.
 fn proposed(alloc: Global, input: &str, seed: u64) -> Result<String, Fail> {
     let input = function_of(alloc, input)?;
-    let mut words = Pcg32::new(seed, 0);
-    let (output, facts) = ConstOracle
-        .propose(alloc, &input, &mut words)?
-        .ok_or("no proposal")?;
-    let offer = Offer::<ConstProp>::check(alloc, input, output, facts)?;
-    let mut bytes = Vec::new(alloc);
-    Rtl::write(offer.output(), &mut bytes)?;
-    Ok(hex::encode(alloc, &bytes)?)
+    let text = accepted(alloc, ConstOracle, input, seed)?;
+    Ok(text.ok_or("no proposal")?)
 }
 
 /// Which of 16 seeds lead to this output: at least one, and not all.
@@ -105,9 +116,12 @@ fn branches_are_decided(rt: HostRuntime) -> Result<(), Fail> {
 }
 
 /// The input of a written offer.
-fn input_of(alloc: Global, text: &str) -> Result<Function, Fail> {
+fn input_of<P: Pass>(
+    alloc: Global,
+    text: &str,
+) -> Result<<<P as Pass>::In as Language>::Fun, Fail> {
     let bytes = hex::decode(alloc, text)?;
-    let parts = Offer::<ConstProp>::parts(alloc, &bytes)?;
+    let parts = Offer::<P>::parts(alloc, &bytes)?;
     Ok(parts.input)
 }
 
@@ -116,13 +130,9 @@ fn each_proposal_is_accepted(rt: HostRuntime) -> Result<(), Fail> {
     let alloc = rt.alloc();
     for line in constants_told().split_whitespace() {
         let (text, _said) = line.split_once(':').ok_or("no colon")?;
-        let input = input_of(alloc, text)?;
-        let mut words = Pcg32::new(1, 0);
-        let (output, facts) = ConstOracle
-            .propose(alloc, &input, &mut words)?
-            .ok_or("no proposal")?;
-        let offer = Offer::<ConstProp>::check(alloc, input, output, facts);
-        assert!(rt; offer.is_ok(), "{text}");
+        let input = input_of::<ConstProp>(alloc, text)?;
+        let made = accepted(alloc, ConstOracle, input, 1)?;
+        assert!(rt; made.is_some(), "{text}");
     }
     Ok(())
 }
