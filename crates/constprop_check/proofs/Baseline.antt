@@ -1,25 +1,17 @@
 -- The input itself is accepted with no facts.
-use Rattle.std.proofs.Common.{◌≡◌, ℕ, List, [], length, refl, sym, subst, arith, inl, inr}
+use Rattle.std.proofs.Common.{◌≡◌, ℕ, List, [], length, refl, sym, subst, arith, inl}
 use Rattle.std.specs.Prelude.{replicate}
-use Rattle.std.proofs.lemmas.Bool.{cases_lt}
-use Rattle.std.proofs.lemmas.List.{get_or-replicate, get_or_past, length-replicate}
+use Rattle.std.proofs.lemmas.List.{length-replicate}
 use Rattle.std.proofs.lemmas.List.Elements.{All-replicate}
 use Rattle.rtl.specs.declared.instruction.Instruction.{Instruction}
 use Rattle.rtl.specs.Function.{FunctionData}
+use Rattle.rtl_passes.proofs.Verdicts.{none_at}
 use Rattle.constprop_sound.specs.declared.fact.Fact.{Fact}
 use Rattle.constprop_sound.specs.Known.{written_by, value_by}
-use Rattle.constprop_sound.specs.Rules.{IsInOrder, facts_at, AreKnown, LeadsTo, IsPropagated}
+use Rattle.constprop_sound.specs.Rules.{IsInOrder, AreKnown, LeadsTo, IsPropagated}
 
 abbrev none : ℕ → List (List Fact)
 none nodes = replicate nodes []
-
-none_at : (nodes n : ℕ) → facts_at (none nodes) n ≡ []
-none_at nodes n =
-    let empty : List Fact = [] in
-    elim (cases_lt n nodes) [
-      | inl below ↦ get_or-replicate nodes n [] [] below
-      | inr past ↦ get_or_past (none nodes) n [] (omega (arith, length-replicate nodes empty, past))
-    ]
 
 none_in_order : (registers : ℕ) → IsInOrder registers []
 none_in_order registers = record { few = omega arith; each = λ k d below. absurd (omega (arith, below)); rising = tt }

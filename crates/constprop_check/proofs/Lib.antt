@@ -1,3 +1,3 @@
 pub mod Baseline
 pub mod Rising
-pub mod Verdicts
+pub mod Readings

@@ -30,8 +30,14 @@ fn first_word(facts: &[Fact], register: Register) -> Option<u32>
     ensures { result ≡ fact_at facts.now register }
 {
     match facts {
-        [first, _rest @ ..] if first.register == register => Some(first.word),
-        _ => None,
+        [first, _rest @ ..] => {
+            if first.register == register {
+                Some(first.word)
+            } else {
+                None
+            }
+        }
+        [] => None,
     }
 }
 

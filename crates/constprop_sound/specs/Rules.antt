@@ -3,6 +3,7 @@ use Rattle.std.specs.Prelude.{◌≡◌, ◌⊎◌, ℕ, suc, ◌<◌, ◌≤◌
 use Rattle.rtl.specs.declared.instruction.Instruction.{Instruction}
 use Rattle.rtl.specs.Function.{FunctionData}
 use Rattle.rtl_passes.specs.Shape.{HasSameShape}
+use Rattle.rtl_passes.specs.Faults.{KeepsRules}
 use Rattle.constprop_sound.specs.declared.fact.Fact.{Fact}
 use Rattle.constprop_sound.specs.Known.{known_behind, written_by, value_by, edges_of, folded}
 
@@ -61,6 +62,5 @@ abbrev pub IsRightAt : FunctionData → FunctionData → List (List Fact) → �
 IsRightAt input output lists n = IsRightIn input.entry input.nodes output.nodes lists n
 
 -- What is accepted: the form is kept, and each node keeps the rules.
-pub record IsPropagated (input output : FunctionData) (lists : List (List Fact)) : Type 0 where
-  pub shape : HasShape input output lists
-  pub nodes : (n : ℕ) → n < length input.nodes → IsRightAt input output lists n
+abbrev pub IsPropagated : FunctionData → FunctionData → List (List Fact) → Type 0
+IsPropagated input output lists = KeepsRules (HasShape input output lists) (IsRightAt input output lists) (length input.nodes)

@@ -39,12 +39,7 @@ fn measure(rt: &HostRuntime, path: &str) -> io::Result<()> {
 
 fn judge(rt: &HostRuntime, parts: &PartsOf<ConstProp>) -> io::Result<()> {
     let start = Instant::now(rt)?;
-    let told = why(
-        rt.alloc(),
-        &parts.input,
-        &parts.output,
-        &parts.certificate,
-    );
+    let told = why(rt.alloc(), &parts.input, &parts.output, &parts.certificate);
     let micros = start.elapsed(rt)?.as_micros();
     eprintln!(rt; "check {micros}")?;
     let start = Instant::now(rt)?;

@@ -83,18 +83,21 @@ fn proposed(alloc: Global, input: &str, seed: u64) -> Result<String, Fail> {
     Ok(text.ok_or("no proposal")?)
 }
 
-/// Which of 16 seeds lead to this output: at least one, and not all.
+/// Whether some of 16 seeds lead to this output, and the others to the input itself.
 fn at_some_seeds(alloc: Global, input: &str, output: &str) -> Result<bool, Fail> {
-    let mut changed = 0;
+    let mut is_changed = false;
+    let mut is_kept = false;
     for seed in 1..=16 {
         let text = proposed(alloc, input, seed)?;
         if text.as_str() == output {
-            changed += 1;
-        } else if text.as_str() != input {
+            is_changed = true;
+        } else if text.as_str() == input {
+            is_kept = true;
+        } else {
             return Ok(false);
         }
     }
-    Ok(0 < changed && changed < 16)
+    Ok(is_changed && is_kept)
 }
 
 #[test]

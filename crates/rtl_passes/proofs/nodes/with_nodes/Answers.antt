@@ -1,4 +1,4 @@
-use Rattle.std.proofs.Common.{List, length, ◌<◌, ◌≤◌, ℕ, sym, subst, arith}
+use Rattle.std.proofs.Common.{length, sym, subst, arith}
 use Rattle.std.specs.List.{AllByRecursion}
 use Rattle.std.proofs.lemmas.List.Elements.{recursion_from_All}
 use Rattle.rtl.specs.Function.{InstructionFits, IsFunction}
