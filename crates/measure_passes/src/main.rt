@@ -1,8 +1,9 @@
-//! `measure_passes FILE`: what is said of the written offer of the first pass in a file; and on
-//! standard error how many microseconds the reading, the check and the oracle took.
+//! `measure_passes FILE`: what is said of the written offer of the first pass in a file, and whether
+//! what the oracle proposes for its input is accepted; and on standard error how many microseconds the
+//! reading, the check and the oracle took.
 #![tactic(auto)]
 
-use constprop_check::{ConstProp, Fault, why};
+use constprop_check::{ConstProp, Fault, check, why};
 use lang::{FormError, Oracle, Pass};
 use offers::{Offer, PartsOf};
 use oracle_const::ConstOracle;
@@ -46,11 +47,16 @@ fn judge(rt: &HostRuntime, parts: &PartsOf<ConstProp>) -> io::Result<()> {
     let proposed = ConstOracle.propose(rt.alloc(), &parts.input, &mut Pcg32::new(1, 0));
     let micros = start.elapsed(rt)?.as_micros();
     eprintln!(rt; "oracle {micros}")?;
-    let has_proposal = matches!(proposed, Ok(Some(_)));
+    let is_accepted = match proposed {
+        Ok(Some((output, facts))) => {
+            matches!(check(rt.alloc(), &parts.input, &output, &facts), Ok(true))
+        }
+        _ => false,
+    };
     match told {
-        Ok(None) => println!(rt; "yes, {has_proposal}"),
-        Ok(Some(Fault::Shape)) => println!(rt; "shape, {has_proposal}"),
-        Ok(Some(Fault::Node(node))) => println!(rt; "node {node}, {has_proposal}"),
+        Ok(None) => println!(rt; "yes, {is_accepted}"),
+        Ok(Some(Fault::Shape)) => println!(rt; "shape, {is_accepted}"),
+        Ok(Some(Fault::Node(node))) => println!(rt; "node {node}, {is_accepted}"),
         Err(fault) => println!(rt; "{fault}"),
     }
 }
