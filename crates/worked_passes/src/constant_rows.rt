@@ -149,3 +149,43 @@ fn written_offers_are_judged(rt: HostRuntime) -> Result<(), Fail> {
     }
     Ok(())
 }
+
+/// The offer that the bytes spell, written again.
+fn written_again<P: Pass>(alloc: Global, bytes: &[u8]) -> Result<Vec<u8>, Fail> {
+    let offer = Offer::<P>::read(alloc, bytes)?;
+    let mut out = Vec::new(alloc);
+    offer.write(&mut out)?;
+    Ok(out)
+}
+
+#[test]
+fn accepted_offers_are_written_again(rt: HostRuntime) -> Result<(), Fail> {
+    let alloc = rt.alloc();
+    let text = format!(in alloc;
+        "01{SQUARE}{FOUR}000000010000000000020002000000000002000100000004"
+    )?;
+    let bytes = hex::decode(alloc, text.as_str())?;
+    let out = written_again::<ConstProp>(alloc, &bytes)?;
+    assert!(rt; out.as_slice() == bytes.as_slice());
+    Ok(())
+}
+
+/// The written offer of the baseline of the input that a written offer has.
+fn baseline_text<P: Pass>(alloc: Global, bytes: &[u8]) -> Result<String, Fail> {
+    let parts = Offer::<P>::parts(alloc, bytes)?;
+    let (output, certificate) = P::baseline(alloc, &parts.input)?;
+    let offer = Offer::<P>::check(alloc, parts.input, output, certificate)?;
+    let mut out = Vec::new(alloc);
+    offer.write(&mut out)?;
+    Ok(hex::encode(alloc, &out)?)
+}
+
+#[test]
+fn the_baseline_is_the_input(rt: HostRuntime) -> Result<(), Fail> {
+    let alloc = rt.alloc();
+    let text = format!(in alloc; "01{SQUARE}{SQUARE}000000000000")?;
+    let bytes = hex::decode(alloc, text.as_str())?;
+    let baseline = baseline_text::<ConstProp>(alloc, &bytes)?;
+    assert_eq!(rt; baseline.as_str(), text.as_str());
+    Ok(())
+}
