@@ -43,7 +43,7 @@ value_tells None (Some r) e = absurd cc
 value_tells (Some r) None e = absurd cc
 value_tells (Some r) (Some q) e = ap (λ n. Some n) (eqb-true r q e)
 
-instruction_tells : Tells (instruction_eq.ghosts).eq
+pub instruction_tells : Tells (instruction_eq.ghosts).eq
 instruction_tells (Do a s) (Do b t) e = let p = and_parts ((act_eq.ghosts).eq a b) (nat_eq s t) e in λ i. Do (act_tells a b p.0 i) (eqb-true s t p.1 i)
 instruction_tells (Call f xs t s) (Call g ys u r) e =
     let p = and_parts (nat_eq f g) (pointwise nat_eq xs ys && ((instruction_eq.ghosts).eq (Return t) (Return u) && nat_eq s r)) e in

@@ -7,7 +7,8 @@ use crate::instruction::Instruction;
 use lang::{NoMemory, Row};
 use std::alloc::Global;
 
-fn copy_instruction(alloc: Global, instruction: &Instruction) -> Result<Instruction, NoMemory>
+/// An equal instruction.
+pub fn copy_instruction(alloc: Global, instruction: &Instruction) -> Result<Instruction, NoMemory>
     ensures { IfOk result (λ copied. copied ≡ instruction.now) }
 {
     match instruction {

@@ -1,0 +1,3 @@
+pub mod Baseline
+pub mod Rising
+pub mod Readings

@@ -1,0 +1,14 @@
+use Rattle.std.proofs.Common.{◌≡◌, length, rules}
+use Rattle.std.specs.Option.{option_map}
+use Rattle.rtl_passes.specs.declared.fault.Fault.TheVariants.{Node}
+use Rattle.rtl_passes.proofs.Verdicts.{tells-lowest}
+use Rattle.constprop_sound.specs.Rules.{HasShape, IsRightAt}
+use Rattle.constprop_check.proofs.verdict.why.Goals as goal
+
+pub returns : goal.returns
+returns c =
+    let input = c.args.input.now in
+    let output = c.args.output.now in
+    let facts = c.args.facts.now in
+    let mapped : c.map.result ≡ option_map Node c.lowest_wrong.result = search rules in
+    rw mapped (tells-lowest (HasShape input output facts) (IsRightAt input output facts) (length input.nodes) (rw c.as_slice-lists.ensures at (c.has_shape.ensures.0 c.if-not-has_shape.false)) c.lowest_wrong.result (rw (c.as_slice-lists.ensures, c.as_slice-inputs.ensures, c.as_slice-outputs.ensures, c.nodes.ensures.nodes, c.nodes-2.ensures.nodes, c.entry.ensures) at c.lowest_wrong.ensures))

@@ -1,0 +1,19 @@
+ghost use Rattle.std.specs.Prelude.{◌≡◌, [], length, replicate, IfOk};
+ghost use Rattle.constprop_sound.specs.Rules.{IsPropagated};
+
+use crate::lists::FactLists;
+use lang::{Language, NoMemory};
+use rtl::{Function, Rtl};
+use rtl_passes::empty_lists;
+use std::alloc::Global;
+
+/// The input itself, with no facts.
+pub(crate) fn baseline(alloc: Global, input: &Function) -> Result<(Function, FactLists), NoMemory>
+    ensures output { IfOk result (λ made. made.0 ≡ input.now) }
+    ensures facts { IfOk result (λ made. made.1 ≡ replicate (length input.now.nodes) []) }
+    ensures accepted { IfOk result (λ made. IsPropagated input.now made.0 made.1) }
+{
+    let output = Rtl::copy(alloc, input)?;
+    let facts = empty_lists(alloc, input.nodes().len())?;
+    Ok((output, facts))
+}

@@ -1,0 +1,18 @@
+//! The first pass, from RTL to RTL: anybody may propose an output and facts for each node, and the
+//! check says whether they keep the rules of constant propagation. What is accepted keeps the
+//! meaning of whole programs.
+#![tactic(auto)]
+
+mod base;
+mod edges;
+mod form;
+mod lists;
+mod nodes;
+mod pass;
+mod verdict;
+
+pub use constprop_sound::Fact;
+pub use lists::{FactLists, facts_of};
+pub use pass::ConstProp;
+pub use rtl_passes::Fault;
+pub use verdict::{check, why};

@@ -1,0 +1,81 @@
+use crate::base::baseline;
+use crate::form::{push_lists, read_lists};
+use crate::lists::FactLists;
+use crate::verdict::check;
+use lang::{FormError, NoMemory, Pass, PassError, Row};
+use rtl::{Function, Rtl};
+use std::alloc::Global;
+
+/// Pass 1: constants are carried along the graph of a function.
+pub struct ConstProp;
+
+impl Pass for ConstProp {
+    ghost use Rattle.std.specs.Prelude.{◌≡◌, ◌≢◌, ◌≤◌, ℕ, List, ◌++◌, length, take, IsTrue, ◌↔◌, OnOk, OnErr, IfOk, IfErr};
+    ghost use Rattle.constprop_sound.specs.Rules.{IsPropagated};
+    ghost use Rattle.constprop_check.specs.FactForm.{CertFits, cert_text};
+    ghost use Rattle.constprop_check.specs.PassLaws.{propagated_fits, one_cert, sound_law, never};
+
+    type In = Rtl;
+
+    type Out = Rtl;
+
+    type Cert = FactLists;
+
+    const NUMBER: u8 = 1;
+
+    ghost NUMBER = { 1 };
+
+    ghost accepts = { IsPropagated };
+
+    ghost cert_fits = { λ i o c. CertFits i c };
+
+    ghost cert_spelling = { λ i o c. cert_text c };
+
+    ghost too_large = { never };
+
+    fn check(
+        alloc: Global,
+        input: &Function,
+        output: &Function,
+        facts: &FactLists,
+    ) -> Result<bool, NoMemory> {
+        check(alloc, input, output, facts)
+    }
+
+    fn baseline(alloc: Global, input: &Function) -> Result<(Function, FactLists), PassError> {
+        Ok(baseline(alloc, input)?)
+    }
+
+    fn write_cert(
+        _input: &Function,
+        _output: &Function,
+        facts: &FactLists,
+        out: &mut Vec<u8>,
+    ) -> Result<(), NoMemory> {
+        let length = out.len();
+        let written = push_lists(out, facts.as_slice());
+        if written.is_err() {
+            out.truncate(length);
+        }
+        written
+    }
+
+    fn read_cert(
+        alloc: Global,
+        input: &Function,
+        _output: &Function,
+        bytes: &[u8],
+    ) -> Result<(FactLists, usize), FormError> {
+        let registers = u32::from(input.registers());
+        let nodes = input.nodes().len() as u32;
+        let mut rest = bytes;
+        let lists = read_lists(alloc, registers, nodes, &mut rest)?;
+        Ok((Row::from_vec(lists), bytes.len() - rest.len()))
+    }
+
+    ghost sound = { sound_law };
+
+    ghost accepted_fits = { propagated_fits };
+
+    ghost one_cert = { one_cert };
+}

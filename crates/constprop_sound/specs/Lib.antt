@@ -1,0 +1,5 @@
+pub mod Known
+pub mod Rules
+pub use Rattle.rtl_passes.specs.Shape
+pub use Rattle.rtl_passes.specs.Facts
+pub use Rattle.rtl_passes.specs.Faults

@@ -1,0 +1,11 @@
+//! An optimiser that proposes for the first pass, which nobody trusts: it follows constants along the
+//! edges that can be taken, through loops and past branches that they decide, and makes each change
+//! that they allow or leaves it, as the words say. It promises nothing of what it proposes.
+#![tactic(auto)]
+
+mod analysis;
+mod lattice;
+mod propose;
+mod unreached;
+
+pub use propose::ConstOracle;

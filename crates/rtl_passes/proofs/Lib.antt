@@ -1,0 +1,4 @@
+pub mod Counts
+pub mod Simulation
+pub mod Sound
+pub mod Verdicts

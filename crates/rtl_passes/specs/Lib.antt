@@ -1,0 +1,6 @@
+pub mod Shape
+pub mod Effects
+pub mod Facts
+pub mod Faults
+pub mod ListForm
+pub use Rattle.rtl.specs.Function

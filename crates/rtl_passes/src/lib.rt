@@ -1,0 +1,16 @@
+//! What passes from RTL to RTL share that change instructions by facts of each node: when two
+//! functions differ in their instructions alone, and that such a pass keeps the meaning of whole
+//! programs where each node is matched wherever its facts hold.
+#![tactic(auto)]
+
+mod empty;
+mod fault;
+mod nodes;
+mod same;
+mod shape;
+
+pub use empty::empty_lists;
+pub use fault::Fault;
+pub use nodes::with_nodes;
+pub use same::is_same;
+pub use shape::has_same_shape;

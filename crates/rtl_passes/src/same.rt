@@ -1,0 +1,10 @@
+ghost use Rattle.std.specs.Prelude.{◌≡◌, ◌↔◌, IsTrue};
+
+use rtl::Instruction;
+
+/// Whether two instructions are one.
+pub fn is_same(first: &Instruction, second: &Instruction) -> bool
+    ensures { IsTrue result ↔ (first.now ≡ second.now) }
+{
+    first == second
+}
