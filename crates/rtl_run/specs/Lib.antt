@@ -1,0 +1,7 @@
+pub mod Seen
+pub mod Events
+pub mod Runs
+pub mod Callers
+pub use Rattle.run_output.specs.Written
+pub use Rattle.rtl.specs.Meaning
+pub use Rattle.program_data.specs.Seen as Programs

@@ -1,0 +1,11 @@
+//! The run of a program of RTL: exactly what the program shows at a bound, in nodes, written byte by
+//! byte. Callers wait on the heap, so a deep recursion takes memory and no stack. Its speed is not
+//! promised.
+#![tactic(auto)]
+
+mod acts;
+mod callers;
+mod cells;
+mod events;
+mod here;
+mod words;
