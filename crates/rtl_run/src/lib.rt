@@ -5,7 +5,11 @@
 
 mod acts;
 mod callers;
+mod calls;
 mod cells;
 mod events;
+mod functions;
 mod here;
+mod returns;
+mod state;
 mod words;
