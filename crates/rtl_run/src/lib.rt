@@ -10,6 +10,8 @@ mod cells;
 mod events;
 mod functions;
 mod here;
+mod leaving;
+mod pieces;
 mod returns;
 mod state;
 mod words;
