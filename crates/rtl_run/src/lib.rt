@@ -13,5 +13,9 @@ mod here;
 mod leaving;
 mod pieces;
 mod returns;
+mod running;
+mod starting;
 mod state;
 mod words;
+
+pub use running::run;
