@@ -3,19 +3,15 @@
 //! promised.
 #![tactic(auto)]
 
-mod acts;
 mod callers;
 mod calls;
-mod cells;
-mod events;
 mod functions;
-mod here;
 mod leaving;
 mod pieces;
 mod returns;
 mod running;
 mod starting;
 mod state;
-mod words;
+mod turn;
 
 pub use running::run;

@@ -6,12 +6,12 @@ ghost use Rattle.rtl_parts.specs.Fits.{TargetFits};
 ghost use Rattle.rtl_parts.specs.Acts.{with_result};
 ghost use Rattle.rtl.specs.Frames.{returned, comes_back};
 ghost use Rattle.rtl.specs.Function.{FunctionData};
-ghost use Rattle.rtl_run.specs.Seen.{data_of};
-ghost use Rattle.rtl_run.specs.Events.{turned};
+ghost use Rattle.rtl_nodes.specs.Seen.{data_of};
+ghost use Rattle.rtl_run.specs.Turns.{turned};
 ghost use Rattle.rtl_run.specs.Machines.{machine_state, CallersFit, MachineFits, WhereGone};
 
-use crate::events::Turn;
 use crate::state::Machine;
+use crate::turn::Turn;
 use rtl_parts::Register;
 
 /// Gives the result, defined or not, to the register that is named.

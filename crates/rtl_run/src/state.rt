@@ -1,5 +1,5 @@
 use crate::callers::Callers;
-use crate::cells::Cells;
+use rtl_nodes::Cells;
 
 /// Where a run stands: the running function's number, the node in it, its registers, the globals, and
 /// the callers.
