@@ -30,7 +30,7 @@ fn measure(rt: &HostRuntime, path: &str, limit: u64) -> io::Result<()> {
         Ok((program, _length)) => program,
         Err(fault) => return println!(rt; "{fault}"),
     };
-    let mut out = BufWriter::new(alloc, io::stdout(rt))?;
+    let mut out = BufWriter::new(alloc, rt.stdout())?;
     let start = Instant::now(rt)?;
     let shown = run(alloc, &program, limit, &mut out);
     let micros = start.elapsed(rt)?.as_micros();
