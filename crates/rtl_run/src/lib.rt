@@ -15,3 +15,6 @@ mod state;
 mod turn;
 
 pub use running::run;
+
+#[cfg(test)]
+mod tests;
