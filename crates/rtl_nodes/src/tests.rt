@@ -1,5 +1,6 @@
 use crate::events::Stop;
 use crate::here::run_here;
+use crate::ready::make_ready;
 use lang::Language;
 use rtl::Rtl;
 use std::test::Fail;
@@ -18,10 +19,11 @@ fn function_of_three_nodes() -> [u8; 27] {
 fn nodes_run_to_a_byte(rt: HostRuntime) -> Result<(), Fail> {
     let (function, _length) = Rtl::read(rt.alloc(), &function_of_three_nodes())?;
     let nodes = function.nodes().as_slice();
+    let ready = make_ready(rt.alloc(), nodes)?;
     let mut registers = vec![in rt.alloc(); None; usize::from(function.registers())]?;
     let mut place = function.entry();
     let mut left = 10;
-    let stop = run_here(nodes, &mut place, &mut registers, &mut [], &mut left);
+    let stop = run_here(&ready, nodes, &mut place, &mut registers, &mut [], &mut left);
     assert_eq!(rt; stop, Stop::Printed(65));
     assert_eq!(rt; (place, left), (2, 8));
     Ok(())
