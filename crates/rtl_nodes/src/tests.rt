@@ -23,7 +23,14 @@ fn nodes_run_to_a_byte(rt: HostRuntime) -> Result<(), Fail> {
     let mut registers = vec![in rt.alloc(); None; usize::from(function.registers())]?;
     let mut place = function.entry();
     let mut left = 10;
-    let stop = run_here(&ready, nodes, &mut place, &mut registers, &mut [], &mut left);
+    let stop = run_here(
+        &ready,
+        nodes,
+        &mut place,
+        &mut registers,
+        &mut [],
+        &mut left,
+    );
     assert_eq!(rt; stop, Stop::Printed(65));
     assert_eq!(rt; (place, left), (2, 8));
     Ok(())

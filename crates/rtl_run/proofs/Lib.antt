@@ -2,3 +2,4 @@ pub mod Shows
 pub mod Fitting
 pub mod FirstWords
 pub mod UnderWay
+pub mod MadeReady

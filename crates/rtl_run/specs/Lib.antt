@@ -1,6 +1,7 @@
 pub mod Callers
 pub mod Functions
 pub mod Machines
+pub mod Prepared
 pub mod Turns
 pub use Rattle.run_output.specs.Written
 pub use Rattle.rtl.specs.Meaning
