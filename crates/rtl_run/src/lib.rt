@@ -1,0 +1,21 @@
+//! The run of a program of RTL: exactly what the program shows at a bound, in nodes, written byte by
+//! byte. Callers wait on the heap, so a deep recursion takes memory and no stack. Its speed is not
+//! promised.
+#![tactic(auto)]
+
+mod callers;
+mod calls;
+mod functions;
+mod leaving;
+mod pieces;
+mod preparing;
+mod returns;
+mod running;
+mod starting;
+mod state;
+mod turn;
+
+pub use running::run;
+
+#[cfg(test)]
+mod tests;

@@ -1,0 +1,13 @@
+use crate::callers::Callers;
+use rtl_nodes::Cells;
+
+/// Where a run stands: the running function's number, the node in it, its registers, the globals, and
+/// the callers.
+#[derive(Drop)]
+pub(crate) struct Machine {
+    pub function: usize,
+    pub place: u16,
+    pub registers: Vec<Option<u32>>,
+    pub globals: Vec<Cells>,
+    pub callers: Callers,
+}

@@ -1,0 +1,10 @@
+//! Worked runs of programs of RTL: what they show at a bound, beside lines made by an independent
+//! reading, a deep recursion, and a writer that fails.
+#![tactic(auto)]
+
+#[cfg(test)]
+mod deep;
+#[cfg(test)]
+mod rows;
+#[cfg(test)]
+mod told;
