@@ -1,0 +1,32 @@
+use c_program::{Action, Ending, Target, Term};
+
+/// A loop that is under way: the bound of its turn, its condition, its body, and what is done behind it.
+#[derive(Clone, Copy)]
+pub struct Cycle<'a> {
+    pub bound: u32,
+    pub condition: &'a Term,
+    pub body: &'a Action,
+    pub behind: &'a Action,
+}
+
+/// A caller that waits: what the end of the callee's body means, where the callee's word goes, and where the
+/// caller's locals begin.
+#[derive(Clone, Copy)]
+pub struct Waiting {
+    pub ending: Ending,
+    pub target: Target,
+    pub base: usize,
+}
+
+/// What is left to do behind what is done now.
+#[derive(Clone, Copy)]
+pub enum Left<'a> {
+    /// These actions, with this bound.
+    Rest(u32, &'a [Action]),
+    /// A loop whose body is done now.
+    Body(Cycle<'a>),
+    /// A loop at the end of a turn: what is done now stands behind its body.
+    Behind(Cycle<'a>),
+    /// The caller of the function that runs now.
+    Back(Waiting),
+}
