@@ -1,0 +1,11 @@
+use Rattle.std.proofs.Common.{◌≡◌, ℕ, List, [], ◌++◌, drop, map, Option, Some, None}
+use Rattle.c_program.specs.Views.{term_tree}
+use Rattle.c_behaviour.specs.State.{State, words}
+use Rattle.c_interpreter.proofs.Placing.{joined, rest_words}
+use Rattle.c_interpreter.proofs.calling.push_arguments.Given as goal
+
+-- the words so far stand behind the locals, and the others are to come
+abbrev pub invariant-loop-argument : goal.invariant-loop-argument
+invariant-loop-argument l =
+    let s : State = record { locals = drop l.base l.fn.locals.items; globals = l.globals; output = [] } in
+    (ws : List ℕ) × ((l.locals.items ≡ l.fn.locals.items ++ map Some ws) × (rest_words l.arguments 0 s ≡ joined ws (rest_words l.arguments l.argument-index s)))

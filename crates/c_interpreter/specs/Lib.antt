@@ -1,0 +1,2 @@
+pub mod Arguments
+pub use Rattle.c_behaviour.specs.Meaning
