@@ -1,10 +1,10 @@
 -- What runs with a bound, by whether it is spent.
-use Rattle.std.proofs.Common.{◌≡◌, ◌≢◌, ℕ, zero, suc, ◌+◌, ◌-◌, ◌<◌, ◌==◌, cond, Bool, true, false, List, [], ◌∷◌, Option, Some, None, refl, sym, ap, ◌∙◌, subst, arith}
+use Rattle.std.proofs.Common.{◌≡◌, ℕ, zero, suc, ◌+◌, ◌-◌, ◌<◌, ◌==◌, cond, Bool, true, false, List, Option, Some, None, refl, sym, ap, ◌∙◌, subst, arith}
 use Rattle.std.specs.Prelude.{slice_get, not}
 use Rattle.std.specs.Option.{option_map}
 use Rattle.c_program.specs.Trees.{TermTree, ActionTree, FunctionTree}
 use Rattle.c_behaviour.specs.State.{State, word}
-use Rattle.c_behaviour.specs.Meaning.{Outcome, Falls, Breaks, Continues, Returns, RunsOut, Fails, Work, Turns, Calls, Level, goes_on, branches, exec, exec_all, after_body, turns, enters, level}
+use Rattle.c_behaviour.specs.Meaning.{Outcome, Falls, Breaks, Continues, Returns, RunsOut, Fails, Work, Turns, Calls, Level, goes_on, branches, exec, after_body, turns, enters, level}
 use Rattle.c_machine.specs.AtOnce.{holds}
 use Rattle.c_machine.specs.Costs.{level_cost, cost, behind_cost, body_cost}
 

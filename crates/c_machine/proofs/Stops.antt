@@ -1,7 +1,7 @@
 -- What stops a run stops all that is left.
-use Rattle.std.proofs.Common.{◌≡◌, ℕ, List, [], ◌∷◌, Option, take, drop, refl}
+use Rattle.std.proofs.Common.{◌≡◌, ℕ, List, [], ◌∷◌, Option, take, refl}
 use Rattle.c_program.specs.Trees.{FunctionTree}
-use Rattle.c_behaviour.specs.Meaning.{Outcome, RunsOut, Fails}
+use Rattle.c_behaviour.specs.Meaning.{RunsOut, Fails}
 use Rattle.c_machine.specs.declared.left.Left.{Left}
 use Rattle.c_machine.specs.declared.left.Left.TheVariants.{Rest, Body, Behind, Back}
 use Rattle.c_machine.specs.Resume.{resume}

@@ -2,7 +2,6 @@
 use Rattle.std.specs.Prelude.{ℕ, List, [], ◌∷◌, Option, take, drop, map}
 use Rattle.c_program.specs.Trees.{FunctionTree}
 use Rattle.c_program.specs.Views.{term_tree, action_tree, actions_tree, function_tree}
-use Rattle.c_program.specs.declared.function.Function.{Function}
 use Rattle.c_behaviour.specs.State.{State}
 use Rattle.c_behaviour.specs.Meaning.{Outcome, Work, Turns, goes_on, exec_all, turns_again, after_body, comes_back, ends, level}
 use Rattle.c_machine.specs.declared.left.Cycle.{Cycle}

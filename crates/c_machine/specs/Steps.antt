@@ -1,8 +1,6 @@
 -- What a step leads to.
-use Rattle.std.specs.Prelude.{◌≡◌, ℕ, ◌+◌, ◌≤◌, List, [], ◌∷◌, ◌++◌, Result, Ok, Err}
-use Rattle.lang.specs.declared.errors.NoMemory.{NoMemory}
+use Rattle.std.specs.Prelude.{◌≡◌, ℕ, ◌+◌, List, [], ◌∷◌, ◌++◌}
 use Rattle.lang.specs.Behaviour.{Shows}
-use Rattle.c_behaviour.specs.State.{State}
 use Rattle.c_behaviour.specs.Meaning.{Outcome, Falls, arrives, shown}
 use Rattle.c_machine.specs.declared.next.Next.{Next}
 use Rattle.c_machine.specs.declared.next.Next.TheVariants.{Goes, Prints, Stops}

@@ -1,15 +1,15 @@
 -- By what the arguments are worth, whether the bound is spent, and whether there is such a function.
-use Rattle.std.proofs.Common.{◌≡◌, ℕ, ◌+◌, ◌-◌, ◌<◌, ◌≤◌, List, [], ◌++◌, length, drop, take, map, Option, Some, None, sym, ap, ◌∙◌, rules, arith}
-use Rattle.std.specs.Prelude.{replicate, slice_get}
+use Rattle.std.proofs.Common.{◌≡◌, ℕ, ◌-◌, ◌<◌, List, [], ◌++◌, length, drop, take, map, Option, Some, None, sym, ap, ◌∙◌, rules, arith}
+use Rattle.std.specs.Prelude.{replicate}
 use Rattle.std.proofs.lemmas.List.{take_at, drop_at}
 use Rattle.c_program.specs.Views.{actions_tree, function_tree}
-use Rattle.c_behaviour.specs.State.{State, words}
+use Rattle.c_behaviour.specs.State.{State}
 use Rattle.c_behaviour.specs.Meaning.{Outcome, goes_on, exec_all, comes_back, ends, calls, level, shown}
 use Rattle.c_machine.specs.Stacks.{waiting}
-use Rattle.c_machine.specs.Costs.{level_cost, later_cost}
+use Rattle.c_machine.specs.Costs.{level_cost}
 use Rattle.c_machine.specs.Resume.{functions_of, here, resume, later}
 use Rattle.c_machine.proofs.Levels.{level_none, level_calls, cost_calls}
-use Rattle.c_interpreter.proofs.Placing.{words_length, arguments_fail, arguments_given}
+use Rattle.c_interpreter.proofs.Placing.{arguments_fail, arguments_given}
 use Rattle.c_machine.proofs.Stops.{resume_fails, resume_runs_out}
 use Rattle.c_interpreter.proofs.calling.call.Goals as goal
 

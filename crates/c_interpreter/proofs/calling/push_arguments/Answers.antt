@@ -1,7 +1,7 @@
 -- The next word stands behind the others.
-use Rattle.std.proofs.Common.{◌≡◌, ℕ, ◌+◌, ◌<◌, List, [], ◌∷◌, ◌++◌, length, drop, take, map, Option, Some, None, sym, ap, ◌∙◌, arith, append_assoc}
+use Rattle.std.proofs.Common.{◌≡◌, ℕ, [], ◌∷◌, ◌++◌, drop, map, Some, ap, ◌∙◌, arith}
 use Rattle.std.proofs.lemmas.Grind.{common_steps}
-use Rattle.std.proofs.lemmas.List.{map_push, take_at}
+use Rattle.std.proofs.lemmas.List.{map_push}
 use Rattle.c_program.specs.Views.{term_tree}
 use Rattle.c_program.specs.Values.{value}
 use Rattle.c_behaviour.specs.State.{State, word}

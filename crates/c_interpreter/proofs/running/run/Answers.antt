@@ -1,5 +1,5 @@
 -- Where a growth is refused or the writer fails, a beginning of the output is written.
-use Rattle.std.proofs.Common.{◌≡◌, List, subst}
+use Rattle.std.proofs.Common.{subst}
 use Rattle.std.proofs.KnownBytes.{Appends-kept}
 use Rattle.std.proofs.lemmas.Result.{err_from_is_err_and}
 use Rattle.lang.specs.Behaviour.{Shows, IsBeginningOf}
