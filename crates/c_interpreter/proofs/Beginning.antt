@@ -1,5 +1,5 @@
 -- The start of a run: its cells, and main's caller.
-use Rattle.std.proofs.Common.{◌≡◌, ℕ, zero, suc, ◌+◌, List, [], ◌∷◌, ◌++◌, get_or, Option, Some, None, refl, sym, ap, ◌∙◌, add-one}
+use Rattle.std.proofs.Common.{◌≡◌, ℕ, zero, suc, ◌+◌, List, [], ◌∷◌, ◌++◌, get_or, Some, None, refl, ap, ◌∙◌, add-one}
 use Rattle.c_program.specs.declared.action.Target.TheVariants.{Caller}
 use Rattle.c_behaviour.specs.Meaning.{Outcome, Falls, Breaks, Continues, Returns, RunsOut, Fails, comes_back, shown, filled}
 

@@ -1,7 +1,2 @@
 pub mod Beginning
-pub mod Frames
-pub mod Levels
 pub mod Placing
-pub mod Printing
-pub mod Stacks
-pub mod Stops

@@ -5,9 +5,9 @@ use Rattle.c_program.specs.Trees.{FunctionTree}
 use Rattle.c_program.specs.Views.{actions_tree}
 use Rattle.c_behaviour.specs.State.{State}
 use Rattle.c_behaviour.specs.Meaning.{Outcome, Level, goes_on, exec_all, comes_back, ends, begins, level}
-use Rattle.c_interpreter.specs.declared.machine.Machine.{Machine}
-use Rattle.c_interpreter.specs.Resume.{functions_of, resume}
-use Rattle.c_interpreter.specs.Stacks.{waiting}
+use Rattle.c_machine.specs.declared.machine.Machine.{Machine}
+use Rattle.c_machine.specs.Resume.{functions_of, resume}
+use Rattle.c_machine.specs.Stacks.{waiting}
 
 -- whether each argument has a word, and then the locals with these words behind them
 abbrev pub IsPlaced : Bool → Option (List ℕ) → List (Option ℕ) → List (Option ℕ) → Type 0

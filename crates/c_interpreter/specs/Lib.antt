@@ -1,5 +1,2 @@
 pub mod Arguments
-pub mod Stacks
-pub mod Resume
-pub mod Costs
-pub mod Steps
+pub use Rattle.c_behaviour.specs.Meaning

@@ -4,28 +4,21 @@ ghost use Rattle.std.specs.Prelude.{◌+◌, ◌<◌, ◌≤◌, IfOk};
 ghost use Rattle.c_program.specs.Views.{term_tree, given_tree, action_tree, actions_tree};
 ghost use Rattle.c_behaviour.specs.State.{word};
 ghost use Rattle.c_behaviour.specs.Meaning.{Falls, Turns, branches, stores, gives, exec, exec_all, level};
-ghost use Rattle.c_interpreter.specs.Costs.{cost, cost_all, given_cost, level_cost, later_cost};
-ghost use Rattle.c_interpreter.specs.Resume.{functions_of, here, later};
-ghost use Rattle.c_interpreter.specs.Steps.{Meets, next_cost};
+ghost use Rattle.c_machine.specs.Costs.{cost, cost_all, given_cost, level_cost, later_cost};
+ghost use Rattle.c_machine.specs.Resume.{functions_of, here, later};
+ghost use Rattle.c_machine.specs.Steps.{Meets, next_cost};
 
 use crate::arriving::{arrive, store};
 use crate::calling::call;
 use crate::leaving::{breaks, continues, falls, returns};
-use crate::left::{Cycle, Left};
-use crate::locals::set_local;
 use crate::looping::{evaluate_here, listed, turn};
-use crate::machine::Machine;
-use crate::next::Next;
+use c_machine::{Cycle, Left, Machine, Next, set_local};
 use c_program::{Action, Target, Term, Value};
 use lang::{NoMemory, Shown};
 
 /// What gives a value is done, and the value goes to its target.
-#[tactic(auto, using(crate::proofs::Stops::resume_fails))]
-fn give<'a>(
-    machine: &mut Machine<'a>,
-    target: Target,
-    value: &'a Value,
-) -> Result<Next, NoMemory>
+#[tactic(auto, using(c_machine::proofs::Stops::resume_fails))]
+fn give<'a>(machine: &mut Machine<'a>, target: Target, value: &'a Value) -> Result<Next, NoMemory>
     ensures meaning { IfOk result (λ next. Meets next machine.new (λ output. later machine.old (gives (level (functions_of machine.old) machine.old.bound) target (given_tree value.now) (here machine.old output)))) }
     ensures cost { IfOk result (λ next. next_cost next machine.new < given_cost (level_cost (functions_of machine.old) machine.old.bound) (given_tree value.now) + later_cost machine.old) }
 {
@@ -43,7 +36,7 @@ fn give<'a>(
 }
 
 /// A cell becomes what an expression gives.
-#[tactic(auto, using(crate::proofs::Stops::resume_fails))]
+#[tactic(auto, using(c_machine::proofs::Stops::resume_fails))]
 fn store_value(machine: &mut Machine, global: usize, index: &Term, value: &Term) -> Next
     ensures meaning { Meets result machine.new (λ output. later machine.old (stores global (here machine.old output) (word (term_tree index.now) (here machine.old output)) (word (term_tree value.now) (here machine.old output)))) }
     ensures cost { next_cost result machine.new ≤ later_cost machine.old }
@@ -58,7 +51,7 @@ fn store_value(machine: &mut Machine, global: usize, index: &Term, value: &Term)
 }
 
 /// One of two actions, by a condition.
-#[tactic(auto, using(crate::proofs::Stops::resume_fails))]
+#[tactic(auto, using(c_machine::proofs::Stops::resume_fails))]
 fn choose<'a>(
     machine: &mut Machine<'a>,
     condition: &Term,

@@ -2,20 +2,17 @@
 
 ghost use Rattle.std.specs.Prelude.{◌≡◌, ◌≤◌, MatchOption, IfSome, IfNone};
 ghost use Rattle.c_behaviour.specs.Meaning.{arrives, stores};
-ghost use Rattle.c_interpreter.specs.Costs.{later_cost};
-ghost use Rattle.c_interpreter.specs.Resume.{here, later};
-ghost use Rattle.c_interpreter.specs.Steps.{Meets, next_cost};
+ghost use Rattle.c_machine.specs.Costs.{later_cost};
+ghost use Rattle.c_machine.specs.Resume.{here, later};
+ghost use Rattle.c_machine.specs.Steps.{Meets, next_cost};
 
-use crate::globals::store_cell;
 use crate::leaving::returns;
-use crate::locals::set_local;
-use crate::machine::Machine;
-use crate::next::Next;
+use c_machine::{Machine, Next, set_local, store_cell};
 use c_program::Target;
 use lang::Shown;
 
 /// A word goes to a variable, or nowhere. One that goes to the caller is left to the caller of this.
-#[tactic(auto, using(crate::proofs::Stops::resume_fails))]
+#[tactic(auto, using(c_machine::proofs::Stops::resume_fails))]
 pub fn settle(machine: &mut Machine, target: Target, word: u32) -> Option<Next>
     ensures meaning { MatchOption result (target ≡ Target.Caller) (λ next. Meets next machine.new (λ output. later machine.old (arrives target word (here machine.old output)))) }
     ensures cost { IfSome result (λ next. next_cost next machine.new ≤ later_cost machine.old) }
@@ -33,7 +30,7 @@ pub fn settle(machine: &mut Machine, target: Target, word: u32) -> Option<Next>
 }
 
 /// A cell becomes a word.
-#[tactic(auto, using(crate::proofs::Stops::resume_fails))]
+#[tactic(auto, using(c_machine::proofs::Stops::resume_fails))]
 pub fn store(machine: &mut Machine, global: usize, index: u32, word: u32) -> Next
     ensures meaning { Meets result machine.new (λ output. later machine.old (stores global (here machine.old output) (Some index) (Some word))) }
     ensures cost { next_cost result machine.new ≤ later_cost machine.old }

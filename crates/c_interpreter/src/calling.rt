@@ -5,16 +5,11 @@ ghost use Rattle.c_program.specs.Views.{term_tree, actions_tree, function_tree};
 ghost use Rattle.c_behaviour.specs.State.{State, words};
 ghost use Rattle.c_behaviour.specs.Meaning.{Level, Calls, Falls, Fails, calls, enters, level};
 ghost use Rattle.c_interpreter.specs.Arguments.{IsPlaced, body_of, called_of};
-ghost use Rattle.c_interpreter.specs.Costs.{Costs, body_cost, cost_all, level_cost, later_cost};
-ghost use Rattle.c_interpreter.specs.Resume.{functions_of, here, later};
-ghost use Rattle.c_interpreter.specs.Steps.{Meets, next_cost};
+ghost use Rattle.c_machine.specs.Costs.{Costs, body_cost, cost_all, level_cost, later_cost};
+ghost use Rattle.c_machine.specs.Resume.{functions_of, here, later};
+ghost use Rattle.c_machine.specs.Steps.{Meets, next_cost};
 
-use crate::cells::Cells;
-use crate::evaluation::evaluate;
-use crate::left::{Left, Waiting};
-use crate::locals::frame;
-use crate::machine::Machine;
-use crate::next::Next;
+use c_machine::{Cells, Left, Machine, Next, Waiting, evaluate, frame};
 use c_program::{Called, Function, Target, Term};
 use lang::{NoMemory, Shown};
 
@@ -51,7 +46,11 @@ pub(crate) fn push_blank(locals: &mut Vec<Option<u32>>, count: usize) -> Result<
 
 /// The function of a number, if it takes so many parameters.
 #[tactic(auto, using(std::proofs::lemmas::Option::slice_get_past, std::proofs::lemmas::Option::slice_get_within))]
-pub(crate) fn function_at(functions: &[Function], number: usize, parameters: usize) -> Option<&Function>
+pub(crate) fn function_at(
+    functions: &[Function],
+    number: usize,
+    parameters: usize,
+) -> Option<&Function>
     ensures meaning { MatchOption result ((lower : Level) (ws : List ℕ) (s : State) → length ws ≡ parameters → enters lower (slice_get (map function_tree functions.now) number) ws s ≡ Fails s.output) (λ f. (lower : Level) (ws : List ℕ) (s : State) → length ws ≡ parameters → enters lower (slice_get (map function_tree functions.now) number) ws s ≡ body_of lower (function_tree f.now) ws s) }
     ensures cost { IfSome result (λ f. (lower : Costs) → body_cost lower (slice_get (map function_tree functions.now) number) ≡ cost_all lower (actions_tree f.now.body)) }
 {
@@ -105,7 +104,12 @@ pub fn call<'a>(
 {
     let end = machine.locals.len();
     let arguments = called.arguments.as_slice();
-    if !push_arguments(arguments, &mut machine.locals, machine.base, &machine.globals)? {
+    if !push_arguments(
+        arguments,
+        &mut machine.locals,
+        machine.base,
+        &machine.globals,
+    )? {
         return Ok(Next::Stops(Shown::Wrong));
     }
     if machine.bound == 0 {

@@ -2,21 +2,19 @@
 
 ghost use Rattle.std.specs.Prelude.{◌≡◌, ◌+◌, ◌≤◌, ℕ, List, IfOk, IfSome, IfNone, MatchOption};
 ghost use Rattle.c_behaviour.specs.Meaning.{Breaks, Continues, Returns, Falls, ends};
-ghost use Rattle.c_interpreter.specs.Costs.{rest_cost};
-ghost use Rattle.c_interpreter.specs.Resume.{here, rest_of, back_of};
-ghost use Rattle.c_interpreter.specs.Stacks.{waiting};
-ghost use Rattle.c_interpreter.specs.Steps.{Meets, next_cost};
+ghost use Rattle.c_machine.specs.Costs.{rest_cost};
+ghost use Rattle.c_machine.specs.Resume.{here, rest_of, back_of};
+ghost use Rattle.c_machine.specs.Stacks.{waiting};
+ghost use Rattle.c_machine.specs.Steps.{Meets, next_cost};
 
 use crate::arriving::settle;
-use crate::left::{Left, Waiting};
 use crate::looping::{after_body, turn};
-use crate::machine::Machine;
-use crate::next::Next;
+use c_machine::{Left, Machine, Next, Waiting};
 use c_program::{Ending, Target};
 use lang::{NoMemory, Shown};
 
 /// `break`: the nearest loop is left.
-#[tactic(auto, using(crate::proofs::Stops::resume_fails))]
+#[tactic(auto, using(c_machine::proofs::Stops::resume_fails))]
 pub fn breaks(machine: &mut Machine) -> Next
     ensures meaning { Meets result machine.new (λ output. rest_of machine.old (Breaks (here machine.old output))) }
     ensures cost { next_cost result machine.new ≤ 1 + rest_cost machine.old }
@@ -35,7 +33,7 @@ pub fn breaks(machine: &mut Machine) -> Next
 }
 
 /// `continue`: the rest of the nearest loop's body is left out.
-#[tactic(auto, using(crate::proofs::Stops::resume_fails))]
+#[tactic(auto, using(c_machine::proofs::Stops::resume_fails))]
 pub fn continues(machine: &mut Machine) -> Result<Next, NoMemory>
     ensures meaning { IfOk result (λ next. Meets next machine.new (λ output. rest_of machine.old (Continues (here machine.old output)))) }
     ensures cost { IfOk result (λ next. next_cost next machine.new ≤ rest_cost machine.old) }
@@ -52,7 +50,7 @@ pub fn continues(machine: &mut Machine) -> Result<Next, NoMemory>
 
 /// A callee has returned to a caller that no more stands on the stack. Where the caller returns the same
 /// word, that is left to the caller of this.
-#[tactic(auto, using(crate::proofs::Stops::resume_fails))]
+#[tactic(auto, using(c_machine::proofs::Stops::resume_fails))]
 fn come_back(machine: &mut Machine, caller: Waiting, word: Option<u32>) -> Option<Next>
     ensures meaning { MatchOption result ((output : List ℕ) → back_of machine.old caller (Returns word (here machine.old output)) ≡ rest_of machine.new (Returns word (here machine.new output))) (λ next. Meets next machine.new (λ output. back_of machine.old caller (Returns word (here machine.old output)))) }
     ensures cost { IfSome result (λ next. next_cost next machine.new ≤ 1 + rest_cost machine.old) }
@@ -88,7 +86,7 @@ pub fn returns(machine: &mut Machine, word: Option<u32>) -> Next
 }
 
 /// The end of a function's body is reached.
-#[tactic(auto, using(crate::proofs::Stops::resume_fails))]
+#[tactic(auto, using(c_machine::proofs::Stops::resume_fails))]
 fn reach_end(machine: &mut Machine, caller: Waiting) -> Next
     ensures meaning { Meets result machine.new (λ output. back_of machine.old caller (ends caller.ending (Falls (here machine.old output)))) }
     ensures cost { next_cost result machine.new ≤ 1 + rest_cost machine.old }

@@ -5,17 +5,12 @@
 mod acting;
 mod arriving;
 mod calling;
-mod cells;
-mod evaluation;
-mod globals;
 mod leaving;
-mod left;
-mod locals;
 mod looping;
-mod machine;
-mod next;
 mod running;
-mod stack;
 mod starting;
 
 pub use running::run_program;
+
+#[cfg(test)]
+mod tests;

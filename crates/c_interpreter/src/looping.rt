@@ -1,18 +1,16 @@
 //! Turns of loops.
 
-ghost use Rattle.std.specs.Prelude.{◌≡◌, ◌+◌, ◌≤◌, [], IfOk};
+ghost use Rattle.std.specs.Prelude.{◌≡◌, ℕ, ◌+◌, ◌-◌, ◌<◌, ◌≤◌, List, [], IfOk, MatchOption};
+ghost use Rattle.std.specs.Option.{option_map};
 ghost use Rattle.c_program.specs.Views.{term_tree, action_tree, actions_tree};
 ghost use Rattle.c_behaviour.specs.State.{State, word};
-ghost use Rattle.c_behaviour.specs.Meaning.{Level, Falls, exec, exec_all, level, turns_again};
-ghost use Rattle.c_interpreter.specs.Costs.{Costs, cost, cost_all, level_cost, behind_cost, rest_cost};
-ghost use Rattle.c_interpreter.specs.Resume.{functions_of, here, rest_of, work_of};
-ghost use Rattle.c_interpreter.specs.Steps.{Meets, next_cost};
+ghost use Rattle.c_behaviour.specs.Meaning.{Level, Falls, exec, exec_all, level, after_body, turns_again};
+ghost use Rattle.c_machine.specs.AtOnce.{holds};
+ghost use Rattle.c_machine.specs.Costs.{Costs, cost, cost_all, level_cost, behind_cost, rest_cost};
+ghost use Rattle.c_machine.specs.Resume.{functions_of, here, rest_of, work_of};
+ghost use Rattle.c_machine.specs.Steps.{Meets, next_cost};
 
-use crate::evaluation::evaluate;
-use crate::locals::frame;
-use crate::left::{Cycle, Left};
-use crate::machine::Machine;
-use crate::next::Next;
+use c_machine::{Cycle, Left, Machine, Next, at_once, evaluate, frame};
 use c_program::{Action, Term};
 use lang::{NoMemory, Shown};
 use std::slice;
@@ -25,7 +23,7 @@ pub fn evaluate_here(machine: &Machine, term: &Term) -> Option<u32>
 }
 
 /// An action as some in order.
-#[tactic(auto, using(crate::proofs::Levels::goes_on_to_nothing, c_program::proofs::Sequences::view_sequence))]
+#[tactic(auto, using(c_machine::proofs::Levels::goes_on_to_nothing, c_program::proofs::Sequences::view_sequence))]
 pub fn listed(action: &Action) -> &[Action]
     ensures meaning { (lower : Level) (s : State) → exec_all lower (actions_tree result.now) s ≡ exec lower (action_tree action.now) s }
     ensures cost { (lower : Costs) → cost_all lower (actions_tree result.now) ≤ cost lower (action_tree action.now) }
@@ -36,28 +34,93 @@ pub fn listed(action: &Action) -> &[Action]
     }
 }
 
-/// The head of a turn.
-#[tactic(auto, using(crate::proofs::Levels::level_none, crate::proofs::Levels::turn_fails, crate::proofs::Levels::turn_falls, crate::proofs::Levels::turn_begins, crate::proofs::Levels::cost_turns, crate::proofs::Levels::cost_some, crate::proofs::Stops::resume_fails, crate::proofs::Stops::resume_runs_out))]
+/// Whether a condition holds in the running function.
+fn holds_here(machine: &Machine, condition: &Term) -> Option<bool>
+    ensures { result ≡ option_map holds (word (term_tree condition.now) (here machine.now [])) }
+{
+    let word = evaluate_here(machine, condition)?;
+    Some(word != 0)
+}
+
+/// A loop from its head on.
+#[tactic(auto, using(c_machine::proofs::Levels::level_none, c_machine::proofs::Stops::resume_runs_out))]
 pub fn turn<'a>(machine: &mut Machine<'a>, cycle: Cycle<'a>) -> Result<Next, NoMemory>
     ensures meaning { IfOk result (λ next. Meets next machine.new (λ output. rest_of machine.old (level (functions_of machine.old) cycle.entry.bound (work_of cycle.entry) (here machine.old output)))) }
     ensures cost { IfOk result (λ next. next_cost next machine.new ≤ level_cost (functions_of machine.old) cycle.entry.bound (work_of cycle.entry) + rest_cost machine.old) }
 {
-    if cycle.bound == 0 {
-        return Ok(Next::Stops(Shown::Running));
+    let mut bound = cycle.bound;
+    while bound > 0 {
+        if let Some(next) = one_turn(machine, Cycle { bound, ..cycle })? {
+            return Ok(next);
+        }
+        bound -= 1;
     }
-    match evaluate_here(machine, cycle.condition) {
-        None => Ok(Next::Stops(Shown::Wrong)),
-        Some(0) => {
+    Ok(Next::Stops(Shown::Running))
+}
+
+/// A turn. Where the answer is none, the turn is done, and the next one may come.
+#[tactic(auto, using(c_machine::proofs::Levels::turn_fails, c_machine::proofs::Levels::turn_falls, c_machine::proofs::Levels::turn_begins, c_machine::proofs::Levels::cost_turns, c_machine::proofs::Levels::cost_some, c_machine::proofs::Stops::resume_fails))]
+fn one_turn<'a>(machine: &mut Machine<'a>, cycle: Cycle<'a>) -> Result<Option<Next>, NoMemory>
+    requires { 0 < cycle.bound }
+    ensures meaning { IfOk result (λ answer. MatchOption answer ((output : List ℕ) → rest_of machine.old (level (functions_of machine.old) cycle.entry.bound (work_of cycle.entry) (here machine.old output)) ≡ rest_of machine.new (level (functions_of machine.new) (cycle.entry.bound - 1) (work_of cycle.entry) (here machine.new output))) (λ next. Meets next machine.new (λ output. rest_of machine.old (level (functions_of machine.old) cycle.entry.bound (work_of cycle.entry) (here machine.old output))))) }
+    ensures cost { IfOk result (λ answer. MatchOption answer (level_cost (functions_of machine.new) (cycle.entry.bound - 1) (work_of cycle.entry) + rest_cost machine.new ≤ level_cost (functions_of machine.old) cycle.entry.bound (work_of cycle.entry) + rest_cost machine.old) (λ next. next_cost next machine.new ≤ level_cost (functions_of machine.old) cycle.entry.bound (work_of cycle.entry) + rest_cost machine.old)) }
+{
+    match holds_here(machine, cycle.condition) {
+        None => Ok(Some(Next::Stops(Shown::Wrong))),
+        Some(false) => {
             machine.actions = &[];
-            Ok(Next::Goes)
+            Ok(Some(Next::Goes))
         }
-        Some(_) => {
+        Some(true) => {
             let bound = cycle.bound - 1;
-            machine.left.push(Left::Body(Cycle { bound, ..cycle }))?;
-            machine.bound = bound;
-            machine.actions = listed(cycle.body);
-            Ok(Next::Goes)
+            body_turn(machine, Cycle { bound, ..cycle })
         }
+    }
+}
+
+/// The body of a loop, and what stands behind it. Where the answer is none, both are done.
+#[tactic(auto, using(c_machine::proofs::Stops::resume_fails))]
+fn body_turn<'a>(machine: &mut Machine<'a>, cycle: Cycle<'a>) -> Result<Option<Next>, NoMemory>
+    ensures meaning { IfOk result (λ answer. MatchOption answer ((output : List ℕ) → rest_of machine.old (after_body (level (functions_of machine.old) cycle.entry.bound) (term_tree cycle.entry.condition.now) (action_tree cycle.entry.body.now) (action_tree cycle.entry.behind.now) (exec (level (functions_of machine.old) cycle.entry.bound) (action_tree cycle.entry.body.now) (here machine.old output))) ≡ rest_of machine.new (level (functions_of machine.new) cycle.entry.bound (work_of cycle.entry) (here machine.new output))) (λ next. Meets next machine.new (λ output. rest_of machine.old (after_body (level (functions_of machine.old) cycle.entry.bound) (term_tree cycle.entry.condition.now) (action_tree cycle.entry.body.now) (action_tree cycle.entry.behind.now) (exec (level (functions_of machine.old) cycle.entry.bound) (action_tree cycle.entry.body.now) (here machine.old output)))))) }
+    ensures cost { IfOk result (λ answer. MatchOption answer (level_cost (functions_of machine.new) cycle.entry.bound (work_of cycle.entry) + rest_cost machine.new ≤ level_cost (functions_of machine.old) cycle.entry.bound (work_of cycle.entry) + rest_cost machine.old) (λ next. next_cost next machine.new ≤ 1 + (cost (level_cost (functions_of machine.old) cycle.entry.bound) (action_tree cycle.entry.body.now) + behind_cost (level_cost (functions_of machine.old) cycle.entry.bound) (term_tree cycle.entry.condition.now) (action_tree cycle.entry.body.now) (action_tree cycle.entry.behind.now)) + rest_cost machine.old)) }
+{
+    match at_once(
+        &mut machine.locals,
+        machine.base,
+        &mut machine.globals,
+        cycle.body,
+    ) {
+        None => {
+            machine.left.push(Left::Body(cycle))?;
+            machine.bound = cycle.bound;
+            machine.actions = listed(cycle.body);
+            Ok(Some(Next::Goes))
+        }
+        Some(false) => Ok(Some(Next::Stops(Shown::Wrong))),
+        Some(true) => behind_turn(machine, cycle),
+    }
+}
+
+/// What stands behind a loop's body. Where the answer is none, it is done.
+#[tactic(auto, using(c_machine::proofs::Stops::resume_fails))]
+fn behind_turn<'a>(machine: &mut Machine<'a>, cycle: Cycle<'a>) -> Result<Option<Next>, NoMemory>
+    ensures meaning { IfOk result (λ answer. MatchOption answer ((output : List ℕ) → rest_of machine.old (turns_again (level (functions_of machine.old) cycle.entry.bound) (term_tree cycle.entry.condition.now) (action_tree cycle.entry.body.now) (action_tree cycle.entry.behind.now) (exec (level (functions_of machine.old) cycle.entry.bound) (action_tree cycle.entry.behind.now) (here machine.old output))) ≡ rest_of machine.new (level (functions_of machine.new) cycle.entry.bound (work_of cycle.entry) (here machine.new output))) (λ next. Meets next machine.new (λ output. rest_of machine.old (turns_again (level (functions_of machine.old) cycle.entry.bound) (term_tree cycle.entry.condition.now) (action_tree cycle.entry.body.now) (action_tree cycle.entry.behind.now) (exec (level (functions_of machine.old) cycle.entry.bound) (action_tree cycle.entry.behind.now) (here machine.old output)))))) }
+    ensures cost { IfOk result (λ answer. MatchOption answer (level_cost (functions_of machine.new) cycle.entry.bound (work_of cycle.entry) + rest_cost machine.new ≤ level_cost (functions_of machine.old) cycle.entry.bound (work_of cycle.entry) + rest_cost machine.old) (λ next. next_cost next machine.new ≤ behind_cost (level_cost (functions_of machine.old) cycle.entry.bound) (term_tree cycle.entry.condition.now) (action_tree cycle.entry.body.now) (action_tree cycle.entry.behind.now) + rest_cost machine.old)) }
+{
+    match at_once(
+        &mut machine.locals,
+        machine.base,
+        &mut machine.globals,
+        cycle.behind,
+    ) {
+        None => {
+            machine.left.push(Left::Behind(cycle))?;
+            machine.bound = cycle.bound;
+            machine.actions = listed(cycle.behind);
+            Ok(Some(Next::Goes))
+        }
+        Some(false) => Ok(Some(Next::Stops(Shown::Wrong))),
+        Some(true) => Ok(None),
     }
 }
 
@@ -66,8 +129,8 @@ pub fn after_body<'a>(machine: &mut Machine<'a>, cycle: Cycle<'a>) -> Result<Nex
     ensures meaning { IfOk result (λ next. Meets next machine.new (λ output. rest_of machine.old (turns_again (level (functions_of machine.old) cycle.entry.bound) (term_tree cycle.entry.condition.now) (action_tree cycle.entry.body.now) (action_tree cycle.entry.behind.now) (exec (level (functions_of machine.old) cycle.entry.bound) (action_tree cycle.entry.behind.now) (here machine.old output))))) }
     ensures cost { IfOk result (λ next. next_cost next machine.new ≤ behind_cost (level_cost (functions_of machine.old) cycle.entry.bound) (term_tree cycle.entry.condition.now) (action_tree cycle.entry.body.now) (action_tree cycle.entry.behind.now) + rest_cost machine.old) }
 {
-    machine.left.push(Left::Behind(cycle))?;
-    machine.bound = cycle.bound;
-    machine.actions = listed(cycle.behind);
-    Ok(Next::Goes)
+    match behind_turn(machine, cycle)? {
+        Some(next) => Ok(next),
+        None => turn(machine, cycle),
+    }
 }

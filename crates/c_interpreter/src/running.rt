@@ -4,14 +4,13 @@ ghost use Rattle.std.specs.Prelude.{[], map};
 ghost use Rattle.run_output.specs.Written.{Wrote};
 ghost use Rattle.c_program.specs.Views.{function_tree};
 ghost use Rattle.c_behaviour.specs.Meaning.{Falls, crun, shown};
-ghost use Rattle.c_interpreter.specs.Resume.{here, later};
+ghost use Rattle.c_machine.specs.Resume.{here, later};
 
 use crate::acting::step;
 use crate::arriving::arrive;
 use crate::calling::function_at;
-use crate::machine::Machine;
-use crate::next::Next;
 use crate::starting::start;
+use c_machine::{Machine, Next};
 use c_program::{Function, GlobalVariable};
 use lang::Shown;
 use run_output::{RunError, print};

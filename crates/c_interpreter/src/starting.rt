@@ -4,13 +4,10 @@ ghost use Rattle.std.specs.Prelude.{◌≡◌, [], IfOk, map, slice_index};
 ghost use Rattle.c_program.specs.Views.{function_tree};
 ghost use Rattle.c_behaviour.specs.Meaning.{Falls, cells_of, level, shown, start};
 ghost use Rattle.c_interpreter.specs.Arguments.{body_of};
-ghost use Rattle.c_interpreter.specs.Resume.{here, later};
+ghost use Rattle.c_machine.specs.Resume.{here, later};
 
 use crate::calling::push_blank;
-use crate::cells::Cells;
-use crate::left::{Left, Waiting};
-use crate::machine::Machine;
-use crate::stack::Stack;
+use c_machine::{Cells, Left, Machine, Stack, Waiting};
 use c_program::{Function, GlobalVariable, Target};
 use lang::NoMemory;
 use std::alloc::Global;

@@ -1,13 +1,13 @@
 -- The first action, and behind it the others.
-use Rattle.std.proofs.Common.{◌≡◌, ℕ, ◌≤◌, List, [], ◌∷◌, length, get_or, ◌-◌, take, drop, sym, ap, ◌∙◌, subst, arith}
+use Rattle.std.proofs.Common.{◌≡◌, ◌≤◌, List, [], ◌∷◌, length, get_or, ◌-◌, take, drop, sym, ap, ◌∙◌, subst, arith}
 use Rattle.std.specs.Prelude.{IfOk}
 use Rattle.std.proofs.lemmas.List.{take_rest}
 use Rattle.c_program.specs.Trees.{ActionsTree, First}
 use Rattle.c_program.specs.Views.{action_tree, actions_tree}
 use Rattle.c_program.specs.declared.action.Action.{Action}
 use Rattle.c_behaviour.specs.Meaning.{exec_all, level}
-use Rattle.c_interpreter.specs.Resume.{functions_of, here, rest_of}
-use Rattle.c_interpreter.specs.Steps.{Meets}
+use Rattle.c_machine.specs.Resume.{functions_of, here, rest_of}
+use Rattle.c_machine.specs.Steps.{Meets}
 use Rattle.c_interpreter.proofs.acting.step.Goals as goal
 
 split : (all : List Action) (first : Action) → 1 ≤ length all → first ≡ get_or all 0 first → actions_tree all ≡ First (action_tree first) (actions_tree (take (length all - 1) (drop 1 all)))

@@ -1,16 +1,16 @@
 -- By what the arguments are worth, whether the bound is spent, and whether there is such a function.
-use Rattle.std.proofs.Common.{◌≡◌, ℕ, ◌+◌, ◌-◌, ◌<◌, ◌≤◌, List, [], ◌++◌, length, drop, take, map, Option, Some, None, sym, ap, ◌∙◌, rules, arith}
-use Rattle.std.specs.Prelude.{replicate, slice_get}
+use Rattle.std.proofs.Common.{◌≡◌, ℕ, ◌-◌, ◌<◌, List, [], ◌++◌, length, drop, take, map, Option, Some, None, sym, ap, ◌∙◌, rules, arith}
+use Rattle.std.specs.Prelude.{replicate}
 use Rattle.std.proofs.lemmas.List.{take_at, drop_at}
 use Rattle.c_program.specs.Views.{actions_tree, function_tree}
-use Rattle.c_behaviour.specs.State.{State, words}
+use Rattle.c_behaviour.specs.State.{State}
 use Rattle.c_behaviour.specs.Meaning.{Outcome, goes_on, exec_all, comes_back, ends, calls, level, shown}
-use Rattle.c_interpreter.specs.Stacks.{waiting}
-use Rattle.c_interpreter.specs.Costs.{level_cost, later_cost}
-use Rattle.c_interpreter.specs.Resume.{functions_of, here, resume, later}
-use Rattle.c_interpreter.proofs.Levels.{level_none, level_calls, cost_calls}
-use Rattle.c_interpreter.proofs.Placing.{words_length, arguments_fail, arguments_given}
-use Rattle.c_interpreter.proofs.Stops.{resume_fails, resume_runs_out}
+use Rattle.c_machine.specs.Stacks.{waiting}
+use Rattle.c_machine.specs.Costs.{level_cost}
+use Rattle.c_machine.specs.Resume.{functions_of, here, resume, later}
+use Rattle.c_machine.proofs.Levels.{level_none, level_calls, cost_calls}
+use Rattle.c_interpreter.proofs.Placing.{arguments_fail, arguments_given}
+use Rattle.c_machine.proofs.Stops.{resume_fails, resume_runs_out}
 use Rattle.c_interpreter.proofs.calling.call.Goals as goal
 
 pub returns-then-not-branch-clause-meaning : goal.returns-then-not-branch-clause-meaning
@@ -60,10 +60,10 @@ returns-in_ok-begin-in-Some-clause-meaning c = λ output.
     let new = c.push_arguments.new.locals.items in
     let count : length old ≡ end = search (arith, rules) in
     let stands = λ (below arguments : List (Option ℕ)).
-        let begun : State = record { locals = arguments ++ replicate (f.locals - f.parameters) None; globals = s.globals; output = output } in
-        shown (resume functions (waiting m.left) (take m.base below)
-        (goes_on (exec_all (level functions m.bound) (actions_tree m.actions.now))
-        (comes_back c.args.target (drop m.base below) (ends f.ending (exec_all (level functions (m.bound - 1)) f.body begun))))) in
+    let begun : State = record { locals = arguments ++ replicate (f.locals - f.parameters) None; globals = s.globals; output = output } in
+    shown (resume functions (waiting m.left) (take m.base below)
+    (goes_on (exec_all (level functions m.bound) (actions_tree m.actions.now))
+    (comes_back c.args.target (drop m.base below) (ends f.ending (exec_all (level functions (m.bound - 1)) f.body begun))))) in
     ap shown (c.in_ok-begin-in-Some.ensures.meaning output)
     ∙ ap (λ below. stands below (drop end new)) (ap (take end) given.2 ∙ take_at old (map Some given.0) end count)
     ∙ ap (stands old) (ap (drop end) given.2 ∙ drop_at old (map Some given.0) end count)

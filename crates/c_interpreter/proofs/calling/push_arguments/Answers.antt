@@ -1,7 +1,7 @@
 -- The next word stands behind the others.
-use Rattle.std.proofs.Common.{◌≡◌, ℕ, ◌+◌, ◌<◌, List, [], ◌∷◌, ◌++◌, length, drop, take, map, Option, Some, None, sym, ap, ◌∙◌, arith, append_assoc}
+use Rattle.std.proofs.Common.{◌≡◌, ℕ, [], ◌∷◌, ◌++◌, drop, map, Some, ap, ◌∙◌, arith}
 use Rattle.std.proofs.lemmas.Grind.{common_steps}
-use Rattle.std.proofs.lemmas.List.{map_push, take_at}
+use Rattle.std.proofs.lemmas.List.{map_push}
 use Rattle.c_program.specs.Views.{term_tree}
 use Rattle.c_program.specs.Values.{value}
 use Rattle.c_behaviour.specs.State.{State, word}
@@ -16,6 +16,6 @@ loop-argument-preserved c =
     let s : State = record { locals = drop c.args.base old; globals = c.args.globals.now; output = [] } in
     let seen : c.frame.result.now ≡ drop c.args.base old = grind (arith, common_steps, c.loop-argument.invariant.1.0) in
     let some : Some w ≡ word (term_tree c.argument-item.result) s =
-        c.in-Some.ensures ∙ ap (λ locals. value (record { locals = locals; globals = c.args.globals.now }) (term_tree c.argument-item.result)) seen in
+    c.in-Some.ensures ∙ ap (λ locals. value (record { locals = locals; globals = c.args.globals.now }) (term_tree c.argument-item.result)) seen in
     let places : c.push.new.self.items ≡ old ++ map Some (ws ++ w ∷ []) = grind (arith, common_steps, c.loop-argument.invariant.1.0, map_push {X = ℕ}) in
     (ws ++ w ∷ [], (places, c.loop-argument.invariant.1.1 ∙ joined_more ws c.args.arguments.now c.loop-argument.argument-index c.argument-item.result s w c.loop-argument-test.true c.argument-item.is some))

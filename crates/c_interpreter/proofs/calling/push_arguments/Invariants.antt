@@ -1,6 +1,5 @@
-use Rattle.std.proofs.Common.{◌≡◌, ℕ, List, [], ◌++◌, drop, map, Option, Some, None}
-use Rattle.c_program.specs.Views.{term_tree}
-use Rattle.c_behaviour.specs.State.{State, words}
+use Rattle.std.proofs.Common.{◌≡◌, ℕ, List, [], ◌++◌, drop, map, Some}
+use Rattle.c_behaviour.specs.State.{State}
 use Rattle.c_interpreter.proofs.Placing.{joined, rest_words}
 use Rattle.c_interpreter.proofs.calling.push_arguments.Given as goal
 

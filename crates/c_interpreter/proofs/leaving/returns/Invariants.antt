@@ -1,8 +1,8 @@
 use Rattle.std.proofs.Common.{◌≡◌, ℕ, ◌≤◌, List, length}
 use Rattle.c_behaviour.specs.Meaning.{Returns}
-use Rattle.c_interpreter.specs.Stacks.{waiting}
-use Rattle.c_interpreter.specs.Costs.{rest_cost}
-use Rattle.c_interpreter.specs.Resume.{here, rest_of}
+use Rattle.c_machine.specs.Stacks.{waiting}
+use Rattle.c_machine.specs.Costs.{rest_cost}
+use Rattle.c_machine.specs.Resume.{here, rest_of}
 use Rattle.c_interpreter.proofs.leaving.returns.Given as goal
 
 -- what returns here returns from the whole

@@ -1,9 +1,9 @@
 -- Where a growth is refused or the writer fails, a beginning of the output is written.
-use Rattle.std.proofs.Common.{◌≡◌, List, subst}
+use Rattle.std.proofs.Common.{subst}
 use Rattle.std.proofs.KnownBytes.{Appends-kept}
 use Rattle.std.proofs.lemmas.Result.{err_from_is_err_and}
 use Rattle.lang.specs.Behaviour.{Shows, IsBeginningOf}
-use Rattle.c_interpreter.proofs.Printing.{prints_on}
+use Rattle.c_machine.proofs.Printing.{prints_on}
 use Rattle.c_interpreter.proofs.running.run.Goals as goal
 
 pub returns-in_err-next-in-Goes : goal.returns-in_err-next-in-Goes

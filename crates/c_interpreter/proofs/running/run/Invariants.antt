@@ -1,8 +1,8 @@
 use Rattle.std.proofs.Common.{◌≡◌, ℕ, List, []}
 use Rattle.std.specs.Io.KnownBytes.{Appends}
 use Rattle.c_behaviour.specs.Meaning.{Falls, shown}
-use Rattle.c_interpreter.specs.Resume.{here, later}
-use Rattle.c_interpreter.specs.Steps.{shows, next_cost}
+use Rattle.c_machine.specs.Resume.{here, later}
+use Rattle.c_machine.specs.Steps.{shows, next_cost}
 use Rattle.c_interpreter.proofs.running.run.Given as goal
 
 -- what is printed so far, with which the run shows what the whole shows

@@ -1,5 +1,5 @@
 -- Where a growth is refused at the start, nothing is written.
-use Rattle.std.proofs.Common.{◌≡◌, List, [], refl}
+use Rattle.std.proofs.Common.{[], refl}
 use Rattle.std.proofs.KnownBytes.{Appends-nil}
 use Rattle.std.proofs.lemmas.Result.{err_from_is_err_and}
 use Rattle.c_interpreter.proofs.running.run_program.Goals as goal

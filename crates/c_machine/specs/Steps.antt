@@ -1,14 +1,12 @@
 -- What a step leads to.
-use Rattle.std.specs.Prelude.{◌≡◌, ℕ, ◌+◌, ◌≤◌, List, [], ◌∷◌, ◌++◌, Result, Ok, Err}
-use Rattle.lang.specs.declared.errors.NoMemory.{NoMemory}
+use Rattle.std.specs.Prelude.{◌≡◌, ℕ, ◌+◌, List, [], ◌∷◌, ◌++◌}
 use Rattle.lang.specs.Behaviour.{Shows}
-use Rattle.c_behaviour.specs.State.{State}
 use Rattle.c_behaviour.specs.Meaning.{Outcome, Falls, arrives, shown}
-use Rattle.c_interpreter.specs.declared.next.Next.{Next}
-use Rattle.c_interpreter.specs.declared.next.Next.TheVariants.{Goes, Prints, Stops}
-use Rattle.c_interpreter.specs.declared.machine.Machine.{Machine}
-use Rattle.c_interpreter.specs.Resume.{here, later}
-use Rattle.c_interpreter.specs.Costs.{later_cost}
+use Rattle.c_machine.specs.declared.next.Next.{Next}
+use Rattle.c_machine.specs.declared.next.Next.TheVariants.{Goes, Prints, Stops}
+use Rattle.c_machine.specs.declared.machine.Machine.{Machine}
+use Rattle.c_machine.specs.Resume.{here, later}
+use Rattle.c_machine.specs.Costs.{later_cost}
 
 -- what the run shows that stands so, where so much is printed
 abbrev pub shows : Next → Machine → List ℕ → Shows

@@ -10,7 +10,7 @@ pub struct Stack<'a> {
 
 impl<'a> Stack<'a> {
     ghost use Rattle.std.specs.Prelude.{◌≡◌, [], ◌∷◌, OnOk, MatchOption};
-    ghost use Rattle.c_interpreter.specs.Stacks.{waiting};
+    ghost use Rattle.c_machine.specs.Stacks.{waiting};
 
     /// Nothing is left.
     #[tactic(auto, unfolding(crate::specs::Stacks::waiting))]

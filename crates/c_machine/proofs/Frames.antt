@@ -1,5 +1,5 @@
 -- The locals behind a base.
-use Rattle.std.proofs.Common.{◌≡◌, ℕ, ◌+◌, List, drop, take, set}
+use Rattle.std.proofs.Common.{◌≡◌, ℕ, ◌+◌, List, drop, set}
 use Rattle.std.proofs.lemmas.List.{drop-set-add}
 
 pub set_behind : {A : Type 0} (n : ℕ) (xs : List A) (i : ℕ) (x : A) → drop n (set xs (n + i) x) ≡ set (drop n xs) i x

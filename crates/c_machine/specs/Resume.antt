@@ -2,15 +2,14 @@
 use Rattle.std.specs.Prelude.{ℕ, List, [], ◌∷◌, Option, take, drop, map}
 use Rattle.c_program.specs.Trees.{FunctionTree}
 use Rattle.c_program.specs.Views.{term_tree, action_tree, actions_tree, function_tree}
-use Rattle.c_program.specs.declared.function.Function.{Function}
 use Rattle.c_behaviour.specs.State.{State}
 use Rattle.c_behaviour.specs.Meaning.{Outcome, Work, Turns, goes_on, exec_all, turns_again, after_body, comes_back, ends, level}
-use Rattle.c_interpreter.specs.declared.left.Cycle.{Cycle}
-use Rattle.c_interpreter.specs.declared.left.Left.{Left}
-use Rattle.c_interpreter.specs.declared.left.Waiting.{Waiting}
-use Rattle.c_interpreter.specs.declared.left.Left.TheVariants.{Rest, Body, Behind, Back}
-use Rattle.c_interpreter.specs.declared.machine.Machine.{Machine}
-use Rattle.c_interpreter.specs.Stacks.{waiting}
+use Rattle.c_machine.specs.declared.left.Cycle.{Cycle}
+use Rattle.c_machine.specs.declared.left.Left.{Left}
+use Rattle.c_machine.specs.declared.left.Waiting.{Waiting}
+use Rattle.c_machine.specs.declared.left.Left.TheVariants.{Rest, Body, Behind, Back}
+use Rattle.c_machine.specs.declared.machine.Machine.{Machine}
+use Rattle.c_machine.specs.Stacks.{waiting}
 
 -- What is done behind an outcome, the top of the stack first. The callers' locals lie below those of the
 -- running function, each caller's behind those of its own.

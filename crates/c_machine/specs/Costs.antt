@@ -1,14 +1,13 @@
 -- How many steps a run takes at most: a number that falls at each step, so that each run ends at its bound.
 use Rattle.std.specs.Prelude.{ℕ, zero, suc, ◌+◌, List, [], ◌∷◌, Option, Some, None, slice_get}
-use Rattle.c_program.specs.declared.action.Target.{Target}
 use Rattle.c_program.specs.Trees.{TermTree, GivenTree, ActionTree, ActionsTree, FunctionTree, Plain, Called, Put, Nothing, Declare, Sequence, Give, Store, If, Loop, Break, Continue, Leave, Done, First}
 use Rattle.c_program.specs.Views.{term_tree, action_tree, actions_tree}
 use Rattle.c_behaviour.specs.Meaning.{Work, Turns, Calls}
-use Rattle.c_interpreter.specs.declared.left.Left.{Left}
-use Rattle.c_interpreter.specs.declared.left.Left.TheVariants.{Rest, Body, Behind, Back}
-use Rattle.c_interpreter.specs.declared.machine.Machine.{Machine}
-use Rattle.c_interpreter.specs.Stacks.{waiting}
-use Rattle.c_interpreter.specs.Resume.{functions_of, work_of}
+use Rattle.c_machine.specs.declared.left.Left.{Left}
+use Rattle.c_machine.specs.declared.left.Left.TheVariants.{Rest, Body, Behind, Back}
+use Rattle.c_machine.specs.declared.machine.Machine.{Machine}
+use Rattle.c_machine.specs.Stacks.{waiting}
+use Rattle.c_machine.specs.Resume.{functions_of, work_of}
 
 -- the cost of what runs with one bound less
 abbrev pub Costs : Type 0

@@ -1,11 +1,23 @@
 -- What runs with a bound, by whether it is spent.
-use Rattle.std.proofs.Common.{◌≡◌, ◌≢◌, ℕ, zero, suc, ◌+◌, ◌-◌, ◌<◌, ◌==◌, cond, false, List, [], ◌∷◌, Option, Some, None, refl, sym, ap, ◌∙◌, subst, arith}
-use Rattle.std.specs.Prelude.{slice_get}
-use Rattle.std.proofs.lemmas.Bool.Decides.{nat_tests}
+use Rattle.std.proofs.Common.{◌≡◌, ℕ, zero, suc, ◌+◌, ◌-◌, ◌<◌, ◌==◌, cond, Bool, true, false, List, Option, Some, None, refl, sym, ap, ◌∙◌, subst, arith}
+use Rattle.std.specs.Prelude.{slice_get, not}
+use Rattle.std.specs.Option.{option_map}
 use Rattle.c_program.specs.Trees.{TermTree, ActionTree, FunctionTree}
 use Rattle.c_behaviour.specs.State.{State, word}
-use Rattle.c_behaviour.specs.Meaning.{Outcome, Falls, Breaks, Continues, Returns, RunsOut, Fails, Work, Turns, Calls, Level, goes_on, branches, exec, exec_all, after_body, turns, enters, level}
-use Rattle.c_interpreter.specs.Costs.{level_cost, cost, behind_cost, body_cost}
+use Rattle.c_behaviour.specs.Meaning.{Outcome, Falls, Breaks, Continues, Returns, RunsOut, Fails, Work, Turns, Calls, Level, goes_on, branches, exec, after_body, turns, enters, level}
+use Rattle.c_machine.specs.AtOnce.{holds}
+use Rattle.c_machine.specs.Costs.{level_cost, cost, behind_cost, body_cost}
+
+some_same : (a b : Bool) → Some a ≡ Some b → a ≡ b
+some_same a b e = cc
+
+not_false : (b : Bool) → false ≡ not b → b ≡ true
+not_false true e = refl
+not_false false e = cc
+
+not_true : (b : Bool) → true ≡ not b → b ≡ false
+not_true true e = cc
+not_true false e = refl
 
 pub level_none : (functions : List FunctionTree) (n : ℕ) (work : Work) (s : State) → n ≡ 0 → level functions n work s ≡ RunsOut s.output
 level_none functions n work s e = subst (λ k. level functions k work s ≡ RunsOut s.output) (sym e) refl
@@ -45,20 +57,31 @@ goes_on_to_nothing lower (Returns w s) = refl
 goes_on_to_nothing lower (RunsOut printed) = refl
 goes_on_to_nothing lower (Fails printed) = refl
 
--- a turn, by what its condition is worth
-pub turn_fails : (functions : List FunctionTree) (n : ℕ) (c : TermTree) (body behind : ActionTree) (s : State) → 0 < n → None ≡ word c s → level functions n (Turns c body behind) s ≡ Fails s.output
-turn_fails functions n c body behind s h e =
-    level_turns functions n c body behind s h ∙ ap (λ w. branches s w (after_body (level functions (n - 1)) c body behind (exec (level functions (n - 1)) body s)) (Falls s)) (sym e)
+-- a turn, by whether its condition holds
+branches_none : (s : State) (w : Option ℕ) (a b : Outcome) → None ≡ option_map holds w → branches s w a b ≡ Fails s.output
+branches_none s None a b e = refl
+branches_none s (Some w) a b e = cc
 
-pub turn_falls : (functions : List FunctionTree) (n : ℕ) (c : TermTree) (body behind : ActionTree) (s : State) → 0 < n → Some 0 ≡ word c s → level functions n (Turns c body behind) s ≡ Falls s
+branches_false : (s : State) (w : Option ℕ) (a b : Outcome) → Some false ≡ option_map holds w → branches s w a b ≡ b
+branches_false s None a b e = cc
+branches_false s (Some w) a b e =
+    let no_more : (w == 0) ≡ true = not_false (w == 0) (some_same false (holds w) e) in
+    ap (λ t. cond t b a) no_more
+
+branches_true : (s : State) (w : Option ℕ) (a b : Outcome) → Some true ≡ option_map holds w → branches s w a b ≡ a
+branches_true s None a b e = cc
+branches_true s (Some w) a b e =
+    let more : (w == 0) ≡ false = not_true (w == 0) (some_same true (holds w) e) in
+    ap (λ t. cond t b a) more
+
+pub turn_fails : (functions : List FunctionTree) (n : ℕ) (c : TermTree) (body behind : ActionTree) (s : State) → 0 < n → None ≡ option_map holds (word c s) → level functions n (Turns c body behind) s ≡ Fails s.output
+turn_fails functions n c body behind s h e = level_turns functions n c body behind s h ∙ branches_none s (word c s) _ _ e
+
+pub turn_falls : (functions : List FunctionTree) (n : ℕ) (c : TermTree) (body behind : ActionTree) (s : State) → 0 < n → Some false ≡ option_map holds (word c s) → level functions n (Turns c body behind) s ≡ Falls s
 turn_falls functions n c body behind s h e =
-    level_turns functions n c body behind s h ∙ ap (λ w. branches s w (after_body (level functions (n - 1)) c body behind (exec (level functions (n - 1)) body s)) (Falls s)) (sym e)
+    level_turns functions n c body behind s h ∙ branches_false s (word c s) (after_body (level functions (n - 1)) c body behind (exec (level functions (n - 1)) body s)) (Falls s) e
 
-chosen : (a b : Outcome) (w : ℕ) → w ≢ 0 → cond (w == 0) b a ≡ a
-chosen a b w h = let e : (w == 0) ≡ false = grind (arith, nat_tests) in ap (λ t. cond t b a) e
-
-pub turn_begins : (functions : List FunctionTree) (n : ℕ) (c : TermTree) (body behind : ActionTree) (s : State) (w : ℕ) → 0 < n → Some w ≡ word c s → w ≢ 0 →
+pub turn_begins : (functions : List FunctionTree) (n : ℕ) (c : TermTree) (body behind : ActionTree) (s : State) → 0 < n → Some true ≡ option_map holds (word c s) →
     level functions n (Turns c body behind) s ≡ after_body (level functions (n - 1)) c body behind (exec (level functions (n - 1)) body s)
-turn_begins functions n c body behind s w h e other =
-    let does = after_body (level functions (n - 1)) c body behind (exec (level functions (n - 1)) body s) in
-    level_turns functions n c body behind s h ∙ ap (λ v. branches s v does (Falls s)) (sym e) ∙ chosen does (Falls s) w other
+turn_begins functions n c body behind s h e =
+    level_turns functions n c body behind s h ∙ branches_true s (word c s) (after_body (level functions (n - 1)) c body behind (exec (level functions (n - 1)) body s)) (Falls s) e

@@ -1,10 +1,10 @@
-ghost use Rattle.std.specs.Prelude.{◌≡◌, [], ◌∷◌, slice_index_or};
-ghost use Rattle.c_program.specs.Values.{Variables, value, computed, cell_of, truth};
+ghost use Rattle.std.specs.Prelude.{◌≡◌, ℕ, List, IfSome, slice_index_or};
+ghost use Rattle.c_program.specs.Values.{Variables, value, cell_of, truth};
 ghost use Rattle.c_program.specs.Views.{term_tree};
 
 use crate::cells::Cells;
+use crate::operators::{on_one, on_two};
 use c_program::Term;
-use ints::{Op, eval_c};
 
 /// What an expression is worth among these locals and globals: none where it goes wrong.
 pub fn evaluate(term: &Term, locals: &[Option<u32>], globals: &[Cells]) -> Option<u32>
@@ -13,11 +13,24 @@ pub fn evaluate(term: &Term, locals: &[Option<u32>], globals: &[Cells]) -> Optio
     match term {
         Term::Constant(word) => Some(*word),
         Term::Local(number) => local(locals, *number),
-        Term::Cell(global, index) => cell(globals, *global, evaluate(index, locals, globals)?),
+        Term::Cell(global, index) => {
+            let index = match leaf(index, locals) {
+                Some(word) => word?,
+                None => evaluate(index, locals, globals)?,
+            };
+            cell(globals, *global, index)
+        }
         Term::Unary(op, operand) => on_one(*op, evaluate(operand, locals, globals)?),
         Term::Binary(op, first, second) => {
-            let left = evaluate(first, locals, globals)?;
-            on_two(*op, left, evaluate(second, locals, globals)?)
+            let left = match leaf(first, locals) {
+                Some(word) => word?,
+                None => evaluate(first, locals, globals)?,
+            };
+            let right = match leaf(second, locals) {
+                Some(word) => word?,
+                None => evaluate(second, locals, globals)?,
+            };
+            on_two(*op, left, right)
         }
         Term::Both(first, second) => {
             if evaluate(first, locals, globals)? == 0 {
@@ -41,7 +54,20 @@ pub fn evaluate(term: &Term, locals: &[Option<u32>], globals: &[Cells]) -> Optio
     }
 }
 
+/// What a constant or a local is worth, without a call.
+#[inline(always)]
+fn leaf(term: &Term, locals: &[Option<u32>]) -> Option<Option<u32>>
+    ensures { IfSome result (λ word. (globals : List (List ℕ)) → word ≡ value (record { locals = locals.now; globals = globals }) (term_tree term.now)) }
+{
+    match term {
+        Term::Constant(word) => Some(Some(*word)),
+        Term::Local(number) => Some(local(locals, *number)),
+        _ => None,
+    }
+}
+
 /// A local's word: none where it is indeterminate.
+#[inline(always)]
 fn local(locals: &[Option<u32>], number: usize) -> Option<u32>
     ensures { result ≡ slice_index_or locals.now number None }
 {
@@ -60,26 +86,6 @@ fn cell(globals: &[Cells], global: usize, index: u32) -> Option<u32>
     } else {
         None
     }
-}
-
-#[tactic(auto, unfolding(ints::specs::Codes::argument_count_of, ints::specs::CTable::c_table))]
-fn on_one(op: Op, x: u32) -> Option<u32>
-    ensures { result ≡ computed op (x ∷ []) }
-{
-    if op.argument_count() != 1 {
-        return None;
-    }
-    eval_c(op, &[x]).ok()
-}
-
-#[tactic(auto, unfolding(ints::specs::Codes::argument_count_of, ints::specs::CTable::c_table))]
-fn on_two(op: Op, x: u32, y: u32) -> Option<u32>
-    ensures { result ≡ computed op (x ∷ y ∷ []) }
-{
-    if op.argument_count() != 2 {
-        return None;
-    }
-    eval_c(op, &[x, y]).ok()
 }
 
 /// 1 for a word that is not 0.

@@ -1,10 +1,10 @@
 -- What stops a run stops all that is left.
-use Rattle.std.proofs.Common.{◌≡◌, ℕ, List, [], ◌∷◌, Option, take, drop, refl}
+use Rattle.std.proofs.Common.{◌≡◌, ℕ, List, [], ◌∷◌, Option, take, refl}
 use Rattle.c_program.specs.Trees.{FunctionTree}
-use Rattle.c_behaviour.specs.Meaning.{Outcome, RunsOut, Fails}
-use Rattle.c_interpreter.specs.declared.left.Left.{Left}
-use Rattle.c_interpreter.specs.declared.left.Left.TheVariants.{Rest, Body, Behind, Back}
-use Rattle.c_interpreter.specs.Resume.{resume}
+use Rattle.c_behaviour.specs.Meaning.{RunsOut, Fails}
+use Rattle.c_machine.specs.declared.left.Left.{Left}
+use Rattle.c_machine.specs.declared.left.Left.TheVariants.{Rest, Body, Behind, Back}
+use Rattle.c_machine.specs.Resume.{resume}
 
 pub resume_fails : (functions : List FunctionTree) (left : List Left) (below : List (Option ℕ)) (output : List ℕ) → resume functions left below (Fails output) ≡ Fails output
 resume_fails functions [] below output = refl

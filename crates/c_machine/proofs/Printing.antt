@@ -1,20 +1,19 @@
 -- What is printed is a beginning of the output, however the run goes on.
-use Rattle.std.proofs.Common.{◌≡◌, ℕ, List, [], ◌∷◌, ◌++◌, Option, Some, None, take, drop, refl}
+use Rattle.std.proofs.Common.{ℕ, List, [], ◌∷◌, ◌++◌, Option, Some, None, take, drop, refl}
 use Rattle.lang.specs.Behaviour.{IsBeginningOf}
 use Rattle.lang.proofs.Beginnings.{IsBeginningOf-refl, IsBeginningOf-trans}
 use Rattle.c_program.specs.Trees.{FunctionTree}
 use Rattle.c_program.specs.Views.{term_tree, action_tree, actions_tree}
-use Rattle.c_behaviour.specs.State.{State}
-use Rattle.c_behaviour.specs.Meaning.{Outcome, Falls, Breaks, Continues, Returns, RunsOut, Fails, goes_on, exec_all, turns_again, after_body, arrives, comes_back, ends, level, shown}
+use Rattle.c_behaviour.specs.Meaning.{Outcome, Falls, Breaks, Continues, Returns, RunsOut, Fails, goes_on, exec_all, arrives, ends, level, shown}
 use Rattle.c_behaviour.specs.Growth.{PrintsOn, prints-goes_on, prints-exec_all, prints-after_body, prints-turns_again, prints-comes_back, prints-ends, prints-level, prints-arrives}
-use Rattle.c_interpreter.specs.declared.left.Left.{Left}
-use Rattle.c_interpreter.specs.declared.left.Left.TheVariants.{Rest, Body, Behind, Back}
-use Rattle.c_interpreter.specs.declared.next.Next.{Next}
-use Rattle.c_interpreter.specs.declared.next.Next.TheVariants.{Goes, Prints, Stops}
-use Rattle.c_interpreter.specs.declared.machine.Machine.{Machine}
-use Rattle.c_interpreter.specs.Stacks.{waiting}
-use Rattle.c_interpreter.specs.Resume.{resume, functions_of, here, later}
-use Rattle.c_interpreter.specs.Steps.{shows}
+use Rattle.c_machine.specs.declared.left.Left.{Left}
+use Rattle.c_machine.specs.declared.left.Left.TheVariants.{Rest, Body, Behind, Back}
+use Rattle.c_machine.specs.declared.next.Next.{Next}
+use Rattle.c_machine.specs.declared.next.Next.TheVariants.{Goes, Prints, Stops}
+use Rattle.c_machine.specs.declared.machine.Machine.{Machine}
+use Rattle.c_machine.specs.Stacks.{waiting}
+use Rattle.c_machine.specs.Resume.{resume, functions_of, here, later}
+use Rattle.c_machine.specs.Steps.{shows}
 
 prints_rest : (functions : List FunctionTree) (left : List Left) (below : List (Option ℕ)) (printed : List ℕ) (o : Outcome) → PrintsOn printed o → PrintsOn printed (resume functions left below o)
 prints_rest functions [] below printed o h = h

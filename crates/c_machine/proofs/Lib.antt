@@ -1,0 +1,5 @@
+pub mod Frames
+pub mod Levels
+pub mod Printing
+pub mod Stacks
+pub mod Stops

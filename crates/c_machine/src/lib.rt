@@ -1,0 +1,24 @@
+//! The machine on which C programs run: what is left to do on a stack, with its meaning and its cost; the
+//! variables of a run; and what expressions and plain actions do to them.
+#![tactic(auto)]
+
+mod cells;
+mod evaluation;
+mod globals;
+mod left;
+mod locals;
+mod machine;
+mod next;
+mod operators;
+mod plain;
+mod stack;
+
+pub use cells::Cells;
+pub use evaluation::evaluate;
+pub use globals::store_cell;
+pub use left::{Cycle, Left, Waiting};
+pub use locals::{frame, set_local};
+pub use machine::Machine;
+pub use next::Next;
+pub use plain::at_once;
+pub use stack::Stack;
