@@ -4,7 +4,10 @@ use std::test::Fail;
 
 #[test]
 fn a_text_is_accepted(rt: HostRuntime) -> Result<(), Fail> {
-    let program = accept(rt.alloc(), b"int a[4]; int main(void){return a[3];}".as_slice())?;
+    let program = accept(
+        rt.alloc(),
+        b"int a[4]; int main(void){return a[3];}".as_slice(),
+    )?;
     assert_eq!(rt; program.functions().len(), 1);
     assert_eq!(rt; program.globals().len(), 1);
     Ok(())

@@ -20,13 +20,7 @@ impl CommandError {
         ensures { result ≡ status_of_error self }
     {
         match self {
-            CommandError::Text(fault) => {
-                if fault.number() == 1 {
-                    7
-                } else {
-                    1
-                }
-            }
+            CommandError::Text(fault) => { if fault.number() == 1 { 7 } else { 1 } }
             CommandError::Run(RunError::NoMemory) => 7,
             CommandError::Run(RunError::Write) => 4,
         }

@@ -1,7 +1,7 @@
 //! Each kind of statement and expression once, and each refusal.
 
 use cminor::Cminor;
-use lang::{FormError, Language};
+use lang::Language;
 use std::alloc::Global;
 use std::test::Fail;
 
@@ -14,74 +14,83 @@ fn comes_back(alloc: Global, bytes: &[u8]) -> Result<bool, Fail> {
     Ok(length == bytes.len() && copied == function && out.as_slice() == bytes)
 }
 
-fn refusal(alloc: Global, bytes: &[u8]) -> Option<FormError> {
-    Cminor::read(alloc, bytes).err()
+/// The number of the refusal of these bytes, 0 where they are read.
+fn refusal(alloc: Global, bytes: &[u8]) -> u16 {
+    match Cminor::read(alloc, bytes) {
+        Ok(_) => 0,
+        Err(fault) => fault.number(),
+    }
 }
 
 /// No parameters and no variables: return 7.
-fn returns_seven() -> [u8; 11] {
-    [1, 0, 0, 0, 10, 1, 0, 0, 0, 0, 7]
+fn returns_seven() -> &'static str {
+    "010000000a010000000007"
 }
 
 /// One parameter and two variables: a sequence of nine statements. Skip; variable 1 becomes that of
 /// `-v0`; cell 0 of global 2 becomes cell v1 of it; function 3 with two arguments and a result, and with
 /// none; v0 is printed; a loop in a block that is left where v0 is 0, and goes round else; return.
-fn all_kinds() -> [u8; 94] {
-    [
-        1, 1, 0, 2, 5, 0, 0, 0, 9, //
-        0, //
-        1, 0, 1, 3, 2, 1, 0, 0, //
-        2, 0, 2, 0, 0, 0, 0, 0, 2, 0, 2, 1, 0, 1, //
-        3, 3, 1, 0, 1, 2, 1, 0, 0, 3, 6, 1, 0, 0, 0, 0, 0, 0, 1, //
-        3, 3, 0, 0, //
-        4, 0, 1, 0, 0, //
-        4, 1, 0, 1, 1, 0, 0, //
-        8, 7, 6, 4, 1, 0, 0, 0, 0, 0, 0, 0, 0, 0, 0, 0, 1, 5, 0, 0, 0, 0, 9, 0, 0, //
-        10, 0,
-    ]
+fn all_kinds() -> &'static str {
+    "01010002050000000900010001030201000002000200000000000200020100010303010001020100000306010000000000000103030000040001000004010001010000080706040100000000000000000000000105000000000900000a00"
 }
 
 #[test]
 fn each_kind_comes_back(rt: HostRuntime) -> Result<(), Fail> {
-    assert!(rt; comes_back(rt.alloc(), &returns_seven())?);
-    assert!(rt; comes_back(rt.alloc(), &all_kinds())?);
+    let alloc = rt.alloc();
+    assert!(rt; comes_back(alloc, &hex::decode(alloc, returns_seven())?)?);
+    assert!(rt; comes_back(alloc, &hex::decode(alloc, all_kinds())?)?);
     Ok(())
 }
 
 #[test]
 fn equality_tells_apart(rt: HostRuntime) -> Result<(), Fail> {
-    let mut bytes = all_kinds();
+    let bytes = hex::decode(rt.alloc(), all_kinds())?;
     let (first, _length) = Cminor::read(rt.alloc(), &bytes)?;
-    bytes[91] = 1;
+    let bytes = hex::decode(
+        rt.alloc(),
+        all_kinds()
+            .replace(rt.alloc(), "0900000a", "0900010a")?
+            .as_str(),
+    )?;
     let (second, _length) = Cminor::read(rt.alloc(), &bytes)?;
     assert!(rt; !(first == second));
     Ok(())
 }
 
 #[test]
-fn fronts_are_short(rt: HostRuntime) {
-    let bytes = all_kinds();
+fn fronts_are_short(rt: HostRuntime) -> Result<(), Fail> {
+    let bytes = hex::decode(rt.alloc(), all_kinds())?;
     for length in 0..bytes.len() {
-        assert!(rt; refusal(rt.alloc(), &bytes[..length]) == Some(FormError::Short));
+        assert_eq!(rt; refusal(rt.alloc(), &bytes[..length]), 101);
     }
+    Ok(())
+}
+
+/// Another tag; 17 parameters, 513 variables, more parameters than variables; no such statement, expression,
+/// operator or flag; a variable equal to the count, function 64, global 1024.
+fn faults() -> &'static str {
+    "\
+0200000000:102
+0111001400:104
+0100020100:104
+0102000100:103
+010000000b:103
+010000000a0105:103
+010000000a01031c00:103
+010000000a02:103
+010000010100010000000000:103
+0100000003400000:103
+010000000a0102040000:103
+"
 }
 
 #[test]
-fn faults_are_told(rt: HostRuntime) {
-    let canonical = Some(FormError::NotCanonical);
-    let large = Some(FormError::TooLarge);
-    assert!(rt; refusal(rt.alloc(), &[2, 0, 0, 0, 0]) == Some(FormError::BadTag));
-    // 17 parameters, 513 variables, and more parameters than variables
-    assert!(rt; refusal(rt.alloc(), &[1, 17, 0, 20, 0]) == large);
-    assert!(rt; refusal(rt.alloc(), &[1, 0, 2, 1, 0]) == large);
-    assert!(rt; refusal(rt.alloc(), &[1, 2, 0, 1, 0]) == canonical);
-    // no such statement, expression, operator or flag
-    assert!(rt; refusal(rt.alloc(), &[1, 0, 0, 0, 11]) == canonical);
-    assert!(rt; refusal(rt.alloc(), &[1, 0, 0, 0, 10, 1, 5]) == canonical);
-    assert!(rt; refusal(rt.alloc(), &[1, 0, 0, 0, 10, 1, 3, 28, 0]) == canonical);
-    assert!(rt; refusal(rt.alloc(), &[1, 0, 0, 0, 10, 2]) == canonical);
-    // a variable equal to the count, function 64, global 1024
-    assert!(rt; refusal(rt.alloc(), &[1, 0, 0, 1, 1, 0, 1, 0, 0, 0, 0, 0]) == canonical);
-    assert!(rt; refusal(rt.alloc(), &[1, 0, 0, 0, 3, 64, 0, 0]) == canonical);
-    assert!(rt; refusal(rt.alloc(), &[1, 0, 0, 0, 10, 1, 2, 4, 0, 0]) == canonical);
+fn faults_are_told(rt: HostRuntime) -> Result<(), Fail> {
+    for line in faults().split_whitespace() {
+        let (text, told) = line.split_once(':').ok_or("no colon")?;
+        let bytes = hex::decode(rt.alloc(), text)?;
+        let number = refusal(rt.alloc(), &bytes);
+        assert_eq!(rt; format!(in rt.alloc(); "{number}")?.as_str(), told);
+    }
+    Ok(())
 }

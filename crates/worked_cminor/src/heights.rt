@@ -46,7 +46,8 @@ fn a_long_sequence_is_low(rt: HostRuntime) -> Result<(), Fail> {
 
 /// A count that the bytes merely claim costs nothing.
 #[test]
-fn a_claimed_count_is_short(rt: HostRuntime) {
-    let bytes = [1, 0, 0, 0, 5, 255, 255, 255, 255, 0];
+fn a_claimed_count_is_short(rt: HostRuntime) -> Result<(), Fail> {
+    let bytes = hex::decode(rt.alloc(), "0100000005ffffffff00")?;
     assert!(rt; Cminor::read(rt.alloc(), &bytes).err() == Some(FormError::Short));
+    Ok(())
 }

@@ -45,14 +45,17 @@ returns-in_err-program-clause-only c =
 
 pub returns-clause-accepted : goal.returns-clause-accepted
 returns-clause-accepted c =
-    let tree = unit_tree c.in_ok-unit.unit in
-    (tree, record {
-      tokens = c.in_ok-tokens.tokens.items;
-      cut = c.in_ok-tokens.ensures.ok;
-      spelled = subst (IsUnit tree) c.as_slice.ensures.value c.in_ok-unit.ensures.ok;
-      low = c.in_ok-unit.ensures.low;
-      well_formed = c.in_ok-program.ensures.ok;
-    }, c.in_ok-program.ensures.program)
+    let tree = unit_tree c.in_ok-unit.unit in (
+      tree,
+      record {
+        tokens = c.in_ok-tokens.tokens.items;
+        cut = c.in_ok-tokens.ensures.ok;
+        spelled = subst (IsUnit tree) c.as_slice.ensures.value c.in_ok-unit.ensures.ok;
+        low = c.in_ok-unit.ensures.low;
+        well_formed = c.in_ok-program.ensures.ok;
+      },
+      c.in_ok-program.ensures.program,
+    )
 
 pub returns-clause-only : goal.returns-clause-only
 returns-clause-only c =
