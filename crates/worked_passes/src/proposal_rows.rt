@@ -1,10 +1,13 @@
 //! What the optimisers propose: each proposal is accepted, and the words make a difference.
 
+ghost use Rattle.std.specs.Prelude.{◌<◌};
+
 use crate::told::constants_told;
 use constprop_check::ConstProp;
 use lang::{Language, Oracle, Pass};
 use offers::Offer;
 use oracle_const::ConstOracle;
+use rand_core::utils::NextWord;
 use rand_pcg::Pcg32;
 use rtl::{Function, Rtl};
 use std::alloc::Global;
@@ -137,5 +140,80 @@ fn each_proposal_is_accepted(rt: HostRuntime) -> Result<(), Fail> {
         let made = accepted(alloc, ConstOracle, input, 1)?;
         assert!(rt; made.is_some(), "{text}");
     }
+    Ok(())
+}
+/// A register below 4, a constant below 4, or a node below 8, as 16 bits.
+fn push_small(words: &mut Pcg32, below: u32, text: &mut Vec<u8>) -> Result<(), Fail>
+    requires { 0 < below }
+{
+    let small = words.next_word() % below;
+    text.push(0)?;
+    text.push((small % 256) as u8)?;
+    Ok(())
+}
+
+/// A node: nothing, a constant, a move, a product or a quotient, a branch, or a return.
+fn push_node(words: &mut Pcg32, text: &mut Vec<u8>) -> Result<(), Fail> {
+    match words.next_word() % 9 {
+        0 => text.push(0)?,
+        1 | 6 | 7 | 8 => {
+            text.push(1)?;
+            push_small(words, 4, text)?;
+            push_small(words, 1, text)?;
+            push_small(words, 4, text)?;
+        }
+        2 => {
+            text.push(2)?;
+            push_small(words, 4, text)?;
+            push_small(words, 4, text)?;
+        }
+        3 => {
+            text.push(3)?;
+            text.push(if words.next_word() % 2 == 0 { 9 } else { 11 })?;
+            push_small(words, 4, text)?;
+            push_small(words, 4, text)?;
+            push_small(words, 4, text)?;
+        }
+        4 => {
+            text.push(8)?;
+            text.push(0)?;
+            push_small(words, 4, text)?;
+            push_small(words, 8, text)?;
+        }
+        _ => {
+            text.push(9)?;
+            text.push(1)?;
+            return push_small(words, 4, text);
+        }
+    }
+    push_small(words, 8, text)
+}
+
+/// A function of four registers and eight nodes, as the words say.
+fn random_text(alloc: Global, words: &mut Pcg32) -> Result<Vec<u8>, Fail> {
+    let mut text = hex::decode(alloc, "0200000400000008")?;
+    for _ in 0..8 {
+        push_node(words, &mut text)?;
+    }
+    Ok(text)
+}
+
+/// An offer that the check refuses would end the test.
+#[test]
+fn no_proposal_for_a_thousand_functions_is_refused(rt: HostRuntime) -> Result<(), Fail> {
+    let mut changed = 0u32;
+    for seed in 1..=1000 {
+        let mut words = Pcg32::new(seed, 1);
+        let text = random_text(rt.alloc(), &mut words)?;
+        let (input, length) = Rtl::read(rt.alloc(), &text)?;
+        assert_eq!(rt; length, text.len());
+        let written = hex::encode(rt.alloc(), &text)?;
+        if let Some(output) = accepted(rt.alloc(), ConstOracle, input, seed)? {
+            if output.as_str() != written.as_str() {
+                changed = changed.saturating_add(1);
+            }
+        }
+    }
+    assert!(rt; changed > 10);
     Ok(())
 }
