@@ -1,5 +1,5 @@
 //! Texts in which each token is one character. Braces in what is expected show the tree.
-use super::*;
+use c_expressions::expression;
 use c_reading::Fault;
 use c_tokens::{Constant, IntegerType, Keyword, Punctuator, Token, TokenKind};
 use c_tree::{BinaryOperator, Expression, UnaryOperator};

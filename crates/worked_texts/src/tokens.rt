@@ -1,5 +1,5 @@
 //! Small texts with their tokens, or their first fault, worked out by hand from C99 6.4.
-use super::*;
+use c_lexer::lex;
 use c_tokens::TokenKind;
 use std::alloc::{AllocError, Global};
 use std::test::Fail;
