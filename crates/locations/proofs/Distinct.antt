@@ -1,10 +1,9 @@
 -- Lists whose keys are distinct, as they are read: each key is none of those before it.
 use Rattle.std.proofs.Common.{◌≡◌, ◌≢◌, Bool, true, false, List, [], ◌∷◌, ◌++◌, Option, Some, None, refl, sym, ap, subst, ◌∙◌, append_assoc, append-nil}
-use Rattle.std.specs.Prelude.{◌||◌}
-use Rattle.std.specs.List.{AllByRecursion, list_any, list_all}
+use Rattle.std.specs.List.{AllByRecursion, list_any}
 use Rattle.std.proofs.lemmas.Bool.{or_from, or_parts}
 use Rattle.lang.specs.Texts.{EachFits}
-use Rattle.machine.specs.Fits.{AreDistinct}
+use Rattle.locations.specs.Fits.{AreDistinct}
 
 -- ---- each of a list
 
