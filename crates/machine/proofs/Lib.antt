@@ -1,4 +1,4 @@
 pub mod Outputs
 pub mod Forms
 pub mod Equal
-pub use Rattle.locations.proofs.Distinct
+pub mod Distinct
