@@ -2,6 +2,7 @@
 //! one spelling, and a program's run is counted in instructions, labels among them.
 #![tactic(auto)]
 
+mod copying;
 mod equal;
 mod function;
 mod instruction;
@@ -10,6 +11,7 @@ mod language;
 mod reading;
 mod writing;
 
+pub use copying::copy_instruction;
 pub use function::Function;
 pub use instruction::Instruction;
 pub use language::Linear;

@@ -1,7 +1,7 @@
 use Rattle.std.proofs.lemmas.Result.{err_from_is_err_and}
 use Rattle.lang.proofs.Loops.{goes_on, stops}
-use Rattle.machine.specs.Reading.{one_move}
-use Rattle.machine.proofs.reading.read_so_many_moves.Goals as goal
+use Rattle.locations.specs.Reading.{one_move}
+use Rattle.locations.proofs.reading.read_so_many_moves.Goals as goal
 
 pub returns-in_err-step : goal.returns-in_err-step
 returns-in_err-step c =

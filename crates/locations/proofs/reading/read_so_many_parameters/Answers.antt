@@ -1,7 +1,7 @@
 use Rattle.std.proofs.lemmas.Result.{err_from_is_err_and}
 use Rattle.lang.proofs.Loops.{goes_on, stops}
-use Rattle.machine.specs.Reading.{parameter}
-use Rattle.machine.proofs.reading.read_so_many_parameters.Goals as goal
+use Rattle.locations.specs.Reading.{parameter}
+use Rattle.locations.proofs.reading.read_so_many_parameters.Goals as goal
 
 pub returns-in_err-location : goal.returns-in_err-location
 returns-in_err-location c =

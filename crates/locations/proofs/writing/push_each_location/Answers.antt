@@ -1,6 +1,6 @@
 use Rattle.std.proofs.lemmas.Result.{err_from_is_err_and}
 use Rattle.lang.proofs.Beginnings.{IsBeginningOf-front}
-use Rattle.machine.proofs.writing.push_each_location.Goals as goal
+use Rattle.locations.proofs.writing.push_each_location.Goals as goal
 
 pub returns-in_err-push_location : goal.returns-in_err-push_location
 returns-in_err-push_location c =

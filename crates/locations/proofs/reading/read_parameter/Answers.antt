@@ -1,10 +1,9 @@
-use Rattle.std.proofs.Common.{◌≡◌, Bool, true, false, refl, sym, ap, ◌∙◌, rules}
-use Rattle.std.specs.List.{list_any}
-use Rattle.machine.specs.declared.location.Location.{Location}
-use Rattle.machine.specs.declared.location.Location.TheVariants.{InRegister, InSlot}
-use Rattle.machine.specs.contracts.location.LocationPartialEq.TheImpl as location_eq
-use Rattle.machine.specs.Reading.{parameter, same_location}
-use Rattle.machine.proofs.reading.read_parameter.Goals as goal
+use Rattle.std.proofs.Common.{◌≡◌, refl}
+use Rattle.locations.specs.declared.location.Location.{Location}
+use Rattle.locations.specs.declared.location.Location.TheVariants.{InRegister, InSlot}
+use Rattle.locations.specs.contracts.location.LocationPartialEq.TheImpl as location_eq
+use Rattle.locations.specs.Reading.{parameter, same_location}
+use Rattle.locations.proofs.reading.read_parameter.Goals as goal
 
 eq_is_same : (a b : Location) → (location_eq.ghosts).eq a b ≡ same_location a b
 eq_is_same (InRegister r) (InRegister q) = refl
