@@ -1,0 +1,2 @@
+//! The translation of Cminor to RTL keeps the meaning of whole programs.
+#![tactic(auto)]
