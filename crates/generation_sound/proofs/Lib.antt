@@ -6,3 +6,5 @@ pub mod Values
 pub mod Expressions
 pub mod Outcomes
 pub mod Statements
+pub mod Functions
+pub mod Programs

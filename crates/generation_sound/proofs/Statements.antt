@@ -183,8 +183,8 @@ module _ (functions : List (NamedFunction FunctionData)) (c : Ground) (there : I
         let goes = p.1 last.entry (count + length last.nodes) (stands_behind c.nodes last.nodes front.nodes count stands) in
         let behind = count + length (other following count).nodes in
         let at : (z : Bool) → (w == 0) ≡ z → Arrives functions c bound exits following (at_node c front.entry d) (cond z b a) = λ z. elim z as (λ z. (w == 0) ≡ z → Arrives functions c bound exits following (at_node c front.entry d) (cond z b a)) [
-          true ↦ λ zero. arrives_comes functions c exits following bound (at_node c front.entry d) (at_node c (other following count).entry p.0) b (comes_comes goes (fork.step w true p.0 p.2 zero)) (second p.0 count sees' fork.other_stands)
-        | false ↦ λ zero. arrives_comes functions c exits following bound (at_node c front.entry d) (at_node c (taken following behind).entry p.0) a (comes_comes goes (fork.step w false p.0 p.2 zero)) (first p.0 behind sees' fork.taken_stands)
+          | true ↦ λ zero. arrives_comes functions c exits following bound (at_node c front.entry d) (at_node c (other following count).entry p.0) b (comes_comes goes (fork.step w true p.0 p.2 zero)) (second p.0 count sees' fork.other_stands)
+          | false ↦ λ zero. arrives_comes functions c exits following bound (at_node c front.entry d) (at_node c (taken following behind).entry p.0) a (comes_comes goes (fork.step w false p.0 p.2 zero)) (first p.0 behind sees' fork.taken_stands)
         ] in
         at (w == 0) refl
 
@@ -208,8 +208,8 @@ module _ (functions : List (NamedFunction FunctionData)) (c : Ground) (there : I
           arrives_step functions c exits following bound less (at_node c count d) (at_node c turn.entry d) (M.exec lower (T.Loop t) s) sooner
           (node_step functions c there count d (Do Nop turn.entry) stands.0)
           (arrives_goes_on functions c exits following less count (at_node c turn.entry d) (lower (M.Does (T.Loop t))) (lower (M.Does t) s)
-            (λ s' d' sees'. runs.does c there (T.Loop t) exits following count s' d' fits room stands sees')
-            (runs.does c there t exits count (suc count) s d fits room stands.1 sees))
+          (λ s' d' sees'. runs.does c there (T.Loop t) exits following count s' d' fits room stands sees')
+          (runs.does c there t exits count (suc count) s d fits room stands.1 sees))
       statement_arrives (T.Block t) exits following count s d fits room stands sees =
           arrives_block functions c exits following bound (at_node c (statement t c.variables (following ∷ exits) following count).entry d) (M.exec lower t s)
           (statement_arrives t (following ∷ exits) following count s d fits room stands sees)
