@@ -20,9 +20,9 @@ use Rattle.cminor_tree.specs.Evaluation.{word_of, value, values}
 use Rattle.cminor_tree.specs.Fits.{ExpressionFits}
 use Rattle.generation.specs.Pieces.{Piece, one, both}
 use Rattle.generation.specs.Gen.{place, expression, operand, operands, places, needs, operands_need}
-use Rattle.generation_sound.proofs.Grounds.{Ground, IsThere, Sees, Kept, kept_same, kept_kept, sees_kept, Gives, gives_put, gives_kept, kept_gives}
-use Rattle.generation_sound.proofs.Pieces.{Brings, brings_nothing, brings_one, brings_both, brings_first, brings_second}
-use Rattle.generation_sound.proofs.Values.{same_value, defined_is, needed_is, pair_needed, choice_needed, both_needed, cell_same}
+use Rattle.generation.proofs.Grounds.{Ground, IsThere, Sees, Kept, kept_same, kept_kept, sees_kept, Gives, gives_put, gives_kept, kept_gives}
+use Rattle.generation.proofs.Pieces.{Brings, brings_nothing, brings_one, brings_both, brings_first, brings_second}
+use Rattle.generation.proofs.Values.{same_value, defined_is, needed_is, pair_needed, choice_needed, both_needed, cell_same}
 
 -- an operand has a temporary at least
 pub needs_some : (e : ExpressionTree) → 0 < needs e

@@ -22,10 +22,10 @@ use Rattle.cminor_tree.specs.Evaluation.{word}
 use Rattle.cminor_tree.specs.Meaning as M
 use Rattle.cminor_tree.specs.Fits.{IsFunction}
 use Rattle.generation.specs.Gen.{statement, statement_needs, ends_with_value, last_with_value, ending, numbers_from, gen_function, gen_named}
-use Rattle.generation_sound.proofs.Stands.{Stands, stands_front, stands_behind, stands_whole}
-use Rattle.generation_sound.proofs.Grounds.{Ground, IsThere, Sees, at_node, node_step}
-use Rattle.generation_sound.proofs.Outcomes.{Arrives, CallArrives, LowerArrives, call_step}
-use Rattle.generation_sound.proofs.Statements.{statement_arrives}
+use Rattle.generation.proofs.Stands.{Stands, stands_front, stands_behind, stands_whole}
+use Rattle.generation.proofs.Grounds.{Ground, IsThere, Sees, at_node, node_step}
+use Rattle.generation.proofs.Outcomes.{Arrives, CallArrives, LowerArrives, call_step}
+use Rattle.generation.proofs.Statements.{statement_arrives}
 
 -- ---- a body that ends with the `return` of a value does not reach its end
 

@@ -14,9 +14,9 @@ use Rattle.cminor_tree.specs.State as C
 use Rattle.cminor_tree.specs.Meaning as M
 use Rattle.cminor_tree.specs.Fits.{StatementFits}
 use Rattle.generation.specs.Gen.{statement, statement_needs}
-use Rattle.generation_sound.proofs.Stands.{Stands}
-use Rattle.generation_sound.proofs.Comes.{Comes, comes_comes, comes_step, step_shows}
-use Rattle.generation_sound.proofs.Grounds.{Ground, IsThere, Sees, at_node}
+use Rattle.generation.proofs.Stands.{Stands}
+use Rattle.generation.proofs.Comes.{Comes, comes_comes, comes_step, step_shows}
+use Rattle.generation.proofs.Grounds.{Ground, IsThere, Sees, at_node}
 
 -- a node is reached, with the words of this state
 abbrev pub Reaches : List (NamedFunction FunctionData) → Ground → State → ℕ → C.State → Type 0

@@ -14,9 +14,9 @@ use Rattle.rtl.specs.Function.{FunctionData}
 use Rattle.rtl.specs.Frames.{State, printed, goes_to}
 use Rattle.rtl.specs.Meaning.{branches, next}
 use Rattle.generation.specs.Pieces.{Piece, nothing, one, both, either}
-use Rattle.generation_sound.proofs.Stands.{Stands, stands_front, stands_behind}
-use Rattle.generation_sound.proofs.Comes.{Comes, comes_nowhere, comes_comes, comes_step}
-use Rattle.generation_sound.proofs.Grounds.{Ground, IsThere, at_node, node_step}
+use Rattle.generation.proofs.Stands.{Stands, stands_front, stands_behind}
+use Rattle.generation.proofs.Comes.{Comes, comes_nowhere, comes_comes, comes_step}
+use Rattle.generation.proofs.Grounds.{Ground, IsThere, at_node, node_step}
 
 not_zero : (w : ℕ) (z : Bool) → (w == 0) ≡ z → cond_table Nz (w ∷ []) ≡ not z
 unfolding cond_table

@@ -19,9 +19,9 @@ use Rattle.rtl.specs.Growth.{runs_on}
 use Rattle.cminor_tree.specs.Trees.{FunctionTree}
 use Rattle.cminor_tree.specs.Meaning as M
 use Rattle.generation.specs.Gen.{gen_function, gen_named, gen}
-use Rattle.generation_sound.proofs.Grounds.{Sees}
-use Rattle.generation_sound.proofs.Outcomes.{CallArrives}
-use Rattle.generation_sound.proofs.Functions.{AllInRange, ground, begins_sees, body_arrives, in_range, is_found, is_there, length-numbers, levels_arrive}
+use Rattle.generation.proofs.Grounds.{Sees}
+use Rattle.generation.proofs.Outcomes.{CallArrives}
+use Rattle.generation.proofs.Functions.{AllInRange, ground, begins_sees, body_arrives, in_range, is_found, is_there, length-numbers, levels_arrive}
 
 -- main is shown at some bound from this one on as this
 abbrev Shown : List (NamedFunction FunctionData) → (bound : ℕ) → State → Shows → Type 0

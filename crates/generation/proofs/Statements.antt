@@ -20,13 +20,13 @@ use Rattle.cminor_tree.specs.Meaning as M
 use Rattle.cminor_tree.specs.Fits.{ExpressionFits, StatementFits, StatementsFit, TargetFits}
 use Rattle.generation.specs.Pieces.{Piece, one, both, either}
 use Rattle.generation.specs.Gen.{place, operand, operands, places, statement, statements, needs, statement_needs, statements_need}
-use Rattle.generation_sound.proofs.Stands.{Stands, stands_front, stands_behind}
-use Rattle.generation_sound.proofs.Comes.{Comes, comes_nowhere, comes_comes, comes_step}
-use Rattle.generation_sound.proofs.Grounds.{Ground, IsThere, at_node, node_step, Sees, kept_same, sees_kept, gives_put, sees_gives}
-use Rattle.generation_sound.proofs.Pieces.{brings_one, brings_both, forks}
-use Rattle.generation_sound.proofs.Values.{word_is}
-use Rattle.generation_sound.proofs.Expressions.{place_below, expression_gained, operand_placed, operands_placed}
-use Rattle.generation_sound.proofs.Outcomes.{Reaches, Leaves, Arrives, CallArrives, LowerArrives, arrives_comes, arrives_step, arrives_goes_on, arrives_block}
+use Rattle.generation.proofs.Stands.{Stands, stands_front, stands_behind}
+use Rattle.generation.proofs.Comes.{Comes, comes_nowhere, comes_comes, comes_step}
+use Rattle.generation.proofs.Grounds.{Ground, IsThere, at_node, node_step, Sees, kept_same, sees_kept, gives_put, sees_gives}
+use Rattle.generation.proofs.Pieces.{brings_one, brings_both, forks}
+use Rattle.generation.proofs.Values.{word_is}
+use Rattle.generation.proofs.Expressions.{place_below, expression_gained, operand_placed, operands_placed}
+use Rattle.generation.proofs.Outcomes.{Reaches, Leaves, Arrives, CallArrives, LowerArrives, arrives_comes, arrives_step, arrives_goes_on, arrives_block}
 
 -- a variable, if one is named, gets the same in both
 sees_result : (c : Ground) (target x : Option ℕ) (s : C.State) (d : Data) → TargetFits c.variables target → Sees c s d → Sees c (C.given target x s) (with_result target x d)
