@@ -1,12 +1,12 @@
 -- The translation of Cminor to RTL (Leroy 2009, sections 3.1 and 3.2). A variable is the register of its number. The
 -- registers from the number of variables on are temporaries: each operand of an expression or a statement has one, and an
 -- operand's own operands begin with that same one, which it is given last of all.
-use Rattle.std.specs.Prelude.{ℕ, zero, suc, ◌+◌, List, [], ◌∷◌, map, max, Some, None, Bool, true, false, slice_index_or}
+use Rattle.std.specs.Prelude.{ℕ, zero, suc, ◌+◌, ◌<◌, List, [], ◌∷◌, length, map, max, Some, None, Bool, true, false, slice_index_or}
 use Rattle.lang.specs.Programs.{NamedFunction, ProgramOf}
 use Rattle.rtl_parts.specs.declared.arguments.Arguments.TheVariants.{One, Two}
 use Rattle.rtl_parts.specs.declared.act.Act.TheVariants.{Constant, Move, Operate, Load, Store, Put}
 use Rattle.rtl.specs.declared.instruction.Instruction.TheVariants.{Do, Call, Return}
-use Rattle.rtl.specs.Function.{FunctionData}
+use Rattle.rtl.specs.Function.{FunctionData, node_limit}
 use Rattle.cminor_tree.specs.Trees.{ExpressionTree, StatementTree, StatementsTree, FunctionTree}
 use Rattle.cminor_tree.specs.Trees as C
 use Rattle.generation.specs.Pieces.{Made, Piece, nothing, one, both, either, again}
@@ -158,6 +158,10 @@ gen_function f = record {
   entry = (body_made f).entry;
   nodes = (body_made f).nodes;
 }
+
+-- more nodes are needed than can be numbered
+abbrev pub HasTooManyNodes : FunctionTree → Type 0
+HasTooManyNodes f = node_limit < length (gen_function f).nodes
 
 abbrev pub gen_named : NamedFunction FunctionTree → NamedFunction FunctionData
 gen_named f = record { name = f.name; function = gen_function f.function }
