@@ -1,13 +1,18 @@
--- The definition, read on three small functions whose graphs were drawn by hand.
+-- The definition, read on three small functions whose graphs were drawn by hand, and a run.
 use Rattle.std.proofs.Common.{◌≡◌, [], ◌∷◌, Some, None, refl}
+use Rattle.std.specs.Prelude.{codes}
 use Rattle.ints.specs.declared.operators.Op.TheVariants.{SubS}
 use Rattle.ints.specs.declared.conditions.Cond.TheVariants.{Nz}
+use Rattle.lang.specs.declared.shown.Shown.TheVariants.{Ended}
+use Rattle.lang.specs.Programs.{ProgramOf}
 use Rattle.rtl_parts.specs.declared.arguments.Arguments.TheVariants.{One, Two}
 use Rattle.rtl_parts.specs.declared.act.Act.TheVariants.{Nop, Constant, Operate}
 use Rattle.rtl.specs.declared.instruction.Instruction.TheVariants.{Do, Call, Branch, Return}
+use Rattle.rtl.specs.Meaning as R
 use Rattle.cminor_tree.specs.Trees.{FunctionTree}
 use Rattle.cminor_tree.specs.Trees as C
-use Rattle.generation.specs.Gen.{gen_function}
+use Rattle.cminor_tree.specs.Meaning as M
+use Rattle.generation.specs.Gen.{gen_function, gen}
 
 -- x = 5; return x;
 abbrev five : FunctionTree
@@ -43,3 +48,14 @@ asks = record { parameters = 0; variables = 2; body = C.Call 1 (Some 0) (C.Varia
 
 pub asks_is : gen_function asks ≡ record { parameters = []; registers = 4; entry = 2; nodes = Return None ∷ Call 1 (1 ∷ 3 ∷ []) (Some 0) 0 ∷ Do (Constant 3 7) 1 ∷ [] }
 asks_is = refl
+
+-- ---- runs, as both languages define them
+
+abbrev five_program : ProgramOf FunctionTree
+five_program = record { globals = []; functions = record { name = codes "main"; function = five } ∷ [] }
+
+pub five_runs : M.run five_program 0 ≡ record { shown = Ended 5; output = [] }
+five_runs = refl
+
+pub five_runs_on : R.run (gen five_program) 2 ≡ record { shown = Ended 5; output = [] }
+five_runs_on = refl
