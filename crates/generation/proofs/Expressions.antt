@@ -4,6 +4,7 @@ use Rattle.std.specs.Prelude.{slice_get, option_and_then}
 use Rattle.std.specs.Option.{option_map}
 use Rattle.std.specs.List.{AllByRecursion}
 use Rattle.lang.specs.Programs.{NamedFunction}
+use Rattle.ints.specs.declared.operators.Op.{Op}
 use Rattle.ints.specs.MachineTable.{machine_table}
 use Rattle.rtl_parts.specs.declared.arguments.Arguments.TheVariants.{One, Two}
 use Rattle.rtl_parts.specs.declared.act.Act.{Act}
@@ -75,7 +76,32 @@ module _ (functions : List (NamedFunction FunctionData)) (c : Ground) (there : I
   then_gained front act target r x d d' leads kept room e =
       (put_at target x d', brings_both functions c there front (one (Do act)) d d' (put_at target x d') leads (brings_one functions c there act d' (put_at target x d') e), gives_put r target x d d' room kept)
 
-  -- a choice, once its condition has a word
+  -- ---- each kind of expression, once its operands have words
+
+  load_gained : (g : ℕ) (i : ExpressionTree) (target r u w : ℕ) (d d' : Data) → target < length d.registers → Leading (operand i r) d d' → value_at (place i r) d' ≡ Some u → Kept r d d' → d'.globals ≡ s.globals →
+      C.cell s.globals g u ≡ Some w → Gained (expression (T.Load g i) target r) target r d (Some w)
+  load_gained g i target r u w d d' room leads holds kept globals e =
+      let is : option_and_then (word_in (slice_get d'.globals g)) (value_at (place i r) d') ≡ Some w =
+      ap (option_and_then (word_in (slice_get d'.globals g))) holds ∙ ap (λ globals. word_in (slice_get globals g) u) globals ∙ cell_same s.globals g u ∙ e in
+      then_gained (operand i r) (Load target g (place i r)) target r (Some w) d d' leads kept room (ap (given target d') is)
+
+  unary_gained : (o : Op) (a : ExpressionTree) (target r u w : ℕ) (d d' : Data) → target < length d.registers → Leading (operand a r) d d' → value_at (place a r) d' ≡ Some u → Kept r d d' →
+      machine_table o (u ∷ []) ≡ Some w → Gained (expression (T.Unary o a) target r) target r d (Some w)
+  unary_gained o a target r u w d d' room leads holds kept e =
+      let is : option_and_then (machine_table o) (option_map (λ x. x ∷ []) (value_at (place a r) d')) ≡ Some w = ap (λ v. option_and_then (machine_table o) (option_map (λ x. x ∷ []) v)) holds ∙ e in
+      then_gained (operand a r) (Operate o target (One (place a r))) target r (Some w) d d' leads kept room (ap (given target d') is)
+
+  binary_gained : (o : Op) (a b : ExpressionTree) (target r u v w : ℕ) (d d' d'' : Data) → target < length d.registers → place a r < suc r →
+      Leading (operand a r) d d' → value_at (place a r) d' ≡ Some u → Kept r d d' → Leading (operand b (suc r)) d' d'' → value_at (place b (suc r)) d'' ≡ Some v → Kept (suc r) d' d'' →
+      machine_table o (u ∷ v ∷ []) ≡ Some w → Gained (expression (T.Binary o a b) target r) target r d (Some w)
+  binary_gained o a b target r u v w d d' d'' room low leads holds kept leads' holds' kept' e =
+      let act = Operate o target (Two (place a r) (place b (suc r))) in
+      let first : value_at (place a r) d'' ≡ Some u = kept'.below (place a r) low ∙ holds in
+      let is : option_and_then (machine_table o) (pair_of (value_at (place a r) d'') (value_at (place b (suc r)) d'')) ≡ Some w = (λ k. option_and_then (machine_table o) (pair_of (first k) (holds' k))) ∙ e in
+      let g = then_gained (operand b (suc r)) act target r (Some w) d' d'' leads' (kept_kept r (suc r) d' d' d'' (omega arith) (kept_same r d') kept') (rw kept.room room) (ap (given target d'') is) in
+      (g.0, brings_both functions c there (operand a r) (both (operand b (suc r)) (one (Do act))) d d' g.0 leads g.1, gives_kept r target (Some w) d d' g.0 kept g.2)
+
+  -- only one part of a choice is evaluated
   choice_gained : (n a b : ExpressionTree) (target r w : ℕ) (x : Option ℕ) (d d' : Data) → Leading (operand n r) d d' → value_at (place n r) d' ≡ Some w → Kept r d d' →
       (z : Bool) → (w == 0) ≡ z → cond z (value b s) (value a s) ≡ Some x → (value a s ≡ Some x → Gained (expression a target r) target r d' x) → (value b s ≡ Some x → Gained (expression b target r) target r d' x) →
       Gained (expression (T.Choice n a b) target r) target r d x
@@ -103,17 +129,15 @@ module _ (functions : List (NamedFunction FunctionData)) (c : Ground) (there : I
       let u = needed_is (C.cell s.globals g) (value i s) y.0 y.1 in
       let some = needs_some i in
       let p = placed i r d (Some u.0) fits.1 sees u.1 (expression_gained i r r d (Some u.0) fits.1 le room (omega (arith, some, room)) sees u.1) in
-      let is = ap (option_and_then (word_in (slice_get p.0.globals g))) p.2 ∙ ap (λ globals. word_in (slice_get globals g) u.0) (p.3.globals ∙ sees.globals) ∙ cell_same s.globals g u.0 ∙ u.2 in
       subst (Gained (expression (T.Load g i) target r) target r d) (sym y.2)
-      (then_gained (operand i r) (Load target g (place i r)) target r (Some y.0) d p.0 p.1 p.3 (rw sees.room low) (ap (given target p.0) is))
+      (load_gained g i target r u.0 y.0 d p.0 (rw sees.room low) p.1 p.2 p.3 (p.3.globals ∙ sees.globals) u.2)
   expression_gained (T.Unary o a) target r d x fits le room low sees e =
       let y = defined_is (option_and_then (λ x. machine_table o (x ∷ [])) (word_of (value a s))) x e in
       let u = needed_is (λ x. machine_table o (x ∷ [])) (value a s) y.0 y.1 in
       let some = needs_some a in
       let p = placed a r d (Some u.0) fits.1 sees u.1 (expression_gained a r r d (Some u.0) fits.1 le room (omega (arith, some, room)) sees u.1) in
-      let is = ap (λ v. option_and_then (machine_table o) (option_map (λ x. x ∷ []) v)) p.2 ∙ u.2 in
       subst (Gained (expression (T.Unary o a) target r) target r d) (sym y.2)
-      (then_gained (operand a r) (Operate o target (One (place a r))) target r (Some y.0) d p.0 p.1 p.3 (rw sees.room low) (ap (given target p.0) is))
+      (unary_gained o a target r u.0 y.0 d p.0 (rw sees.room low) p.1 p.2 p.3 u.2)
   expression_gained (T.Binary o a b) target r d x fits le room low sees e =
       let y = defined_is (option_and_then (machine_table o) (M.pair_of (word_of (value a s)) (word_of (value b s)))) x e in
       let u = pair_needed (machine_table o) (value a s) (value b s) y.0 y.1 in
@@ -122,13 +146,8 @@ module _ (functions : List (NamedFunction FunctionData)) (c : Ground) (there : I
       let p = placed a r d (Some u.0) fits.1.0 sees u.2 (expression_gained a r r d (Some u.0) fits.1.0 le (omega (arith, room)) (omega (arith, some, room)) sees u.2) in
       let sees' = sees_kept c s r d p.0 le sees p.3 in
       let q = placed b (suc r) p.0 (Some u.1) fits.1.1 sees' u.3 (expression_gained b (suc r) (suc r) p.0 (Some u.1) fits.1.1 (omega (arith, le)) (omega (arith, room)) (omega (arith, also, room)) sees' u.3) in
-      let first = q.3.below (place a r) (place_below c.variables r a le fits.1.0) ∙ p.2 in
-      let is = (λ k. option_and_then (machine_table o) (pair_of (first k) (q.2 k))) ∙ u.4 in
-      let kept = kept_kept r (suc r) p.0 p.0 q.0 (omega arith) (kept_same r p.0) q.3 in
-      let act = Operate o target (Two (place a r) (place b (suc r))) in
-      let g = then_gained (operand b (suc r)) act target r (Some y.0) p.0 q.0 q.1 kept (rw sees'.room low) (ap (given target q.0) is) in
       subst (Gained (expression (T.Binary o a b) target r) target r d) (sym y.2)
-      (g.0, brings_both functions c there (operand a r) (both (operand b (suc r)) (one (Do act))) d p.0 g.0 p.1 g.1, gives_kept r target (Some y.0) d p.0 g.0 p.3 g.2)
+      (binary_gained o a b target r u.0 u.1 y.0 d p.0 q.0 (rw sees.room low) (place_below c.variables r a le fits.1.0) p.1 p.2 p.3 q.1 q.2 q.3 u.4)
   expression_gained (T.Choice n a b) target r d x fits le room low sees e =
       let u = choice_needed (value n s) (value a s) (value b s) x e in
       let some = needs_some n in
@@ -144,9 +163,17 @@ module _ (functions : List (NamedFunction FunctionData)) (c : Ground) (there : I
       let some = needs_some e in
       placed e r d x fits sees is (expression_gained e r r d x fits le room (omega (arith, some, room)) sees is)
 
-  -- the values of arguments are put into their places
-  pub operands_placed : (es : List ExpressionTree) (r : ℕ) (d : Data) (xs : List (Option ℕ)) → AllByRecursion (ExpressionFits c.variables) es → c.variables ≤ r → r + operands_need es ≤ c.registers → Sees c s d → values es s ≡ Some xs →
-      (d' : Data) × Leading (operands es r) d d' × (map (λ a. value_at a d') (places es r) ≡ xs) × Kept r d d'
+  -- the code puts the values of arguments into their places
+  abbrev pub AllPlaced : (es : List ExpressionTree) (r : ℕ) (d : Data) (xs : List (Option ℕ)) → Type 0
+  AllPlaced es r d xs = (d' : Data) × Leading (operands es r) d d' × (map (λ a. value_at a d') (places es r) ≡ xs) × Kept r d d'
+
+  one_more_placed : (e : ExpressionTree) (es : List ExpressionTree) (r : ℕ) (d d' d'' : Data) (x : Option ℕ) (xs : List (Option ℕ)) → place e r < suc r → Leading (operand e r) d d' → value_at (place e r) d' ≡ x → Kept r d d' →
+      Leading (operands es (suc r)) d' d'' → map (λ a. value_at a d'') (places es (suc r)) ≡ xs → Kept (suc r) d' d'' → AllPlaced (e ∷ es) r d (x ∷ xs)
+  one_more_placed e es r d d' d'' x xs low leads holds kept leads' hold kept' =
+      let first : value_at (place e r) d'' ≡ x = kept'.below (place e r) low ∙ holds in
+      (d'', brings_both functions c there (operand e r) (operands es (suc r)) d d' d'' leads leads', (λ k. first k ∷ hold k), kept_kept r (suc r) d d' d'' (omega arith) kept kept')
+
+  pub operands_placed : (es : List ExpressionTree) (r : ℕ) (d : Data) (xs : List (Option ℕ)) → AllByRecursion (ExpressionFits c.variables) es → c.variables ≤ r → r + operands_need es ≤ c.registers → Sees c s d → values es s ≡ Some xs → AllPlaced es r d xs
   operands_placed [] r d xs fits le room sees e = (d, brings_nothing functions c there d, no_more xs e, kept_same r d)
     where
       no_more : (xs : List (Option ℕ)) → Some [] ≡ Some xs → [] ≡ xs
@@ -156,9 +183,4 @@ module _ (functions : List (NamedFunction FunctionData)) (c : Ground) (there : I
       let p = operand_placed e r d y.0 fits.0 le (omega (arith, room)) sees y.2 in
       let sees' = sees_kept c s r d p.0 le sees p.3 in
       let q = operands_placed es (suc r) p.0 y.1 fits.1 (omega (arith, le)) (omega (arith, room)) sees' y.3 in
-      let first = q.3.below (place e r) (place_below c.variables r e le fits.0) ∙ p.2 in (
-        q.0,
-        brings_both functions c there (operand e r) (operands es (suc r)) d p.0 q.0 p.1 q.1,
-        (λ k. first k ∷ q.2 k) ∙ y.4,
-        kept_kept r (suc r) d p.0 q.0 (omega arith) p.3 q.3,
-      )
+      subst (AllPlaced (e ∷ es) r d) y.4 (one_more_placed e es r d p.0 q.0 y.0 y.1 (place_below c.variables r e le fits.0) p.1 p.2 p.3 q.1 q.2 q.3)

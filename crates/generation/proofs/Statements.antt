@@ -23,7 +23,7 @@ use Rattle.generation.specs.Gen.{place, operand, operands, places, statement, st
 use Rattle.generation.proofs.Stands.{Stands, stands_front, stands_behind}
 use Rattle.generation.proofs.Comes.{Comes, comes_nowhere, comes_comes, comes_step}
 use Rattle.generation.proofs.Grounds.{Ground, IsThere, at_node, node_step, Sees, kept_same, sees_kept, gives_put, sees_gives}
-use Rattle.generation.proofs.Pieces.{brings_one, brings_both, forks}
+use Rattle.generation.proofs.Pieces.{Brings, brings_one, brings_both, forks}
 use Rattle.generation.proofs.Values.{word_is}
 use Rattle.generation.proofs.Expressions.{place_below, expression_gained, operand_placed, operands_placed}
 use Rattle.generation.proofs.Outcomes.{Reaches, Leaves, Arrives, CallArrives, LowerArrives, arrives_comes, arrives_step, arrives_goes_on, arrives_block}
@@ -76,6 +76,20 @@ module _ (functions : List (NamedFunction FunctionData)) (c : Ground) (there : I
 
   -- ---- statements without parts, where they stand
 
+  store_brings : (exits : List ℕ) (g : ℕ) (i e : ExpressionTree) (a b : ℕ) (globals : List (List ℕ)) (d d' d'' : Data) → place i c.variables < suc c.variables →
+      Brings functions c there (operand i c.variables) d d' → value_at (place i c.variables) d' ≡ Some a →
+      Brings functions c there (operand e (suc c.variables)) d' d'' → value_at (place e (suc c.variables)) d'' ≡ Some b →
+      (place i c.variables < suc c.variables → value_at (place i c.variables) d'' ≡ value_at (place i c.variables) d') → C.put_cell d''.globals g a b ≡ Some globals →
+      Brings functions c there (statement (T.Store g i e) c.variables exits) d (record d'' { globals = globals })
+  store_brings exits g i e a b globals d d' d'' low leads holds leads' holds' same put =
+      let r = c.variables in
+      let act = Store g (place i r) (place e (suc r)) in
+      let after : Data = record d'' { globals = globals } in
+      let first : value_at (place i r) d'' ≡ Some a = same low ∙ holds in
+      let does : stored d'' g (value_at (place i r) d'') (value_at (place e (suc r)) d'') ≡ Some after = (λ k. stored d'' g (first k) (holds' k)) ∙ store_does d'' g a b globals put in
+      brings_both functions c there (operand i r) (both (operand e (suc r)) (one (Do act))) d d' after leads
+      (brings_both functions c there (operand e (suc r)) (one (Do act)) d' d'' after leads' (brings_one functions c there act d'' after does))
+
   module _ (exits : List ℕ) (following count : ℕ) (s : C.State) (d : Data) (sees : Sees c s d) where
     -- the code of a statement arrives where its outcome says
     abbrev CodeArrives : Piece → M.Outcome → Type 0
@@ -102,13 +116,9 @@ module _ (functions : List (NamedFunction FunctionData)) (c : Ground) (there : I
             let sees' = sees_kept c s r d u.0 (omega arith) sees u.3 in
             let v = operand_placed functions c there s e (suc r) u.0 (Some b) fits.1.1 (omega arith) (omega (arith, room)) sees' (word_is (value e s) b q) in
             let sees'' = sees_kept c s (suc r) u.0 v.0 (omega arith) sees' v.3 in
-            let first = v.3.below (place i r) (place_below r r i (omega arith) fits.1.0) ∙ u.2 in
-            let act = Store g (place i r) (place e (suc r)) in
-            let after : Data = record v.0 { globals = globals } in
-            let does = (λ k. stored v.0 g (first k) (v.2 k)) ∙ store_does v.0 g a b globals (ap (λ l. C.put_cell l g a b) sees''.globals ∙ is) in
-            let brings = brings_both functions c there (operand e (suc r)) (one (Do act)) u.0 v.0 after v.1 (brings_one functions c there act v.0 after does) in (
-              after,
-              brings_both functions c there (operand i r) (both (operand e (suc r)) (one (Do act))) d u.0 after u.1 brings following count stands,
+            let globals' = ap (λ l. C.put_cell l g a b) sees''.globals ∙ is in (
+              record v.0 { globals = globals },
+              store_brings exits g i e a b globals d u.0 v.0 (place_below r r i (omega arith) fits.1.0) u.1 u.2 v.1 v.2 (v.3.below (place i r)) globals' following count stands,
               record { holds = sees''.holds; count = sees''.count; room = sees''.room; within = sees''.within; globals = refl; output = sees''.output },
             )
 

@@ -53,6 +53,7 @@ abbrev pub operands : List ExpressionTree → ℕ → Piece
 operands [] r = nothing
 operands (e ∷ es) r = both (operand e r) (operands es (suc r))
 
+-- the registers where arguments stand
 abbrev pub places : List ExpressionTree → ℕ → List ℕ
 places [] r = []
 places (e ∷ es) r = place e r ∷ places es (suc r)
@@ -90,10 +91,12 @@ needs (C.Unary o e) = needs e
 needs (C.Binary o a b) = max (needs a) (suc (needs b))
 needs (C.Choice c a b) = max (needs c) (max (needs a) (needs b))
 
+-- those of arguments, each behind those of the ones before it
 abbrev pub operands_need : List ExpressionTree → ℕ
 operands_need [] = 0
 operands_need (e ∷ es) = max (needs e) (suc (operands_need es))
 
+-- those of a statement: each part begins anew
 abbrev mutual
   pub statement_needs : StatementTree → ℕ
   statement_needs C.Skip = 0
@@ -163,6 +166,7 @@ gen_function f = record {
 abbrev pub HasTooManyNodes : FunctionTree → Type 0
 HasTooManyNodes f = node_limit < length (gen_function f).nodes
 
+-- under the same name
 abbrev pub gen_named : NamedFunction FunctionTree → NamedFunction FunctionData
 gen_named f = record { name = f.name; function = gen_function f.function }
 
