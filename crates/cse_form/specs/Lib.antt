@@ -1,4 +1,5 @@
 pub mod Text
+pub mod Ranks
 pub mod Reading
 pub use Rattle.cse_sound.specs.Order
 pub use Rattle.cse_sound.specs.Rules

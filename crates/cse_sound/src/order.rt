@@ -1,6 +1,6 @@
 //! The order of equations: that of their written bytes, read as numbers.
 
-ghost use Rattle.std.specs.Prelude.{◌≡◌, ◌<◌, ◌^◌};
+ghost use Rattle.std.specs.Prelude.{◌≡◌, ◌+◌, ◌<◌, ◌^◌};
 ghost use Rattle.cse_sound.specs.Order.{arguments_rank, right_rank};
 ghost use Rattle.cse_sound.specs.Order.{rank as rank_of};
 
@@ -19,7 +19,7 @@ fn rank_of_arguments(arguments: &Arguments) -> u64
 
 fn rank_of_right(right: &RightSide) -> u64
     ensures value { result ≡ right_rank right.now }
-    ensures small { result < 2 ^ 48 }
+    ensures small { result < 2 ^ 42 }
 {
     match right {
         RightSide::Operation { op, arguments } => {
@@ -35,7 +35,8 @@ fn rank_of_right(right: &RightSide) -> u64
 /// The place of the equation among all: its written bytes, and zeros behind them, as a number of
 /// eight bytes.
 pub fn rank(equation: &Equation) -> u64
-    ensures { result ≡ rank_of equation.now }
+    ensures value { result ≡ rank_of equation.now }
+    ensures small { result + 1 < 2 ^ 64 }
 {
     u64::from(equation.register) * 281_474_976_710_656 + rank_of_right(&equation.right)
 }
