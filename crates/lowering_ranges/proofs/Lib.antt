@@ -1,0 +1,10 @@
+pub mod Faults
+pub mod Scopes
+pub mod Terms
+pub mod Values
+pub mod Locals
+pub mod Statements
+pub mod Heights
+pub mod Files
+pub mod Functions
+pub mod Programs

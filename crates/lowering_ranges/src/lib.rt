@@ -1,0 +1,2 @@
+//! The Cminor program that a checked program is lowered to is in range.
+#![tactic(auto)]
