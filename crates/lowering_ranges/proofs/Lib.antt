@@ -8,3 +8,4 @@ pub mod Heights
 pub mod Files
 pub mod Functions
 pub mod Programs
+pub mod Rows

@@ -1,2 +1,9 @@
-//! The Cminor program that a checked program is lowered to is in range.
+//! The Cminor program that a checked program is lowered to is in range, wherever no sequence of the program is
+//! so long that its length has no room in 32 bits.
 #![tactic(auto)]
+
+mod fitting;
+mod short;
+mod words;
+
+pub use fitting::lowered_fits;
