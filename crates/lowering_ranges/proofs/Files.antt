@@ -1,28 +1,26 @@
 -- What is declared at the place of a declaration: no locals, globals that are there, and functions with at most 16 parameters.
-use Rattle.std.proofs.Common.{◌≡◌, ℕ, suc, ◌+◌, ◌<◌, ◌≤◌, Bool, true, false, List, [], ◌∷◌, ◌++◌, length, Option, Some, None, refl, sym, subst, arith}
-use Rattle.std.specs.Prelude.{not, ◌&&◌, ◌||◌, nat_lt, nat_le}
+use Rattle.std.proofs.Common.{◌≡◌, ℕ, suc, ◌+◌, ◌<◌, ◌≤◌, List, [], ◌∷◌, ◌++◌, length, Option, Some, None, refl, sym, subst, arith}
+use Rattle.std.specs.Prelude.{not, ◌&&◌, ◌||◌, nat_lt}
 use Rattle.std.specs.List.{AllByRecursion}
 use Rattle.std.proofs.lemmas.Bool.{ltb-true, and_parts}
 use Rattle.machine.proofs.Distinct.{all_append}
-use Rattle.c_tokens.specs.declared.constant.Constant.{Constant}
 use Rattle.c_tokens.specs.declared.constant.IntegerType.{IntegerType}
 use Rattle.c_scopes.specs.Bound.{Bound, found}
 use Rattle.c_tree.specs.declared.identifier.Identifier.{Identifier}
 use Rattle.c_tree.specs.declared.declaration.OpenParameter.{OpenParameter}
-use Rattle.c_tree.specs.Trees.{InitializerTree, GlobalTree}
-use Rattle.c_rules.specs.declared.errors.CheckError.TheVariants.{Redeclared, BadMain, Limit, ArrayUse}
+use Rattle.c_rules.specs.declared.errors.CheckError.TheVariants.{Redeclared, BadMain, Limit}
 use Rattle.c_rules.specs.declared.meaning.Meaning.{Meaning}
 use Rattle.c_rules.specs.declared.meaning.Meaning.TheVariants as M
 use Rattle.c_rules.specs.declared.signature.Signature.{Signature}
 use Rattle.c_rules.specs.Told.{unless}
 use Rattle.c_rules.specs.Names.{Scope}
-use Rattle.c_rules.specs.Calls.{Functions, is_putchar}
+use Rattle.c_rules.specs.Calls.{Functions}
 use Rattle.c_rules.specs.Locals.{Here, is_new, is_short}
-use Rattle.c_rules.specs.Globals.{is_main, size_of, is_size, most_globals, most_cells, suits, is_within, global_name_faults, global_meaning, with_global, initials_of, initials_faults, global_faults}
+use Rattle.c_rules.specs.Globals.{is_main}
 use Rattle.c_rules.specs.Functions.{most_parameters, same_signature, takes_nothing, is_redeclared, is_countable, function_name_faults, with_parameter, with_parameters, parameter_faults, parameters_faults, with_function, with_signature}
-use Rattle.cminor_tree.specs.Fits.{function_limit, global_limit}
-use Rattle.lowering_ranges.proofs.Faults.{none_before, none_behind, three_parts, four_parts, holds}
-use Rattle.lowering_ranges.proofs.Scopes.{MeaningFits, ScopeFits}
+use Rattle.cminor_tree.specs.Fits.{function_limit}
+use Rattle.lowering_ranges.proofs.Faults.{none_before, none_behind, three_parts, holds}
+use Rattle.lowering_ranges.proofs.Scopes.{ScopeFits}
 use Rattle.lowering_ranges.proofs.Values.{SignatureFits}
 
 -- ---- parameters
@@ -101,26 +99,3 @@ few_functions f scope x s number none =
     (unless (is_countable (Some number) && is_short x) (Limit x.offset)) none in
     let limit = and_parts (is_countable (Some number)) (is_short x) (holds (is_countable (Some number) && is_short x) (Limit x.offset) parts.2) in
     ltb-true number function_limit limit.0
-
--- ---- globals
-
-meaning_fits : (number : ℕ) (kind : IntegerType) (name : Identifier) (size : Option Constant) (initializer : Option InitializerTree) → number < global_limit →
-    MeaningFits 0 (global_meaning number (record { kind = kind; name = name; size = size; initializer = initializer }))
-meaning_fits number kind name None initializer few = few
-meaning_fits number kind name (Some c) initializer few = few
-
-few_globals : (scope : Scope) (globals cells : ℕ) (g : GlobalTree) → global_name_faults scope globals cells g ≡ [] → globals < global_limit
-few_globals scope globals cells g none =
-    let parts = four_parts (unless (is_new 0 scope g.name && not (is_putchar g.name.name)) (Redeclared g.name.offset)) (unless (not (is_main g.name.name)) (BadMain g.name.offset))
-    (unless (is_within globals cells g) (Limit g.name.offset)) (unless (suits g.size g.initializer) (ArrayUse g.name.offset)) none in
-    let within = holds (is_within globals cells g) (Limit g.name.offset) parts.2 in
-    ltb-true globals global_limit (first_holds (nat_lt globals most_globals) (is_size (size_of g.size)) (nat_le (cells + size_of g.size) most_cells) (is_short g.name) within)
-  where
-    first_holds : (a b c d : Bool) → (a && b && c && d) ≡ true → a ≡ true
-    first_holds true b c d e = refl
-    first_holds false b c d e = e
-
-pub global_scope : (scope : Scope) (globals cells : ℕ) (g : GlobalTree) → ScopeFits 0 scope → global_faults scope globals cells g ≡ [] → ScopeFits 0 (with_global globals scope g)
-global_scope scope globals cells g fits none =
-    let few = few_globals scope globals cells g (none_before (global_name_faults scope globals cells g) (initials_faults (with_global globals scope g) (initials_of g.initializer)) none) in
-    (meaning_fits globals g.kind g.name g.size g.initializer few, fits)

@@ -5,6 +5,7 @@ pub mod Values
 pub mod Locals
 pub mod Statements
 pub mod Heights
+pub mod Globals
 pub mod Files
 pub mod Functions
 pub mod Programs

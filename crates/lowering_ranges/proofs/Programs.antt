@@ -11,15 +11,18 @@ use Rattle.c_tree.specs.Heights.{IsLow}
 use Rattle.c_rules.specs.declared.errors.CheckError.TheVariants.{NoMain}
 use Rattle.c_rules.specs.Told.{unless}
 use Rattle.c_rules.specs.Functions.{opened, signature_of, function_name_faults, parameters_faults, body_faults, entered, outermost}
+use Rattle.c_rules.specs.Globals.{with_global}
 use Rattle.c_rules.specs.Statements.{statements_faults}
-use Rattle.c_rules.specs.Units.{File, empty_file, behind, naming, prototyped, known, with_body, bodies_from, bodies_of, functions_from, declaration_faults, declarations_faults, IsWellFormed, program_of}
+use Rattle.c_rules.specs.Units.{File, empty_file, behind, naming, prototyped, known, with_body, bodies_from, bodies_of, globals_from, functions_from, declaration_faults, declarations_faults, IsWellFormed, program_of}
 use Rattle.cminor_tree.specs.Fits.{IsFunction, function_limit}
 use Rattle.lowering.specs.Programs.{low_named, low}
 use Rattle.lowering_ranges.specs.Short.{IsShortFunction, IsShortProgram}
 use Rattle.lowering_ranges.proofs.Faults.{none_before, none_behind}
 use Rattle.lowering_ranges.proofs.Scopes.{ScopeFits}
 use Rattle.lowering_ranges.proofs.Values.{BodiesFit, SignatureFits}
-use Rattle.lowering_ranges.proofs.Files.{few_parameters, function_scope, signatures_fit, few_functions, global_scope}
+use Rattle.lowering_ranges.proofs.Files.{few_parameters, function_scope, signatures_fit, few_functions}
+use Rattle.lowering_ranges.proofs.Globals.{global_scope, sized}
+use Rattle.lowering_ranges.specs.Globals.{IsSized}
 use Rattle.lowering_ranges.proofs.Functions.{function_fits}
 
 record FileFits (file : File) : Type 0 where
@@ -97,6 +100,13 @@ module _ (all : List (Bound ℕ)) where
     signatures = signatures_fit file.signatures file.scope p.name (signature_of p.result p.parameters) fits.signatures (prototype_fits file p none);
   }
 
+  globals_fit : (file : File) (ds : List DeclarationTree) → declarations_faults all file ds ≡ [] → AllByRecursion IsSized (globals_from file ds)
+  globals_fit file [] none = tt
+  globals_fit file (T.Global g ∷ ds) none =
+      (sized file.scope (with_global file.globals file.scope g) file.globals file.cells g (first_none file (T.Global g) ds none), globals_fit (behind file (T.Global g)) ds (rest_none file (T.Global g) ds none))
+  globals_fit file (T.Function g ∷ ds) none = globals_fit (behind file (T.Function g)) ds (rest_none file (T.Function g) ds none)
+  globals_fit file (T.Prototype' p ∷ ds) none = globals_fit (behind file (T.Prototype' p)) ds (rest_none file (T.Prototype' p) ds none)
+
   functions_fit : BodiesFit all → (file : File) (ds : List DeclarationTree) → FileFits file → AllByRecursion IsLow ds → declarations_faults all file ds ≡ [] →
       AllByRecursion IsShortFunction (functions_from all file ds) → AllByRecursion (λ f. IsFunction f.function) (map low_named (functions_from all file ds))
   functions_fit numbers file [] fits low none short = tt
@@ -110,6 +120,13 @@ module _ (all : List (Bound ℕ)) where
         function_fits (known all (naming file g)) (naming file g).scope g (record { bodies = numbers; signatures = inner.signatures }) inner.scope (body_none file g first) low.0 short.0,
         functions_fit numbers (naming file g) ds inner low.1 (rest_none file (T.Function g) ds none) short.1,
       )
+
+-- ---- whole programs
+
+pub globals_sized : (u : UnitTree) → IsWellFormed u → AllByRecursion IsSized (program_of u).globals
+globals_sized u well =
+    let none = none_before (declarations_faults (bodies_of u) empty_file u.declarations) (unless (is_some (found (codes "main") (bodies_of u))) (NoMain u.end)) well in
+    globals_fit (bodies_of u) empty_file u.declarations none
 
 pub program_fits : (u : UnitTree) → AllByRecursion IsLow u.declarations → IsWellFormed u → IsShortProgram (program_of u) → AllByRecursion (λ f. IsFunction f.function) (low (program_of u)).functions
 program_fits u low well short =

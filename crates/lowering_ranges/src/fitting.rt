@@ -6,6 +6,7 @@ ghost use Rattle.c_program.specs.Views.{function_tree};
 ghost use Rattle.c_checker.specs.Checked.{program_tree};
 ghost use Rattle.cminor_tree.specs.Fits.{IsFunction};
 ghost use Rattle.lowering.specs.Programs.{low};
+ghost use Rattle.lowering_ranges.specs.Globals.{IsSized};
 ghost use Rattle.lowering_ranges.specs.Short.{IsShortFunction, IsShortProgram};
 
 use crate::short::is_short_function;
@@ -28,6 +29,7 @@ fn are_short_functions(functions: &[Function]) -> bool
 /// sequence of the program has 2^32 - 1 actions or more. The time is linear in the program.
 pub fn lowered_fits(program: &CProgram) -> bool
     ensures short { IsTrue result ↔ IsShortProgram (program_tree program.now) }
+    ensures globals { All IsSized program.now.globals }
     ensures fits { IsTrue result → AllByRecursion (λ f. IsFunction f.function) (low (program_tree program.now)).functions }
 {
     program.known();
