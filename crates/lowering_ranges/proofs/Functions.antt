@@ -17,7 +17,7 @@ use Rattle.cminor_tree.specs.Fits as F
 use Rattle.cminor_tree.specs.Fits.{IsFunction, StatementsFit, statement_count}
 use Rattle.lowering.specs.Actions.{low_actions}
 use Rattle.lowering.specs.Programs.{ends_with_return, low_ending, followed_by, spare_of, low_function}
-use Rattle.lowering_ranges.specs.Short.{IsShortFunction}
+use Rattle.c_lengths.specs.Short.{IsShortFunction}
 use Rattle.lowering_ranges.proofs.Faults.{none_before, none_behind}
 use Rattle.lowering_ranges.proofs.Scopes.{MeaningFits, ScopeFits}
 use Rattle.lowering_ranges.proofs.Values.{FunctionsFit}

@@ -16,7 +16,7 @@ use Rattle.c_rules.specs.Statements.{statements_faults}
 use Rattle.c_rules.specs.Units.{File, empty_file, behind, naming, prototyped, known, with_body, bodies_from, bodies_of, globals_from, functions_from, declaration_faults, declarations_faults, IsWellFormed, program_of}
 use Rattle.cminor_tree.specs.Fits.{IsFunction, function_limit}
 use Rattle.lowering.specs.Programs.{low_named, low}
-use Rattle.lowering_ranges.specs.Short.{IsShortFunction, IsShortProgram}
+use Rattle.c_lengths.specs.Short.{IsShortFunction, IsShortProgram}
 use Rattle.lowering_ranges.proofs.Faults.{none_before, none_behind}
 use Rattle.lowering_ranges.proofs.Scopes.{ScopeFits}
 use Rattle.lowering_ranges.proofs.Values.{BodiesFit, SignatureFits}

@@ -18,7 +18,7 @@ use Rattle.c_rules.specs.Statements.{with_start, after, after_all, optional_faul
 use Rattle.c_rules.specs.Actions.{target_of, declared, set_action, start_action, condition, step_action, returned, action_of, actions_of}
 use Rattle.cminor_tree.specs.Fits.{StatementFits, StatementsFit, statement_count}
 use Rattle.lowering.specs.Actions.{low_action, low_actions}
-use Rattle.lowering_ranges.specs.Short.{HasWords, IsShort, AreShort, action_count}
+use Rattle.c_lengths.specs.Short.{HasWords, IsShort, AreShort, action_count}
 use Rattle.lowering_ranges.proofs.Faults.{none_before, none_behind, three_parts, four_parts}
 use Rattle.lowering_ranges.proofs.Scopes.{ScopeFits, meant_fits, array_fits, target_fits}
 use Rattle.lowering_ranges.proofs.Terms.{TermFits, term_fits}

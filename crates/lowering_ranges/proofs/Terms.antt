@@ -20,7 +20,7 @@ use Rattle.c_rules.specs.Types.{type_of, common}
 use Rattle.c_rules.specs.Terms.{variable_term, by_type, unary_term, binary_term, term_of}
 use Rattle.cminor_tree.specs.Fits.{ExpressionFits}
 use Rattle.lowering.specs.Terms.{low_term}
-use Rattle.lowering_ranges.specs.Short.{HasWords}
+use Rattle.c_lengths.specs.Short.{HasWords}
 use Rattle.lowering_ranges.proofs.Scopes.{ScopeFits, MeantFits, meant_fits, array_fits}
 
 -- among so many locals

@@ -24,7 +24,7 @@ use Rattle.c_rules.specs.Calls.{Functions, is_putchar, called, void_faults, call
 use Rattle.cminor_tree.specs.Fits.{ExpressionFits, StatementFits, function_limit}
 use Rattle.lowering.specs.Terms.{low_term}
 use Rattle.lowering.specs.Actions.{low_given}
-use Rattle.lowering_ranges.specs.Short.{HasWords, GivenHasWords}
+use Rattle.c_lengths.specs.Short.{HasWords, GivenHasWords}
 use Rattle.lowering_ranges.proofs.Faults.{none_before, three_parts, holds}
 use Rattle.lowering_ranges.proofs.Scopes.{ScopeFits, TargetFits}
 use Rattle.lowering_ranges.proofs.Terms.{TermFits, term_fits, terms_fit}

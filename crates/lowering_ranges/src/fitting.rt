@@ -7,10 +7,10 @@ ghost use Rattle.c_checker.specs.Checked.{program_tree};
 ghost use Rattle.cminor_tree.specs.Fits.{IsFunction};
 ghost use Rattle.lowering.specs.Programs.{low};
 ghost use Rattle.lowering_ranges.specs.Globals.{IsSized};
-ghost use Rattle.lowering_ranges.specs.Short.{IsShortFunction, IsShortProgram};
+ghost use Rattle.c_lengths.specs.Short.{IsShortFunction, IsShortProgram};
 
-use crate::short::is_short_function;
 use c_checker::CProgram;
+use c_lengths::is_short_function;
 use c_program::Function;
 
 /// Whether each sequence of these functions is short.

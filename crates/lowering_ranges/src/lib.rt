@@ -3,7 +3,5 @@
 #![tactic(auto)]
 
 mod fitting;
-mod short;
-mod words;
 
 pub use fitting::lowered_fits;

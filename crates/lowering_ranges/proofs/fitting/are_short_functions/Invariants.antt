@@ -1,7 +1,7 @@
 use Rattle.std.proofs.Common.{ℕ, ◌<◌, slice_index_or}
 use Rattle.c_program.specs.declared.function.Function.{Function}
 use Rattle.c_program.specs.Views.{function_tree}
-use Rattle.lowering_ranges.specs.Short.{IsShortFunction}
+use Rattle.c_lengths.specs.Short.{IsShortFunction}
 use Rattle.lowering_ranges.proofs.fitting.are_short_functions.Given as goal
 
 abbrev pub invariant-loop-function : goal.invariant-loop-function

@@ -4,7 +4,7 @@ use Rattle.c_program.specs.Views.{function_tree}
 use Rattle.cminor_tree.specs.Fits.{IsFunction}
 use Rattle.lowering.specs.Programs.{low}
 use Rattle.lowering_ranges.specs.Globals.{IsSized}
-use Rattle.lowering_ranges.specs.Short.{IsShortFunction, IsShortProgram}
+use Rattle.c_lengths.specs.Short.{IsShortFunction, IsShortProgram}
 use Rattle.lowering_ranges.proofs.Rows.{functions_short, each_function, each_of}
 use Rattle.lowering_ranges.proofs.Programs.{globals_sized, program_fits}
 use Rattle.lowering_ranges.proofs.fitting.lowered_fits.Goals as goal

@@ -1,8 +1,8 @@
 use Rattle.std.proofs.Common.{All, sym, subst}
 use Rattle.c_program.specs.Views.{term_tree, given_tree}
-use Rattle.lowering_ranges.specs.Short.{HasWords, GivenHasWords}
-use Rattle.lowering_ranges.proofs.Rows.{each_word}
-use Rattle.lowering_ranges.proofs.words.value_words.Goals as goal
+use Rattle.c_lengths.specs.Short.{HasWords, GivenHasWords}
+use Rattle.c_lengths.proofs.Rows.{each_word}
+use Rattle.c_lengths.proofs.words.value_words.Goals as goal
 
 pub returns-in-Call : goal.returns-in-Call
 returns-in-Call c =

@@ -2,7 +2,7 @@
 
 ghost use Rattle.std.specs.Prelude.{◌↔◌, ◌<◌, All, IsTrue};
 ghost use Rattle.c_program.specs.Views.{action_tree, actions_tree, function_tree};
-ghost use Rattle.lowering_ranges.specs.Short.{IsShort, AreShort, action_count, action_limit, IsShortFunction};
+ghost use Rattle.c_lengths.specs.Short.{IsShort, AreShort, action_count, action_limit, IsShortFunction};
 
 use crate::words::{term_words, value_words};
 use c_program::{Action, Function};
@@ -61,7 +61,7 @@ fn are_short(actions: &[Action]) -> bool
 }
 
 /// Whether each sequence of a function is short.
-pub(crate) fn is_short_function(function: &Function) -> bool
+pub fn is_short_function(function: &Function) -> bool
     ensures { IsTrue result ↔ IsShortFunction (function_tree function.now) }
 {
     let body = function.body.as_slice();

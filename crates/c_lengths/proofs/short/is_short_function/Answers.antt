@@ -1,9 +1,9 @@
 use Rattle.std.proofs.Common.{◌↔◌, IsTrue, refl, subst}
 use Rattle.c_program.specs.Trees as T
 use Rattle.c_program.specs.Views.{actions_tree}
-use Rattle.lowering_ranges.specs.Short.{IsShort}
-use Rattle.lowering_ranges.proofs.Rows.{with_room}
-use Rattle.lowering_ranges.proofs.short.is_short_function.Goals as goal
+use Rattle.c_lengths.specs.Short.{IsShort}
+use Rattle.c_lengths.proofs.Rows.{with_room}
+use Rattle.c_lengths.proofs.short.is_short_function.Goals as goal
 
 pub returns-then-has_room : goal.returns-then-has_room
 returns-then-has_room c =

@@ -2,9 +2,9 @@ use Rattle.std.proofs.Common.{◌≡◌, ◌↔◌, IsTrue, refl, sym, ap, subst
 use Rattle.c_program.specs.Trees as T
 use Rattle.c_program.specs.Views.{action_tree, actions_tree}
 use Rattle.c_program.proofs.Sequences.{view_sequence}
-use Rattle.lowering_ranges.specs.Short.{IsShort}
-use Rattle.lowering_ranges.proofs.Rows.{with_room, without_room}
-use Rattle.lowering_ranges.proofs.short.+walking.Goals as goal
+use Rattle.c_lengths.specs.Short.{IsShort}
+use Rattle.c_lengths.proofs.Rows.{with_room, without_room}
+use Rattle.c_lengths.proofs.short.+walking.Goals as goal
 
 pub is_short-returns-then-has_room : goal.is_short-returns-then-has_room
 is_short-returns-then-has_room t c =
