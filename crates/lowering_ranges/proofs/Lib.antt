@@ -1,0 +1,12 @@
+pub mod Faults
+pub mod Scopes
+pub mod Terms
+pub mod Values
+pub mod Locals
+pub mod Statements
+pub mod Heights
+pub mod Globals
+pub mod Files
+pub mod Functions
+pub mod Programs
+pub mod Rows
