@@ -1,0 +1,11 @@
+pub mod Examples
+pub mod Stands
+pub mod Comes
+pub mod Grounds
+pub mod Pieces
+pub mod Values
+pub mod Expressions
+pub mod Outcomes
+pub mod Statements
+pub mod Functions
+pub mod Programs

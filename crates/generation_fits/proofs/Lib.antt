@@ -1,0 +1,3 @@
+pub mod Needs
+pub mod Nodes
+pub mod Functions

@@ -1,0 +1,7 @@
+//! The RTL functions that Cminor functions in range are translated to are in range, unless they have
+//! too many nodes.
+#![tactic(auto)]
+
+mod law;
+
+pub use law::{generated_fits, generated_is_small};
