@@ -1,0 +1,12 @@
+//! Register allocation as equations between registers of RTL and locations of LTL: when a block does
+//! what an instruction does, what its equations demand of the node before, and the rules by which an
+//! output and equations are accepted.
+#![tactic(auto)]
+
+mod change;
+mod demand;
+mod equation;
+
+pub use change::Change;
+pub use demand::Demand;
+pub use equation::Equation;
