@@ -8,7 +8,7 @@ use lang::{NoMemory, Row};
 use std::alloc::Global;
 
 /// An equal instruction.
-pub fn copy_instruction(alloc: Global, instruction: &Instruction) -> Result<Instruction, NoMemory>
+fn copy_instruction(alloc: Global, instruction: &Instruction) -> Result<Instruction, NoMemory>
     ensures { IfOk result (λ copied. copied ≡ instruction.now) }
 {
     match instruction {

@@ -11,7 +11,6 @@ mod language;
 mod reading;
 mod writing;
 
-pub use copying::copy_instruction;
 pub use function::Function;
 pub use instruction::Instruction;
 pub use language::Linear;
