@@ -22,8 +22,8 @@ use Rattle.ltl.specs.Growth.{grows}
 use Rattle.alloc_rules.specs.declared.equation.Equation.{Equation}
 use Rattle.alloc_rules.specs.Rules.{equations_at, IsAllocated}
 use Rattle.alloc_sound.specs.Related.{IsSound, Pair, Related}
-use Rattle.alloc_sound.proofs.Places.{covers_none}
-use Rattle.alloc_sound.proofs.Entries.{nothing_there}
+use Rattle.alloc_rules.proofs.Places.{covers_none}
+use Rattle.alloc_rules.proofs.Entries.{nothing_there}
 use Rattle.alloc_sound.proofs.Steps.{pair_of, state_goes, state_ends}
 
 -- each step of the first program is matched by one step of the second

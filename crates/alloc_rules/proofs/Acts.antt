@@ -32,9 +32,10 @@ use Rattle.alloc_rules.specs.declared.equation.Equation.{Equation}
 use Rattle.alloc_rules.specs.declared.change.Change.{Change}
 use Rattle.alloc_rules.specs.declared.change.Change.TheVariants.{Nothing, Defines, Drops, Copies}
 use Rattle.alloc_rules.specs.Pairs.{same_number, result_change, act_change, same_test, in_register, arguments_used, act_uses}
-use Rattle.alloc_sound.specs.Holding.{Covers, Holds}
-use Rattle.alloc_sound.proofs.Places.{covers_itself}
-use Rattle.alloc_sound.proofs.Changes.{Changed, places_themselves}
+use Rattle.alloc_rules.specs.Holding.{Covers, Holds}
+use Rattle.alloc_rules.specs.Steps.{Changed, IsDone}
+use Rattle.alloc_rules.proofs.Places.{covers_itself}
+use Rattle.alloc_rules.proofs.Changes.{places_themselves}
 
 -- a test that came out so
 pub cond_some : {A : Type 0} (b : Bool) (x : Option A) (c : A) → cond b x None ≡ Some c → (b ≡ true) × (x ≡ Some c)
@@ -97,14 +98,6 @@ module _ (d : rtl_data.Data) (e : Data) where
           ∙ known
 
 -- ---- acts
-
--- the second comes to data, changed beside the first's as is said, with the same globals and output
-pub record IsDone (change : Change) (d : rtl_data.Data) (e : Data) (d' : rtl_data.Data) (o : Option Data) : Type 0 where
-  pub left : Data
-  pub is : o ≡ Some left
-  pub defines : Changed change d e d' left
-  pub globals : left.globals ≡ d'.globals
-  pub output : left.output ≡ d'.output
 
 module _ (d : rtl_data.Data) (e : Data) (globals : e.globals ≡ d.globals) (output : e.output ≡ d.output) where
   given_done : (target k : ℕ) (x x' : Option ℕ) → Covers x x' → (d' : rtl_data.Data) → rtl_acts.given target d x ≡ Some d' → IsDone (Defines target (InRegister k)) d e d' (given k e x')

@@ -10,7 +10,7 @@ use Rattle.locations.specs.Fits.{LocationFits, MoveFits}
 use Rattle.locations.specs.Reading.{same_location}
 use Rattle.machine.specs.Data.{Data, value_at, put_at, moved, all_moved}
 use Rattle.alloc_rules.specs.Equations.{back_move, back}
-use Rattle.alloc_sound.specs.Holding.{Covers, HasFrame}
+use Rattle.alloc_rules.specs.Holding.{Covers, HasFrame}
 
 -- ---- values
 
