@@ -1,6 +1,5 @@
 -- What is demanded in front of an instruction and its body is enough for the equations behind them.
-use Rattle.std.proofs.Common.{◌≡◌, ◌≢◌, ℕ, ◌<◌, ◌≤◌, List, length, get_or, set, Option, Some, None, Bool, true, false, cond, eqb, refl, sym, ap, ◌∙◌, subst, arith}
-use Rattle.std.specs.Prelude.{nat_lt}
+use Rattle.std.proofs.Common.{◌≡◌, ◌≢◌, ℕ, ◌≤◌, List, get_or, set, Option, Some, None, Bool, true, false, cond, eqb, refl, sym, ap, ◌∙◌, subst, arith}
 use Rattle.std.specs.List.{AllByRecursion}
 use Rattle.std.proofs.lemmas.Bool.{eqb-true, eqb-false, ltb-false}
 use Rattle.std.proofs.lemmas.List.{get_or-set_other}
@@ -20,8 +19,8 @@ use Rattle.alloc_rules.specs.declared.demand.Demand.{Demand}
 use Rattle.alloc_rules.specs.declared.demand.Demand.TheVariants.{Met, Refused, Needs}
 use Rattle.alloc_rules.specs.Equations.{back_equation, through_result, through, is_lost, over_call}
 use Rattle.alloc_rules.specs.Pairs.{result_change}
-use Rattle.alloc_rules.specs.Holding.{Covers, Holds, DemandHolds, HasFrame}
-use Rattle.alloc_rules.specs.Steps.{SamePlaces, IsKept, IsDefined, IsDropped, IsCopied, Changed, IsBack}
+use Rattle.alloc_rules.specs.Holding.{Holds, DemandHolds, HasFrame}
+use Rattle.alloc_rules.specs.Steps.{SamePlaces, IsDefined, IsDropped, IsCopied, Changed, IsBack}
 use Rattle.alloc_rules.proofs.Places.{covers_itself, covers_same, covers_set, is_same, is_other, value_put_same, value_put_other, value_moves}
 
 -- ---- what was defined

@@ -1,8 +1,8 @@
 -- Where a function begins, its parameters' locations hold the words of its parameters' registers.
-use Rattle.std.proofs.Common.{◌≡◌, ◌≢◌, ℕ, zero, suc, ◌<◌, List, [], ◌∷◌, length, get_or, set, Option, Some, None, refl, sym, ap, ◌∙◌, subst, arith, inl, inr}
-use Rattle.std.specs.Prelude.{All, Contains, map, replicate}
+use Rattle.std.proofs.Common.{◌≡◌, ◌≢◌, ℕ, zero, suc, ◌<◌, List, [], ◌∷◌, length, get_or, set, Option, None, refl, sym, ap, ◌∙◌, subst, arith, inl, inr}
+use Rattle.std.specs.Prelude.{All, map, replicate}
 use Rattle.std.specs.List.{AllByRecursion}
-use Rattle.std.proofs.lemmas.List.{get_or-set_other, length-replicate}
+use Rattle.std.proofs.lemmas.List.{get_or-set_other}
 use Rattle.std.proofs.lemmas.List.Elements.{recursion_from_All, All-tail}
 use Rattle.locations.specs.declared.location.Location.{Location}
 use Rattle.locations.specs.Fits.{LocationFits, AreDistinct, ParametersFit}
@@ -14,7 +14,7 @@ use Rattle.machine.specs.Calls.{values_of, with_arguments}
 use Rattle.machine.proofs.Outputs.{output-put_at}
 use Rattle.alloc_rules.specs.declared.equation.Equation.{Equation}
 use Rattle.alloc_rules.specs.Pairs.{equations_of}
-use Rattle.alloc_rules.specs.Rules.{IsNoParameter, HoldsAtEntry}
+use Rattle.alloc_rules.specs.Rules.{HoldsAtEntry}
 use Rattle.alloc_rules.specs.Holding.{Covers, AllCover, Holds, HasFrame}
 use Rattle.alloc_rules.proofs.Places.{covers_none, covers_same, covers_set, value_put_same, value_put_other, frame_put, globals_put}
 

@@ -11,6 +11,4 @@ mod law;
 pub use change::Change;
 pub use demand::Demand;
 pub use equation::Equation;
-pub use law::{
-    acts_agree, calls_keep, demands_suffice, entries_hold, origins_hold, tests_agree,
-};
+pub use law::{acts_agree, calls_keep, demands_suffice, entries_hold, origins_hold, tests_agree};
