@@ -164,7 +164,49 @@ fn push_registers(words: &mut Pcg32, count: u32, text: &mut Vec<u8>) -> Result<(
     Ok(())
 }
 
-/// A node: nothing, a move, a sum or a quotient, a load, a store, a call, a put, a branch, or a return.
+/// A sum, or sometimes a quotient.
+fn push_operator(words: &mut Pcg32, text: &mut Vec<u8>) -> Result<(), Fail> {
+    text.push(3)?;
+    text.push(if words.next_word() % 4 == 0 { 11 } else { 5 })?;
+    push_registers(words, 3, text)
+}
+
+fn push_load(words: &mut Pcg32, text: &mut Vec<u8>) -> Result<(), Fail> {
+    text.push(4)?;
+    push_registers(words, 1, text)?;
+    push_small(words, 2, text)?;
+    push_registers(words, 1, text)
+}
+
+fn push_store(words: &mut Pcg32, text: &mut Vec<u8>) -> Result<(), Fail> {
+    text.push(5)?;
+    push_small(words, 2, text)?;
+    push_registers(words, 2, text)
+}
+
+/// A call of function 0 with no arguments, whose result goes into a register.
+fn push_call(words: &mut Pcg32, text: &mut Vec<u8>) -> Result<(), Fail> {
+    text.push(6)?;
+    push_small(words, 1, text)?;
+    text.push(1)?;
+    push_registers(words, 1, text)
+}
+
+/// A put that keeps nothing, or a branch on a register to a node and to the one behind it.
+fn push_put_or_branch(words: &mut Pcg32, text: &mut Vec<u8>) -> Result<(), Fail> {
+    if words.next_word() % 2 == 0 {
+        text.push(7)?;
+        push_registers(words, 1, text)?;
+        text.push(0)?;
+        return Ok(());
+    }
+    text.push(8)?;
+    text.push(0)?;
+    push_registers(words, 1, text)?;
+    push_small(words, 12, text)
+}
+
+/// A node: nothing, a move, an operator, a load, a store, a call, a put, a branch, or a return.
 fn push_node(words: &mut Pcg32, text: &mut Vec<u8>) -> Result<(), Fail> {
     match words.next_word() % 16 {
         0 => text.push(0)?,
@@ -172,39 +214,11 @@ fn push_node(words: &mut Pcg32, text: &mut Vec<u8>) -> Result<(), Fail> {
             text.push(2)?;
             push_registers(words, 2, text)?;
         }
-        3 | 4 | 5 | 6 => {
-            text.push(3)?;
-            text.push(if words.next_word() % 4 == 0 { 11 } else { 5 })?;
-            push_registers(words, 3, text)?;
-        }
-        7 | 8 | 9 | 10 => {
-            text.push(4)?;
-            push_registers(words, 1, text)?;
-            push_small(words, 2, text)?;
-            push_registers(words, 1, text)?;
-        }
-        11 => {
-            text.push(5)?;
-            push_small(words, 2, text)?;
-            push_registers(words, 2, text)?;
-        }
-        12 => {
-            text.push(6)?;
-            push_small(words, 1, text)?;
-            text.push(1)?;
-            push_registers(words, 1, text)?;
-        }
-        13 => {
-            text.push(7)?;
-            push_registers(words, 1, text)?;
-            text.push(0)?;
-        }
-        14 => {
-            text.push(8)?;
-            text.push(0)?;
-            push_registers(words, 1, text)?;
-            push_small(words, 12, text)?;
-        }
+        3 | 4 | 5 | 6 => push_operator(words, text)?,
+        7 | 8 | 9 | 10 => push_load(words, text)?,
+        11 => push_store(words, text)?,
+        12 => push_call(words, text)?,
+        13 | 14 => push_put_or_branch(words, text)?,
         _ => {
             text.push(9)?;
             text.push(1)?;
