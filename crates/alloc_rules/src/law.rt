@@ -1,10 +1,15 @@
 //! That the rules' parts say what they are to say, each as the contract of a call that does nothing
 //! else.
 
-ghost use Rattle.std.specs.Prelude.{◌≡◌, ℕ, List, length, Option, Some, Bool, true, All, replicate};
+ghost use Rattle.std.specs.Prelude.{◌≡◌, ℕ, List, length, Option, Some, Bool, true, All, replicate, ◌≤◌, ◌^◌, ◌++◌, ◌↔◌};
+ghost use Rattle.std.specs.declared.cmp.Ordering.TheVariants.{Less};
+ghost use Rattle.std.specs.Ordering.{nat_cmp};
+ghost use Rattle.std.specs.Cmp.Lexicographic.{slice_cmp};
 ghost use Rattle.locations.specs.declared.location.Location.{Location};
 ghost use Rattle.locations.specs.declared.location.Move.{Move};
 ghost use Rattle.locations.specs.Fits.{LocationFits, MovesFit, ParametersFit};
+ghost use Rattle.locations.specs.Spelling.{location_text};
+ghost use Rattle.rtl_parts.specs.Spelling.{register_text};
 ghost use Rattle.rtl_parts.specs.declared.act.Act.{Act};
 ghost use Rattle.rtl_parts.specs.declared.test.Test.{Test};
 ghost use Rattle.rtl_parts.specs.Data as rtl_data;
@@ -22,7 +27,7 @@ ghost use Rattle.alloc_rules.specs.declared.change.Change as change;
 ghost use Rattle.alloc_rules.specs.declared.demand.Demand as demand;
 ghost use Rattle.alloc_rules.specs.Equations.{back, through, over_call};
 ghost use Rattle.alloc_rules.specs.Pairs.{act_change, act_uses, same_test, arguments_used};
-ghost use Rattle.alloc_rules.specs.Rules.{HoldsAtEntry};
+ghost use Rattle.alloc_rules.specs.Rules.{EquationFits, IsBefore, HoldsAtEntry};
 ghost use Rattle.alloc_rules.specs.Holding.{AllCover, Holds, DemandHolds, HasFrame};
 ghost use Rattle.alloc_rules.specs.Steps.{Changed, IsBack, IsDone};
 
@@ -64,4 +69,10 @@ pub fn entries_hold()
         (vs ws : List (Option ℕ)) → AllCover vs ws → length vs ≡ length ps →
         (d : rtl_data.Data) (e : Data) → d.registers ≡ rtl_frames.with_arguments ps vs (replicate registers None) → HasFrame slots e →
         (q : equation.Equation) → HoldsAtEntry ps ls q → Holds d (with_arguments ls ws e) q }
+{}
+
+/// The order of a list is that of its equations' written bytes.
+pub fn order_is_of_bytes()
+    ensures { (registers slots : ℕ) → registers ≤ 2 ^ 16 → slots ≤ 2 ^ 16 → (p q : equation.Equation) → EquationFits registers slots p → EquationFits registers slots q →
+        (IsBefore p q ↔ (slice_cmp nat_cmp (register_text p.register ++ location_text p.location) (register_text q.register ++ location_text q.location) ≡ Less)) }
 {}
