@@ -1,7 +1,10 @@
 //! Each second job is refused, however many threads there are.
 
-use crate::jobs::{SEVEN, SEVEN_TWICE, SQUARE, SQUARE_UNKNOWN, in_turn};
+use crate::jobs::{
+    LOADED_TWICE, SEVEN, SEVEN_TWICE, SQUARE, SQUARE_UNKNOWN, STORED_BETWEEN, in_turn,
+};
 use constprop_check::ConstProp;
+use cse_check::Cse;
 use lang::{NoMemory, Pass};
 use linearize_check::Linearize;
 use parallel_validate::{Job, OpenGate, check_all};
@@ -55,6 +58,18 @@ fn a_thousand_jobs_of_the_first_pass(rt: HostRuntime) -> Result<(), Fail> {
     for workers in 1..=8 {
         assert!(rt;
             answered_in_turn::<ConstProp, HostRuntime>(&rt, rt.alloc(), &jobs, workers)?,
+            "{workers} workers"
+        );
+    }
+    Ok(())
+}
+
+#[test]
+fn a_thousand_jobs_of_the_second_pass(rt: HostRuntime) -> Result<(), Fail> {
+    let jobs = in_turn::<Cse>(rt.alloc(), LOADED_TWICE, STORED_BETWEEN, 1000)?;
+    for workers in 1..=8 {
+        assert!(rt;
+            answered_in_turn::<Cse, HostRuntime>(&rt, rt.alloc(), &jobs, workers)?,
             "{workers} workers"
         );
     }
