@@ -1,5 +1,5 @@
 -- What the arms of the translation of statements add, where the last step may want for memory.
-use Rattle.std.proofs.Common.{◌≡◌, ℕ, suc, ◌+◌, ◌<◌, Bool, true, false, Result, List, [], ◌∷◌, ◌++◌, length, Option, Some, refl, sym, ap, subst, add-one, length-append, ◌∙◌, arith}
+use Rattle.std.proofs.Common.{◌≡◌, ℕ, suc, ◌+◌, ◌<◌, Bool, true, false, Result, List, [], ◌∷◌, ◌++◌, length, Option, Some, refl, sym, ap, subst, add-one, length-append, length-set, ◌∙◌, arith}
 use Rattle.std.specs.Prelude.{IfOk, slice_set}
 use Rattle.ints.specs.declared.conditions.Cond.TheVariants.{Nz}
 use Rattle.lang.specs.declared.errors.NoMemory.{NoMemory}
@@ -76,6 +76,7 @@ loop_added {body} {next} {head} {turn} {g} {h} {k} {l} o b written same = record
       ∙ loop_nodes body g.nodes.items h.nodes.items k.nodes.items head turn (o.nodes (b.had_room (sym same ∙ room))) (o.entry (b.had_room (sym same ∙ room))) (b.nodes (sym same ∙ room)) (b.entry (sym same ∙ room));
   entry = λ room. o.entry (b.had_room (sym same ∙ room));
   too_many = λ full room. over (sym same ∙ full) room h.is_full refl;
+  within = λ few. omega (arith, b.within (o.within few), ap length written, length-set k.nodes.items head (Do Nop turn));
 }
   where
     over : k.is_full ≡ true → g.is_full ≡ false → (c : Bool) → h.is_full ≡ c → node_limit < length g.nodes.items + suc (length (turn_of body (length g.nodes.items)).nodes)
