@@ -23,11 +23,12 @@ add_nothing {next} {g} = record {
   nodes = λ room. nil_behind g.nodes.items;
   entry = λ room. refl;
   too_many = λ full room. not_both g.is_full full room;
+  within = λ few. few;
 }
 
 -- a node that is known stands for one that may name where it goes on
 pub add_one : {node : ℕ → Instruction} {next : ℕ} {g h : Graph} {begins : ℕ} → Adds (one (λ n. node next)) 0 g h begins → Adds (one node) next g h begins
-add_one a = record { had_room = a.had_room; nodes = a.nodes; entry = a.entry; too_many = a.too_many }
+add_one a = record { had_room = a.had_room; nodes = a.nodes; entry = a.entry; too_many = a.too_many; within = a.within }
 
 -- where code adds a piece, the nodes are so many more
 pub more : {piece : Piece} {next : ℕ} {g h : Graph} {begins : ℕ} → Adds piece next g h begins → h.is_full ≡ false → length h.nodes.items ≡ length g.nodes.items + length (piece next (length g.nodes.items)).nodes
@@ -51,6 +52,7 @@ add_both {first} {second} {next} {g} {h} {k} {middle} {begins} s f = record {
   nodes = λ room. f.nodes room ∙ (λ i. s.nodes (f.had_room room) i ++ (same (f.had_room room) i).nodes) ∙ append_assoc g.nodes.items (made second next g).nodes (behind first (made second next g).entry g (made second next g)).nodes;
   entry = λ room. f.entry room ∙ ap (λ m. m.entry) (same (f.had_room room));
   too_many = λ full room. over full room h.is_full refl;
+  within = λ few. f.within (s.within few);
 }
   where
     same : h.is_full ≡ false → first middle (length h.nodes.items) ≡ (behind first (made second next g).entry g (made second next g))
@@ -85,6 +87,7 @@ add_either {taken} {other} {r} {next} {g} {h} {k} {l} {away} {there} {begins} o 
       b.entry room ∙ more t (b.had_room room)
       ∙ (λ i. more o (t.had_room (b.had_room room)) i + length (taken next (more o (t.had_room (b.had_room room)) i)).nodes);
   too_many = λ full room. over full room k.is_full refl h.is_full refl;
+  within = λ few. b.within (t.within (o.within few));
 }
   where
     same : h.is_full ≡ false → taken next (length h.nodes.items) ≡ (behind taken next g (made other next g))
