@@ -1,12 +1,12 @@
 #!/usr/bin/env python3
-"""Draws well-formed C programs that never go wrong, and writes them with what a C compiler says of them.
+"""Draws well-formed C programs that never go wrong, and writes them with what two C compilers say of them.
 
     bench/draw_programs.py COUNT SEED    prints so many rows of crates/worked_programs/data/drawn.txt
 
 A row: the bound, the program, its output and its closing line, with tabs between. A program has globals, arrays,
 functions that call those before them, loops with few turns, `break`, `continue`, `if` with and without `else`, all
-operators, and prints letters. One that the compiler's run-time checks refuse (signed overflow, a shift or a quotient
-that has no answer, an index past an array) or that runs for more than a second is drawn again.
+operators, and prints letters. One that the run-time checks of gcc or clang refuse (signed overflow, a shift or a
+quotient that has no answer, an index past an array) or that runs for more than a second is drawn again.
 """
 import os
 import random
@@ -16,6 +16,11 @@ import tempfile
 
 DRIVER = '#include <stdio.h>\nint program_main(void);\nint main(void) { int r = program_main(); fflush(stdout); fprintf(stderr, "%d", r); return 0; }\n'
 TYPES = ("int", "unsigned")
+# Both must tell the same: each leaves some faults untold that it finds while it compiles.
+COMPILERS = (
+    ("gcc", "-O0", "-fsanitize=undefined", "-fno-sanitize-recover=all"),
+    ("clang", "-O0", "-fsanitize=undefined", "-fsanitize-trap=undefined"),
+)
 
 
 class Drawn:
@@ -181,8 +186,12 @@ def answers(program, folder):
         file.write(front + "return 0; }" + end + "\n")
     with open(driver, "w") as file:
         file.write(DRIVER)
-    checks = ["-fsanitize=undefined,float-divide-by-zero", "-fno-sanitize-recover=all"]
-    subprocess.run(["gcc", "-std=c99", "-w", "-O0", *checks, source, driver, "-o", binary], check=True)
+    told = [ran([*compiler, "-std=c99", "-w", source, driver, "-o", binary], binary) for compiler in COMPILERS]
+    return told[0] if told[0] == told[1] else None
+
+
+def ran(command, binary):
+    subprocess.run(command, check=True)
     try:
         run = subprocess.run([binary], capture_output=True, timeout=1)
     except subprocess.TimeoutExpired:

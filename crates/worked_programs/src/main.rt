@@ -1,13 +1,15 @@
-//! Runs C texts with known answers through the commands `check` and `interpret`, and tells how many of each
-//! file agree, and which do not. `vectors.txt` was made by an independent reading of the language, the
+//! Runs C texts with known answers through the commands `check` and `interpret`, and those that end as programs of
+//! RTL too, and tells how many of each file agree, and which do not. `vectors.txt` was made by an independent reading of the language, the
 //! answers in `gcc.txt`, `examples.txt` and `drawn.txt`, whose programs were drawn by chance, are those of a C
 //! compiler, and `rows.txt` was written by hand.
 #![tactic(auto)]
 
 mod told;
+mod translated;
 
-use crate::told::told_of;
-use program_rows::{Form, row_of};
+use crate::told::{Told, told_of};
+use crate::translated::translated;
+use program_rows::{Form, Row, row_of};
 use std::alloc::{AllocError, Global};
 use std::{fs, io};
 
@@ -19,16 +21,29 @@ fn main(rt: HostRuntime) -> io::Result<()> {
     compare(&rt, "rows.txt", Form::Plain)
 }
 
-/// What is told of a line where it is not what the line says; a line that cannot be read differs.
+/// Whether what is told of a text is what its line says.
+fn is_told(told: &Told, row: &Row) -> bool {
+    told.output == row.output && told.closing == row.closing
+}
+
+/// What is told of a line where it is not what the line says; a line that cannot be read differs. Where the program
+/// ends, what its RTL program does is compared too.
 fn difference(alloc: Global, form: Form, line: &str) -> Result<Option<String>, AllocError> {
     let Some(row) = row_of(alloc, form, line) else {
         return Ok(Some(format!(in alloc; "not a row")?));
     };
     let told = told_of(alloc, row.text.as_slice(), row.depth)?;
-    if told.output == row.output && told.closing == row.closing {
+    if !is_told(&told, &row) {
+        return Ok(Some(told.closing));
+    }
+    if !row.closing.starts_with("ended") {
         return Ok(None);
     }
-    Ok(Some(told.closing))
+    let told = translated(alloc, row.text.as_slice())?;
+    if is_told(&told, &row) {
+        return Ok(None);
+    }
+    Ok(Some(format!(in alloc; "translated: {}", told.closing)?))
 }
 
 /// Tells how many lines of a file agree, and which do not.
