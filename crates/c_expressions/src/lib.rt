@@ -5,8 +5,6 @@
 mod measured;
 mod operators;
 mod reading;
-#[cfg(test)]
-mod tests;
 
 pub use c_expression_laws::{fault_is_due, one_tree, read_is_spelled, spelled_is_read};
 pub use reading::expression;

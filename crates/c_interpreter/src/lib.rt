@@ -11,6 +11,3 @@ mod running;
 mod starting;
 
 pub use running::run_program;
-
-#[cfg(test)]
-mod tests;

@@ -2,8 +2,6 @@
 #![tactic(auto)]
 
 mod lexer;
-#[cfg(test)]
-mod tests;
 
 pub use c_parts::LexError;
 pub use lexer::lex;

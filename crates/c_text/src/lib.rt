@@ -7,6 +7,3 @@ mod error;
 
 pub use accepting::accept;
 pub use error::TextError;
-
-#[cfg(test)]
-mod tests;

@@ -1,4 +1,3 @@
-pub mod Examples
 pub mod Stands
 pub mod Comes
 pub mod Grounds

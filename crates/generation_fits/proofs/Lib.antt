@@ -1,3 +1,4 @@
 pub mod Needs
 pub mod Nodes
 pub mod Functions
+pub mod Examples

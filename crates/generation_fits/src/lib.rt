@@ -1,5 +1,5 @@
 //! The RTL functions that Cminor functions in range are translated to are in range, unless they have
-//! too many nodes.
+//! too many nodes. `proofs/Examples` reads the translation on small functions.
 #![tactic(auto)]
 
 mod law;

@@ -10,20 +10,21 @@ use Rattle.lang.specs.Texts.{counted_text}
 use Rattle.lang.proofs.Forms.{IsForm}
 use Rattle.lang.proofs.Parts.{number16_form, number32_form, made_takes, made_again, made_form, tested_form, fits_form, both_form}
 use Rattle.lang.proofs.Lists.{counted_form, each_fits, fits_each, HasCode, TakesBehind, follow_form, coded_form, tagged_form}
-use Rattle.machine.specs.declared.location.Location.{Location}
-use Rattle.machine.specs.declared.act.Act.TheVariants.{Constant, Operate}
+use Rattle.locations.specs.declared.location.Location.{Location}
+use Rattle.machine.specs.declared.act.Act.{Act}
+use Rattle.machine.specs.declared.act.Act.TheVariants.{Constant, Operate, Load, Store, Put}
 use Rattle.machine.specs.declared.test.Test.{Test}
-use Rattle.machine.specs.Fits.{TestFits, AreDistinct}
-use Rattle.machine.specs.Spelling.{test_text, frame_text}
+use Rattle.machine.specs.Fits.{ActFits, TestFits, AreDistinct}
+use Rattle.machine.specs.Spelling.{act_code, act_body, test_text, frame_text}
 use Rattle.machine.specs.Reading.{asked, value, frame}
-use Rattle.machine.proofs.Distinct.{each_both, both_each, none_same, same_none, key_before, keys_of, IsNewKey, each_distinct, distinct_each}
-use Rattle.machine.proofs.Forms.{move_form, test_form, value_form, act_form, FrameFits, frame_form}
+use Rattle.locations.proofs.Distinct.{each_both, both_each, none_same, same_none, key_before, keys_of, IsNewKey, each_distinct, distinct_each}
+use Rattle.machine.proofs.Forms.{move_form, call_form, CallParts, test_form, value_form, act_form, FrameFits, frame_form}
 use Rattle.linear.specs.declared.instruction.Instruction.{Instruction}
-use Rattle.linear.specs.declared.instruction.Instruction.TheVariants.{Do, Copy, Branch, Return, Label, Goto}
+use Rattle.linear.specs.declared.instruction.Instruction.TheVariants.{Do, Copy, Call, Branch, Return, Label, Goto}
 use Rattle.linear.specs.Function.{FunctionData, InstructionFits, IsFunction}
 use Rattle.linear.specs.Labels.{label_of, label_before, labels_of}
 use Rattle.linear.specs.Spelling.{instruction_code, instruction_body, instruction_text, tag, spelling}
-use Rattle.linear.specs.Reading.{instructions, plain, instruction, is_new, placed, code, parts, function}
+use Rattle.linear.specs.Reading.{calling, instructions, plain, instruction, is_new, placed, code, parts, function}
 
 -- ---- an instruction
 
@@ -36,10 +37,22 @@ branch_parts = both_form asked test_text TestFits test_form (λ t. number w16) (
 plain_takes : (slots code : ℕ) → TakesBehind instruction_code instruction_body (InstructionFits slots) code (plain code)
 plain_takes slots code = made_takes (λ a. Do a) (act_form code) instruction_body (HasCode instruction_code instruction_body (InstructionFits slots) code) (λ a fits. (refl, fits))
 
+plain_again : (a : Act) (rest : List ℕ) → ActFits a → plain (act_code a) (act_body a ++ rest) ≡ Ok (Do a, rest)
+plain_again a rest fits = made_again (λ a. Do a) (act_form (act_code a)) a rest (fits, refl)
+
+calling_takes : (slots : ℕ) → slots ≤ 2 ^ 16 → TakesBehind instruction_code instruction_body (InstructionFits slots) 6 (calling slots)
+unfolding calling
+calling_takes slots few = made_takes (λ (p : CallParts). Call p.0 p.1.0 p.1.1) (call_form slots few) instruction_body (HasCode instruction_code instruction_body (InstructionFits slots) 6) (λ p fits. (refl, (fits, refl)))
+
 instruction_again : (slots : ℕ) → slots ≤ 2 ^ 16 → (i : Instruction) (rest : List ℕ) → InstructionFits slots i → follow (instructions slots) plain (instruction_code i) (instruction_body i ++ rest) ≡ Ok (i, rest)
-instruction_again slots few (Do (Constant target word)) rest fits = made_again (λ a. Do a) (act_form 1) (Constant target word) rest (fits, refl)
-instruction_again slots few (Do (Operate op target arguments)) rest fits = made_again (λ a. Do a) (act_form 3) (Operate op target arguments) rest (fits, refl)
+unfolding calling
+instruction_again slots few (Do (Constant target word)) rest fits = plain_again (Constant target word) rest fits
+instruction_again slots few (Do (Operate op target arguments)) rest fits = plain_again (Operate op target arguments) rest fits
+instruction_again slots few (Do (Load target global index)) rest fits = plain_again (Load target global index) rest fits
+instruction_again slots few (Do (Store global index source)) rest fits = plain_again (Store global index source) rest fits
+instruction_again slots few (Do (Put source target)) rest fits = plain_again (Put source target) rest fits
 instruction_again slots few (Copy step) rest fits = made_again (λ m. Copy m) (move_form slots few) step rest fits
+instruction_again slots few (Call function arguments target) rest fits = made_again (λ (p : CallParts). Call p.0 p.1.0 p.1.1) (call_form slots few) (function, (arguments, target)) rest fits
 instruction_again slots few (Branch test label) rest fits = made_again (λ (p : Test × ℕ). Branch p.0 p.1) branch_parts (test, label) rest fits
 instruction_again slots few (Return value) rest fits = made_again (λ v. Return v) value_form value rest fits
 instruction_again slots few (Label label) rest fits = made_again (λ l. Label l) number16_form label rest fits
@@ -53,12 +66,15 @@ instruction_form slots few =
     (follow_form instruction_code instruction_body (InstructionFits slots) (instructions slots) plain (
       made_takes (λ m. Copy m) (move_form slots few) instruction_body (at 2) (λ m fits. (refl, (fits, refl))),
       (
-        made_takes (λ (p : Test × ℕ). Branch p.0 p.1) branch_parts instruction_body (at 8) (λ p fits. (refl, (fits, refl))),
+        calling_takes slots few,
         (
-          made_takes (λ v. Return v) value_form instruction_body (at 9) (λ v fits. (refl, (fits, refl))),
+          made_takes (λ (p : Test × ℕ). Branch p.0 p.1) branch_parts instruction_body (at 8) (λ p fits. (refl, (fits, refl))),
           (
-            made_takes (λ l. Label l) number16_form instruction_body (at 10) (λ l fits. (refl, (fits, refl))),
-            (made_takes (λ l. Goto l) number16_form instruction_body (at 11) (λ l fits. (refl, (fits, refl))), tt),
+            made_takes (λ v. Return v) value_form instruction_body (at 9) (λ v fits. (refl, (fits, refl))),
+            (
+              made_takes (λ l. Label l) number16_form instruction_body (at 10) (λ l fits. (refl, (fits, refl))),
+              (made_takes (λ l. Goto l) number16_form instruction_body (at 11) (λ l fits. (refl, (fits, refl))), tt),
+            ),
           ),
         ),
       ),

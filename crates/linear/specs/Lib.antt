@@ -10,6 +10,7 @@ pub mod Growth
 pub use Rattle.machine.specs.Data
 pub use Rattle.machine.specs.Acts
 pub use Rattle.machine.specs.Frames
+pub use Rattle.machine.specs.Calls
 pub use Rattle.machine.specs.Fits
 pub use Rattle.lang.specs.Behaviour
 pub use Rattle.lang.specs.Programs

@@ -4,18 +4,23 @@ use Rattle.std.specs.Int.{w16, w32}
 use Rattle.std.specs.List.{list_any}
 use Rattle.lang.specs.declared.errors.FormError.TheVariants.{NotCanonical}
 use Rattle.lang.specs.Reading.{Reading, number, made, tested, both, counted, Table, follow, coded, tagged}
-use Rattle.machine.specs.declared.location.Location.{Location}
-use Rattle.machine.specs.Reading.{one_move, asked, value, act, frame}
+use Rattle.locations.specs.declared.location.Location.{Location}
+use Rattle.machine.specs.Reading.{one_move, call, asked, value, act, frame}
 use Rattle.linear.specs.declared.instruction.Instruction.{Instruction}
-use Rattle.linear.specs.declared.instruction.Instruction.TheVariants.{Do, Copy, Branch, Return, Label, Goto}
+use Rattle.linear.specs.declared.instruction.Instruction.TheVariants.{Do, Copy, Call, Branch, Return, Label, Goto}
 use Rattle.linear.specs.Function.{FunctionData}
 use Rattle.linear.specs.Labels.{label_of, labels_of}
 use Rattle.linear.specs.Spelling.{tag}
 
--- what follows the codes that only Linear has, among so many slots
+-- what a call names
+unfoldable pub calling : ℕ → Reading Instruction
+calling slots bytes = made (λ p. Call p.0 p.1.0 p.1.1) (call slots) bytes
+
+-- what follows the codes that are not those of plain instructions, among so many slots
 abbrev pub instructions : ℕ → Table Instruction
 instructions slots =
     (2, made (λ step. Copy step) (one_move slots)) ∷
+    (6, calling slots) ∷
     (8, made (λ p. Branch p.0 p.1) (both asked (λ t. number w16))) ∷
     (9, made (λ value. Return value) value) ∷
     (10, made (λ label. Label label) (number w16)) ∷

@@ -1,7 +1,8 @@
+use crate::copying::copy_function;
 use crate::function::Function;
 use crate::reading::read_function;
 use crate::writing::push_function;
-use lang::{FormError, Language, NoMemory, Row};
+use lang::{FormError, Language, NoMemory};
 use std::alloc::Global;
 
 /// Linear, the last language of the pipeline.
@@ -35,13 +36,7 @@ impl Language for Linear {
     }
 
     fn copy(alloc: Global, function: &Function) -> Result<Function, NoMemory> {
-        let parameters = function.parameters().as_slice().to_vec(alloc)?;
-        let code = function.code().as_slice().to_vec(alloc)?;
-        Ok(Function::new(
-            Row::from_vec(parameters),
-            function.slots(),
-            Row::from_vec(code),
-        ))
+        copy_function(alloc, function)
     }
 
     fn write(function: &Function, out: &mut Vec<u8>) -> Result<(), NoMemory> {

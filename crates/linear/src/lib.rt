@@ -2,6 +2,7 @@
 //! one spelling, and a program's run is counted in instructions, labels among them.
 #![tactic(auto)]
 
+mod copying;
 mod equal;
 mod function;
 mod instruction;

@@ -6,24 +6,37 @@ ghost use Rattle.lang.specs.Reading.{IsRead, Reads, items_of, more};
 ghost use Rattle.linear.specs.declared.instruction.Instruction.{Instruction};
 ghost use Rattle.linear.specs.Flags.{Flags};
 ghost use Rattle.linear.specs.Labels.{labels_of};
-ghost use Rattle.linear.specs.Reading.{instruction, placed, code, parts, function};
+ghost use Rattle.linear.specs.Reading.{instruction, calling, placed, code, parts, function};
 
 use crate::function::Function;
 use crate::instruction::Instruction;
 use crate::labels::{no_labels, note};
 use lang::{FormError, Row, read_byte, read_u16, read_u32};
-use machine::{Location, read_act, read_frame, read_move, read_test, read_value};
+use machine::{Location, read_act, read_call, read_frame, read_move, read_test, read_value};
 use std::alloc::Global;
+
+#[tactic(auto, unfolding(crate::specs::Reading::calling))]
+fn read_calling(alloc: Global, slots: u32, bytes: &mut &[u8]) -> Result<Instruction, FormError>
+    ensures { Reads (calling slots bytes.old.now) result bytes.new.now }
+{
+    let (function, (arguments, target)) = read_call(alloc, slots, bytes)?;
+    Ok(Instruction::Call {
+        function,
+        arguments,
+        target,
+    })
+}
 
 /// An instruction among so many slots.
 #[tactic(auto, unfolding(crate::specs::Reading::instruction))]
-fn read_instruction(slots: u32, bytes: &mut &[u8]) -> Result<Instruction, FormError>
-    ensures { IsRead (instruction slots bytes.old.now) result bytes.new.now }
+fn read_instruction(alloc: Global, slots: u32, bytes: &mut &[u8]) -> Result<Instruction, FormError>
+    ensures { Reads (instruction slots bytes.old.now) result bytes.new.now }
 {
     match read_byte(bytes)? {
         2 => Ok(Instruction::Copy {
             step: read_move(slots, bytes)?,
         }),
+        6 => read_calling(alloc, slots, bytes),
         8 => {
             let test = read_test(bytes)?;
             let label = read_u16(bytes)?;
@@ -47,15 +60,16 @@ fn read_instruction(slots: u32, bytes: &mut &[u8]) -> Result<Instruction, FormEr
 /// An instruction behind others, whose labels the flags say: no label that stands before.
 #[tactic(auto, unfolding(crate::specs::Reading::placed))]
 fn read_placed(
+    alloc: Global,
     slots: u32,
     flags: &mut Vec<bool>,
     bytes: &mut &[u8],
 ) -> Result<Instruction, FormError>
     requires { length flags.old.items ≡ 2 ^ 16 }
-    ensures read { (before : List Instruction) → Flags flags.old.items (labels_of before) → IsRead (placed slots before bytes.old.now) result bytes.new.now }
+    ensures read { (before : List Instruction) → Flags flags.old.items (labels_of before) → Reads (placed slots before bytes.old.now) result bytes.new.now }
     ensures flags { (before : List Instruction) → Flags flags.old.items (labels_of before) → IfOk result (λ i. Flags flags.new.items (labels_of (before ++ i ∷ []))) }
 {
-    let instruction = read_instruction(slots, bytes)?;
+    let instruction = read_instruction(alloc, slots, bytes)?;
     if note(flags, &instruction) {
         Ok(instruction)
     } else {
@@ -74,7 +88,7 @@ fn read_so_many(
     let mut code = Vec::new(alloc);
     let mut flags = no_labels(alloc)?;
     for _ in 0..count {
-        let instruction = read_placed(slots, &mut flags, bytes)?;
+        let instruction = read_placed(alloc, slots, &mut flags, bytes)?;
         code.push(instruction)?;
     }
     Ok(code)

@@ -1,15 +1,18 @@
 //! Writers of the parts of a function: each appends the text.
 
+ghost use Rattle.std.specs.Prelude.{All};
 ghost use Rattle.std.specs.List.{flat_map};
 ghost use Rattle.lang.specs.Texts.{Appends};
+ghost use Rattle.linear.specs.Function.{HasShortList};
 ghost use Rattle.linear.specs.Spelling.{instruction_text, spelling};
 
 use crate::function::Function;
 use crate::instruction::Instruction;
 use lang::{NoMemory, push_byte, push_u16, push_u32};
-use machine::{push_act, push_frame, push_move, push_test, push_value};
+use machine::{push_act, push_call, push_frame, push_move, push_test, push_value};
 
 fn push_instruction(out: &mut Vec<u8>, instruction: &Instruction) -> Result<(), NoMemory>
+    requires { HasShortList instruction.now }
     ensures { Appends result (instruction_text instruction.now) out.old.items out.new.items }
 {
     match instruction {
@@ -17,6 +20,14 @@ fn push_instruction(out: &mut Vec<u8>, instruction: &Instruction) -> Result<(), 
         Instruction::Copy { step } => {
             push_byte(out, 2)?;
             push_move(out, step)
+        }
+        Instruction::Call {
+            function,
+            arguments,
+            target,
+        } => {
+            push_byte(out, 6)?;
+            push_call(out, *function, arguments.as_slice(), target)
         }
         Instruction::Branch { test, label } => {
             push_byte(out, 8)?;
@@ -39,6 +50,7 @@ fn push_instruction(out: &mut Vec<u8>, instruction: &Instruction) -> Result<(), 
 }
 
 fn push_each(out: &mut Vec<u8>, code: &[Instruction]) -> Result<(), NoMemory>
+    requires { All HasShortList code.now }
     ensures { Appends result (flat_map instruction_text code.now) out.old.items out.new.items }
 {
     for instruction in code {

@@ -74,7 +74,7 @@ pub(crate) fn goes_to_marked(blocks: &[Block], node: u16, marked: &[bool]) -> bo
         return true;
     };
     match &block.body {
-        Body::Go { successor, .. } => is_marked(marked, *successor),
+        Body::Go { successor, .. } | Body::Call { successor, .. } => is_marked(marked, *successor),
         Body::Branch { taken, other, .. } => is_marked(marked, *taken) && is_marked(marked, *other),
         Body::Return { .. } => true,
     }

@@ -35,7 +35,7 @@ pub(crate) fn walk_along(
     let mut left = code;
     for (i, node) in order.iter().enumerate() {
         stretch.clear();
-        push_stretch(&mut stretch, *node, blocks, &order[i + 1..])?;
+        push_stretch(alloc, &mut stretch, *node, blocks, &order[i + 1..])?;
         if !begins_with(left, stretch.as_slice()) {
             misplaced = lesser(misplaced, Some(*node));
         }

@@ -3,7 +3,7 @@
 use Rattle.std.proofs.Common.{◌≡◌, ◌≢◌, ℕ, zero, suc, ◌+◌, ◌*◌, ◌<◌, ◌≤◌, ◌^◌, List, [], ◌∷◌, length, get_or, Option, Some, None, Bool, true, false, cond, refl, sym, ap, subst, ◌∙◌, arith}
 use Rattle.std.specs.Prelude.{slice_get}
 use Rattle.std.specs.List.{AllByRecursion}
-use Rattle.machine.specs.declared.location.Move.{Move}
+use Rattle.locations.specs.declared.location.Move.{Move}
 use Rattle.machine.specs.declared.act.Act.{Act}
 use Rattle.machine.specs.Fits.{MoveFits, AreDistinct}
 use Rattle.ltl.specs.declared.block.Block.{Block}
@@ -37,6 +37,8 @@ module _ (slots nodes : ℕ) (few : nodes ≤ 65535) where
   body_code_fits : (b : Body) (behind : List ℕ) (rest : List Instruction) → ltl.BodyFits slots nodes b → Fit rest → Fit (body_code b behind rest)
   body_code_fits (body.Go act after s) behind rest fits h =
       act_code_fits act _ fits.0 (copies_fit after _ fits.1.each (jump_when_fits (is_next s behind) s rest fits.2 h))
+  body_code_fits (body.Call function arguments target after s) behind rest fits h =
+      (fits.0, copies_fit after _ fits.1.each (jump_when_fits (is_next s behind) s rest fits.2 h))
   body_code_fits (body.Branch test taken other) behind rest fits h =
       let below : taken < 2 ^ 16 = omega (arith, fits.1) in
       ((fits.0, below), jump_when_fits (is_next other behind) other rest fits.2 h)
@@ -78,6 +80,11 @@ body_code_long slots nodes (body.Go act after s) behind rest fits =
     let three = jump_when_long (is_next s behind) s rest in
     let few = fits.1.few in
     omega arith
+body_code_long slots nodes (body.Call function arguments target after s) behind rest fits =
+    let one = length-copies after (jump s behind rest) in
+    let two = jump_when_long (is_next s behind) s rest in
+    let few = fits.1.few in
+    omega arith
 body_code_long slots nodes (body.Branch test taken other) behind rest fits =
     let one = jump_when_long (is_next other behind) other rest in omega arith
 body_code_long slots nodes (body.Return value) behind rest fits = omega arith
@@ -114,6 +121,8 @@ labels-act_code (Some act) rest = refl
 labels-body_code : (b : Body) (behind : List ℕ) (rest : List Instruction) → labels_of (body_code b behind rest) ≡ labels_of rest
 labels-body_code (body.Go act after s) behind rest =
     labels-act_code act (copies after (jump s behind rest)) ∙ labels-copies after (jump s behind rest) ∙ labels-jump_when (is_next s behind) s rest
+labels-body_code (body.Call function arguments target after s) behind rest =
+    labels-copies after (jump s behind rest) ∙ labels-jump_when (is_next s behind) s rest
 labels-body_code (body.Branch test taken other) behind rest = labels-jump_when (is_next other behind) other rest
 labels-body_code (body.Return value) behind rest = refl
 

@@ -50,6 +50,8 @@ unmarked-set (false ∷ ms) (suc n) e = omega (arith, unmarked-set ms n e)
 successors_within : (slots nodes : ℕ) (b : Body) → BodyFits slots nodes b → (n : ℕ) → Contains (successors b) n → n < nodes
 successors_within slots nodes (body.Go act after s) fits n (zero, below, e) = subst (λ m. m < nodes) e fits.2
 successors_within slots nodes (body.Go act after s) fits n (suc k, below, e) = absurd (omega arith)
+successors_within slots nodes (body.Call function arguments target after s) fits n (zero, below, e) = subst (λ m. m < nodes) e fits.2
+successors_within slots nodes (body.Call function arguments target after s) fits n (suc k, below, e) = absurd (omega arith)
 successors_within slots nodes (body.Branch test taken other) fits n (zero, below, e) = subst (λ m. m < nodes) e fits.1
 successors_within slots nodes (body.Branch test taken other) fits n (suc zero, below, e) = subst (λ m. m < nodes) e fits.2
 successors_within slots nodes (body.Branch test taken other) fits n (suc (suc k), below, e) = absurd (omega arith)
@@ -160,6 +162,7 @@ successors_few (Some b) = few b.body
   where
     few : (b : Body) → length (successors b) ≤ 2
     few (body.Go act after s) = omega arith
+    few (body.Call function arguments target after s) = omega arith
     few (body.Branch test taken other) = omega arith
     few (body.Return value) = omega arith
 

@@ -2,13 +2,14 @@
 use Rattle.std.proofs.Common.{◌≡◌, ℕ, ◌+◌, ◌<◌, get_or, take, length, List, [], ◌∷◌, ◌++◌, Option, Some, None, Bool, true, false, cond, refl, sym, ap, ◌∙◌, append_assoc, append-nil}
 use Rattle.std.specs.Prelude.{slice_get}
 use Rattle.std.proofs.lemmas.List.{take_more}
-use Rattle.machine.specs.declared.location.Move.{Move}
+use Rattle.locations.specs.declared.location.Location.{Location}
+use Rattle.locations.specs.declared.location.Move.{Move}
 use Rattle.machine.specs.declared.act.Act.{Act}
 use Rattle.ltl.specs.declared.block.Block.{Block}
 use Rattle.ltl.specs.declared.block.Body.{Body}
 use Rattle.ltl.specs.declared.block.Body.TheVariants as body
 use Rattle.linear.specs.declared.instruction.Instruction.{Instruction}
-use Rattle.linear.specs.declared.instruction.Instruction.TheVariants.{Copy, Branch, Label, Goto}
+use Rattle.linear.specs.declared.instruction.Instruction.TheVariants.{Copy, Call, Branch, Label, Goto}
 use Rattle.linearize_sound.specs.Layout.{copies, act_code, is_next, jump, body_code, stretch, order_code}
 
 pub copies-append : (ms : List Move) (rest : List Instruction) → copies ms rest ≡ copies ms [] ++ rest
@@ -26,22 +27,21 @@ jump_when false s rest = refl
 pub jump-append : (s : ℕ) (behind : List ℕ) (rest : List Instruction) → jump s behind rest ≡ jump s behind [] ++ rest
 jump-append s behind rest = jump_when (is_next s behind) s rest
 
--- a body that goes on, in its three parts
-pub go-parts : (act : Option Act) (after : List Move) (s : ℕ) (behind : List ℕ) (rest : List Instruction) → act_code act (copies after (jump s behind rest)) ≡ act_code act [] ++ (copies after [] ++ (jump s behind [] ++ rest))
-go-parts act after s behind rest =
-    act_code-append act (copies after (jump s behind rest))
-    ∙ ap (λ is. act_code act [] ++ is) (copies-append after (jump s behind rest) ∙ ap (λ is. copies after [] ++ is) (jump-append s behind rest))
+-- the moves behind an instruction, and the jump
+tail-append : (after : List Move) (s : ℕ) (behind : List ℕ) (rest : List Instruction) → copies after (jump s behind rest) ≡ copies after (jump s behind []) ++ rest
+tail-append after s behind rest =
+    copies-append after (jump s behind rest)
+    ∙ ap (λ is. copies after [] ++ is) (jump-append s behind rest)
+    ∙ sym (append_assoc (copies after []) (jump s behind []) rest)
+    ∙ ap (λ is. is ++ rest) (sym (copies-append after (jump s behind [])))
 
 pub body_code-append : (b : Body) (behind : List ℕ) (rest : List Instruction) → body_code b behind rest ≡ body_code b behind [] ++ rest
 body_code-append (body.Go act after s) behind rest =
-    go-parts act after s behind rest
-    ∙ ap (λ is. act_code act [] ++ is) (sym (append_assoc (copies after []) (jump s behind []) rest))
-    ∙ sym (append_assoc (act_code act []) (copies after [] ++ jump s behind []) rest)
-    ∙ ap (λ is. is ++ rest) (ap (λ is. act_code act [] ++ is) (ap (λ is. copies after [] ++ is) (append_nil_of (jump s behind []))) ∙ sym (go-parts act after s behind []))
-  where
-    append_nil_of : (is : List Instruction) → is ≡ is ++ []
-    append_nil_of [] = refl
-    append_nil_of (i ∷ is) = ap (λ js. i ∷ js) (append_nil_of is)
+    act_code-append act (copies after (jump s behind rest))
+    ∙ ap (λ is. act_code act [] ++ is) (tail-append after s behind rest)
+    ∙ sym (append_assoc (act_code act []) (copies after (jump s behind [])) rest)
+    ∙ ap (λ is. is ++ rest) (sym (act_code-append act (copies after (jump s behind []))))
+body_code-append (body.Call function arguments target after s) behind rest = ap (λ is. Call function arguments target ∷ is) (tail-append after s behind rest)
 body_code-append (body.Branch test taken other) behind rest = ap (λ is. Branch test taken ∷ is) (jump-append other behind rest)
 body_code-append (body.Return value) behind rest = refl
 
@@ -73,6 +73,13 @@ go_code was now moved jumped act after s behind e1 e2 e3 =
     ∙ append_assoc (was ++ act_code act []) (copies after []) (jump s behind [])
     ∙ append_assoc was (act_code act []) (copies after [] ++ jump s behind [])
     ∙ ap (λ is. was ++ is) (sym (act_code-append act (copies after (jump s behind [])) ∙ ap (λ is. act_code act [] ++ is) (copies-append after (jump s behind []))))
+
+pub call_code : (was called moved jumped : List Instruction) (function : ℕ) (arguments : List Location) (target : Option Location) (after : List Move) (s : ℕ) (behind : List ℕ) → called ≡ was ++ Call function arguments target ∷ [] → moved ≡ called ++ copies after [] → jumped ≡ moved ++ jump s behind [] → jumped ≡ was ++ body_code (body.Call function arguments target after s) behind []
+call_code was called moved jumped function arguments target after s behind e1 e2 e3 =
+    e3 ∙ ap (λ is. is ++ jump s behind []) (e2 ∙ ap (λ is. is ++ copies after []) e1)
+    ∙ append_assoc (was ++ Call function arguments target ∷ []) (copies after []) (jump s behind [])
+    ∙ append_assoc was (Call function arguments target ∷ []) (copies after [] ++ jump s behind [])
+    ∙ ap (λ is. was ++ Call function arguments target ∷ is) (sym (copies-append after (jump s behind [])))
 
 pub stretch_parts : (was labelled moved whole : List Instruction) (n : ℕ) (b : Block) (behind : List ℕ) (o : Option Block) → Some b ≡ o → labelled ≡ was ++ Label n ∷ [] → moved ≡ labelled ++ copies b.before [] → whole ≡ moved ++ body_code b.body behind [] → whole ≡ was ++ stretch n o behind []
 stretch_parts was labelled moved whole n b behind o is e1 e2 e3 =

@@ -17,7 +17,7 @@ pub fn lay_out(alloc: Global, blocks: &[Block], order: &[u16]) -> Result<Vec<Ins
     let mut code = Vec::new(alloc);
     let mut rest = order;
     while let Some((node, behind)) = rest.split_first() {
-        push_stretch(&mut code, *node, blocks, behind)?;
+        push_stretch(alloc, &mut code, *node, blocks, behind)?;
         rest = behind;
     }
     Ok(code)
@@ -33,6 +33,7 @@ pub fn block_at(blocks: &[Block], node: u16) -> Option<&Block>
 /// Adds the node's stretch, where these nodes are listed behind it. A refusal may leave a part of it.
 #[tactic(auto, using(crate::proofs::Stretches::stretch_none))]
 pub fn push_stretch(
+    alloc: Global,
     code: &mut Vec<Instruction>,
     node: u16,
     blocks: &[Block],
@@ -44,13 +45,18 @@ pub fn push_stretch(
     if let Some(block) = block_at(blocks, node) {
         code.push(Instruction::Label { label: node })?;
         push_copies(code, block.before.as_slice())?;
-        push_body(code, &block.body, behind)?;
+        push_body(alloc, code, &block.body, behind)?;
     }
     Ok(())
 }
 
-#[tactic(auto, using(crate::proofs::Stretches::go_code))]
-fn push_body(code: &mut Vec<Instruction>, body: &Body, behind: &[u16]) -> Result<(), NoMemory>
+#[tactic(auto, using(crate::proofs::Stretches::go_code, crate::proofs::Stretches::call_code))]
+fn push_body(
+    alloc: Global,
+    code: &mut Vec<Instruction>,
+    body: &Body,
+    behind: &[u16],
+) -> Result<(), NoMemory>
     ensures { OnOk result (code.new.items ≡ code.old.items ++ body_code body.now behind.now []) }
 {
     match body {
@@ -60,6 +66,21 @@ fn push_body(code: &mut Vec<Instruction>, body: &Body, behind: &[u16]) -> Result
             successor,
         } => {
             push_act(code, act)?;
+            push_copies(code, after.as_slice())?;
+            push_jump(code, *successor, behind)
+        }
+        Body::Call {
+            function,
+            arguments,
+            target,
+            after,
+            successor,
+        } => {
+            code.push(Instruction::Call {
+                function: *function,
+                arguments: arguments.copied(alloc)?,
+                target: *target,
+            })?;
             push_copies(code, after.as_slice())?;
             push_jump(code, *successor, behind)
         }

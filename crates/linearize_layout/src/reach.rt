@@ -49,7 +49,7 @@ fn push_successors(pending: &mut Vec<u16>, body: &Body) -> Result<(), NoMemory>
     ensures { OnOk result (pending.new.items ≡ pending.old.items ++ successors body.now) }
 {
     match body {
-        Body::Go { successor, .. } => pending.push(*successor)?,
+        Body::Go { successor, .. } | Body::Call { successor, .. } => pending.push(*successor)?,
         Body::Branch { taken, other, .. } => {
             pending.push(*taken)?;
             pending.push(*other)?;

@@ -5,13 +5,13 @@ use Rattle.std.specs.Option.{option_map}
 use Rattle.std.proofs.lemmas.List.{drop-drop}
 use Rattle.std.proofs.lemmas.Bool.{eq-eqb}
 use Rattle.std.proofs.lemmas.Bool.Decides.{eqb_tells}
-use Rattle.machine.specs.declared.location.Move.{Move}
+use Rattle.locations.specs.declared.location.Move.{Move}
 use Rattle.machine.specs.declared.act.Act.{Act}
 use Rattle.ltl.specs.declared.block.Block.{Block}
 use Rattle.ltl.specs.declared.block.Body.{Body}
 use Rattle.ltl.specs.declared.block.Body.TheVariants as body
 use Rattle.linear.specs.declared.instruction.Instruction.{Instruction}
-use Rattle.linear.specs.declared.instruction.Instruction.TheVariants.{Do, Copy, Branch, Return, Label, Goto}
+use Rattle.linear.specs.declared.instruction.Instruction.TheVariants.{Do, Copy, Call, Branch, Return, Label, Goto}
 use Rattle.linear.specs.Labels.{label_of, is_label, place_of}
 use Rattle.linearize_sound.specs.Layout.{copies, act_code, is_next, body_code, stretch, order_code}
 
@@ -61,6 +61,8 @@ finds-jump_when label s false code rest h = finds-behind label (Goto s) code res
 finds-body_code : (label : ℕ) (body : Body) (behind : List ℕ) (code rest : List Instruction) → Finds label code rest → Finds label (body_code body behind code) rest
 finds-body_code label (body.Go act after successor) behind code rest h =
     finds-act_code label act _ rest (finds-copies label after _ rest (finds-jump_when label successor (is_next successor behind) code rest h))
+finds-body_code label (body.Call function arguments target after successor) behind code rest h =
+    finds-behind label (Call function arguments target) _ rest refl (finds-copies label after _ rest (finds-jump_when label successor (is_next successor behind) code rest h))
 finds-body_code label (body.Branch test taken other) behind code rest h =
     finds-behind label (Branch test taken) _ rest refl (finds-jump_when label other (is_next other behind) code rest h)
 finds-body_code label (body.Return value) behind code rest h = finds-behind label (Return value) code rest refl h

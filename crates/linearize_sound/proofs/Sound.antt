@@ -1,6 +1,6 @@
 -- What the pass accepts keeps the meaning of whole programs.
-use Rattle.std.proofs.Common.{◌≡◌, ℕ, zero, suc, List, [], ◌∷◌, length, Option, Some, None, cond, ◌&&◌, refl, sym, ap, ◌∙◌, subst, arith}
-use Rattle.std.specs.Prelude.{slice_get, Contains, ◌==◌, codes}
+use Rattle.std.proofs.Common.{◌≡◌, ℕ, zero, suc, List, [], ◌∷◌, length, Option, Some, None, cond, ◌&&◌, refl, sym, ap, ◌∙◌, subst}
+use Rattle.std.specs.Prelude.{slice_get, ◌==◌, codes}
 use Rattle.std.specs.Str.{bytes_eq}
 use Rattle.lang.specs.Keeps.{Keeps}
 use Rattle.lang.specs.Machine.{showing, shows, Leads, Matches}
@@ -16,17 +16,17 @@ use Rattle.linear.specs.Meaning as code
 use Rattle.linear.specs.Growth as growth
 use Rattle.linearize_sound.specs.Layout.{order_code}
 use Rattle.linearize_sound.specs.Rules.{IsLaidOut}
-use Rattle.linearize_sound.specs.Related.{Pair, Related}
-use Rattle.linearize_sound.proofs.Steps.{block_goes, block_ends}
+use Rattle.linearize_sound.specs.Related.{Pair, HasPairs, Related}
+use Rattle.linearize_sound.proofs.Steps.{first_listed, block_goes, block_ends}
 
 -- each step of the program is matched by its stretch of the code
-matched : (sources : List (NamedFunction ltl.FunctionData)) (targets : List (NamedFunction linear.FunctionData)) → Matches (blocks.next sources) printed (code.next targets) printed (Related sources targets)
-matched sources targets = record {
+matched : (sources : List (NamedFunction ltl.FunctionData)) (targets : List (NamedFunction linear.FunctionData)) → HasPairs sources targets → Matches (blocks.next sources) printed (code.next targets) printed (Related sources targets)
+matched sources targets pairs = record {
   goes = λ s s' t r goes.
-      let m = block_goes sources targets s r.pair t.callers r.callers r.listed r.behind t.place r.stands s' goes in
+      let m = block_goes sources targets pairs s r.pair t.callers r.callers r.listed r.behind t.place r.stands s' goes in
       subst (λ x. (t' : State) × Related sources targets s' t' × Leads (code.next targets) printed x t') (sym r.same) m;
   ends = λ s t result r ends.
-      let m = block_ends sources targets s r.pair t.callers r.callers r.listed r.behind t.place r.stands result ends in
+      let m = block_ends sources targets pairs s r.pair t.callers r.callers r.listed r.behind t.place r.stands result ends in
       subst (λ x. (j : ℕ) × (shows (code.next targets) printed j x ≡ record { shown = shown.Ended result; output = printed s })) (sym r.same) m;
   same = λ s t r. ap printed (sym r.same);
 }
@@ -56,16 +56,9 @@ main_number_same (f ∷ fs) (g ∷ gs) accepted =
     ∙ ap (λ b. cond (bytes_eq g.name (codes "main") && b) 0 (suc (main_number blocks.takes_none fs))) takes
     ∙ ap (λ n. cond (bytes_eq g.name (codes "main") && code.takes_none g.function) 0 (suc n)) (main_number_same fs gs accepted.1)
 
--- the first of an order
-first_listed : (order : List ℕ) (n : ℕ) → slice_get order 0 ≡ Some n → Contains order n × ((behind : List ℕ) × (order ≡ n ∷ behind))
-first_listed [] n e = cc
-first_listed (m ∷ ms) n e =
-    let same : m ≡ n = cc in
-    ((0, omega arith, same), (ms, ap (λ k. k ∷ ms) same))
-
 -- where main is, both programs start at its entry
-main_starts : (globals : List GlobalData) (fs : List (NamedFunction ltl.FunctionData)) (gs : List (NamedFunction linear.FunctionData)) (number : ℕ) (p : Pair fs gs number) → Keeps (λ n. shows (blocks.next fs) printed n (begins globals number p.source.function.entry p.source.function.slots)) (λ n. shows (code.next gs) printed n (begins globals number 0 (code.slots_of (slice_get gs number))))
-main_starts globals fs gs number p =
+main_starts : (globals : List GlobalData) (fs : List (NamedFunction ltl.FunctionData)) (gs : List (NamedFunction linear.FunctionData)) (number : ℕ) (p : Pair fs gs number) → HasPairs fs gs → Keeps (λ n. shows (blocks.next fs) printed n (begins globals number p.source.function.entry p.source.function.slots)) (λ n. shows (code.next gs) printed n (begins globals number 0 (code.slots_of (slice_get gs number))))
+main_starts globals fs gs number p pairs =
     let first = first_listed p.order p.source.function.entry p.laid_out.allowed.lists.entry in
     let slots : code.slots_of (slice_get gs number) ≡ p.source.function.slots = ap code.slots_of p.is_target ∙ p.laid_out.frame.slots in
     let s : State = begins globals number p.source.function.entry p.source.function.slots in
@@ -79,14 +72,14 @@ main_starts globals fs gs number p =
       same = ap (begins globals number 0) slots;
       callers = tt;
     } in
-    keeps-matches (blocks.next fs) printed (code.next gs) printed (Related fs gs) (matched fs gs) (growth.grows gs) s t related
+    keeps-matches (blocks.next fs) printed (code.next gs) printed (Related fs gs) (matched fs gs pairs) (growth.grows gs) s t related
 
 starts : (globals : List GlobalData) (fs : List (NamedFunction ltl.FunctionData)) (gs : List (NamedFunction linear.FunctionData)) (number : ℕ) → AcceptedInTurn IsLaidOut fs gs → (o : Option (NamedFunction ltl.FunctionData)) → slice_get fs number ≡ o → Keeps (λ n. shows (blocks.next fs) printed n (begins globals number (blocks.entry_of o) (blocks.slots_of o))) (λ n. shows (code.next gs) printed n (begins globals number 0 (code.slots_of (slice_get gs number))))
 starts globals fs gs number accepted None e =
-    λ never. absurd (never 1 (ap (λ x. (showing (blocks.function_step (begins globals number 0 0) x) (shows (blocks.next fs) printed 0) []).shown) e))
+    λ never. absurd (never 1 (ap (λ x. (showing (blocks.function_step fs (begins globals number 0 0) x) (shows (blocks.next fs) printed 0) []).shown) e))
 starts globals fs gs number accepted (Some f) e =
     let found = pair_of fs gs accepted number f e in
-    subst (λ x. Keeps (λ n. shows (blocks.next fs) printed n (begins globals number x.function.entry x.function.slots)) (λ n. shows (code.next gs) printed n (begins globals number 0 (code.slots_of (slice_get gs number))))) found.1 (main_starts globals fs gs number found.0)
+    subst (λ x. Keeps (λ n. shows (blocks.next fs) printed n (begins globals number x.function.entry x.function.slots)) (λ n. shows (code.next gs) printed n (begins globals number 0 (code.slots_of (slice_get gs number))))) found.1 (main_starts globals fs gs number found.0 (pair_of fs gs accepted))
 
 pub sound : (p : ProgramOf ltl.FunctionData) (q : ProgramOf linear.FunctionData) → Accepted IsLaidOut p q → Keeps (blocks.run p) (code.run q)
 sound p q accepted =

@@ -1,17 +1,19 @@
 -- Single steps: what each block does, its stretch of the code does.
 use Rattle.std.proofs.Common.{◌≡◌, ℕ, suc, ◌+◌, ◌<◌, ◌≤◌, List, [], ◌∷◌, length, get_or, Option, Some, None, Bool, true, false, cond, drop, refl, sym, ap, ◌∙◌, subst, arith}
-use Rattle.std.specs.Prelude.{slice_get, Contains, All}
+use Rattle.std.specs.Prelude.{◌==◌, slice_get, Contains, All}
 use Rattle.std.specs.Option.{option_map}
 use Rattle.std.proofs.lemmas.Bool.{eqb-true}
-use Rattle.lang.specs.Machine.{Goes, Ends, showing, shows, Leads}
+use Rattle.lang.specs.Machine.{Goes, Ends, Fails, showing, shows, Leads}
 use Rattle.lang.specs.Programs.{NamedFunction}
 use Rattle.lang.specs.declared.shown.Shown.TheVariants as shown
-use Rattle.machine.specs.declared.location.Move.{Move}
+use Rattle.locations.specs.declared.location.Location.{Location}
+use Rattle.locations.specs.declared.location.Move.{Move}
 use Rattle.machine.specs.declared.act.Act.{Act}
 use Rattle.machine.specs.declared.test.Test.{Test}
 use Rattle.machine.specs.Data.{Data, moved, all_moved}
 use Rattle.machine.specs.Acts.{holds}
 use Rattle.machine.specs.Frames.{Frame, State, printed, goes_to, returned, comes_back, resumed}
+use Rattle.machine.specs.Calls.{Callee, values_of, waiting, begun, calls}
 use Rattle.machine.proofs.Outputs.{output-all_moved}
 use Rattle.ltl.specs.declared.block.Block.{Block}
 use Rattle.ltl.specs.declared.block.Body.{Body}
@@ -19,14 +21,14 @@ use Rattle.ltl.specs.declared.block.Body.TheVariants as body
 use Rattle.ltl.specs.Function as ltl
 use Rattle.ltl.specs.Meaning as blocks
 use Rattle.linear.specs.declared.instruction.Instruction.{Instruction}
-use Rattle.linear.specs.declared.instruction.Instruction.TheVariants.{Do, Copy, Branch, Return, Label, Goto}
+use Rattle.linear.specs.declared.instruction.Instruction.TheVariants.{Do, Copy, Call, Branch, Return, Label, Goto}
 use Rattle.linear.specs.Function as linear
 use Rattle.linear.specs.Labels.{place_of}
 use Rattle.linear.specs.Meaning as code
 use Rattle.linearize_sound.specs.Layout.{copies, act_code, is_next, jump, body_code, stretch, order_code, successors, successors_of}
 use Rattle.linearize_sound.specs.Rules.{IsLaidOut}
 use Rattle.linearize_sound.proofs.Places.{slice_get-some, slice_get-drop, drop-behind, AreBlocks, finds-order}
-use Rattle.linearize_sound.specs.Related.{Pair, FramesRelated, Related}
+use Rattle.linearize_sound.specs.Related.{Pair, HasPairs, FrameRelated, FramesRelated, Related}
 
 -- no step, or more, lead from s to t
 pub record Comes (targets : List (NamedFunction linear.FunctionData)) (s t : State) : Type 0 where
@@ -43,7 +45,27 @@ blocks_of_order f g order laid = record {
   block = λ n h. slice_get-some f.blocks n (subst (λ m. m < length f.blocks) h.2 (laid.allowed.lists.nodes h.0 n h.1));
 }
 
-module _ (sources : List (NamedFunction ltl.FunctionData)) (targets : List (NamedFunction linear.FunctionData)) where
+-- the first of an order
+pub first_listed : (order : List ℕ) (n : ℕ) → slice_get order 0 ≡ Some n → Contains order n × ((behind : List ℕ) × (order ≡ n ∷ behind))
+first_listed [] n e = cc
+first_listed (m ∷ ms) n e =
+    let same : m ≡ n = cc in
+    ((0, omega arith, same), (ms, ap (λ k. k ∷ ms) same))
+
+-- a call begins where as many arguments are passed as there are parameters
+begins_where : (b : Bool) (t s' : State) → cond b (Goes t) Fails ≡ Goes s' → (b ≡ true) × (t ≡ s')
+begins_where true t s' e = (refl, cc)
+begins_where false t s' e = cc
+
+call_never_ends : {A : Type 0} (s : State) (d : Data) (number : ℕ) (values : List (Option ℕ)) (caller : Frame) (callee : Option Callee) (result : ℕ) → calls s d number values caller callee ≡ Ends result → A
+call_never_ends s d number values caller None result e = cc
+call_never_ends {A} s d number values caller (Some callee) result e = at (length values == length callee.parameters) e
+  where
+    at : (b : Bool) → cond b (Goes (begun s d number callee values caller)) Fails ≡ Ends result → A
+    at true e = cc
+    at false e = cc
+
+module _ (sources : List (NamedFunction ltl.FunctionData)) (targets : List (NamedFunction linear.FunctionData)) (pairs : HasPairs sources targets) where
   comes_none : (s : State) → Comes targets s s
   comes_none s = record { by = λ k. (k, omega arith, refl) }
 
@@ -72,11 +94,11 @@ module _ (sources : List (NamedFunction ltl.FunctionData)) (targets : List (Name
     the_blocks = p.source.function.blocks
 
     -- the step of the instruction that stands at the place
-    step_at : (t : State) (i : Instruction) (rest : List Instruction) → t.function ≡ number → drop t.place the_code ≡ i ∷ rest → code.next targets t ≡ code.instruction_step the_code t (Some i)
+    step_at : (t : State) (i : Instruction) (rest : List Instruction) → t.function ≡ number → drop t.place the_code ≡ i ∷ rest → code.next targets t ≡ code.instruction_step targets the_code t (Some i)
     step_at t i rest same e =
-        ap (λ n. code.function_step t (slice_get targets n)) same
-        ∙ ap (code.function_step t) p.is_target
-        ∙ ap (code.instruction_step the_code t) (slice_get-drop the_code t.place i rest e)
+        ap (λ n. code.function_step targets t (slice_get targets n)) same
+        ∙ ap (code.function_step targets t) p.is_target
+        ∙ ap (code.instruction_step targets the_code t) (slice_get-drop the_code t.place i rest e)
 
     -- the moves are done one after the other
     copies_run : (ms : List Move) (rest : List Instruction) (t : State) → t.function ≡ number → drop t.place the_code ≡ copies ms rest → (place : ℕ) × (drop place the_code ≡ rest) × Comes targets t (record t { place = place; here = all_moved ms t.here })
@@ -185,9 +207,47 @@ module _ (sources : List (NamedFunction ltl.FunctionData)) (targets : List (Name
         let is : record s { place = other; here = d } ≡ s' = cc in
         subst (λ x. Matched x (at place d)) is (tail.0, tail.1, comes_step (at place d) (at (place + 1) d) tail.0 step tail.2)
 
-    body_goes : (b : Body) → All (Contains p.order) (successors b) → (behind : List ℕ) (d : Data) (place : ℕ) (s' : State) → blocks.body_step s d b ≡ Goes s' → drop place (the_code p) ≡ body_code b behind (order_code (the_blocks p) behind) → Matched s' (at place d)
+    -- a call: the callee's code begins with its entry, and the moves and the jump stand behind the call
+    begun_related : (function : ℕ) (q : Pair sources targets function) (values : List (Option ℕ)) (target : Option Location) (after : List Move) (n : ℕ) → Contains p.order n → (behind : List ℕ) (d : Data) (place : ℕ) → drop (place + 1) (the_code p) ≡ copies after (jump n behind (order_code (the_blocks p) behind)) → Related sources targets (begun s d function (blocks.callee_of q.source) values (waiting s d target n after)) (begun (at place d) d function (code.callee_of q.target) values (waiting (at place d) d target (place + 1) []))
+    begun_related function q values target after n listed behind d place e =
+        let first = first_listed q.order q.source.function.entry q.laid_out.allowed.lists.entry in
+        let caller : FrameRelated sources targets (waiting s d target n after) (waiting (at place d) d target (place + 1) []) =
+        record { pair = p; listed = listed; behind = behind; stands = e; same = refl } in
+        let frame = q.laid_out.frame in
+        let same : begun (at place d) d function (code.callee_of q.target) values (waiting (at place d) d target (place + 1) []) ≡ record (begun s d function (blocks.callee_of q.source) values (waiting s d target n after)) { place = 0; callers = waiting (at place d) d target (place + 1) [] ∷ callers } =
+        λ i. begun (at place d) d function (record { parameters = frame.parameters i; slots = frame.slots i; place = 0 }) values (waiting (at place d) d target (place + 1) []) in
+        record {
+          pair = q;
+          listed = first.0;
+          behind = first.1.0;
+          stands = q.laid_out.code ∙ ap (order_code q.source.function.blocks) first.1.1;
+          same = same;
+          callers = (caller, related);
+        }
+
+    call_goes : (function : ℕ) (o : Option (NamedFunction ltl.FunctionData)) (arguments : List Location) (target : Option Location) (after : List Move) (n : ℕ) → Contains p.order n → (behind : List ℕ) (d : Data) (place : ℕ) (s' : State) → slice_get sources function ≡ o → calls s d function (values_of arguments d) (waiting s d target n after) (option_map blocks.callee_of o) ≡ Goes s' → drop place (the_code p) ≡ Call function arguments target ∷ copies after (jump n behind (order_code (the_blocks p) behind)) → Matched s' (at place d)
+    call_goes function None arguments target after n listed behind d place s' found goes e = cc (goes)
+    call_goes function (Some f) arguments target after n listed behind d place s' found goes e =
+        let pair = pairs function f found in
+        let q = pair.0 in
+        let values = values_of arguments d in
+        let rest = copies after (jump n behind (order_code (the_blocks p) behind)) in
+        let caller = waiting (at place d) d target (place + 1) [] in
+        let to : State = begun (at place d) d function (code.callee_of q.target) values caller in
+        let begins = begun_related function q values target after n listed behind d place (drop-behind (the_code p) place (Call function arguments target) rest e) in
+        let began = begins_where (length values == length q.source.function.parameters) (begun s d function (blocks.callee_of q.source) values (waiting s d target n after)) s' (subst (λ g. calls s d function values (waiting s d target n after) (Some (blocks.callee_of g)) ≡ Goes s') (sym pair.1) goes) in
+        let counted : (length values == length q.target.function.parameters) ≡ true = ap (λ ps. length values == length ps) q.laid_out.frame.parameters ∙ began.0 in
+        let step : code.next targets (at place d) ≡ Goes to =
+        step_at p (at place d) (Call function arguments target) rest refl e
+        ∙ ap (λ o. calls (at place d) d function values caller (option_map code.callee_of o)) q.is_target
+        ∙ ap (λ b. cond b (Goes to) Fails) counted in
+        subst (λ x. Matched x (at place d)) began.1 (to, begins, comes_step (at place d) to to step (comes_none to))
+
+    body_goes : (b : Body) → All (Contains p.order) (successors b) → (behind : List ℕ) (d : Data) (place : ℕ) (s' : State) → blocks.body_step sources s d b ≡ Goes s' → drop place (the_code p) ≡ body_code b behind (order_code (the_blocks p) behind) → Matched s' (at place d)
     body_goes (body.Go act after n) listed behind d place s' goes e =
         act_goes act (blocks.does_any act d) after n (listed 0 n (omega arith)) behind d place s' refl goes e
+    body_goes (body.Call function arguments target after n) listed behind d place s' goes e =
+        call_goes function (slice_get sources function) arguments target after n (listed 0 n (omega arith)) behind d place s' refl goes e
     body_goes (body.Branch test taken other) listed behind d place s' goes e =
         branch_goes (holds test d) test taken other (listed 0 taken (omega arith)) (listed 1 other (omega arith)) behind d place s' refl goes e
     body_goes (body.Return value) listed behind d place s' goes e =
@@ -198,12 +258,14 @@ module _ (sources : List (NamedFunction ltl.FunctionData)) (targets : List (Name
         (matched.0, matched.1, comes_step (at place d) back.0 matched.0 step matched.2)
 
     -- only a return ends
-    body_ends : (b : Body) (behind : List ℕ) (d : Data) (place : ℕ) (result : ℕ) → blocks.body_step s d b ≡ Ends result → drop place (the_code p) ≡ body_code b behind (order_code (the_blocks p) behind) → code.next targets (at place d) ≡ Ends result
+    body_ends : (b : Body) (behind : List ℕ) (d : Data) (place : ℕ) (result : ℕ) → blocks.body_step sources s d b ≡ Ends result → drop place (the_code p) ≡ body_code b behind (order_code (the_blocks p) behind) → code.next targets (at place d) ≡ Ends result
     body_ends (body.Go act after n) behind d place result ends e = never_ends s n (option_map (all_moved after) (blocks.does_any act d)) ends
       where
         never_ends : (s : State) (n : ℕ) (o : Option Data) → goes_to s n o ≡ Ends result → code.next targets (at place d) ≡ Ends result
         never_ends s n None ends = cc
         never_ends s n (Some d) ends = cc
+    body_ends (body.Call function arguments target after n) behind d place result ends e =
+        call_never_ends s d function (values_of arguments d) (waiting s d target n after) (option_map blocks.callee_of (slice_get sources function)) result ends
     body_ends (body.Branch test taken other) behind d place result ends e = never_ends (holds test d) ends
       where
         never_ends : (o : Option Bool) → blocks.branches s d taken other o ≡ Ends result → code.next targets (at place d) ≡ Ends result
@@ -222,8 +284,8 @@ module _ (sources : List (NamedFunction ltl.FunctionData)) (targets : List (Name
         (moves.0, moves.1, leads_comes (at place s.here) (at (place + 1) s.here) _ labelled moves.2)
 
     -- the step of the first program
-    block_of : (b : Block) → slice_get (the_blocks p) s.place ≡ Some b → blocks.next sources s ≡ blocks.body_step s (all_moved b.before s.here) b.body
-    block_of b e = ap (blocks.function_step s) p.is_source ∙ ap (blocks.block_step s) e
+    block_of : (b : Block) → slice_get (the_blocks p) s.place ≡ Some b → blocks.next sources s ≡ blocks.body_step sources s (all_moved b.before s.here) b.body
+    block_of b e = ap (blocks.function_step sources s) p.is_source ∙ ap (blocks.block_step sources s) e
 
     the_block : Contains p.order s.place → (b : Block) × (slice_get (the_blocks p) s.place ≡ Some b)
     the_block listed = (blocks_of_order p.source.function p.target.function p.order p.laid_out).block s.place listed

@@ -1,12 +1,12 @@
 -- The code of a function's blocks in an order (Leroy 2009, section 10: linearization, with the branches' labels in it).
 use Rattle.std.specs.Prelude.{ℕ, List, [], ◌∷◌, Option, Some, None, Bool, false, nat_eq, slice_get, if◌then◌else◌}
-use Rattle.machine.specs.declared.location.Move.{Move}
+use Rattle.locations.specs.declared.location.Move.{Move}
 use Rattle.machine.specs.declared.act.Act.{Act}
 use Rattle.ltl.specs.declared.block.Block.{Block}
 use Rattle.ltl.specs.declared.block.Body.{Body}
 use Rattle.ltl.specs.declared.block.Body.TheVariants as body
 use Rattle.linear.specs.declared.instruction.Instruction.{Instruction}
-use Rattle.linear.specs.declared.instruction.Instruction.TheVariants.{Do, Copy, Branch, Return, Label, Goto}
+use Rattle.linear.specs.declared.instruction.Instruction.TheVariants.{Do, Copy, Call, Branch, Return, Label, Goto}
 
 -- moves, each an instruction, in front of the rest
 abbrev pub copies : List Move → List Instruction → List Instruction
@@ -30,6 +30,7 @@ jump s behind rest = if is_next s behind then rest else Goto s ∷ rest
 -- a body, where these nodes are listed behind it and this is their code
 abbrev pub body_code : Body → List ℕ → List Instruction → List Instruction
 body_code (body.Go act after successor) behind rest = act_code act (copies after (jump successor behind rest))
+body_code (body.Call function arguments target after successor) behind rest = Call function arguments target ∷ copies after (jump successor behind rest)
 body_code (body.Branch test taken other) behind rest = Branch test taken ∷ jump other behind rest
 body_code (body.Return value) behind rest = Return value ∷ rest
 
@@ -46,6 +47,7 @@ order_code blocks (n ∷ ns) = stretch n (slice_get blocks n) ns (order_code blo
 -- where a body goes on
 abbrev pub successors : Body → List ℕ
 successors (body.Go act after successor) = successor ∷ []
+successors (body.Call function arguments target after successor) = successor ∷ []
 successors (body.Branch test taken other) = taken ∷ other ∷ []
 successors (body.Return value) = []
 

@@ -17,6 +17,10 @@ pub record Pair (sources : List (NamedFunction ltl.FunctionData)) (targets : Lis
   pub is_target : slice_get targets number ≡ Some target
   pub laid_out : IsLaidOut source.function target.function order
 
+-- every function of the one program has its pair in the other
+abbrev pub HasPairs : List (NamedFunction ltl.FunctionData) → List (NamedFunction linear.FunctionData) → Type 0
+HasPairs sources targets = (number : ℕ) (f : NamedFunction ltl.FunctionData) → slice_get sources number ≡ Some f → (p : Pair sources targets number) × (p.source ≡ f)
+
 -- A caller that waits in the code: behind its call stand the moves that are still to be done and the jump to the node.
 pub record FrameRelated (sources : List (NamedFunction ltl.FunctionData)) (targets : List (NamedFunction linear.FunctionData)) (f g : Frame) : Type 0 where
   pub pair : Pair sources targets f.function

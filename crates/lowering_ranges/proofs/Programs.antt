@@ -45,7 +45,7 @@ with_body_fits number bodies name fits few = at (found name bodies) refl
     at (Some b) e = subst BodiesFit (sym (known_name number bodies name b e)) fits
 
 module _ (all : List (Bound ℕ)) where
-  name_none : (file : File) (g : FunctionTree) → declaration_faults all file (T.Function g) ≡ [] → file.defined < function_limit
+  pub name_none : (file : File) (g : FunctionTree) → declaration_faults all file (T.Function g) ≡ [] → file.defined < function_limit
   name_none file g none =
       let s = signature_of g.result (map opened g.parameters) in
       few_functions (known all file) file.scope g.name s file.defined
@@ -56,10 +56,10 @@ module _ (all : List (Bound ℕ)) where
       let s = signature_of g.result (map opened g.parameters) in
       none_behind (function_name_faults (known all file) file.scope g.name s (Some file.defined)) (body_faults (known all (naming file g)) (naming file g).scope g) none
 
-  first_none : (file : File) (d : DeclarationTree) (ds : List DeclarationTree) → declarations_faults all file (d ∷ ds) ≡ [] → declaration_faults all file d ≡ []
+  pub first_none : (file : File) (d : DeclarationTree) (ds : List DeclarationTree) → declarations_faults all file (d ∷ ds) ≡ [] → declaration_faults all file d ≡ []
   first_none file d ds none = none_before (declaration_faults all file d) (declarations_faults all (behind file d) ds) none
 
-  rest_none : (file : File) (d : DeclarationTree) (ds : List DeclarationTree) → declarations_faults all file (d ∷ ds) ≡ [] → declarations_faults all (behind file d) ds ≡ []
+  pub rest_none : (file : File) (d : DeclarationTree) (ds : List DeclarationTree) → declarations_faults all file (d ∷ ds) ≡ [] → declarations_faults all (behind file d) ds ≡ []
   rest_none file d ds none = none_behind (declaration_faults all file d) (declarations_faults all (behind file d) ds) none
 
   bodies_fit : (file : File) (ds : List DeclarationTree) (bodies : List (Bound ℕ)) → declarations_faults all file ds ≡ [] → BodiesFit bodies → BodiesFit (bodies_from file.defined bodies ds)

@@ -1,23 +1,22 @@
 -- Two functions are equal where their parts are, and then they are one.
-use Rattle.std.proofs.Common.{◌≡◌, ℕ, Bool, true, List, [], ◌∷◌, Option, Some, None, refl, ap}
+use Rattle.std.proofs.Common.{◌≡◌, ℕ, Bool, true, false, List, [], ◌∷◌, Option, Some, None, refl, ap}
 use Rattle.std.specs.Prelude.{◌&&◌, nat_eq}
 use Rattle.std.specs.Cmp.{IsEquivalence}
 use Rattle.std.specs.Cmp.Lexicographic.{pointwise}
 use Rattle.std.proofs.lemmas.Bool.{eqb-true, and_parts}
 use Rattle.std.proofs.lemmas.Cmp.{nat_eq_equiv, on_equiv, and_equiv, lists_equiv}
-use Rattle.machine.specs.declared.act.Act.{Act}
-use Rattle.machine.specs.contracts.location.LocationPartialEq.TheImpl as location_eq
-use Rattle.machine.specs.contracts.location.LocationEq.TheImpl.Laws as location_laws
-use Rattle.machine.specs.contracts.location.MovePartialEq.TheImpl as move_eq
+use Rattle.locations.specs.declared.location.Location.{Location}
+use Rattle.locations.specs.declared.location.Move.{Move}
+use Rattle.locations.specs.contracts.location.LocationPartialEq.TheImpl as location_eq
+use Rattle.locations.specs.contracts.location.LocationEq.TheImpl.Laws as location_laws
+use Rattle.locations.specs.contracts.location.MovePartialEq.TheImpl as move_eq
 use Rattle.machine.specs.contracts.act.ActPartialEq.TheImpl as act_eq
 use Rattle.machine.specs.contracts.test.TestPartialEq.TheImpl as test_eq
 use Rattle.machine.proofs.Equal.{Tells, location_tells, move_tells, act_tells, test_tells}
 use Rattle.ltl.specs.contracts.block.BodyPartialEq.TheImpl as body_eq
 use Rattle.ltl.specs.contracts.block.BlockPartialEq.TheImpl as block_eq
 use Rattle.ltl.specs.contracts.block.BlockEq.TheImpl.Laws as block_laws
-use Rattle.ltl.specs.declared.block.Block.{Block}
-use Rattle.ltl.specs.declared.block.Body.{Body}
-use Rattle.ltl.specs.declared.block.Body.TheVariants.{Go, Branch, Return}
+use Rattle.ltl.specs.declared.block.Body.TheVariants.{Go, Call, Branch, Return}
 use Rattle.ltl.specs.Function.{FunctionData}
 
 abbrev pub same_function : FunctionData → FunctionData → Bool
@@ -46,6 +45,30 @@ value_tells None (Some r) e = absurd cc
 value_tells (Some r) None e = absurd cc
 value_tells (Some r) (Some q) e = ap (λ n. Some n) (eqb-true r q e)
 
+locations_tell : Tells (pointwise (location_eq.ghosts).eq)
+locations_tell = lists_tell (location_eq.ghosts).eq location_tells
+
+call_tells : (f g : ℕ) (xs ys : List Location) (t u : Option Location) (ms ns : List Move) (s r : ℕ) → (body_eq.ghosts).eq (Call f xs t ms s) (Call g ys u ns r) ≡ true → Call f xs t ms s ≡ Call g ys u ns r
+call_tells f g xs ys None None ms ns s r e =
+    let p = and_parts (nat_eq f g) _ e in
+    let q = and_parts (pointwise (location_eq.ghosts).eq xs ys) (pointwise (move_eq.ghosts).eq ms ns && nat_eq s r) p.1 in
+    let w = and_parts (pointwise (move_eq.ghosts).eq ms ns) (nat_eq s r) q.1 in
+    λ i. Call (eqb-true f g p.0 i) (locations_tell xs ys q.0 i) None (moves_tell ms ns w.0 i) (eqb-true s r w.1 i)
+call_tells f g xs ys None (Some b) ms ns s r e =
+    let p = and_parts (nat_eq f g) _ e in
+    let no : false ≡ true = (and_parts (pointwise (location_eq.ghosts).eq xs ys) false p.1).1 in
+    absurd cc
+call_tells f g xs ys (Some a) None ms ns s r e =
+    let p = and_parts (nat_eq f g) _ e in
+    let no : false ≡ true = (and_parts (pointwise (location_eq.ghosts).eq xs ys) false p.1).1 in
+    absurd cc
+call_tells f g xs ys (Some a) (Some b) ms ns s r e =
+    let p = and_parts (nat_eq f g) _ e in
+    let q = and_parts (pointwise (location_eq.ghosts).eq xs ys) ((location_eq.ghosts).eq a b && (pointwise (move_eq.ghosts).eq ms ns && nat_eq s r)) p.1 in
+    let v = and_parts ((location_eq.ghosts).eq a b) (pointwise (move_eq.ghosts).eq ms ns && nat_eq s r) q.1 in
+    let w = and_parts (pointwise (move_eq.ghosts).eq ms ns) (nat_eq s r) v.1 in
+    λ i. Call (eqb-true f g p.0 i) (locations_tell xs ys q.0 i) (Some (location_tells a b v.0 i)) (moves_tell ms ns w.0 i) (eqb-true s r w.1 i)
+
 body_tells : Tells (body_eq.ghosts).eq
 body_tells (Go None ms s) (Go None ns t) e = let p = and_parts _ _ e in λ i. Go None (moves_tell ms ns p.0 i) (eqb-true s t p.1 i)
 body_tells (Go None ms s) (Go (Some b) ns t) e = absurd cc
@@ -54,6 +77,7 @@ body_tells (Go (Some a) ms s) (Go (Some b) ns t) e =
     let p = and_parts ((act_eq.ghosts).eq a b) (pointwise (move_eq.ghosts).eq ms ns && nat_eq s t) e in
     let q = and_parts (pointwise (move_eq.ghosts).eq ms ns) (nat_eq s t) p.1 in
     λ i. Go (Some (act_tells a b p.0 i)) (moves_tell ms ns q.0 i) (eqb-true s t q.1 i)
+body_tells (Call f xs t ms s) (Call g ys u ns r) e = call_tells f g xs ys t u ms ns s r e
 body_tells (Branch t a b) (Branch u c d) e =
     let p = and_parts ((test_eq.ghosts).eq t u) (nat_eq a c && nat_eq b d) e in
     let q = and_parts (nat_eq a c) (nat_eq b d) p.1 in
@@ -72,7 +96,7 @@ function_tells f g e =
     let q = and_parts (pointwise (location_eq.ghosts).eq f.parameters g.parameters && nat_eq f.slots g.slots) (nat_eq f.entry g.entry) p.0 in
     let r = and_parts (pointwise (location_eq.ghosts).eq f.parameters g.parameters) (nat_eq f.slots g.slots) q.0 in
     λ i. record {
-      parameters = lists_tell (location_eq.ghosts).eq location_tells f.parameters g.parameters r.0 i;
+      parameters = locations_tell f.parameters g.parameters r.0 i;
       slots = eqb-true f.slots g.slots r.1 i;
       entry = eqb-true f.entry g.entry q.1 i;
       blocks = lists_tell (block_eq.ghosts).eq block_tells f.blocks g.blocks p.1 i;

@@ -1,30 +1,29 @@
 -- The reading of LTL is a form: each spelling is read again, and nothing else is read.
-use Rattle.std.proofs.Common.{◌≡◌, ◌≢◌, ℕ, ◌<◌, ◌≤◌, ◌^◌, Bool, true, false, List, [], ◌∷◌, ◌++◌, length, Option, Some, None, Ok, refl, sym, ap, subst, ◌∙◌, arith, append_assoc}
+use Rattle.std.proofs.Common.{◌≡◌, ℕ, ◌<◌, ◌≤◌, ◌^◌, List, [], ◌++◌, length, Some, None, Ok, refl, sym, ap, subst, ◌∙◌, arith, append_assoc}
 use Rattle.std.specs.Prelude.{nat_lt}
-use Rattle.std.specs.Int.{w16, w32, to_be_bytes}
+use Rattle.std.specs.Int.{w16, to_be_bytes}
 use Rattle.std.specs.List.{AllByRecursion, flat_map}
 use Rattle.std.proofs.lemmas.Bool.{ltb-true, lt-ltb}
 use Rattle.lang.specs.declared.errors.FormError.TheVariants.{NotCanonical}
-use Rattle.lang.specs.Reading.{number, made, both, follow}
-use Rattle.lang.specs.Texts.{counted_text, EachFits}
+use Rattle.lang.specs.Reading.{number, both, follow}
 use Rattle.lang.proofs.Forms.{IsForm}
 use Rattle.lang.proofs.Parts.{number16_form, made_takes, made_again, made_form, tested_form, fits_form, below_form, both_form}
 use Rattle.lang.proofs.Lists.{more_form, each_fits, fits_each, HasCode, TakesBehind, follow_form, coded_form, tagged_form}
-use Rattle.machine.specs.declared.location.Location.{Location}
-use Rattle.machine.specs.declared.location.Move.{Move}
+use Rattle.locations.specs.declared.location.Location.{Location}
+use Rattle.locations.specs.declared.location.Move.{Move}
 use Rattle.machine.specs.declared.act.Act.{Act}
-use Rattle.machine.specs.declared.act.Act.TheVariants.{Constant, Operate}
+use Rattle.machine.specs.declared.act.Act.TheVariants.{Constant, Operate, Load, Store, Put}
 use Rattle.machine.specs.declared.test.Test.{Test}
-use Rattle.machine.specs.Fits.{MovesFit, ActFits, TestFits, slot_limit}
-use Rattle.machine.specs.Spelling.{act_code, act_body, moves_text, test_text, frame_text}
-use Rattle.machine.specs.Reading.{moves, asked, value, act, frame}
-use Rattle.machine.proofs.Forms.{moves_form, test_form, value_form, act_form, FrameFits, frame_form}
+use Rattle.machine.specs.Fits.{MovesFit, ActFits, TestFits}
+use Rattle.machine.specs.Spelling.{act_code, act_body, call_text, moves_text, test_text, frame_text}
+use Rattle.machine.specs.Reading.{moves, call, asked, value, act, frame}
+use Rattle.machine.proofs.Forms.{moves_form, call_form, CallParts, CallPartsFit, test_form, value_form, act_form, FrameFits, frame_form}
 use Rattle.ltl.specs.declared.block.Block.{Block}
 use Rattle.ltl.specs.declared.block.Body.{Body}
-use Rattle.ltl.specs.declared.block.Body.TheVariants.{Go, Branch, Return}
-use Rattle.ltl.specs.Function.{FunctionData, BodyFits, BlockFits, IsFunction, node_limit}
-use Rattle.ltl.specs.Spelling.{any_code, any_body, going_text, body_code, body_body, body_text, block_text, graph_text, tag, spelling}
-use Rattle.ltl.specs.Reading.{node, going, branch, bodies, plain, body, block, ends, blocks, graph, parts, function}
+use Rattle.ltl.specs.declared.block.Body.TheVariants.{Go, Call, Branch, Return}
+use Rattle.ltl.specs.Function.{FunctionData, BodyFits, BlockFits, IsFunction}
+use Rattle.ltl.specs.Spelling.{going_text, body_code, body_body, body_text, block_text, graph_text, tag, spelling}
+use Rattle.ltl.specs.Reading.{node, going, calling, branch, bodies, plain, body, block, ends, blocks, graph, parts, function}
 
 -- ---- a body
 
@@ -39,6 +38,27 @@ going_form : (slots nodes : ℕ) → slots ≤ 2 ^ 16 → nodes ≤ 2 ^ 16 → I
 unfolding going
 going_form slots nodes few_slots few =
     both_form (node nodes) (to_be_bytes w16) (λ n. n < nodes) (node_form nodes few) (λ s. moves slots) (λ s. moves_text) (λ s. MovesFit slots) (λ s fits. moves_form slots few_slots)
+
+abbrev CallingParts : Type 0
+CallingParts = CallParts × (ℕ × List Move)
+
+abbrev calling_of : CallingParts → Body
+calling_of p = Call p.0.0 p.0.1.0 p.0.1.1 p.1.1 p.1.0
+
+abbrev calling_text : CallingParts → List ℕ
+calling_text p = call_text p.0 ++ going_text p.1
+
+abbrev CallingFits : ℕ → ℕ → CallingParts → Type 0
+CallingFits slots nodes p = CallPartsFit slots p.0 × GoingFits slots nodes p.1
+
+calling_parts : (slots nodes : ℕ) → slots ≤ 2 ^ 16 → nodes ≤ 2 ^ 16 → IsForm (both (call slots) (λ c. going slots nodes)) calling_text (CallingFits slots nodes)
+calling_parts slots nodes few_slots few =
+    both_form (call slots) call_text (CallPartsFit slots) (call_form slots few_slots) (λ c. going slots nodes) (λ c. going_text) (λ c. GoingFits slots nodes) (λ c fits. going_form slots nodes few_slots few)
+
+calling_takes : (slots nodes : ℕ) → slots ≤ 2 ^ 16 → nodes ≤ 2 ^ 16 → TakesBehind body_code body_body (BodyFits slots nodes) 6 (calling slots nodes)
+unfolding calling
+calling_takes slots nodes few_slots few =
+    made_takes calling_of (calling_parts slots nodes few_slots few) body_body (HasCode body_code body_body (BodyFits slots nodes) 6) (λ p fits. (refl, ((fits.0, fits.1.1, fits.1.0), refl)))
 
 abbrev NodesFit : ℕ → ℕ × ℕ → Type 0
 NodesFit nodes p = (p.0 < nodes) × (p.1 < nodes)
@@ -79,14 +99,22 @@ plain_takes slots nodes few_slots few code =
     made_takes (λ (p : PlainParts). Go (Some p.0) p.1.1 p.1.0) (plain_parts slots nodes code few_slots few) body_body (HasCode body_code body_body (BodyFits slots nodes) code)
     (λ p fits. (refl, ((fits.0.0, fits.1.1, fits.1.0), fits.0.1)))
 
+plain_again : (slots nodes : ℕ) → slots ≤ 2 ^ 16 → nodes ≤ 2 ^ 16 → (a : Act) (after : List Move) (successor : ℕ) (rest : List ℕ) → BodyFits slots nodes (Go (Some a) after successor) → plain slots nodes (act_code a) ((act_body a ++ going_text (successor, after)) ++ rest) ≡ Ok (Go (Some a) after successor, rest)
+unfolding plain
+plain_again slots nodes few_slots few a after successor rest fits =
+    made_again (λ (p : PlainParts). Go (Some p.0) p.1.1 p.1.0) (plain_parts slots nodes (act_code a) few_slots few) (a, (successor, after)) rest ((fits.0, refl), (fits.2, fits.1))
+
 body_again : (slots nodes : ℕ) → slots ≤ 2 ^ 16 → nodes ≤ 2 ^ 16 → (b : Body) (rest : List ℕ) → BodyFits slots nodes b → follow (bodies slots nodes) (plain slots nodes) (body_code b) (body_body b ++ rest) ≡ Ok (b, rest)
-unfolding plain branch
+unfolding calling branch
 body_again slots nodes few_slots few (Go None after successor) rest fits =
     made_again (λ (p : ℕ × List Move). Go None p.1 p.0) (going_form slots nodes few_slots few) (successor, after) rest (fits.2, fits.1)
-body_again slots nodes few_slots few (Go (Some (Constant target word)) after successor) rest fits =
-    made_again (λ (p : PlainParts). Go (Some p.0) p.1.1 p.1.0) (plain_parts slots nodes 1 few_slots few) (Constant target word, (successor, after)) rest ((fits.0, refl), (fits.2, fits.1))
-body_again slots nodes few_slots few (Go (Some (Operate op target arguments)) after successor) rest fits =
-    made_again (λ (p : PlainParts). Go (Some p.0) p.1.1 p.1.0) (plain_parts slots nodes 3 few_slots few) (Operate op target arguments, (successor, after)) rest ((fits.0, refl), (fits.2, fits.1))
+body_again slots nodes few_slots few (Go (Some (Constant target word)) after successor) rest fits = plain_again slots nodes few_slots few (Constant target word) after successor rest fits
+body_again slots nodes few_slots few (Go (Some (Operate op target arguments)) after successor) rest fits = plain_again slots nodes few_slots few (Operate op target arguments) after successor rest fits
+body_again slots nodes few_slots few (Go (Some (Load target global index)) after successor) rest fits = plain_again slots nodes few_slots few (Load target global index) after successor rest fits
+body_again slots nodes few_slots few (Go (Some (Store global index source)) after successor) rest fits = plain_again slots nodes few_slots few (Store global index source) after successor rest fits
+body_again slots nodes few_slots few (Go (Some (Put source target)) after successor) rest fits = plain_again slots nodes few_slots few (Put source target) after successor rest fits
+body_again slots nodes few_slots few (Call function arguments target after successor) rest fits =
+    made_again calling_of (calling_parts slots nodes few_slots few) ((function, (arguments, target)), (successor, after)) rest (fits.0, (fits.2, fits.1))
 body_again slots nodes few_slots few (Branch test taken other) rest fits =
     made_again (λ (p : BranchParts). Branch p.0 p.1.0 p.1.1) (branch_parts nodes few) (test, (taken, other)) rest (fits.0, (fits.1, fits.2))
 body_again slots nodes few_slots few (Return value) rest fits = made_again (λ v. Return v) value_form value rest fits
@@ -104,8 +132,11 @@ body_form slots nodes few_slots few =
     (follow_form body_code body_body (BodyFits slots nodes) (bodies slots nodes) (plain slots nodes) (
       made_takes (λ (p : ℕ × List Move). Go None p.1 p.0) (going_form slots nodes few_slots few) body_body (at 0) (λ p fits. (refl, ((tt, fits.1, fits.0), refl))),
       (
-        branch_takes slots nodes few,
-        (made_takes (λ v. Return v) value_form body_body (at 9) (λ v fits. (refl, (fits, refl))), tt),
+        calling_takes slots nodes few_slots few,
+        (
+          branch_takes slots nodes few,
+          (made_takes (λ v. Return v) value_form body_body (at 9) (λ v fits. (refl, (fits, refl))), tt),
+        ),
       ),
     )
     (plain_takes slots nodes few_slots few)

@@ -8,6 +8,7 @@ pub mod Equal
 pub use Rattle.machine.specs.Data
 pub use Rattle.machine.specs.Acts
 pub use Rattle.machine.specs.Frames
+pub use Rattle.machine.specs.Calls
 pub use Rattle.machine.specs.Fits
 pub use Rattle.lang.specs.Behaviour
 pub use Rattle.lang.specs.Programs

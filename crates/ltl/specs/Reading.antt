@@ -1,14 +1,14 @@
 -- How a function of LTL is read.
-use Rattle.std.specs.Prelude.{ℕ, List, [], ◌∷◌, Option, Some, None, nat_lt}
+use Rattle.std.specs.Prelude.{ℕ, List, [], ◌∷◌, Some, None, nat_lt}
 use Rattle.std.specs.Int.{w16}
 use Rattle.lang.specs.declared.errors.FormError.TheVariants.{NotCanonical}
 use Rattle.lang.specs.Reading.{Reading, number, made, tested, below, both, more, Table, follow, coded, tagged}
-use Rattle.machine.specs.declared.location.Location.{Location}
-use Rattle.machine.specs.declared.location.Move.{Move}
-use Rattle.machine.specs.Reading.{moves, asked, value, act, frame}
+use Rattle.locations.specs.declared.location.Location.{Location}
+use Rattle.locations.specs.declared.location.Move.{Move}
+use Rattle.machine.specs.Reading.{moves, call, asked, value, act, frame}
 use Rattle.ltl.specs.declared.block.Block.{Block}
 use Rattle.ltl.specs.declared.block.Body.{Body}
-use Rattle.ltl.specs.declared.block.Body.TheVariants.{Go, Branch, Return}
+use Rattle.ltl.specs.declared.block.Body.TheVariants.{Go, Call, Branch, Return}
 use Rattle.ltl.specs.Function.{FunctionData}
 use Rattle.ltl.specs.Spelling.{tag}
 
@@ -20,6 +20,10 @@ node nodes bytes = below nodes (number w16) bytes
 unfoldable pub going : ℕ → ℕ → Reading (ℕ × List Move)
 going slots nodes bytes = both (node nodes) (λ successor. moves slots) bytes
 
+-- what a call names, its successor, and the moves behind it
+unfoldable pub calling : ℕ → ℕ → Reading Body
+calling slots nodes bytes = made (λ p. Call p.0.0 p.0.1.0 p.0.1.1 p.1.1 p.1.0) (both (call slots) (λ c. going slots nodes)) bytes
+
 -- a test, and where it goes on
 unfoldable pub branch : ℕ → Reading Body
 branch nodes bytes = made (λ p. Branch p.0 p.1.0 p.1.1) (both asked (λ t. both (node nodes) (λ taken. node nodes))) bytes
@@ -28,6 +32,7 @@ branch nodes bytes = made (λ p. Branch p.0 p.1.0 p.1.1) (both asked (λ t. both
 abbrev pub bodies : ℕ → ℕ → Table Body
 bodies slots nodes =
     (0, made (λ p. Go None p.1 p.0) (going slots nodes)) ∷
+    (6, calling slots nodes) ∷
     (8, branch nodes) ∷
     (9, made (λ value. Return value) value) ∷ []
 

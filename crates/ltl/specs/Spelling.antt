@@ -3,11 +3,11 @@ use Rattle.std.specs.Prelude.{ℕ, List, [], ◌∷◌, ◌++◌, Option, Some, 
 use Rattle.std.specs.Int.{w16, to_be_bytes}
 use Rattle.lang.specs.Texts.{counted_text}
 use Rattle.machine.specs.declared.act.Act.{Act}
-use Rattle.machine.specs.declared.location.Move.{Move}
-use Rattle.machine.specs.Spelling.{act_code, act_body, moves_text, test_text, value_text, frame_text}
+use Rattle.locations.specs.declared.location.Move.{Move}
+use Rattle.machine.specs.Spelling.{act_code, act_body, call_text, moves_text, test_text, value_text, frame_text}
 use Rattle.ltl.specs.declared.block.Block.{Block}
 use Rattle.ltl.specs.declared.block.Body.{Body}
-use Rattle.ltl.specs.declared.block.Body.TheVariants.{Go, Branch, Return}
+use Rattle.ltl.specs.declared.block.Body.TheVariants.{Go, Call, Branch, Return}
 use Rattle.ltl.specs.Function.{FunctionData}
 
 -- an act, or nothing to do: its code, and what follows that
@@ -26,11 +26,13 @@ going_text p = to_be_bytes w16 p.0 ++ moves_text p.1
 -- a body: its code, and what follows that
 abbrev pub body_code : Body → ℕ
 body_code (Go act after successor) = any_code act
+body_code (Call function arguments target after successor) = 6
 body_code (Branch test taken other) = 8
 body_code (Return value) = 9
 
 abbrev pub body_body : Body → List ℕ
 body_body (Go act after successor) = any_body act ++ going_text (successor, after)
+body_body (Call function arguments target after successor) = call_text (function, (arguments, target)) ++ going_text (successor, after)
 body_body (Branch test taken other) = test_text test ++ (to_be_bytes w16 taken ++ to_be_bytes w16 other)
 body_body (Return value) = value_text value
 

@@ -1,5 +1,5 @@
 use lang::Row;
-use machine::{Act, Move, Register, Test};
+use machine::{Act, Location, Move, Register, Test};
 
 /// A node of the graph: moves, and then what it does and where it goes on.
 #[derive(PartialEq, Eq, Drop)]
@@ -15,6 +15,16 @@ pub enum Body {
     /// Does the act, if there is one, then the moves, and goes on.
     Go {
         act: Option<Act>,
+        after: Row<Move>,
+        successor: u16,
+    },
+    /// Runs the program's function of this number on copies of what the arguments hold, defined or
+    /// not. Then r0 to r3 are lost, the target, where one is named, becomes what that returns, and
+    /// the moves are done.
+    Call {
+        function: u8,
+        arguments: Row<Location>,
+        target: Option<Location>,
         after: Row<Move>,
         successor: u16,
     },

@@ -27,6 +27,19 @@ fn copy_body(alloc: Global, body: &Body) -> Result<Body, NoMemory>
             after: copy_moves(alloc, after)?,
             successor: *successor,
         }),
+        Body::Call {
+            function,
+            arguments,
+            target,
+            after,
+            successor,
+        } => Ok(Body::Call {
+            function: *function,
+            arguments: arguments.copied(alloc)?,
+            target: *target,
+            after: copy_moves(alloc, after)?,
+            successor: *successor,
+        }),
         Body::Branch { test, taken, other } => Ok(Body::Branch {
             test: *test,
             taken: *taken,

@@ -3,12 +3,12 @@
 
 ghost use Rattle.std.specs.Prelude.{ℕ, ◌<◌, [], slice_index};
 ghost use Rattle.lang.specs.Reading.{IsRead, Reads, items_of, more};
-ghost use Rattle.ltl.specs.Reading.{node, going, branch, plain, body, block, ends, blocks, graph, parts, function};
+ghost use Rattle.ltl.specs.Reading.{node, going, calling, branch, plain, body, block, ends, blocks, graph, parts, function};
 
 use crate::block::{Block, Body};
 use crate::function::Function;
 use lang::{FormError, Row, read_byte, read_u16, read_u16_below};
-use machine::{Location, Move, read_act, read_frame, read_moves, read_test, read_value};
+use machine::{Location, Move, read_act, read_call, read_frame, read_moves, read_test, read_value};
 use std::alloc::Global;
 
 /// One of so many nodes.
@@ -32,6 +32,21 @@ fn read_going(
     let successor = read_node(nodes, bytes)?;
     let after = read_moves(alloc, slots, bytes)?;
     Ok((successor, after))
+}
+
+#[tactic(auto, unfolding(crate::specs::Reading::calling))]
+fn read_calling(alloc: Global, slots: u32, nodes: u32, bytes: &mut &[u8]) -> Result<Body, FormError>
+    ensures { Reads (calling slots nodes bytes.old.now) result bytes.new.now }
+{
+    let (function, (arguments, target)) = read_call(alloc, slots, bytes)?;
+    let (successor, after) = read_going(alloc, slots, nodes, bytes)?;
+    Ok(Body::Call {
+        function,
+        arguments,
+        target,
+        after,
+        successor,
+    })
 }
 
 #[tactic(auto, unfolding(crate::specs::Reading::branch))]
@@ -78,6 +93,7 @@ fn read_body(alloc: Global, slots: u32, nodes: u32, bytes: &mut &[u8]) -> Result
                 successor,
             })
         }
+        6 => read_calling(alloc, slots, nodes, bytes),
         8 => read_branch(nodes, bytes),
         9 => Ok(Body::Return {
             value: read_value(bytes)?,

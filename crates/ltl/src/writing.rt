@@ -3,14 +3,14 @@
 ghost use Rattle.std.specs.Prelude.{◌≤◌, All, length};
 ghost use Rattle.std.specs.List.{flat_map};
 ghost use Rattle.lang.specs.Texts.{Appends};
-ghost use Rattle.machine.specs.Fits.{move_limit};
-ghost use Rattle.ltl.specs.Function.{HasShortLists, after_of};
+ghost use Rattle.machine.specs.Fits.{move_limit, argument_limit};
+ghost use Rattle.ltl.specs.Function.{HasShortLists, after_of, arguments_of};
 ghost use Rattle.ltl.specs.Spelling.{any_code, any_body, going_text, body_text, block_text, spelling};
 
 use crate::block::{Block, Body};
 use crate::function::Function;
 use lang::{NoMemory, push_byte, push_u16};
-use machine::{Move, push_act, push_frame, push_moves, push_test, push_value};
+use machine::{Move, push_act, push_call, push_frame, push_moves, push_test, push_value};
 
 /// The successor, and the moves behind the instruction.
 fn push_going(out: &mut Vec<u8>, successor: u16, after: &[Move]) -> Result<(), NoMemory>
@@ -22,7 +22,8 @@ fn push_going(out: &mut Vec<u8>, successor: u16, after: &[Move]) -> Result<(), N
 }
 
 fn push_body(out: &mut Vec<u8>, body: &Body) -> Result<(), NoMemory>
-    requires { length (after_of body.now) ≤ move_limit }
+    requires after { length (after_of body.now) ≤ move_limit }
+    requires arguments { length (arguments_of body.now) ≤ argument_limit }
     ensures { Appends result (body_text body.now) out.old.items out.new.items }
 {
     match body {
@@ -35,6 +36,17 @@ fn push_body(out: &mut Vec<u8>, body: &Body) -> Result<(), NoMemory>
                 None => push_byte(out, 0)?,
                 Some(act) => push_act(out, act)?,
             }
+            push_going(out, *successor, after.as_slice())
+        }
+        Body::Call {
+            function,
+            arguments,
+            target,
+            after,
+            successor,
+        } => {
+            push_byte(out, 6)?;
+            push_call(out, *function, arguments.as_slice(), target)?;
             push_going(out, *successor, after.as_slice())
         }
         Body::Branch { test, taken, other } => {

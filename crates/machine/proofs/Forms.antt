@@ -1,15 +1,11 @@
 -- The parts that LTL and Linear share are forms: each text is read again, and nothing else is.
-use Rattle.std.proofs.Common.{◌≡◌, ◌≢◌, ℕ, ◌<◌, ◌≤◌, ◌^◌, Bool, true, false, List, [], ◌∷◌, ◌++◌, length, Option, Some, None, Ok, Err, inl, inr, lit<, refl, sym, ap, subst, ◌∙◌, arith}
-use Rattle.std.specs.Prelude.{◌⊎◌, ◌&&◌, IfSome, not, nat_lt, nat_le}
+use Rattle.std.proofs.Common.{◌≡◌, ℕ, ◌<◌, ◌^◌, List, ◌++◌, Option, Ok, inl, inr, lit<, refl, sym, subst, arith}
+use Rattle.std.specs.Prelude.{◌⊎◌}
 use Rattle.std.specs.Int.{w16, w32, to_be_bytes}
-use Rattle.std.specs.List.{AllByRecursion, list_any, list_all}
-use Rattle.std.proofs.lemmas.Bool.{eqb-true, eq-eqb, ltb-true, lt-ltb, leb-true, le-leb, and_parts, and_from, not-true, not_from_false}
-use Rattle.lang.specs.declared.errors.FormError.TheVariants.{NotCanonical, TooLarge}
-use Rattle.lang.specs.Reading.{byte, number, made, tested, decoded, up_to, both, follow, unknown}
-use Rattle.lang.specs.Texts.{counted_text, EachFits}
+use Rattle.lang.specs.Reading.{byte, number, decoded, both, unknown}
 use Rattle.lang.proofs.Forms.{IsForm}
-use Rattle.lang.proofs.Parts.{byte_form, number16_form, number32_form, made_takes, made_again, made_form, tested_form, decoded_form, fits_form, below_form, up_to_form, both_form}
-use Rattle.lang.proofs.Lists.{counted_form, each_fits, fits_each, HasCode, TakesBehind, unknown_takes, follow_form, coded_form, optional_form}
+use Rattle.lang.proofs.Parts.{byte_form, number16_form, number32_form, made_takes, made_again, made_form, decoded_form, below_form, both_form}
+use Rattle.lang.proofs.Lists.{HasCode, TakesBehind, unknown_takes, follow_form}
 use Rattle.ints.specs.declared.operators.Op.{Op}
 use Rattle.ints.specs.declared.operators.Op.TheVariants.{NegS, NegU, Not, IsZero}
 use Rattle.ints.specs.declared.conditions.Cond.{Cond}
@@ -18,77 +14,24 @@ use Rattle.ints.specs.Codes.{code_of, op_of_code, argument_count_of}
 use Rattle.ints.specs.Conditions.{cond_code_of, cond_of_code, cond_argument_count_of}
 use Rattle.ints.proofs.Codes.{codes_lead_back}
 use Rattle.ints.proofs.CondCodes.{cond_codes_lead_back}
-use Rattle.machine.specs.declared.location.Location.{Location}
-use Rattle.machine.specs.declared.location.Location.TheVariants.{InRegister, InSlot}
-use Rattle.machine.specs.declared.location.Move.{Move}
+use Rattle.locations.specs.Fits.{RegisterFits, ValueFits}
+use Rattle.locations.specs.Spelling.{byte_text, value_text}
+use Rattle.locations.specs.Reading.{register, value}
+use Rattle.locations.proofs.Forms.{register_form, value_form}
 use Rattle.machine.specs.declared.arguments.Arguments.{Arguments}
 use Rattle.machine.specs.declared.arguments.Arguments.TheVariants.{One, Two}
 use Rattle.machine.specs.declared.act.Act.{Act}
-use Rattle.machine.specs.declared.act.Act.TheVariants.{Constant, Operate}
-use Rattle.machine.specs.declared.test.Test.{Test}
-use Rattle.machine.specs.Fits.{parameter_limit, slot_limit, move_limit, RegisterFits, LocationFits, HasRegister, MoveFits, MovesFit, ArgumentsFit, ActFits, TestFits, ValueFits, AreDistinct, ParametersFit}
-use Rattle.machine.specs.Spelling.{byte_text, location_code, location_body, location_text, move_text, moves_text, arguments_text, test_text, value_text, act_code, act_body, frame_text}
-use Rattle.machine.specs.Reading.{register, locations, location, is_slot, one_move, moves, arguments, asked, value, constant, operation, act, same_location, parameter, parameters, lies_within, frame}
-use Rattle.machine.proofs.Distinct.{each_both, both_each, none_same, same_none, keys_of, IsNewKey, each_distinct, distinct_each}
+use Rattle.machine.specs.declared.act.Act.TheVariants.{Constant, Operate, Load, Store, Put}
+use Rattle.machine.specs.Fits.{global_limit, GlobalFits, ArgumentsFit, ActFits, TestFits}
+use Rattle.machine.specs.Spelling.{arguments_text, test_text, act_code, act_body}
+use Rattle.machine.specs.Reading.{global, arguments, asked, constant, operation, load, store, put, acts, act}
+pub use Rattle.locations.proofs.Forms.{register_form, value_form, move_form, moves_form, call_form, CallParts, CallPartsFit, FrameFits, frame_form}
 
-pub register_form : IsForm register byte_text RegisterFits
-unfolding register
-register_form = below_form 8 byte_form (λ n lt. omega arith)
+global_form : IsForm global (to_be_bytes w16) GlobalFits
+unfolding global
+global_form = below_form global_limit number16_form (λ n lt. omega arith)
 
--- ---- locations and moves
-
-location_again : (slots : ℕ) → slots ≤ 2 ^ 16 → (l : Location) (rest : List ℕ) → LocationFits slots l → follow (locations slots) unknown (location_code l) (location_body l ++ rest) ≡ Ok (l, rest)
-location_again slots few (InRegister r) rest fits = made_again (λ q. InRegister q) register_form r rest fits
-location_again slots few (InSlot s) rest fits = made_again (λ t. InSlot t) (below_form slots number16_form (λ n lt. omega arith)) s rest fits
-
-pub location_form : (slots : ℕ) → slots ≤ 2 ^ 16 → IsForm (location slots) location_text (LocationFits slots)
-unfolding location
-location_form slots few =
-    let at = HasCode location_code location_body (LocationFits slots) in
-    coded_form location_code location_body (LocationFits slots) (follow (locations slots) unknown)
-    (follow_form location_code location_body (LocationFits slots) (locations slots) unknown (
-      made_takes (λ r. InRegister r) register_form location_body (at 0) (λ r fits. (refl, (fits, refl))),
-      (made_takes (λ s. InSlot s) (below_form slots number16_form (λ n lt. omega arith)) location_body (at 1) (λ s fits. (refl, (fits, refl))), tt),
-    )
-    (unknown_takes location_code location_body (LocationFits slots))
-    (location_again slots few))
-
-through : (target source : Location) → not (is_slot target && is_slot source) ≡ true → HasRegister target source
-through (InRegister r) source e = tt
-through (InSlot s) (InRegister r) e = tt
-through (InSlot s) (InSlot t) e = absurd cc
-
-through_back : (target source : Location) → HasRegister target source → not (is_slot target && is_slot source) ≡ true
-through_back (InRegister r) source h = refl
-through_back (InSlot s) (InRegister r) h = refl
-through_back (InSlot s) (InSlot t) h = absurd h
-
-abbrev EndsFit : ℕ → Location × Location → Type 0
-EndsFit slots p = (LocationFits slots p.0 × LocationFits slots p.1) × HasRegister p.0 p.1
-
-abbrev ends_text : Location × Location → List ℕ
-ends_text p = location_text p.0 ++ location_text p.1
-
-pub move_form : (slots : ℕ) → slots ≤ 2 ^ 16 → IsForm (one_move slots) move_text (MoveFits slots)
-unfolding one_move
-move_form slots few =
-    let one = location_form slots few in
-    let ends : IsForm (tested (λ p. not (is_slot p.0 && is_slot p.1)) NotCanonical (both (location slots) (λ target. location slots))) ends_text (EndsFit slots) =
-    tested_form (λ p. not (is_slot p.0 && is_slot p.1)) NotCanonical (both_form (location slots) location_text (LocationFits slots) one (λ target. location slots) (λ target. location_text) (λ target. LocationFits slots) (λ target fits. one)) (EndsFit slots)
-    (λ p fits passes. (fits, through p.0 p.1 passes))
-    (λ p fits. (fits.0, through_back p.0 p.1 fits.1)) in
-    made_form (λ (p : Location × Location). record { target = p.0; source = p.1 }) ends move_text (MoveFits slots)
-    (λ p fits. (refl, record { target = fits.0.0; source = fits.0.1; through = fits.1 }))
-    (λ m fits. ((m.target, m.source), ((fits.target, fits.source), fits.through), refl))
-
-pub moves_form : (slots : ℕ) → slots ≤ 2 ^ 16 → IsForm (moves slots) moves_text (MovesFit slots)
-unfolding moves
-moves_form slots few =
-    fits_form (counted_form (λ before. one_move slots) move_text (λ before. MoveFits slots) (λ before. move_form slots few) byte byte_text (λ n. n < 256) byte_form)
-    (λ ms fits. record { few = omega (arith, fits.0); each = each_fits (MoveFits slots) [] ms fits.1 })
-    (λ ms fits. (omega (arith, fits.few), fits_each (MoveFits slots) [] ms fits.each))
-
--- ---- arguments, tests and values
+-- ---- arguments and tests
 
 one_back : (y : Arguments) → ArgumentsFit 1 y → (x : ℕ) × RegisterFits x × (One x ≡ y)
 one_back (One a) fits = (a, fits.1, refl)
@@ -145,18 +88,6 @@ test_form =
     (λ p fits. (refl, fits.1))
     (λ t fits. ((t.condition, t.arguments), (cond_code_small t.condition, fits), refl))
 
-value_fits : (o : Option ℕ) → IfSome o RegisterFits → ValueFits o
-value_fits None fits = tt
-value_fits (Some r) fits = fits
-
-fits_value : (o : Option ℕ) → ValueFits o → IfSome o RegisterFits
-fits_value None fits = tt
-fits_value (Some r) fits = fits
-
-pub value_form : IsForm value value_text ValueFits
-unfolding value
-value_form = fits_form (optional_form register_form) value_fits fits_value
-
 -- ---- plain instructions
 
 abbrev ConstantFits : ℕ × ℕ → Type 0
@@ -185,104 +116,52 @@ operation_takes : TakesBehind act_code act_body ActFits 3 operation
 unfolding operation
 operation_takes = made_takes (λ (p : Op × (ℕ × Arguments)). Operate p.0 p.1.0 p.1.1) operation_parts act_body (HasCode act_code act_body ActFits 3) (λ p fits. (refl, (fits.1, refl)))
 
+abbrev Three : Type 0
+Three = ℕ × (ℕ × ℕ)
+
+abbrev LoadFits : Three → Type 0
+LoadFits p = RegisterFits p.0 × (GlobalFits p.1.0 × RegisterFits p.1.1)
+
+load_parts : IsForm (both register (λ target. both global (λ g. register))) (λ p. byte_text p.0 ++ (to_be_bytes w16 p.1.0 ++ byte_text p.1.1)) LoadFits
+load_parts =
+    both_form register byte_text RegisterFits register_form (λ target. both global (λ g. register)) (λ target p. to_be_bytes w16 p.0 ++ byte_text p.1) (λ target p. GlobalFits p.0 × RegisterFits p.1)
+    (λ target fits. both_form global (to_be_bytes w16) GlobalFits global_form (λ g. register) (λ g. byte_text) (λ g. RegisterFits) (λ g fits. register_form))
+
+load_takes : TakesBehind act_code act_body ActFits 4 load
+unfolding load
+load_takes = made_takes (λ (p : Three). Load p.0 p.1.0 p.1.1) load_parts act_body (HasCode act_code act_body ActFits 4) (λ p fits. (refl, ((fits.0, fits.1.0, fits.1.1), refl)))
+
+abbrev StoreFits : Three → Type 0
+StoreFits p = GlobalFits p.0 × (RegisterFits p.1.0 × RegisterFits p.1.1)
+
+store_parts : IsForm (both global (λ g. both register (λ index. register))) (λ p. to_be_bytes w16 p.0 ++ (byte_text p.1.0 ++ byte_text p.1.1)) StoreFits
+store_parts =
+    both_form global (to_be_bytes w16) GlobalFits global_form (λ g. both register (λ index. register)) (λ g p. byte_text p.0 ++ byte_text p.1) (λ g p. RegisterFits p.0 × RegisterFits p.1)
+    (λ g fits. both_form register byte_text RegisterFits register_form (λ index. register) (λ index. byte_text) (λ index. RegisterFits) (λ index fits. register_form))
+
+store_takes : TakesBehind act_code act_body ActFits 5 store
+unfolding store
+store_takes = made_takes (λ (p : Three). Store p.0 p.1.0 p.1.1) store_parts act_body (HasCode act_code act_body ActFits 5) (λ p fits. (refl, ((fits.0, fits.1.0, fits.1.1), refl)))
+
+abbrev PutFits : ℕ × Option ℕ → Type 0
+PutFits p = RegisterFits p.0 × ValueFits p.1
+
+put_parts : IsForm (both register (λ source. value)) (λ p. byte_text p.0 ++ value_text p.1) PutFits
+put_parts = both_form register byte_text RegisterFits register_form (λ source. value) (λ source. value_text) (λ source. ValueFits) (λ source fits. value_form)
+
+put_takes : TakesBehind act_code act_body ActFits 7 put
+unfolding put
+put_takes = made_takes (λ (p : ℕ × Option ℕ). Put p.0 p.1) put_parts act_body (HasCode act_code act_body ActFits 7) (λ p fits. (refl, (fits, refl)))
+
 act_again : (a : Act) (rest : List ℕ) → ActFits a → act (act_code a) (act_body a ++ rest) ≡ Ok (a, rest)
-unfolding act constant operation
+unfolding act constant operation load store put
 act_again (Constant target word) rest fits = made_again (λ (p : ℕ × ℕ). Constant p.0 p.1) constant_parts (target, word) rest fits
 act_again (Operate op target args) rest fits = made_again (λ (p : Op × (ℕ × Arguments)). Operate p.0 p.1.0 p.1.1) operation_parts (op, (target, args)) rest (code_small op, fits)
+act_again (Load target global index) rest fits = made_again (λ (p : Three). Load p.0 p.1.0 p.1.1) load_parts (target, (global, index)) rest (fits.0, (fits.1, fits.2))
+act_again (Store global index source) rest fits = made_again (λ (p : Three). Store p.0 p.1.0 p.1.1) store_parts (global, (index, source)) rest (fits.0, (fits.1, fits.2))
+act_again (Put source target) rest fits = made_again (λ (p : ℕ × Option ℕ). Put p.0 p.1) put_parts (source, target) rest fits
 
 -- what follows a code is a plain instruction with that code
 pub act_form : (code : ℕ) → IsForm (act code) act_body (HasCode act_code act_body ActFits code)
 unfolding act
-act_form = follow_form act_code act_body ActFits ((1, constant) ∷ (3, operation) ∷ []) unknown (constant_takes, (operation_takes, tt)) (unknown_takes act_code act_body ActFits) act_again
-
--- ---- parameters and slots
-
-same_tells : (a b : Location) → same_location a b ≡ true → a ≡ b
-same_tells (InRegister r) (InRegister q) e = ap (λ n. InRegister n) (eqb-true r q e)
-same_tells (InRegister r) (InSlot s) e = absurd cc
-same_tells (InSlot s) (InRegister r) e = absurd cc
-same_tells (InSlot s) (InSlot t) e = ap (λ n. InSlot n) (eqb-true s t e)
-
-same_itself : (a : Location) → same_location a a ≡ true
-same_itself (InRegister r) = eq-eqb r r refl
-same_itself (InSlot s) = eq-eqb s s refl
-
-abbrev ParameterFits : List Location → Location → Type 0
-ParameterFits before l = LocationFits (2 ^ 16) l × AllByRecursion (λ k. k ≢ l) before
-
-parameter_form : (before : List Location) → IsForm (parameter before) location_text (ParameterFits before)
-unfolding parameter
-parameter_form before =
-    tested_form (λ l. not (list_any (λ k. same_location k l) before)) NotCanonical (location_form (2 ^ 16) (omega arith)) (ParameterFits before)
-    (λ l fits passes. (fits, none_same same_location same_tells same_itself l before (not-true _ passes)))
-    (λ l fits. (fits.0, not_from_false _ (same_none same_location same_tells same_itself l before fits.1)))
-
-parameters_form : IsForm parameters (counted_text byte_text location_text) (λ ps. (length ps ≤ parameter_limit) × EachFits ParameterFits [] ps)
-unfolding parameters
-parameters_form = counted_form parameter location_text ParameterFits parameter_form (up_to parameter_limit byte) byte_text (λ n. n ≤ parameter_limit) (up_to_form parameter_limit byte_form (λ n le. omega arith))
-
-keys_themselves : (ps : List Location) → keys_of (λ l. Some l) ps ≡ ps
-keys_themselves [] = refl
-keys_themselves (p ∷ ps) = ap (λ l. p ∷ l) (keys_themselves ps)
-
-new_key : (before ps : List Location) → EachFits (λ b l. AllByRecursion (λ k. k ≢ l) b) before ps → EachFits (λ b l. IsNewKey (keys_of (λ k. Some k) b) (Some l)) before ps
-new_key before [] fits = tt
-new_key before (p ∷ ps) fits = (subst (AllByRecursion (λ k. k ≢ p)) (sym (keys_themselves before)) fits.0, new_key (before ++ p ∷ []) ps fits.1)
-
-key_new : (before ps : List Location) → EachFits (λ b l. IsNewKey (keys_of (λ k. Some k) b) (Some l)) before ps → EachFits (λ b l. AllByRecursion (λ k. k ≢ l) b) before ps
-key_new before [] fits = tt
-key_new before (p ∷ ps) fits = (subst (AllByRecursion (λ k. k ≢ p)) (keys_themselves before) fits.0, key_new (before ++ p ∷ []) ps fits.1)
-
-narrow : (slots : ℕ) (l : Location) → LocationFits (2 ^ 16) l → lies_within slots l ≡ true → LocationFits slots l
-narrow slots (InRegister r) fits e = fits
-narrow slots (InSlot s) fits e = ltb-true s slots e
-
-widen : (slots : ℕ) → slots ≤ slot_limit → (l : Location) → LocationFits slots l → LocationFits (2 ^ 16) l × (lies_within slots l ≡ true)
-widen slots few (InRegister r) fits = (fits, refl)
-widen slots few (InSlot s) fits = (omega (arith, fits), lt-ltb s slots fits)
-
-narrow_all : (slots : ℕ) (ps : List Location) → AllByRecursion (LocationFits (2 ^ 16)) ps → list_all (lies_within slots) ps ≡ true → AllByRecursion (LocationFits slots) ps
-narrow_all slots [] fits e = tt
-narrow_all slots (p ∷ ps) fits e = let both = and_parts (lies_within slots p) (list_all (lies_within slots) ps) e in (narrow slots p fits.0 both.0, narrow_all slots ps fits.1 both.1)
-
-widen_all : (slots : ℕ) → slots ≤ slot_limit → (ps : List Location) → AllByRecursion (LocationFits slots) ps → AllByRecursion (LocationFits (2 ^ 16)) ps × (list_all (lies_within slots) ps ≡ true)
-widen_all slots few [] fits = (tt, refl)
-widen_all slots few (p ∷ ps) fits =
-    let one = widen slots few p fits.0 in
-    let rest = widen_all slots few ps fits.1 in
-    ((one.0, rest.0), and_from (lies_within slots p) (list_all (lies_within slots) ps) one.1 rest.1)
-
--- what a frame fits is what a function's parameters and slots fit
-abbrev pub FrameFits : List Location × ℕ → Type 0
-FrameFits f = ParametersFit f.1 f.0 × (f.1 ≤ slot_limit)
-
-abbrev ReadFits : List Location × ℕ → Type 0
-ReadFits f = ((length f.0 ≤ parameter_limit) × EachFits ParameterFits [] f.0) × (f.1 < 2 ^ 16)
-
-abbrev WithinFits : List Location × ℕ → Type 0
-WithinFits f = ReadFits f × (list_all (lies_within f.1) f.0 ≡ true)
-
-frame_fits : (f : List Location × ℕ) → WithinFits f → nat_le f.1 slot_limit ≡ true → FrameFits f
-frame_fits f fits few =
-    let split = both_each (λ b. LocationFits (2 ^ 16)) (λ b l. AllByRecursion (λ k. k ≢ l) b) [] f.0 fits.0.0.1 in (
-      record {
-        few = fits.0.0.0;
-        each = narrow_all f.1 f.0 (each_fits (LocationFits (2 ^ 16)) [] f.0 split.0) fits.1;
-        distinct = subst AreDistinct (keys_themselves f.0) (each_distinct (λ l. Some l) [] f.0 tt (new_key [] f.0 split.1));
-      },
-      leb-true f.1 slot_limit few,
-    )
-
-fits_frame : (f : List Location × ℕ) → FrameFits f → WithinFits f × (nat_le f.1 slot_limit ≡ true)
-fits_frame f fits =
-    let wide = widen_all f.1 fits.1 f.0 fits.0.each in
-    let new = key_new [] f.0 (distinct_each (λ l. Some l) [] f.0 (subst AreDistinct (sym (keys_themselves f.0)) fits.0.distinct)) in
-    ((((fits.0.few, each_both (λ b. LocationFits (2 ^ 16)) (λ b l. AllByRecursion (λ k. k ≢ l) b) [] f.0 (fits_each (LocationFits (2 ^ 16)) [] f.0 wide.0) new), omega (arith, fits.1)), wide.1), le-leb f.1 slot_limit fits.1)
-
-pub frame_form : IsForm frame frame_text FrameFits
-unfolding frame
-frame_form =
-    let parts = both_form parameters (counted_text byte_text location_text) (λ ps. (length ps ≤ parameter_limit) × EachFits ParameterFits [] ps) parameters_form (λ ps. number w16) (λ ps. to_be_bytes w16) (λ ps n. n < 2 ^ 16) (λ ps fits. number16_form) in
-    tested_form (λ (f : List Location × ℕ). nat_le f.1 slot_limit) TooLarge
-    (tested_form (λ (f : List Location × ℕ). list_all (lies_within f.1) f.0) NotCanonical parts WithinFits (λ f fits within. (fits, within)) (λ f fits. fits))
-    FrameFits frame_fits fits_frame
+act_form = follow_form act_code act_body ActFits acts unknown (constant_takes, (operation_takes, (load_takes, (store_takes, (put_takes, tt))))) (unknown_takes act_code act_body ActFits) act_again

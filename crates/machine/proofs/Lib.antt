@@ -1,4 +1,4 @@
 pub mod Outputs
-pub mod Distinct
 pub mod Forms
 pub mod Equal
+pub mod Distinct

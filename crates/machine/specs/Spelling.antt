@@ -1,40 +1,15 @@
 -- The bytes of the parts that LTL and Linear share.
-use Rattle.std.specs.Prelude.{ℕ, List, [], ◌∷◌, ◌++◌, Option}
+use Rattle.std.specs.Prelude.{ℕ, List, [], ◌∷◌, ◌++◌}
 use Rattle.std.specs.Int.{w16, w32, to_be_bytes}
-use Rattle.lang.specs.Texts.{optional_text, counted_text}
 use Rattle.ints.specs.Codes.{code_of}
 use Rattle.ints.specs.Conditions.{cond_code_of}
-use Rattle.machine.specs.declared.location.Location.{Location}
-use Rattle.machine.specs.declared.location.Location.TheVariants.{InRegister, InSlot}
-use Rattle.machine.specs.declared.location.Move.{Move}
+use Rattle.locations.specs.Spelling.{value_text}
 use Rattle.machine.specs.declared.arguments.Arguments.{Arguments}
 use Rattle.machine.specs.declared.arguments.Arguments.TheVariants.{One, Two}
 use Rattle.machine.specs.declared.act.Act.{Act}
-use Rattle.machine.specs.declared.act.Act.TheVariants.{Constant, Operate}
+use Rattle.machine.specs.declared.act.Act.TheVariants.{Constant, Operate, Load, Store, Put}
 use Rattle.machine.specs.declared.test.Test.{Test}
-
--- a count and a register take a byte
-abbrev pub byte_text : ℕ → List ℕ
-byte_text n = n ∷ []
-
--- a location: its code, and what follows that
-abbrev pub location_code : Location → ℕ
-location_code (InRegister r) = 0
-location_code (InSlot s) = 1
-
-abbrev pub location_body : Location → List ℕ
-location_body (InRegister r) = r ∷ []
-location_body (InSlot s) = to_be_bytes w16 s
-
-abbrev pub location_text : Location → List ℕ
-location_text l = location_code l ∷ location_body l
-
--- the target comes first
-abbrev pub move_text : Move → List ℕ
-move_text m = location_text m.target ++ location_text m.source
-
-abbrev pub moves_text : List Move → List ℕ
-moves_text ms = counted_text byte_text move_text ms
+pub use Rattle.locations.specs.Spelling.{byte_text, value_text, location_code, location_body, location_text, locations_text, target_text, move_text, moves_text, call_text, frame_text}
 
 abbrev pub arguments_text : Arguments → List ℕ
 arguments_text (One a) = a ∷ []
@@ -43,19 +18,17 @@ arguments_text (Two a b) = a ∷ b ∷ []
 abbrev pub test_text : Test → List ℕ
 test_text test = cond_code_of test.condition ∷ arguments_text test.arguments
 
--- what a return names, if anything
-abbrev pub value_text : Option ℕ → List ℕ
-value_text value = optional_text byte_text value
-
 -- a plain instruction: its code, and what follows that
 abbrev pub act_code : Act → ℕ
 act_code (Constant target word) = 1
 act_code (Operate op target arguments) = 3
+act_code (Load target global index) = 4
+act_code (Store global index source) = 5
+act_code (Put source target) = 7
 
 abbrev pub act_body : Act → List ℕ
 act_body (Constant target word) = target ∷ to_be_bytes w32 word
 act_body (Operate op target arguments) = code_of op ∷ target ∷ arguments_text arguments
-
--- where the parameters of a function lie, and the number of its slots
-abbrev pub frame_text : List Location × ℕ → List ℕ
-frame_text frame = counted_text byte_text location_text frame.0 ++ to_be_bytes w16 frame.1
+act_body (Load target global index) = target ∷ (to_be_bytes w16 global ++ index ∷ [])
+act_body (Store global index source) = to_be_bytes w16 global ++ index ∷ source ∷ []
+act_body (Put source target) = source ∷ value_text target

@@ -1,8 +1,9 @@
 use crate::arguments::Arguments;
-use crate::register::Register;
 use ints::Op;
+use locations::Register;
 
-/// An instruction that goes on to what follows it and changes the frame alone.
+/// An instruction that goes on to what follows it, within its function (Leroy 2009, section 3.3).
+/// Globals are meant by number, and their cells by the word of a register.
 #[derive(Clone, Copy, Debug, PartialEq, Eq)]
 pub enum Act {
     /// The target becomes the word.
@@ -15,5 +16,22 @@ pub enum Act {
         op: Op,
         target: Register,
         arguments: Arguments,
+    },
+    /// The target becomes the word in the global's cell.
+    Load {
+        target: Register,
+        global: u16,
+        index: Register,
+    },
+    /// The global's cell becomes what the source holds.
+    Store {
+        global: u16,
+        index: Register,
+        source: Register,
+    },
+    /// Prints the low eight bits of the source as one byte, which the target becomes where one is named.
+    Put {
+        source: Register,
+        target: Option<Register>,
     },
 }

@@ -1,4 +1,4 @@
-use crate::register::Register;
+use locations::Register;
 
 /// The registers that an operator or a condition takes.
 #[derive(Clone, Copy, Debug, PartialEq, Eq)]

@@ -1,88 +1,22 @@
-//! Readers of the parts that LTL and Linear share. Each is one function on lists, which says the
-//! value and the bytes behind it, or the first fault.
+//! Readers of plain instructions and tests. Each is one function on lists, which says the value and
+//! the bytes behind it, or the first fault.
 
-ghost use Rattle.std.specs.Prelude.{◌≡◌, [], ◌^◌, ◌&&◌};
-ghost use Rattle.std.specs.List.{list_all};
-ghost use Rattle.lang.specs.Reading.{IsRead, Reads, items_of, more};
-ghost use Rattle.machine.specs.Reading.{register, location, is_slot, one_move, moves, arguments, asked, value, constant, operation, act, parameter, parameters, lies_within, frame};
+ghost use Rattle.lang.specs.Reading.{IsRead};
+ghost use Rattle.machine.specs.Reading.{global, arguments, asked, constant, operation, load, store, put, act};
 
 use crate::act::Act;
 use crate::arguments::Arguments;
-use crate::location::{Location, Move};
-use crate::register::{REGISTER_COUNT, Register};
 use crate::test::Test;
 use ints::{Cond, Op};
-use lang::{FormError, Row, read_byte, read_count, read_u16, read_u16_below, read_u32};
-use std::alloc::Global;
+use lang::{FormError, read_byte, read_u16_below, read_u32};
+use locations::{read_register, read_value};
 
-/// A register.
-#[tactic(auto, unfolding(crate::specs::Reading::register))]
-fn read_register(bytes: &mut &[u8]) -> Result<Register, FormError>
-    ensures { IsRead (register bytes.old.now) result bytes.new.now }
+/// A global's number.
+#[tactic(auto, unfolding(crate::specs::Reading::global))]
+fn read_global(bytes: &mut &[u8]) -> Result<u16, FormError>
+    ensures { IsRead (global bytes.old.now) result bytes.new.now }
 {
-    let number = read_byte(bytes)?;
-    if number < REGISTER_COUNT {
-        Ok(number)
-    } else {
-        Err(FormError::NotCanonical)
-    }
-}
-
-/// A location among so many slots.
-#[tactic(auto, unfolding(crate::specs::Reading::location))]
-pub fn read_location(slots: u32, bytes: &mut &[u8]) -> Result<Location, FormError>
-    ensures { IsRead (location slots bytes.old.now) result bytes.new.now }
-{
-    match read_byte(bytes)? {
-        0 => Ok(Location::InRegister(read_register(bytes)?)),
-        1 => Ok(Location::InSlot(read_u16_below(slots, bytes)?)),
-        _ => Err(FormError::NotCanonical),
-    }
-}
-
-fn is_slot(location: &Location) -> bool
-    ensures { result ≡ is_slot location.now }
-{
-    matches!(location, Location::InSlot(_))
-}
-
-/// A move: its target, then its source.
-#[tactic(auto, unfolding(crate::specs::Reading::one_move))]
-pub fn read_move(slots: u32, bytes: &mut &[u8]) -> Result<Move, FormError>
-    ensures { IsRead (one_move slots bytes.old.now) result bytes.new.now }
-{
-    let target = read_location(slots, bytes)?;
-    let source = read_location(slots, bytes)?;
-    if is_slot(&target) && is_slot(&source) {
-        return Err(FormError::NotCanonical);
-    }
-    Ok(Move { target, source })
-}
-
-/// The moves of one list.
-#[tactic(auto, unfolding(crate::specs::Reading::moves))]
-pub fn read_moves(alloc: Global, slots: u32, bytes: &mut &[u8]) -> Result<Row<Move>, FormError>
-    ensures { Reads (moves slots bytes.old.now) result bytes.new.now }
-{
-    let count = read_byte(bytes)?;
-    let moves = read_so_many_moves(alloc, count, slots, bytes)?;
-    Ok(Row::from_vec(moves))
-}
-
-fn read_so_many_moves(
-    alloc: Global,
-    count: u8,
-    slots: u32,
-    bytes: &mut &[u8],
-) -> Result<Vec<Move>, FormError>
-    ensures { Reads (more (λ before. one_move slots) [] count bytes.old.now) (items_of result) bytes.new.now }
-{
-    let mut moves = Vec::new(alloc);
-    for _ in 0..count {
-        let step = read_move(slots, bytes)?;
-        moves.push(step)?;
-    }
-    Ok(moves)
+    read_u16_below(1024, bytes)
 }
 
 /// One register or two.
@@ -110,18 +44,6 @@ pub fn read_test(bytes: &mut &[u8]) -> Result<Test, FormError>
     })
 }
 
-/// What a return names, if anything.
-#[tactic(auto, unfolding(crate::specs::Reading::value))]
-pub fn read_value(bytes: &mut &[u8]) -> Result<Option<Register>, FormError>
-    ensures { IsRead (value bytes.old.now) result bytes.new.now }
-{
-    match read_byte(bytes)? {
-        0 => Ok(None),
-        1 => Ok(Some(read_register(bytes)?)),
-        _ => Err(FormError::NotCanonical),
-    }
-}
-
 #[tactic(auto, unfolding(crate::specs::Reading::constant))]
 fn read_constant(bytes: &mut &[u8]) -> Result<Act, FormError>
     ensures { IsRead (constant bytes.old.now) result bytes.new.now }
@@ -145,6 +67,43 @@ fn read_operation(bytes: &mut &[u8]) -> Result<Act, FormError>
     })
 }
 
+#[tactic(auto, unfolding(crate::specs::Reading::load))]
+fn read_load(bytes: &mut &[u8]) -> Result<Act, FormError>
+    ensures { IsRead (load bytes.old.now) result bytes.new.now }
+{
+    let target = read_register(bytes)?;
+    let global = read_global(bytes)?;
+    let index = read_register(bytes)?;
+    Ok(Act::Load {
+        target,
+        global,
+        index,
+    })
+}
+
+#[tactic(auto, unfolding(crate::specs::Reading::store))]
+fn read_store(bytes: &mut &[u8]) -> Result<Act, FormError>
+    ensures { IsRead (store bytes.old.now) result bytes.new.now }
+{
+    let global = read_global(bytes)?;
+    let index = read_register(bytes)?;
+    let source = read_register(bytes)?;
+    Ok(Act::Store {
+        global,
+        index,
+        source,
+    })
+}
+
+#[tactic(auto, unfolding(crate::specs::Reading::put))]
+fn read_put(bytes: &mut &[u8]) -> Result<Act, FormError>
+    ensures { IsRead (put bytes.old.now) result bytes.new.now }
+{
+    let source = read_register(bytes)?;
+    let target = read_value(bytes)?;
+    Ok(Act::Put { source, target })
+}
+
 /// What follows the code of a plain instruction; no other code is one.
 #[tactic(auto, unfolding(crate::specs::Reading::act))]
 pub fn read_act(code: u8, bytes: &mut &[u8]) -> Result<Act, FormError>
@@ -153,67 +112,9 @@ pub fn read_act(code: u8, bytes: &mut &[u8]) -> Result<Act, FormError>
     match code {
         1 => read_constant(bytes),
         3 => read_operation(bytes),
+        4 => read_load(bytes),
+        5 => read_store(bytes),
+        7 => read_put(bytes),
         _ => Err(FormError::NotCanonical),
     }
-}
-
-/// A location where no parameter before it lies. The slots are counted behind it.
-#[tactic(auto, unfolding(crate::specs::Reading::parameter))]
-fn read_parameter(before: &[Location], bytes: &mut &[u8]) -> Result<Location, FormError>
-    ensures { IsRead (parameter before.now bytes.old.now) result bytes.new.now }
-{
-    let location = read_location(1 << 16, bytes)?;
-    if before.contains(&location) {
-        return Err(FormError::NotCanonical);
-    }
-    Ok(location)
-}
-
-fn read_so_many_parameters(
-    alloc: Global,
-    count: u8,
-    bytes: &mut &[u8],
-) -> Result<Vec<Location>, FormError>
-    ensures { Reads (more parameter [] count bytes.old.now) (items_of result) bytes.new.now }
-{
-    let mut parameters = Vec::new(alloc);
-    for _ in 0..count {
-        let location = read_parameter(&parameters, bytes)?;
-        parameters.push(location)?;
-    }
-    Ok(parameters)
-}
-
-#[tactic(auto, unfolding(crate::specs::Reading::parameters))]
-fn read_parameters(alloc: Global, bytes: &mut &[u8]) -> Result<Vec<Location>, FormError>
-    ensures { Reads (parameters bytes.old.now) (items_of result) bytes.new.now }
-{
-    let count = read_count(16, bytes)?;
-    read_so_many_parameters(alloc, count, bytes)
-}
-
-/// Whether each of the locations is a register or one of so many slots.
-fn all_within(slots: u16, locations: &[Location]) -> bool
-    ensures { result ≡ list_all (lies_within slots) locations.now }
-{
-    locations.iter().all(|location| match location {
-        Location::InRegister(_) => true,
-        Location::InSlot(slot) => *slot < slots,
-    })
-}
-
-/// Where the parameters of a function lie, and the number of its slots.
-#[tactic(auto, unfolding(crate::specs::Reading::frame))]
-pub fn read_frame(alloc: Global, bytes: &mut &[u8]) -> Result<(Row<Location>, u16), FormError>
-    ensures { Reads (frame bytes.old.now) result bytes.new.now }
-{
-    let parameters = read_parameters(alloc, bytes)?;
-    let slots = read_u16(bytes)?;
-    if !all_within(slots, &parameters) {
-        return Err(FormError::NotCanonical);
-    }
-    if slots > 2048 {
-        return Err(FormError::TooLarge);
-    }
-    Ok((Row::from_vec(parameters), slots))
 }

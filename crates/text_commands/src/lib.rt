@@ -12,6 +12,3 @@ pub use closing::{Closing, status_of};
 pub use error::CommandError;
 pub use interpreting::interpret;
 pub use run_output::RunError;
-
-#[cfg(test)]
-mod tests;

@@ -1,13 +1,13 @@
 //! Runs C texts with known answers through the commands `check` and `interpret`, and tells how many of each
 //! file agree, and which do not. `vectors.txt` was made by an independent reading of the language, the
-//! answers in `gcc.txt` and `examples.txt` are those of a C compiler, and `rows.txt` was written by hand.
+//! answers in `gcc.txt`, `examples.txt` and `drawn.txt`, whose programs were drawn by chance, are those of a C
+//! compiler, and `rows.txt` was written by hand.
 #![tactic(auto)]
 
-mod row;
 mod told;
 
-use crate::row::{Form, row_of};
 use crate::told::told_of;
+use program_rows::{Form, row_of};
 use std::alloc::{AllocError, Global};
 use std::{fs, io};
 
@@ -15,6 +15,7 @@ fn main(rt: HostRuntime) -> io::Result<()> {
     compare(&rt, "vectors.txt", Form::Hex)?;
     compare(&rt, "gcc.txt", Form::Plain)?;
     compare(&rt, "examples.txt", Form::Hex)?;
+    compare(&rt, "drawn.txt", Form::Plain)?;
     compare(&rt, "rows.txt", Form::Plain)
 }
 

@@ -1,6 +1,6 @@
 //! The forms of LTL and Linear on worked inputs, on all that is near them, and on what others say of them.
 
-use crate::told::{forms_told, functions_to_come};
+use crate::told::forms_told;
 use lang::Language;
 use linear::Linear;
 use ltl::Ltl;
@@ -8,17 +8,22 @@ use std::alloc::Global;
 use std::process::Abort;
 use std::test::Fail;
 
-/// In LTL: r0 = 7; return r0. A branch on a parameter in r0.
-const LTL: [&str; 2] = [
+/// In LTL: r0 = 7; return r0. A branch on a parameter in r0. A call of function 2 with r3 for r0. A load, a
+/// store and a printing whose byte is kept.
+const LTL: [&str; 4] = [
     "03000000000000020001000000000700010000090100",
     "0301000000000000000300080000000100020001000000000500020000090100",
+    "030000000000000200060201000301000000010000090100",
+    "0300000000000004000401000203000100000500020301000200000701010000030000090100",
 ];
 
 /// The same in Linear, the branch in both orders of its blocks.
-const LINEAR: [&str; 3] = [
+const LINEAR: [&str; 5] = [
     "04000000000000040a00000100000000070a0001090100",
     "040100000000000000070a000008000000010b00020a00010100000000050a0002090100",
     "040100000000000000070a000008000000010a00020901000a00010100000000050b0002",
+    "04000000000000040a000006020100030100000a0001090100",
+    "04000000000000050a00000401000203050002030107010100090100",
 ];
 
 /// What a language says of the bytes: `ok` and how many of them a function has, or `no` and a number. What
@@ -111,14 +116,6 @@ fn forms_as_they_are_told(rt: HostRuntime) -> Result<(), Fail> {
             _ => form_told::<Linear>(alloc, &bytes)?,
         };
         assert_eq!(rt; found.as_str(), told, "{text}");
-    }
-    for text in functions_to_come().split_whitespace() {
-        let bytes = hex::decode(alloc, text)?;
-        assert_eq!(rt;
-            form_told::<Ltl>(alloc, &bytes)?.as_str(),
-            "no103",
-            "{text}"
-        );
     }
     Ok(())
 }

@@ -2,6 +2,10 @@
 #![tactic(auto)]
 
 #[cfg(test)]
+mod expressions;
+#[cfg(test)]
 mod rows;
+#[cfg(test)]
+mod tokens;
 #[cfg(test)]
 mod trees;

@@ -1,7 +1,7 @@
 use Rattle.std.proofs.Common.{ℕ, List}
 use Rattle.lang.proofs.Forms.{AreBytes, AreBytes-rest}
 use Rattle.lang.proofs.Parts.{byte_form}
-use Rattle.machine.specs.declared.location.Location.{Location}
+use Rattle.locations.specs.declared.location.Location.{Location}
 use Rattle.linear.specs.declared.instruction.Instruction.{Instruction}
 use Rattle.linear.specs.Forms.{parts_form, parts_fit}
 use Rattle.linear.proofs.reading.read_function.Goals as goal

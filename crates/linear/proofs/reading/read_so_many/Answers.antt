@@ -6,7 +6,7 @@ use Rattle.linear.proofs.reading.read_so_many.Goals as goal
 pub returns-in_err-instruction : goal.returns-in_err-instruction
 returns-in_err-instruction c =
     let p = err_from_is_err_and c.from_residual-in_err-instruction.result c.from_residual-in_err-instruction.ensures.1 in
-    rw (p.1, p.2) (λ memory. stops (placed c.args.slots) c.args.count _ c.in_err-instruction.field-0.0 c.loop.code.items c.loop.counter c.loop.bytes.now c.loop-test.true c.loop.invariant.under_way (c.in_err-instruction.ensures.read c.loop.code.items c.loop.invariant.flags))
+    rw (p.1, p.2) (λ memory. stops (placed c.args.slots) c.args.count _ c.in_err-instruction.field-0.0 c.loop.code.items c.loop.counter c.loop.bytes.now c.loop-test.true c.loop.invariant.under_way (c.in_err-instruction.ensures.read c.loop.code.items c.loop.invariant.flags memory))
 
 pub loop-preserved : goal.loop-preserved
 loop-preserved c = rw c.in_ok-push.ensures.items (record {

@@ -1,5 +1,5 @@
 use Rattle.std.proofs.Common.{ℕ, List}
-use Rattle.machine.specs.declared.location.Location.{Location}
+use Rattle.locations.specs.declared.location.Location.{Location}
 use Rattle.ltl.specs.declared.block.Block.{Block}
 use Rattle.lang.proofs.Forms.{AreBytes, AreBytes-rest}
 use Rattle.lang.proofs.Parts.{byte_form}

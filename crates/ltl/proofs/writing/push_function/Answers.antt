@@ -1,6 +1,4 @@
-use Rattle.std.proofs.Common.{◌≡◌, sym, ap, subst, ◌∙◌, arith, length, ◌≤◌}
-use Rattle.std.specs.Prelude.{All}
-use Rattle.ltl.specs.Function.{HasShortLists}
+use Rattle.std.proofs.Common.{ap, ◌∙◌, arith, length}
 use Rattle.ltl.proofs.Short.{all_short}
 use Rattle.ltl.proofs.writing.push_function.Goals as goal
 

@@ -1,0 +1,5 @@
+pub mod Places
+pub mod Changes
+pub mod Acts
+pub mod Entries
+pub mod Order

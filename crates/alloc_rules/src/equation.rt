@@ -1,0 +1,9 @@
+use locations::Location;
+use rtl_parts::Register;
+
+/// At a node the location holds the register's word, where the register has one.
+#[derive(Clone, Copy, Debug, PartialEq, Eq)]
+pub struct Equation {
+    pub register: Register,
+    pub location: Location,
+}

@@ -1,0 +1,33 @@
+-- The input itself is accepted with no equations.
+use Rattle.std.proofs.Common.{◌≡◌, ℕ, List, [], length, refl, sym, subst, arith, inl}
+use Rattle.std.specs.Prelude.{replicate, All}
+use Rattle.std.proofs.lemmas.List.{length-replicate}
+use Rattle.std.proofs.lemmas.List.Elements.{All-replicate}
+use Rattle.rtl.specs.declared.instruction.Instruction.{Instruction}
+use Rattle.rtl.specs.Function.{FunctionData}
+use Rattle.rtl_passes.proofs.Verdicts.{none_at}
+use Rattle.cse_sound.specs.declared.equation.Equation.{Equation}
+use Rattle.cse_sound.specs.Rules.{IsInOrder, IsKnown, LeadsTo, IsEliminated}
+
+abbrev none : ℕ → List (List Equation)
+none nodes = replicate nodes []
+
+none_in_order : (registers : ℕ) → IsInOrder registers []
+none_in_order registers = record { few = omega arith; each = λ k d below. absurd (omega (arith, below)); rising = tt }
+
+none_leads : (nodes : ℕ) (equations : List Equation) (i : Instruction) (s : ℕ) → LeadsTo (none nodes) equations i s
+none_leads nodes equations i s = record { known = subst (All (IsKnown i equations)) (sym (none_at nodes s)) (λ k d below. absurd (omega (arith, below))) }
+
+pub none_accepted : (input : FunctionData) → IsEliminated input input (none (length input.nodes))
+none_accepted input = record {
+  shape = record {
+    same = record { parameters = refl; registers = refl; entry = refl; nodes = refl };
+    count = length-replicate (length input.nodes) [];
+    each = All-replicate (IsInOrder input.registers) (length input.nodes) [] (none_in_order input.registers);
+  };
+  nodes = λ n below i o e e'. record {
+    entry = λ first. none_at (length input.nodes) n;
+    leads = λ k s within. none_leads (length input.nodes) _ i _;
+    becomes = inl (let same : o ≡ i = cc in same);
+  };
+}

@@ -1,0 +1,3 @@
+pub mod Baseline
+pub mod Readings
+pub mod Rising

@@ -1,0 +1,58 @@
+//! Whether the output is a move that the equations allow.
+
+ghost use Rattle.std.specs.Prelude.{◌≡◌, ◌↔◌, IsTrue};
+ghost use Rattle.cse_sound.specs.Rules.{IsShared};
+ghost use Rattle.cse_form.specs.Ranks.{RiseFrom};
+ghost use Rattle.cse_check.specs.Sources.{act_source_of, source_of, IsSharedFrom};
+
+use crate::walk::is_among;
+use cse_sound::{Equation, share};
+use rtl::Instruction;
+use rtl_parts::{Act, Register};
+use rtl_passes::is_same;
+
+fn act_source(act: &Act) -> Option<Register>
+    ensures { result ≡ act_source_of act.now }
+{
+    match act {
+        Act::Move { source, .. } => Some(*source),
+        _ => None,
+    }
+}
+
+/// The register that is moved from, where the instruction is a move.
+fn moved_from(instruction: &Instruction) -> Option<Register>
+    ensures { result ≡ source_of instruction.now }
+{
+    match instruction {
+        Instruction::Do { act, .. } => act_source(act),
+        _ => None,
+    }
+}
+
+/// Whether the output is the move from this register, and one of the equations allows it.
+fn is_shared_from(
+    equations: &[Equation],
+    input: &Instruction,
+    output: &Instruction,
+    source: Register,
+) -> bool
+    requires { RiseFrom 0 equations.now }
+    ensures { IsTrue result ↔ IsSharedFrom equations.now input.now output.now source }
+{
+    match share(input, source) {
+        Some((equation, other)) => is_same(&other, output) && is_among(equations, equation),
+        None => false,
+    }
+}
+
+/// Whether the output is a move that one of the equations allows.
+pub(crate) fn is_shared(equations: &[Equation], input: &Instruction, output: &Instruction) -> bool
+    requires { RiseFrom 0 equations.now }
+    ensures { IsTrue result ↔ IsShared equations.now input.now output.now }
+{
+    match moved_from(output) {
+        Some(source) => is_shared_from(equations, input, output, source),
+        None => false,
+    }
+}

@@ -1,0 +1,81 @@
+use crate::base::baseline;
+use crate::lists::EquationLists;
+use crate::verdict::check;
+use cse_form::{push_lists, read_lists};
+use lang::{FormError, NoMemory, Pass, PassError, Row};
+use rtl::{Function, Rtl};
+use std::alloc::Global;
+
+/// Pass 2: what a register holds already is not computed or loaded again.
+pub struct Cse;
+
+impl Pass for Cse {
+    ghost use Rattle.std.specs.Prelude.{◌≡◌, ◌≢◌, ◌≤◌, ℕ, List, ◌++◌, length, take, IsTrue, ◌↔◌, OnOk, OnErr, IfOk, IfErr};
+    ghost use Rattle.cse_sound.specs.Rules.{IsEliminated};
+    ghost use Rattle.cse_form.specs.Text.{CertFits, cert_text};
+    ghost use Rattle.cse_check.specs.PassLaws.{eliminated_fits, one_cert, sound_law, never};
+
+    type In = Rtl;
+
+    type Out = Rtl;
+
+    type Cert = EquationLists;
+
+    const NUMBER: u8 = 2;
+
+    ghost NUMBER = { 2 };
+
+    ghost accepts = { IsEliminated };
+
+    ghost cert_fits = { λ i o c. CertFits i c };
+
+    ghost cert_spelling = { λ i o c. cert_text c };
+
+    ghost too_large = { never };
+
+    fn check(
+        alloc: Global,
+        input: &Function,
+        output: &Function,
+        equations: &EquationLists,
+    ) -> Result<bool, NoMemory> {
+        check(alloc, input, output, equations)
+    }
+
+    fn baseline(alloc: Global, input: &Function) -> Result<(Function, EquationLists), PassError> {
+        Ok(baseline(alloc, input)?)
+    }
+
+    fn write_cert(
+        _input: &Function,
+        _output: &Function,
+        equations: &EquationLists,
+        out: &mut Vec<u8>,
+    ) -> Result<(), NoMemory> {
+        let length = out.len();
+        let written = push_lists(out, equations.as_slice());
+        if written.is_err() {
+            out.truncate(length);
+        }
+        written
+    }
+
+    fn read_cert(
+        alloc: Global,
+        input: &Function,
+        _output: &Function,
+        bytes: &[u8],
+    ) -> Result<(EquationLists, usize), FormError> {
+        let registers = u32::from(input.registers());
+        let nodes = input.nodes().len() as u32;
+        let mut rest = bytes;
+        let lists = read_lists(alloc, registers, nodes, &mut rest)?;
+        Ok((Row::from_vec(lists), bytes.len() - rest.len()))
+    }
+
+    ghost sound = { sound_law };
+
+    ghost accepted_fits = { eliminated_fits };
+
+    ghost one_cert = { one_cert };
+}

@@ -1,0 +1,42 @@
+//! Whether an output is accepted, and where it is not.
+
+ghost use Rattle.std.specs.Prelude.{◌↔◌, IsTrue, IfOk, length};
+ghost use Rattle.rtl_passes.specs.Faults.{TellsFault};
+ghost use Rattle.cse_sound.specs.Rules.{HasShape, IsRightAt, IsEliminated};
+
+use crate::lists::{EquationLists, has_shape};
+use crate::nodes::lowest_wrong;
+use lang::NoMemory;
+use rtl::Function;
+use rtl_passes::Fault;
+use std::alloc::Global;
+
+/// What is wrong with the output and the equations, if anything is.
+pub fn why(
+    _alloc: Global,
+    input: &Function,
+    output: &Function,
+    equations: &EquationLists,
+) -> Result<Option<Fault>, NoMemory>
+    ensures { IfOk result (TellsFault (HasShape input.now output.now equations.now) (IsRightAt input.now output.now equations.now) (length input.now.nodes)) }
+{
+    let lists = equations.as_slice();
+    if !has_shape(input, output, lists) {
+        return Ok(Some(Fault::Shape));
+    }
+    let inputs = input.nodes().as_slice();
+    let outputs = output.nodes().as_slice();
+    Ok(lowest_wrong(input.entry(), inputs, outputs, lists).map(Fault::Node))
+}
+
+/// Whether the output and the equations keep the rules.
+pub fn check(
+    alloc: Global,
+    input: &Function,
+    output: &Function,
+    equations: &EquationLists,
+) -> Result<bool, NoMemory>
+    ensures { IfOk result (λ yes. IsTrue yes ↔ IsEliminated input.now output.now equations.now) }
+{
+    Ok(why(alloc, input, output, equations)?.is_none())
+}

@@ -1,0 +1,20 @@
+use ints::Op;
+use rtl_parts::{Arguments, Register};
+
+/// What stands on the right of an equation.
+#[derive(Clone, Copy, Debug, PartialEq, Eq)]
+pub enum RightSide {
+    /// What the operator gives.
+    Operation { op: Op, arguments: Arguments },
+    /// The word in the global's cell.
+    Cell { global: u16, index: Register },
+    /// What the source holds, defined or not.
+    Copy { source: Register },
+}
+
+/// At a node the register holds what the right side gives there.
+#[derive(Clone, Copy, Debug, PartialEq, Eq)]
+pub struct Equation {
+    pub register: Register,
+    pub right: RightSide,
+}

@@ -1,0 +1,6 @@
+pub mod FirstWords
+pub mod FrameWords
+pub mod Fitting
+pub mod Made
+pub mod Shows
+pub mod UnderWay

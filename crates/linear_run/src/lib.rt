@@ -1,0 +1,23 @@
+//! The run of a program of Linear: exactly what the program shows at a bound, in instructions, labels among
+//! them, written byte by byte. Callers wait on the heap, so a deep recursion takes memory and no stack. Its
+//! speed is not promised.
+#![tactic(auto)]
+
+mod callers;
+mod calls;
+mod functions;
+mod leaving;
+mod pieces;
+mod pool;
+mod preparing;
+mod returns;
+mod running;
+mod starting;
+mod state;
+mod turn;
+mod words;
+
+pub use running::run;
+
+#[cfg(test)]
+mod tests;

@@ -1,0 +1,12 @@
+use Rattle.std.proofs.lemmas.Result.{err_from_is_err_and}
+use Rattle.lang.proofs.Loops.{goes_on, stops}
+use Rattle.locations.specs.Reading.{parameter}
+use Rattle.locations.proofs.reading.read_so_many_parameters.Goals as goal
+
+pub returns-in_err-location : goal.returns-in_err-location
+returns-in_err-location c =
+    let p = err_from_is_err_and c.from_residual.result c.from_residual.ensures.1 in
+    rw (p.1, p.2) (λ memory. stops parameter c.args.count _ c.in_err-location.field-0.0 c.loop.parameters.items c.loop.counter c.loop.bytes.now c.loop-test.true c.loop.invariant (rw (← c.deref.ensures.value) c.in_err-location.ensures))
+
+pub loop-preserved : goal.loop-preserved
+loop-preserved c = rw c.in_ok-push.ensures.items (goes_on parameter c.args.count _ c.loop.parameters.items c.loop.counter c.loop.bytes.now _ c.read_parameter.new.bytes.now c.loop-test.true c.loop.invariant (rw (← c.deref.ensures.value) c.in_ok-location.ensures))

@@ -1,0 +1,8 @@
+use Rattle.std.proofs.Common.{[]}
+use Rattle.lang.specs.Reading.{more}
+use Rattle.lang.proofs.Loops.{IsUnderWay}
+use Rattle.locations.specs.Reading.{parameter}
+use Rattle.locations.proofs.reading.read_so_many_parameters.Given as goal
+
+abbrev pub invariant-loop : goal.invariant-loop
+invariant-loop l = IsUnderWay parameter l.count (more parameter [] l.count l.fn.bytes.now) l.parameters.items l.counter l.bytes.now

@@ -1,0 +1,35 @@
+//! The certificate: at each node, that each live register's word lies in the register's place.
+
+use crate::places::Places;
+use crate::register_set::RegisterSet;
+use alloc_rules::Equation;
+use lang::{NoMemory, Row};
+use std::alloc::Global;
+
+fn equations_at(
+    alloc: Global,
+    places: &Places,
+    live: &RegisterSet,
+) -> Result<Row<Equation>, NoMemory> {
+    let mut equations = Vec::new(alloc);
+    for register in &live.members(alloc)? {
+        equations.push(Equation {
+            register: *register,
+            location: places.place_of(*register),
+        })?;
+    }
+    Ok(Row::from_vec(equations))
+}
+
+/// The equations at each node, where these registers are live.
+pub(crate) fn equations_of(
+    alloc: Global,
+    places: &Places,
+    live: &[RegisterSet],
+) -> Result<Row<Row<Equation>>, NoMemory> {
+    let mut lists = Vec::new(alloc);
+    for set in live {
+        lists.push(equations_at(alloc, places, set)?)?;
+    }
+    Ok(Row::from_vec(lists))
+}

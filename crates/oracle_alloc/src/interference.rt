@@ -1,0 +1,122 @@
+//! Which registers may not lie in one place, and which not in those that a call loses (Chaitin 1982).
+
+use crate::liveness::live_behind;
+use crate::parts::{copied_by, defined_by};
+use crate::register_set::RegisterSet;
+use lang::NoMemory;
+use rtl::{Function, Instruction};
+use rtl_parts::Register;
+use std::alloc::Global;
+
+/// For each register those that are live where it is defined, and the registers that are live over a
+/// call.
+#[derive(Drop)]
+pub(crate) struct Interference {
+    neighbours: Vec<RegisterSet>,
+    kept: RegisterSet,
+}
+
+/// The interference of a function with what is live before each of its nodes.
+pub(crate) fn interference_of(
+    alloc: Global,
+    input: &Function,
+    live: &[RegisterSet],
+) -> Result<Interference, NoMemory> {
+    let registers = input.registers();
+    let mut found = Interference::none(alloc, registers)?;
+    for instruction in input.nodes().as_slice() {
+        let behind = live_behind(alloc, live, registers, instruction)?;
+        found.note(instruction, behind);
+    }
+    found.note_entry(alloc, input, live)?;
+    found.mirror(alloc, registers)?;
+    Ok(found)
+}
+
+impl Interference {
+    fn none(alloc: Global, registers: u16) -> Result<Interference, NoMemory> {
+        let mut neighbours = Vec::new(alloc);
+        for _ in 0..registers {
+            neighbours.push(RegisterSet::none(alloc, registers)?)?;
+        }
+        Ok(Interference {
+            neighbours,
+            kept: RegisterSet::none(alloc, registers)?,
+        })
+    }
+
+    /// Whether the register is live over a call.
+    pub fn is_kept(&self, register: Register) -> bool {
+        self.kept.has(register)
+    }
+
+    /// The registers that may not lie where this one does.
+    pub fn neighbours(&self, alloc: Global, register: Register) -> Result<Vec<Register>, NoMemory> {
+        match self.neighbours.get(usize::from(register)) {
+            Some(others) => others.members(alloc),
+            None => Ok(Vec::new(alloc)),
+        }
+    }
+
+    /// What is live behind an instruction is not where that puts its result; but for a move what it
+    /// copies may be.
+    fn note(&mut self, instruction: &Instruction, mut behind: RegisterSet) {
+        if let Some(register) = defined_by(instruction) {
+            behind.remove(register);
+        }
+        if let Instruction::Call { .. } = instruction {
+            let _is_new = self.kept.join(&behind);
+        }
+        if let Some(source) = copied_by(instruction) {
+            behind.remove(source);
+        }
+        if let Some(register) = defined_by(instruction) {
+            self.part(register, &behind);
+        }
+    }
+
+    /// The register may not lie where these do.
+    fn part(&mut self, register: Register, others: &RegisterSet) {
+        if let Some(neighbours) = self.neighbours.get_mut(usize::from(register)) {
+            let _is_new = neighbours.join(others);
+            neighbours.remove(register);
+        }
+    }
+
+    /// Each parameter lies where no other does, nor what is live at the entry.
+    fn note_entry(
+        &mut self,
+        alloc: Global,
+        input: &Function,
+        live: &[RegisterSet],
+    ) -> Result<(), NoMemory> {
+        let mut given = RegisterSet::none(alloc, input.registers())?;
+        if let Some(set) = live.get(usize::from(input.entry())) {
+            let _is_new = given.join(set);
+        }
+        for parameter in input.parameters().as_slice() {
+            given.add(*parameter);
+        }
+        for parameter in input.parameters().as_slice() {
+            self.part(*parameter, &given);
+        }
+        Ok(())
+    }
+
+    /// Lets each register be a neighbour of its neighbours.
+    fn mirror(&mut self, alloc: Global, registers: u16) -> Result<(), NoMemory> {
+        for register in 0..registers {
+            let others = self.neighbours(alloc, register)?;
+            self.add_to_each(register, &others);
+        }
+        Ok(())
+    }
+
+    fn add_to_each(&mut self, register: Register, others: &[Register]) {
+        for other in others {
+            if let Some(neighbours) = self.neighbours.get_mut(usize::from(*other)) {
+                neighbours.add(register);
+            }
+        }
+    }
+}

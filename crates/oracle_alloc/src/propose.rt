@@ -1,0 +1,38 @@
+use crate::blocks::blocks_of;
+use crate::certificate::equations_of;
+use crate::interference::interference_of;
+use crate::liveness::live_before;
+use crate::parameters::{are_distinct, places_of};
+use crate::places::places_for;
+use alloc_rules::Equation;
+use lang::{NoMemory, Row};
+use ltl::Function;
+use rand_pcg::Pcg32;
+use std::alloc::Global;
+
+/// Blocks and equations for the input, with places for its registers that the words choose; none
+/// where it takes too many slots.
+pub fn allocate(
+    alloc: Global,
+    input: &rtl::Function,
+    words: &mut Pcg32,
+) -> Result<Option<(Function, Row<Row<Equation>>)>, NoMemory> {
+    let live = live_before(alloc, input.registers(), input.nodes().as_slice())?;
+    let interference = interference_of(alloc, input, &live)?;
+    let Some(places) = places_for(alloc, input.registers(), &interference, words)? else {
+        return Ok(None);
+    };
+    let parameters = places_of(alloc, &places, input.parameters().as_slice())?;
+    if !are_distinct(&parameters) {
+        return Ok(None);
+    }
+    let blocks = blocks_of(alloc, input, &places, &live, words)?;
+    let equations = equations_of(alloc, &places, &live)?;
+    let output = Function::new(
+        Row::from_vec(parameters),
+        places.slots,
+        input.entry(),
+        Row::from_vec(blocks),
+    );
+    Ok(Some((output, equations)))
+}

@@ -1,0 +1,86 @@
+use lang::NoMemory;
+use rtl_parts::Register;
+use std::alloc::Global;
+
+/// A set of registers below a number, as bits: 64 of them a word.
+#[derive(Drop)]
+pub(crate) struct RegisterSet {
+    words: Vec<u64>,
+}
+
+/// The word where a register's bit stands.
+fn place_of(register: Register) -> usize {
+    usize::from(register / 64)
+}
+
+fn bit_of(register: Register) -> u64 {
+    1u64 << (register % 64)
+}
+
+impl RegisterSet {
+    /// None of so many registers.
+    pub fn none(alloc: Global, registers: u16) -> Result<RegisterSet, NoMemory> {
+        let mut words = Vec::new(alloc);
+        for _ in 0..registers / 64 + 1 {
+            words.push(0)?;
+        }
+        Ok(RegisterSet { words })
+    }
+
+    pub fn has(&self, register: Register) -> bool {
+        match self.words.get(place_of(register)) {
+            Some(word) => *word & bit_of(register) != 0,
+            None => false,
+        }
+    }
+
+    pub fn add(&mut self, register: Register) {
+        if let Some(word) = self.words.get_mut(place_of(register)) {
+            *word |= bit_of(register);
+        }
+    }
+
+    pub fn remove(&mut self, register: Register) {
+        if let Some(word) = self.words.get_mut(place_of(register)) {
+            *word &= !bit_of(register);
+        }
+    }
+
+    /// Adds the registers of another set of as many, and says whether one was new.
+    pub fn join(&mut self, others: &RegisterSet) -> bool {
+        let mut is_new = false;
+        for (i, word) in self.words.iter_mut().enumerate() {
+            let more = *word | others.word(i);
+            is_new |= more != *word;
+            *word = more;
+        }
+        is_new
+    }
+
+    fn word(&self, place: usize) -> u64 {
+        self.words.get(place).copied().unwrap_or(0)
+    }
+
+    /// The registers of the set, rising.
+    pub fn members(&self, alloc: Global) -> Result<Vec<Register>, NoMemory> {
+        let mut members = Vec::new(alloc);
+        let mut first: Register = 0;
+        for word in &self.words {
+            if *word != 0 {
+                push_members(&mut members, first, *word)?;
+            }
+            first = first.saturating_add(64);
+        }
+        Ok(members)
+    }
+}
+
+/// Appends the registers from this one on whose bits are set.
+fn push_members(members: &mut Vec<Register>, first: Register, word: u64) -> Result<(), NoMemory> {
+    for offset in 0..64 {
+        if word & bit_of(offset) != 0 {
+            members.push(first.saturating_add(offset))?;
+        }
+    }
+    Ok(())
+}

@@ -1,0 +1,33 @@
+//! Whether an instruction can be left out, since what it defines is not used.
+
+use crate::register_set::RegisterSet;
+use rand_core::utils::NextWord;
+use rand_pcg::Pcg32;
+use rtl::Instruction;
+use rtl_parts::{Act, Register};
+
+fn is_live(live: &[RegisterSet], node: u16, register: Register) -> bool {
+    match live.get(usize::from(node)) {
+        Some(set) => set.has(register),
+        None => false,
+    }
+}
+
+/// Whether nothing is to be done for the instruction: its result is not used behind it, and it is a
+/// move, or else the next word is odd.
+pub(crate) fn is_needless(
+    live: &[RegisterSet],
+    instruction: &Instruction,
+    words: &mut Pcg32,
+) -> bool {
+    let Instruction::Do { act, successor } = instruction else {
+        return false;
+    };
+    match act {
+        Act::Move { target, .. } => !is_live(live, *successor, *target),
+        Act::Constant { target, .. } | Act::Operate { target, .. } | Act::Load { target, .. } => {
+            !is_live(live, *successor, *target) && words.next_word() % 2 == 1
+        }
+        Act::Nop | Act::Store { .. } | Act::Put { .. } => false,
+    }
+}

@@ -1,0 +1,12 @@
+//! An optimiser that proposes for the second pass, which nobody trusts: it numbers the right sides
+//! that stand at several nodes, follows the equations which give them along all edges, and makes each
+//! node a move that they allow or leaves it, as the words say. It promises nothing of what it proposes.
+#![tactic(auto)]
+
+mod analysis;
+mod lattice;
+mod numbering;
+mod propose;
+mod unreached;
+
+pub use propose::CseOracle;

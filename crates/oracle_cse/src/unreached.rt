@@ -1,0 +1,74 @@
+//! Nodes that are not reached: their edges are tested too, so they take over what is known where
+//! they lead, as far as they can.
+
+use crate::analysis::{Analysis, edges_of};
+use crate::lattice::surviving;
+use cse_sound::Equation;
+use lang::NoMemory;
+use rtl::Instruction;
+use std::alloc::Global;
+
+/// What is known where the instruction leads, but for what it kills.
+fn wanted(
+    alloc: Global,
+    analysis: &Analysis,
+    instruction: &Instruction,
+) -> Result<Option<Vec<Equation>>, NoMemory> {
+    let to = edges_of(instruction);
+    match led_to(analysis, to.first, to.second) {
+        None => Ok(None),
+        Some(equations) => Ok(Some(surviving(alloc, equations, instruction)?)),
+    }
+}
+
+/// What is known at the first of two nodes, or else at the second.
+fn led_to(analysis: &Analysis, first: Option<u16>, second: Option<u16>) -> Option<&[Equation]> {
+    match first {
+        Some(node) if analysis.equations(node).is_some() => analysis.equations(node),
+        _ => match second {
+            Some(node) => analysis.equations(node),
+            None => None,
+        },
+    }
+}
+
+/// Gives an unreached node the equations that are known where it leads, if that is reached.
+fn take_over(
+    alloc: Global,
+    analysis: &mut Analysis,
+    nodes: &[Instruction],
+    node: u16,
+) -> Result<(), NoMemory> {
+    if analysis.equations(node).is_some() {
+        return Ok(());
+    }
+    let Some(instruction) = nodes.get(usize::from(node)) else {
+        return Ok(());
+    };
+    match wanted(alloc, analysis, instruction)? {
+        None => Ok(()),
+        Some(equations) => analysis.learn(node, equations),
+    }
+}
+
+/// Gives every node a list: most lead to nodes of higher numbers, so they are gone through downward,
+/// once more upward, and what is left then begins with nothing.
+pub(crate) fn give_each(
+    alloc: Global,
+    analysis: &mut Analysis,
+    nodes: &[Instruction],
+    count: u16,
+) -> Result<(), NoMemory> {
+    for node in (0..count).rev() {
+        take_over(alloc, analysis, nodes, node)?;
+    }
+    for node in 0..count {
+        take_over(alloc, analysis, nodes, node)?;
+    }
+    for node in 0..count {
+        if analysis.equations(node).is_none() {
+            analysis.learn(node, Vec::new(alloc))?;
+        }
+    }
+    Ok(())
+}

@@ -1,0 +1,7 @@
+//! An optimiser that proposes for the pass from LTL to Linear, which nobody trusts: it lists the nodes
+//! that are reached in an order that the words draw. It promises nothing of what it proposes.
+#![tactic(auto)]
+
+mod propose;
+
+pub use propose::OrderOracle;

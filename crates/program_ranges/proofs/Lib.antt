@@ -1,0 +1,6 @@
+pub mod Zeros
+pub mod Totals
+pub mod Distinct
+pub mod Mains
+pub mod Programs
+pub mod Rows
