@@ -8,6 +8,7 @@ mod calls;
 mod functions;
 mod leaving;
 mod pieces;
+mod pool;
 mod preparing;
 mod returns;
 mod running;

@@ -13,6 +13,7 @@ ghost use Rattle.rtl_run.specs.Machines.{machine_state, CallersFit, MachineFits,
 use crate::state::Machine;
 use crate::turn::Turn;
 use rtl_parts::Register;
+use std::mem;
 
 /// Gives the result, defined or not, to the register that is named.
 fn give_result(registers: &mut Vec<Option<u32>>, target: Option<Register>, given: Option<u32>)
@@ -46,7 +47,8 @@ fn go_back(machine: &mut Machine, value: Option<u32>) -> Turn
     give_result(&mut registers, caller.target, value);
     machine.function = caller.function;
     machine.place = caller.place;
-    machine.registers = registers;
+    let freed = mem::replace(&mut machine.registers, registers);
+    machine.pool.put(freed);
     Turn::Goes
 }
 

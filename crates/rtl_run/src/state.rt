@@ -1,8 +1,9 @@
 use crate::callers::Callers;
+use crate::pool::Pool;
 use rtl_nodes::Cells;
 
 /// Where a run stands: the running function's number, the node in it, its registers, the globals, and
-/// the callers.
+/// the callers; and registers of functions that have returned, to be used again.
 #[derive(Drop)]
 pub(crate) struct Machine {
     pub function: usize,
@@ -10,4 +11,5 @@ pub(crate) struct Machine {
     pub registers: Vec<Option<u32>>,
     pub globals: Vec<Cells>,
     pub callers: Callers,
+    pub pool: Pool,
 }

@@ -1,4 +1,4 @@
-use Rattle.std.proofs.Common.{◌≡◌, None, sym, ap, get_or, ◌∙◌}
+use Rattle.std.proofs.Common.{None, sym, ap, get_or, ◌∙◌}
 use Rattle.machine.specs.Frames.{comes_back}
 use Rattle.rtl_nodes.specs.Seen.{data_of}
 use Rattle.linear_flat.specs.Words.{frame_data, registers_in}
