@@ -2,7 +2,7 @@
 
 use crate::places::Places;
 use crate::register_set::RegisterSet;
-use alloc_rules::Equation;
+use alloc_pass::{Equation, EquationLists};
 use lang::{NoMemory, Row};
 use std::alloc::Global;
 
@@ -26,7 +26,7 @@ pub(crate) fn equations_of(
     alloc: Global,
     places: &Places,
     live: &[RegisterSet],
-) -> Result<Row<Row<Equation>>, NoMemory> {
+) -> Result<EquationLists, NoMemory> {
     let mut lists = Vec::new(alloc);
     for set in live {
         lists.push(equations_at(alloc, places, set)?)?;

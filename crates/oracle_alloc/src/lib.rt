@@ -18,4 +18,4 @@ mod reaching;
 mod register_set;
 mod worth;
 
-pub use propose::allocate;
+pub use propose::AllocOracle;

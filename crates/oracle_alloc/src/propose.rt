@@ -4,19 +4,36 @@ use crate::interference::interference_of;
 use crate::liveness::live_before;
 use crate::parameters::{are_distinct, places_of};
 use crate::places::places_for;
-use alloc_rules::Equation;
-use lang::{NoMemory, Row};
+use alloc_pass::{Alloc, EquationLists};
+use lang::{NoMemory, Oracle, Row};
 use ltl::Function;
 use rand_pcg::Pcg32;
 use std::alloc::Global;
 
-/// Blocks and equations for the input, with places for its registers that the words choose; none
-/// where it takes too many slots.
-pub fn allocate(
+/// Proposes places for registers, each a draw of those that are free for it; none where it takes too
+/// many slots.
+#[derive(Clone, Copy, Debug)]
+pub struct AllocOracle;
+
+impl Oracle for AllocOracle {
+    type P = Alloc;
+
+    fn propose(
+        &mut self,
+        alloc: Global,
+        input: &rtl::Function,
+        words: &mut Pcg32,
+    ) -> Result<Option<(Function, EquationLists)>, NoMemory> {
+        allocate(alloc, input, words)
+    }
+}
+
+/// Blocks and equations for the input, with places for its registers that the words choose.
+fn allocate(
     alloc: Global,
     input: &rtl::Function,
     words: &mut Pcg32,
-) -> Result<Option<(Function, Row<Row<Equation>>)>, NoMemory> {
+) -> Result<Option<(Function, EquationLists)>, NoMemory> {
     let live = live_before(alloc, input.registers(), input.nodes().as_slice())?;
     let interference = interference_of(alloc, input, &live)?;
     let Some(places) = places_for(alloc, input.registers(), &interference, words)? else {
