@@ -1,0 +1,3 @@
+pub mod Adding
+pub use Rattle.generation.specs.Gen
+pub use Rattle.generation.specs.Pieces

@@ -1,0 +1,18 @@
+use Rattle.std.proofs.Common.{subst}
+use Rattle.std.specs.Prelude.{All}
+use Rattle.std.proofs.lemmas.List.Elements.{All-map, All-more}
+use Rattle.cminor_tree.specs.Fits.{IsFunction}
+use Rattle.program_data.specs.Seen.{named_seen}
+use Rattle.rtlgen.proofs.Firsts.{whole}
+use Rattle.rtlgen.proofs.programs.are_in_range.Goals as goal
+
+pub returns : goal.returns
+returns c =
+    let fs = c.args.functions.now in
+    let all = subst (λ xs. All (λ f. IsFunction f.function) xs) (whole fs c.loop-named.named-index c.loop-named-test.false) c.loop-named.invariant in
+    All-map (λ f. IsFunction f.function) named_seen fs all
+
+pub loop-named-preserved : goal.loop-named-preserved
+loop-named-preserved c =
+    let here = subst (λ f. IsFunction f.function) c.named-item.is c.body-body.ensures.in_range in
+    All-more (λ f. IsFunction f.function) c.args.functions.now c.loop-named.named-index c.named-item.result c.loop-named-test.true c.loop-named.invariant here

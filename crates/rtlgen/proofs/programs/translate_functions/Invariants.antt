@@ -1,0 +1,12 @@
+use Rattle.std.proofs.Common.{◌≡◌, take, map}
+use Rattle.std.specs.Prelude.{All}
+use Rattle.generation.specs.Gen.{gen_named}
+use Rattle.program_data.specs.Seen.{named_seen}
+use Rattle.rtlgen.specs.Refused.{HasFewNodes}
+use Rattle.rtlgen.proofs.programs.translate_functions.Given as goal
+
+abbrev pub invariant-loop-number : goal.invariant-loop-number
+invariant-loop-number l = record {
+  same : map named_seen l.translated.items ≡ map gen_named (map named_seen (take l.number l.functions));
+  few : All (λ f. HasFewNodes (named_seen f)) (take l.number l.functions);
+}

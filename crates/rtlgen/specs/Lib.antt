@@ -1,0 +1,5 @@
+pub mod Numbers
+pub mod Refused
+pub use Rattle.generation.specs.Gen
+pub use Rattle.program_data.specs.Seen
+pub use Rattle.lang.specs.Keeps

@@ -1,0 +1,22 @@
+-- Programs that are refused: the function that is told is the first that needs too many nodes.
+use Rattle.std.specs.Prelude.{ℕ, zero, suc, ◌≤◌, List, [], ◌∷◌, length}
+use Rattle.lang.specs.Programs.{NamedFunction}
+use Rattle.rtl.specs.Function.{node_limit}
+use Rattle.cminor_tree.specs.Trees.{FunctionTree}
+use Rattle.generation.specs.Gen.{gen_function, HasTooManyNodes}
+use Rattle.rtlgen.specs.declared.errors.GenError.{GenError}
+use Rattle.rtlgen.specs.declared.errors.GenError.TheVariants.{NoMemory, TooManyNodes}
+
+-- so few nodes that each can be numbered
+abbrev pub HasFewNodes : NamedFunction FunctionTree → Type 0
+HasFewNodes f = length (gen_function f.function).nodes ≤ node_limit
+
+-- the first function that needs too many nodes has this number
+abbrev pub IsFirstTooLarge : List (NamedFunction FunctionTree) → ℕ → Type 0
+IsFirstTooLarge [] n = ⊥
+IsFirstTooLarge (f ∷ fs) zero = HasTooManyNodes f.function
+IsFirstTooLarge (f ∷ fs) (suc n) = HasFewNodes f × IsFirstTooLarge fs n
+
+abbrev pub IsRefused : List (NamedFunction FunctionTree) → GenError → Type 0
+IsRefused fs NoMemory = Unit {0}
+IsRefused fs (TooManyNodes n) = IsFirstTooLarge fs n

@@ -1,0 +1,74 @@
+//! Whole programs.
+
+ghost use Rattle.std.specs.Prelude.{◌≡◌, All, IfOk, IfErr, map};
+ghost use Rattle.lang.specs.Keeps.{Keeps};
+ghost use Rattle.cminor_tree.specs.Fits.{IsFunction};
+ghost use Rattle.cminor_tree.specs.Meaning as C;
+ghost use Rattle.generation.specs.Gen.{gen, gen_named};
+ghost use Rattle.program_data.specs.Seen.{named_seen, seen};
+ghost use Rattle.rtl.specs.Meaning as R;
+ghost use Rattle.rtlgen.specs.Refused.{IsRefused};
+
+use crate::errors::GenError;
+use crate::functions::translate_named;
+use crate::globals::copy_globals;
+use cminor::Function as CminorFunction;
+use generation::generated_keeps;
+use lang::{Named, Program};
+use rtl::Function;
+use std::alloc::Global;
+
+/// Each function is in range.
+fn are_in_range(functions: &[Named<CminorFunction>])
+    ensures { All (λ f. IsFunction f.function) (map named_seen functions.now) }
+{
+    for named in functions {
+        let _body = named.function.body();
+    }
+}
+
+/// The functions of a program, in order, or the first that needs too many nodes.
+fn translate_functions(
+    alloc: Global,
+    functions: &[Named<CminorFunction>],
+) -> Result<Vec<Named<Function>>, GenError>
+    ensures ok { IfOk result (λ fs. map named_seen fs.items ≡ map gen_named (map named_seen functions.now)) }
+    ensures err { IfErr result (λ e. IsRefused (map named_seen functions.now) e) }
+{
+    let mut translated = Vec::new(alloc);
+    for (number, named) in functions.iter().enumerate() {
+        match translate_named(alloc, named)? {
+            Some(function) => translated.push(function)?,
+            None => return Err(GenError::TooManyNodes(number)),
+        }
+    }
+    Ok(translated)
+}
+
+/// The RTL program of a Cminor program, or the first function that needs too many nodes.
+fn translate_all(
+    alloc: Global,
+    program: &Program<CminorFunction>,
+) -> Result<Program<Function>, GenError>
+    ensures same { IfOk result (λ p. seen p ≡ gen (seen program.now)) }
+    ensures refused { IfErr result (λ e. IsRefused (seen program.now).functions e) }
+{
+    let globals = copy_globals(alloc, program.globals.as_slice())?;
+    let functions = translate_functions(alloc, program.functions.as_slice())?;
+    Ok(Program { globals, functions })
+}
+
+/// The RTL program of a Cminor program, which keeps its meaning; or the first function that needs more than
+/// 65,535 nodes. The time is linear in the program.
+pub fn translate(
+    alloc: Global,
+    program: &Program<CminorFunction>,
+) -> Result<Program<Function>, GenError>
+    ensures same { IfOk result (λ p. seen p ≡ gen (seen program.now)) }
+    ensures keeps { IfOk result (λ p. Keeps (C.run (seen program.now)) (R.run (seen p))) }
+    ensures refused { IfErr result (λ e. IsRefused (seen program.now).functions e) }
+{
+    generated_keeps();
+    are_in_range(program.functions.as_slice());
+    translate_all(alloc, program)
+}
