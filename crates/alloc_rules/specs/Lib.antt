@@ -1,4 +1,6 @@
 pub mod Equations
 pub mod Pairs
 pub mod Rules
+pub mod Holding
+pub mod Steps
 pub use Rattle.rtl_passes.specs.Faults

@@ -6,7 +6,9 @@
 mod change;
 mod demand;
 mod equation;
+mod law;
 
 pub use change::Change;
 pub use demand::Demand;
 pub use equation::Equation;
+pub use law::{acts_agree, calls_keep, demands_suffice, entries_hold, origins_hold, tests_agree};

@@ -1,6 +1,2 @@
-pub mod Places
-pub mod Changes
-pub mod Acts
-pub mod Entries
 pub mod Steps
 pub mod Sound

@@ -1,6 +1,6 @@
 -- What the pass accepts keeps the meaning of whole programs.
-use Rattle.std.proofs.Common.{◌≡◌, ℕ, zero, suc, List, [], ◌∷◌, length, get_or, Option, Some, None, cond, ◌&&◌, refl, sym, ap, ◌∙◌, subst, arith}
-use Rattle.std.specs.Prelude.{All, slice_get, ◌==◌, codes, replicate}
+use Rattle.std.proofs.Common.{◌≡◌, ℕ, suc, List, [], ◌∷◌, get_or, Option, Some, None, cond, ◌&&◌, refl, sym, ap, ◌∙◌, subst}
+use Rattle.std.specs.Prelude.{All, slice_get, ◌==◌, codes}
 use Rattle.std.specs.Str.{bytes_eq}
 use Rattle.std.proofs.lemmas.List.{length-replicate}
 use Rattle.std.proofs.lemmas.List.Elements.{All-head, All-tail}
@@ -14,16 +14,15 @@ use Rattle.rtl_parts.specs.Data as rtl_data
 use Rattle.rtl.specs.Function as rtl
 use Rattle.rtl.specs.Frames as rtl_frames
 use Rattle.rtl.specs.Meaning as rtl_meaning
-use Rattle.machine.specs.Data.{Data, value_at}
+use Rattle.machine.specs.Data.{value_at}
 use Rattle.machine.specs.Frames.{State, printed, main_number, begins}
 use Rattle.ltl.specs.Function as ltl
 use Rattle.ltl.specs.Meaning.{takes_none, next, entry_of, slots_of, run}
 use Rattle.ltl.specs.Growth.{grows}
-use Rattle.alloc_rules.specs.declared.equation.Equation.{Equation}
 use Rattle.alloc_rules.specs.Rules.{equations_at, IsAllocated}
 use Rattle.alloc_sound.specs.Related.{IsSound, Pair, Related}
-use Rattle.alloc_sound.proofs.Places.{covers_none}
-use Rattle.alloc_sound.proofs.Entries.{nothing_there}
+use Rattle.alloc_rules.proofs.Places.{covers_none}
+use Rattle.alloc_rules.proofs.Entries.{nothing_there}
 use Rattle.alloc_sound.proofs.Steps.{pair_of, state_goes, state_ends}
 
 -- each step of the first program is matched by one step of the second

@@ -1,5 +1,5 @@
 -- Single steps: what each instruction does, the block that stands for it does.
-use Rattle.std.proofs.Common.{◌≡◌, ◌≢◌, ℕ, zero, suc, ◌<◌, List, [], ◌∷◌, length, get_or, set, Option, Some, None, Bool, true, false, cond, eqb, ◌&&◌, refl, sym, ap, ◌∙◌, subst, arith, inl, inr}
+use Rattle.std.proofs.Common.{◌≡◌, ℕ, zero, suc, ◌<◌, List, [], ◌∷◌, length, get_or, set, Option, Some, None, Bool, true, false, cond, eqb, ◌&&◌, refl, sym, ap, ◌∙◌, subst, arith, inl, inr}
 use Rattle.std.specs.Prelude.{All, slice_get, map, replicate, ◌==◌}
 use Rattle.std.specs.List.{AllByRecursion}
 use Rattle.std.specs.Option.{option_map}
@@ -13,7 +13,7 @@ use Rattle.lang.specs.Soundness.{AcceptedInTurn}
 use Rattle.locations.specs.declared.location.Location.{Location}
 use Rattle.locations.specs.declared.location.Location.TheVariants.{InRegister}
 use Rattle.locations.specs.declared.location.Move.{Move}
-use Rattle.locations.specs.Fits.{LocationFits, MoveFits, MovesFit}
+use Rattle.locations.specs.Fits.{LocationFits, MoveFits}
 use Rattle.rtl_parts.specs.Data as rtl_data
 use Rattle.rtl_parts.specs.Acts as rtl_acts
 use Rattle.rtl_parts.proofs.Outputs as rtl_outputs
@@ -29,7 +29,7 @@ use Rattle.machine.specs.declared.test.Test as machine_test
 use Rattle.machine.specs.Data.{Data, value_at, put_at, all_moved}
 use Rattle.machine.specs.Acts.{holds}
 use Rattle.machine.specs.Frames.{Frame, State, goes_to, returned, after_call, restored, with_result, resumed, comes_back}
-use Rattle.machine.specs.Calls.{Callee, values_of, with_arguments, entered, waiting, begun, calls}
+use Rattle.machine.specs.Calls.{values_of, with_arguments, waiting, begun, calls}
 use Rattle.machine.proofs.Outputs.{output-all_moved, output-with_result}
 use Rattle.ltl.specs.declared.block.Block.{Block}
 use Rattle.ltl.specs.declared.block.Body.{Body}
@@ -41,15 +41,16 @@ use Rattle.alloc_rules.specs.declared.change.Change.{Change}
 use Rattle.alloc_rules.specs.declared.change.Change.TheVariants.{Nothing, Defines, Drops, Copies}
 use Rattle.alloc_rules.specs.declared.demand.Demand.{Demand}
 use Rattle.alloc_rules.specs.declared.demand.Demand.TheVariants.{Met, Refused, Needs}
-use Rattle.alloc_rules.specs.Equations.{back_equation, through, over_call, through_body, demand}
+use Rattle.alloc_rules.specs.Equations.{back_equation, through, demand}
 use Rattle.alloc_rules.specs.Pairs.{result_change, act_change, same_test, same_presence, change_of, in_register, equations_of, act_uses, arguments_used, uses}
-use Rattle.alloc_rules.specs.Rules.{EquationFits, equations_at, IsGiven, IsAnswered, LeadsTo, IsCarried, StandsFor, IsRightAs, IsAllocated}
-use Rattle.alloc_sound.specs.Holding.{Covers, Holds, HasFrame, Agrees}
-use Rattle.alloc_sound.specs.Related.{IsSound, Pair, FrameRelated, FramesRelated, Related}
-use Rattle.alloc_sound.proofs.Places.{frame_put, globals_put, frame_moves, globals_moves, back_fits}
-use Rattle.alloc_sound.proofs.Changes.{DemandHolds, SamePlaces, Changed, IsBack, through_holds, over_call_holds, result_changed, moves_hold}
-use Rattle.alloc_sound.proofs.Acts.{cond_some, test_covered, IsDone, act_done}
-use Rattle.alloc_sound.proofs.Entries.{AllCover, values_covered, frame_arguments, globals_arguments, output_arguments, AreParameters, entry_holds}
+use Rattle.alloc_rules.specs.Rules.{equations_at, IsGiven, IsAnswered, LeadsTo, IsCarried, StandsFor, IsRightAs}
+use Rattle.alloc_rules.specs.Holding.{Covers, AllCover, Holds, DemandHolds, HasFrame}
+use Rattle.alloc_rules.specs.Steps.{SamePlaces, Changed, IsBack}
+use Rattle.alloc_sound.specs.Related.{Agrees, IsSound, Pair, FrameRelated, FramesRelated, Related}
+use Rattle.alloc_rules.proofs.Places.{frame_put, globals_put, frame_moves, globals_moves, back_fits}
+use Rattle.alloc_rules.proofs.Changes.{through_holds, over_call_holds, result_changed, moves_hold}
+use Rattle.alloc_rules.proofs.Acts.{cond_some, test_covered, act_done}
+use Rattle.alloc_rules.proofs.Entries.{values_covered, frame_arguments, globals_arguments, output_arguments, entry_holds}
 
 -- ---- frames, globals and output
 
@@ -120,15 +121,14 @@ module _ (f : rtl.FunctionData) (g : ltl.FunctionData) (lists : List (List Equat
       let right = (block_at f.entry (get_or f.nodes f.entry nothing) there).right in
       let bare : Data = record e { registers = replicate 8 None; slots = replicate g.slots None } in
       let frame : HasFrame g.slots bare = record { registers = length-replicate {A = Option ℕ} 8 None; slots = length-replicate {A = Option ℕ} g.slots None } in
-      let are : AreParameters g.slots f.parameters g.parameters =
-      record { registers = sound.input.parameters.distinct; locations = sound.output.parameters.distinct; there = sound.output.parameters.each } in
       record {
         frame = frame_arguments g.slots g.parameters ws bare frame;
         globals = globals_arguments g.parameters ws bare ∙ globals;
         output = output_arguments g.parameters ws bare ∙ output;
-        holds = λ k q below. record {
-          by = (entry_holds g.slots f.parameters g.parameters vs ws f.registers bare frame are cover counted (get_or (equations_at lists f.entry) k q) (right.entry refl k q below)).by;
-        };
+        holds = λ k q below.
+            entry_holds f.registers g.slots f.parameters g.parameters sound.input.parameters sound.output.parameters vs ws cover counted
+            (record d { registers = rtl_frames.with_arguments f.parameters vs (replicate f.registers None) }) bare refl frame
+            (get_or (equations_at lists f.entry) k q) (right.entry refl k q below);
       }
 
 -- ---- what is returned

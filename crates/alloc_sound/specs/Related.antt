@@ -10,7 +10,14 @@ use Rattle.machine.specs.Frames.{Frame, State, after_call, with_result}
 use Rattle.ltl.specs.Function as ltl
 use Rattle.alloc_rules.specs.declared.equation.Equation.{Equation}
 use Rattle.alloc_rules.specs.Rules.{equations_at, IsAllocated}
-use Rattle.alloc_sound.specs.Holding.{Holds, Agrees}
+use Rattle.alloc_rules.specs.Holding.{Holds, HasFrame}
+
+-- the equations hold, and globals and output are the same
+pub record Agrees (slots : ℕ) (es : List Equation) (d : rtl_data.Data) (e : Data) : Type 0 where
+  pub frame : HasFrame slots e
+  pub globals : e.globals ≡ d.globals
+  pub output : e.output ≡ d.output
+  pub holds : All (Holds d e) es
 
 -- both functions are in range, and the one is accepted for the other
 pub record IsSound (f : rtl.FunctionData) (g : ltl.FunctionData) (lists : List (List Equation)) : Type 0 where

@@ -1,6 +1,5 @@
 -- What is demanded in front of an instruction and its body is enough for the equations behind them.
-use Rattle.std.proofs.Common.{◌≡◌, ◌≢◌, ℕ, ◌<◌, ◌≤◌, List, length, get_or, set, Option, Some, None, Bool, true, false, cond, eqb, refl, sym, ap, ◌∙◌, subst, arith}
-use Rattle.std.specs.Prelude.{nat_lt}
+use Rattle.std.proofs.Common.{◌≡◌, ◌≢◌, ℕ, ◌≤◌, List, get_or, set, Option, Some, None, Bool, true, false, cond, eqb, refl, sym, ap, ◌∙◌, subst, arith}
 use Rattle.std.specs.List.{AllByRecursion}
 use Rattle.std.proofs.lemmas.Bool.{eqb-true, eqb-false, ltb-false}
 use Rattle.std.proofs.lemmas.List.{get_or-set_other}
@@ -20,21 +19,11 @@ use Rattle.alloc_rules.specs.declared.demand.Demand.{Demand}
 use Rattle.alloc_rules.specs.declared.demand.Demand.TheVariants.{Met, Refused, Needs}
 use Rattle.alloc_rules.specs.Equations.{back_equation, through_result, through, is_lost, over_call}
 use Rattle.alloc_rules.specs.Pairs.{result_change}
-use Rattle.alloc_sound.specs.Holding.{Covers, Holds, HasFrame}
-use Rattle.alloc_sound.proofs.Places.{covers_itself, covers_same, covers_set, is_same, is_other, value_put_same, value_put_other, value_moves}
-
--- what is demanded holds
-abbrev pub DemandHolds : rtl_data.Data → Data → Demand → Type 0
-DemandHolds d e Met = Unit {0}
-DemandHolds d e Refused = ⊥
-DemandHolds d e (Needs q) = Holds d e q
+use Rattle.alloc_rules.specs.Holding.{Holds, DemandHolds, HasFrame}
+use Rattle.alloc_rules.specs.Steps.{SamePlaces, IsDefined, IsDropped, IsCopied, Changed, IsBack}
+use Rattle.alloc_rules.proofs.Places.{covers_itself, covers_same, covers_set, is_same, is_other, value_put_same, value_put_other, value_moves}
 
 -- ---- what was defined
-
--- the same words in registers and slots
-pub record SamePlaces (e e' : Data) : Type 0 where
-  pub registers : e'.registers ≡ e.registers
-  pub slots : e'.slots ≡ e.slots
 
 pub places_themselves : (e : Data) → SamePlaces e e
 places_themselves e = record { registers = refl; slots = refl }
@@ -42,33 +31,6 @@ places_themselves e = record { registers = refl; slots = refl }
 pub same_value : (e e' : Data) → SamePlaces e e' → (l : Location) → value_at l e' ≡ value_at l e
 same_value e e' same (InRegister r) = ap (λ rs. get_or rs r None) same.registers
 same_value e e' same (InSlot s) = ap (λ ss. get_or ss s None) same.slots
-
-pub record IsKept (d : rtl_data.Data) (e : Data) (d' : rtl_data.Data) (e' : Data) : Type 0 where
-  pub registers : d'.registers ≡ d.registers
-  pub places : SamePlaces e e'
-
-pub record IsDefined (r : ℕ) (k : Location) (d : rtl_data.Data) (e : Data) (d' : rtl_data.Data) (e' : Data) : Type 0 where
-  pub first : Option ℕ
-  pub second : Option ℕ
-  pub covers : Covers first second
-  pub registers : d'.registers ≡ set d.registers r first
-  pub places : SamePlaces (put_at k second e) e'
-
-pub record IsDropped (r : ℕ) (d : rtl_data.Data) (e : Data) (d' : rtl_data.Data) (e' : Data) : Type 0 where
-  pub value : Option ℕ
-  pub registers : d'.registers ≡ set d.registers r value
-  pub places : SamePlaces e e'
-
-pub record IsCopied (target source : ℕ) (d : rtl_data.Data) (e : Data) (d' : rtl_data.Data) (e' : Data) : Type 0 where
-  pub registers : d'.registers ≡ set d.registers target (rtl_data.value_at source d)
-  pub places : SamePlaces e e'
-
--- by d and e an instruction and its body came to d' and e'
-abbrev pub Changed : Change → rtl_data.Data → Data → rtl_data.Data → Data → Type 0
-Changed Nothing d e d' e' = IsKept d e d' e'
-Changed (Defines r k) d e d' e' = IsDefined r k d e d' e'
-Changed (Drops r) d e d' e' = IsDropped r d e d' e'
-Changed (Copies target source) d e d' e' = IsCopied target source d e d' e'
 
 module _ (slots : ℕ) (d : rtl_data.Data) (e : Data) (d' : rtl_data.Data) (e' : Data) (frame : HasFrame slots e) where
   -- a register that was not written
@@ -125,12 +87,6 @@ module _ (slots : ℕ) (d : rtl_data.Data) (e : Data) (d' : rtl_data.Data) (e' :
   through_holds (Copies target source) c q fits demanded = copied_holds target source c q demanded
 
 -- ---- over a call
-
--- the data of a caller that goes on
-pub record IsBack (d : rtl_data.Data) (e : Data) (d' : rtl_data.Data) (e' : Data) : Type 0 where
-  pub registers : d'.registers ≡ d.registers
-  pub places : e'.registers ≡ after_call e.registers
-  pub slots : e'.slots ≡ e.slots
 
 survives : (rs : List (Option ℕ)) (r : ℕ) → 4 ≤ r → get_or (after_call rs) r None ≡ get_or rs r None
 survives rs r high =

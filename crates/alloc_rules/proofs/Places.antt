@@ -1,8 +1,8 @@
 -- What a location holds after something was put at one, and after moves.
-use Rattle.std.proofs.Common.{◌≡◌, ◌≢◌, ℕ, ◌<◌, ◌≤◌, List, [], ◌∷◌, length, get_or, set, Option, Some, None, Bool, true, false, cond, eqb, refl, sym, ap, ◌∙◌, subst, arith, inl, inr}
+use Rattle.std.proofs.Common.{◌≡◌, ◌≢◌, ℕ, List, [], ◌∷◌, length, get_or, set, Option, None, Bool, true, false, cond, refl, sym, ap, ◌∙◌, subst, arith, inl, inr}
 use Rattle.std.specs.List.{AllByRecursion}
-use Rattle.std.proofs.lemmas.Bool.{eqb-true, eqb-false, eq-eqb, cases_lt}
-use Rattle.std.proofs.lemmas.List.{length-set, get_or-set_same, get_or-set_other, get_or_past, set_past}
+use Rattle.std.proofs.lemmas.Bool.{eqb-true, eq-eqb, cases_lt}
+use Rattle.std.proofs.lemmas.List.{length-set, get_or-set_same, get_or-set_other, get_or_past}
 use Rattle.locations.specs.declared.location.Location.{Location}
 use Rattle.locations.specs.declared.location.Location.TheVariants.{InRegister, InSlot}
 use Rattle.locations.specs.declared.location.Move.{Move}
@@ -10,7 +10,7 @@ use Rattle.locations.specs.Fits.{LocationFits, MoveFits}
 use Rattle.locations.specs.Reading.{same_location}
 use Rattle.machine.specs.Data.{Data, value_at, put_at, moved, all_moved}
 use Rattle.alloc_rules.specs.Equations.{back_move, back}
-use Rattle.alloc_sound.specs.Holding.{Covers, HasFrame}
+use Rattle.alloc_rules.specs.Holding.{Covers, HasFrame}
 
 -- ---- values
 

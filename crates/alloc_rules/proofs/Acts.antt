@@ -1,5 +1,5 @@
 -- What an act does, the act that stands for it does with locations that hold the same words.
-use Rattle.std.proofs.Common.{◌≡◌, ℕ, ◌<◌, ◌%◌, List, [], ◌∷◌, ◌++◌, length, set, Option, Some, None, Bool, true, false, cond, eqb, ◌&&◌, refl, sym, ap, ◌∙◌, subst, arith}
+use Rattle.std.proofs.Common.{◌≡◌, ℕ, ◌%◌, List, [], ◌∷◌, ◌++◌, length, set, Option, Some, None, Bool, true, false, cond, eqb, ◌&&◌, refl, sym, ap, ◌∙◌, subst, arith}
 use Rattle.std.specs.Prelude.{All, option_and_then, slice_get, nat_lt}
 use Rattle.std.specs.Option.{option_map}
 use Rattle.std.proofs.lemmas.Bool.{eqb-true, and_parts}
@@ -11,7 +11,6 @@ use Rattle.ints.specs.MachineTable.{machine_table}
 use Rattle.ints.specs.CondTable.{cond_table}
 use Rattle.ints.proofs.Codes.{op_of_code-code_of}
 use Rattle.ints.proofs.CondCodes.{cond_of_code-cond_code_of}
-use Rattle.locations.specs.declared.location.Location.{Location}
 use Rattle.locations.specs.declared.location.Location.TheVariants.{InRegister}
 use Rattle.rtl_parts.specs.declared.arguments.Arguments.{Arguments}
 use Rattle.rtl_parts.specs.declared.arguments.Arguments.TheVariants.{One, Two}
@@ -26,15 +25,15 @@ use Rattle.machine.specs.declared.act.Act as machine_act
 use Rattle.machine.specs.declared.act.Act.TheVariants as act
 use Rattle.machine.specs.declared.test.Test as machine_test
 use Rattle.machine.specs.Data.{Data, value_at, put_at}
-use Rattle.machine.specs.Acts.{pair_of, words_of, given, word_in, changed, stored, printing, does, holds}
+use Rattle.machine.specs.Acts.{pair_of, words_of, given, word_in, changed, stored, printing, holds}
 use Rattle.ltl.specs.Meaning.{does_any}
-use Rattle.alloc_rules.specs.declared.equation.Equation.{Equation}
 use Rattle.alloc_rules.specs.declared.change.Change.{Change}
 use Rattle.alloc_rules.specs.declared.change.Change.TheVariants.{Nothing, Defines, Drops, Copies}
 use Rattle.alloc_rules.specs.Pairs.{same_number, result_change, act_change, same_test, in_register, arguments_used, act_uses}
-use Rattle.alloc_sound.specs.Holding.{Covers, Holds}
-use Rattle.alloc_sound.proofs.Places.{covers_itself}
-use Rattle.alloc_sound.proofs.Changes.{Changed, places_themselves}
+use Rattle.alloc_rules.specs.Holding.{Covers, Holds}
+use Rattle.alloc_rules.specs.Steps.{IsDone}
+use Rattle.alloc_rules.proofs.Places.{covers_itself}
+use Rattle.alloc_rules.proofs.Changes.{places_themselves}
 
 -- a test that came out so
 pub cond_some : {A : Type 0} (b : Bool) (x : Option A) (c : A) → cond b x None ≡ Some c → (b ≡ true) × (x ≡ Some c)
@@ -97,14 +96,6 @@ module _ (d : rtl_data.Data) (e : Data) where
           ∙ known
 
 -- ---- acts
-
--- the second comes to data, changed beside the first's as is said, with the same globals and output
-pub record IsDone (change : Change) (d : rtl_data.Data) (e : Data) (d' : rtl_data.Data) (o : Option Data) : Type 0 where
-  pub left : Data
-  pub is : o ≡ Some left
-  pub defines : Changed change d e d' left
-  pub globals : left.globals ≡ d'.globals
-  pub output : left.output ≡ d'.output
 
 module _ (d : rtl_data.Data) (e : Data) (globals : e.globals ≡ d.globals) (output : e.output ≡ d.output) where
   given_done : (target k : ℕ) (x x' : Option ℕ) → Covers x x' → (d' : rtl_data.Data) → rtl_acts.given target d x ≡ Some d' → IsDone (Defines target (InRegister k)) d e d' (given k e x')

@@ -1,30 +1,24 @@
 -- Where a function begins, its parameters' locations hold the words of its parameters' registers.
-use Rattle.std.proofs.Common.{◌≡◌, ◌≢◌, ℕ, zero, suc, ◌<◌, List, [], ◌∷◌, length, get_or, set, Option, Some, None, refl, sym, ap, ◌∙◌, subst, arith, inl, inr}
-use Rattle.std.specs.Prelude.{All, Contains, map, replicate}
+use Rattle.std.proofs.Common.{◌≡◌, ◌≢◌, ℕ, zero, suc, ◌<◌, List, [], ◌∷◌, length, get_or, set, Option, None, refl, sym, ap, ◌∙◌, subst, arith, inl, inr}
+use Rattle.std.specs.Prelude.{All, map, replicate}
 use Rattle.std.specs.List.{AllByRecursion}
-use Rattle.std.proofs.lemmas.List.{get_or-set_other, length-replicate}
+use Rattle.std.proofs.lemmas.List.{get_or-set_other}
 use Rattle.std.proofs.lemmas.List.Elements.{recursion_from_All, All-tail}
 use Rattle.locations.specs.declared.location.Location.{Location}
-use Rattle.locations.specs.Fits.{LocationFits, AreDistinct}
+use Rattle.locations.specs.Fits.{LocationFits, AreDistinct, ParametersFit}
 use Rattle.rtl_parts.specs.Data as rtl_data
+use Rattle.rtl_parts.specs.Fits as rtl_fits
 use Rattle.rtl.specs.Frames as rtl_frames
 use Rattle.machine.specs.Data.{Data, value_at, put_at}
 use Rattle.machine.specs.Calls.{values_of, with_arguments}
 use Rattle.machine.proofs.Outputs.{output-put_at}
 use Rattle.alloc_rules.specs.declared.equation.Equation.{Equation}
 use Rattle.alloc_rules.specs.Pairs.{equations_of}
-use Rattle.alloc_rules.specs.Rules.{IsNoParameter, HoldsAtEntry}
-use Rattle.alloc_sound.specs.Holding.{Covers, Holds, HasFrame}
-use Rattle.alloc_sound.proofs.Places.{covers_none, covers_same, covers_set, value_put_same, value_put_other, frame_put, globals_put}
+use Rattle.alloc_rules.specs.Rules.{HoldsAtEntry}
+use Rattle.alloc_rules.specs.Holding.{Covers, AllCover, Holds, HasFrame}
+use Rattle.alloc_rules.proofs.Places.{covers_none, covers_same, covers_set, value_put_same, value_put_other, frame_put, globals_put}
 
 -- ---- arguments
-
--- one with one, where the first is defined the second is the same
-abbrev pub AllCover : List (Option ℕ) → List (Option ℕ) → Type 0
-AllCover [] [] = Unit {0}
-AllCover [] (y ∷ ys) = ⊥
-AllCover (x ∷ xs) [] = ⊥
-AllCover (x ∷ xs) (y ∷ ys) = Covers x y × AllCover xs ys
 
 pub values_covered : (d : rtl_data.Data) (e : Data) (names : List ℕ) (places : List Location) → length names ≡ length places → All (Holds d e) (equations_of names places) → AllCover (map (λ a. rtl_data.value_at a d) names) (values_of places e)
 values_covered d e [] [] same used = tt
@@ -69,12 +63,6 @@ nothing_there (suc n) (suc r) = nothing_there n r
 
 -- ---- parameters
 
--- the locations of parameters are there, and no register or location is named twice
-pub record AreParameters (slots : ℕ) (ps : List ℕ) (ls : List Location) : Type 0 where
-  pub registers : AreDistinct ps
-  pub locations : AreDistinct ls
-  pub there : AllByRecursion (LocationFits slots) ls
-
 module _ (slots : ℕ) where
   -- the equation of this place in the lists holds
   parameter_holds : (ps : List ℕ) (ls : List Location) (vs ws rs : List (Option ℕ)) (e : Data) → HasFrame slots e → AreDistinct ps → AreDistinct ls → AllByRecursion (LocationFits slots) ls → AllCover vs ws → length vs ≡ length ps → (q : Equation) (k : ℕ) → k < length (equations_of ps ls) → get_or (equations_of ps ls) k q ≡ q → Covers (get_or (rtl_frames.with_arguments ps vs rs) q.register None) (value_at q.location (with_arguments ls ws e))
@@ -91,9 +79,10 @@ module _ (slots : ℕ) where
   parameter_holds (p ∷ ps) (l ∷ ls) (v ∷ vs) (w ∷ ws) rs e frame dp dl there cover same q (suc k) below is =
       parameter_holds ps ls vs ws (set rs p v) (put_at l w e) (frame_put slots l w e frame) dp.1 dl.1 there.1 cover.1 (omega (arith, same)) q k (omega (arith, below)) is
 
-  -- an equation that may stand at the entry holds there
-  pub entry_holds : (ps : List ℕ) (ls : List Location) (vs ws : List (Option ℕ)) (registers : ℕ) (e : Data) → HasFrame slots e → AreParameters slots ps ls → AllCover vs ws → length vs ≡ length ps → (q : Equation) → HoldsAtEntry ps ls q → Covers (get_or (rtl_frames.with_arguments ps vs (replicate registers None)) q.register None) (value_at q.location (with_arguments ls ws e))
-  entry_holds ps ls vs ws registers e frame are cover same q (inl among) =
-      parameter_holds ps ls vs ws (replicate registers None) e frame are.registers are.locations are.there cover same q among.0 among.1 among.2
-  entry_holds ps ls vs ws registers e frame are cover same q (inr alone) =
-      covers_none _ _ (kept_register ps vs (replicate registers None) q.register (recursion_from_All (λ p. q.register ≢ p) ps (λ k p below is. alone.register k p below (sym is))) ∙ nothing_there registers q.register)
+-- an equation that may stand at the entry holds there
+pub entry_holds : (registers slots : ℕ) (ps : List ℕ) (ls : List Location) → rtl_fits.ParametersFit registers ps → ParametersFit slots ls → (vs ws : List (Option ℕ)) → AllCover vs ws → length vs ≡ length ps → (d : rtl_data.Data) (e : Data) → d.registers ≡ rtl_frames.with_arguments ps vs (replicate registers None) → HasFrame slots e → (q : Equation) → HoldsAtEntry ps ls q → Holds d (with_arguments ls ws e) q
+entry_holds registers slots ps ls first second vs ws cover same d e is frame q (inl among) =
+    covers_same (ap (λ rs. get_or rs q.register None) is) refl
+    (parameter_holds slots ps ls vs ws (replicate registers None) e frame first.distinct second.distinct second.each cover same q among.0 among.1 among.2)
+entry_holds registers slots ps ls first second vs ws cover same d e is frame q (inr alone) =
+    covers_none _ _ (ap (λ rs. get_or rs q.register None) is ∙ kept_register ps vs (replicate registers None) q.register (recursion_from_All (λ p. q.register ≢ p) ps (λ k p below same'. alone.register k p below (sym same'))) ∙ nothing_there registers q.register)

@@ -1,0 +1,6 @@
+pub mod Each
+pub mod Moves
+pub mod Places
+pub mod Ranks
+pub mod Readings
+pub mod Searches

@@ -1,0 +1,8 @@
+use Rattle.std.proofs.lemmas.Result.{err_from_is_err_and}
+use Rattle.lang.proofs.Beginnings.{IsBeginningOf-front}
+use Rattle.alloc_form.proofs.writing.push_equations.Goals as goal
+
+pub returns-in_err-push_equation : goal.returns-in_err-push_equation
+returns-in_err-push_equation c =
+    let p = err_from_is_err_and c.from_residual.result c.from_residual.ensures.1 in
+    rw p.1 (IsBeginningOf-front c.args.out.now.items _ c.loop-equation.out.items c.push_equation.new.out.items c.loop-equation.invariant c.in_err-push_equation.ensures)

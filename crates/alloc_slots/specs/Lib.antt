@@ -1,0 +1,2 @@
+pub mod Slots
+pub use Rattle.alloc_rules.specs.Rules

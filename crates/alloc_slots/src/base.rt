@@ -1,0 +1,32 @@
+ghost use Rattle.std.specs.Prelude.{◌≡◌, ◌≢◌, IfOk, IfErr};
+ghost use Rattle.alloc_rules.specs.Rules.{IsTooLarge, IsAllocated};
+ghost use Rattle.alloc_slots.specs.Slots.{function_in};
+
+use crate::every::everywhere;
+use crate::function::function_in;
+use crate::live::live_lists;
+use alloc_check::{EquationLists, check};
+use lang::PassError;
+use std::alloc::Global;
+
+/// The registers in slots of their own, with the equations of those that are live; were these not
+/// accepted, with those of every register. Refuses more than 2,048 registers.
+pub fn baseline(
+    alloc: Global,
+    input: &rtl::Function,
+) -> Result<(ltl::Function, EquationLists), PassError>
+    ensures output { IfOk result (λ made. made.0 ≡ function_in input.now) }
+    ensures accepted { IfOk result (λ made. IsAllocated input.now made.0 made.1) }
+    ensures refused { IfErr result (λ e. e ≢ PassError.NoMemory → IsTooLarge input.now) }
+{
+    if input.registers() > 2048 {
+        return Err(PassError::TooManyRegisters);
+    }
+    let output = function_in(alloc, input)?;
+    let few = live_lists(alloc, input)?;
+    if check(alloc, input, &output, &few)? {
+        return Ok((output, few));
+    }
+    let all = everywhere(alloc, input.registers(), input.nodes().len())?;
+    Ok((output, all))
+}
