@@ -1,0 +1,3 @@
+mod EqualNames
+mod Fronts
+mod Keeping

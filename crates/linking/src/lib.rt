@@ -1,0 +1,15 @@
+//! Linking: from a program and four offers of each of its functions, one for each of four passes that
+//! fit one behind another, to the program of the last outputs. What is linked keeps the meaning of the
+//! program.
+#![tactic(auto)]
+
+mod chain;
+mod copying;
+mod errors;
+mod functions;
+mod linking;
+mod names;
+
+pub use chain::{Chain, ChainOf, Named, NamedOf};
+pub use errors::LinkError;
+pub use linking::link;
