@@ -8,6 +8,7 @@ mod blocks;
 mod certificate;
 mod interference;
 mod liveness;
+mod order;
 mod parameters;
 mod parts;
 mod places;

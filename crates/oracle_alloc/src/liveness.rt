@@ -1,6 +1,7 @@
 //! The registers that are live before each node: those that are used before they are defined, on some
 //! way from there (Leroy 2009, section 3.2; a backward worklist).
 
+use crate::order::order_of;
 use crate::parts::{add_uses, defined_by, edges_of};
 use crate::register_set::RegisterSet;
 use lang::NoMemory;
@@ -49,6 +50,9 @@ pub(crate) fn live_before(
     for (node, instruction) in nodes.iter().enumerate() {
         analysis.begin(node, instruction)?;
     }
+    for node in order_of(alloc, nodes)?.iter().rev() {
+        analysis.wait(*node)?;
+    }
     analysis.settle(alloc, registers, nodes)?;
     Ok(analysis.into_live())
 }
@@ -75,15 +79,14 @@ impl Analysis {
         self.live
     }
 
-    /// Makes a node wait, and known to those that it leads to.
+    /// Lets a node be known to those that it leads to.
     fn begin(&mut self, node: usize, instruction: &Instruction) -> Result<(), NoMemory> {
         let Ok(node) = u16::try_from(node) else {
             return Ok(());
         };
         let to = edges_of(instruction);
         self.lead(node, to.first)?;
-        self.lead(node, to.second)?;
-        self.wait(node)
+        self.lead(node, to.second)
     }
 
     fn lead(&mut self, from: u16, to: Option<u16>) -> Result<(), NoMemory> {
@@ -106,8 +109,7 @@ impl Analysis {
         Ok(())
     }
 
-    /// Goes through the waiting nodes, until none waits: the highest first, since most lead to nodes
-    /// of higher numbers.
+    /// Goes through the waiting nodes, the last first, until none waits.
     fn settle(
         &mut self,
         alloc: Global,
