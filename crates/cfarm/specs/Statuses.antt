@@ -6,7 +6,9 @@ use Rattle.commands.specs.declared.error.SettleError.{SettleError}
 use Rattle.commands.specs.Statuses.{status_of}
 use Rattle.text_commands.specs.declared.error.CommandError.{CommandError}
 use Rattle.text_commands.specs.Statuses.{status_of_error, status_of_shown}
+use Rattle.program_commands.specs.declared.error.ExecError.{ExecError}
+use Rattle.program_commands.specs.Statuses as program
 
 abbrev pub IsStatus : ℕ → Type 0
 IsStatus status =
-    (status ≡ 0) ⊎ (status ≡ 2) ⊎ ((e : SettleError) × (status ≡ status_of e)) ⊎ ((e : CommandError) × (status ≡ status_of_error e)) ⊎ ((s : Shown) × (status ≡ status_of_shown s))
+    (status ≡ 0) ⊎ (status ≡ 2) ⊎ ((e : SettleError) × (status ≡ status_of e)) ⊎ ((e : CommandError) × (status ≡ status_of_error e)) ⊎ ((s : Shown) × (status ≡ status_of_shown s)) ⊎ ((e : ExecError) × (status ≡ program.status_of e))

@@ -1,5 +1,6 @@
 //! What the program is told on its command line.
 
+use clap::builder::ValueParser;
 use clap::{Arg, Command, value_parser};
 use std::alloc::{AllocError, Global};
 
@@ -12,6 +13,15 @@ pub const DEPTH: &str = "depth";
 /// The bound where none is given.
 pub const DEFAULT_DEPTH: &str = "100000";
 
+/// The option that bounds a run of a linked program.
+pub const LIMIT: &str = "limit";
+
+/// The bound where none is given.
+pub const DEFAULT_LIMIT: &str = "1000000";
+
+/// The greatest bound.
+const GREATEST_LIMIT: u64 = 9_223_372_036_854_775_807;
+
 /// The commands, with their help.
 pub fn command<'a>(alloc: Global) -> Result<Command<'a>, AllocError> {
     Command::new(alloc, "cfarm")
@@ -22,6 +32,7 @@ pub fn command<'a>(alloc: Global) -> Result<Command<'a>, AllocError> {
         .arg_required_else_help(true)
         .subcommand(check(alloc)?)?
         .subcommand(interpret(alloc)?)?
+        .subcommand(exec(alloc)?)?
         .subcommand(settle(alloc)?)
 }
 
@@ -51,6 +62,21 @@ fn interpret<'a>(alloc: Global) -> Result<Command<'a>, AllocError> {
         )
         .arg(file(alloc, "A C text"))?
         .arg(depth)
+}
+
+fn exec<'a>(alloc: Global) -> Result<Command<'a>, AllocError> {
+    let limit = Arg::new(alloc, LIMIT)
+        .long(LIMIT)
+        .help("How many instructions may be done, from 0 to 9223372036854775807")
+        .value_parser(ValueParser::Unsigned(0, GREATEST_LIMIT))
+        .default_value(DEFAULT_LIMIT);
+    Command::new(alloc, "exec")
+        .about("Runs a linked program")
+        .after_help(
+            "Writes what the program prints, and closes on standard error with `ended R`, `wrong` or `running`.\n\nStatus: 0 ended; 1 the bytes are refused, by number and name; 2 the command line or the file;\n4 the output could not be written; 5 the program went wrong; 6 the bound was reached; 7 no memory.",
+        )
+        .arg(file(alloc, "The bytes of a program of Linear"))?
+        .arg(limit)
 }
 
 fn settle<'a>(alloc: Global) -> Result<Command<'a>, AllocError> {

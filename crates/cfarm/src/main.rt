@@ -1,5 +1,5 @@
 //! `cfarm`: a farm of compiler nodes in one process. `main` reads the command line and the files, and
-//! calls the crates `text_commands` and `commands`.
+//! calls the crates `text_commands`, `program_commands` and `commands`.
 #![tactic(auto)]
 
 ghost use Rattle.std.specs.Prelude.{IfOk};
@@ -7,6 +7,7 @@ ghost use Rattle.cfarm.specs.Statuses.{IsStatus};
 
 mod checking;
 mod command_line;
+mod executing;
 mod files;
 mod interpreting;
 mod settling;
@@ -36,6 +37,7 @@ fn run(rt: &HostRuntime) -> io::Result<u8>
         Ok(matches) => match matches.subcommand() {
             Some(("check", words)) => checking::run(rt, words),
             Some(("interpret", words)) => interpreting::run(rt, words),
+            Some(("exec", words)) => executing::run(rt, words),
             Some(("settle", words)) => settling::run(rt, words),
             _ => Ok(0),
         },

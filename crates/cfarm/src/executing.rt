@@ -1,0 +1,45 @@
+//! `cfarm exec FILE --limit n`.
+
+ghost use Rattle.std.specs.Prelude.{IfOk};
+ghost use Rattle.cfarm.specs.Statuses.{IsStatus};
+
+use crate::command_line::LIMIT;
+use crate::files::{UNREADABLE, read_file};
+use clap::ArgMatches;
+use program_commands::{ExecError, exec};
+use std::io;
+use std::io::{BufWriter, Write};
+use text_commands::{Closing, RunError, status_of};
+
+/// The bound of the run, which the command line has read as a number.
+fn limit_of(words: &ArgMatches<'_>) -> u64 {
+    let word = words.get_str(LIMIT).unwrap_or("");
+    word.parse().unwrap_or(0)
+}
+
+/// Reads the file and runs its program. The output is written before the closing line. The status of the
+/// program.
+pub fn run(rt: &HostRuntime, words: &ArgMatches<'_>) -> io::Result<u8>
+    ensures { IfOk result (λ status. IsStatus status) }
+{
+    let Some(bytes) = read_file(rt, words)? else {
+        return Ok(UNREADABLE);
+    };
+    let mut out = BufWriter::new(rt.alloc(), io::writer(rt))?;
+    let told = exec(rt.alloc(), &bytes, limit_of(words), &mut out);
+    let told = match out.flush() {
+        Ok(()) => told,
+        Err(_) => Err(ExecError::Run(RunError::Write)),
+    };
+    match told {
+        Ok(shown) => {
+            let line = Closing(shown);
+            eprintln!(rt; "{line}")?;
+            Ok(status_of(shown))
+        }
+        Err(fault) => {
+            eprintln!(rt; "{fault}")?;
+            Ok(fault.status())
+        }
+    }
+}
