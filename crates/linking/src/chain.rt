@@ -6,6 +6,7 @@ use lang::{Language, Pass};
 use offers::Offer;
 
 /// Four offers of one function, all lent: one for each pass, in the order of the passes.
+#[derive(Drop)]
 pub struct Chain<'a, O1, O2, O3, O4> {
     pub first: &'a O1,
     pub second: &'a O2,
@@ -17,6 +18,7 @@ pub struct Chain<'a, O1, O2, O3, O4> {
 pub type ChainOf<'a, P1, P2, P3, P4> = Chain<'a, Offer<P1>, Offer<P2>, Offer<P3>, Offer<P4>>;
 
 /// A function's name, and perhaps its four offers, all lent.
+#[derive(Drop)]
 pub struct Named<'a, O1, O2, O3, O4> {
     pub name: &'a [u8],
     pub chain: Option<Chain<'a, O1, O2, O3, O4>>,

@@ -13,3 +13,4 @@ mod names;
 pub use chain::{Chain, ChainOf, Named, NamedOf};
 pub use errors::LinkError;
 pub use linking::link;
+pub use names::are_names;

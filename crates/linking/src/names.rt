@@ -11,7 +11,7 @@ fn is_name(name: &[u8], other: &[u8]) -> bool
 }
 
 /// Whether the names beside the offers are those of the functions, in order and no more of them.
-pub(crate) fn are_names<F, O1, O2, O3, O4>(
+pub fn are_names<F, O1, O2, O3, O4>(
     functions: &[lang::Named<F>],
     named: &[Named<'_, O1, O2, O3, O4>],
 ) -> bool

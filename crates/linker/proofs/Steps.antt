@@ -1,0 +1,30 @@
+-- What the refusal of a program of RTL says of the program of Cminor that it was translated from.
+use Rattle.std.proofs.Common.{◌≡◌, List, [], ◌∷◌, map, refl, sym, ap, ◌∙◌, subst}
+use Rattle.lang.specs.Programs.{NamedFunction, ProgramOf}
+use Rattle.cminor_tree.specs.Trees.{FunctionTree}
+use Rattle.generation.specs.Gen.{gen, gen_named}
+use Rattle.offers.specs.declared.parts.Parts.{Parts}
+use Rattle.rtl.specs.Function.{FunctionData}
+use Rattle.linking.specs.declared.chain.Named.{Named}
+use Rattle.linking.specs.declared.errors.LinkError as chains
+use Rattle.linking.specs.declared.errors.LinkError.TheVariants as chain
+use Rattle.linking.specs.Chains.{names_of, Refusal}
+use Rattle.linker.specs.Numbers.{refusal_to_link}
+use Rattle.linker.specs.Refused.{IsRefused}
+
+-- the translation keeps the names
+pub names_translated : (functions : List (NamedFunction FunctionTree)) → names_of (map gen_named functions) ≡ names_of functions
+names_translated [] = refl
+names_translated (f ∷ functions) = ap (λ names. f.name ∷ names) (names_translated functions)
+
+module _ {A2 A3 A4 A5 C1 C2 C3 C4 : Type 0} where
+  refused_translated : (program : ProgramOf FunctionTree) (named : List (Named (Parts FunctionData A2 C1) (Parts A2 A3 C2) (Parts A3 A4 C3) (Parts A4 A5 C4))) (e : chains.LinkError)
+      → Refusal (gen program).functions named e → IsRefused program named (refusal_to_link e)
+  refused_translated program named chain.NoMemory told = tt
+  refused_translated program named chain.Names told = λ same. told (same ∙ sym (names_translated program.functions))
+  refused_translated program named (chain.Missing i) told = told
+  refused_translated program named (chain.Unchained i) told = told
+
+  pub refused_along : (program : ProgramOf FunctionTree) (translated : ProgramOf FunctionData) (named : List (Named (Parts FunctionData A2 C1) (Parts A2 A3 C2) (Parts A3 A4 C3) (Parts A4 A5 C4))) (e : chains.LinkError)
+      → translated ≡ gen program → Refusal translated.functions named e → IsRefused program named (refusal_to_link e)
+  refused_along program translated named e same told = refused_translated program named e (subst (λ p. Refusal p.functions named e) same told)

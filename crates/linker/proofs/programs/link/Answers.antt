@@ -1,0 +1,26 @@
+-- The steps one behind the other.
+use Rattle.std.proofs.Common.{ap, ◌∙◌}
+use Rattle.std.proofs.lemmas.Result.{err_from_is_err_and}
+use Rattle.c_checker.specs.Checked.{program_tree}
+use Rattle.lowering.specs.Programs.{low}
+use Rattle.generation.specs.Gen.{gen}
+use Rattle.linking.specs.Chains.{names_of}
+use Rattle.program_data.specs.Seen.{seen}
+use Rattle.linker.proofs.Steps.{names_translated, refused_along}
+use Rattle.linker.proofs.programs.link.Goals as goal
+
+pub returns-in_err-made-clause-refused : goal.returns-in_err-made-clause-refused
+returns-in_err-made-clause-refused c =
+    let p = err_from_is_err_and c.from_residual-in_err-made.result c.from_residual-in_err-made.ensures.1 in
+    let same = c.in_ok-translated.ensures.same ∙ ap gen c.in_ok-lowered.ensures.same in
+    rw (p.1, p.2) (refused_along (low (program_tree c.args.program.now)) (seen c.in_ok-translated.translated) c.args.named.now c.in_err-made.field-0.0 same c.in_err-made.ensures.refused)
+
+pub returns-clause-same_names : goal.returns-clause-same_names
+returns-clause-same_names c =
+    c.in_ok-made.ensures.same_names
+    ∙ ap (λ p. names_of p.functions) (c.in_ok-translated.ensures.same ∙ ap gen c.in_ok-lowered.ensures.same)
+    ∙ names_translated (low (program_tree c.args.program.now)).functions
+
+pub returns-clause-keeps : goal.returns-clause-keeps
+returns-clause-keeps c =
+    c.keeps_composes.ensures _ _ _ c.in_ok-lowered.ensures.keeps (c.keeps_composes.ensures _ _ _ c.in_ok-translated.ensures.keeps c.in_ok-made.ensures.keeps)

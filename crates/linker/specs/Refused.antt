@@ -1,0 +1,19 @@
+-- Why a program of Cminor is not linked: its names first, then its translation to RTL, then the chains.
+use Rattle.std.specs.Prelude.{◌≢◌, List}
+use Rattle.lang.specs.Programs.{ProgramOf}
+use Rattle.cminor_tree.specs.Trees.{FunctionTree}
+use Rattle.generation.specs.Gen.{gen}
+use Rattle.offers.specs.declared.parts.Parts.{Parts}
+use Rattle.rtl.specs.Function.{FunctionData}
+use Rattle.rtlgen.specs.Refused.{IsFirstTooLarge}
+use Rattle.linking.specs.declared.chain.Named.{Named}
+use Rattle.linking.specs.Chains.{names_beside, names_of, IsMissing, IsUnchained}
+use Rattle.linker.specs.declared.errors.LinkError.{LinkError}
+use Rattle.linker.specs.declared.errors.LinkError.TheVariants.{NoMemory, TooManyNodes, Missing, Unchained, Names}
+
+abbrev pub IsRefused : {A2 A3 A4 A5 C1 C2 C3 C4 : Type 0} → ProgramOf FunctionTree → List (Named (Parts FunctionData A2 C1) (Parts A2 A3 C2) (Parts A3 A4 C3) (Parts A4 A5 C4)) → LinkError → Type 0
+IsRefused program named NoMemory = Unit {0}
+IsRefused program named Names = names_beside named ≢ names_of program.functions
+IsRefused program named (TooManyNodes i) = IsFirstTooLarge program.functions i
+IsRefused program named (Missing i) = IsMissing (gen program).functions named i
+IsRefused program named (Unchained i) = IsUnchained (gen program).functions named i

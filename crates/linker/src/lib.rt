@@ -1,0 +1,9 @@
+//! The linker: from a checked C program and four accepted offers of each of its functions, one for each
+//! pass, to one Linear program, which keeps the meaning of the C program.
+#![tactic(auto)]
+
+mod errors;
+mod programs;
+
+pub use errors::LinkError;
+pub use programs::{Chain, Named, link};

@@ -1,0 +1,57 @@
+ghost use Rattle.std.specs.Prelude.{◌≡◌, ◌≢◌, IfOk, IfErr, IsErrAnd, OnOk};
+ghost use Rattle.lang.specs.Keeps.{Keeps};
+ghost use Rattle.c_behaviour.specs.Meaning.{crun};
+ghost use Rattle.c_checker.specs.Checked.{program_tree};
+ghost use Rattle.lowering.specs.Programs.{low};
+ghost use Rattle.generation.specs.Gen.{gen};
+ghost use Rattle.linear.specs.Meaning as linear;
+ghost use Rattle.linking.specs.Chains.{linked, names_beside, names_of, AllChained};
+ghost use Rattle.linker.specs.Refused.{IsRefused};
+ghost use Rattle.program_data.specs.Seen.{seen};
+ghost use Rattle.rtl.specs.Meaning as rtl;
+
+use crate::errors::LinkError;
+use alloc_pass::Alloc;
+use c_checker::CProgram;
+use cminor_lowering::lower;
+use constprop_check::ConstProp;
+use cse_check::Cse;
+use lang::{Program, keeps_composes};
+use linear::Function;
+use linearize_check::Linearize;
+use linking::{ChainOf, NamedOf, are_names};
+use rtlgen::translate;
+use std::alloc::Global;
+
+/// The offers of one function, one for each pass, in the order of the passes.
+pub type Chain<'a> = ChainOf<'a, ConstProp, Cse, Alloc, Linearize>;
+
+/// A function's name, and perhaps its offers.
+pub type Named<'a> = NamedOf<'a, ConstProp, Cse, Alloc, Linearize>;
+
+/// The Linear program of the last outputs, which keeps the meaning of the C program: each function is the
+/// output of its fourth offer. The time is linear in the program and the offers.
+pub fn link(
+    alloc: Global,
+    program: &CProgram,
+    named: &[Named<'_>],
+) -> Result<Program<Function>, LinkError>
+    ensures ok { IfOk result (λ made. seen made ≡ linked (gen (low (program_tree program.now))) named.now) }
+    ensures same_names { IfOk result (λ made. names_of (seen made).functions ≡ names_of (low (program_tree program.now)).functions) }
+    ensures chained { OnOk result (AllChained (gen (low (program_tree program.now))).functions named.now) }
+    ensures keeps { IfOk result (λ made. Keeps (crun (program_tree program.now)) (linear.run (seen made))) }
+
+    // Tested first: the names are others, or not as many.
+    ensures names { names_beside named.now ≢ names_of (low (program_tree program.now)).functions →
+        IsErrAnd result (λ e. e ≢ LinkError.NoMemory → e ≡ LinkError.Names) }
+    ensures refused { IfErr result (λ e. IsRefused (low (program_tree program.now)) named.now e) }
+{
+    keeps_composes();
+    let lowered = lower(alloc, program)?;
+    if !are_names(lowered.functions.as_slice(), named) {
+        return Err(LinkError::Names);
+    }
+    let translated = translate(alloc, &lowered)?;
+    let made = linking::link::<ConstProp, Cse, Alloc, Linearize>(alloc, &translated, named)?;
+    Ok(made)
+}
