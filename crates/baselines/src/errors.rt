@@ -1,0 +1,61 @@
+use lang::{NoMemory, PassError};
+use linker::LinkError;
+use rtlgen::GenError;
+use std::alloc::{AllocError, AllocFailed};
+use std::fmt;
+
+/// Why a checked program was not compiled.
+#[derive(Clone, Copy, Debug, PartialEq, Eq)]
+pub enum CompileError {
+    /// The program has no RTL program, or it is not linked.
+    Link(LinkError),
+    /// A function has no baseline.
+    Pass(PassError),
+}
+
+impl fmt::Display for CompileError {
+    fn fmt<W: fmt::Write>(&self, f: &mut fmt::Formatter<W>) -> fmt::Result {
+        match self {
+            CompileError::Link(fault) => write!(f, "{fault}"),
+            CompileError::Pass(fault) => write!(f, "{fault}"),
+        }
+    }
+}
+
+impl std::error::Error for CompileError {}
+
+impl From<LinkError> for CompileError {
+    fn from(fault: LinkError) -> CompileError {
+        CompileError::Link(fault)
+    }
+}
+
+impl From<GenError> for CompileError {
+    fn from(fault: GenError) -> CompileError {
+        CompileError::Link(LinkError::from(fault))
+    }
+}
+
+impl From<PassError> for CompileError {
+    fn from(fault: PassError) -> CompileError {
+        CompileError::Pass(fault)
+    }
+}
+
+impl From<NoMemory> for CompileError {
+    fn from(_e: NoMemory) -> CompileError {
+        CompileError::Link(LinkError::NoMemory)
+    }
+}
+
+impl From<AllocError> for CompileError {
+    fn from(_e: AllocError) -> CompileError {
+        CompileError::Link(LinkError::NoMemory)
+    }
+}
+
+impl<T: Drop> From<AllocFailed<T>> for CompileError {
+    fn from(_e: AllocFailed<T>) -> CompileError {
+        CompileError::Link(LinkError::NoMemory)
+    }
+}

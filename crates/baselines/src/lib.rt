@@ -1,0 +1,9 @@
+//! C programs compiled without choice: the baselines of all four passes, linked.
+#![tactic(auto)]
+
+mod compiling;
+mod errors;
+mod offering;
+
+pub use compiling::compile;
+pub use errors::CompileError;
