@@ -53,33 +53,48 @@ fn the_last_output_is_linked(rt: HostRuntime) -> Result<(), Fail> {
     Ok(())
 }
 
+/// The number of the refusal of one function's program with the baselines of another under a name, or 0.
+fn refusal_of(alloc: Global, text: &str, name: &[u8], offered: &str) -> Result<u16, Fail> {
+    let function: Function = function_of(alloc, offered)?;
+    let offers = offers_of(alloc, &function)?;
+    refusal(alloc, text, name, Some(chain_of(&offers)))
+}
+
 #[test]
-fn what_is_not_linked_is_told(rt: HostRuntime) -> Result<(), Fail> {
-    let alloc = rt.alloc();
-    let square: Function = function_of(alloc, SQUARE)?;
-    let squares: Function = function_of(alloc, SQUARES)?;
-    let offers = offers_of(alloc, &square)?;
-    let others = offers_of(alloc, &squares)?;
-    assert_eq!(rt;
-        refusal(alloc, SQUARE, b"main", Some(chain_of(&offers)))?,
-        0
-    );
-    assert_eq!(rt;
-        refusal(alloc, SQUARE, b"mean", Some(chain_of(&offers)))?,
-        603
-    );
-    assert_eq!(rt; refusal(alloc, SQUARE, b"main", None)?, 601);
-    assert_eq!(rt;
-        refusal(alloc, SQUARES, b"main", Some(chain_of(&offers)))?,
-        602
-    );
+fn names_are_compared(rt: HostRuntime) -> Result<(), Fail> {
+    assert_eq!(rt; refusal_of(rt.alloc(), SQUARE, b"main", SQUARE)?, 0);
+    assert_eq!(rt; refusal_of(rt.alloc(), SQUARE, b"mean", SQUARE)?, 603);
+    Ok(())
+}
+
+#[test]
+fn offers_are_missing(rt: HostRuntime) -> Result<(), Fail> {
+    assert_eq!(rt; refusal(rt.alloc(), SQUARE, b"main", None)?, 601);
+    Ok(())
+}
+
+#[test]
+fn the_first_input_is_another(rt: HostRuntime) -> Result<(), Fail> {
+    assert_eq!(rt; refusal_of(rt.alloc(), SQUARES, b"main", SQUARE)?, 602);
+    Ok(())
+}
+
+/// The first two offers are of one function and the others of another.
+fn refusal_of_a_mixed_chain(alloc: Global) -> Result<u16, Fail> {
+    let front = offers_of(alloc, &function_of(alloc, SQUARE)?)?;
+    let back = offers_of(alloc, &function_of(alloc, SQUARES)?)?;
     let mixed = Chain {
-        first: &offers.first,
-        second: &offers.second,
-        third: &others.third,
-        fourth: &others.fourth,
+        first: &front.first,
+        second: &front.second,
+        third: &back.third,
+        fourth: &back.fourth,
     };
-    assert_eq!(rt; refusal(alloc, SQUARE, b"main", Some(mixed))?, 602);
+    refusal(alloc, SQUARE, b"main", Some(mixed))
+}
+
+#[test]
+fn a_link_is_broken(rt: HostRuntime) -> Result<(), Fail> {
+    assert_eq!(rt; refusal_of_a_mixed_chain(rt.alloc())?, 602);
     Ok(())
 }
 
