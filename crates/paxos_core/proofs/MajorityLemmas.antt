@@ -7,7 +7,7 @@ use Rattle.paxos_world.specs.Quorum.{count_below, IsQuorum}
 use Rattle.paxos_world.specs.declared.msg.Msg.{Msg}
 use Rattle.paxos_world.specs.declared.msg.Msg.TheVariants.{Prepare, Promise, Propose, Accepted}
 use Rattle.paxos_world.specs.declared.vote.Vote.{Vote}
-use Rattle.paxos_model.proofs.Quorums.{meet, quorum_grows}
+use Rattle.paxos_invariant.proofs.Quorums.{meet, quorum_grows}
 use Rattle.paxos_law.specs.Acceptor.{is_vote, promises, accepts}
 use Rattle.paxos_core.specs.Call.{Call, Offer, Start, Proposal, On, Restart, has_ballot, after_call, after_calls}
 use Rattle.paxos_law.specs.Learner.{is_at_most, notes_promise, notes_vote, votes_with, learned_with, voted}

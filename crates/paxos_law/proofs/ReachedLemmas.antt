@@ -3,7 +3,7 @@ use Rattle.std.proofs.Common.{◌≡◌, ℕ, ◌<◌, ◌≤◌, sym, subst}
 use Rattle.paxos_world.specs.Ballot.{Owns}
 use Rattle.paxos_world.specs.World.{World, Has}
 use Rattle.paxos_world.specs.declared.msg.Msg.TheVariants.{Propose, Accepted}
-use Rattle.paxos_model.proofs.Invariant.{Invariant}
+use Rattle.paxos_invariant.specs.Invariant.{Invariant}
 use Rattle.paxos_model.proofs.Theorem.{holds, learns_one}
 use Rattle.paxos_law.specs.Reached.{IsReached}
 

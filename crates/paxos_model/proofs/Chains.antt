@@ -5,10 +5,10 @@ use Rattle.paxos_world.specs.Farm.{Farm, FarmLabel, Offering, Stepping, Offer, I
 use Rattle.paxos_world.specs.KeptPart.{KeptPart, with_offer}
 use Rattle.paxos_world.specs.Step.{Label, Offers, Allowed, after, HasOffered}
 use Rattle.paxos_world.specs.World.{World, Has, no_nodes}
-use Rattle.paxos_model.proofs.Invariant.{Invariant}
-use Rattle.paxos_model.proofs.Keeps.{keeps}
-use Rattle.paxos_model.proofs.Moves.{put_cases, node_cases, learned_stays}
-use Rattle.paxos_model.proofs.Opens.{opens}
+use Rattle.paxos_invariant.specs.Invariant.{Invariant}
+use Rattle.paxos_invariant.proofs.Keeps.{keeps}
+use Rattle.paxos_invariant.proofs.Moves.{put_cases, node_cases, learned_stays}
+use Rattle.paxos_invariant.proofs.Opens.{opens}
 use Rattle.paxos_model.proofs.Theorem.{learns_one, nothing_settled, chosen_backed}
 use Rattle.paxos_model.specs.OneCode.{IsSettledFarmRun, LinksOne, RunsLinkOne, RunsChain}
 

@@ -5,7 +5,7 @@ use Rattle.paxos_world.specs.KeptPart.{KeptPart}
 use Rattle.paxos_world.specs.Settled.{Settled}
 use Rattle.paxos_world.specs.Step.{Label, Offers, Allowed, after}
 use Rattle.paxos_model.proofs.Chains.{HaveInvariant, offer_was, offer_fixed, input_new, learned_offered, farm_learned_stays, farm_keeps_run, links_one}
-use Rattle.paxos_model.proofs.Opens.{opens}
+use Rattle.paxos_invariant.proofs.Opens.{opens}
 use Rattle.paxos_model.proofs.Reopens.{IsPartOf, allowed_carries, part_carries, opening_part}
 use Rattle.paxos_model.specs.OneCode.{FarmReopeningsGoOn, FarmReopeningsLinkAsBefore}
 

@@ -1,8 +1,3 @@
-pub mod Quorums
-pub mod Moves
-pub mod Invariant
-pub mod Keeps
-pub mod Opens
 pub mod Theorem
 pub mod Chains
 pub mod Reopens

@@ -7,10 +7,10 @@ use Rattle.paxos_world.specs.Step.{Label, Offers, Starts, Promises, Proposes, Ac
 use Rattle.paxos_world.specs.World.{World, Has, put, opening}
 use Rattle.paxos_world.specs.declared.msg.Msg.{Msg}
 use Rattle.paxos_world.specs.declared.msg.Msg.TheVariants.{Promise, Propose}
-use Rattle.paxos_model.proofs.Invariant.{Invariant}
-use Rattle.paxos_model.proofs.Keeps.{keeps_run}
-use Rattle.paxos_model.proofs.Moves.{message_stays, learned_stays, proposal_was, begun_was}
-use Rattle.paxos_model.proofs.Opens.{ShownBy, shown_was}
+use Rattle.paxos_invariant.specs.Invariant.{Invariant}
+use Rattle.paxos_invariant.proofs.Keeps.{keeps_run}
+use Rattle.paxos_invariant.proofs.Moves.{message_stays, learned_stays, proposal_was, begun_was}
+use Rattle.paxos_invariant.proofs.Opens.{ShownBy, shown_was}
 use Rattle.paxos_model.proofs.Theorem.{learns_one, holds}
 use Rattle.paxos_model.specs.Agreement.{ReopeningsGoOn, ReopeningsLearnAsBefore}
 

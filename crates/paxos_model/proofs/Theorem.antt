@@ -9,10 +9,10 @@ use Rattle.paxos_world.specs.Step.{Label, IsChosen}
 use Rattle.paxos_world.specs.World.{World, Has, opening}
 use Rattle.paxos_world.specs.declared.msg.Msg.TheVariants.{Accepted}
 use Rattle.paxos_world.specs.declared.vote.Vote.{Vote}
-use Rattle.paxos_model.proofs.Invariant.{Invariant, Backed, IsPassed}
-use Rattle.paxos_model.proofs.Keeps.{keeps_run}
-use Rattle.paxos_model.proofs.Opens.{opens}
-use Rattle.paxos_model.proofs.Quorums.{meet, quorum_grows}
+use Rattle.paxos_invariant.specs.Invariant.{Invariant, Backed, IsPassed}
+use Rattle.paxos_invariant.proofs.Keeps.{keeps_run}
+use Rattle.paxos_invariant.proofs.Opens.{opens}
+use Rattle.paxos_invariant.proofs.Quorums.{meet, quorum_grows}
 use Rattle.paxos_model.specs.Agreement.{IsSettledRun, ChoosesOne, LearnsOne, NothingIsSettled, RunsChooseOne, RunsLearnOne, RunsStaySettled}
 
 -- every world of a run from settled kept parts has the invariant

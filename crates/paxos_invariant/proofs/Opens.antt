@@ -11,9 +11,9 @@ use Rattle.paxos_world.specs.declared.msg.Msg.{Msg}
 use Rattle.paxos_world.specs.declared.msg.Msg.TheVariants.{Prepare, Promise, Propose, Accepted}
 use Rattle.paxos_world.specs.declared.vote.Vote.{Vote}
 use Rattle.paxos_world.proofs.Sent.{has-append, has-append_left, has-append_right}
-use Rattle.paxos_model.proofs.Invariant.{Invariant, VoteKept, Backed, IsPassed}
-use Rattle.paxos_model.proofs.Keeps.{within_at}
-use Rattle.paxos_model.proofs.Quorums.{find_below}
+use Rattle.paxos_invariant.specs.Invariant.{Invariant, VoteKept, Backed, IsPassed}
+use Rattle.paxos_invariant.proofs.Keeps.{within_at}
+use Rattle.paxos_invariant.proofs.Quorums.{find_below}
 
 -- ---- the messages that kept parts show
 

@@ -11,9 +11,9 @@ use Rattle.paxos_world.specs.World.{World, Has}
 use Rattle.paxos_world.specs.declared.msg.Msg.{Msg}
 use Rattle.paxos_world.specs.declared.msg.Msg.TheVariants.{Prepare, Promise, Propose, Accepted}
 use Rattle.paxos_world.specs.declared.vote.Vote.{Vote}
-use Rattle.paxos_model.proofs.Invariant.{Invariant, VoteKept, PromiseKept, Reports, Backed, IsPassed}
-use Rattle.paxos_model.proofs.Moves.{put_cases, message_stays, begun_stays, chosen_stays, prepare_was, promise_was, proposal_was, vote_was, begun_was, learned_was, node_cases, promised_grows, started_grows, offer_stays}
-use Rattle.paxos_model.proofs.Quorums.{quorum_grows}
+use Rattle.paxos_invariant.specs.Invariant.{Invariant, VoteKept, PromiseKept, Reports, Backed, IsPassed}
+use Rattle.paxos_invariant.proofs.Moves.{put_cases, message_stays, begun_stays, chosen_stays, prepare_was, promise_was, proposal_was, vote_was, begun_was, learned_was, node_cases, promised_grows, started_grows, offer_stays}
+use Rattle.paxos_invariant.proofs.Quorums.{quorum_grows}
 
 -- ---- words for the steps' needs and effects
 

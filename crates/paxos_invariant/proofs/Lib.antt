@@ -1,0 +1,4 @@
+pub mod Quorums
+pub mod Moves
+pub mod Keeps
+pub mod Opens
