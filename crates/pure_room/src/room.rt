@@ -127,16 +127,3 @@ pub fn agree(alloc: Global) -> Result<Option<u8>, AllocError>
     }
     Ok(room.learned_by_all())
 }
-
-#[cfg(test)]
-mod tests {
-    use super::*;
-    use std::test::Fail;
-
-    /// Node 0 alone starts, so its own offer is the one that is learned.
-    #[test]
-    fn all_learn_node_zero(rt: HostRuntime) -> Result<(), Fail> {
-        assert_eq!(rt; agree(rt.alloc())?, Some(0));
-        Ok(())
-    }
-}
