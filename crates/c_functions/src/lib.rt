@@ -13,6 +13,3 @@ pub use functions::{check_function, check_prototype};
 pub use names::check_name;
 pub use parameters::{check_open_parameters, check_parameters};
 pub use signatures::{prototype_signature, signature_of};
-
-#[cfg(test)]
-mod tests;

@@ -8,8 +8,6 @@ mod errors;
 mod found;
 mod parts;
 mod punctuators;
-#[cfg(test)]
-mod tests;
 mod words;
 
 pub use errors::LexError;

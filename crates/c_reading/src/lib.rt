@@ -5,8 +5,6 @@
 mod fault;
 mod peeking;
 mod reading;
-#[cfg(test)]
-mod tests;
 
 pub use fault::Fault;
 pub use peeking::{is_call_next, is_name_next, is_sign_next, is_type_next, is_word_next};

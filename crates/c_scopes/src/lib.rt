@@ -9,6 +9,3 @@ mod symbols;
 
 pub use binding::Binding;
 pub use scopes::Scopes;
-
-#[cfg(test)]
-mod tests;

@@ -7,8 +7,6 @@ mod characters;
 mod keywords;
 mod numbers;
 mod punctuators;
-#[cfg(test)]
-mod tests;
 
 pub use bytes::{byte_at, is_white, is_word_byte};
 pub use characters::character_value;

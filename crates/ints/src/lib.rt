@@ -9,8 +9,6 @@ mod conditions;
 pub mod laws;
 mod machine_table;
 mod operators;
-#[cfg(test)]
-mod tests;
 mod wrong;
 
 pub use c_table::eval_c;

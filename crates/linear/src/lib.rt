@@ -14,6 +14,3 @@ mod writing;
 pub use function::Function;
 pub use instruction::Instruction;
 pub use language::Linear;
-
-#[cfg(test)]
-mod tests;

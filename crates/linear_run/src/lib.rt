@@ -18,6 +18,3 @@ mod turn;
 mod words;
 
 pub use running::run;
-
-#[cfg(test)]
-mod tests;

@@ -13,6 +13,3 @@ mod writing;
 pub use block::{Block, Body};
 pub use function::Function;
 pub use language::Ltl;
-
-#[cfg(test)]
-mod tests;

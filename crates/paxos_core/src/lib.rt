@@ -7,8 +7,6 @@ mod ballot;
 mod error;
 mod node;
 mod tally;
-#[cfg(test)]
-mod tests;
 mod theorem;
 
 pub use error::CoreError;

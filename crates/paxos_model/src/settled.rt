@@ -163,6 +163,3 @@ fn is_past(part: Kept, vote: Vote) -> bool
 {
     part.promised() > vote.ballot && part.accepted() != Some(vote)
 }
-
-#[cfg(test)]
-mod tests;

@@ -7,6 +7,4 @@ mod may;
 mod sent;
 mod shown;
 mod take;
-#[cfg(test)]
-mod tests;
 pub mod world;

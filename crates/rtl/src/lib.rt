@@ -14,6 +14,3 @@ pub use copying::copy_instruction;
 pub use function::Function;
 pub use instruction::Instruction;
 pub use language::Rtl;
-
-#[cfg(test)]
-mod tests;

@@ -17,6 +17,3 @@ mod state;
 mod turn;
 
 pub use running::run;
-
-#[cfg(test)]
-mod tests;

@@ -1,4 +1,4 @@
-use super::*;
+use c_scopes::{Binding, Scopes};
 use std::test::Fail;
 
 fn x() -> &'static [u8] {

@@ -1,7 +1,7 @@
 //! What no clause says: a worked schedule, step by step.
 
-use crate::label::Label;
-use crate::world::World;
+use paxos_reference::label::Label;
+use paxos_reference::world::World;
 use paxos_world::kept::Kept;
 use paxos_world::msg::Msg;
 use paxos_world::vote::Vote;

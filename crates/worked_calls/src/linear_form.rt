@@ -1,6 +1,6 @@
 //! A function of 25 bytes, and its strict fronts.
-use super::*;
 use lang::{FormError, Language};
+use linear::Linear;
 use std::test::Fail;
 
 /// No parameters, no slots, four instructions: a label, call function 2 with r3 for r0, a label, return r0.

@@ -1,6 +1,6 @@
 //! A function of 24 bytes, and its strict fronts.
-use super::*;
 use lang::{FormError, Language};
+use ltl::Ltl;
 use std::test::Fail;
 
 /// No parameters, no slots, two blocks: call function 2 with r3 for r0, return r0.

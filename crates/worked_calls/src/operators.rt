@@ -1,5 +1,5 @@
 //! Values at the edges, made by gcc with wrapping arithmetic (`-fwrapv`) and its overflow built-ins.
-use super::*;
+use ints::{Cond, Op, eval_c, eval_cond, eval_m};
 use std::process::Abort;
 
 /// An operator's code, its words (a sole one stands first), the machine's answer, and whether C's table

@@ -1,6 +1,6 @@
 //! A function of 21 bytes, and its strict fronts.
-use super::*;
 use lang::{FormError, Language};
+use rtl::Rtl;
 use std::test::Fail;
 
 /// No parameters, one register, entry 0, two nodes: register 0 becomes 7, return register 0.

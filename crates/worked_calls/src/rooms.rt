@@ -1,6 +1,6 @@
 //! What no clause says: worked rows, call by call.
 
-use crate::{CoreError, Kept, Msg, Node, Vote};
+use paxos_core::{CoreError, Kept, Msg, Node, Vote};
 use std::process::Abort;
 
 fn vote(ballot: u16, value: u16) -> Option<Vote> {

@@ -1,8 +1,6 @@
-use crate::events::Stop;
-use crate::here::run_here;
-use crate::ready::make_ready;
 use lang::Language;
 use rtl::Rtl;
+use rtl_nodes::{Stop, make_ready, run_here};
 use std::test::Fail;
 
 /// One register becomes 65, and is printed, and returned.

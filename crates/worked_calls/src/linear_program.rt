@@ -1,22 +1,22 @@
-use crate::run;
 use lang::{Language, Named, Program, Shown};
-use rtl::Rtl;
+use linear::Linear;
+use linear_run::run;
 use std::test::Fail;
 
-/// One register becomes 65, is printed and returned.
-fn main_of_three_nodes() -> [u8; 27] {
+/// r0 becomes 65, is printed and returned.
+fn main_of_three_instructions() -> [u8; 20] {
     [
-        2, 0, 0, 1, 0, 0, 0, 3, //
-        1, 0, 0, 0, 0, 0, 65, 0, 1, //
-        7, 0, 0, 0, 0, 2, //
-        9, 1, 0, 0,
+        4, 0, 0, 0, 0, 0, 0, 3, //
+        1, 0, 0, 0, 0, 65, //
+        7, 0, 0, //
+        9, 1, 0,
     ]
 }
 
 #[test]
 fn a_program_prints_and_ends(rt: HostRuntime) -> Result<(), Fail> {
     let alloc = rt.alloc();
-    let (function, _length) = Rtl::read(alloc, &main_of_three_nodes())?;
+    let (function, _length) = Linear::read(alloc, &main_of_three_instructions())?;
     let name = Vec::from_slice(alloc, b"main")?;
     let mut functions = Vec::new(alloc);
     functions.push(Named { name, function })?;

@@ -1,5 +1,5 @@
 //! `void f(int);`
-use super::*;
+use c_functions::{check_name, declare_function, prototype_signature};
 use c_scopes::Scopes;
 use c_terms::Functions;
 use c_tokens::IntegerType;

@@ -1,4 +1,4 @@
-use super::*;
+use paxos_core::{Kept, settled};
 use std::process::Abort;
 
 /// A part given as offered, started, promised, and the vote's ballot (0 for none) and value.

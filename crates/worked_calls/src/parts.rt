@@ -1,5 +1,5 @@
 //! The parts at the front of small texts, and the refusals' names and numbers.
-use super::*;
+use c_parts::{LexError, first_part};
 use c_tokens::TokenKind;
 use std::test::Fail;
 

@@ -1,5 +1,7 @@
 //! One spelling of each kind.
-use super::*;
+use c_spellings::{
+    byte_at, character_value, constant, is_white, is_word_byte, keyword, longest_punctuator,
+};
 use c_tokens::{IntegerType, Keyword, Punctuator};
 
 #[test]

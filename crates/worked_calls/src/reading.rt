@@ -1,5 +1,8 @@
 //! The tokens of `x ( unsigned int 7 ;`, each of them two bytes behind the one before.
-use super::*;
+use c_reading::{
+    Fault, is_call_next, is_name_next, is_sign_next, is_type_next, is_word_next, misfit,
+    read_constant, read_name, read_placed_word, read_sign, read_type, read_word,
+};
 use c_tokens::{Constant, IntegerType, Keyword, Punctuator, Token, TokenKind};
 use lang::Row;
 use std::alloc::{AllocError, Global};
