@@ -247,8 +247,8 @@ ROWS = (
 )
 
 
-def run(path, binary):
-    done = subprocess.run([binary, path, str(2**63)], stdout=subprocess.PIPE, stderr=subprocess.PIPE, check=True)
+def run(path, *command):
+    done = subprocess.run([*command, path, str(2**63)], stdout=subprocess.PIPE, stderr=subprocess.PIPE, check=True)
     return int(done.stderr.split()[1]) / 1e6, done.stdout.decode().strip()
 
 
@@ -272,10 +272,10 @@ def python(text, words):
 def main():
     words = argparse.ArgumentParser(description=__doc__.splitlines()[0])
     words.add_argument("--runs", type=int, default=5)
-    words.add_argument("--program", default=os.path.join(ROOT, "crates/measure_linear/out/measure_linear"))
+    words.add_argument("--program", default=os.path.join(ROOT, "crates/measure/out/measure"))
     given = words.parse_args()
     if not os.path.exists(given.program):
-        sys.exit("build the program first: cd crates/measure_linear && rt run")
+        sys.exit("build the program first: cd crates/measure && rt run")
     with tempfile.TemporaryDirectory() as scratch:
         twin = os.path.join(scratch, "linear_twin")
         subprocess.run(["rustc", "-O", "--edition", "2024", "-o", twin, os.path.join(ROOT, "bench/linear_twin.rs")], check=True)
@@ -287,7 +287,7 @@ def main():
                 file.write(make(*sizes))
             kinds = [[], [], [], []]
             for _ in range(given.runs):
-                kinds[0].append(run(path, given.program))
+                kinds[0].append(run(path, given.program, "linear"))
                 kinds[1].append(run(path, twin))
                 kinds[2].append(lua(lua_text, sizes))
                 kinds[3].append(python(python_text, sizes))

@@ -176,7 +176,7 @@ ROWS = (
 
 
 def run(path, binary):
-    done = subprocess.run([binary, path, str(2**63)], stdout=subprocess.PIPE, stderr=subprocess.PIPE, check=True)
+    done = subprocess.run([binary, "rtl", path, str(2**63)], stdout=subprocess.PIPE, stderr=subprocess.PIPE, check=True)
     return int(done.stderr.split()[1]) / 1e6, done.stdout.decode().strip()
 
 
@@ -191,11 +191,11 @@ def lua(text, words):
 def main():
     words = argparse.ArgumentParser(description=__doc__.splitlines()[0])
     words.add_argument("--runs", type=int, default=5)
-    words.add_argument("--program", default=os.path.join(ROOT, "crates/measure_runs/out/measure_runs"))
+    words.add_argument("--program", default=os.path.join(ROOT, "crates/measure/out/measure"))
     words.add_argument("--keep")
     given = words.parse_args()
     if not os.path.exists(given.program):
-        sys.exit("build the program first: cd crates/measure_runs && rt run")
+        sys.exit("build the program first: cd crates/measure && rt run")
     print(f"{'program':10} {'RTL s':>8} {'Lua s':>8} {'times':>6}")
     with tempfile.TemporaryDirectory() as scratch:
         for name, make, text, sizes in ROWS:

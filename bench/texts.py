@@ -7,7 +7,7 @@
 
 The texts: source like a program's (functions over a few names, with comments and white space), the same
 without white space or comments, one name after another, nothing but `;`, and one comment. The program
-`measure_texts` tells how long its calls of the lexer and the reader took; memory is the most that it held.
+`measure` tells how long its calls of the lexer and the reader took; memory is the most that it held.
 Beside them, as the floor of the machine, a C program that only writes a record of a token's size for each
 token, into an array that grows twofold.
 """
@@ -111,7 +111,7 @@ def run(program, path):
         "print('peak', resource.getrusage(resource.RUSAGE_CHILDREN).ru_maxrss)\n"
         "print('status', done.returncode)\n"
     )
-    done = subprocess.run([sys.executable, "-c", code, program, path], stdout=subprocess.PIPE, check=True)
+    done = subprocess.run([sys.executable, "-c", code, program, "texts", path], stdout=subprocess.PIPE, check=True)
     told = dict(line.split(" ", 1) for line in done.stdout.decode().splitlines() if " " in line)
     if told["status"] != "0":
         sys.exit(f"{path}: status {told['status']}: {told}")
@@ -130,11 +130,11 @@ def main():
     words.add_argument("--runs", type=int, default=3)
     words.add_argument("--megabytes", type=int, default=64)
     words.add_argument("--shape", choices=[name for name, _ in SHAPES])
-    words.add_argument("--program", default=os.path.join(ROOT, "crates/measure_texts/out/measure_texts"))
+    words.add_argument("--program", default=os.path.join(ROOT, "crates/measure/out/measure"))
     words.add_argument("--keep")
     given = words.parse_args()
     if not os.path.exists(given.program):
-        sys.exit("build the program first: cd crates/measure_texts && rt run")
+        sys.exit("build the program first: cd crates/measure && rt run")
     print(f"{'shape':8} {'bytes':>9} {'tokens':>9} {'lexer s':>8} {'MB/s':>6} {'both s':>7} {'MB/s':>6} {'peak MB':>8} {'floor s':>8}")
     with tempfile.TemporaryDirectory() as scratch:
         folder = given.keep or scratch

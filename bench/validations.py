@@ -53,24 +53,22 @@ def offer(nodes):
 
 
 def run(program, path):
-    done = subprocess.run([program, path], stdout=subprocess.PIPE, check=True)
-    seconds = []
+    done = subprocess.run([program, "validation", path], stdout=subprocess.PIPE, stderr=subprocess.PIPE, check=True)
     for line in done.stdout.decode().splitlines():
-        workers, accepted, micros = line.split(", ")
+        workers, accepted = line.split(", ")
         if accepted != "64 accepted":
             sys.exit(f"{workers}: {accepted}")
-        seconds.append(int(micros) / 1e6)
-    return seconds
+    return [int(line.split(", ")[1]) / 1e6 for line in done.stderr.decode().splitlines()]
 
 
 def main():
     words = argparse.ArgumentParser(description=__doc__.splitlines()[0])
     words.add_argument("--runs", type=int, default=5)
     words.add_argument("--nodes", type=int, default=20_000)
-    words.add_argument("--program", default=os.path.join(ROOT, "crates/measure_validation/out/measure_validation"))
+    words.add_argument("--program", default=os.path.join(ROOT, "crates/measure/out/measure"))
     given = words.parse_args()
     if not os.path.exists(given.program):
-        sys.exit("build the program first: cd crates/measure_validation && rt run")
+        sys.exit("build the program first: cd crates/measure && rt run")
     with tempfile.NamedTemporaryFile() as file:
         file.write(offer(given.nodes))
         file.flush()

@@ -1,4 +1,4 @@
-//! Whole programs, read and run.
+//! Whole programs of RTL, read and run.
 
 use crate::told::runs_told;
 use lang::Shown;
@@ -8,20 +8,26 @@ use rtl_run::run;
 use std::alloc::Global;
 use std::test::Fail;
 
-/// How the run of a program stands at the bound, and what it has printed by then.
-fn run_told(alloc: Global, bytes: &[u8], limit: u64) -> Result<String, Fail> {
-    let (program, _length) = read_program::<Rtl>(alloc, bytes)?;
-    let mut out = Vec::new(alloc);
-    let stands = match run(alloc, &program, limit, &mut out)? {
+/// How a run stands at its bound, and what it has printed by then.
+pub(crate) fn shown_told(alloc: Global, shown: Shown, out: &[u8]) -> Result<String, Fail> {
+    let stands = match shown {
         Shown::Running => format!(in alloc; "Running")?,
         Shown::Ended(result) => format!(in alloc; "Ended{result}")?,
         Shown::Wrong => format!(in alloc; "Wrong")?,
     };
-    let printed = hex::encode(alloc, &out)?;
+    let printed = hex::encode(alloc, out)?;
     if printed.is_empty() {
         return Ok(format!(in alloc; "{stands}:-")?);
     }
     Ok(format!(in alloc; "{stands}:{printed}")?)
+}
+
+/// How the run of a program stands at the bound, and what it has printed by then.
+fn run_told(alloc: Global, bytes: &[u8], limit: u64) -> Result<String, Fail> {
+    let (program, _length) = read_program::<Rtl>(alloc, bytes)?;
+    let mut out = Vec::new(alloc);
+    let shown = run(alloc, &program, limit, &mut out)?;
+    shown_told(alloc, shown, &out)
 }
 
 #[test]

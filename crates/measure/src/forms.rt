@@ -1,35 +1,30 @@
-//! `measure_forms N`: how long functions of Cminor with N statements, and of RTL with as many nodes, at most
-//! 65,535, are read, copied, compared and written, in microseconds on standard error.
-#![tactic(auto)]
+//! How long functions of Cminor with N statements, and of RTL with as many nodes, at most 65,535, are read,
+//! copied, compared and written.
 
 use cminor::Cminor;
 use lang::{Language, NoMemory};
 use rtl::Rtl;
 use std::alloc::Global;
+use std::io;
 use std::time::Instant;
-use std::{env, io};
 
 /// The most nodes of a function of RTL.
 const MOST_NODES: u32 = 65535;
 
-fn main(rt: HostRuntime) -> io::Result<()> {
+pub fn measure(rt: &HostRuntime, word: &str) -> io::Result<()> {
     let alloc = rt.alloc();
-    let words: Vec<String> = env::args(&rt)?.collect(alloc)?;
-    let [_program, word] = words.as_slice() else {
-        return eprintln!(rt; "measure_forms N");
-    };
     let Ok(count) = word.parse() else {
-        return eprintln!(rt; "measure_forms N");
+        return eprintln!(rt; "{word} is no number");
     };
     let Ok(statements) = cminor_text(alloc, count) else {
         return eprintln!(rt; "memory");
     };
-    measure::<Cminor>(&rt, "cminor", statements.as_slice())?;
+    measure_form::<Cminor>(rt, "cminor", statements.as_slice())?;
     let nodes = count.min(MOST_NODES);
     let Ok(graph) = rtl_text(alloc, nodes) else {
         return eprintln!(rt; "memory");
     };
-    measure::<Rtl>(&rt, "rtl", graph.as_slice())
+    measure_form::<Rtl>(rt, "rtl", graph.as_slice())
 }
 
 /// A function of Cminor whose body is a sequence of so many assignments of a constant.
@@ -56,7 +51,7 @@ fn rtl_text(alloc: Global, count: u32) -> Result<Vec<u8>, NoMemory> {
 }
 
 /// Reads the function of the text, copies it, compares both and writes the copy.
-fn measure<L: Language>(rt: &HostRuntime, name: &str, text: &[u8]) -> io::Result<()> {
+fn measure_form<L: Language>(rt: &HostRuntime, name: &str, text: &[u8]) -> io::Result<()> {
     let alloc = rt.alloc();
     let start = Instant::now(rt)?;
     let Ok((function, length)) = L::read(alloc, text) else {
