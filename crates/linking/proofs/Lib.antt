@@ -1,3 +1,4 @@
 mod EqualNames
 mod Fronts
 mod Keeping
+mod Whole

@@ -26,6 +26,10 @@ pub fn link<P1: Pass, P2: Pass<In = P1::Out>, P3: Pass<In = P2::Out>, P4: Pass<I
     // Tested first: the names are others, or not as many.
     ensures names { (result ≡ Err LinkError.Names) ↔ (names_beside named.now ≢ names_of (seen program.now).functions) }
     ensures refused { IfErr result (λ e. Refusal (seen program.now).functions named.now e) }
+
+    // Where the names are the program's and all chains are whole, only memory can be refused.
+    ensures whole { names_beside named.now ≡ names_of (seen program.now).functions → AllChained (seen program.now).functions named.now →
+        IfErr result (λ e. e ≡ LinkError.NoMemory) }
 {
     if !are_names(program.functions.as_slice(), named) {
         return Err(LinkError::Names);

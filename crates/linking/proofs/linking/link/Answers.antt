@@ -1,9 +1,12 @@
 -- What is linked, seen as plain data.
 use Rattle.std.proofs.Common.{map, ap, sym, ◌∙◌, subst}
+use Rattle.std.proofs.lemmas.Result.{err_from_is_err_and}
 use Rattle.lang.specs.Keeps.{Keeps}
 use Rattle.program_data.specs.Seen.{seen, global_seen, named_seen}
+use Rattle.linking.specs.Chains.{Refusal}
 use Rattle.linking.proofs.Fronts.{linked_along}
 use Rattle.linking.proofs.Keeping.{outputs, same_names, chained, linked_keeps}
+use Rattle.linking.proofs.Whole.{only_memory}
 use Rattle.linking.proofs.linking.link.Goals as goal
 
 pub returns-clause-ok : goal.returns-clause-ok
@@ -33,3 +36,9 @@ returns-clause-keeps g c =
     g.met.P1.Pass.sound g.met.P2.Pass.sound g.met.P3.Pass.sound g.met.P4.Pass.sound
     (map global_seen c.args.program.now.globals.items) c.args.program.now.functions.items c.args.named.now c.in_ok-functions.functions.items are in
     subst (λ xs. Keeps (g.P1.In.Language.run (seen c.args.program.now)) (g.P4.Out.Language.run (record { globals = xs; functions = map named_seen c.in_ok-functions.functions.items }))) (sym globals) keeps
+
+pub returns-in_err-functions-clause-whole : goal.returns-in_err-functions-clause-whole
+returns-in_err-functions-clause-whole g c names chained =
+    let p = err_from_is_err_and c.from_residual-in_err-functions.result c.from_residual-in_err-functions.ensures.1 in
+    let told = subst (λ fs. Refusal (map named_seen fs) c.args.named.now c.in_err-functions.field-0.0) c.as_slice-3.ensures.value c.in_err-functions.ensures.first in
+    rw (p.1, p.2) (only_memory (map named_seen c.args.program.now.functions.items) c.args.named.now c.in_err-functions.field-0.0 chained c.in_err-functions.ensures.err told)
