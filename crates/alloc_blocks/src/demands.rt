@@ -1,38 +1,13 @@
 //! What an equation behind an instruction demands of those before it.
 
 ghost use Rattle.std.specs.Prelude.{◌≡◌};
-ghost use Rattle.alloc_rules.specs.Equations.{back, back_move, through_result, through, is_lost, over_call, through_body, demand};
-ghost use Rattle.ltl.specs.Function.{after_of};
+ghost use Rattle.alloc_rules.specs.Equations.{through_result, through, is_lost, over_call, through_body};
 
-use crate::among::is_at;
+use crate::origins::is_at;
 use alloc_rules::{Change, Demand, Equation};
-use locations::{Location, Move};
+use locations::Location;
 use ltl::Body;
 use rtl_parts::Register;
-
-fn back_move(step: &Move, location: Location) -> Location
-    ensures { result ≡ back_move step.now location }
-{
-    if is_at(&step.target, &location) {
-        step.source
-    } else {
-        location
-    }
-}
-
-/// Where the word that a location holds behind these moves lay before them: they are done one after
-/// the other, so the last is gone back through first.
-pub(crate) fn back(moves: &[Move], location: Location) -> Location
-    ensures { result ≡ back moves.now location }
-{
-    let mut origin = location;
-    let mut left = moves.len();
-    while left > 0 {
-        left -= 1;
-        origin = back_move(&moves[left], origin);
-    }
-    origin
-}
 
 fn through_result(register: Register, location: Location, equation: Equation) -> Demand
     ensures { result ≡ through_result register location equation }
@@ -101,31 +76,12 @@ fn over_call(demand: Demand) -> Demand
     }
 }
 
-fn through_body(body: &Body, change: Change, equation: Equation) -> Demand
+/// What an equation behind a body's instruction demands in front of that.
+pub(crate) fn through_body(body: &Body, change: Change, equation: Equation) -> Demand
     ensures { result ≡ through_body body.now change equation }
 {
     match body {
         Body::Call { .. } => over_call(through(change, equation)),
         _ => through(change, equation),
     }
-}
-
-fn after_of(body: &Body) -> &[Move]
-    ensures { result.now ≡ after_of body.now }
-{
-    match body {
-        Body::Go { after, .. } | Body::Call { after, .. } => after.as_slice(),
-        _ => &[],
-    }
-}
-
-/// What an equation behind a block demands behind the block's first moves.
-pub(crate) fn demand(body: &Body, change: Change, equation: &Equation) -> Demand
-    ensures { result ≡ demand body.now change equation.now }
-{
-    let before = Equation {
-        register: equation.register,
-        location: back(after_of(body), equation.location),
-    };
-    through_body(body, change, before)
 }

@@ -254,7 +254,7 @@ fn return_change(value: Option<Register>, body: &Body) -> Option<Change>
 }
 
 /// What the instruction and the body define; none where the body does something else.
-pub(crate) fn change_of(instruction: &Instruction, body: &Body) -> Option<Change>
+pub fn change_of(instruction: &Instruction, body: &Body) -> Option<Change>
     ensures { result ≡ change_of instruction.now body.now }
 {
     match instruction {
