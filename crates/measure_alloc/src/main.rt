@@ -1,11 +1,13 @@
 //! `measure_alloc FILE`: what is said of the written offer of the third pass in a file, and whether the
-//! baseline of its input is accepted; and on standard error how many microseconds the reading, the
-//! check, the baseline and the check of that took.
+//! baseline of its input is accepted, and what the oracle proposes; and on standard error how many
+//! microseconds the reading, the check, the baseline, the oracle and the checks of those took.
 #![tactic(auto)]
 
 use alloc_pass::{Alloc, Fault, baseline, check, why};
-use lang::{FormError, Pass};
+use lang::{FormError, Oracle, Pass};
 use offers::{Offer, PartsOf};
+use oracle_alloc::AllocOracle;
+use rand_pcg::Pcg32;
 use std::alloc::Global;
 use std::time::Instant;
 use std::{env, fs, io};
@@ -42,10 +44,13 @@ fn judge(rt: &HostRuntime, parts: &PartsOf<Alloc>) -> io::Result<()> {
     let micros = start.elapsed(rt)?.as_micros();
     eprintln!(rt; "check {micros}")?;
     let is_accepted = is_baseline_accepted(rt, &parts.input)?;
+    let is_proposal_accepted = is_proposal_accepted(rt, &parts.input)?;
     match told {
-        Ok(None) => println!(rt; "yes, {is_accepted}"),
-        Ok(Some(Fault::Shape)) => println!(rt; "shape, {is_accepted}"),
-        Ok(Some(Fault::Node(node))) => println!(rt; "node {node}, {is_accepted}"),
+        Ok(None) => println!(rt; "yes, {is_accepted}, {is_proposal_accepted}"),
+        Ok(Some(Fault::Shape)) => println!(rt; "shape, {is_accepted}, {is_proposal_accepted}"),
+        Ok(Some(Fault::Node(node))) => {
+            println!(rt; "node {node}, {is_accepted}, {is_proposal_accepted}")
+        }
         Err(fault) => println!(rt; "{fault}"),
     }
 }
@@ -62,5 +67,20 @@ fn is_baseline_accepted(rt: &HostRuntime, input: &rtl::Function) -> io::Result<b
     let accepted = check(rt.alloc(), input, &output, &equations);
     let micros = start.elapsed(rt)?.as_micros();
     eprintln!(rt; "check of the baseline {micros}")?;
+    Ok(matches!(accepted, Ok(true)))
+}
+
+fn is_proposal_accepted(rt: &HostRuntime, input: &rtl::Function) -> io::Result<bool> {
+    let start = Instant::now(rt)?;
+    let made = AllocOracle.propose(rt.alloc(), input, &mut Pcg32::new(1, 0));
+    let micros = start.elapsed(rt)?.as_micros();
+    eprintln!(rt; "oracle {micros}")?;
+    let Ok(Some((output, equations))) = made else {
+        return Ok(false);
+    };
+    let start = Instant::now(rt)?;
+    let accepted = check(rt.alloc(), input, &output, &equations);
+    let micros = start.elapsed(rt)?.as_micros();
+    eprintln!(rt; "check of the oracle's {micros}")?;
     Ok(matches!(accepted, Ok(true)))
 }
