@@ -1,5 +1,4 @@
 pub mod Each
-pub mod Moves
 pub mod Places
 pub mod Ranks
 pub mod Readings

@@ -4,6 +4,7 @@ ghost use Rattle.std.specs.Prelude.{◌≡◌, ◌↔◌, ◌<◌, ◌≤◌, �
 ghost use Rattle.alloc_rules.specs.declared.equation.Equation.{Equation};
 ghost use Rattle.alloc_check.specs.Ranks.{place, rank as rank_of, RiseFrom};
 
+use alloc_blocks::is_at;
 use alloc_rules::Equation;
 use locations::Location;
 
@@ -23,12 +24,6 @@ pub(crate) fn rank(equation: &Equation) -> u64
     ensures small { result < 8589934592 }
 {
     u64::from(equation.register) * 131072 + place(&equation.location)
-}
-
-pub(crate) fn is_at(location: &Location, other: &Location) -> bool
-    ensures { IsTrue result ↔ (location.now ≡ other.now) }
-{
-    location == other
 }
 
 pub(crate) fn is_same(equation: &Equation, other: &Equation) -> bool

@@ -6,47 +6,44 @@ ghost use Rattle.alloc_rules.specs.Rules.{IsGiven, IsAnswered};
 ghost use Rattle.alloc_check.specs.Ranks.{RiseFrom};
 
 use crate::among::is_among;
-use crate::demands::{back, demand};
+use alloc_blocks::TracedBlock;
 use alloc_rules::{Change, Demand, Equation};
-use locations::Move;
-use ltl::Body;
 
-/// Whether an equation behind the moves holds by one of those before them.
-pub(crate) fn is_given(equations: &[Equation], before: &[Move], equation: &Equation) -> bool
+/// Whether an equation behind the block's first moves holds by one of those before the block.
+pub(crate) fn is_given(equations: &[Equation], block: &TracedBlock, equation: &Equation) -> bool
     requires { RiseFrom 0 equations.now }
-    ensures { IsTrue result ↔ IsGiven equations.now before.now equation.now }
+    ensures { IsTrue result ↔ IsGiven equations.now block.now.before equation.now }
 {
     let origin = Equation {
         register: equation.register,
-        location: back(before, equation.location),
+        location: block.origin_of(equation.location),
     };
     is_among(equations, &origin)
 }
 
-fn is_answered(equations: &[Equation], before: &[Move], demand: &Demand) -> bool
+fn is_answered(equations: &[Equation], block: &TracedBlock, demand: &Demand) -> bool
     requires { RiseFrom 0 equations.now }
-    ensures { IsTrue result ↔ IsAnswered equations.now before.now demand.now }
+    ensures { IsTrue result ↔ IsAnswered equations.now block.now.before demand.now }
 {
     match demand {
         Demand::Met => true,
         Demand::Refused => false,
-        Demand::Needs(equation) => is_given(equations, before, equation),
+        Demand::Needs(equation) => is_given(equations, block, equation),
     }
 }
 
 /// Whether what each equation behind the block demands is given.
 pub(crate) fn are_answered(
     equations: &[Equation],
-    before: &[Move],
-    body: &Body,
+    block: &TracedBlock,
     change: Change,
     after: &[Equation],
 ) -> bool
     requires { RiseFrom 0 equations.now }
-    ensures { IsTrue result ↔ All (λ e. IsAnswered equations.now before.now (demand_of body.now change e)) after.now }
+    ensures { IsTrue result ↔ All (λ e. IsAnswered equations.now block.now.before (demand_of block.now.body change e)) after.now }
 {
     for equation in after {
-        if !is_answered(equations, before, &demand(body, change, equation)) {
+        if !is_answered(equations, block, &block.demand(change, equation)) {
             return false;
         }
     }

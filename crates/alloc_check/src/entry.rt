@@ -4,7 +4,8 @@ ghost use Rattle.std.specs.Prelude.{◌≡◌, ◌≢◌, ◌↔◌, IsTrue, All
 ghost use Rattle.alloc_rules.specs.Pairs.{equations_of};
 ghost use Rattle.alloc_rules.specs.Rules.{IsNoParameter, HoldsAtEntry};
 
-use crate::among::{is_at, is_same};
+use crate::among::is_same;
+use alloc_blocks::is_at;
 use alloc_rules::Equation;
 use locations::Location;
 use rtl_parts::Register;

@@ -5,11 +5,9 @@
 
 mod among;
 mod answers;
-mod demands;
 mod entry;
 mod lists;
 mod nodes;
-mod pairs;
 mod uses;
 mod verdict;
 

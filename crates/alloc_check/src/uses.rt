@@ -7,8 +7,9 @@ ghost use Rattle.alloc_check.specs.Ranks.{RiseFrom};
 
 use crate::answers::is_given;
 use crate::entry::pair_at;
+use alloc_blocks::TracedBlock;
 use alloc_rules::Equation;
-use locations::{Location, Move, Register as Place};
+use locations::{Location, Register as Place};
 use ltl::Body;
 use rtl::Instruction;
 use rtl_parts::{Act, Arguments, Register};
@@ -22,46 +23,46 @@ fn in_register(name: Register, place: Place) -> Equation
     }
 }
 
-fn one_given(equations: &[Equation], before: &[Move], first: Equation) -> bool
+fn one_given(equations: &[Equation], block: &TracedBlock, first: Equation) -> bool
     requires { RiseFrom 0 equations.now }
-    ensures { IsTrue result ↔ AreGiven equations.now before.now (first ∷ []) }
+    ensures { IsTrue result ↔ AreGiven equations.now block.now.before (first ∷ []) }
 {
-    is_given(equations, before, &first)
+    is_given(equations, block, &first)
 }
 
-fn two_given(equations: &[Equation], before: &[Move], first: Equation, second: Equation) -> bool
+fn two_given(equations: &[Equation], block: &TracedBlock, first: Equation, second: Equation) -> bool
     requires { RiseFrom 0 equations.now }
-    ensures { IsTrue result ↔ AreGiven equations.now before.now (first ∷ (second ∷ [])) }
+    ensures { IsTrue result ↔ AreGiven equations.now block.now.before (first ∷ (second ∷ [])) }
 {
-    is_given(equations, before, &first) && is_given(equations, before, &second)
+    is_given(equations, block, &first) && is_given(equations, block, &second)
 }
 
 fn arguments_given(
     equations: &[Equation],
-    before: &[Move],
+    block: &TracedBlock,
     names: &Arguments,
     places: &machine::Arguments,
 ) -> bool
     requires { RiseFrom 0 equations.now }
-    ensures { IsTrue result ↔ AreGiven equations.now before.now (arguments_used names.now places.now) }
+    ensures { IsTrue result ↔ AreGiven equations.now block.now.before (arguments_used names.now places.now) }
 {
     match *names {
         Arguments::One(a) => match *places {
-            machine::Arguments::One(k) => one_given(equations, before, in_register(a, k)),
+            machine::Arguments::One(k) => one_given(equations, block, in_register(a, k)),
             machine::Arguments::Two(_, _) => true,
         },
         Arguments::Two(a, b) => match *places {
             machine::Arguments::One(_) => true,
             machine::Arguments::Two(k, m) => {
-                two_given(equations, before, in_register(a, k), in_register(b, m))
+                two_given(equations, block, in_register(a, k), in_register(b, m))
             }
         },
     }
 }
 
-fn act_given(equations: &[Equation], before: &[Move], act: &Act, other: &machine::Act) -> bool
+fn act_given(equations: &[Equation], block: &TracedBlock, act: &Act, other: &machine::Act) -> bool
     requires { RiseFrom 0 equations.now }
-    ensures { IsTrue result ↔ AreGiven equations.now before.now (act_uses act.now (Some other.now)) }
+    ensures { IsTrue result ↔ AreGiven equations.now block.now.before (act_uses act.now (Some other.now)) }
 {
     match act {
         Act::Nop | Act::Constant { .. } | Act::Move { .. } => true,
@@ -69,12 +70,12 @@ fn act_given(equations: &[Equation], before: &[Move], act: &Act, other: &machine
             machine::Act::Operate {
                 arguments: places,
                 ..
-            } => arguments_given(equations, before, arguments, places),
+            } => arguments_given(equations, block, arguments, places),
             _ => true,
         },
         Act::Load { index, .. } => match other {
             machine::Act::Load { index: place, .. } => {
-                one_given(equations, before, in_register(*index, *place))
+                one_given(equations, block, in_register(*index, *place))
             }
             _ => true,
         },
@@ -85,13 +86,13 @@ fn act_given(equations: &[Equation], before: &[Move], act: &Act, other: &machine
                 ..
             } => {
                 let cell = in_register(*index, *place);
-                two_given(equations, before, cell, in_register(*source, *from))
+                two_given(equations, block, cell, in_register(*source, *from))
             }
             _ => true,
         },
         Act::Put { source, .. } => match other {
             machine::Act::Put { source: place, .. } => {
-                one_given(equations, before, in_register(*source, *place))
+                one_given(equations, block, in_register(*source, *place))
             }
             _ => true,
         },
@@ -101,18 +102,18 @@ fn act_given(equations: &[Equation], before: &[Move], act: &Act, other: &machine
 /// Whether each register's word lies in the location at its place.
 fn are_given(
     equations: &[Equation],
-    before: &[Move],
+    block: &TracedBlock,
     names: &[Register],
     places: &[Location],
 ) -> bool
     requires { RiseFrom 0 equations.now }
-    ensures { IsTrue result ↔ AreGiven equations.now before.now (equations_of names.now places.now) }
+    ensures { IsTrue result ↔ AreGiven equations.now block.now.before (equations_of names.now places.now) }
 {
     for k in 0..names.len() {
         let Some(equation) = pair_at(names, places, k) else {
             return true;
         };
-        if !is_given(equations, before, &equation) {
+        if !is_given(equations, block, &equation) {
             return false;
         }
     }
@@ -122,37 +123,37 @@ fn are_given(
 /// Whether each word that is used lies where the block looks for it.
 pub(crate) fn uses_given(
     equations: &[Equation],
-    before: &[Move],
+    block: &TracedBlock,
     instruction: &Instruction,
     body: &Body,
 ) -> bool
     requires { RiseFrom 0 equations.now }
-    ensures { IsTrue result ↔ AreGiven equations.now before.now (uses instruction.now body.now) }
+    ensures { IsTrue result ↔ AreGiven equations.now block.now.before (uses instruction.now body.now) }
 {
     match instruction {
         Instruction::Do { act, .. } => match body {
             Body::Go {
                 act: Some(other),
                 ..
-            } => act_given(equations, before, act, other),
+            } => act_given(equations, block, act, other),
             _ => true,
         },
         Instruction::Call { arguments, .. } => match body {
             Body::Call {
                 arguments: places,
                 ..
-            } => are_given(equations, before, arguments.as_slice(), places.as_slice()),
+            } => are_given(equations, block, arguments.as_slice(), places.as_slice()),
             _ => true,
         },
         Instruction::Branch { test, .. } => match body {
             Body::Branch { test: other, .. } => {
-                arguments_given(equations, before, &test.arguments, &other.arguments)
+                arguments_given(equations, block, &test.arguments, &other.arguments)
             }
             _ => true,
         },
         Instruction::Return { value: Some(name) } => match body {
             Body::Return { value: Some(place) } => {
-                one_given(equations, before, in_register(*name, *place))
+                one_given(equations, block, in_register(*name, *place))
             }
             _ => true,
         },

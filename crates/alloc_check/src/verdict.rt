@@ -12,7 +12,7 @@ use std::alloc::Global;
 
 /// What is wrong with the output and the equations, if anything is.
 pub fn why(
-    _alloc: Global,
+    alloc: Global,
     input: &rtl::Function,
     output: &ltl::Function,
     equations: &EquationLists,
@@ -24,7 +24,7 @@ pub fn why(
     if !has_shape(input, output, lists) {
         return Ok(Some(Fault::Shape));
     }
-    Ok(lowest_wrong(input, output, lists).map(Fault::Node))
+    Ok(lowest_wrong(alloc, input, output, lists)?.map(Fault::Node))
 }
 
 /// Whether the output and the equations keep the rules.

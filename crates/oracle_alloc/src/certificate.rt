@@ -1,9 +1,9 @@
 //! The certificate: at each node, that each live register's word lies in the register's place.
 
-use crate::places::Places;
 use crate::register_set::RegisterSet;
 use alloc_pass::{Equation, EquationLists};
 use lang::{NoMemory, Row};
+use placed_blocks::Places;
 use std::alloc::Global;
 
 fn equations_at(
@@ -11,8 +11,9 @@ fn equations_at(
     places: &Places,
     live: &RegisterSet,
 ) -> Result<Row<Equation>, NoMemory> {
-    let mut equations = Vec::new(alloc);
-    for register in &live.members(alloc)? {
+    let members = live.members(alloc)?;
+    let mut equations = Vec::with_capacity(alloc, members.len())?;
+    for register in &members {
         equations.push(Equation {
             register: *register,
             location: places.place_of(*register),

@@ -1,6 +1,6 @@
 //! Which registers may not lie in one place, and which not in those that a call loses (Chaitin 1982).
 
-use crate::liveness::live_behind;
+use crate::liveness::set_live_behind;
 use crate::parts::{copied_by, defined_by};
 use crate::register_set::RegisterSet;
 use lang::NoMemory;
@@ -12,7 +12,7 @@ use std::alloc::Global;
 /// call.
 #[derive(Drop)]
 pub(crate) struct Interference {
-    neighbours: Vec<RegisterSet>,
+    others: Vec<RegisterSet>,
     kept: RegisterSet,
 }
 
@@ -24,23 +24,23 @@ pub(crate) fn interference_of(
 ) -> Result<Interference, NoMemory> {
     let registers = input.registers();
     let mut found = Interference::none(alloc, registers)?;
+    let mut behind = RegisterSet::none(alloc, registers)?;
     for instruction in input.nodes().as_slice() {
-        let behind = live_behind(alloc, live, registers, instruction)?;
-        found.note(instruction, behind);
+        set_live_behind(&mut behind, live, instruction);
+        found.note(instruction, &mut behind);
     }
     found.note_entry(alloc, input, live)?;
-    found.mirror(alloc, registers)?;
     Ok(found)
 }
 
 impl Interference {
     fn none(alloc: Global, registers: u16) -> Result<Interference, NoMemory> {
-        let mut neighbours = Vec::new(alloc);
+        let mut others = Vec::new(alloc);
         for _ in 0..registers {
-            neighbours.push(RegisterSet::none(alloc, registers)?)?;
+            others.push(RegisterSet::none(alloc, registers)?)?;
         }
         Ok(Interference {
-            neighbours,
+            others,
             kept: RegisterSet::none(alloc, registers)?,
         })
     }
@@ -50,36 +50,34 @@ impl Interference {
         self.kept.has(register)
     }
 
-    /// The registers that may not lie where this one does.
-    pub fn neighbours(&self, alloc: Global, register: Register) -> Result<Vec<Register>, NoMemory> {
-        match self.neighbours.get(usize::from(register)) {
-            Some(others) => others.members(alloc),
-            None => Ok(Vec::new(alloc)),
-        }
+    /// The registers that may not lie where this one does. Of two that interfere one has the other among
+    /// these, and not always each the other.
+    pub fn others(&self, register: Register) -> Option<&RegisterSet> {
+        self.others.get(usize::from(register))
     }
 
     /// What is live behind an instruction is not where that puts its result; but for a move what it
     /// copies may be.
-    fn note(&mut self, instruction: &Instruction, mut behind: RegisterSet) {
+    fn note(&mut self, instruction: &Instruction, behind: &mut RegisterSet) {
         if let Some(register) = defined_by(instruction) {
             behind.remove(register);
         }
         if let Instruction::Call { .. } = instruction {
-            let _is_new = self.kept.join(&behind);
+            let _is_new = self.kept.join(behind);
         }
         if let Some(source) = copied_by(instruction) {
             behind.remove(source);
         }
         if let Some(register) = defined_by(instruction) {
-            self.part(register, &behind);
+            self.part(register, behind);
         }
     }
 
     /// The register may not lie where these do.
     fn part(&mut self, register: Register, others: &RegisterSet) {
-        if let Some(neighbours) = self.neighbours.get_mut(usize::from(register)) {
-            let _is_new = neighbours.join(others);
-            neighbours.remove(register);
+        if let Some(row) = self.others.get_mut(usize::from(register)) {
+            let _is_new = row.join(others);
+            row.remove(register);
         }
     }
 
@@ -101,22 +99,5 @@ impl Interference {
             self.part(*parameter, &given);
         }
         Ok(())
-    }
-
-    /// Lets each register be a neighbour of its neighbours.
-    fn mirror(&mut self, alloc: Global, registers: u16) -> Result<(), NoMemory> {
-        for register in 0..registers {
-            let others = self.neighbours(alloc, register)?;
-            self.add_to_each(register, &others);
-        }
-        Ok(())
-    }
-
-    fn add_to_each(&mut self, register: Register, others: &[Register]) {
-        for other in others {
-            if let Some(neighbours) = self.neighbours.get_mut(usize::from(*other)) {
-                neighbours.add(register);
-            }
-        }
     }
 }

@@ -4,18 +4,13 @@
 //! proposes.
 #![tactic(auto)]
 
-mod blocks;
 mod certificate;
+mod choosing;
 mod interference;
 mod liveness;
 mod order;
-mod parameters;
 mod parts;
-mod places;
-mod plan;
-mod plans;
 mod propose;
-mod reaching;
 mod register_set;
 mod worth;
 

@@ -1,35 +1,33 @@
 //! The registers that are live before each node: those that are used before they are defined, on some
-//! way from there (Leroy 2009, section 3.2; a backward worklist).
+//! way from there (Leroy 2009, section 3.2), by sweeps backward until one finds nothing new.
 
 use crate::order::order_of;
-use crate::parts::{add_uses, defined_by, edges_of};
+use crate::parts::{Edges, add_uses, defined_by, edges_of};
 use crate::register_set::RegisterSet;
 use lang::NoMemory;
 use rtl::Instruction;
 use std::alloc::Global;
 
-/// What is live before each node so far, the nodes that lead to each, and those that are to be gone
-/// through again.
+/// What is live before each node so far, when that last grew, and when each node was last gone back
+/// through. The time is how often nodes were gone back through.
 #[derive(Drop)]
 struct Analysis {
     live: Vec<RegisterSet>,
-    leading: Vec<Vec<u16>>,
-    waiting: Vec<u16>,
-    is_waiting: Vec<bool>,
+    grown: Vec<u64>,
+    seen: Vec<u64>,
+    now: u64,
 }
 
-/// What is live where the instruction goes on.
-pub(crate) fn live_behind(
-    alloc: Global,
+/// Makes the set what is live where the instruction goes on.
+pub(crate) fn set_live_behind(
+    behind: &mut RegisterSet,
     live: &[RegisterSet],
-    registers: u16,
     instruction: &Instruction,
-) -> Result<RegisterSet, NoMemory> {
-    let mut behind = RegisterSet::none(alloc, registers)?;
+) {
+    behind.clear();
     let to = edges_of(instruction);
-    join_node(&mut behind, live, to.first);
-    join_node(&mut behind, live, to.second);
-    Ok(behind)
+    join_node(behind, live, to.first);
+    join_node(behind, live, to.second);
 }
 
 fn join_node(behind: &mut RegisterSet, live: &[RegisterSet], node: Option<u16>) {
@@ -47,31 +45,27 @@ pub(crate) fn live_before(
     nodes: &[Instruction],
 ) -> Result<Vec<RegisterSet>, NoMemory> {
     let mut analysis = Analysis::new(alloc, registers, nodes.len())?;
-    for (node, instruction) in nodes.iter().enumerate() {
-        analysis.begin(node, instruction)?;
+    let mut before = RegisterSet::none(alloc, registers)?;
+    let order = order_of(alloc, nodes)?;
+    for _ in 0..u64::MAX {
+        if !analysis.sweep(nodes, &order, &mut before) {
+            break;
+        }
     }
-    for node in order_of(alloc, nodes)?.iter().rev() {
-        analysis.wait(*node)?;
-    }
-    analysis.settle(alloc, registers, nodes)?;
     Ok(analysis.into_live())
 }
 
 impl Analysis {
     fn new(alloc: Global, registers: u16, nodes: usize) -> Result<Analysis, NoMemory> {
         let mut live = Vec::new(alloc);
-        let mut leading = Vec::new(alloc);
-        let mut is_waiting = Vec::new(alloc);
         for _ in 0..nodes {
             live.push(RegisterSet::none(alloc, registers)?)?;
-            leading.push(Vec::new(alloc))?;
-            is_waiting.push(false)?;
         }
         Ok(Analysis {
             live,
-            leading,
-            waiting: Vec::new(alloc),
-            is_waiting,
+            grown: vec![in alloc; 0; nodes]?,
+            seen: vec![in alloc; 0; nodes]?,
+            now: 0,
         })
     }
 
@@ -79,75 +73,42 @@ impl Analysis {
         self.live
     }
 
-    /// Lets a node be known to those that it leads to.
-    fn begin(&mut self, node: usize, instruction: &Instruction) -> Result<(), NoMemory> {
-        let Ok(node) = u16::try_from(node) else {
-            return Ok(());
-        };
-        let to = edges_of(instruction);
-        self.lead(node, to.first)?;
-        self.lead(node, to.second)
+    /// Goes back through each node behind which something may be new, and says whether there is one. The
+    /// set is for its use.
+    fn sweep(&mut self, nodes: &[Instruction], order: &[u16], before: &mut RegisterSet) -> bool {
+        let start = self.now;
+        for node in order {
+            if let Some(instruction) = nodes.get(usize::from(*node))
+                && self.is_due(*node, edges_of(instruction))
+            {
+                self.step(*node, instruction, before);
+            }
+        }
+        start < self.now
     }
 
-    fn lead(&mut self, from: u16, to: Option<u16>) -> Result<(), NoMemory> {
-        if let Some(to) = to
-            && let Some(leading) = self.leading.get_mut(usize::from(to))
-        {
-            leading.push(from)?;
-        }
-        Ok(())
+    /// Whether the node was not gone back through yet, or more is live behind it since.
+    fn is_due(&self, node: u16, to: Edges) -> bool {
+        let seen = time_of(&self.seen, Some(node));
+        seen == 0 || seen < time_of(&self.grown, to.first) || seen < time_of(&self.grown, to.second)
     }
 
-    /// Makes a node wait that doesn't yet.
-    fn wait(&mut self, node: u16) -> Result<(), NoMemory> {
-        if let Some(is_waiting) = self.is_waiting.get_mut(usize::from(node))
-            && !*is_waiting
-        {
-            *is_waiting = true;
-            self.waiting.push(node)?;
+    /// Goes back through a node.
+    fn step(&mut self, node: u16, instruction: &Instruction, before: &mut RegisterSet) {
+        self.now = self.now.saturating_add(1);
+        if let Some(seen) = self.seen.get_mut(usize::from(node)) {
+            *seen = self.now;
         }
-        Ok(())
-    }
-
-    /// Goes through the waiting nodes, the last first, until none waits.
-    fn settle(
-        &mut self,
-        alloc: Global,
-        registers: u16,
-        nodes: &[Instruction],
-    ) -> Result<(), NoMemory> {
-        for _ in 0..u64::MAX {
-            let Some(node) = self.waiting.pop() else {
-                break;
-            };
-            self.step(alloc, registers, nodes, node)?;
-        }
-        Ok(())
-    }
-
-    /// Goes back through a node; where something new is live before it, those that lead to it wait.
-    fn step(
-        &mut self,
-        alloc: Global,
-        registers: u16,
-        nodes: &[Instruction],
-        node: u16,
-    ) -> Result<(), NoMemory> {
-        if let Some(is_waiting) = self.is_waiting.get_mut(usize::from(node)) {
-            *is_waiting = false;
-        }
-        let Some(instruction) = nodes.get(usize::from(node)) else {
-            return Ok(());
-        };
-        let mut before = live_behind(alloc, &self.live, registers, instruction)?;
+        set_live_behind(before, &self.live, instruction);
         if let Some(register) = defined_by(instruction) {
             before.remove(register);
         }
-        add_uses(&mut before, instruction);
-        if self.learn(node, &before) {
-            self.wait_leading(alloc, node)?;
+        add_uses(before, instruction);
+        if self.learn(node, before)
+            && let Some(grown) = self.grown.get_mut(usize::from(node))
+        {
+            *grown = self.now;
         }
-        Ok(())
     }
 
     /// These are live before the node; says whether one is new.
@@ -157,19 +118,12 @@ impl Analysis {
             None => false,
         }
     }
+}
 
-    fn wait_leading(&mut self, alloc: Global, node: u16) -> Result<(), NoMemory> {
-        let leading = self.leading_to(alloc, node)?;
-        for from in &leading {
-            self.wait(*from)?;
-        }
-        Ok(())
-    }
-
-    fn leading_to(&self, alloc: Global, node: u16) -> Result<Vec<u16>, NoMemory> {
-        match self.leading.get(usize::from(node)) {
-            Some(leading) => Ok(Vec::from_slice(alloc, leading)?),
-            None => Ok(Vec::new(alloc)),
-        }
+/// The time noted for the node, 0 for none.
+fn time_of(times: &[u64], node: Option<u16>) -> u64 {
+    match node {
+        Some(node) => times.get(usize::from(node)).copied().unwrap_or(0),
+        None => 0,
     }
 }

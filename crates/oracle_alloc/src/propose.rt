@@ -1,12 +1,12 @@
-use crate::blocks::blocks_of;
 use crate::certificate::equations_of;
+use crate::choosing::places_for;
 use crate::interference::interference_of;
 use crate::liveness::live_before;
-use crate::parameters::{are_distinct, places_of};
-use crate::places::places_for;
+use crate::worth::needless;
 use alloc_pass::{Alloc, EquationLists};
 use lang::{NoMemory, Oracle, Row};
 use ltl::Function;
+use placed_blocks::{are_distinct, blocks_of, places_of};
 use rand_pcg::Pcg32;
 use std::alloc::Global;
 
@@ -43,7 +43,8 @@ fn allocate(
     if !are_distinct(&parameters) {
         return Ok(None);
     }
-    let blocks = blocks_of(alloc, input, &places, &live, words)?;
+    let left_out = needless(alloc, input.nodes().as_slice(), &live, words)?;
+    let blocks = blocks_of(alloc, input, &places, &left_out)?;
     let equations = equations_of(alloc, &places, &live)?;
     let output = Function::new(
         Row::from_vec(parameters),

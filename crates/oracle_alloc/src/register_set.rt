@@ -20,11 +20,9 @@ fn bit_of(register: Register) -> u64 {
 impl RegisterSet {
     /// None of so many registers.
     pub fn none(alloc: Global, registers: u16) -> Result<RegisterSet, NoMemory> {
-        let mut words = Vec::new(alloc);
-        for _ in 0..registers / 64 + 1 {
-            words.push(0)?;
-        }
-        Ok(RegisterSet { words })
+        Ok(RegisterSet {
+            words: vec![in alloc; 0u64; usize::from(registers / 64) + 1]?,
+        })
     }
 
     pub fn has(&self, register: Register) -> bool {
@@ -57,6 +55,23 @@ impl RegisterSet {
         is_new
     }
 
+    /// Takes all registers out.
+    pub fn clear(&mut self) {
+        for word in self.words.iter_mut() {
+            *word = 0;
+        }
+    }
+
+    /// Whether a register is in both sets.
+    pub fn meets(&self, others: &RegisterSet) -> bool {
+        for (i, word) in self.words.iter().enumerate() {
+            if *word & others.word(i) != 0 {
+                return true;
+            }
+        }
+        false
+    }
+
     fn word(&self, place: usize) -> u64 {
         self.words.get(place).copied().unwrap_or(0)
     }
@@ -77,10 +92,11 @@ impl RegisterSet {
 
 /// Appends the registers from this one on whose bits are set.
 fn push_members(members: &mut Vec<Register>, first: Register, word: u64) -> Result<(), NoMemory> {
-    for offset in 0..64 {
-        if word & bit_of(offset) != 0 {
-            members.push(first.saturating_add(offset))?;
-        }
+    let mut left = word;
+    for _ in 0..word.count_ones() {
+        let offset = u16::try_from(left.trailing_zeros()).unwrap_or(0);
+        members.push(first.saturating_add(offset))?;
+        left &= left.wrapping_sub(1);
     }
     Ok(())
 }

@@ -1,10 +1,12 @@
-//! Whether an instruction can be left out, since what it defines is not used.
+//! Which instructions can be left out, since what they define is not used.
 
 use crate::register_set::RegisterSet;
+use lang::NoMemory;
 use rand_core::utils::NextWord;
 use rand_pcg::Pcg32;
 use rtl::Instruction;
 use rtl_parts::{Act, Register};
+use std::alloc::Global;
 
 fn is_live(live: &[RegisterSet], node: u16, register: Register) -> bool {
     match live.get(usize::from(node)) {
@@ -15,11 +17,7 @@ fn is_live(live: &[RegisterSet], node: u16, register: Register) -> bool {
 
 /// Whether nothing is to be done for the instruction: its result is not used behind it, and it is a
 /// move, or else the next word is odd.
-pub(crate) fn is_needless(
-    live: &[RegisterSet],
-    instruction: &Instruction,
-    words: &mut Pcg32,
-) -> bool {
+fn is_needless(live: &[RegisterSet], instruction: &Instruction, words: &mut Pcg32) -> bool {
     let Instruction::Do { act, successor } = instruction else {
         return false;
     };
@@ -30,4 +28,18 @@ pub(crate) fn is_needless(
         }
         Act::Nop | Act::Store { .. } | Act::Put { .. } => false,
     }
+}
+
+/// For each node whether nothing is to be done there, with these registers live before each.
+pub(crate) fn needless(
+    alloc: Global,
+    nodes: &[Instruction],
+    live: &[RegisterSet],
+    words: &mut Pcg32,
+) -> Result<Vec<bool>, NoMemory> {
+    let mut told = Vec::new(alloc);
+    for instruction in nodes {
+        told.push(is_needless(live, instruction, words))?;
+    }
+    Ok(told)
 }

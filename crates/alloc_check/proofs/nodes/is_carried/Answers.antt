@@ -3,7 +3,7 @@ use Rattle.alloc_check.proofs.nodes.is_carried.Goals as goal
 
 pub returns-then-uses_given : goal.returns-then-uses_given
 returns-then-uses_given c =
-    let uses = (rw c.as_slice.ensures at (c.uses_given.ensures.0 c.if-uses_given.true)).each in (
+    let uses = (rw c.body.ensures at (c.uses_given.ensures.0 c.if-uses_given.true)).each in (
       λ yes. record { uses = uses; leads = c.leads_on.ensures.0 yes },
       λ carried. c.leads_on.ensures.1 carried.leads,
     )
@@ -11,5 +11,5 @@ returns-then-uses_given c =
 pub returns-else-uses_given : goal.returns-else-uses_given
 returns-else-uses_given c = (
   λ yes. absurd (both_ways c.uses_given.result c.if-uses_given.false yes),
-  λ carried. c.uses_given.ensures.1 (rw c.as_slice.ensures (record { each = carried.uses })),
+  λ carried. c.uses_given.ensures.1 (rw c.body.ensures (record { each = carried.uses })),
 )

@@ -6,7 +6,7 @@ pub returns : goal.returns
 returns c =
     let same = c.equations_of-equations.ensures.equations in
     let begins = rw same at (c.begins_right.ensures.0 c.if-not-begins_right.false) in
-    let stands = rw same at c.stands_for.ensures in (
+    let stands = rw same at c.in_ok-stands_for.ensures in (
       λ yes. record { entry = begins; stands = stands.0 yes },
       λ right. stands.1 right.stands,
     )

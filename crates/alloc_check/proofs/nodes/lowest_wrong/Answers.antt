@@ -17,12 +17,12 @@ loop-n-preserved c = λ k below.
     let is_input = slice_get_read instructions (length instructions) n _ refl c.loop-n-test.true c.index-instructions-n.is in
     let is_output = slice_get_read blocks (length blocks) n _ refl (omega (arith, c.loop-n-test.true, c.requires.blocks, ap length nodes, ap length same)) c.index-blocks-n.is in
     elim (cases_eq k n) [
-      | inl here ↦ subst (IsRightAt input output c.args.lists.now) (sym here) (right_read input output c.args.lists.now n _ _ instructions blocks nodes same is_input is_output (c.is_right.ensures.0 c.if-not-is_right.false))
+      | inl here ↦ subst (IsRightAt input output c.args.lists.now) (sym here) (right_read input output c.args.lists.now n _ _ instructions blocks nodes same is_input is_output (c.in_ok-is_right.ensures.0 c.if-not-branch.false))
       | inr other ↦ c.loop-n.invariant k (omega arith)
     ]
 
-pub returns-then-not-is_right : goal.returns-then-not-is_right
-returns-then-not-is_right c =
+pub returns-then-not-branch : goal.returns-then-not-branch
+returns-then-not-branch c =
     let input = c.args.input.now in
     let output = c.args.output.now in
     let instructions = c.as_slice-instructions.result.now in
@@ -34,7 +34,7 @@ returns-then-not-is_right c =
     let is_output = slice_get_read blocks (length blocks) n _ refl (omega (arith, c.loop-n-test.true, c.requires.blocks, ap length nodes, ap length same)) c.index-blocks-n.is in
     record {
       within = omega (arith, c.loop-n-test.true, ap length nodes);
-      wrong = wrong_read input output c.args.lists.now n _ _ instructions blocks nodes same is_input is_output (iff_false c.is_right.ensures c.if-not-is_right.true);
+      wrong = wrong_read input output c.args.lists.now n _ _ instructions blocks nodes same is_input is_output (iff_false c.in_ok-is_right.ensures c.if-not-branch.true);
       lower = c.loop-n.invariant;
     }
 

@@ -4,4 +4,4 @@ use Rattle.alloc_check.proofs.Each.{HoldsBelow}
 use Rattle.alloc_check.proofs.uses.are_given.Given as goal
 
 abbrev pub invariant-loop-k : goal.invariant-loop-k
-invariant-loop-k l = HoldsBelow (IsGiven l.equations l.before) (equations_of l.names l.places) l.k
+invariant-loop-k l = HoldsBelow (IsGiven l.equations l.block.before) (equations_of l.names l.places) l.k

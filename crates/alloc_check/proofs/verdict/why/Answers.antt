@@ -11,8 +11,8 @@ returns c =
     let input = c.args.input.now in
     let output = c.args.output.now in
     let equations = c.args.equations.now in
-    let mapped : c.map.result ≡ option_map Node c.lowest_wrong.result = search rules in
-    rw mapped (tells-lowest (HasShape input output equations) (IsRightAt input output equations) (length input.nodes) (rw c.as_slice-lists.ensures at (c.has_shape.ensures.0 c.if-not-has_shape.false)) c.lowest_wrong.result (rw c.as_slice-lists.ensures at c.lowest_wrong.ensures))
+    let mapped : c.map.result ≡ option_map Node c.in_ok-lowest_wrong.field-0 = search rules in
+    rw mapped (tells-lowest (HasShape input output equations) (IsRightAt input output equations) (length input.nodes) (rw c.as_slice-lists.ensures at (c.has_shape.ensures.0 c.if-not-has_shape.false)) c.in_ok-lowest_wrong.field-0 (rw c.as_slice-lists.ensures at c.in_ok-lowest_wrong.ensures))
 
 pub lowest_wrong-requires-clause-rising : goal.lowest_wrong-requires-clause-rising
 lowest_wrong-requires-clause-rising c =
