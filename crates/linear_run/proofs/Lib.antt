@@ -1,5 +1,4 @@
 pub mod FirstWords
-pub mod FrameWords
 pub mod Fitting
 pub mod Made
 pub mod Shows

@@ -1,5 +1,3 @@
-pub mod There
-pub mod Callers
 pub mod Functions
 pub mod Machines
 pub mod Prepared

@@ -3,18 +3,15 @@
 //! speed is not promised.
 #![tactic(auto)]
 
-mod callers;
 mod calls;
 mod functions;
 mod leaving;
 mod pieces;
-mod pool;
 mod preparing;
 mod returns;
 mod running;
 mod starting;
 mod state;
 mod turn;
-mod words;
 
 pub use running::run;

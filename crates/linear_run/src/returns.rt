@@ -10,7 +10,7 @@ ghost use Rattle.linear_run.specs.Machines.{machine_state, CallersStand, Callers
 
 use crate::state::Machine;
 use crate::turn::Turn;
-use crate::words::{give_result, lose_registers, word_at};
+use linear_frames::{give_result, lose_registers, word_at};
 use machine::{Location, Register};
 use std::mem;
 
@@ -33,7 +33,8 @@ fn go_back(machine: &mut Machine, value: Option<u32>) -> Turn
     lose_registers(&mut words);
     give_result(&mut words, caller.target, value);
     let freed = mem::replace(&mut machine.words, words);
-    machine.pool.put(freed);
+    // Without memory to keep them the words are let go.
+    let _ = machine.pool.put(freed);
     machine.function = caller.function;
     machine.place = caller.place;
     Turn::Goes

@@ -1,5 +1,4 @@
-use crate::callers::Callers;
-use crate::pool::Pool;
+use linear_frames::{Callers, Pool};
 use rtl_nodes::Cells;
 
 /// Where a run stands: the running function's number, the place in it, its words, the globals, and the

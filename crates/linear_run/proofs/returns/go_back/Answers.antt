@@ -1,6 +1,6 @@
 use Rattle.std.proofs.Common.{◌-◌, refl, ap, ◌∙◌, length, arith}
 use Rattle.linear_run.proofs.Fitting.{popped, popped_fits, refits}
-use Rattle.linear_run.proofs.FrameWords.{target_there}
+use Rattle.linear_frames.proofs.FrameWords.{target_there}
 use Rattle.linear_run.proofs.returns.go_back.Goals as goal
 
 pub lose_registers-requires : goal.lose_registers-requires

@@ -1,8 +1,8 @@
 use Rattle.std.proofs.Common.{◌-◌, length, get_or, None, sym, ap, ◌∙◌}
 use Rattle.rtl_nodes.specs.Seen.{data_of}
 use Rattle.linear_flat.proofs.Words.{value_seen}
-use Rattle.linear_run.proofs.FrameWords.{there_fits}
-use Rattle.linear_run.proofs.words.word_at.Goals as goal
+use Rattle.linear_frames.proofs.FrameWords.{there_fits}
+use Rattle.linear_frames.proofs.words.word_at.Goals as goal
 
 pub returns : goal.returns
 returns c = λ globals output.

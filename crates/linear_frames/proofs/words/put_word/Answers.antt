@@ -3,8 +3,8 @@ use Rattle.std.specs.Prelude.{slice_set}
 use Rattle.rtl_nodes.specs.Seen.{data_of}
 use Rattle.linear_flat.specs.Words.{frame_data}
 use Rattle.linear_flat.proofs.Words.{put_seen}
-use Rattle.linear_run.proofs.FrameWords.{there_fits}
-use Rattle.linear_run.proofs.words.put_word.Goals as goal
+use Rattle.linear_frames.proofs.FrameWords.{there_fits}
+use Rattle.linear_frames.proofs.words.put_word.Goals as goal
 
 pub returns-clause-word : goal.returns-clause-word
 returns-clause-word c = λ globals output.

@@ -1,7 +1,7 @@
 //! The callers that wait.
 
 ghost use Rattle.std.specs.Prelude.{◌≡◌, List, [], ◌∷◌, MatchOption, OnOk};
-ghost use Rattle.linear_run.specs.Callers.{frame_of};
+ghost use Rattle.linear_frames.specs.Callers.{frame_of};
 
 use lang::NoMemory;
 use machine::Location;
@@ -11,7 +11,7 @@ use std::marker::Model;
 /// A caller that waits: its function's number, the place where it goes on, its words, and where the result
 /// goes.
 #[derive(Drop)]
-pub(crate) struct Caller {
+pub struct Caller {
     pub function: usize,
     pub place: usize,
     pub words: Vec<Option<u32>>,
@@ -20,7 +20,7 @@ pub(crate) struct Caller {
 
 /// The callers, the nearest first.
 #[derive(Drop)]
-pub(crate) struct Callers {
+pub struct Callers {
     waiting: Vec<Caller>,
 }
 
@@ -31,14 +31,14 @@ impl Model for Callers {
     ghost Value = { List Frame };
 
     ghost use Rattle.std.specs.Prelude.{map, reverse};
-    ghost use Rattle.linear_run.specs.Callers.{frame_of};
+    ghost use Rattle.linear_frames.specs.Callers.{frame_of};
 
     ghost view = { λ callers. reverse (map frame_of callers.waiting.items) };
 }
 
 impl Callers {
     /// Nobody waits.
-    pub(crate) fn new(alloc: Global) -> Callers
+    pub fn new(alloc: Global) -> Callers
         ensures { result ≡ [] }
     {
         Callers {
@@ -47,7 +47,7 @@ impl Callers {
     }
 
     /// The nearest caller is this one.
-    pub(crate) fn push(&mut self, caller: Caller) -> Result<(), NoMemory>
+    pub fn push(&mut self, caller: Caller) -> Result<(), NoMemory>
         ensures { OnOk result (self.new ≡ frame_of caller ∷ self.old) }
     {
         self.waiting.push(caller)?;
@@ -55,7 +55,7 @@ impl Callers {
     }
 
     /// The nearest caller waits no more.
-    pub(crate) fn pop(&mut self) -> Option<Caller>
+    pub fn pop(&mut self) -> Option<Caller>
         ensures { MatchOption result (self.old ≡ []) (λ caller. self.old ≡ frame_of caller ∷ self.new) }
     {
         self.waiting.pop()

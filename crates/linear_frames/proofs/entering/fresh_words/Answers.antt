@@ -2,8 +2,8 @@ use Rattle.std.proofs.Common.{ap, ◌∙◌, ◌+◌}
 use Rattle.machine.specs.Calls.{values_of, with_arguments}
 use Rattle.rtl_nodes.specs.Seen.{data_of}
 use Rattle.linear_flat.specs.Words.{frame_data}
-use Rattle.linear_run.proofs.Fitting.{fresh_data}
-use Rattle.linear_run.proofs.calls.fresh_words.Goals as goal
+use Rattle.linear_frames.proofs.Begun.{fresh_data}
+use Rattle.linear_frames.proofs.entering.fresh_words.Goals as goal
 
 pub returns-clause-words : goal.returns-clause-words
 returns-clause-words c = λ globals output.

@@ -1,5 +1,5 @@
-use Rattle.linear_run.proofs.FrameWords.{registers_lost, slots_kept}
-use Rattle.linear_run.proofs.words.lose_registers.Goals as goal
+use Rattle.linear_frames.proofs.FrameWords.{registers_lost, slots_kept}
+use Rattle.linear_frames.proofs.words.lose_registers.Goals as goal
 
 pub returns-clause-registers : goal.returns-clause-registers
 returns-clause-registers c = registers_lost c.args.words.now.items
