@@ -1,6 +1,5 @@
 use lang::{NoMemory, PassError};
 use linker::LinkError;
-use rtlgen::GenError;
 use std::alloc::{AllocError, AllocFailed};
 use std::fmt;
 
@@ -27,12 +26,6 @@ impl std::error::Error for CompileError {}
 impl From<LinkError> for CompileError {
     fn from(fault: LinkError) -> CompileError {
         CompileError::Link(fault)
-    }
-}
-
-impl From<GenError> for CompileError {
-    fn from(fault: GenError) -> CompileError {
-        CompileError::Link(LinkError::from(fault))
     }
 }
 

@@ -5,5 +5,6 @@ mod compiling;
 mod errors;
 mod offering;
 
-pub use compiling::compile;
+pub use compiling::{compile, link_offers};
 pub use errors::CompileError;
+pub use offering::{Offers, baseline_of};

@@ -1,4 +1,4 @@
-//! The offers of a function's baselines, each going on from the one before it.
+//! The offers of a function, each going on from the one before it, and the offers of the baselines.
 
 ghost use Rattle.std.specs.Prelude.{◌≡◌, IfOk};
 
@@ -12,17 +12,18 @@ use offers::Offer;
 use rtl::Function;
 use std::alloc::Global;
 
-/// The four offers of a function.
+/// The four offers of a function, one for each pass. Whether each goes on from the one before it, the
+/// linking finds out.
 #[derive(Drop)]
-pub(crate) struct Offers {
-    constants: Offer<ConstProp>,
-    expressions: Offer<Cse>,
-    allocation: Offer<Alloc>,
-    order: Offer<Linearize>,
+pub struct Offers {
+    pub constants: Offer<ConstProp>,
+    pub expressions: Offer<Cse>,
+    pub allocation: Offer<Alloc>,
+    pub order: Offer<Linearize>,
 }
 
 /// The offer of a pass's baseline.
-fn baseline_of<P: Pass>(
+pub fn baseline_of<P: Pass>(
     alloc: Global,
     input: &<P::In as Language>::Fun,
 ) -> Result<Offer<P>, PassError>

@@ -17,3 +17,11 @@ IsRefused program named Names = names_beside named ≢ names_of program.function
 IsRefused program named (TooManyNodes i) = IsFirstTooLarge program.functions i
 IsRefused program named (Missing i) = IsMissing (gen program).functions named i
 IsRefused program named (Unchained i) = IsUnchained (gen program).functions named i
+
+-- the first function that needs too many nodes is told, unless memory was refused; nothing else is
+abbrev pub HasNoTranslation : ProgramOf FunctionTree → LinkError → Type 0
+HasNoTranslation program NoMemory = Unit {0}
+HasNoTranslation program Names = ⊥
+HasNoTranslation program (TooManyNodes i) = IsFirstTooLarge program.functions i
+HasNoTranslation program (Missing i) = ⊥
+HasNoTranslation program (Unchained i) = ⊥

@@ -6,4 +6,4 @@ mod errors;
 mod programs;
 
 pub use errors::LinkError;
-pub use programs::{Chain, Named, link};
+pub use programs::{Chain, Named, link, translated};

@@ -6,7 +6,7 @@ ghost use Rattle.lowering.specs.Programs.{low};
 ghost use Rattle.generation.specs.Gen.{gen};
 ghost use Rattle.linear.specs.Meaning as linear;
 ghost use Rattle.linking.specs.Chains.{linked, names_beside, names_of, AllChained};
-ghost use Rattle.linker.specs.Refused.{IsRefused};
+ghost use Rattle.linker.specs.Refused.{IsRefused, HasNoTranslation};
 ghost use Rattle.program_data.specs.Seen.{seen};
 ghost use Rattle.rtl.specs.Meaning as rtl;
 
@@ -28,6 +28,19 @@ pub type Chain<'a> = ChainOf<'a, ConstProp, Cse, Alloc, Linearize>;
 
 /// A function's name, and perhaps its offers.
 pub type Named<'a> = NamedOf<'a, ConstProp, Cse, Alloc, Linearize>;
+
+/// The RTL program of a checked C program, with which the chains begin; it keeps the C program's meaning.
+/// The time is linear in the program.
+pub fn translated(alloc: Global, program: &CProgram) -> Result<Program<rtl::Function>, LinkError>
+    ensures same { IfOk result (λ made. seen made ≡ gen (low (program_tree program.now))) }
+    ensures keeps { IfOk result (λ made. Keeps (crun (program_tree program.now)) (rtl.run (seen made))) }
+    ensures refused { IfErr result (λ e. HasNoTranslation (low (program_tree program.now)) e) }
+{
+    keeps_composes();
+    let lowered = lower(alloc, program)?;
+    let begun = translate(alloc, &lowered)?;
+    Ok(begun)
+}
 
 /// The Linear program of the last outputs, which keeps the meaning of the C program: each function is the
 /// output of its fourth offer. The time is linear in the program and the offers.

@@ -1,16 +1,22 @@
 //! Runs C texts with known answers through the commands `check` and `interpret`, and those that end as programs of
-//! RTL and as linked programs too, and tells how many of each file agree, and which do not. `vectors.txt` was made by an independent reading of the language, the
+//! RTL and as linked programs too, once of the baselines and once of the optimisers' offers, and tells how many of
+//! each file agree, and which do not. `vectors.txt` was made by an independent reading of the language, the
 //! answers in `gcc.txt`, `examples.txt` and `drawn.txt`, whose programs were drawn by chance, are those of a C
-//! compiler, and `rows.txt` was written by hand.
+//! compiler, and `rows.txt` was written by hand. `exec.txt` has linked programs, in bytes, for `exec`.
 #![tactic(auto)]
 
+mod chained;
+mod executed;
 mod linked;
 mod told;
 mod translated;
 
+use crate::chained::{Tally, chained};
+use crate::executed::executed;
 use crate::linked::linked;
 use crate::told::{Told, told_of};
 use crate::translated::translated;
+use c_text::accept;
 use program_rows::{Form, Row, row_of};
 use std::alloc::{AllocError, Global};
 use std::{fs, io};
@@ -20,7 +26,8 @@ fn main(rt: HostRuntime) -> io::Result<()> {
     compare(&rt, "gcc.txt", Form::Plain)?;
     compare(&rt, "examples.txt", Form::Hex)?;
     compare(&rt, "drawn.txt", Form::Plain)?;
-    compare(&rt, "rows.txt", Form::Plain)
+    compare(&rt, "rows.txt", Form::Plain)?;
+    execute(&rt)
 }
 
 /// Whether what is told of a text is what its line says.
@@ -29,8 +36,14 @@ fn is_told(told: &Told, row: &Row) -> bool {
 }
 
 /// What is told of a line where it is not what the line says; a line that cannot be read differs. Where the program
-/// ends, what its RTL program and its linked program do is compared too.
-fn difference(alloc: Global, form: Form, line: &str) -> Result<Option<String>, AllocError> {
+/// ends, what its RTL program and its linked programs do is compared too.
+fn difference(
+    alloc: Global,
+    form: Form,
+    line: &str,
+    seed: u64,
+    tally: &mut Tally,
+) -> Result<Option<String>, AllocError> {
     let Some(row) = row_of(alloc, form, line) else {
         return Ok(Some(format!(in alloc; "not a row")?));
     };
@@ -41,34 +54,82 @@ fn difference(alloc: Global, form: Form, line: &str) -> Result<Option<String>, A
     if !row.closing.starts_with("ended") {
         return Ok(None);
     }
-    compiled_difference(alloc, &row)
+    compiled_difference(alloc, &row, seed, tally)
 }
 
-/// What is told of the RTL program of a text, or of its linked program, where it is not what its row says.
-fn compiled_difference(alloc: Global, row: &Row) -> Result<Option<String>, AllocError> {
-    let told = translated(alloc, row.text.as_slice())?;
+/// What is told of the RTL program of a text, or of a linked program of it, where it is not what its row says.
+fn compiled_difference(
+    alloc: Global,
+    row: &Row,
+    seed: u64,
+    tally: &mut Tally,
+) -> Result<Option<String>, AllocError> {
+    let program = match accept(alloc, row.text.as_slice()) {
+        Ok(program) => program,
+        Err(fault) => return Ok(Some(format!(in alloc; "{fault}")?)),
+    };
+    let told = translated(alloc, &program)?;
     if !is_told(&told, row) {
         return Ok(Some(format!(in alloc; "translated: {}", told.closing)?));
     }
-    let told = linked(alloc, row.text.as_slice())?;
+    let told = linked(alloc, &program)?;
     if !is_told(&told, row) {
         return Ok(Some(format!(in alloc; "linked: {}", told.closing)?));
+    }
+    let told = chained(alloc, &program, seed, tally)?;
+    if !is_told(&told, row) {
+        return Ok(Some(format!(in alloc; "chained: {}", told.closing)?));
     }
     Ok(None)
 }
 
-/// Tells how many lines of a file agree, and which do not.
+/// Tells how many lines of a file agree, and which do not; and how many offers are the optimisers'.
 fn compare(rt: &HostRuntime, name: &str, form: Form) -> io::Result<()> {
     let alloc = rt.alloc();
     let text = fs::read_to_string(rt, name)?;
     let mut all = 0u64;
     let mut agree = 0u64;
+    let mut tally = Tally {
+        offers: 0,
+        proposals: 0,
+    };
     for line in text.lines() {
         all = all.saturating_add(1);
-        match difference(alloc, form, line)? {
+        match difference(alloc, form, line, all, &mut tally)? {
             None => agree = agree.saturating_add(1),
             Some(told) => println!(rt; "{name}:{all}: {told}")?,
         }
     }
-    println!(rt; "{name}: {agree} of {all} agree")
+    let Tally { offers, proposals } = tally;
+    println!(rt;
+        "{name}: {agree} of {all} agree; {proposals} of {offers} offers are the optimisers'"
+    )
+}
+
+/// What `exec` tells of a line of bytes, where it is not what the line says.
+fn exec_difference(alloc: Global, line: &str) -> Result<Option<String>, AllocError> {
+    let Some(row) = row_of(alloc, Form::Hex, line) else {
+        return Ok(Some(format!(in alloc; "not a row")?));
+    };
+    let told = executed(alloc, row.text.as_slice(), row.depth.unwrap_or(0))?;
+    if is_told(&told, &row) {
+        return Ok(None);
+    }
+    Ok(Some(told.closing))
+}
+
+/// Tells how many lines of `exec.txt` agree, and which do not.
+fn execute(rt: &HostRuntime) -> io::Result<()> {
+    let alloc = rt.alloc();
+    let text = fs::read_to_string(rt, "exec.txt")?;
+    let mut all = 0u64;
+    let mut agree = 0u64;
+    for line in text.lines() {
+        all = all.saturating_add(1);
+        match exec_difference(alloc, line)? {
+            None => agree = agree.saturating_add(1),
+            Some(told) => println!(rt; "exec.txt:{all}: {told}")?,
+        }
+    }
+    println!(rt; "exec.txt: {agree} of {all} agree")
 }

@@ -1,7 +1,7 @@
-//! What the RTL program of a text does.
+//! What the RTL program of a C program does.
 
 use crate::told::Told;
-use c_text::accept;
+use c_checker::CProgram;
 use cminor_lowering::lower;
 use rtl_run::run;
 use rtlgen::translate;
@@ -11,16 +11,13 @@ use text_commands::Closing;
 /// More nodes than any of the programs does.
 const LIMIT: u64 = 100_000_000;
 
-/// What the RTL program that a text is lowered and translated to prints, and how its run stands.
-pub fn translated(alloc: Global, text: &[u8]) -> Result<Told, AllocError> {
+/// What the RTL program that a C program is lowered and translated to prints, and how its run stands.
+pub fn translated(alloc: Global, program: &CProgram) -> Result<Told, AllocError> {
     let mut output = Vec::new(alloc);
-    let closing = match accept(alloc, text) {
-        Ok(program) => match lower(alloc, &program) {
-            Ok(lowered) => match translate(alloc, &lowered) {
-                Ok(made) => match run(alloc, &made, LIMIT, &mut output) {
-                    Ok(shown) => Closing(shown).to_string(alloc)?,
-                    Err(fault) => format!(in alloc; "{fault}")?,
-                },
+    let closing = match lower(alloc, program) {
+        Ok(lowered) => match translate(alloc, &lowered) {
+            Ok(made) => match run(alloc, &made, LIMIT, &mut output) {
+                Ok(shown) => Closing(shown).to_string(alloc)?,
                 Err(fault) => format!(in alloc; "{fault}")?,
             },
             Err(fault) => format!(in alloc; "{fault}")?,

@@ -1,0 +1,23 @@
+//! What `exec` tells of the bytes of a linked program.
+
+use crate::told::Told;
+use program_commands::exec;
+use std::alloc::{AllocError, Global};
+use text_commands::{Closing, status_of};
+
+/// What `exec` wrote, its closing line and its status.
+pub fn executed(alloc: Global, bytes: &[u8], limit: u32) -> Result<Told, AllocError> {
+    let mut output = Vec::new(alloc);
+    let closing = match exec(alloc, bytes, u64::from(limit), &mut output) {
+        Ok(shown) => {
+            let line = Closing(shown);
+            let status = status_of(shown);
+            format!(in alloc; "{line}, status {status}")?
+        }
+        Err(fault) => {
+            let status = fault.status();
+            format!(in alloc; "{fault}, status {status}")?
+        }
+    };
+    Ok(Told { output, closing })
+}
