@@ -10,9 +10,10 @@ program's work.
 import argparse
 import os
 import statistics
-import subprocess
 import sys
 import tempfile
+
+from loops import LUA_COUNTING, LUA_RECURSION, LUA_SIEVE, lua, run
 
 ROOT = os.path.dirname(os.path.dirname(os.path.abspath(__file__)))
 
@@ -133,59 +134,11 @@ def recursion(number):
     return program(0, [main, fib])
 
 
-LUA_COUNTING = """
-local function work(turns)
-  local i, sum = 0, 0
-  while i < turns do sum = (sum + i) & 0xffffffff; i = i + 1 end
-  return sum
-end
-"""
-
-LUA_SIEVE = """
-local cells = {}
-local function work(size, turns)
-  local count, turn = 0, 0
-  while turn < turns do
-    local i = 0
-    while i < size do cells[i] = 0; i = i + 1 end
-    i = 2
-    while i < size do
-      if cells[i] == 0 then
-        count = count + 1
-        local j = i + i
-        while j < size do cells[j] = 1; j = j + i end
-      end
-      i = i + 1
-    end
-    turn = turn + 1
-  end
-  return count
-end
-"""
-
-LUA_RECURSION = """
-local function fib(n) if n < 2 then return n end return fib(n - 1) + fib(n - 2) end
-local function work(n) return fib(n) end
-"""
-
 ROWS = (
     ("counting", counting, LUA_COUNTING, (50_000_000,)),
     ("sieve", sieve, LUA_SIEVE, (65_536, 100)),
     ("recursion", recursion, LUA_RECURSION, (32,)),
 )
-
-
-def run(path, binary):
-    done = subprocess.run([binary, "rtl", path, str(2**63)], stdout=subprocess.PIPE, stderr=subprocess.PIPE, check=True)
-    return int(done.stderr.split()[1]) / 1e6, done.stdout.decode().strip()
-
-
-def lua(text, words):
-    call_ = ", ".join(map(str, words))
-    tail = f"local start = os.clock()\nlocal result = work({call_})\nprint(os.clock() - start, 'ended ' .. result)\n"
-    done = subprocess.run(["lua5.4", "-"], input=(text + tail).encode(), stdout=subprocess.PIPE, check=True)
-    seconds, told = done.stdout.decode().strip().split("\t")
-    return float(seconds), told
 
 
 def main():
@@ -202,7 +155,7 @@ def main():
             path = os.path.join(given.keep or scratch, f"{name}.cfp")
             with open(path, "wb") as file:
                 file.write(make(*sizes))
-            ours = [run(path, given.program) for _ in range(given.runs)]
+            ours = [run(path, given.program, "rtl") for _ in range(given.runs)]
             theirs = [lua(text, sizes) for _ in range(given.runs)]
             if {told for _, told in ours} != {told for _, told in theirs}:
                 sys.exit(f"{name}: {ours[0][1]} and {theirs[0][1]}")
