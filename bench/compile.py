@@ -3,7 +3,7 @@
 
     bench/compile.py                    1,000, 10,000 and 60,000 statements, median of three runs
     bench/compile.py --runs 1           one run each
-    bench/compile.py --statements 500   so many statements in each function (250)
+    bench/compile.py --statements 500   so many statements in each function (1,000)
     bench/compile.py --by baselines     one maker of offers alone
 
 The texts: functions of some statements each, whose numbers grow with the size: assignments, stores, loops, `if` and
@@ -108,7 +108,7 @@ def growth(seconds):
 def main():
     words = argparse.ArgumentParser(description=__doc__.splitlines()[0])
     words.add_argument("--runs", type=int, default=3)
-    words.add_argument("--statements", type=int, default=250)
+    words.add_argument("--statements", type=int, default=1000)
     words.add_argument("--by", choices=("baselines", "optimisers"))
     words.add_argument("--program", default=os.path.join(ROOT, "crates/measure_compile/out/measure_compile"))
     words.add_argument("--keep")
