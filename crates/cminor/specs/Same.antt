@@ -3,7 +3,7 @@ use Rattle.std.proofs.Common.{◌≡◌, ℕ, Bool, true, false, List, [], ◌�
 use Rattle.std.specs.Prelude.{◌&&◌, nat_eq}
 use Rattle.std.specs.Cmp.{IsEquivalence}
 use Rattle.std.specs.Cmp.Lexicographic.{pointwise}
-use Rattle.std.proofs.lemmas.Bool.{eqb-true, eq-eqb, and_parts, and_from}
+use Rattle.std.proofs.lemmas.Bool.{eqb-true, eq-eqb, and_parts, and_from, false≢true}
 use Rattle.ints.specs.declared.operators.Op.{Op}
 use Rattle.ints.specs.Codes.{code_of, op_of_code}
 use Rattle.ints.proofs.Codes.{codes_lead_back}
@@ -79,7 +79,7 @@ expression_tells (Choice a b c) (Choice d f g) e =
     let p = and_parts (same_expression a d) (same_expression b f && same_expression c g) e in
     let r = and_parts (same_expression b f) (same_expression c g) p.1 in
     λ k. Choice (expression_tells a d p.0 k) (expression_tells b f r.0 k) (expression_tells c g r.1 k)
-expression_tells _ _ e = absurd cc
+expression_tells _ _ e = absurd (false≢true e)
 
 option_tells : {A : Type 0} (eq : A → A → Bool) → Tells eq → Tells (same_option eq)
 option_tells eq tells None None e = refl
@@ -120,7 +120,7 @@ mutual
   statement_tells (Block s) (Block t) e = ap (λ x. Block x) (statement_tells s t e)
   statement_tells (Exit n) (Exit m) e = ap (λ x. Exit x) (eqb-true n m e)
   statement_tells (Return a) (Return b) e = ap (λ x. Return x) (option_tells same_expression expression_tells a b e)
-  statement_tells _ _ e = absurd cc
+  statement_tells _ _ e = absurd (false≢true e)
 
   statements_tell : (xs ys : StatementsTree) → same_statements xs ys ≡ true → xs ≡ ys
   statements_tell Done Done e = refl

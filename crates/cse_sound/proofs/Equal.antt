@@ -1,6 +1,6 @@
 -- The derived equality of equations tells them apart exactly.
 use Rattle.std.proofs.Common.{ap, rules}
-use Rattle.std.proofs.lemmas.Bool.{eqb-true, and_parts}
+use Rattle.std.proofs.lemmas.Bool.{eqb-true, and_parts, false≢true}
 use denote.Enum.Bare.{same_true}
 use Rattle.ints.specs.contracts.operators.Op as op_type
 use Rattle.ints.specs.contracts.operators.OpPartialEq.TheImpl as op_eq
@@ -17,7 +17,7 @@ right_tells (Operation o a) (Operation p b) e =
     λ i. Operation (same_true op_type.the_type (search rules) o p q.0 i) (arguments_tells a b q.1 i)
 right_tells (Cell g a) (Cell h b) e = let p = and_parts _ _ e in λ i. Cell (eqb-true g h p.0 i) (eqb-true a b p.1 i)
 right_tells (Copy a) (Copy b) e = ap (λ r. Copy r) (eqb-true a b e)
-right_tells _ _ e = absurd cc
+right_tells _ _ e = absurd (false≢true e)
 
 pub equation_tells : Tells (equation_eq.ghosts).eq
 equation_tells a b e =

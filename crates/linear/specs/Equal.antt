@@ -3,7 +3,7 @@ use Rattle.std.proofs.Common.{◌≡◌, ℕ, Bool, true, false, List, [], ◌�
 use Rattle.std.specs.Prelude.{◌&&◌, nat_eq}
 use Rattle.std.specs.Cmp.{IsEquivalence}
 use Rattle.std.specs.Cmp.Lexicographic.{pointwise}
-use Rattle.std.proofs.lemmas.Bool.{eqb-true, and_parts}
+use Rattle.std.proofs.lemmas.Bool.{eqb-true, and_parts, false≢true}
 use Rattle.std.proofs.lemmas.Cmp.{nat_eq_equiv, on_equiv, and_equiv, lists_equiv}
 use Rattle.locations.specs.declared.location.Location.{Location}
 use Rattle.locations.specs.contracts.location.LocationPartialEq.TheImpl as location_eq
@@ -65,7 +65,7 @@ instruction_tells (Branch t l) (Branch u m) e = let p = and_parts ((test_eq.ghos
 instruction_tells (Return v) (Return w) e = ap (λ x. Return x) (value_tells v w e)
 instruction_tells (Label l) (Label m) e = ap (λ x. Label x) (eqb-true l m e)
 instruction_tells (Goto l) (Goto m) e = ap (λ x. Goto x) (eqb-true l m e)
-instruction_tells _ _ e = absurd cc
+instruction_tells _ _ e = absurd (false≢true e)
 
 pub function_tells : Tells same_function
 function_tells f g e =

@@ -3,7 +3,7 @@ use Rattle.std.proofs.Common.{◌≡◌, ℕ, Bool, true, false, List, [], ◌�
 use Rattle.std.specs.Prelude.{◌&&◌, nat_eq}
 use Rattle.std.specs.Cmp.{IsEquivalence}
 use Rattle.std.specs.Cmp.Lexicographic.{pointwise}
-use Rattle.std.proofs.lemmas.Bool.{eqb-true, and_parts}
+use Rattle.std.proofs.lemmas.Bool.{eqb-true, and_parts, false≢true}
 use Rattle.std.proofs.lemmas.Cmp.{nat_eq_equiv, on_equiv, and_equiv, lists_equiv}
 use Rattle.locations.specs.declared.location.Location.{Location}
 use Rattle.locations.specs.declared.location.Move.{Move}
@@ -83,7 +83,7 @@ body_tells (Branch t a b) (Branch u c d) e =
     let q = and_parts (nat_eq a c) (nat_eq b d) p.1 in
     λ i. Branch (test_tells t u p.0 i) (eqb-true a c q.0 i) (eqb-true b d q.1 i)
 body_tells (Return v) (Return w) e = ap (λ x. Return x) (value_tells v w e)
-body_tells _ _ e = absurd cc
+body_tells _ _ e = absurd (false≢true e)
 
 block_tells : Tells (block_eq.ghosts).eq
 block_tells a b e =

@@ -1,7 +1,7 @@
 -- Derived equalities tell values apart exactly.
 use Rattle.std.proofs.Common.{◌≡◌, ℕ, true, false, Option, Some, None, ap, rules}
 use Rattle.std.specs.Prelude.{nat_eq}
-use Rattle.std.proofs.lemmas.Bool.{eqb-true, and_parts}
+use Rattle.std.proofs.lemmas.Bool.{eqb-true, and_parts, false≢true}
 use denote.Enum.Bare.{same_true}
 use Rattle.ints.specs.contracts.operators.Op as op_type
 use Rattle.ints.specs.contracts.conditions.Cond as cond_type
@@ -48,7 +48,7 @@ act_tells (Store g x s) (Store h y r) e =
     let q = and_parts _ _ p.1 in
     λ i. Store (eqb-true g h p.0 i) (eqb-true x y q.0 i) (eqb-true s r q.1 i)
 act_tells (Put a t) (Put b u) e = target_tells a b t u e
-act_tells _ _ e = absurd cc
+act_tells _ _ e = absurd (false≢true e)
 
 pub test_tells : Tells (test_eq.ghosts).eq
 test_tells a b e =
