@@ -1,10 +1,16 @@
-ghost use Rattle.std.specs.Prelude.{IfOk};
+ghost use Rattle.std.specs.Prelude.{◌≡◌, ◌≤◌, All, IfOk, IfErr, OnOk, length, map};
 ghost use Rattle.lang.specs.Keeps.{Keeps};
 ghost use Rattle.c_behaviour.specs.Meaning.{crun};
 ghost use Rattle.c_checker.specs.Checked.{program_tree};
+ghost use Rattle.lowering.specs.Programs.{low};
+ghost use Rattle.rtlgen.specs.Refused.{HasFewNodes};
 ghost use Rattle.linear.specs.Meaning as linear;
-ghost use Rattle.program_data.specs.Seen.{seen};
+ghost use Rattle.linking.specs.Chains.{names_of};
+ghost use Rattle.program_data.specs.Seen.{named_seen, seen};
 ghost use Rattle.rtl.specs.Meaning as rtl;
+ghost use Rattle.baselines.specs.Lent.{AreBeside};
+ghost use Rattle.baselines.specs.Offered.{AllGoOn, linked_offers};
+ghost use Rattle.baselines.specs.Refused.{IsNoMemory, IsRefused, IsUnlinked};
 
 use crate::errors::CompileError;
 use crate::offering::{Offers, offers_of};
@@ -22,10 +28,13 @@ use std::alloc::Global;
 fn all_offers(
     alloc: Global,
     functions: &[Named<rtl::Function>],
-) -> Result<Vec<Offers>, CompileError> {
+) -> Result<Vec<Offers>, CompileError>
+    ensures chained { IfOk result (λ offers. AllGoOn (map named_seen functions.now) offers.items) }
+    ensures refused { All (λ f. f.function.registers ≤ 2048) (map named_seen functions.now) → IfErr result IsNoMemory }
+{
     let mut offers = Vec::with_capacity(alloc, functions.len())?;
-    for named in functions {
-        offers.push(offers_of(alloc, &named.function)?)?;
+    for number in 0..functions.len() {
+        offers.push(offers_of(alloc, &functions[number].function)?)?;
     }
     Ok(offers)
 }
@@ -35,12 +44,15 @@ fn named_of<'a>(
     alloc: Global,
     functions: &'a [Named<rtl::Function>],
     offers: &'a [Offers],
-) -> Result<Vec<linker::Named<'a>>, NoMemory> {
+) -> Result<Vec<linker::Named<'a>>, NoMemory>
+    requires { length functions.now ≡ length offers.now }
+    ensures { IfOk result (λ named. AreBeside functions.now offers.now named.items) }
+{
     let mut named = Vec::with_capacity(alloc, functions.len())?;
-    for (function, offers) in functions.iter().zip(offers) {
+    for number in 0..functions.len() {
         named.push(linker::Named {
-            name: function.name.as_slice(),
-            chain: Some(offers.chain()),
+            name: functions[number].name.as_slice(),
+            chain: Some(offers[number].chain()),
         })?;
     }
     Ok(named)
@@ -53,8 +65,18 @@ pub fn link_offers(
     program: &Program<rtl::Function>,
     offers: &[Offers],
 ) -> Result<Program<Function>, LinkError>
+    ensures ok { IfOk result (λ made. seen made ≡ linked_offers (seen program.now) offers.now) }
+    ensures same_names { IfOk result (λ made. names_of (seen made).functions ≡ names_of (seen program.now).functions) }
+    ensures chained { OnOk result (AllGoOn (seen program.now).functions offers.now) }
     ensures keeps { IfOk result (λ made. Keeps (rtl.run (seen program.now)) (linear.run (seen made))) }
+
+    // As many offers as functions are asked first. Where all chain, only memory can be refused.
+    ensures refused { IfErr result (λ e. IsUnlinked (seen program.now).functions offers.now e) }
+    ensures whole { AllGoOn (seen program.now).functions offers.now → IfErr result (λ e. e ≡ LinkError.NoMemory) }
 {
+    if program.functions.len() != offers.len() {
+        return Err(LinkError::Names);
+    }
     let named = named_of(alloc, program.functions.as_slice(), offers)?;
     let made = linking::link::<ConstProp, Cse, Alloc, Linearize>(alloc, program, &named)?;
     Ok(made)
@@ -64,6 +86,11 @@ pub fn link_offers(
 /// C program is lowered and translated once.
 pub fn compile(alloc: Global, program: &CProgram) -> Result<Program<Function>, CompileError>
     ensures keeps { IfOk result (λ made. Keeps (crun (program_tree program.now)) (linear.run (seen made))) }
+    ensures same_names { IfOk result (λ made. names_of (seen made).functions ≡ names_of (low (program_tree program.now)).functions) }
+
+    // Where memory is not wanting, it is refused exactly where a function needs too many nodes.
+    ensures few { OnOk result (All HasFewNodes (low (program_tree program.now)).functions) }
+    ensures refused { IfErr result (λ e. IsRefused (low (program_tree program.now)) e) }
 {
     keeps_composes();
     let begun = translated(alloc, program)?;

@@ -24,30 +24,58 @@ impl fmt::Display for CompileError {
 impl std::error::Error for CompileError {}
 
 impl From<LinkError> for CompileError {
+    ghost use Rattle.std.specs.Prelude.{◌≡◌};
+    ghost use Rattle.baselines.specs.declared.errors.CompileError.TheVariants.{Link};
+
+    ghost from_gives = { λ fault e. e ≡ Link fault };
+
     fn from(fault: LinkError) -> CompileError {
         CompileError::Link(fault)
     }
 }
 
 impl From<PassError> for CompileError {
+    ghost use Rattle.std.specs.Prelude.{◌≡◌};
+    ghost use Rattle.baselines.specs.declared.errors.CompileError.TheVariants.{Pass};
+
+    ghost from_gives = { λ fault e. e ≡ Pass fault };
+
     fn from(fault: PassError) -> CompileError {
         CompileError::Pass(fault)
     }
 }
 
 impl From<NoMemory> for CompileError {
+    ghost use Rattle.std.specs.Prelude.{◌≡◌};
+    ghost use Rattle.linker.specs.declared.errors.LinkError.TheVariants.{NoMemory};
+    ghost use Rattle.baselines.specs.declared.errors.CompileError.TheVariants.{Link};
+
+    ghost from_gives = { λ _ e. e ≡ Link NoMemory };
+
     fn from(_e: NoMemory) -> CompileError {
         CompileError::Link(LinkError::NoMemory)
     }
 }
 
 impl From<AllocError> for CompileError {
+    ghost use Rattle.std.specs.Prelude.{◌≡◌};
+    ghost use Rattle.linker.specs.declared.errors.LinkError.TheVariants.{NoMemory};
+    ghost use Rattle.baselines.specs.declared.errors.CompileError.TheVariants.{Link};
+
+    ghost from_gives = { λ _ e. e ≡ Link NoMemory };
+
     fn from(_e: AllocError) -> CompileError {
         CompileError::Link(LinkError::NoMemory)
     }
 }
 
 impl<T: Drop> From<AllocFailed<T>> for CompileError {
+    ghost use Rattle.std.specs.Prelude.{◌≡◌};
+    ghost use Rattle.linker.specs.declared.errors.LinkError.TheVariants.{NoMemory};
+    ghost use Rattle.baselines.specs.declared.errors.CompileError.TheVariants.{Link};
+
+    ghost from_gives = { λ _ e. e ≡ Link NoMemory };
+
     fn from(_e: AllocFailed<T>) -> CompileError {
         CompileError::Link(LinkError::NoMemory)
     }

@@ -1,6 +1,9 @@
 //! The offers of a function, each going on from the one before it, and the offers of the baselines.
 
-ghost use Rattle.std.specs.Prelude.{◌≡◌, IfOk};
+ghost use Rattle.std.specs.Prelude.{◌≡◌, ◌≢◌, IfOk, IfErr};
+ghost use Rattle.alloc_rules.specs.Rules.{IsTooLarge};
+ghost use Rattle.baselines.specs.Lent.{IsLent};
+ghost use Rattle.baselines.specs.Offered.{GoOnFrom};
 
 use alloc_pass::Alloc;
 use constprop_check::ConstProp;
@@ -27,17 +30,24 @@ pub fn baseline_of<P: Pass>(
     alloc: Global,
     input: &<P::In as Language>::Fun,
 ) -> Result<Offer<P>, PassError>
-    ensures { IfOk result (λ offer. offer.input ≡ input.now) }
+    ensures input { IfOk result (λ offer. offer.input ≡ input.now) }
+    ensures refused { IfErr result (λ e. e ≢ PassError.NoMemory → P.too_large input.now) }
 {
     let (output, certificate) = P::baseline(alloc, input)?;
     let copied = P::In::copy(alloc, input)?;
     Ok(Offer::known(copied, output, certificate))
 }
 
-/// The offers of the baselines of a function.
-pub(crate) fn offers_of(alloc: Global, function: &Function) -> Result<Offers, PassError> {
+/// The offers of the baselines of a function. Passes 1 and 2 keep the number of registers, so pass 3 refuses
+/// only what has too many from the start.
+pub(crate) fn offers_of(alloc: Global, function: &Function) -> Result<Offers, PassError>
+    ensures chained { IfOk result (λ offers. GoOnFrom function.now offers) }
+    ensures refused { IfErr result (λ e. e ≢ PassError.NoMemory → IsTooLarge function.now) }
+{
     let constants = baseline_of::<ConstProp>(alloc, function)?;
+    constants.validated();
     let expressions = baseline_of::<Cse>(alloc, constants.output())?;
+    expressions.validated();
     let allocation = baseline_of::<Alloc>(alloc, expressions.output())?;
     let order = baseline_of::<Linearize>(alloc, allocation.output())?;
     Ok(Offers {
@@ -50,7 +60,9 @@ pub(crate) fn offers_of(alloc: Global, function: &Function) -> Result<Offers, Pa
 
 impl Offers {
     /// The offers, lent.
-    pub(crate) fn chain(&self) -> Chain<'_> {
+    pub(crate) fn chain(&self) -> Chain<'_>
+        ensures { IsLent self.now result }
+    {
         Chain {
             first: &self.constants,
             second: &self.expressions,

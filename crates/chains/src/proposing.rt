@@ -1,6 +1,6 @@
 //! Offers of one pass.
 
-ghost use Rattle.std.specs.Prelude.{◌≡◌, IfOk, IfSome};
+ghost use Rattle.std.specs.Prelude.{◌≡◌, ◌≢◌, IfOk, IfErr, IfSome};
 
 use baselines::baseline_of;
 use lang::{Language, NoMemory, Oracle, Pass, PassError};
@@ -42,7 +42,10 @@ pub fn proposed_of<O: Oracle>(
     input: &<<O::P as Pass>::In as Language>::Fun,
     words: &mut Pcg32,
 ) -> Result<Proposed<O::P>, PassError>
-    ensures { IfOk result (λ proposed. proposed.offer.input ≡ input.now) }
+    ensures input { IfOk result (λ proposed. proposed.offer.input ≡ input.now) }
+
+    // What is proposed is never refused, but replaced; so only what has no baseline is.
+    ensures refused { IfErr result (λ e. e ≢ PassError.NoMemory → O.P.too_large input.now) }
 {
     match accepted_of::<O>(alloc, oracle, input, words)? {
         Some(offer) => Ok(Proposed {

@@ -1,9 +1,10 @@
-ghost use Rattle.std.specs.Prelude.{◌≡◌, ◌≢◌, IfOk, IfErr, IsErrAnd, OnOk};
+ghost use Rattle.std.specs.Prelude.{◌≡◌, ◌≢◌, ◌≤◌, All, IfOk, IfErr, IsErrAnd, OnOk};
 ghost use Rattle.lang.specs.Keeps.{Keeps};
 ghost use Rattle.c_behaviour.specs.Meaning.{crun};
 ghost use Rattle.c_checker.specs.Checked.{program_tree};
 ghost use Rattle.lowering.specs.Programs.{low};
 ghost use Rattle.generation.specs.Gen.{gen};
+ghost use Rattle.rtlgen.specs.Refused.{HasFewNodes};
 ghost use Rattle.linear.specs.Meaning as linear;
 ghost use Rattle.linking.specs.Chains.{linked, names_beside, names_of, AllChained};
 ghost use Rattle.linker.specs.Refused.{IsRefused, HasNoTranslation};
@@ -33,7 +34,12 @@ pub type Named<'a> = NamedOf<'a, ConstProp, Cse, Alloc, Linearize>;
 /// The time is linear in the program.
 pub fn translated(alloc: Global, program: &CProgram) -> Result<Program<rtl::Function>, LinkError>
     ensures same { IfOk result (λ made. seen made ≡ gen (low (program_tree program.now))) }
+    ensures same_names { IfOk result (λ made. names_of (seen made).functions ≡ names_of (low (program_tree program.now)).functions) }
+    ensures small { IfOk result (λ made. All (λ f. f.function.registers ≤ 2048) (seen made).functions) }
     ensures keeps { IfOk result (λ made. Keeps (crun (program_tree program.now)) (rtl.run (seen made))) }
+
+    // Where memory is not wanting, it is refused exactly where a function needs too many nodes.
+    ensures few { OnOk result (All HasFewNodes (low (program_tree program.now)).functions) }
     ensures refused { IfErr result (λ e. HasNoTranslation (low (program_tree program.now)) e) }
 {
     keeps_composes();
@@ -57,6 +63,7 @@ pub fn link(
     // Tested first: the names are others, or not as many.
     ensures names { names_beside named.now ≢ names_of (low (program_tree program.now)).functions →
         IsErrAnd result (λ e. e ≢ LinkError.NoMemory → e ≡ LinkError.Names) }
+    ensures few { OnOk result (All HasFewNodes (low (program_tree program.now)).functions) }
     ensures refused { IfErr result (λ e. IsRefused (low (program_tree program.now)) named.now e) }
 {
     keeps_composes();

@@ -1,19 +1,20 @@
 //! Whole programs.
 
-ghost use Rattle.std.specs.Prelude.{◌≡◌, All, IfOk, IfErr, map};
+ghost use Rattle.std.specs.Prelude.{◌≡◌, ◌≤◌, All, IfOk, IfErr, OnOk, map};
 ghost use Rattle.lang.specs.Keeps.{Keeps};
 ghost use Rattle.cminor_tree.specs.Fits.{IsFunction};
 ghost use Rattle.cminor_tree.specs.Meaning as C;
 ghost use Rattle.generation.specs.Gen.{gen, gen_named};
 ghost use Rattle.program_data.specs.Seen.{named_seen, seen};
 ghost use Rattle.rtl.specs.Meaning as R;
-ghost use Rattle.rtlgen.specs.Refused.{IsRefused};
+ghost use Rattle.rtlgen.specs.Refused.{HasFewNodes, IsRefused};
 
 use crate::errors::GenError;
 use crate::functions::translate_named;
 use crate::globals::copy_globals;
 use cminor::Function as CminorFunction;
 use generation::generated_keeps;
+use generation_fits::generated_is_small;
 use lang::{Named, Program};
 use rtl::Function;
 use std::alloc::Global;
@@ -33,6 +34,7 @@ fn translate_functions(
     functions: &[Named<CminorFunction>],
 ) -> Result<Vec<Named<Function>>, GenError>
     ensures ok { IfOk result (λ fs. map named_seen fs.items ≡ map gen_named (map named_seen functions.now)) }
+    ensures few { OnOk result (All HasFewNodes (map named_seen functions.now)) }
     ensures err { IfErr result (λ e. IsRefused (map named_seen functions.now) e) }
 {
     let mut translated = Vec::new(alloc);
@@ -51,6 +53,7 @@ fn translate_all(
     program: &Program<CminorFunction>,
 ) -> Result<Program<Function>, GenError>
     ensures same { IfOk result (λ p. seen p ≡ gen (seen program.now)) }
+    ensures few { OnOk result (All HasFewNodes (seen program.now).functions) }
     ensures refused { IfErr result (λ e. IsRefused (seen program.now).functions e) }
 {
     let globals = copy_globals(alloc, program.globals.as_slice())?;
@@ -66,9 +69,14 @@ pub fn translate(
 ) -> Result<Program<Function>, GenError>
     ensures same { IfOk result (λ p. seen p ≡ gen (seen program.now)) }
     ensures keeps { IfOk result (λ p. Keeps (C.run (seen program.now)) (R.run (seen p))) }
+    ensures small { IfOk result (λ p. All (λ f. f.function.registers ≤ 2048) (seen p).functions) }
+
+    // Where memory is not wanting, it is refused exactly where a function needs too many nodes.
+    ensures few { OnOk result (All HasFewNodes (seen program.now).functions) }
     ensures refused { IfErr result (λ e. IsRefused (seen program.now).functions e) }
 {
     generated_keeps();
+    generated_is_small();
     are_in_range(program.functions.as_slice());
     translate_all(alloc, program)
 }

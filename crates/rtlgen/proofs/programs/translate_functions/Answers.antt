@@ -1,9 +1,10 @@
 use Rattle.std.proofs.Common.{subst}
-use Rattle.std.proofs.lemmas.List.Elements.{All-more}
+use Rattle.std.specs.Prelude.{All}
+use Rattle.std.proofs.lemmas.List.Elements.{All-map, All-more}
 use Rattle.generation.specs.Gen.{gen_named}
 use Rattle.program_data.specs.Seen.{named_seen}
 use Rattle.rtlgen.specs.Refused.{HasFewNodes}
-use Rattle.rtlgen.proofs.Firsts.{first_is, one_more}
+use Rattle.rtlgen.proofs.Firsts.{whole, first_is, one_more}
 use Rattle.rtlgen.proofs.programs.translate_functions.Goals as goal
 
 pub returns-in-None-clause-err : goal.returns-in-None-clause-err
@@ -22,3 +23,8 @@ loop-number-preserved c =
       same = one_more named_seen gen_named named_seen all c.loop-number.translated.items c.push.new.self.items i here c.in-Some.function c.loop-number-test.true c.index-functions-number.is c.loop-number.invariant.same made c.in_ok-push-in-Some.ensures.items;
       few = All-more (λ f. HasFewNodes (named_seen f)) all i here c.loop-number-test.true c.loop-number.invariant.few (subst (λ f. HasFewNodes (named_seen f)) c.index-functions-number.is few);
     }
+
+pub returns-clause-few : goal.returns-clause-few
+returns-clause-few c =
+    let fs = c.args.functions.now in
+    All-map HasFewNodes named_seen fs (subst (λ xs. All (λ f. HasFewNodes (named_seen f)) xs) (whole fs c.loop-number.number c.loop-number-test.false) c.loop-number.invariant.few)

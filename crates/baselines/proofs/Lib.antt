@@ -1,0 +1,5 @@
+mod Beside
+mod Broken
+pub mod GoingOn
+pub mod Memory
+pub mod Registers

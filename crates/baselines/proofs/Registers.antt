@@ -1,0 +1,26 @@
+-- Functions of few registers: passes 1 and 2 keep the number, whatever is offered to them.
+use Rattle.std.proofs.Common.{◌≡◌, ℕ, ◌<◌, ◌≤◌, List, length, map, get_or, sym, ap, subst, ◌∙◌}
+use Rattle.std.specs.Prelude.{All}
+use Rattle.std.proofs.lemmas.List.{get_or-map, length-map}
+use Rattle.std.proofs.lemmas.List.Elements.{All-get_or}
+use Rattle.lang.specs.declared.program.Named as code
+use Rattle.lang.specs.Programs.{NamedFunction}
+use Rattle.program_data.specs.Seen.{named_seen}
+use Rattle.rtl.specs.Function.{FunctionData}
+use Rattle.constprop_sound.specs.declared.fact.Fact.{Fact}
+use Rattle.constprop_sound.specs.Rules.{IsPropagated}
+use Rattle.cse_sound.specs.declared.equation.Equation.{Equation}
+use Rattle.cse_sound.specs.Rules.{IsEliminated}
+use Rattle.alloc_rules.specs.Rules.{IsTooLarge, baseline_limit}
+
+pub large_from_the_start : (f a b : FunctionData) (facts : List (List Fact)) (equations : List (List Equation)) → IsPropagated f a facts → IsEliminated a b equations → IsTooLarge b → IsTooLarge f
+large_from_the_start f a b facts equations first second large =
+    subst (λ n. baseline_limit < n) (second.shape.same.registers ∙ first.shape.same.registers) large
+
+-- one of functions that all have few registers has few
+pub few_at : (functions : List (code.Named FunctionData)) (n : ℕ) (f : code.Named FunctionData) → n < length functions → f ≡ get_or functions n f
+    → All (λ g. g.function.registers ≤ 2048) (map named_seen functions) → f.function.registers ≤ 2048
+few_at functions n f below e all =
+    let longer : n < length (map named_seen functions) = rw (length-map functions named_seen) below in
+    let same = get_or-map named_seen functions n f (named_seen f) below ∙ ap named_seen (sym e) in
+    subst (λ (g : NamedFunction FunctionData). g.function.registers ≤ 2048) same (All-get_or (λ (g : NamedFunction FunctionData). g.function.registers ≤ 2048) (map named_seen functions) n (named_seen f) longer all)

@@ -1,0 +1,14 @@
+-- Each function that is made has few registers, since each that it is made of is in range.
+use Rattle.std.proofs.Common.{◌≡◌, ◌≤◌, map, sym, subst}
+use Rattle.std.specs.Prelude.{All}
+use Rattle.std.proofs.lemmas.Result.{IfOk-weaker}
+use Rattle.cminor_tree.specs.Fits.{IsFunction}
+use Rattle.generation.specs.Gen.{gen}
+use Rattle.program_data.specs.Seen.{named_seen, seen}
+use Rattle.rtlgen.proofs.Small.{all_small}
+use Rattle.rtlgen.proofs.programs.translate.Goals as goal
+
+pub returns-clause-small : goal.returns-clause-small
+returns-clause-small c =
+    IfOk-weaker _ (λ p. seen p ≡ gen (seen c.args.program.now)) _
+    (λ p e. subst (λ q. All (λ f. f.function.registers ≤ 2048) q.functions) (sym e) (all_small _ c.generated_is_small.ensures (subst (λ fs. All (λ f. IsFunction f.function) (map named_seen fs)) c.as_slice.ensures.value c.are_in_range.ensures))) c.translate_all.ensures.same
