@@ -56,7 +56,7 @@ impl Callers {
 
     /// The nearest caller waits no more.
     pub fn pop(&mut self) -> Option<Caller>
-        ensures { MatchOption result (self.old ≡ []) (λ caller. self.old ≡ frame_of caller ∷ self.new) }
+        ensures { MatchOption result ((self.old ≡ []) × (self.new ≡ [])) (λ caller. self.old ≡ frame_of caller ∷ self.new) }
     {
         self.waiting.pop()
     }

@@ -12,4 +12,4 @@ returns-clause-words c = λ globals output.
     c.hand_over.ensures.words globals output
     ∙ ap (λ ps. with_arguments ps values begun) (c.as_slice.ensures ∙ c.parameters.ensures)
     ∙ ap (with_arguments c.args.callee.now.parameters values)
-    (fresh_data (8 + c.from.result) c.args.callee.now.slots c.in_ok-fresh.fresh.items globals output c.in_ok-fresh.ensures (ap (λ n. 8 + n) (c.from.ensures ∙ c.slots.ensures)))
+    (fresh_data (8 + c.from.result) c.args.callee.now.slots c.in_ok-fresh.fresh.items globals output c.in_ok-fresh.ensures.words (ap (λ n. 8 + n) (c.from.ensures ∙ c.slots.ensures)))
