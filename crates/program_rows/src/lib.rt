@@ -1,6 +1,9 @@
-//! C texts with known answers, as lines of data files: what the programs read that run them.
+//! Data files of rows with known answers: what the programs read that compare them. C texts with what is known of
+//! them, and questions of any kind.
 #![tactic(auto)]
 
+mod answers;
 mod row;
 
-pub use row::{Form, Row, row_of};
+pub use answers::{Answers, compare, numbered, owned};
+pub use row::{Form, Row, bytes_of, row_of};

@@ -21,7 +21,7 @@ pub struct Row {
 }
 
 /// A word of hex as bytes; `-` stands for none.
-fn bytes_of(alloc: Global, word: &str) -> Option<Vec<u8>> {
+pub fn bytes_of(alloc: Global, word: &str) -> Option<Vec<u8>> {
     if word == "-" {
         return Some(Vec::new(alloc));
     }

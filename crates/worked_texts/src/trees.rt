@@ -2,64 +2,52 @@
 
 use c_declarations::read_declaration;
 use c_lexer::lex;
-use c_reader::{ReadError, read};
+use c_reader::read;
 use c_statements::read_block;
 use c_tree::{Declaration, Statement};
-use std::test::Fail;
+use program_rows::owned;
+use std::alloc::Global;
 
-#[test]
-fn a_block_ends_with_its_brace(rt: HostRuntime) -> Result<(), Fail> {
-    let tokens = lex(rt.alloc(), b"{;{;;}return;} x".as_slice())?;
-    let (statements, rest) = read_block(rt.alloc(), 199, &tokens)?;
-    assert_eq!(rt; statements.len(), 3);
-    assert_eq!(rt; rest.len(), 1);
-    Ok(())
+/// How many statements a block has, and how many tokens are left.
+pub fn block_told(alloc: Global, text: &[u8]) -> Option<String> {
+    let tokens = lex(alloc, text).ok()?;
+    let (statements, rest) = read_block(alloc, 199, &tokens).ok()?;
+    let count = statements.len();
+    let left = rest.len();
+    format!(in alloc; "{count} {left}").ok()
 }
 
-#[test]
-fn else_belongs_to_the_nearest_if(rt: HostRuntime) -> Result<(), Fail> {
-    let tokens = lex(rt.alloc(), b"{if(1)if(1);else;}".as_slice())?;
-    let (statements, _rest) = read_block(rt.alloc(), 199, &tokens)?;
-    assert_eq!(rt; statements.len(), 1);
-    let Statement::If(_, inner) = &statements[0] else {
-        return Err(Fail::from("the outer if has no else"));
+/// To which of two ifs an else belongs.
+pub fn else_told(alloc: Global, text: &[u8]) -> Option<String> {
+    let tokens = lex(alloc, text).ok()?;
+    let (statements, _rest) = read_block(alloc, 199, &tokens).ok()?;
+    let told = match statements.as_slice() {
+        [Statement::If(_, inner)] => match &**inner {
+            Statement::IfElse(_, _, _) => "inner",
+            _ => "other",
+        },
+        _ => "outer",
     };
-    assert!(rt; matches!(&**inner, Statement::IfElse(_, _, _)));
-    Ok(())
+    owned(alloc, told)
 }
 
-#[test]
-fn a_declaration_ends_with_its_semicolon(rt: HostRuntime) -> Result<(), Fail> {
-    let tokens = lex(rt.alloc(), b"int a; void".as_slice())?;
-    let (declaration, rest) = read_declaration(rt.alloc(), &tokens)?;
-    assert!(rt; matches!(declaration, Declaration::Global(_)));
-    assert_eq!(rt; rest.len(), 1);
-    Ok(())
+/// Which declaration a text begins with, and how many tokens are left.
+pub fn declaration_told(alloc: Global, text: &[u8]) -> Option<String> {
+    let tokens = lex(alloc, text).ok()?;
+    let (declaration, rest) = read_declaration(alloc, &tokens).ok()?;
+    let kind = match declaration {
+        Declaration::Global(_) => "global",
+        _ => "other",
+    };
+    let left = rest.len();
+    format!(in alloc; "{kind} {left}").ok()
 }
 
-#[test]
-fn a_unit_has_its_declarations_and_its_end(rt: HostRuntime) -> Result<(), Fail> {
-    let tokens = lex(
-        rt.alloc(),
-        b"int a; int f(void){return 1;} // end".as_slice(),
-    )?;
-    let unit = read(rt.alloc(), &tokens)?;
-    assert_eq!(rt; unit.declarations().len(), 2);
-    assert_eq!(rt; unit.end(), 29);
-    let nothing = read(rt.alloc(), &[])?;
-    assert_eq!(rt; nothing.end(), 0);
-    Ok(())
-}
-
-#[test]
-fn refusals_have_numbers_and_places(rt: HostRuntime) -> Result<(), Fail> {
-    for (e, number, offset) in [
-        (ReadError::NoMemory, 1, None),
-        (ReadError::Syntax(3), 210, Some(3)),
-        (ReadError::TooDeep(4), 211, Some(4)),
-    ] {
-        assert_eq!(rt; e.number(), number);
-        assert_eq!(rt; e.offset(), offset);
-    }
-    Ok(())
+/// How many declarations a text has, and its end.
+pub fn unit_told(alloc: Global, text: &[u8]) -> Option<String> {
+    let tokens = lex(alloc, text).ok()?;
+    let unit = read(alloc, &tokens).ok()?;
+    let count = unit.declarations().len();
+    let end = unit.end();
+    format!(in alloc; "{count} {end}").ok()
 }

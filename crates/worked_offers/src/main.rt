@@ -1,0 +1,42 @@
+//! Written offers of the four passes: what is said of each, what the passes and their optimisers make of its input,
+//! and which offers are linked. Tells how many rows of each file are answered as they say, and which are not.
+//!
+//! | Question | Answer |
+//! |---|---|
+//! | `judged OFFER` | `yes`, `shape`, `node` with a number, or `form` with the number of a fault in the bytes. The calls that judge it agree, what is accepted is written again as it was, and the optimiser's proposal for its input is accepted |
+//! | `name OFFER` | the offer's name |
+//! | `near OFFER` | `refused`, where each strict front and each longer text is, and `again`, where what is accepted with one byte changed is written so |
+//! | `baseline INPUT` | the written offer of the input's baseline, or the number of its refusal |
+//! | `baseline_judged INPUT` | what is said of that offer |
+//! | `proposed INPUT OUTPUT OTHER` | `both`, where each of 64 seeds leads to one of the two outputs, and both occur |
+//! | `varied INPUT` | `yes`, where not all of 64 seeds lead to one output |
+//! | `drawn COUNT` | `accepted`, where the proposals for so many functions that words choose are, and `changed`, where more than ten differ from the input |
+//! | `slots COUNT` | `accepted` likewise for register allocation, and `few`, where fewer than a third as many blocks touch slots as in the baselines |
+//! | `order INPUT OUTPUT NODES` | what is said of the order of the nodes, as of an offer |
+//! | `arranged INPUT NODES` | what the nodes lay out, or `none` |
+//! | `reached INPUT MARKS NODES` | `yes`, where the marks of the nodes that are reached and their list are so |
+//! | `linked NAME:INPUT:BESIDE:OFFERS ..` | for each function its name and its last output, or the number of the refusal and the function's |
+#![tactic(auto)]
+
+mod changes;
+mod drawing;
+mod judging;
+mod linked;
+mod orders;
+mod proposing;
+mod rows;
+mod slots;
+
+use crate::rows::Rows;
+use program_rows::compare;
+use std::io;
+
+fn main(rt: HostRuntime) -> io::Result<()> {
+    compare(&rt, "constants.txt", &mut Rows::Constants)?;
+    compare(&rt, "subexpressions.txt", &mut Rows::Subexpressions)?;
+    compare(&rt, "allocations.txt", &mut Rows::Allocations)?;
+    compare(&rt, "slots.txt", &mut Rows::Slots)?;
+    compare(&rt, "linearized.txt", &mut Rows::Linearized)?;
+    compare(&rt, "orders.txt", &mut Rows::Orders)?;
+    compare(&rt, "linked.txt", &mut Rows::Linked)
+}

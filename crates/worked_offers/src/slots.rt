@@ -1,0 +1,78 @@
+//! How many blocks of an allocation touch slots.
+
+use crate::drawing::{drawing_of, drawn_text};
+use crate::proposing::{function_of, proposed};
+use alloc_pass::baseline;
+use ltl::{Block, Body, Function};
+use machine::{Location, Move};
+use oracle_alloc::AllocOracle;
+use program_rows::owned;
+use rtl::Rtl;
+use std::alloc::Global;
+
+fn is_slot(location: &Location) -> bool {
+    matches!(location, Location::InSlot(_))
+}
+
+/// Whether one of the locations is a slot.
+fn has_slot(locations: &[Location]) -> bool {
+    for location in locations {
+        if is_slot(location) {
+            return true;
+        }
+    }
+    false
+}
+
+/// Whether one of the moves is from a slot or to one.
+fn moves_slot(steps: &[Move]) -> bool {
+    for step in steps {
+        if is_slot(&step.target) || is_slot(&step.source) {
+            return true;
+        }
+    }
+    false
+}
+
+fn touches(block: &Block) -> bool {
+    let touches = match &block.body {
+        Body::Go { after, .. } => moves_slot(after.as_slice()),
+        Body::Call {
+            arguments,
+            target,
+            ..
+        } => has_slot(arguments.as_slice()) || matches!(target, Some(Location::InSlot(_))),
+        Body::Branch { .. } | Body::Return { .. } => false,
+    };
+    touches || moves_slot(block.before.as_slice())
+}
+
+/// How many of the blocks move a word from a slot or to one, or call with one.
+fn touching(function: &Function) -> u64 {
+    let mut count = 0u64;
+    for block in function.blocks().as_slice() {
+        if touches(block) {
+            count = count.saturating_add(1);
+        }
+    }
+    count
+}
+
+/// Whether the proposals for all functions that are drawn are accepted, and fewer than a third as many of their blocks
+/// touch slots as of the baselines'.
+pub fn slots_told(alloc: Global, question: &str) -> Option<String> {
+    let words: Vec<&str> = question.split(' ').collect(alloc).ok()?;
+    let drawing = drawing_of(words.as_slice())?;
+    let mut ours = 0u64;
+    let mut theirs = 0u64;
+    for seed in 1..=drawing.count {
+        let text = drawn_text(alloc, drawing, seed).ok()?;
+        let input = function_of::<Rtl>(alloc, text.as_str())?;
+        let (simplest, _equations) = baseline(alloc, &input).ok()?;
+        let offer = proposed(alloc, &mut AllocOracle, input, seed)?;
+        ours = ours.saturating_add(touching(offer.output()));
+        theirs = theirs.saturating_add(touching(&simplest));
+    }
+    let is_few = ours.saturating_mul(3) < theirs;
+    owned(alloc, if is_few { "accepted, few" } else { "accepted" })
+}

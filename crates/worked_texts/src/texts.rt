@@ -1,0 +1,37 @@
+//! The texts of questions.
+
+use program_rows::bytes_of;
+use std::alloc::Global;
+
+/// So many pieces.
+fn push_pieces(text: &mut Vec<u8>, count: u32, piece: &str) -> Option<()> {
+    for _ in 0..count {
+        text.extend_from_slice(piece.as_bytes()).ok()?;
+    }
+    Some(())
+}
+
+/// So many pieces behind a front, a middle, and as many ends.
+fn repeated(alloc: Global, words: &str) -> Option<Vec<u8>> {
+    let (count, rest) = words.split_once('|')?;
+    let (front, rest) = rest.split_once('|')?;
+    let (piece, rest) = rest.split_once('|')?;
+    let (middle, end) = rest.split_once('|')?;
+    let count: u32 = count.parse().ok()?;
+    let mut text = front.as_bytes().to_vec(alloc).ok()?;
+    push_pieces(&mut text, count, piece)?;
+    push_pieces(&mut text, 1, middle)?;
+    push_pieces(&mut text, count, end)?;
+    Some(text)
+}
+
+/// The text of a question.
+pub fn text_of(alloc: Global, words: &str) -> Option<Vec<u8>> {
+    if let Some(hex) = words.strip_prefix('%') {
+        return bytes_of(alloc, hex);
+    }
+    if let Some(words) = words.strip_prefix('@') {
+        return repeated(alloc, words);
+    }
+    words.as_bytes().to_vec(alloc).ok()
+}
