@@ -18,7 +18,7 @@ use crate::parts::{
 use c_program::Action;
 use c_rules::{CheckError, Place};
 use c_terms::{Functions, check_expression};
-use c_tree::{Expression, ForStart, Set, Statement};
+use c_tree::{Expression, ForHead, ForStart, Set, Statement};
 use std::alloc::Global;
 
 /// In a block of this place.
@@ -98,7 +98,12 @@ fn check_statement(
             let behind = Box::new(alloc, Action::Nothing)?;
             Ok(Action::Loop(condition.term, body, behind))
         }
-        Statement::For(start, condition, step, inner) => {
+        Statement::For(head, inner) => {
+            let ForHead {
+                start,
+                condition,
+                step,
+            } = &**head;
             check_for(
                 alloc,
                 functions,

@@ -14,15 +14,14 @@ use c_expressions::expression;
 use c_reading::{Fault, is_sign_next, misfit, read_sign, read_word};
 use c_statement_laws::First;
 use c_tokens::{Keyword, Punctuator, Token};
-use c_tree::{Expression, ForStart, Set, Statement};
+use c_tree::{Expression, ForHead, Set, Statement};
 use std::alloc::Global;
 
 /// How a loop begins, up to its body.
 #[derive(Drop)]
 pub(crate) enum Loop {
     While(Expression),
-    /// How it begins, its condition, and what is set behind each turn.
-    For(ForStart, Option<Expression>, Option<Set>),
+    For(Box<ForHead>),
 }
 
 /// What a statement begins with, up to a statement inside it.
@@ -102,7 +101,15 @@ fn read_for_head(alloc: Global, room: u8, tokens: &[Token]) -> Result<(Loop, &[T
     let rest = read_sign(Punctuator::Semicolon, rest)?;
     let (step, rest) = read_step(alloc, room, rest)?;
     let rest = read_sign(Punctuator::RightParenthesis, rest)?;
-    Ok((Loop::For(start, condition, step), rest))
+    let head = Box::new(
+        alloc,
+        ForHead {
+            start,
+            condition,
+            step,
+        },
+    )?;
+    Ok((Loop::For(head), rest))
 }
 
 /// What begins so, up to a statement inside it; its parts have this room.

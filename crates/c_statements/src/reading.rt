@@ -44,7 +44,7 @@ fn looped(alloc: Global, head: Loop, body: Statement) -> Result<Statement, Fault
     let body = Box::new(alloc, body)?;
     match head {
         Loop::While(condition) => Ok(Statement::While(condition, body)),
-        Loop::For(start, condition, step) => Ok(Statement::For(start, condition, step, body)),
+        Loop::For(head) => Ok(Statement::For(head, body)),
     }
 }
 
