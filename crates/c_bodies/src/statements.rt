@@ -3,6 +3,7 @@
 ghost use Rattle.std.specs.Prelude.{suc, ◌≡◌, ◌≤◌, ◌+◌, ◌-◌, [], length, drop, OnOk, IfOk, IfErr};
 ghost use Rattle.c_tree.specs.Heights.{statement_height, statements_height};
 ghost use Rattle.c_tree.specs.Views.{statement_tree, statements_tree, optional_tree, expression_tree, set_tree, start_tree};
+ghost use Rattle.c_program.specs.Trees as P;
 ghost use Rattle.c_program.specs.Views.{action_tree, actions_tree};
 ghost use Rattle.c_rules.specs.Told.{Tells};
 ghost use Rattle.c_rules.specs.Locals.{deeper, looping, left};
@@ -12,6 +13,7 @@ ghost use Rattle.c_bodies.specs.Loops.{for_faults, for_action};
 
 use crate::here::Here;
 use crate::loops::check_heads;
+use crate::owned::beside;
 use crate::parts::{
     check_assignment, check_call_alone, check_declaration, check_return, check_store, in_loop,
 };
@@ -50,6 +52,14 @@ fn leave(here: &mut Here, mark: usize)
     here.scope.shorten_to(mark);
 }
 
+/// Nothing to do, in a box.
+fn nothing(alloc: Global) -> Result<Box<Action>, CheckError>
+    ensures ok { IfOk result (λ b. action_tree b.value ≡ P.Nothing) }
+    ensures err { IfErr result (λ e. e ≡ CheckError.NoMemory) }
+{
+    Ok(Box::new(alloc, Action::Nothing)?)
+}
+
 /// The action that a statement stands for, or the first fault in it. What it declares is declared here.
 #[cycle(statements)]
 #[tactic(auto, using(c_rules::proofs::Firsts::tells_front, c_rules::proofs::Firsts::tells_behind, crate::proofs::Heights::if_low, crate::proofs::Heights::holds_low, crate::proofs::Heights::other_low, crate::proofs::Heights::for_low, crate::proofs::Blocks::view_block, c_program::proofs::Sequences::view_sequence))]
@@ -82,21 +92,25 @@ fn check_statement(
         }
         Statement::If(condition, inner) => {
             let condition = check_expression(alloc, &here.scope, condition)?;
-            let holds = check_inner(alloc, functions, place, here, inner)?;
-            let other = Box::new(alloc, Action::Nothing)?;
-            Ok(Action::If(condition.term, holds, other))
+            let holds = check_inner(alloc, functions, place, here, inner);
+            let (condition, holds) = beside(condition.term, holds)?;
+            let (condition, other) = beside(condition, nothing(alloc))?;
+            Ok(Action::If(condition, holds, other))
         }
         Statement::IfElse(condition, inner, other) => {
             let condition = check_expression(alloc, &here.scope, condition)?;
-            let holds = check_inner(alloc, functions, place, here, inner)?;
-            let other = check_inner(alloc, functions, place, here, other)?;
-            Ok(Action::If(condition.term, holds, other))
+            let holds = check_inner(alloc, functions, place, here, inner);
+            let (condition, holds) = beside(condition.term, holds)?;
+            let other = check_inner(alloc, functions, place, here, other);
+            let (condition, other) = beside(condition, other)?;
+            Ok(Action::If(condition, holds, other))
         }
         Statement::While(condition, inner) => {
             let condition = check_expression(alloc, &here.scope, condition)?;
-            let body = check_inner(alloc, functions, looping(place), here, inner)?;
-            let behind = Box::new(alloc, Action::Nothing)?;
-            Ok(Action::Loop(condition.term, body, behind))
+            let body = check_inner(alloc, functions, looping(place), here, inner);
+            let (condition, body) = beside(condition.term, body)?;
+            let (condition, behind) = beside(condition, nothing(alloc))?;
+            Ok(Action::Loop(condition, body, behind))
         }
         Statement::For(head, inner) => {
             let ForHead {
@@ -188,7 +202,8 @@ fn check_for(
 {
     let mark = here.scope.len();
     let heads = check_heads(alloc, place.depth, here, start, condition, step)?;
-    let body = check_statement(alloc, functions, looping(place), here, inner)?;
+    let body = check_statement(alloc, functions, looping(place), here, inner);
+    let (heads, body) = beside(heads, body)?;
     leave(here, mark);
     Ok(heads.around(alloc, body)?)
 }
