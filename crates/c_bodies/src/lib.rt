@@ -5,6 +5,7 @@
 mod here;
 mod locals;
 mod loops;
+mod owned;
 mod parts;
 mod statements;
 

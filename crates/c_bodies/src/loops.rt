@@ -10,6 +10,7 @@ ghost use Rattle.c_rules.specs.Actions as A;
 ghost use Rattle.c_bodies.specs.Loops.{turns_faults, heads_faults};
 
 use crate::here::Here;
+use crate::owned::{beside, boxes};
 use crate::parts::{check_condition, check_start, check_step, two};
 use c_program::{Action, Term};
 use c_rules::{CheckError, Meaning};
@@ -35,8 +36,8 @@ pub(crate) fn repeated(
 ) -> Result<Action, NoMemory>
     ensures { IfOk result (λ a. action_tree a ≡ P.Loop (term_tree condition) (action_tree body) (action_tree behind)) }
 {
-    let body = Box::new(alloc, body)?;
-    Ok(Action::Loop(condition, body, Box::new(alloc, behind)?))
+    let (condition, (body, behind)) = beside(condition, boxes(alloc, body, behind))?;
+    Ok(Action::Loop(condition, body, behind))
 }
 
 impl Heads {
@@ -68,7 +69,7 @@ fn check_turns(
     ensures err { IfErr result (λ e. Tells e (turns_faults scope.now (optional_tree expression_tree condition.now) (optional_tree set_tree step.now))) }
 {
     let condition = check_condition(alloc, scope, condition)?;
-    Ok((condition, check_step(alloc, scope, step)?))
+    beside(condition, check_step(alloc, scope, step))
 }
 
 /// What stands in a `for` before its body. What it declares is declared here.

@@ -17,6 +17,7 @@ ghost use Rattle.c_program.specs.declared.action.Target.TheVariants.{Nowhere};
 
 use crate::here::Here;
 use crate::locals::declare_local;
+use crate::owned::{beside, pair};
 use c_program::{Action, Target, Term, Value};
 use c_rules::{CheckError, Meaning};
 use c_scopes::Scopes;
@@ -30,10 +31,7 @@ use std::alloc::Global;
 pub(crate) fn two(alloc: Global, first: Action, second: Action) -> Result<Action, NoMemory>
     ensures { IfOk result (λ a. action_tree a ≡ A.two (action_tree first) (action_tree second)) }
 {
-    let mut both = Vec::new(alloc);
-    both.push(first)?;
-    both.push(second)?;
-    Ok(Action::Sequence(both))
+    Ok(Action::Sequence(pair(alloc, first, second)?))
 }
 
 /// A variable without size to which a value may be given.
@@ -99,8 +97,8 @@ pub(crate) fn check_store(
 {
     let (number, _kind) = array(scope, name)?;
     let Typed { term: cell, .. } = check_expression(alloc, scope, index)?;
-    let Typed { term, .. } = check_expression(alloc, scope, value)?;
-    Ok(Action::Store(number, cell, term))
+    let (cell, value) = beside(cell, check_expression(alloc, scope, value))?;
+    Ok(Action::Store(number, cell, value.term))
 }
 
 /// What a `for` sets.
@@ -210,7 +208,7 @@ pub(crate) fn check_step(
 }
 
 /// `break` or `continue`, which stands at this offset.
-pub(crate) fn in_loop(in_loop: bool, at: usize, action: Action) -> Result<Action, CheckError>
+pub(crate) fn in_loop<A: Drop>(in_loop: bool, at: usize, action: A) -> Result<A, CheckError>
     ensures ok { OnOk result (unless in_loop (StrayBreak at) ≡ []) }
     ensures action { IfOk result (λ a. a ≡ action) }
     ensures err { IfErr result (λ e. Tells e (unless in_loop (StrayBreak at))) }

@@ -3,6 +3,7 @@
 ghost use Rattle.std.specs.Prelude.{suc, ◌≡◌, ◌≤◌, ◌+◌, ◌-◌, [], length, drop, OnOk, IfOk, IfErr};
 ghost use Rattle.c_tree.specs.Heights.{statement_height, statements_height};
 ghost use Rattle.c_tree.specs.Views.{statement_tree, statements_tree, optional_tree, expression_tree, set_tree, start_tree};
+ghost use Rattle.c_program.specs.Trees as P;
 ghost use Rattle.c_program.specs.Views.{action_tree, actions_tree};
 ghost use Rattle.c_rules.specs.Told.{Tells};
 ghost use Rattle.c_rules.specs.Locals.{deeper, looping, left};
@@ -12,13 +13,14 @@ ghost use Rattle.c_bodies.specs.Loops.{for_faults, for_action};
 
 use crate::here::Here;
 use crate::loops::check_heads;
+use crate::owned::beside;
 use crate::parts::{
     check_assignment, check_call_alone, check_declaration, check_return, check_store, in_loop,
 };
 use c_program::Action;
 use c_rules::{CheckError, Place};
 use c_terms::{Functions, check_expression};
-use c_tree::{Expression, ForStart, Set, Statement};
+use c_tree::{Expression, ForHead, ForStart, Set, Statement};
 use std::alloc::Global;
 
 /// In a block of this place.
@@ -48,6 +50,14 @@ fn leave(here: &mut Here, mark: usize)
     ensures { here.new ≡ record { scope = drop (length here.old.scope - mark) here.old.scope; locals = here.old.locals } }
 {
     here.scope.shorten_to(mark);
+}
+
+/// Nothing to do, in a box.
+fn nothing(alloc: Global) -> Result<Box<Action>, CheckError>
+    ensures ok { IfOk result (λ b. action_tree b.value ≡ P.Nothing) }
+    ensures err { IfErr result (λ e. e ≡ CheckError.NoMemory) }
+{
+    Ok(Box::new(alloc, Action::Nothing)?)
 }
 
 /// The action that a statement stands for, or the first fault in it. What it declares is declared here.
@@ -82,23 +92,32 @@ fn check_statement(
         }
         Statement::If(condition, inner) => {
             let condition = check_expression(alloc, &here.scope, condition)?;
-            let holds = check_inner(alloc, functions, place, here, inner)?;
-            let other = Box::new(alloc, Action::Nothing)?;
-            Ok(Action::If(condition.term, holds, other))
+            let holds = check_inner(alloc, functions, place, here, inner);
+            let (condition, holds) = beside(condition.term, holds)?;
+            let (condition, other) = beside(condition, nothing(alloc))?;
+            Ok(Action::If(condition, holds, other))
         }
         Statement::IfElse(condition, inner, other) => {
             let condition = check_expression(alloc, &here.scope, condition)?;
-            let holds = check_inner(alloc, functions, place, here, inner)?;
-            let other = check_inner(alloc, functions, place, here, other)?;
-            Ok(Action::If(condition.term, holds, other))
+            let holds = check_inner(alloc, functions, place, here, inner);
+            let (condition, holds) = beside(condition.term, holds)?;
+            let other = check_inner(alloc, functions, place, here, other);
+            let (condition, other) = beside(condition, other)?;
+            Ok(Action::If(condition, holds, other))
         }
         Statement::While(condition, inner) => {
             let condition = check_expression(alloc, &here.scope, condition)?;
-            let body = check_inner(alloc, functions, looping(place), here, inner)?;
-            let behind = Box::new(alloc, Action::Nothing)?;
-            Ok(Action::Loop(condition.term, body, behind))
+            let body = check_inner(alloc, functions, looping(place), here, inner);
+            let (condition, body) = beside(condition.term, body)?;
+            let (condition, behind) = beside(condition, nothing(alloc))?;
+            Ok(Action::Loop(condition, body, behind))
         }
-        Statement::For(start, condition, step, inner) => {
+        Statement::For(head, inner) => {
+            let ForHead {
+                start,
+                condition,
+                step,
+            } = &**head;
             check_for(
                 alloc,
                 functions,
@@ -183,7 +202,8 @@ fn check_for(
 {
     let mark = here.scope.len();
     let heads = check_heads(alloc, place.depth, here, start, condition, step)?;
-    let body = check_statement(alloc, functions, looping(place), here, inner)?;
+    let body = check_statement(alloc, functions, looping(place), here, inner);
+    let (heads, body) = beside(heads, body)?;
     leave(here, mark);
     Ok(heads.around(alloc, body)?)
 }

@@ -20,15 +20,15 @@ have x ts = Ok (x, ts)
 -- what a loop makes of its body
 abbrev pub looped : Loop → StatementTree → StatementTree
 looped (L.While e) s = T.While (expression_tree e) s
-looped (L.For start e step) s = T.For (start_tree start) (optional_tree expression_tree e) (optional_tree set_tree step) s
+looped (L.For head) s = T.For (start_tree head.value.start) (optional_tree expression_tree head.value.condition) (optional_tree set_tree head.value.step) s
 
 abbrev pub behind_if : Below → ExpressionTree → Reading StatementTree
 behind_if below e ts = made (λ v. branched v.0 v.1.0 v.1.1) (have e & branches_in below) ts
 
 abbrev pub behind_loop : Below → Loop → Reading StatementTree
 behind_loop below (L.While e) ts = made (λ v. T.While v.0 v.1) (have (expression_tree e) & below false) ts
-behind_loop below (L.For start e step) ts = made (λ v. T.For v.0 v.1.0 v.1.1.0 v.1.1.1)
-    (have (start_tree start) & have (optional_tree expression_tree e) & have (optional_tree set_tree step) & below false) ts
+behind_loop below (L.For head) ts = made (λ v. T.For v.0 v.1.0 v.1.1.0 v.1.1.1)
+    (have (start_tree head.value.start) & have (optional_tree expression_tree head.value.condition) & have (optional_tree set_tree head.value.step) & below false) ts
 
 abbrev pub behind_head : Below → Head → Reading StatementTree
 behind_head below (H.Whole s) ts = have (statement_tree s) ts

@@ -5,6 +5,7 @@ ghost use Rattle.c_tree.specs.Views.{optional_tree, expression_tree, set_tree};
 ghost use Rattle.c_statement_laws.specs.Reading.{Below, condition, step, by_first, if_in, while_in, for_in};
 ghost use Rattle.c_statements.specs.Heads.{behind_if, behind_loop, behind_head};
 
+use crate::beside::beside;
 use crate::parts::{read_set, read_start};
 use crate::simple::{
     read_assign, read_break, read_call_statement, read_continue, read_empty, read_local_statement,
@@ -14,15 +15,14 @@ use c_expressions::expression;
 use c_reading::{Fault, is_sign_next, misfit, read_sign, read_word};
 use c_statement_laws::First;
 use c_tokens::{Keyword, Punctuator, Token};
-use c_tree::{Expression, ForStart, Set, Statement};
+use c_tree::{Expression, ForHead, ForStart, Set, Statement};
 use std::alloc::Global;
 
 /// How a loop begins, up to its body.
 #[derive(Drop)]
 pub(crate) enum Loop {
     While(Expression),
-    /// How it begins, its condition, and what is set behind each turn.
-    For(ForStart, Option<Expression>, Option<Set>),
+    For(Box<ForHead>),
 }
 
 /// What a statement begins with, up to a statement inside it.
@@ -46,7 +46,7 @@ fn read_if_head(alloc: Global, room: u8, tokens: &[Token]) -> Result<(Expression
     let rest = read_word(Keyword::If, tokens)?;
     let rest = read_sign(Punctuator::LeftParenthesis, rest)?;
     let (condition, rest) = expression(alloc, room, 0, rest)?;
-    let rest = read_sign(Punctuator::RightParenthesis, rest)?;
+    let (condition, rest) = beside(condition, read_sign(Punctuator::RightParenthesis, rest))?;
     Ok((condition, rest))
 }
 
@@ -58,7 +58,7 @@ fn read_while_head(alloc: Global, room: u8, tokens: &[Token]) -> Result<(Loop, &
     let rest = read_word(Keyword::While, tokens)?;
     let rest = read_sign(Punctuator::LeftParenthesis, rest)?;
     let (condition, rest) = expression(alloc, room, 0, rest)?;
-    let rest = read_sign(Punctuator::RightParenthesis, rest)?;
+    let (condition, rest) = beside(condition, read_sign(Punctuator::RightParenthesis, rest))?;
     Ok((Loop::While(condition), rest))
 }
 
@@ -90,6 +90,26 @@ fn read_step(alloc: Global, room: u8, tokens: &[Token]) -> Result<(Option<Set>, 
     Ok((Some(step), rest))
 }
 
+/// The head of a `for` in a box.
+fn boxed(
+    alloc: Global,
+    start: ForStart,
+    condition: Option<Expression>,
+    step: Option<Set>,
+) -> Result<Box<ForHead>, Fault>
+    ensures ok { IfOk result (λ b. b.value ≡ record { start = start; condition = condition; step = step }) }
+    ensures err { IfErr result (λ e. e ≡ Fault.NoMemory) }
+{
+    Ok(Box::new(
+        alloc,
+        ForHead {
+            start,
+            condition,
+            step,
+        },
+    )?)
+}
+
 #[tactic(auto, unfolding(c_statement_laws::specs::Reading::for_in))]
 fn read_for_head(alloc: Global, room: u8, tokens: &[Token]) -> Result<(Loop, &[Token]), Fault>
     ensures ok { IfOk result (λ r. (below : Below) → for_in below room tokens.now ≡ behind_loop below r.0 r.1.now) }
@@ -98,11 +118,12 @@ fn read_for_head(alloc: Global, room: u8, tokens: &[Token]) -> Result<(Loop, &[T
     let rest = read_word(Keyword::For, tokens)?;
     let rest = read_sign(Punctuator::LeftParenthesis, rest)?;
     let (start, rest) = read_start(alloc, room, rest)?;
-    let (condition, rest) = read_condition(alloc, room, rest)?;
-    let rest = read_sign(Punctuator::Semicolon, rest)?;
-    let (step, rest) = read_step(alloc, room, rest)?;
-    let rest = read_sign(Punctuator::RightParenthesis, rest)?;
-    Ok((Loop::For(start, condition, step), rest))
+    let (start, (condition, rest)) = beside(start, read_condition(alloc, room, rest))?;
+    let (parts, rest) = beside((start, condition), read_sign(Punctuator::Semicolon, rest))?;
+    let (parts, (step, rest)) = beside(parts, read_step(alloc, room, rest))?;
+    let (parts, rest) = beside((parts, step), read_sign(Punctuator::RightParenthesis, rest))?;
+    let ((start, condition), step) = parts;
+    Ok((Loop::For(boxed(alloc, start, condition, step)?), rest))
 }
 
 /// What begins so, up to a statement inside it; its parts have this room.

@@ -2,6 +2,7 @@
 //! fault from the front. A room bounds the height of what is read.
 #![tactic(auto)]
 
+mod beside;
 mod first;
 mod heads;
 mod parts;

@@ -7,6 +7,7 @@ ghost use Rattle.c_expression_laws.specs.Reading.{expression_at};
 ghost use Rattle.c_productions.specs.Combining.{commas};
 ghost use Rattle.c_productions.specs.Parts.{less, name, arguments, call, value, is_cell_next, cell, place, set, local_value, local, start_local, start_set, start};
 
+use crate::beside::beside;
 use c_expressions::expression;
 use c_reading::{
     Fault, is_call_next, is_name_next, is_sign_next, is_type_next, read_name, read_sign, read_type,
@@ -94,9 +95,13 @@ pub(crate) fn read_call(
 {
     let below = one_less(room)?;
     let (callee, rest) = read_name_in(alloc, below, tokens)?;
-    let rest = read_sign(Punctuator::LeftParenthesis, rest)?;
-    let (arguments, rest) = read_arguments(alloc, below, rest)?;
-    let rest = read_sign(Punctuator::RightParenthesis, rest)?;
+    let (callee, rest) = beside(callee, read_sign(Punctuator::LeftParenthesis, rest))?;
+    let (callee, (arguments, rest)) = beside(callee, read_arguments(alloc, below, rest))?;
+    let (parts, rest) = beside(
+        (callee, arguments),
+        read_sign(Punctuator::RightParenthesis, rest),
+    )?;
+    let (callee, arguments) = parts;
     Ok((Call { callee, arguments }, rest))
 }
 
@@ -137,9 +142,10 @@ fn read_cell(alloc: Global, room: u8, tokens: &[Token]) -> Result<(Place, &[Toke
 {
     let below = one_less(room)?;
     let (array, rest) = read_name_in(alloc, below, tokens)?;
-    let rest = read_sign(Punctuator::LeftBracket, rest)?;
-    let (index, rest) = expression(alloc, below, 0, rest)?;
-    let rest = read_sign(Punctuator::RightBracket, rest)?;
+    let (array, rest) = beside(array, read_sign(Punctuator::LeftBracket, rest))?;
+    let (array, (index, rest)) = beside(array, expression(alloc, below, 0, rest))?;
+    let (cell, rest) = beside((array, index), read_sign(Punctuator::RightBracket, rest))?;
+    let (array, index) = cell;
     Ok((Place::Element(array, index), rest))
 }
 
@@ -163,8 +169,8 @@ pub(crate) fn read_set(alloc: Global, room: u8, tokens: &[Token]) -> Result<(Set
 {
     let below = one_less(room)?;
     let (place, rest) = read_place(alloc, below, tokens)?;
-    let rest = read_sign(Punctuator::Assign, rest)?;
-    let (value, rest) = expression(alloc, below, 0, rest)?;
+    let (place, rest) = beside(place, read_sign(Punctuator::Assign, rest))?;
+    let (place, (value, rest)) = beside(place, expression(alloc, below, 0, rest))?;
     Ok((Set { place, value }, rest))
 }
 
@@ -197,8 +203,9 @@ pub(crate) fn read_local(
 {
     let (kind, rest) = read_type(tokens)?;
     let (name, rest) = read_name_in(alloc, room, rest)?;
-    let (value, rest) = read_local_value(alloc, room, rest)?;
-    let rest = read_sign(Punctuator::Semicolon, rest)?;
+    let (name, (value, rest)) = beside(name, read_local_value(alloc, room, rest))?;
+    let (parts, rest) = beside((name, value), read_sign(Punctuator::Semicolon, rest))?;
+    let (name, value) = parts;
     Ok((Local { kind, name, value }, rest))
 }
 
@@ -214,9 +221,10 @@ fn read_start_local(
     let (kind, rest) = read_type(tokens)?;
     let below = one_less(room)?;
     let (name, rest) = read_name_in(alloc, below, rest)?;
-    let rest = read_sign(Punctuator::Assign, rest)?;
-    let (value, rest) = expression(alloc, below, 0, rest)?;
-    let rest = read_sign(Punctuator::Semicolon, rest)?;
+    let (name, rest) = beside(name, read_sign(Punctuator::Assign, rest))?;
+    let (name, (value, rest)) = beside(name, expression(alloc, below, 0, rest))?;
+    let (parts, rest) = beside((name, value), read_sign(Punctuator::Semicolon, rest))?;
+    let (name, value) = parts;
     Ok((ForStart::Local(kind, name, value), rest))
 }
 
@@ -226,7 +234,7 @@ fn read_start_set(alloc: Global, room: u8, tokens: &[Token]) -> Result<(ForStart
     ensures err { IfErr result (λ e. e ≢ Fault.NoMemory → start_set room tokens.now ≡ Err e) }
 {
     let (set, rest) = read_set(alloc, room, tokens)?;
-    let rest = read_sign(Punctuator::Semicolon, rest)?;
+    let (set, rest) = beside(set, read_sign(Punctuator::Semicolon, rest))?;
     Ok((ForStart::Set(set), rest))
 }
 

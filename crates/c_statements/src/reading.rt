@@ -9,12 +9,35 @@ ghost use Rattle.c_reading.specs.Peeking.{is_word_next};
 ghost use Rattle.c_statement_laws.specs.Reading.{branched, items_in, block_in, else_in, branches_in, statement_at};
 ghost use Rattle.c_statements.specs.Heads.{behind_head, looped};
 
+use crate::beside::beside;
 use crate::first::{first_of, too_high};
 use crate::heads::{Head, Loop, read_head};
 use c_reading::{Fault, is_sign_next, is_word_next, read_sign, read_word};
 use c_tokens::{Keyword, Punctuator, Token};
 use c_tree::{Expression, Statement};
 use std::alloc::Global;
+
+/// A statement in a box.
+fn boxed(alloc: Global, statement: Statement) -> Result<Box<Statement>, Fault>
+    ensures ok { IfOk result (λ b. b.value ≡ statement) }
+    ensures err { IfErr result (λ e. e ≡ Fault.NoMemory) }
+{
+    Ok(Box::new(alloc, statement)?)
+}
+
+/// An `if` with `else`.
+fn branched_twice(
+    alloc: Global,
+    condition: Expression,
+    then: Box<Statement>,
+    other: Statement,
+) -> Result<Statement, Fault>
+    ensures ok { IfOk result (λ s. statement_tree s ≡ T.IfElse (expression_tree condition) (statement_tree then.value) (statement_tree other)) }
+    ensures err { IfErr result (λ e. e ≡ Fault.NoMemory) }
+{
+    let ((condition, then), other) = beside((condition, then), boxed(alloc, other))?;
+    Ok(Statement::IfElse(condition, then, other))
+}
 
 /// What an `if` makes of its condition, its statement, and what stands behind `else`.
 fn branched(
@@ -26,13 +49,10 @@ fn branched(
     ensures err { IfErr result (λ e. e ≡ Fault.NoMemory) }
 {
     let (then, other) = branches;
-    let then = Box::new(alloc, then)?;
+    let ((condition, other), then) = beside((condition, other), boxed(alloc, then))?;
     match other {
         None => Ok(Statement::If(condition, then)),
-        Some(other) => {
-            let other = Box::new(alloc, other)?;
-            Ok(Statement::IfElse(condition, then, other))
-        }
+        Some(other) => branched_twice(alloc, condition, then, other),
     }
 }
 
@@ -41,10 +61,10 @@ fn looped(alloc: Global, head: Loop, body: Statement) -> Result<Statement, Fault
     ensures ok { IfOk result (λ s. statement_tree s ≡ looped head (statement_tree body)) }
     ensures err { IfErr result (λ e. e ≡ Fault.NoMemory) }
 {
-    let body = Box::new(alloc, body)?;
+    let (head, body) = beside(head, boxed(alloc, body))?;
     match head {
         Loop::While(condition) => Ok(Statement::While(condition, body)),
-        Loop::For(start, condition, step) => Ok(Statement::For(start, condition, step, body)),
+        Loop::For(head) => Ok(Statement::For(head, body)),
     }
 }
 
@@ -62,15 +82,6 @@ fn block_of(statements: Vec<Statement>) -> Statement
     ensures { statement_tree result ≡ T.Block (statements_tree statements.items) }
 {
     Statement::Block(fitted(statements))
-}
-
-/// What was read before, beside what is read behind it.
-fn beside<A: Drop, B>(before: A, behind: Result<B, Fault>) -> Result<(A, B), Fault>
-    ensures ok { IfOk result (λ r. (r.0 ≡ before) × (behind ≡ Ok r.1)) }
-    ensures err { IfErr result (λ e. behind ≡ Err e) }
-{
-    let behind = behind?;
-    Ok((before, behind))
 }
 
 /// Whether an `else` is next: it belongs to the `if` whose statement was just read, the nearest

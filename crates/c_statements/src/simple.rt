@@ -7,6 +7,7 @@ ghost use Rattle.c_productions.specs.Combining.{made};
 ghost use Rattle.c_productions.specs.Parts.{local};
 ghost use Rattle.c_statement_laws.specs.Reading.{empty, call_statement, assign, store, break_statement, continue_statement, returned, return_statement};
 
+use crate::beside::beside;
 use crate::parts::{one_less, read_call, read_local, read_name_in, read_value};
 use c_expressions::expression;
 use c_reading::{Fault, is_sign_next, read_placed_word, read_sign};
@@ -45,7 +46,7 @@ pub(crate) fn read_call_statement(
     ensures err { IfErr result (λ e. e ≢ Fault.NoMemory → call_statement room tokens.now ≡ Err e) }
 {
     let (call, rest) = read_call(alloc, room, tokens)?;
-    let rest = read_sign(Punctuator::Semicolon, rest)?;
+    let (call, rest) = beside(call, read_sign(Punctuator::Semicolon, rest))?;
     Ok((Statement::Call(call), rest))
 }
 
@@ -59,9 +60,9 @@ pub(crate) fn read_assign(
     ensures err { IfErr result (λ e. e ≢ Fault.NoMemory → assign room tokens.now ≡ Err e) }
 {
     let (name, rest) = read_name_in(alloc, room, tokens)?;
-    let rest = read_sign(Punctuator::Assign, rest)?;
-    let (value, rest) = read_value(alloc, room, rest)?;
-    let rest = read_sign(Punctuator::Semicolon, rest)?;
+    let (name, rest) = beside(name, read_sign(Punctuator::Assign, rest))?;
+    let (name, (value, rest)) = beside(name, read_value(alloc, room, rest))?;
+    let ((name, value), rest) = beside((name, value), read_sign(Punctuator::Semicolon, rest))?;
     Ok((Statement::Assign(name, value), rest))
 }
 
@@ -76,12 +77,13 @@ pub(crate) fn read_store(
 {
     let below = one_less(room)?;
     let (array, rest) = read_name_in(alloc, below, tokens)?;
-    let rest = read_sign(Punctuator::LeftBracket, rest)?;
-    let (index, rest) = expression(alloc, below, 0, rest)?;
-    let rest = read_sign(Punctuator::RightBracket, rest)?;
-    let rest = read_sign(Punctuator::Assign, rest)?;
-    let (value, rest) = expression(alloc, room, 0, rest)?;
-    let rest = read_sign(Punctuator::Semicolon, rest)?;
+    let (array, rest) = beside(array, read_sign(Punctuator::LeftBracket, rest))?;
+    let (array, (index, rest)) = beside(array, expression(alloc, below, 0, rest))?;
+    let (cell, rest) = beside((array, index), read_sign(Punctuator::RightBracket, rest))?;
+    let (cell, rest) = beside(cell, read_sign(Punctuator::Assign, rest))?;
+    let (cell, (value, rest)) = beside(cell, expression(alloc, room, 0, rest))?;
+    let (parts, rest) = beside((cell, value), read_sign(Punctuator::Semicolon, rest))?;
+    let ((array, index), value) = parts;
     Ok((Statement::Store(array, index, value), rest))
 }
 
@@ -131,6 +133,6 @@ pub(crate) fn read_return(
 {
     let (at, rest) = read_placed_word(Keyword::Return, tokens)?;
     let (value, rest) = read_returned(alloc, room, rest)?;
-    let rest = read_sign(Punctuator::Semicolon, rest)?;
+    let (value, rest) = beside(value, read_sign(Punctuator::Semicolon, rest))?;
     Ok((Statement::Return(at, value), rest))
 }

@@ -71,7 +71,7 @@ abbrev mutual
   statement_tree (S.If' e p s) = T.If (expression_tree e) (statement_tree s)
   statement_tree (S.IfElse' e p s q t) = T.IfElse (expression_tree e) (statement_tree s) (statement_tree t)
   statement_tree (S.While' e p s) = T.While (expression_tree e) (statement_tree s)
-  statement_tree (S.For' start e step p s) = T.For (start_tree start) (optional_tree expression_tree e) (optional_tree set_tree step) (statement_tree s)
+  statement_tree (S.For' head p s) = T.For (start_tree head.value.start) (optional_tree expression_tree head.value.condition) (optional_tree set_tree head.value.step) (statement_tree s)
   statement_tree (S.Break at) = T.Break at
   statement_tree (S.Continue at) = T.Continue at
   statement_tree (S.Return at v) = T.Return at (optional_tree value_tree v)

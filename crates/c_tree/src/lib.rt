@@ -13,4 +13,4 @@ pub use declaration::{
 };
 pub use expression::{BinaryOperator, Expression, UnaryOperator};
 pub use identifier::Identifier;
-pub use statement::{Call, ForStart, Local, Place, Set, Statement, Value};
+pub use statement::{Call, ForHead, ForStart, Local, Place, Set, Statement, Value};

@@ -48,6 +48,14 @@ pub enum ForStart {
     Local(IntegerType, Identifier, Expression),
 }
 
+/// What stands between the parentheses of a `for`: how it begins, its condition, and what is set behind each turn.
+#[derive(Drop)]
+pub struct ForHead {
+    pub start: ForStart,
+    pub condition: Option<Expression>,
+    pub step: Option<Set>,
+}
+
 /// A statement (C99 6.8), or the declaration of a local, which stands in a block alone.
 #[derive(Drop)]
 pub enum Statement {
@@ -62,8 +70,8 @@ pub enum Statement {
     If(Expression, Box<Statement>),
     IfElse(Expression, Box<Statement>, Box<Statement>),
     While(Expression, Box<Statement>),
-    /// How it begins, its condition, what is set behind each turn, and its body.
-    For(ForStart, Option<Expression>, Option<Set>, Box<Statement>),
+    /// What stands between its parentheses, apart since it is far larger than the parts of the others, and its body.
+    For(Box<ForHead>, Box<Statement>),
     /// The byte offset of the keyword.
     Break(usize),
     /// The byte offset of the keyword.

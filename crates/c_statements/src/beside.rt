@@ -1,0 +1,14 @@
+//! Keeping what was read while more is read.
+
+ghost use Rattle.std.specs.Prelude.{◌≡◌, IfOk, IfErr, Ok, Err};
+
+use c_reading::Fault;
+
+/// What was read before, beside what is read behind it.
+pub(crate) fn beside<A: Drop, B>(before: A, behind: Result<B, Fault>) -> Result<(A, B), Fault>
+    ensures ok { IfOk result (λ r. (r.0 ≡ before) × (behind ≡ Ok r.1)) }
+    ensures err { IfErr result (λ e. behind ≡ Err e) }
+{
+    let behind = behind?;
+    Ok((before, behind))
+}
