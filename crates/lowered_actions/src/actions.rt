@@ -7,7 +7,7 @@ ghost use Rattle.cminor_tree.specs.Fits.{StatementFits};
 ghost use Rattle.cminor_tree.specs.Views.{statement_tree};
 ghost use Rattle.lowering.specs.Actions.{low_action};
 
-use crate::parts::turns;
+use crate::parts::{beside, boxed, turns};
 use crate::values::lower_given;
 use c_program::Action;
 use cminor_bytes::sequence;
@@ -39,25 +39,36 @@ fn lower_action(alloc: Global, spare: u16, action: &Action) -> Result<Statement,
         Action::Give(target, value) => lower_given(alloc, spare, *target, value),
         Action::Store(global, index, word) => {
             let index = lower_term(alloc, index)?;
-            let word = lower_term(alloc, word)?;
+            let (index, word) = beside(index, lower_term(alloc, word))?;
             Ok(Statement::Store(*global as u16, index, word))
         }
         Action::If(condition, then, other) => {
             let condition = lower_term(alloc, condition)?;
-            let then = Box::new(alloc, lower_action(alloc, spare, then)?)?;
-            let other = Box::new(alloc, lower_action(alloc, spare, other)?)?;
+            let (condition, then) = beside(condition, lower_boxed(alloc, spare, then))?;
+            let (parts, other) = beside((condition, then), lower_boxed(alloc, spare, other))?;
+            let (condition, then) = parts;
             Ok(Statement::If(condition, then, other))
         }
         Action::Loop(condition, body, behind) => {
             let condition = lower_term(alloc, condition)?;
-            let body = lower_action(alloc, spare, body)?;
-            let behind = lower_action(alloc, spare, behind)?;
+            let (condition, body) = beside(condition, lower_action(alloc, spare, body))?;
+            let (parts, behind) = beside((condition, body), lower_action(alloc, spare, behind))?;
+            let (condition, body) = parts;
             turns(alloc, condition, body, behind)
         }
         Action::Break => Ok(Statement::Exit(1)),
         Action::Continue => Ok(Statement::Exit(0)),
         Action::Leave => Ok(Statement::Return(None)),
     }
+}
+
+/// The statement that an action stands for, in a box.
+#[cycle(lowering)]
+fn lower_boxed(alloc: Global, spare: u16, action: &Action) -> Result<Box<Statement>, NoMemory>
+    requires { StatementFits 65536 (low_action spare (action_tree action.now)) }
+    ensures { IfOk result (λ b. statement_tree b.value ≡ low_action spare (action_tree action.now)) }
+{
+    boxed(alloc, lower_action(alloc, spare, action)?)
 }
 
 /// The statements that some actions stand for.

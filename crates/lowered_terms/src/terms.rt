@@ -4,15 +4,34 @@ ghost use Rattle.std.specs.Prelude.{◌≡◌, All, IfOk, map};
 ghost use Rattle.c_program.specs.Views.{term_tree};
 ghost use Rattle.cminor_tree.specs.Fits.{ExpressionFits};
 ghost use Rattle.cminor_tree.specs.Views.{expression_tree};
-ghost use Rattle.lowering.specs.Terms.{low_term};
+ghost use Rattle.lowering.specs.Terms.{low_term, truth_of};
 
-use crate::parts::{choice, truth};
+use crate::parts::{beside, boxed, choice, truth};
 use c_program::Term;
 use cminor_tree::Expression;
 use lang::NoMemory;
 use std::alloc::Global;
 
+/// The expression that a term stands for, in a box.
+#[cycle(lowering)]
+fn lower_boxed(alloc: Global, term: &Term) -> Result<Box<Expression>, NoMemory>
+    requires { ExpressionFits 65536 (low_term (term_tree term.now)) }
+    ensures { IfOk result (λ b. expression_tree b.value ≡ low_term (term_tree term.now)) }
+{
+    boxed(alloc, lower_term(alloc, term)?)
+}
+
+/// The expression of whether a term gives a word that is not 0.
+#[cycle(lowering)]
+fn lower_truth(alloc: Global, term: &Term) -> Result<Expression, NoMemory>
+    requires { ExpressionFits 65536 (low_term (term_tree term.now)) }
+    ensures { IfOk result (λ e. expression_tree e ≡ truth_of (low_term (term_tree term.now))) }
+{
+    truth(alloc, lower_term(alloc, term)?)
+}
+
 /// The expression that a term stands for. Each number in it has room in its field.
+#[cycle(lowering)]
 pub fn lower_term(alloc: Global, term: &Term) -> Result<Expression, NoMemory>
     requires { ExpressionFits 65536 (low_term (term_tree term.now)) }
     ensures { IfOk result (λ e. expression_tree e ≡ low_term (term_tree term.now)) }
@@ -21,32 +40,29 @@ pub fn lower_term(alloc: Global, term: &Term) -> Result<Expression, NoMemory>
         Term::Constant(word) => Ok(Expression::Constant(*word)),
         Term::Local(number) => Ok(Expression::Variable(*number as u16)),
         Term::Cell(global, index) => {
-            let index = lower_term(alloc, index)?;
-            Ok(Expression::Load(*global as u16, Box::new(alloc, index)?))
+            Ok(Expression::Load(*global as u16, lower_boxed(alloc, index)?))
         }
-        Term::Unary(op, operand) => {
-            let operand = lower_term(alloc, operand)?;
-            Ok(Expression::Unary(*op, Box::new(alloc, operand)?))
-        }
+        Term::Unary(op, operand) => { Ok(Expression::Unary(*op, lower_boxed(alloc, operand)?)) }
         Term::Binary(op, first, second) => {
-            let first = Box::new(alloc, lower_term(alloc, first)?)?;
-            let second = Box::new(alloc, lower_term(alloc, second)?)?;
+            let first = lower_boxed(alloc, first)?;
+            let (first, second) = beside(first, lower_boxed(alloc, second))?;
             Ok(Expression::Binary(*op, first, second))
         }
         Term::Both(first, second) => {
             let first = lower_term(alloc, first)?;
-            let second = truth(alloc, lower_term(alloc, second)?)?;
+            let (first, second) = beside(first, lower_truth(alloc, second))?;
             choice(alloc, first, second, Expression::Constant(0))
         }
         Term::Either(first, second) => {
             let first = lower_term(alloc, first)?;
-            let second = truth(alloc, lower_term(alloc, second)?)?;
+            let (first, second) = beside(first, lower_truth(alloc, second))?;
             choice(alloc, first, Expression::Constant(1), second)
         }
         Term::Conditional(condition, then, other) => {
             let condition = lower_term(alloc, condition)?;
-            let then = lower_term(alloc, then)?;
-            let other = lower_term(alloc, other)?;
+            let (condition, then) = beside(condition, lower_term(alloc, then))?;
+            let (parts, other) = beside((condition, then), lower_term(alloc, other))?;
+            let (condition, then) = parts;
             choice(alloc, condition, then, other)
         }
     }
