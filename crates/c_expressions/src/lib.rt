@@ -4,6 +4,7 @@
 
 mod measured;
 mod operators;
+mod owned;
 mod reading;
 
 pub use c_expression_laws::{fault_is_due, one_tree, read_is_spelled, spelled_is_read};

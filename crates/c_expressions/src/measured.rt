@@ -5,6 +5,7 @@ ghost use Rattle.c_tree.specs.Trees.{Number, Variable, Element, Parenthesis, Cas
 ghost use Rattle.c_tree.specs.Views.{expression_tree};
 ghost use Rattle.c_tree.specs.Heights.{expression_height};
 
+use crate::owned::{beside, boxes};
 use c_reading::Fault;
 use c_tokens::{Constant, IntegerType};
 use c_tree::{BinaryOperator, Expression, Identifier, UnaryOperator};
@@ -93,8 +94,7 @@ impl Measured {
         ensures err { IfErr result (λ e. e ≡ Fault.NoMemory) }
     {
         let height = 1 + left.height.max(right.height);
-        let left = Box::new(alloc, left.expression)?;
-        let right = Box::new(alloc, right.expression)?;
+        let (left, right) = boxes(alloc, left.expression, right.expression)?;
         Ok(Measured {
             expression: Expression::Binary(operator, left, right),
             height,
@@ -114,9 +114,9 @@ impl Measured {
         ensures err { IfErr result (λ e. e ≡ Fault.NoMemory) }
     {
         let height = 1 + condition.height.max(then.height.max(other.height));
-        let condition = Box::new(alloc, condition.expression)?;
-        let then = Box::new(alloc, then.expression)?;
-        let other = Box::new(alloc, other.expression)?;
+        let both = boxes(alloc, condition.expression, then.expression);
+        let (other, (condition, then)) = beside(other.expression, both)?;
+        let other = Box::new(alloc, other)?;
         Ok(Measured {
             expression: Expression::Conditional(condition, then, other),
             height,

@@ -7,6 +7,7 @@ ghost use Rattle.c_expression_laws.specs.Reading.{operated, chosen, if_room, cha
 
 use crate::measured::Measured;
 use crate::operators::{binary_sign, binding, deep, next, unary_operator, unary_sign};
+use crate::owned::beside;
 use c_expression_laws::Next;
 use c_reading::{
     Fault, is_sign_next, is_type_next, misfit, read_constant, read_name, read_sign, read_type,
@@ -114,9 +115,10 @@ fn indexed(
     ensures ok { IfOk result (λ r. indexed (expression_at below) array tokens.now ≡ Ok (expression_tree r.0.expression, r.1.now)) }
     ensures err { IfErr result (λ e. e ≢ Fault.NoMemory → indexed (expression_at below) array tokens.now ≡ Err e) }
 {
-    let inner = read_sign(Punctuator::LeftBracket, tokens)?;
-    let (index, behind) = read_at(alloc, below, 0, inner)?;
-    let rest = read_sign(Punctuator::RightBracket, behind)?;
+    let (array, inner) = beside(array, read_sign(Punctuator::LeftBracket, tokens))?;
+    let (array, (index, behind)) = beside(array, read_at(alloc, below, 0, inner))?;
+    let (cell, rest) = beside((array, index), read_sign(Punctuator::RightBracket, behind))?;
+    let (array, index) = cell;
     Ok((Measured::element(alloc, array, index)?, rest))
 }
 
@@ -156,7 +158,7 @@ fn enclosed(alloc: Global, below: u8, tokens: &[Token]) -> Result<(Measured, &[T
     ensures err { IfErr result (λ e. e ≢ Fault.NoMemory → enclosed (expression_at below) tokens.now ≡ Err e) }
 {
     let (inner, behind) = read_at(alloc, below, 0, tokens)?;
-    let rest = read_sign(Punctuator::RightParenthesis, behind)?;
+    let (inner, rest) = beside(inner, read_sign(Punctuator::RightParenthesis, behind))?;
     Ok((Measured::parenthesis(alloc, inner)?, rest))
 }
 
@@ -227,8 +229,9 @@ fn operated(
     if left.height > u16::from(below) {
         return Err(Fault::TooDeep);
     }
-    let inner = read_sign(binary_sign(operator), tokens)?;
-    let (right, rest) = read_at(alloc, below, binding(operator) + 1, inner)?;
+    let (left, inner) = beside(left, read_sign(binary_sign(operator), tokens))?;
+    let right = read_at(alloc, below, binding(operator) + 1, inner);
+    let (left, (right, rest)) = beside(left, right)?;
     Ok((Measured::binary(alloc, operator, left, right)?, rest))
 }
 
@@ -247,9 +250,10 @@ fn chosen(
     if condition.height > u16::from(below) {
         return Err(Fault::TooDeep);
     }
-    let inner = read_sign(Punctuator::Question, tokens)?;
-    let (then, behind) = read_at(alloc, below, 0, inner)?;
-    let inner = read_sign(Punctuator::Colon, behind)?;
-    let (other, rest) = read_at(alloc, below, 0, inner)?;
+    let (condition, inner) = beside(condition, read_sign(Punctuator::Question, tokens))?;
+    let (condition, (then, behind)) = beside(condition, read_at(alloc, below, 0, inner))?;
+    let (parts, inner) = beside((condition, then), read_sign(Punctuator::Colon, behind))?;
+    let (parts, (other, rest)) = beside(parts, read_at(alloc, below, 0, inner))?;
+    let (condition, then) = parts;
     Ok((Measured::conditional(alloc, condition, then, other)?, rest))
 }

@@ -9,6 +9,7 @@ ghost use Rattle.c_rules.specs.Terms.{term_of};
 ghost use Rattle.c_rules.specs.Expressions.{expression_faults};
 
 use crate::names::{array, variable};
+use crate::owned::beside;
 use crate::typed::{Typed, binary, conditional, unary};
 use c_program::Term;
 use c_rules::{CheckError, Meaning};
@@ -51,13 +52,14 @@ pub fn check_expression(
         }
         Expression::Binary(operator, left, right) => {
             let left = check_expression(alloc, scope, left)?;
-            let right = check_expression(alloc, scope, right)?;
+            let (left, right) = beside(left, check_expression(alloc, scope, right))?;
             Ok(binary(alloc, *operator, left, right)?)
         }
         Expression::Conditional(condition, left, right) => {
             let condition = check_expression(alloc, scope, condition)?;
-            let left = check_expression(alloc, scope, left)?;
-            let right = check_expression(alloc, scope, right)?;
+            let (condition, left) = beside(condition, check_expression(alloc, scope, left))?;
+            let (parts, right) = beside((condition, left), check_expression(alloc, scope, right))?;
+            let (condition, left) = parts;
             Ok(conditional(alloc, condition, left, right)?)
         }
     }

@@ -7,6 +7,7 @@ mod constants;
 mod expressions;
 mod functions;
 mod names;
+mod owned;
 mod typed;
 
 pub use calls::{check_call, check_value, is_putchar};

@@ -6,6 +6,7 @@ ghost use Rattle.c_program.specs.Views.{term_tree};
 ghost use Rattle.c_rules.specs.Types.{common, unary_type, binary_type};
 ghost use Rattle.c_rules.specs.Terms.{by_type, unary_term, binary_term};
 
+use crate::owned::{beside, boxes};
 use c_program::Term;
 use c_tokens::IntegerType;
 use c_tree::{BinaryOperator, UnaryOperator};
@@ -95,8 +96,8 @@ fn binary_type(operator: BinaryOperator, left: IntegerType, right: IntegerType) 
 fn applied(alloc: Global, operator: Op, left: Term, right: Term) -> Result<Term, NoMemory>
     ensures { IfOk result (λ t. term_tree t ≡ P.Binary operator (term_tree left) (term_tree right)) }
 {
-    let left = Box::new(alloc, left)?;
-    Ok(Term::Binary(operator, left, Box::new(alloc, right)?))
+    let (left, right) = boxes(alloc, left, right)?;
+    Ok(Term::Binary(operator, left, right))
 }
 
 /// The term of an operator on two operands, of the types of its left operand and of both.
@@ -113,12 +114,12 @@ fn binary_term(
     let shifted = kinds.0;
     match operator {
         BinaryOperator::LogicalOr => {
-            let left = Box::new(alloc, left)?;
-            Ok(Term::Either(left, Box::new(alloc, right)?))
+            let (left, right) = boxes(alloc, left, right)?;
+            Ok(Term::Either(left, right))
         }
         BinaryOperator::LogicalAnd => {
-            let left = Box::new(alloc, left)?;
-            Ok(Term::Both(left, Box::new(alloc, right)?))
+            let (left, right) = boxes(alloc, left, right)?;
+            Ok(Term::Both(left, right))
         }
         BinaryOperator::Or => applied(alloc, Op::Or, left, right),
         BinaryOperator::Xor => applied(alloc, Op::Xor, left, right),
@@ -174,8 +175,8 @@ pub(crate) fn conditional(
     ensures term { IfOk result (λ t. term_tree t.term ≡ P.Conditional (term_tree condition.term) (term_tree left.term) (term_tree right.term)) }
 {
     let kind = common(left.kind, right.kind);
-    let condition = Box::new(alloc, condition.term)?;
-    let left = Box::new(alloc, left.term)?;
-    let term = Term::Conditional(condition, left, Box::new(alloc, right.term)?);
+    let behind = boxes(alloc, condition.term, left.term);
+    let (right, (condition, left)) = beside(right.term, behind)?;
+    let term = Term::Conditional(condition, left, Box::new(alloc, right)?);
     Ok(Typed { term, kind })
 }
