@@ -1,6 +1,6 @@
 //! Copies of trees and functions, equal to what they were made from.
 
-ghost use Rattle.std.specs.Prelude.{◌≡◌, IfOk, map};
+ghost use Rattle.std.specs.Prelude.{◌≡◌, IfOk, Ok, map};
 ghost use Rattle.cminor_tree.specs.Views.{expression_tree, statement_tree, statements_tree, optional_tree};
 
 use crate::function::Function;
@@ -9,6 +9,15 @@ use cminor_tree::{Expression, Statement};
 use lang::{NoMemory, Row};
 use std::alloc::Global;
 
+/// What was copied before, beside what is copied behind it.
+fn beside<A: Drop, B>(before: A, behind: Result<B, NoMemory>) -> Result<(A, B), NoMemory>
+    ensures { IfOk result (λ r. (r.0 ≡ before) × (behind ≡ Ok r.1)) }
+{
+    let behind = behind?;
+    Ok((before, behind))
+}
+
+#[cycle(expressions)]
 fn copy_expression(alloc: Global, expression: &Expression) -> Result<Expression, NoMemory>
     ensures { IfOk result (λ copied. expression_tree copied ≡ expression_tree expression.now) }
 {
@@ -16,25 +25,34 @@ fn copy_expression(alloc: Global, expression: &Expression) -> Result<Expression,
         Expression::Constant(word) => Ok(Expression::Constant(*word)),
         Expression::Variable(variable) => Ok(Expression::Variable(*variable)),
         Expression::Load(global, index) => {
-            let index = copy_expression(alloc, index)?;
-            Ok(Expression::Load(*global, Box::new(alloc, index)?))
+            Ok(Expression::Load(*global, copy_boxed_expression(alloc, index)?))
         }
         Expression::Unary(op, operand) => {
-            let operand = copy_expression(alloc, operand)?;
-            Ok(Expression::Unary(*op, Box::new(alloc, operand)?))
+            Ok(Expression::Unary(*op, copy_boxed_expression(alloc, operand)?))
         }
         Expression::Binary(op, left, right) => {
-            let left = Box::new(alloc, copy_expression(alloc, left)?)?;
-            let right = Box::new(alloc, copy_expression(alloc, right)?)?;
+            let left = copy_boxed_expression(alloc, left)?;
+            let right = copy_boxed_expression(alloc, right)?;
             Ok(Expression::Binary(*op, left, right))
         }
         Expression::Choice(condition, then, other) => {
-            let condition = Box::new(alloc, copy_expression(alloc, condition)?)?;
-            let then = Box::new(alloc, copy_expression(alloc, then)?)?;
-            let other = Box::new(alloc, copy_expression(alloc, other)?)?;
+            let condition = copy_boxed_expression(alloc, condition)?;
+            let then = copy_boxed_expression(alloc, then)?;
+            let other = copy_boxed_expression(alloc, other)?;
             Ok(Expression::Choice(condition, then, other))
         }
     }
+}
+
+#[cycle(expressions)]
+fn copy_boxed_expression(
+    alloc: Global,
+    expression: &Expression,
+) -> Result<Box<Expression>, NoMemory>
+    ensures { IfOk result (λ copied. expression_tree copied.value ≡ expression_tree expression.now) }
+{
+    let copied = copy_expression(alloc, expression)?;
+    Ok(Box::new(alloc, copied)?)
 }
 
 fn copy_expressions(alloc: Global, expressions: &[Expression]) -> Result<Vec<Expression>, NoMemory>
@@ -67,7 +85,8 @@ fn copy_statement(alloc: Global, statement: &Statement) -> Result<Statement, NoM
         }
         Statement::Store(global, index, value) => {
             let index = copy_expression(alloc, index)?;
-            Ok(Statement::Store(*global, index, copy_expression(alloc, value)?))
+            let (index, value) = beside(index, copy_expression(alloc, value))?;
+            Ok(Statement::Store(*global, index, value))
         }
         Statement::Call(callee, target, arguments) => {
             let arguments = copy_expressions(alloc, arguments.as_slice())?;
@@ -81,21 +100,24 @@ fn copy_statement(alloc: Global, statement: &Statement) -> Result<Statement, NoM
         }
         Statement::If(condition, then, other) => {
             let condition = copy_expression(alloc, condition)?;
-            let then = Box::new(alloc, copy_statement(alloc, then)?)?;
-            let other = Box::new(alloc, copy_statement(alloc, other)?)?;
+            let (condition, then) = beside(condition, copy_boxed(alloc, then))?;
+            let (parts, other) = beside((condition, then), copy_boxed(alloc, other))?;
+            let (condition, then) = parts;
             Ok(Statement::If(condition, then, other))
         }
-        Statement::Loop(body) => {
-            let body = copy_statement(alloc, body)?;
-            Ok(Statement::Loop(Box::new(alloc, body)?))
-        }
-        Statement::Block(body) => {
-            let body = copy_statement(alloc, body)?;
-            Ok(Statement::Block(Box::new(alloc, body)?))
-        }
+        Statement::Loop(body) => Ok(Statement::Loop(copy_boxed(alloc, body)?)),
+        Statement::Block(body) => Ok(Statement::Block(copy_boxed(alloc, body)?)),
         Statement::Exit(blocks) => Ok(Statement::Exit(*blocks)),
         Statement::Return(value) => Ok(Statement::Return(copy_returned(alloc, value)?)),
     }
+}
+
+#[cycle(copying)]
+fn copy_boxed(alloc: Global, statement: &Statement) -> Result<Box<Statement>, NoMemory>
+    ensures { IfOk result (λ copied. statement_tree copied.value ≡ statement_tree statement.now) }
+{
+    let copied = copy_statement(alloc, statement)?;
+    Ok(Box::new(alloc, copied)?)
 }
 
 #[cycle(copying)]

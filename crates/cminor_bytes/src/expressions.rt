@@ -1,15 +1,59 @@
 //! Readers of expressions. What calls itself does so with less room.
 
-ghost use Rattle.std.specs.Prelude.{◌≡◌};
+ghost use Rattle.std.specs.Prelude.{◌≡◌, IfOk, IfErr};
 ghost use Rattle.lang.specs.Reading.{Reads, made};
 ghost use Rattle.ints.specs.Codes.{argument_count_of};
+ghost use Rattle.cminor_tree.specs.Trees as T;
+ghost use Rattle.cminor_tree.specs.Views.{expression_tree};
 ghost use Rattle.cminor_forms.specs.Reading.{expression_of, too_high, load, operands, applied, operation, choice, expression_by_code, expression};
 
-use crate::parts::{read_global, read_variable};
+use crate::parts::{beside, read_global, read_variable};
 use cminor_tree::Expression;
 use ints::Op;
 use lang::{FormError, read_byte, read_u32};
 use std::alloc::Global;
+
+/// An expression in a box.
+fn boxed(alloc: Global, inner: Expression) -> Result<Box<Expression>, FormError>
+    ensures ok { IfOk result (λ b. expression_tree b.value ≡ expression_tree inner) }
+    ensures err { IfErr result (λ e. e ≡ FormError.NoMemory) }
+{
+    Ok(Box::new(alloc, inner)?)
+}
+
+/// An operator of two words on its operands.
+fn binary(
+    alloc: Global,
+    op: Op,
+    first: Expression,
+    second: Expression,
+) -> Result<Expression, FormError>
+    ensures ok { IfOk result (λ e. expression_tree e ≡ T.Binary op (expression_tree first) (expression_tree second)) }
+    ensures err { IfErr result (λ e. e ≡ FormError.NoMemory) }
+{
+    let (second, first) = beside(second, boxed(alloc, first))?;
+    let (first, second) = beside(first, boxed(alloc, second))?;
+    Ok(Expression::Binary(op, first, second))
+}
+
+/// A condition, the value where it is not 0, and the value where it is.
+fn chosen(
+    alloc: Global,
+    condition: Expression,
+    then: Expression,
+    other: Expression,
+) -> Result<Expression, FormError>
+    ensures ok { IfOk result (λ e. expression_tree e ≡ T.Choice (expression_tree condition) (expression_tree then) (expression_tree other)) }
+    ensures err { IfErr result (λ e. e ≡ FormError.NoMemory) }
+{
+    let (values, condition) = beside((then, other), boxed(alloc, condition))?;
+    let (then, other) = values;
+    let (parts, then) = beside((condition, other), boxed(alloc, then))?;
+    let (condition, other) = parts;
+    let (parts, other) = beside((condition, then), boxed(alloc, other))?;
+    let (condition, then) = parts;
+    Ok(Expression::Choice(condition, then, other))
+}
 
 /// A node for which no room is left.
 #[tactic(auto, unfolding(cminor_forms::specs::Reading::too_high))]
@@ -104,9 +148,8 @@ fn read_operands(
     if op.argument_count() == 1 {
         return Ok(Expression::Unary(op, Box::new(alloc, first)?));
     }
-    let second = read_expression(alloc, below, variables, bytes)?;
-    let first = Box::new(alloc, first)?;
-    Ok(Expression::Binary(op, first, Box::new(alloc, second)?))
+    let (first, second) = beside(first, read_expression(alloc, below, variables, bytes))?;
+    binary(alloc, op, first, second)
 }
 
 /// A condition and two values.
@@ -121,9 +164,9 @@ fn read_choice(
     ensures { Reads (choice (expression below variables) bytes.old.now) (expression_of result) bytes.new.now }
 {
     let condition = read_expression(alloc, below, variables, bytes)?;
-    let then = read_expression(alloc, below, variables, bytes)?;
-    let other = read_expression(alloc, below, variables, bytes)?;
-    let condition = Box::new(alloc, condition)?;
-    let then = Box::new(alloc, then)?;
-    Ok(Expression::Choice(condition, then, Box::new(alloc, other)?))
+    let (condition, then) = beside(condition, read_expression(alloc, below, variables, bytes))?;
+    let parts = (condition, then);
+    let (parts, other) = beside(parts, read_expression(alloc, below, variables, bytes))?;
+    let (condition, then) = parts;
+    chosen(alloc, condition, then, other)
 }

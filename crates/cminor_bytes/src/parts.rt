@@ -1,10 +1,22 @@
 //! Readers of the numbers in a function.
 
-ghost use Rattle.std.specs.Prelude.{◌≡◌};
+ghost use Rattle.std.specs.Prelude.{◌≡◌, IfOk, IfErr, Ok, Err};
 ghost use Rattle.lang.specs.Reading.{IsRead};
 ghost use Rattle.cminor_forms.specs.Reading.{variable, global, function_number, target, frame};
 
 use lang::{FormError, read_byte, read_count, read_u16, read_u16_below};
+
+/// What was read before, beside what is read behind it.
+pub(crate) fn beside<A: Drop, B>(
+    before: A,
+    behind: Result<B, FormError>,
+) -> Result<(A, B), FormError>
+    ensures ok { IfOk result (λ r. (r.0 ≡ before) × (behind ≡ Ok r.1)) }
+    ensures err { IfErr result (λ e. behind ≡ Err e) }
+{
+    let behind = behind?;
+    Ok((before, behind))
+}
 
 /// One of so many variables.
 #[tactic(auto, unfolding(cminor_forms::specs::Reading::variable))]

@@ -6,7 +6,7 @@ ghost use Rattle.cminor_forms.specs.Reading.{expression_of, statement_of, expres
 ghost use Rattle.cminor_bytes.specs.Results.{expressions_of, row_of, maybe_of};
 
 use crate::expressions::read_expression;
-use crate::parts::{read_function_number, read_global, read_target, read_variable};
+use crate::parts::{beside, read_function_number, read_global, read_target, read_variable};
 use cminor_tree::{Expression, Statement};
 use lang::{FormError, Row, read_byte, read_u16};
 use std::alloc::Global;
@@ -38,7 +38,7 @@ fn read_store(
 {
     let global = read_global(bytes)?;
     let index = read_expression(alloc, room, variables, bytes)?;
-    let value = read_expression(alloc, room, variables, bytes)?;
+    let (index, value) = beside(index, read_expression(alloc, room, variables, bytes))?;
     Ok(Statement::Store(global, index, value))
 }
 
