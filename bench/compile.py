@@ -7,7 +7,7 @@
     bench/compile.py --by baselines     one maker of offers alone
 
 The texts: functions of some statements each, whose numbers grow with the size: assignments, stores, loops, `if` and
-calls of functions before them. The program `measure_compile` tells how long its calls of each stage took, without
+calls of functions before them. The program `measure` tells how long its calls of each stage took, without
 the start of the process; of gcc and tcc it is the whole process, and beside it that of a text with one empty
 function. The last lines say how often longer a stage takes for each size than for the one before.
 """
@@ -110,11 +110,11 @@ def main():
     words.add_argument("--runs", type=int, default=3)
     words.add_argument("--statements", type=int, default=1000)
     words.add_argument("--by", choices=("baselines", "optimisers"))
-    words.add_argument("--program", default=os.path.join(ROOT, "crates/measure_compile/out/measure_compile"))
+    words.add_argument("--program", default=os.path.join(ROOT, "crates/measure/out/measure"))
     words.add_argument("--keep")
     given = words.parse_args()
     if not os.path.exists(given.program):
-        sys.exit("build the program first: cd crates/measure_compile && rt run")
+        sys.exit("build the program first: cd crates/measure && rt run")
     makers = [given.by] if given.by else ["baselines", "optimisers"]
     ours = {by: [] for by in makers}
     others = {"gcc -O0": [], "tcc": []}

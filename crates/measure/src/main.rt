@@ -5,25 +5,31 @@
 //! |---|---|---|
 //! | `texts` | a C text | the lexer and the reader |
 //! | `forms` | a number | functions of Cminor and RTL of that size: read, copied, compared, written |
-//! | `constants`, `subexpressions`, `allocation` | an offer of pass 1, 2 or 3 | its reading, the check, and what the optimiser or the baseline gives for its input |
+//! | `constants`, `subexpressions`, `allocation` | an offer of pass 1, 2 or 3 | its reading, the check, and what the baseline and the optimiser give for its input, with their checks |
 //! | `rtl`, `linear` | a program | its run, to the limit |
 //! | `validation` | an offer of pass 1 | 64 checks by 1, 2 and 4 workers |
+//! | `baselines`, `optimisers` | a C text | each stage from the text to what is linked, by the baselines of all passes or by their optimisers; an optimiser's has the check of what it proposes, and the baseline where that is refused |
 #![tactic(auto)]
 
-mod allocation;
-mod constants;
+mod compiling;
 mod forms;
+mod front;
 mod offered;
+mod passes;
 mod runs;
-mod subexpressions;
 mod texts;
 mod validation;
 
+use crate::passes::Maker;
+use anyhow::Result;
+use oracle_alloc::AllocOracle;
+use oracle_const::ConstOracle;
+use oracle_cse::CseOracle;
 use std::sync::Wait;
 use std::thread::Threads;
-use std::{env, fs, io};
+use std::{env, fs};
 
-fn main(rt: HostRuntime) -> io::Result<()> {
+fn main(rt: HostRuntime) -> Result<()> {
     let words: Vec<String> = env::args(&rt)?.collect(rt.alloc())?;
     match words.as_slice() {
         [_program, word, file] if word.as_str() == "each" => measure_each(&rt, &rt, file.as_str()),
@@ -31,16 +37,12 @@ fn main(rt: HostRuntime) -> io::Result<()> {
         [_program, kind, input, limit] => {
             measure(&rt, &rt, kind.as_str(), input.as_str(), limit.as_str())
         }
-        _ => eprintln!(rt; "measure KIND INPUT [LIMIT]"),
+        _ => Ok(eprintln!(rt; "measure KIND INPUT [LIMIT]")?),
     }
 }
 
 /// Measures what each line of the file names.
-fn measure_each<R: Threads + Wait + Sync>(
-    rt: &HostRuntime,
-    threads: &R,
-    file: &str,
-) -> io::Result<()> {
+fn measure_each<R: Threads + Wait + Sync>(rt: &HostRuntime, threads: &R, file: &str) -> Result<()> {
     let text = fs::read_to_string(rt, file)?;
     for line in text.lines() {
         let (kind, rest) = line.split_once(' ').unwrap_or((line, ""));
@@ -56,16 +58,19 @@ fn measure<R: Threads + Wait + Sync>(
     kind: &str,
     input: &str,
     limit: &str,
-) -> io::Result<()> {
+) -> Result<()> {
     match kind {
-        "texts" => texts::measure(rt, &fs::read(rt, input)?),
-        "forms" => forms::measure(rt, input),
-        "constants" => constants::measure(rt, &fs::read(rt, input)?),
-        "subexpressions" => subexpressions::measure(rt, &fs::read(rt, input)?),
-        "allocation" => allocation::measure(rt, &fs::read(rt, input)?),
-        "rtl" => runs::measure_rtl(rt, &fs::read(rt, input)?, limit),
-        "linear" => runs::measure_linear(rt, &fs::read(rt, input)?, limit),
-        "validation" => validation::measure(rt, threads, &fs::read(rt, input)?),
-        _ => eprintln!(rt; "no kind {kind}"),
+        "texts" => texts::measure(rt, &fs::read(rt, input)?)?,
+        "forms" => forms::measure(rt, input)?,
+        "constants" => offered::measure(rt, &mut ConstOracle, &fs::read(rt, input)?)?,
+        "subexpressions" => offered::measure(rt, &mut CseOracle, &fs::read(rt, input)?)?,
+        "allocation" => offered::measure(rt, &mut AllocOracle, &fs::read(rt, input)?)?,
+        "rtl" => runs::measure_rtl(rt, &fs::read(rt, input)?, limit)?,
+        "linear" => runs::measure_linear(rt, &fs::read(rt, input)?, limit)?,
+        "validation" => validation::measure(rt, threads, &fs::read(rt, input)?)?,
+        "baselines" => compiling::measure(rt, Maker::Baselines, &fs::read(rt, input)?)?,
+        "optimisers" => compiling::measure(rt, Maker::Optimisers, &fs::read(rt, input)?)?,
+        _ => eprintln!(rt; "no kind {kind}")?,
     }
+    Ok(())
 }

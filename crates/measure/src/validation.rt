@@ -1,8 +1,8 @@
 //! 64 checks of an offer of pass 1 by 1, 2 and 4 workers, and how many were accepted.
 
-use crate::offered::parts_of;
 use constprop_check::ConstProp;
 use lang::{FormError, Pass};
+use offers::Offer;
 use parallel_validate::{Job, OpenGate, check_all};
 use std::alloc::Global;
 use std::io;
@@ -17,7 +17,7 @@ const JOBS: u8 = 64;
 fn jobs_of<P: Pass>(alloc: Global, bytes: &[u8]) -> Result<Vec<Job<P>>, FormError> {
     let mut jobs = Vec::new(alloc);
     for _ in 0..JOBS {
-        jobs.push(parts_of::<P>(alloc, bytes)?)?;
+        jobs.push(Offer::<P>::parts(alloc, bytes)?)?;
     }
     Ok(jobs)
 }
@@ -57,7 +57,10 @@ fn check<R: Threads + Wait + Sync>(
     eprintln!(rt; "{workers} workers, {micros}")?;
     match checked {
         Ok(answers) => {
-            let accepted = answers.iter().filter(|answer| **answer).count();
+            let mut accepted = 0u8;
+            for answer in answers.as_slice() {
+                accepted = accepted.saturating_add(u8::from(*answer));
+            }
             println!(rt; "{workers} workers, {accepted} accepted")
         }
         Err(fault) => println!(rt; "{fault}"),

@@ -1,6 +1,6 @@
 //! The stages before the passes.
 
-use crate::stage::tell;
+use crate::offered::tell;
 use anyhow::Result;
 use c_checker::{CProgram, check};
 use c_lexer::lex;

@@ -14,14 +14,14 @@ use rtl::Function;
 use std::time::Instant;
 
 /// Who makes the offers.
-#[derive(Clone, Copy, Debug, PartialEq, Eq)]
+#[derive(Clone, Copy)]
 pub enum Maker {
     Baselines,
     Optimisers,
 }
 
 /// How many nanoseconds each pass took so far.
-#[derive(Clone, Copy, Debug)]
+#[derive(Clone, Copy)]
 struct Times {
     constants: u128,
     expressions: u128,
@@ -90,7 +90,7 @@ fn offers_of(
     })
 }
 
-fn tell(rt: &HostRuntime, pass: &str, nanos: u128) -> Result<()> {
+fn tell_pass(rt: &HostRuntime, pass: &str, nanos: u128) -> Result<()> {
     let micros = nanos / 1000;
     eprintln!(rt; "{pass} {micros}")?;
     Ok(())
@@ -114,9 +114,9 @@ pub fn all_offers(
         let offers = offers_of(rt, by, &named.function, &mut words, &mut times)?;
         all.push(offers)?;
     }
-    tell(rt, "constants", times.constants)?;
-    tell(rt, "expressions", times.expressions)?;
-    tell(rt, "allocation", times.allocation)?;
-    tell(rt, "order", times.order)?;
+    tell_pass(rt, "constants", times.constants)?;
+    tell_pass(rt, "expressions", times.expressions)?;
+    tell_pass(rt, "allocation", times.allocation)?;
+    tell_pass(rt, "order", times.order)?;
     Ok(all)
 }
