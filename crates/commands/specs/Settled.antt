@@ -21,7 +21,8 @@ abbrev pub ending : List ℕ
 ending = 10 ∷ 97 ∷ 103 ∷ 114 ∷ 101 ∷ 101 ∷ 100 ∷ 32 ∷ 51 ∷ 10 ∷ []
 
 -- The bytes spell an LTL function. What is printed is the Linear function that it is laid out as, in lower case hex, in
--- the order of a node whose offer all three nodes learned; a program of it alone keeps the meaning of the LTL function's.
+-- the order of the one node whose offer all three nodes have learned in the run that was made; a program of it alone keeps
+-- the meaning of the LTL function's.
 pub record IsSettled (bytes printed : List ℕ) : Type 0 where
   pub input : ltl.FunctionData
   pub output : linear.FunctionData

@@ -10,7 +10,6 @@ use crate::orders::{depth_first, falling};
 use lang::NoMemory;
 use linearize_check::{Order, arrange, rising};
 use ltl::Function;
-use paxos_core::agreement;
 use pure_room::agree;
 use std::alloc::Global;
 
@@ -45,8 +44,8 @@ fn layout_of(
     layout_in(alloc, function, order)
 }
 
-/// The layout that all three nodes learn; none where they have not all learned one, which does not come
-/// to pass in this room. Each node makes its layout before anything is agreed.
+/// The layout of the node that all three have learned in the run that was made; none where they have not
+/// all learned one, which does not come to pass in this room. Each node makes its layout before anything is agreed.
 pub(crate) fn agreed_layout(
     alloc: Global,
     function: &Function,
@@ -59,8 +58,6 @@ pub(crate) fn agreed_layout(
     let first = layout_of(alloc, 0, function)?;
     let second = layout_of(alloc, 1, function)?;
     let third = layout_of(alloc, 2, function)?;
-    // No other value can be learned in this room, whatever its messages.
-    agreement();
     match agree(alloc)? {
         Some(0) => Ok(Some(first)),
         Some(1) => Ok(Some(second)),

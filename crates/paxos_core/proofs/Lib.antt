@@ -1,3 +1,4 @@
 pub mod CallLemmas
-pub mod MajorityLemmas
+pub mod LateLemmas
+pub mod QuorumLemmas
 pub mod ScheduleLemmas

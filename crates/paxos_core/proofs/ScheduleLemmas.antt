@@ -1,22 +1,25 @@
 -- A schedule is a run of the protocol.
-use Rattle.std.proofs.Common.{◌≡◌, ℕ, ◌<◌, Bool, true, false, cond, eqb, List, [], ◌∷◌, ◌++◌, Option, Some, None, refl, sym, ap, ◌∙◌, subst, inl, inr}
+use Rattle.std.proofs.Common.{◌≡◌, ℕ, ◌<◌, Bool, true, false, cond, eqb, arith, List, [], ◌∷◌, ◌++◌, Option, Some, None, refl, sym, ap, ◌∙◌, subst, inl, inr}
 use Rattle.std.specs.Option.{option_to_list}
 use Rattle.std.proofs.lemmas.Bool.{leb-true, eqb-true, eqb-false, cond-true, cond-false, cases_Bool}
 use Rattle.paxos_world.specs.KeptPart.{KeptPart, vote}
 use Rattle.paxos_world.specs.Run.{reached}
 use Rattle.paxos_world.specs.Settled.{Settled}
 use Rattle.paxos_world.specs.Step.{Label, Offers, Starts, Promises, Accepts, Learns}
-use Rattle.paxos_world.specs.World.{World, opening}
+use Rattle.paxos_world.specs.World.{World, Has, opening}
 use Rattle.paxos_world.specs.declared.msg.Msg.{Msg}
 use Rattle.paxos_world.specs.declared.msg.Msg.TheVariants.{Prepare, Promise, Propose, Accepted}
+use Rattle.paxos_world.proofs.Quorums.{member_of}
+use Rattle.paxos_model.specs.Agreement.{IsSettledRun}
 use Rattle.paxos_model.proofs.Reopens.{reached-append, run_append}
+use Rattle.paxos_model.proofs.Theorem.{holds, runs_learn_one}
 use Rattle.paxos_law.specs.Acceptor.{promises, accepts}
 use Rattle.paxos_law.specs.Belongs.{Belongs}
 use Rattle.paxos_core.specs.Call.{Call, Offer, Start, Proposal, On, Restart, has_ballot, after_call, answer_to, taken_by}
 use Rattle.paxos_law.specs.NodeState.{NodeState}
-use Rattle.paxos_law.specs.Notes.{highest_below}
-use Rattle.paxos_law.specs.Proposer.{next_ballot, started, choice, may_propose, proposal_under}
+use Rattle.paxos_law.specs.Proposer.{next_ballot, started, next_proposal, propose_message}
 use Rattle.paxos_law.specs.Reached.{IsReached}
+use Rattle.paxos_core.specs.Play.{AllLearned}
 use Rattle.paxos_core.specs.Schedule.{Room, opened, NodeCall, put_node, played, WasSent, IsSchedule, steps_of, IsPlayed, AllLearnOne}
 use Rattle.paxos_law.specs.Taken.{proposes, taken_by_start, learns_from}
 use Rattle.paxos_law.specs.Takes.{Takes, AreStepsOf}
@@ -48,11 +51,9 @@ sent_by_start : (t : Bool) (i b : ℕ) (w : World) → (reached w (cond t (Start
 sent_by_start true i b w = refl
 sent_by_start false i b w = refl
 
-sent_by_proposal : (o : Option ℕ) (t : Bool) (c : Option ℕ) (w : World) → (reached w (proposes (proposal_under o t c))).sent ≡ option_to_list (proposal_under o t c) ++ w.sent
-sent_by_proposal None t c w = refl
-sent_by_proposal (Some b) false c w = refl
-sent_by_proposal (Some b) true None w = refl
-sent_by_proposal (Some b) true (Some v) w = refl
+sent_by_proposal : (o : Option (ℕ × ℕ)) (w : World) → (reached w (proposes (propose_message o))).sent ≡ option_to_list (propose_message o) ++ w.sent
+sent_by_proposal None w = refl
+sent_by_proposal (Some p) w = refl
 
 sent_by_prepare : (t : Bool) (b : ℕ) (w : World) (s : NodeState) → w.nodes s.me ≡ s.kept → (reached w (cond t (Promises s.me b ∷ []) [])).sent ≡ option_to_list (cond t (Some (Promise s.me b s.kept.accepted)) None) ++ w.sent
 sent_by_prepare true b w s e = ap {B = List Msg} (λ (k : KeptPart). Promise s.me b k.accepted ∷ w.sent) e
@@ -69,7 +70,7 @@ sent_by_vote false i v w = refl
 call_sends : (n : ℕ) (w : World) (s : NodeState) (c : Call) → Belongs n w s → (reached w (taken_by s c)).sent ≡ option_to_list (answer_to s c) ++ w.sent
 call_sends n w s Offer h = sent_by_offer s.kept.offered s.me w
 call_sends n w s Start h = sent_by_start (has_ballot s) s.me (next_ballot s) w
-call_sends n w s Proposal h = sent_by_proposal s.ballot (may_propose s) (choice (highest_below s.count s.promises) s.kept.offered s.me) w
+call_sends n w s Proposal h = sent_by_proposal (next_proposal s) w
 call_sends n w s (On (Prepare b)) h = sent_by_prepare (promises s b) b w s h.kept
 call_sends n w s (On (Propose b v)) h = sent_by_propose (accepts s (vote b v)) s.me b v w
 call_sends n w s (On (Promise a b report)) h = refl
@@ -153,3 +154,20 @@ module _ (n : ℕ) (kept : ℕ → KeptPart) where
   learns_one calls settled h i j v u k l e f =
       let all = plays calls settled h in
       learned_one n (world_of calls) _ _ v u (played_reached calls settled all) ((all.nodes i k).learned v e) ((all.nodes j l).learned u f)
+
+  -- the run that a schedule is shows what all have learned
+  pub shows : (calls : List NodeCall) (v : ℕ) → Settled n kept → IsSchedule n (opened n kept) calls → ((i : ℕ) → i < n → ((played (opened n kept) calls).nodes i).learned ≡ Some v) → AllLearned n kept (steps_of (opened n kept) calls) v
+  shows calls v settled h all =
+      let p = plays calls settled h in
+      let run : IsSettledRun n kept (steps_of (opened n kept) calls) = record { settled = settled; run = p.run } in
+      let learned : (i : ℕ) → i < n → Has (i, v) (world_of calls).learned
+      = λ i k. subst (λ j. Has (j, v) (world_of calls).learned) (p.number i k) ((p.nodes i k).learned v (all i k)) in
+      record {
+        run = run;
+        learned = learned;
+        only = λ i u k.
+            let from = (holds n kept (steps_of (opened n kept) calls) run).learned i u k in
+            let one = member_of n from.1.members from.1.quorum in
+            let few : one.node < n = one.below in
+            runs_learn_one n kept (steps_of (opened n kept) calls) run i 0 u v k (learned 0 (omega arith));
+      }

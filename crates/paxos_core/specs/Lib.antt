@@ -1,3 +1,5 @@
 pub mod Call
 pub mod Schedule
-pub mod Majority
+pub mod Play
+pub mod Quorums
+pub mod LateOffer

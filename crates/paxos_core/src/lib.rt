@@ -11,9 +11,10 @@ mod theorem;
 
 pub use error::CoreError;
 pub use node::Node;
-pub use paxos_law::step::Step;
+pub use paxos_law::step::{Act, Step};
 pub use paxos_model::settled::settled;
+pub use paxos_world::ballot::owns;
 pub use paxos_world::kept::Kept;
 pub use paxos_world::msg::Msg;
 pub use paxos_world::vote::Vote;
-pub use theorem::agreement;
+pub use theorem::{agreement, late_offers};

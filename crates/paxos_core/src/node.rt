@@ -1,4 +1,4 @@
-ghost use Rattle.std.specs.Prelude.{◌≡◌, ℕ, ◌<◌, ◌≤◌, ◌⊎◌, ◌↔◌, IsTrue, IsErr, IsNone, OnErr, IfOk, false};
+ghost use Rattle.std.specs.Prelude.{◌≡◌, ℕ, ◌<◌, ◌≤◌, ◌↔◌, IsTrue, IsErr, IsNone, OnErr, IfOk, SomeIff, false};
 ghost use Rattle.paxos_world.specs.KeptPart.{nothing_kept};
 ghost use Rattle.paxos_world.specs.World.{World};
 ghost use Rattle.paxos_world.specs.declared.msg.Msg.TheVariants.{Prepare};
@@ -6,17 +6,20 @@ ghost use Rattle.paxos_law.specs.Acceptor.{promise_to, after_prepare, vote_for, 
 ghost use Rattle.paxos_law.specs.Learner.{after_promise, after_vote, is_at_most, is_report};
 ghost use Rattle.paxos_law.specs.Message.{reply, after_message};
 ghost use Rattle.paxos_law.specs.NextBallot.{IsLeastAbove, IsSpent};
-ghost use Rattle.paxos_law.specs.NodeState.{new_node, node_with, offered, restarted};
+ghost use Rattle.paxos_law.specs.NodeState.{IsRoomSize, new_node, node_with, offered, restarted};
 ghost use Rattle.paxos_law.specs.Belongs.{Belongs};
 ghost use Rattle.paxos_law.specs.Taken.{taken_by_offer, taken_by_start, taken_by_propose, taken_by_restart, taken_on, LearnsAtMost};
 ghost use Rattle.paxos_law.specs.Takes.{Takes, TakesSteps, TakesStepsOn};
-ghost use Rattle.paxos_law.specs.Proposer.{floor_of, next_ballot, started, proposal, after_proposal};
+ghost use Rattle.paxos_law.specs.Proposer.{floor_of, next_ballot, started, next_proposal, proposal, after_proposal};
+ghost use Rattle.paxos_law.specs.Would.{next_promise, next_start, next_vote, would};
 
 use crate::ballot::next_ballot;
 use crate::error::CoreError;
 use crate::tally::{count_promises, count_votes, highest_report};
+use paxos_law::step::{Act, Step};
 use paxos_world::kept::Kept;
 use paxos_world::msg::Msg;
+use paxos_world::quorum::{is_accept_quorum, is_promise_quorum};
 use paxos_world::vote::Vote;
 use std::marker::Model;
 
@@ -25,7 +28,7 @@ pub const MOST_NODES: usize = 7;
 
 /// One node of a room: proposer, acceptor and learner in one. It sends nothing itself; what its calls answer is to be
 /// sent to all nodes, itself among them.
-#[derive(Debug, Drop)]
+#[derive(Clone, Copy, Debug)]
 pub struct Node {
     me: u8,
     count: u8,
@@ -38,8 +41,8 @@ pub struct Node {
 }
 
 impl Model for Node {
-    ghost use Rattle.std.specs.Prelude.{◌<◌, ◌≤◌};
-    ghost use Rattle.paxos_law.specs.NodeState.{NodeState};
+    ghost use Rattle.std.specs.Prelude.{◌<◌};
+    ghost use Rattle.paxos_law.specs.NodeState.{IsRoomSize, NodeState};
 
     ghost Value = { NodeState };
 
@@ -54,13 +57,24 @@ impl Model for Node {
       learned = s.learned;
     } };
 
-    ghost invariant = { λ s. (s.me < s.count) × (s.count ≤ 7) };
+    ghost invariant = { λ s. (s.me < s.count) × IsRoomSize s.count };
+
+    ghost inverse = { λ s. record {
+      me = s.me;
+      count = s.count;
+      kept = s.kept;
+      ballot = s.ballot;
+      proposed = s.proposed;
+      promises = s.promises;
+      votes = s.votes;
+      learned = s.learned;
+    } };
 }
 
 impl Node {
     /// Node `me` of a room of `n`, which has done nothing yet.
     pub fn new(me: u8, n: u8) -> Self
-        requires size { (n ≡ 3) ⊎ (n ≡ 5) ⊎ (n ≡ 7) }
+        requires size { IsRoomSize n }
         requires number { me < n }
         ensures state { result ≡ new_node me n }
         ensures belongs { (w : World) → w.nodes me ≡ nothing_kept → Belongs n w result }
@@ -70,14 +84,16 @@ impl Node {
 
     /// Its number.
     pub fn me(&self) -> u8
-        ensures { result ≡ self.now.me }
+        ensures value { result ≡ self.now.me }
+        ensures below { result < self.now.count }
     {
         self.me
     }
 
     /// How many nodes the room has.
     pub fn count(&self) -> u8
-        ensures { result ≡ self.now.count }
+        ensures value { result ≡ self.now.count }
+        ensures size { IsRoomSize result }
     {
         self.count
     }
@@ -112,9 +128,17 @@ impl Node {
         Node::with(self.me, self.count, kept)
     }
 
+    /// Forgets all but what it keeps, as at a restart.
+    pub fn forget(&mut self)
+        ensures state { self.new ≡ restarted self.old self.old.kept }
+        ensures step { TakesSteps self.old self.new (taken_by_restart self.old) None }
+    {
+        *self = Node::with(self.me, self.count, self.kept);
+    }
+
     fn with(me: u8, count: u8, kept: Kept) -> Self
         requires number { me < count }
-        requires few { count ≤ 7 }
+        requires size { IsRoomSize count }
         ensures { result ≡ node_with me count kept }
     {
         Node {
@@ -140,6 +164,72 @@ impl Node {
         first
     }
 
+    /// The step that the node would take if it were asked now: none where it would do nothing.
+    pub fn would(&self, act: Act) -> Option<Step>
+        ensures { result ≡ would self.now act }
+    {
+        match act {
+            Act::Start => Some(Step::Start(self.next_start()?)),
+            Act::Promise(ballot) => Some(Step::Promise(self.next_promise(ballot)?)),
+            Act::Propose => {
+                let (ballot, value) = self.proposal()?;
+                Some(Step::Propose(ballot, value))
+            }
+            Act::Accept(ballot, value) => {
+                let vote = self.next_vote(Vote { ballot, value })?;
+                Some(Step::Accept(vote.ballot, vote.value))
+            }
+        }
+    }
+
+    /// The ballot that `start` would start.
+    pub fn next_start(&self) -> Option<u16>
+        ensures told { result ≡ next_start self.now }
+        ensures value { SomeIff result (next_ballot self.now ≤ 65535) (next_ballot self.now) }
+    {
+        let floor = self.kept.started().max(self.kept.promised());
+        next_ballot(self.me, self.count, floor)
+    }
+
+    /// The ballot and the value that `propose` would propose.
+    pub fn proposal(&self) -> Option<(u16, u16)>
+        ensures { result ≡ next_proposal self.now }
+    {
+        let ballot = self.ballot?;
+        let count = usize::from(self.count);
+        if self.proposed || !is_promise_quorum(count, count_promises(&self.promises, count)) {
+            return None;
+        }
+        let value = match highest_report(&self.promises, count) {
+            Some(vote) => vote.value,
+            None if self.kept.offered() => u16::from(self.me),
+            None => return None,
+        };
+        Some((ballot, value))
+    }
+
+    /// The ballot, where the node would promise it if it were prepared.
+    pub fn next_promise(&self, ballot: u16) -> Option<u16>
+        ensures { result ≡ next_promise self.now ballot }
+    {
+        if self.kept.promised() < ballot {
+            Some(ballot)
+        } else {
+            None
+        }
+    }
+
+    /// The vote, where the node would give it if it were proposed.
+    pub fn next_vote(&self, vote: Vote) -> Option<Vote>
+        ensures { result ≡ next_vote self.now vote }
+    {
+        if is_vote(self.count, vote) && self.kept.promised() <= vote.ballot {
+            Some(vote)
+        } else {
+            None
+        }
+    }
+
     /// Starts the node's least own ballot above all that it has started or promised: phase 1a.
     pub fn start(&mut self) -> Result<Msg, CoreError>
         ensures ok { IfOk result (λ sent. (sent ≡ Prepare (next_ballot self.old)) × (self.new ≡ started self.old)) }
@@ -149,8 +239,7 @@ impl Node {
         ensures err { OnErr result (self.new ≡ self.old) }
         ensures step { IfOk result (λ sent. TakesSteps self.old self.new (taken_by_start self.old) (Some sent)) }
     {
-        let floor = self.kept.started().max(self.kept.promised());
-        let Some(ballot) = next_ballot(self.me, self.count, floor) else {
+        let Some(ballot) = self.next_start() else {
             return Err(CoreError::BallotsSpent);
         };
         self.kept = self.kept.with_start(ballot);
@@ -160,22 +249,13 @@ impl Node {
         Ok(Msg::Prepare(ballot))
     }
 
-    /// Proposes under the ballot under way, once, where a majority's promises are noted: phase 2a.
+    /// Proposes under the ballot under way, once, where a promise quorum's promises are noted: phase 2a.
     pub fn propose(&mut self) -> Option<Msg>
         ensures answer { result ≡ proposal self.old }
         ensures state { self.new ≡ after_proposal self.old }
         ensures step { TakesSteps self.old self.new (taken_by_propose self.old) result }
     {
-        let ballot = self.ballot?;
-        let count = usize::from(self.count);
-        if self.proposed || 2 * count_promises(&self.promises, count) <= count {
-            return None;
-        }
-        let value = match highest_report(&self.promises, count) {
-            Some(vote) => vote.value,
-            None if self.kept.offered() => u16::from(self.me),
-            None => return None,
-        };
+        let (ballot, value) = self.proposal()?;
         self.proposed = true;
         Some(Msg::Propose(ballot, value))
     }
@@ -206,9 +286,7 @@ impl Node {
         ensures answer { result ≡ promise_to self.old ballot }
         ensures state { self.new ≡ after_prepare self.old ballot }
     {
-        if ballot <= self.kept.promised() {
-            return None;
-        }
+        let ballot = self.next_promise(ballot)?;
         let report = self.kept.accepted();
         self.kept = self.kept.with_promise(ballot);
         Some(Msg::Promise(self.me, ballot, report))
@@ -218,9 +296,7 @@ impl Node {
         ensures answer { result ≡ vote_for self.old vote }
         ensures state { self.new ≡ after_propose self.old vote }
     {
-        if !is_vote(self.count, vote) || vote.ballot < self.kept.promised() {
-            return None;
-        }
+        let vote = self.next_vote(vote)?;
         self.kept = self.kept.with_vote(vote);
         Some(Msg::Accepted(self.me, vote.ballot, vote.value))
     }
@@ -243,8 +319,8 @@ impl Node {
         }
         self.votes[usize::from(from)] = Some(vote);
         let count = usize::from(self.count);
-        let majority = count < 2 * count_votes(&self.votes, count, vote.ballot);
-        if majority && self.learned.is_none() {
+        let quorum = is_accept_quorum(count, count_votes(&self.votes, count, vote.ballot));
+        if quorum && self.learned.is_none() {
             self.learned = Some(vote.value as u8);
         }
     }

@@ -1,4 +1,6 @@
-ghost use Rattle.paxos_core.specs.Majority.{LearnsFromMajority, MajorityIsLearned};
+ghost use Rattle.paxos_core.specs.LateOffer.{OffersMayBeLate, OthersLeaveIt};
+ghost use Rattle.paxos_core.specs.Play.{SchedulesShowAllLearned};
+ghost use Rattle.paxos_core.specs.Quorums.{LearnsFromQuorum, QuorumIsLearned};
 ghost use Rattle.paxos_core.specs.Schedule.{SchedulesAreRuns, SchedulesLearnOne};
 ghost use Rattle.paxos_model.specs.Agreement.{NothingIsSettled, ReopeningsGoOn, ReopeningsLearnAsBefore, RunsChooseOne, RunsLearnOne, RunsStaySettled};
 ghost use Rattle.paxos_model.specs.OneCode.{FarmReopeningsGoOn, FarmReopeningsLinkAsBefore, RunsChain, RunsLinkOne};
@@ -12,11 +14,12 @@ pub fn agreement()
     ensures chosen { RunsChooseOne }
     ensures learned { RunsLearnOne }
 
-    // The calls of `Node` are such runs, and a node learns exactly what a majority has voted for.
+    // The calls of `Node` are such runs, and a node learns exactly what an accept quorum has voted for.
     ensures calls { SchedulesAreRuns }
     ensures nodes { SchedulesLearnOne }
-    ensures from_majority { LearnsFromMajority }
-    ensures majority { MajorityIsLearned }
+    ensures shown { SchedulesShowAllLearned }
+    ensures from_quorum { LearnsFromQuorum }
+    ensures quorum { QuorumIsLearned }
 
     // What a run leaves can be opened again, and the old run goes on.
     ensures settled { RunsStaySettled }
@@ -34,3 +37,12 @@ pub fn agreement()
     one_code();
     one_code_again();
 }
+
+/// What holds of a node whose offer stands in a cell of its own, which the world does not show; it does nothing.
+pub fn late_offers()
+    // The run has the offer at the latest together with the proposal of the node's own number.
+    ensures calls { OffersMayBeLate }
+
+    // What other nodes do meanwhile leaves the node in its world.
+    ensures others { OthersLeaveIt }
+{}

@@ -3,7 +3,7 @@ use Rattle.std.proofs.Common.{◌≡◌, ℕ, ◌<◌, ◌≤◌, ◌⊎◌, IsT
 use Rattle.std.proofs.lemmas.Bool.{cases_lt}
 use Rattle.paxos_world.specs.Ballot.{Owns}
 use Rattle.paxos_world.specs.KeptPart.{IsWithinPromise, with_start, with_promise, with_vote, vote}
-use Rattle.paxos_world.specs.Quorum.{IsQuorum}
+use Rattle.paxos_world.specs.Quorum.{IsPromiseQuorum}
 use Rattle.paxos_world.specs.Run.{reached, IsRun}
 use Rattle.paxos_world.specs.Settled.{has_promised}
 use Rattle.paxos_world.specs.Step.{Label, Starts, Promises, Proposes, Accepts, Learns, Allowed, after, HasOffered, IsChosen, IsSafeChoice, IsHighest}
@@ -13,7 +13,7 @@ use Rattle.paxos_world.specs.declared.msg.Msg.TheVariants.{Prepare, Promise, Pro
 use Rattle.paxos_world.specs.declared.vote.Vote.{Vote}
 use Rattle.paxos_invariant.specs.Invariant.{Invariant, VoteKept, PromiseKept, Reports, Backed, IsPassed}
 use Rattle.paxos_invariant.proofs.Moves.{put_cases, message_stays, begun_stays, chosen_stays, prepare_was, promise_was, proposal_was, vote_was, begun_was, learned_was, node_cases, promised_grows, started_grows, offer_stays}
-use Rattle.paxos_invariant.proofs.Quorums.{quorum_grows}
+use Rattle.paxos_world.proofs.Quorums.{promise_quorum_grows}
 
 -- ---- words for the steps' needs and effects
 
@@ -273,16 +273,16 @@ keeps_offered n w l s ok b v h = offer_stays n w l v (elim (backed_was n w l ok 
   | inr e ↦ choice_offered n w s b v (proposes w b v ok e).2
 ])
 
-choice_backed : (n : ℕ) (w : World) → Invariant n w → (b v : ℕ) → IsSafeChoice n w b v → IsQuorum n (λ a. has_promised b (w.nodes a))
+choice_backed : (n : ℕ) (w : World) → Invariant n w → (b v : ℕ) → IsSafeChoice n w b v → IsPromiseQuorum n (λ a. has_promised b (w.nodes a))
 choice_backed n w s b v choice =
-    quorum_grows n choice.members (λ a. has_promised b (w.nodes a))
+    promise_quorum_grows n choice.members (λ a. has_promised b (w.nodes a))
     (λ a below member. le-leb b (w.nodes a).promised (s.promises a b (choice.reports a) (choice.promises a below member)).bound)
     choice.quorum
 
 keeps_backed : (n : ℕ) (w : World) (l : Label) → Invariant n w → Allowed n w l → (b v : ℕ) → Backed (after w l) b v
-    → IsQuorum n (λ a. has_promised b ((after w l).nodes a))
+    → IsPromiseQuorum n (λ a. has_promised b ((after w l).nodes a))
 keeps_backed n w l s ok b v h =
-    quorum_grows n (λ a. has_promised b (w.nodes a)) (λ a. has_promised b ((after w l).nodes a))
+    promise_quorum_grows n (λ a. has_promised b (w.nodes a)) (λ a. has_promised b ((after w l).nodes a))
     (λ a below member. le-leb b _ (le_trans (leb-true b (w.nodes a).promised member) (promised_grows n w l a ok)))
     (elim (backed_was n w l ok b v h) [ inl old ↦ s.backed b v old | inr e ↦ choice_backed n w s b v (proposes w b v ok e).2 ])
 

@@ -3,7 +3,7 @@ use Rattle.std.proofs.Common.{◌≡◌, ℕ, zero, suc, ◌<◌, ◌≤◌, ◌
 use Rattle.std.proofs.lemmas.Bool.{cases_eq, and_parts, and_from}
 use Rattle.paxos_world.specs.Ballot.{Owns}
 use Rattle.paxos_world.specs.KeptPart.{KeptPart, vote}
-use Rattle.paxos_world.specs.Quorum.{IsQuorum}
+use Rattle.paxos_world.specs.Quorum.{IsPromiseQuorum}
 use Rattle.paxos_world.specs.Settled.{Settled, has_promised, has_passed, same_vote, is_given}
 use Rattle.paxos_world.specs.Step.{HasOffered}
 use Rattle.paxos_world.specs.World.{Has, opening, shown, shown_start, shown_vote}
@@ -143,7 +143,7 @@ not_given_is : (c u : ℕ) (o : Option Vote) → is_given (vote c u) o ≡ false
 not_given_is c u o h e =
     let given : is_given (vote c u) o ≡ true = subst (λ (p : Option Vote). is_given (vote c u) p ≡ true) (sym e) (given_self (vote c u)) in cc
 
--- of two settled votes the lower one of another value can no more be chosen; and one that nobody holds cannot either, since a quorum has promised above it
+-- of two settled votes the lower one of another value can no more be chosen; and one that nobody holds cannot either, since a promise quorum has promised above it
 opening_passed : (n : ℕ) (nodes : ℕ → KeptPart) → Settled n nodes → (a b v c u : ℕ) → a < n → (nodes a).accepted ≡ Some (vote b v)
     → c < b → (u ≡ v → ⊥) → IsPassed n (opening n nodes) c u
 opening_passed n nodes s a b v c u below e low other = elim (find_below n (λ j. is_given (vote c u) (nodes j).accepted)) [
@@ -211,7 +211,7 @@ opening_one_vote n nodes s a c b v u h k =
 opening_offered : (n : ℕ) (nodes : ℕ → KeptPart) → Settled n nodes → (b v : ℕ) → Backed (opening n nodes) b v → HasOffered n nodes v
 opening_offered n nodes s b v h = let at = backed_shown n nodes b v h in (s.vote at.0 (vote b v) at.1 at.2).offered
 
-opening_backed : (n : ℕ) (nodes : ℕ → KeptPart) → Settled n nodes → (b v : ℕ) → Backed (opening n nodes) b v → IsQuorum n (λ a. has_promised b (nodes a))
+opening_backed : (n : ℕ) (nodes : ℕ → KeptPart) → Settled n nodes → (b v : ℕ) → Backed (opening n nodes) b v → IsPromiseQuorum n (λ a. has_promised b (nodes a))
 opening_backed n nodes s b v h = let at = backed_shown n nodes b v h in (s.vote at.0 (vote b v) at.1 at.2).quorum
 
 opening_safe : (n : ℕ) (nodes : ℕ → KeptPart) → Settled n nodes → (b v c u : ℕ) → Backed (opening n nodes) b v → c < b → (u ≡ v → ⊥) → IsPassed n (opening n nodes) c u

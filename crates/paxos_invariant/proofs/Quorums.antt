@@ -1,8 +1,8 @@
--- Quorums meet: two sets of more than half of the nodes share one.
+-- A promise quorum and an accept quorum meet: they share a node.
 use Rattle.std.proofs.Common.{◌≡◌, ℕ, zero, suc, ◌+◌, ◌<◌, ◌⊎◌, Bool, true, false, IsTrue, if◌then◌else◌, inl, inr, refl, sym, subst, arith, eqb, eqb-true}
 use Rattle.std.proofs.lemmas.Bool.{eqb-false}
-use Rattle.paxos_world.specs.Quorum.{count_below, IsQuorum}
-use Rattle.paxos_world.proofs.Counting.{count_grows}
+use Rattle.paxos_world.specs.Quorum.{count_below, IsPromiseQuorum, IsAcceptQuorum}
+use Rattle.paxos_world.proofs.Quorums.{overlap}
 
 -- a node in both sets
 pub record Shared (n : ℕ) (p q : ℕ → Bool) : Type 0 where
@@ -27,12 +27,8 @@ meet_below : (n : ℕ) (p q : ℕ → Bool) → n < count_below n p + count_belo
 meet_below zero p q h = absurd (omega arith)
 meet_below (suc n) p q h = meet_step n p q (meet_below n p q) (p n) (q n) refl refl h
 
-pub meet : (n : ℕ) (p q : ℕ → Bool) → IsQuorum n p → IsQuorum n q → Shared n p q
-meet n p q h k = meet_below n p q (omega arith)
-
--- a set that includes a quorum is one
-pub quorum_grows : (n : ℕ) (p q : ℕ → Bool) → ((a : ℕ) → a < n → IsTrue (p a) → IsTrue (q a)) → IsQuorum n p → IsQuorum n q
-quorum_grows n p q h k = let more = count_grows n p q h in omega arith
+pub meet : (n : ℕ) (p a : ℕ → Bool) → IsPromiseQuorum n p → IsAcceptQuorum n a → Shared n p a
+meet n p a h k = meet_below n p a (overlap n (count_below n p) (count_below n a) h k)
 
 -- some node below n passes the test, or none does
 Found : ℕ → (ℕ → Bool) → Type 0

@@ -2,7 +2,7 @@
 use Rattle.std.proofs.Common.{◌≡◌, ℕ, ◌<◌, ◌≤◌, ◌⊎◌, Bool, IsTrue, Option, Some}
 use Rattle.paxos_world.specs.Ballot.{Owns}
 use Rattle.paxos_world.specs.KeptPart.{IsWithinPromise, vote}
-use Rattle.paxos_world.specs.Quorum.{IsQuorum}
+use Rattle.paxos_world.specs.Quorum.{IsPromiseQuorum}
 use Rattle.paxos_world.specs.Settled.{has_promised}
 use Rattle.paxos_world.specs.Step.{HasOffered, IsChosen}
 use Rattle.paxos_world.specs.World.{World, Has}
@@ -32,10 +32,10 @@ pub record PromiseKept (n : ℕ) (w : World) (a b : ℕ) (report : Option Vote) 
 abbrev pub Backed : World → ℕ → ℕ → Type 0
 Backed w b v = Has (Propose b v) w.sent ⊎ ((a : ℕ) × Has (Accepted a b v) w.sent)
 
--- u can no more be chosen under c: all of a quorum have promised above c, and did not vote for it
+-- u can no more be chosen under c: all of a promise quorum have promised above c, and did not vote for it
 pub record IsPassed (n : ℕ) (w : World) (c u : ℕ) : Type 0 where
   pub members : ℕ → Bool
-  pub quorum : IsQuorum n members
+  pub quorum : IsPromiseQuorum n members
   pub above : (a : ℕ) → a < n → IsTrue (members a) → c < (w.nodes a).promised
   pub silent : (a : ℕ) → a < n → IsTrue (members a) → ¬ Has (Accepted a c u) w.sent
 
@@ -59,9 +59,9 @@ pub record Invariant (n : ℕ) (w : World) : Type 0 where
   pub prepared : (i b : ℕ) → i < n → Has (Prepare b) w.sent → Owns n i b → b ≤ (w.nodes i).started
   pub promised : (i a : ℕ) → i < n → a < n → Owns n i (w.nodes a).promised → (w.nodes a).promised ≤ (w.nodes i).started
   pub voted : (i a b v : ℕ) → i < n → Has (Accepted a b v) w.sent → Owns n i b → b ≤ (w.nodes i).started
-  -- what was proposed or voted for is a node that has offered, and a quorum has promised its ballot
+  -- what was proposed or voted for is a node that has offered, and a promise quorum has promised its ballot
   pub offered : (b v : ℕ) → Backed w b v → HasOffered n w.nodes v
-  pub backed : (b v : ℕ) → Backed w b v → IsQuorum n (λ a. has_promised b (w.nodes a))
+  pub backed : (b v : ℕ) → Backed w b v → IsPromiseQuorum n (λ a. has_promised b (w.nodes a))
   -- once it is proposed or voted for, no other value can be chosen under a lower ballot
   pub safe : (b v c u : ℕ) → Backed w b v → c < b → (u ≡ v → ⊥) → IsPassed n w c u
   -- a node whose promised ballot is begun has sent that promise, with the vote that it still keeps, or a vote under it

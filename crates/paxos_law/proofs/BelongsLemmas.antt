@@ -23,13 +23,14 @@ under_way_after n w l i b p k u =
     }
 
 -- a node belongs to the world after a step, with the kept part that stands there
-pub belongs_after : (n : ℕ) (w : World) (l : Label) (s : NodeState) (k : KeptPart) → Belongs n w s → (after w l).nodes s.me ≡ k → ((b : ℕ) → s.ballot ≡ Some b → ProposesNot b l) → Belongs n (after w l) (record s { kept = k })
-belongs_after n w l s k h e q =
+pub belongs_after : (n : ℕ) (w : World) (l : Label) (s : NodeState) (k : KeptPart) → Belongs n w s → (after w l).nodes s.me ≡ k → k.started ≡ s.kept.started → ((b : ℕ) → s.ballot ≡ Some b → ProposesNot b l) → Belongs n (after w l) (record s { kept = k })
+belongs_after n w l s k h e t q =
     record {
       count = h.count;
       number = h.number;
       kept = e;
       ballot = λ b i. under_way_after n w l s.me b s.proposed (q b i) (h.ballot b i);
+      started = λ b i. t ∙ h.started b i;
       promises = λ b a r i j. (grows w l).sent _ (h.promises b a r i j);
       votes = λ a x i. (grows w l).sent _ (h.votes a x i);
       learned = λ v i. (grows w l).learned _ (h.learned v i);
@@ -38,7 +39,7 @@ belongs_after n w l s k h e q =
 -- a step of another node leaves it there
 pub belongs_after_others : (n : ℕ) (w : World) (l : Label) (s : NodeState) (j : ℕ) → Belongs n w s → IsStepOf n j l → (s.me ≡ j → ⊥) → Belongs n (after w l) s
 belongs_after_others n w l s j h o d =
-    belongs_after n w l s s.kept h (nodes_of_others n w l s.me j o d ∙ h.kept) (λ b e. proposes_not_of_others n s.me j b l o (h.ballot b e).own d)
+    belongs_after n w l s s.kept h (nodes_of_others n w l s.me j o d ∙ h.kept) refl (λ b e. proposes_not_of_others n s.me j b l o (h.ballot b e).own d)
 
 -- a node that knows its kept part alone belongs where that stands
 pub belongs_with : (n : ℕ) (w : World) (i : ℕ) (k : KeptPart) → i < n → w.nodes i ≡ k → Belongs n w (node_with i n k)
@@ -48,6 +49,7 @@ belongs_with n w i k h e =
       number = h;
       kept = e;
       ballot = λ b q. absurd (cc);
+      started = λ b q. absurd (cc);
       promises = λ b a r q p. absurd (cc);
       votes = λ a x q. absurd (note_of-nothing a x q);
       learned = λ v q. absurd (cc);
@@ -61,6 +63,7 @@ belongs_promise n w s b a r h e m =
       number = h.number;
       kept = h.kept;
       ballot = h.ballot;
+      started = h.started;
       promises = λ c k q i p. elim (note_of-set s.promises a k r q p) [
         | inl o ↦ promise_at w a b k c r q o.0 o.1 (ballot_at s.ballot b c e i) m
         | inr o ↦ h.promises c k q i o
@@ -83,6 +86,7 @@ belongs_vote n w s a x o h m l =
       number = h.number;
       kept = h.kept;
       ballot = h.ballot;
+      started = h.started;
       promises = h.promises;
       votes = λ k y p. elim (note_of-set s.votes a k x y p) [
         | inl o ↦ vote_at w a k x y o.0 o.1 m
@@ -102,6 +106,7 @@ belongs_kept n w s k h e =
       number = h.number;
       kept = h.kept ∙ e;
       ballot = h.ballot;
+      started = λ b q. ap (λ (x : KeptPart). x.started) (sym e) ∙ h.started b q;
       promises = h.promises;
       votes = h.votes;
       learned = h.learned;

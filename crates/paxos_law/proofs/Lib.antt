@@ -4,3 +4,4 @@ pub mod WorldLemmas
 pub mod ReachedLemmas
 pub mod BelongsLemmas
 pub mod TakesLemmas
+pub mod WouldLemmas

@@ -1,10 +1,10 @@
 -- Each call of a node is what it is said to be in the world.
-use Rattle.std.proofs.Common.{◌≡◌, ℕ, suc, max, ◌+◌, ◌*◌, ◌<◌, ◌≤◌, ◌⊎◌, Bool, true, false, cond, not, ◌&&◌, ltb, List, [], ◌∷◌, set, Option, Some, None, is_none, IsTrue, IfSome, refl, sym, ap, ◌∙◌, subst, inl, inr, arith}
+use Rattle.std.proofs.Common.{◌≡◌, ℕ, suc, max, ◌+◌, ◌<◌, ◌≤◌, ◌⊎◌, Bool, true, false, cond, not, ◌&&◌, ltb, List, [], ◌∷◌, set, Option, Some, None, is_none, IsTrue, IfSome, refl, sym, ap, ◌∙◌, subst, inl, inr, arith}
 use Rattle.std.specs.Option.{option_map}
 use Rattle.std.proofs.lemmas.Bool.{ltb-true, leb-true, eqb-true, and_parts, not-true}
 use Rattle.paxos_world.specs.Ballot.{Owns}
 use Rattle.paxos_world.specs.KeptPart.{KeptPart, with_offer, with_start, with_promise, with_vote, vote}
-use Rattle.paxos_world.specs.Quorum.{count_below, IsQuorum}
+use Rattle.paxos_world.specs.Quorum.{is_promise_quorum, is_accept_quorum, IsPromiseQuorum, IsAcceptQuorum}
 use Rattle.paxos_world.specs.Run.{IsRun, reached}
 use Rattle.paxos_world.specs.Step.{Label, Offers, Starts, Promises, Proposes, Accepts, Learns, Restarts, Allowed, after, HasOffered, NamesNone, IsHighest, IsSafeChoice, IsChosen}
 use Rattle.paxos_world.specs.World.{World, Has, put}
@@ -17,8 +17,8 @@ use Rattle.paxos_law.specs.Learner.{is_report, is_under_way, notes_promise, afte
 use Rattle.paxos_law.specs.Message.{reply, after_message}
 use Rattle.paxos_law.specs.NextBallot.{IsLeastAbove, IsSpent}
 use Rattle.paxos_law.specs.NodeState.{NodeState, restarted, offered, nothing_noted}
-use Rattle.paxos_law.specs.Notes.{note_of, has_promised, report_of, has_voted, highest_below, is_majority}
-use Rattle.paxos_law.specs.Proposer.{floor_of, next_ballot, started, choice, may_propose, proposal_under, proposal, after_answer, after_proposal}
+use Rattle.paxos_law.specs.Notes.{note_of, has_promised, report_of, has_voted, highest_below}
+use Rattle.paxos_law.specs.Proposer.{floor_of, next_ballot, started, choice, may_propose, proposal_under, propose_message, proposal, after_answer, after_proposal}
 use Rattle.paxos_law.specs.Reached.{IsReached}
 use Rattle.paxos_law.specs.Taken.{taken_by_offer, taken_by_start, proposes, taken_by_propose, taken_by_restart, learns_from, taken_on, LearnsAtMost}
 use Rattle.paxos_law.specs.Takes.{Takes, TakesSteps, TakesStepsOn, IsStepOf, AreStepsOf}
@@ -48,7 +48,7 @@ offer_by false n w s h e =
     takes_one n w (Offers s.me) (offered s) None
     (h.number, ap (λ (k : KeptPart). k.offered) h.kept ∙ e)
     refl
-    (belongs_after n w (Offers s.me) s (with_offer s.kept) h (put-same w.nodes s.me _ ∙ ap with_offer h.kept) (λ b i. tt))
+    (belongs_after n w (Offers s.me) s (with_offer s.kept) h (put-same w.nodes s.me _ ∙ ap with_offer h.kept) refl (λ b i. tt))
     tt
 
 pub offer_takes : (s : NodeState) → TakesSteps s (offered s) (taken_by_offer s) None
@@ -77,6 +77,7 @@ started_belongs n b w s h r o lt =
       number = h.number;
       kept = put-same w.nodes s.me _ ∙ ap (with_start b) h.kept;
       ballot = λ c e. subst (λ x. IsUnderWay n (after w (Starts s.me b)) s.me x false) (ballot_of b c e) under;
+      started = λ c e. ballot_of b c e;
       promises = λ c a q e p. absurd (note_of-nothing a q p);
       votes = λ a x e. inr (h.votes a x e);
       learned = h.learned;
@@ -157,11 +158,11 @@ propose_one n b v w s h e m c =
     under : IsUnderWay n w s.me b s.proposed
     under = h.ballot b e
 
-    parts : (not s.proposed ≡ true) × (is_majority s.count (has_promised s.promises) ≡ true)
-    parts = and_parts (not s.proposed) (is_majority s.count (has_promised s.promises)) m
+    parts : (not s.proposed ≡ true) × IsPromiseQuorum s.count (has_promised s.promises)
+    parts = and_parts (not s.proposed) (is_promise_quorum s.count (has_promised s.promises)) m
 
-    quorum : IsQuorum n (has_promised s.promises)
-    quorum = rw h.count at (ltb-true s.count (2 * count_below s.count (has_promised s.promises)) parts.1)
+    quorum : IsPromiseQuorum n (has_promised s.promises)
+    quorum = subst (λ m. IsPromiseQuorum m (has_promised s.promises)) h.count parts.1
 
     safe : IsSafeChoice n w b v
     safe =
@@ -180,19 +181,27 @@ propose_one n b v w s h e m c =
           number = h.number;
           kept = h.kept;
           ballot = λ x i. record { own = (h.ballot x i).own; begun = (h.ballot x i).begun; unproposed = λ f. absurd (cc) };
+          started = h.started;
           promises = λ x a r i j. inr (h.promises x a r i j);
           votes = λ a x i. inr (h.votes a x i);
           learned = h.learned;
         }
 
-propose_by : (o : Option ℕ) (t : Bool) (c : Option ℕ) (n : ℕ) (w : World) (s : NodeState) → Belongs n w s → s.ballot ≡ o → may_propose s ≡ t → choice (highest_below s.count s.promises) s.kept.offered s.me ≡ c → Takes n w (proposes (proposal_under o t c)) (after_answer s (proposal_under o t c)) (proposal_under o t c)
+abbrev proposal_by : Option ℕ → Bool → Option ℕ → Option Msg
+proposal_by o t c = propose_message (proposal_under o t c)
+
+propose_by : (o : Option ℕ) (t : Bool) (c : Option ℕ) (n : ℕ) (w : World) (s : NodeState) → Belongs n w s → s.ballot ≡ o → may_propose s ≡ t → choice (highest_below s.count s.promises) s.kept.offered s.me ≡ c → Takes n w (proposes (proposal_by o t c)) (after_answer s (proposal_by o t c)) (proposal_by o t c)
 propose_by None t c n w s h e m d = takes_nothing n w s h
 propose_by (Some b) false c n w s h e m d = takes_nothing n w s h
 propose_by (Some b) true None n w s h e m d = takes_nothing n w s h
 propose_by (Some b) true (Some v) n w s h e m d = propose_one n b v w s h e m d
 
+-- whatever else has come about
+pub propose_anywhere : (s : NodeState) (n : ℕ) (w : World) → Belongs n w s → Takes n w (taken_by_propose s) (after_proposal s) (proposal s)
+propose_anywhere s n w h = propose_by s.ballot (may_propose s) _ n w s h refl refl refl
+
 pub propose_takes : (s : NodeState) → TakesSteps s (after_proposal s) (taken_by_propose s) (proposal s)
-propose_takes s n w r h = propose_by s.ballot (may_propose s) _ n w s h refl refl refl
+propose_takes s n w r h = propose_anywhere s n w h
 
 -- ---- on a message
 
@@ -202,7 +211,7 @@ prepare_by true n b w s h m t =
     takes_one n w (Promises s.me b) (record s { kept = with_promise b s.kept }) (Some (Promise s.me b s.kept.accepted))
     (h.number, m, rw h.kept (ltb-true s.kept.promised b t))
     refl
-    (belongs_after n w (Promises s.me b) s (with_promise b s.kept) h (put-same w.nodes s.me _ ∙ ap (with_promise b) h.kept) (λ c e. tt))
+    (belongs_after n w (Promises s.me b) s (with_promise b s.kept) h (put-same w.nodes s.me _ ∙ ap (with_promise b) h.kept) refl (λ c e. tt))
     (inl (ap (λ (k : KeptPart). Promise s.me b k.accepted) (sym h.kept)))
 
 accept_by : (t : Bool) (n b v : ℕ) (w : World) (s : NodeState) → Belongs n w s → Has (Propose b v) w.sent → accepts s (vote b v) ≡ t → Takes n w (cond t (Accepts s.me b v ∷ []) []) (cond t (record s { kept = with_vote (vote b v) s.kept }) s) (cond t (Some (Accepted s.me b v)) None)
@@ -212,7 +221,7 @@ accept_by true n b v w s h m t =
     takes_one n w (Accepts s.me b v) (record s { kept = with_vote (vote b v) s.kept }) (Some (Accepted s.me b v))
     (h.number, m, rw h.kept (leb-true s.kept.promised b parts.1))
     refl
-    (belongs_after n w (Accepts s.me b v) s (with_vote (vote b v) s.kept) h (put-same w.nodes s.me _ ∙ ap (with_vote (vote b v)) h.kept) (λ c e. tt))
+    (belongs_after n w (Accepts s.me b v) s (with_vote (vote b v) s.kept) h (put-same w.nodes s.me _ ∙ ap (with_vote (vote b v)) h.kept) refl (λ c e. tt))
     (inl refl)
 
 under_way : (o : Option ℕ) (b : ℕ) → is_under_way o b ≡ true → o ≡ Some b
@@ -230,17 +239,17 @@ promise_by : (t : Bool) (n b a : ℕ) (r : Option Vote) (w : World) (s : NodeSta
 promise_by false n b a r w s h m t = takes_nothing n w s h
 promise_by true n b a r w s h m t = takes_nothing n w _ (belongs_promise n w s b a r h (noted_under_way s a b r t) m)
 
--- a majority of noted votes under one ballot shows that their value is chosen
-chosen : (n : ℕ) (w : World) (s : NodeState) (a : ℕ) (x : Vote) → IsReached n w → Belongs n w s → Has (Accepted a x.ballot x.value) w.sent → is_majority s.count (has_voted s.votes x.ballot) ≡ true → IsChosen n w x.ballot x.value
+-- noted votes of an accept quorum under one ballot show that their value is chosen
+chosen : (n : ℕ) (w : World) (s : NodeState) (a : ℕ) (x : Vote) → IsReached n w → Belongs n w s → Has (Accepted a x.ballot x.value) w.sent → IsAcceptQuorum s.count (has_voted s.votes x.ballot) → IsChosen n w x.ballot x.value
 chosen n w s a x r h m q =
-    record { members = has_voted s.votes x.ballot; quorum = rw h.count at (ltb-true s.count _ q); votes = λ c k i. vote_sent c (voted_vote s.votes x.ballot c i) }
+    record { members = has_voted s.votes x.ballot; quorum = subst (λ m. IsAcceptQuorum m (has_voted s.votes x.ballot)) h.count q; votes = λ c k i. vote_sent c (voted_vote s.votes x.ballot c i) }
   where
     vote_sent : (c : ℕ) → ((y : Vote) × (note_of s.votes c ≡ Some y) × (y.ballot ≡ x.ballot)) → Has (Accepted c x.ballot x.value) w.sent
     vote_sent c y =
         let sent : Has (Accepted c x.ballot y.0.value) w.sent = rw y.2 at (h.votes c y.0 y.1) in
         rw (one_vote n w a c x.ballot x.value y.0.value r m sent) sent
 
-learn_by : (t : Bool) (o : Option ℕ) (q : Bool) (n : ℕ) (w : World) (s : NodeState) (a : ℕ) (x : Vote) → IsReached n w → Belongs n w s → Has (Accepted a x.ballot x.value) w.sent → s.learned ≡ o → is_majority s.count (has_voted (votes_with s a x) x.ballot) ≡ q → Takes n w (cond (t && (is_none o && q)) (Learns s.me x.value ∷ []) []) (cond t (record s { votes = votes_with s a x; learned = learned_with o q x.value }) s) None
+learn_by : (t : Bool) (o : Option ℕ) (q : Bool) (n : ℕ) (w : World) (s : NodeState) (a : ℕ) (x : Vote) → IsReached n w → Belongs n w s → Has (Accepted a x.ballot x.value) w.sent → s.learned ≡ o → is_accept_quorum s.count (has_voted (votes_with s a x) x.ballot) ≡ q → Takes n w (cond (t && (is_none o && q)) (Learns s.me x.value ∷ []) []) (cond t (record s { votes = votes_with s a x; learned = learned_with o q x.value }) s) None
 learn_by false o q n w s a x r h m e k = takes_nothing n w s h
 learn_by true (Some u) q n w s a x r h m e k = takes_nothing n w _ (belongs_vote n w s a x (Some u) h m (λ v i. h.learned v (e ∙ i)))
 learn_by true None false n w s a x r h m e k = takes_nothing n w _ (belongs_vote n w s a x None h m (λ v i. absurd (cc)))
@@ -252,7 +261,7 @@ learn_by true None true n w s a x r h m e k =
     tt
   where
     there : Belongs n (after w (Learns s.me x.value)) s
-    there = belongs_after n w (Learns s.me x.value) s s.kept h h.kept (λ b i. tt)
+    there = belongs_after n w (Learns s.me x.value) s s.kept h h.kept refl (λ b i. tt)
 
     learned_pair : (i v u : ℕ) → ◌≡◌ {A = Option ℕ} (Some u) (Some v) → ◌≡◌ {A = ℕ × ℕ} (i, v) (i, u)
     learned_pair i v u e = let same : v ≡ u = cc in ap {B = ℕ × ℕ} (λ z. (i, z)) same
@@ -295,3 +304,6 @@ propose_step s t answer e f n w r h = rw (e, f) (propose_takes s n w r h)
 
 pub on_step : (s t : NodeState) (m : Msg) (answer : Option Msg) → t ≡ after_message s m → answer ≡ reply s m → TakesStepsOn s m t (taken_on s m) answer
 on_step s t m answer e f n w r h k = rw (e, f) (on_takes s m n w r h k)
+
+pub forget_step : (s t : NodeState) → t ≡ restarted s s.kept → TakesSteps s t (taken_by_restart s) None
+forget_step s t e n w r h = rw e (restart_takes s s.kept n w h.number h.count h.kept)

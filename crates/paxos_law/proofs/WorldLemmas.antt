@@ -85,5 +85,3 @@ proposes_not_of_others n i j b (Proposes c v) e o h = λ p. h (sym o.turn ∙ rw
 proposes_not_of_others n i j b (Accepts a c v) e o h = tt
 proposes_not_of_others n i j b (Learns k v) e o h = tt
 proposes_not_of_others n i j b (Restarts k) e o h = tt
-
--- one run after another is a run

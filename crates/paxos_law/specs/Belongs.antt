@@ -13,12 +13,13 @@ pub record IsUnderWay (n : ℕ) (w : World) (i b : ℕ) (proposed : Bool) : Type
   pub begun : Has b w.begun
   pub unproposed : proposed ≡ false → (v : ℕ) → ¬ Has (Propose b v) w.sent
 
--- the node is node s.me of the n nodes of the world
+-- the node is node s.me of the n nodes of the world; a ballot that it has under way is the one that it keeps as started
 pub record Belongs (n : ℕ) (w : World) (s : NodeState) : Type 0 where
   pub count : s.count ≡ n
   pub number : s.me < n
   pub kept : w.nodes s.me ≡ s.kept
   pub ballot : (b : ℕ) → s.ballot ≡ Some b → IsUnderWay n w s.me b s.proposed
+  pub started : (b : ℕ) → s.ballot ≡ Some b → s.kept.started ≡ b
   pub promises : (b a : ℕ) (report : Option Vote) → s.ballot ≡ Some b → note_of s.promises a ≡ Some report → Has (Promise a b report) w.sent
   pub votes : (a : ℕ) (x : Vote) → note_of s.votes a ≡ Some x → Has (Accepted a x.ballot x.value) w.sent
   pub learned : (v : ℕ) → s.learned ≡ Some v → Has (s.me, v) w.learned

@@ -4,12 +4,15 @@ use Rattle.paxos_world.specs.KeptPart.{KeptPart}
 use Rattle.paxos_world.specs.World.{World}
 use Rattle.paxos_world.specs.declared.msg.Msg.{Msg}
 use Rattle.paxos_world.specs.declared.msg.Msg.TheVariants.{Prepare}
+use Rattle.paxos_law.specs.declared.step.Act.{Act}
+use Rattle.paxos_law.specs.declared.step.Act.TheVariants as act
 use Rattle.paxos_law.specs.Message.{reply, after_message}
 use Rattle.paxos_law.specs.NextBallot.{least_above, IsLeastAbove}
 use Rattle.paxos_law.specs.NodeState.{NodeState, offered, restarted}
 use Rattle.paxos_law.specs.Proposer.{next_ballot, started, proposal, after_proposal}
 use Rattle.paxos_law.specs.Taken.{taken_by_offer, taken_by_start, taken_by_propose, taken_by_restart, taken_on}
 use Rattle.paxos_law.specs.Takes.{Takes, TakesSteps, TakesStepsOn}
+use Rattle.paxos_law.specs.Would.{would, after_act, taken_by_act, IsDone}
 
 -- the next ballot is the least own one
 abbrev pub BallotsAreNext : Type 0
@@ -37,3 +40,11 @@ abbrev pub RestartsAreSteps : Type 0
 RestartsAreSteps =
     (s : NodeState) (k : KeptPart) (n : ℕ) (w : World) → s.me < n → s.count ≡ n → w.nodes s.me ≡ k
     → Takes n w (taken_by_restart s) (restarted s k) None
+
+-- what was told is what is done
+abbrev pub WhatIsToldIsDone : Type 0
+WhatIsToldIsDone = (s : NodeState) (a : Act) → IsDone s (after_act s a) (taken_by_act s a) (would s a)
+
+-- after a call of propose nothing more is proposed
+abbrev pub ProposalsAreOnce : Type 0
+ProposalsAreOnce = (s : NodeState) → would (after_act s act.Propose) act.Propose ≡ None

@@ -1,10 +1,11 @@
 -- What a node notes of the others' promises and votes, and the learner (Lamport, Paxos Made Simple, section 2.3): a
--- value is learned once a majority has voted under one ballot.
+-- value is learned once an accept quorum has voted under one ballot.
 use Rattle.std.specs.Prelude.{ℕ, ◌==◌, nat_lt, nat_le, Bool, true, false, ◌&&◌, if◌then◌else◌, List, Option, Some, None, slice_set}
+use Rattle.paxos_world.specs.Quorum.{is_accept_quorum}
 use Rattle.paxos_world.specs.declared.vote.Vote.{Vote}
 use Rattle.paxos_law.specs.Acceptor.{is_vote}
 use Rattle.paxos_law.specs.NodeState.{NodeState}
-use Rattle.paxos_law.specs.Notes.{note_of, has_voted, is_majority}
+use Rattle.paxos_law.specs.Notes.{note_of, has_voted}
 
 -- a report that can come with a promise for ballot b: no vote, or one under a lower ballot
 abbrev pub is_report : ℕ → ℕ → Option Vote → Bool
@@ -38,9 +39,9 @@ notes_vote s a x = nat_lt a s.count && (is_vote s.count x && is_at_most (note_of
 abbrev pub votes_with : NodeState → ℕ → Vote → List (Option Vote)
 votes_with s a x = slice_set s.votes a (Some x)
 
--- what was learned first stays; else the vote's value is learned once a majority has voted under its ballot
+-- what was learned first stays; else the vote's value is learned once an accept quorum has voted under its ballot
 abbrev pub learned_with : Option ℕ → Bool → ℕ → Option ℕ
-learned_with (Some u) majority v = Some u
+learned_with (Some u) quorum v = Some u
 learned_with None true v = Some v
 learned_with None false v = None
 
@@ -49,7 +50,7 @@ abbrev pub voted : NodeState → ℕ → Vote → NodeState
 voted s a x =
     record s {
       votes = votes_with s a x;
-      learned = learned_with s.learned (is_majority s.count (has_voted (votes_with s a x) x.ballot)) x.value;
+      learned = learned_with s.learned (is_accept_quorum s.count (has_voted (votes_with s a x) x.ballot)) x.value;
     }
 
 -- after Accepted(a, x)

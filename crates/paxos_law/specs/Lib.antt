@@ -9,4 +9,5 @@ pub mod Reached
 pub mod Belongs
 pub mod Taken
 pub mod Takes
+pub mod Would
 pub mod Law

@@ -1,5 +1,5 @@
 -- A node of a room at one moment: all that its calls read and change. Its kept part outlives a restart, the rest does not.
-use Rattle.std.specs.Prelude.{ℕ, Bool, true, false, List, replicate, Option, None}
+use Rattle.std.specs.Prelude.{◌≡◌, ℕ, ◌⊎◌, Bool, true, false, List, replicate, Option, None}
 use Rattle.paxos_world.specs.KeptPart.{KeptPart, nothing_kept, with_offer}
 use Rattle.paxos_world.specs.declared.vote.Vote.{Vote}
 
@@ -19,6 +19,10 @@ pub record NodeState : Type 0 where
 -- nothing is noted of anybody
 abbrev pub nothing_noted : {T : Type 0} → List (Option T)
 nothing_noted = replicate 7 None
+
+-- a room has 3, 5 or 7 nodes
+abbrev pub IsRoomSize : ℕ → Type 0
+IsRoomSize n = (n ≡ 3) ⊎ (n ≡ 5) ⊎ (n ≡ 7)
 
 -- the node that knows its kept part alone
 abbrev pub node_with : ℕ → ℕ → KeptPart → NodeState

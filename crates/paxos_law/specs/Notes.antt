@@ -1,6 +1,5 @@
 -- What a node has noted of the others: lists with a place for each node, none where nothing is noted.
-use Rattle.std.specs.Prelude.{ℕ, zero, suc, ◌*◌, ◌==◌, nat_lt, Bool, false, if◌then◌else◌, List, Option, Some, None, is_some, slice_index_or}
-use Rattle.paxos_world.specs.Quorum.{count_below}
+use Rattle.std.specs.Prelude.{ℕ, zero, suc, ◌==◌, nat_lt, Bool, false, if◌then◌else◌, List, Option, Some, None, is_some, slice_index_or}
 use Rattle.paxos_world.specs.declared.vote.Vote.{Vote}
 
 -- what is noted of node a
@@ -39,7 +38,3 @@ higher (Some held) (Some vote) = if nat_lt held.ballot vote.ballot then Some vot
 abbrev pub highest_below : ℕ → List (Option (Option Vote)) → Option Vote
 highest_below zero promises = None
 highest_below (suc n) promises = higher (highest_below n promises) (report_of promises n)
-
--- more than half of the n nodes pass the test
-abbrev pub is_majority : ℕ → (ℕ → Bool) → Bool
-is_majority n q = nat_lt n (2 * count_below n q)

@@ -1,14 +1,15 @@
 -- The proposer (Lamport, Paxos Made Simple, section 2.2): phase 1a asks all nodes for promises under a ballot of its
--- own, and phase 2a proposes a value under it once a majority has promised.
+-- own, and phase 2a proposes a value under it once a promise quorum has promised.
 use Rattle.std.specs.Prelude.{ℕ, max, Bool, true, false, ◌&&◌, not, if◌then◌else◌, Option, Some, None}
 use Rattle.std.specs.Option.{option_map}
 use Rattle.paxos_world.specs.KeptPart.{with_start}
+use Rattle.paxos_world.specs.Quorum.{is_promise_quorum}
 use Rattle.paxos_world.specs.declared.msg.Msg.{Msg}
 use Rattle.paxos_world.specs.declared.msg.Msg.TheVariants.{Propose}
 use Rattle.paxos_world.specs.declared.vote.Vote.{Vote}
 use Rattle.paxos_law.specs.NextBallot.{least_above}
 use Rattle.paxos_law.specs.NodeState.{NodeState, nothing_noted}
-use Rattle.paxos_law.specs.Notes.{has_promised, highest_below, is_majority}
+use Rattle.paxos_law.specs.Notes.{has_promised, highest_below}
 
 -- the highest ballot that the node has started or promised
 abbrev pub floor_of : NodeState → ℕ
@@ -34,19 +35,28 @@ choice (Some vote) offered me = Some vote.value
 choice None true me = Some me
 choice None false me = None
 
--- nothing is proposed under the ballot yet, and a majority has promised it
+-- nothing is proposed under the ballot yet, and a promise quorum has promised it
 abbrev pub may_propose : NodeState → Bool
-may_propose s = not s.proposed && is_majority s.count (has_promised s.promises)
+may_propose s = not s.proposed && is_promise_quorum s.count (has_promised s.promises)
 
--- a proposal under the ballot, if there is a ballot and the node may propose
-abbrev pub proposal_under : Option ℕ → Bool → Option ℕ → Option Msg
+-- ballot and value of a proposal, if there is a ballot and the node may propose
+abbrev pub proposal_under : Option ℕ → Bool → Option ℕ → Option (ℕ × ℕ)
 proposal_under None may value = None
 proposal_under (Some ballot) false value = None
-proposal_under (Some ballot) true value = option_map (λ v. Propose ballot v) value
+proposal_under (Some ballot) true value = option_map (λ v. (ballot, v)) value
 
--- phase 2a: what the node proposes, if anything
+-- the ballot and the value that the node proposes, if anything
+abbrev pub next_proposal : NodeState → Option (ℕ × ℕ)
+next_proposal s = proposal_under s.ballot (may_propose s) (choice (highest_below s.count s.promises) s.kept.offered s.me)
+
+-- the message that proposes them
+abbrev pub propose_message : Option (ℕ × ℕ) → Option Msg
+propose_message None = None
+propose_message (Some p) = Some (Propose p.0 p.1)
+
+-- phase 2a: what the node sends then
 abbrev pub proposal : NodeState → Option Msg
-proposal s = proposal_under s.ballot (may_propose s) (choice (highest_below s.count s.promises) s.kept.offered s.me)
+proposal s = propose_message (next_proposal s)
 
 -- after this answer to a call of propose
 abbrev pub after_answer : NodeState → Option Msg → NodeState

@@ -1,6 +1,7 @@
 -- The steps of the protocol that each call of a node takes, the newest first.
 use Rattle.std.specs.Prelude.{◌≡◌, ℕ, if◌then◌else◌, Bool, true, false, ◌&&◌, List, [], ◌∷◌, Option, Some, None, is_none}
 use Rattle.paxos_world.specs.KeptPart.{vote}
+use Rattle.paxos_world.specs.Quorum.{is_accept_quorum}
 use Rattle.paxos_world.specs.Step.{Label, Offers, Starts, Promises, Proposes, Accepts, Learns, Restarts}
 use Rattle.paxos_world.specs.declared.msg.Msg.{Msg}
 use Rattle.paxos_world.specs.declared.msg.Msg.TheVariants.{Prepare, Promise, Propose, Accepted}
@@ -10,7 +11,7 @@ use Rattle.paxos_law.specs.declared.step.Step.TheVariants as step
 use Rattle.paxos_law.specs.Acceptor.{promises, accepts}
 use Rattle.paxos_law.specs.Learner.{notes_vote, votes_with}
 use Rattle.paxos_law.specs.NodeState.{NodeState}
-use Rattle.paxos_law.specs.Notes.{has_voted, is_majority}
+use Rattle.paxos_law.specs.Notes.{has_voted}
 use Rattle.paxos_law.specs.Proposer.{next_ballot, proposal}
 
 -- offer: it offers, if it had not
@@ -33,9 +34,9 @@ taken_by_propose s = proposes (proposal s)
 abbrev pub taken_by_restart : NodeState → List Label
 taken_by_restart s = Restarts s.me ∷ []
 
--- the node learns from this vote: it had learned nothing, and with the vote a majority has voted under its ballot
+-- the node learns from this vote: it had learned nothing, and with the vote an accept quorum has voted under its ballot
 abbrev pub learns_from : NodeState → ℕ → Vote → Bool
-learns_from s a x = notes_vote s a x && (is_none s.learned && is_majority s.count (has_voted (votes_with s a x) x.ballot))
+learns_from s a x = notes_vote s a x && (is_none s.learned && is_accept_quorum s.count (has_voted (votes_with s a x) x.ballot))
 
 -- on a message: it promises, accepts, or learns; to note something is no step
 abbrev pub taken_on : NodeState → Msg → List Label

@@ -1,4 +1,4 @@
-ghost use Rattle.paxos_law.specs.Law.{BallotsAreNext, MessagesAreSteps, OffersAreSteps, ProposalsAreSteps, RestartsAreSteps, StartsAreSteps};
+ghost use Rattle.paxos_law.specs.Law.{BallotsAreNext, MessagesAreSteps, OffersAreSteps, ProposalsAreOnce, ProposalsAreSteps, RestartsAreSteps, StartsAreSteps, WhatIsToldIsDone};
 
 /// The law of a node's definitions; it does nothing.
 pub fn law()
@@ -8,4 +8,6 @@ pub fn law()
     ensures propose { ProposalsAreSteps }
     ensures message { MessagesAreSteps }
     ensures restart { RestartsAreSteps }
+    ensures told { WhatIsToldIsDone }
+    ensures once { ProposalsAreOnce }
 {}

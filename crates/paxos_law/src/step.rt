@@ -10,3 +10,16 @@ pub enum Step {
     /// `Accept(ballot, value)`: phase 2b.
     Accept(u16, u16),
 }
+
+/// What a node is asked to do, that may be a step of these.
+#[derive(Clone, Copy, Debug, PartialEq, Eq)]
+pub enum Act {
+    /// `start`.
+    Start,
+    /// `Promise(ballot)`: to promise a ballot that was prepared.
+    Promise(u16),
+    /// `propose`.
+    Propose,
+    /// `Accept(ballot, value)`: to vote for what was proposed.
+    Accept(u16, u16),
+}

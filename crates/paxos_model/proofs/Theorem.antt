@@ -2,7 +2,7 @@
 use Rattle.std.proofs.Common.{◌≡◌, ℕ, ◌<◌, Bool, true, false, not, List, Option, Some, None, inl, inr, refl, sym, subst, arith, eqb, eqb-true, nat_lt, lt-ltb}
 use Rattle.std.proofs.lemmas.Bool.{cases_eq, cases_order, and_from, and_parts}
 use Rattle.paxos_world.specs.KeptPart.{KeptPart}
-use Rattle.paxos_world.specs.Quorum.{IsQuorum}
+use Rattle.paxos_world.specs.Quorum.{IsPromiseQuorum}
 use Rattle.paxos_world.specs.Run.{reached}
 use Rattle.paxos_world.specs.Settled.{Settled, BallotsSettled, PairSettled, has_passed, is_given}
 use Rattle.paxos_world.specs.Step.{Label, IsChosen}
@@ -12,7 +12,8 @@ use Rattle.paxos_world.specs.declared.vote.Vote.{Vote}
 use Rattle.paxos_invariant.specs.Invariant.{Invariant, Backed, IsPassed}
 use Rattle.paxos_invariant.proofs.Keeps.{keeps_run}
 use Rattle.paxos_invariant.proofs.Opens.{opens}
-use Rattle.paxos_invariant.proofs.Quorums.{meet, quorum_grows}
+use Rattle.paxos_invariant.proofs.Quorums.{meet}
+use Rattle.paxos_world.proofs.Quorums.{member_of, promise_quorum_grows}
 use Rattle.paxos_model.specs.Agreement.{IsSettledRun, ChoosesOne, LearnsOne, NothingIsSettled, RunsChooseOne, RunsLearnOne, RunsStaySettled}
 
 -- every world of a run from settled kept parts has the invariant
@@ -23,13 +24,13 @@ holds n nodes steps h = keeps_run n (opening n nodes) steps (opens n nodes h.set
 
 pub chosen_backed : (n : ℕ) (w : World) (b v : ℕ) → IsChosen n w b v → Backed w b v
 chosen_backed n w b v h =
-    let one = meet n h.members h.members h.quorum h.quorum in inr (one.node, h.votes one.node one.below one.left)
+    let one = member_of n h.members h.quorum in inr (one.node, h.votes one.node one.below one.member)
 
 -- a value that was passed over is not chosen
 not_passed : (n : ℕ) (w : World) (c u : ℕ) → IsChosen n w c u → IsPassed n w c u → ⊥
 not_passed n w c u chosen passed =
-    let both = meet n chosen.members passed.members chosen.quorum passed.quorum in
-    passed.silent both.node both.below both.right (chosen.votes both.node both.below both.left)
+    let both = meet n passed.members chosen.members passed.quorum chosen.quorum in
+    passed.silent both.node both.below both.left (chosen.votes both.node both.below both.right)
 
 not_above : (n : ℕ) (w : World) → Invariant n w → (b c v u : ℕ) → c < b → IsChosen n w b v → IsChosen n w c u → (u ≡ v → ⊥) → ⊥
 not_above n w s b c v u low h k other = not_passed n w c u k (s.safe b v c u (chosen_backed n w b v h) low other)
@@ -39,8 +40,9 @@ same_above n w s b c v u low h k = elim (cases_eq u v) [ inl same ↦ same | inr
 
 same_ballot : (n : ℕ) (w : World) → Invariant n w → (b v u : ℕ) → IsChosen n w b v → IsChosen n w b u → v ≡ u
 same_ballot n w s b v u h k =
-    let both = meet n h.members k.members h.quorum k.quorum in
-    s.one_vote both.node both.node b v u (h.votes both.node both.below both.left) (k.votes both.node both.below both.right)
+    let left = member_of n h.members h.quorum in
+    let right = member_of n k.members k.quorum in
+    s.one_vote left.node right.node b v u (h.votes left.node left.below left.member) (k.votes right.node right.below right.member)
 
 pub chooses_one : (n : ℕ) (w : World) → Invariant n w → ChoosesOne n w
 chooses_one n w s b c v u h k = elim (cases_order b c) [
@@ -82,9 +84,9 @@ settled_pair n w s i j x y below member e f =
             subst (λ (b : ℕ). Has (Accepted a b y.value) w.sent) ballot
             (subst (λ (u : ℕ). Has (Accepted a z.ballot u) w.sent) value (s.kept a z node is))
 
-    passed : IsPassed n w y.ballot y.value → IsQuorum n (λ a. has_passed y (w.nodes a))
+    passed : IsPassed n w y.ballot y.value → IsPromiseQuorum n (λ a. has_passed y (w.nodes a))
     passed p =
-        quorum_grows n p.members (λ a. has_passed y (w.nodes a))
+        promise_quorum_grows n p.members (λ a. has_passed y (w.nodes a))
         (λ a node member. and_from (nat_lt y.ballot (w.nodes a).promised) (not (is_given y (w.nodes a).accepted))
         (lt-ltb y.ballot (w.nodes a).promised (p.above a node member))
         (silent a node (p.silent a node member) (is_given y (w.nodes a).accepted) refl))

@@ -1,11 +1,13 @@
-ghost use Rattle.std.specs.Prelude.{◌≡◌, ◌*◌, ◌<◌, ◌≤◌, ◌↔◌, IfSome, IsTrue, length};
+ghost use Rattle.std.specs.Prelude.{◌≡◌, ◌<◌, ◌≤◌, ◌↔◌, IfSome, IsTrue, length};
 ghost use Rattle.paxos_world.specs.Ballot.{Owns};
-ghost use Rattle.paxos_world.specs.Quorum.{count_below, IsQuorum};
+ghost use Rattle.paxos_world.specs.Quorum.{count_below};
 ghost use Rattle.paxos_world.specs.Settled.{has_passed, has_promised, BallotsSettled, IsStarted, PairSettled, Settled};
 ghost use Rattle.paxos_world.specs.World.{nodes_of};
 ghost use Rattle.paxos_model.specs.Tests.{IsCovered, NodeSettled, VoteStands};
 
+use paxos_world::ballot::owns;
 use paxos_world::kept::Kept;
+use paxos_world::quorum::is_promise_quorum;
 use paxos_world::vote::Vote;
 
 /// Whether a room of these nodes can be opened with these kept parts: true exactly where they are
@@ -74,15 +76,7 @@ fn is_started(n: usize, node: usize, started: u16, ballot: u16) -> bool
     ballot <= started || !owns(n, node, ballot)
 }
 
-/// Whether the node is the ballot's owner.
-fn owns(n: usize, node: usize, ballot: u16) -> bool
-    requires { 0 < n }
-    ensures { IsTrue result ↔ Owns n node ballot }
-{
-    ballot != 0 && usize::from(ballot) % n == node
-}
-
-/// Whether the vote's value has offered, a quorum has promised its ballot, and it goes with every
+/// Whether the vote's value has offered, a promise quorum has promised its ballot, and it goes with every
 /// other vote.
 fn vote_stands(parts: &[Kept], vote: Vote) -> bool
     ensures { IsTrue result ↔ VoteStands (length parts.now) (nodes_of parts.now) vote }
@@ -92,7 +86,7 @@ fn vote_stands(parts: &[Kept], vote: Vote) -> bool
         return false;
     }
     let part = parts[value];
-    if !part.offered() || !is_quorum(parts.len(), count_promised(parts, vote.ballot)) {
+    if !part.offered() || !is_promise_quorum(parts.len(), count_promised(parts, vote.ballot)) {
         return false;
     }
     for other in parts {
@@ -121,14 +115,7 @@ fn pair_settled(parts: &[Kept], vote: Vote, lower: Vote) -> bool
     if lower.value == vote.value || lower.ballot > vote.ballot {
         return true;
     }
-    lower.ballot < vote.ballot && is_quorum(parts.len(), count_passed(parts, lower))
-}
-
-/// Whether `count` of `n` nodes are more than half.
-fn is_quorum(n: usize, count: usize) -> bool
-    ensures { IsTrue result ↔ (n < 2 * count) }
-{
-    n / 2 < count
+    lower.ballot < vote.ballot && is_promise_quorum(parts.len(), count_passed(parts, lower))
 }
 
 /// How many nodes have promised at least the ballot.

@@ -3,14 +3,15 @@ use Rattle.std.proofs.Common.{◌≡◌, ℕ, ◌<◌, ◌≤◌, ◌⊎◌, ◌
 use Rattle.std.proofs.lemmas.Bool.{ltb-true, lt-ltb, eqb-true, eq-eqb, leb-true, le-leb, and_parts, and_from}
 use Rattle.std.specs.List.{list_any}
 use Rattle.paxos_world.specs.KeptPart.{vote}
+use Rattle.paxos_world.specs.Quorum.{is_promise_quorum, is_accept_quorum, IsPromiseQuorum}
+use Rattle.paxos_world.proofs.Quorums.{promise_quorum_grows, accept_quorum_grows, member_of}
 use Rattle.paxos_world.specs.Step.{NamesNone, IsHighest, IsSafeChoice, IsChosen, HasOffered}
 use Rattle.paxos_world.specs.World.{World, Has}
 use Rattle.paxos_world.specs.declared.msg.Msg.{Msg}
 use Rattle.paxos_world.specs.declared.msg.Msg.TheVariants.{Prepare, Promise, Propose, Accepted}
 use Rattle.paxos_world.specs.declared.vote.Vote.{Vote}
-use Rattle.paxos_reference.specs.Tests.{is_accepted, is_within, is_promise, has_promised, has_voted, is_majority, is_highest, is_tally, IsFree}
+use Rattle.paxos_reference.specs.Tests.{is_accepted, is_within, is_promise, has_promised, has_voted, is_highest, is_tally, IsFree}
 use Rattle.paxos_reference.proofs.Found.{any_has, found}
-use Rattle.paxos_reference.proofs.Quorums.{is_majority-grows, IsQuorum-from_majority, member_of}
 
 -- ---- promises
 
@@ -57,7 +58,7 @@ safe_from_free n w b v h =
     record {
       members = has_promised w.sent b None;
       reports = λ _. None;
-      quorum = IsQuorum-from_majority n (has_promised w.sent b None) h.majority;
+      quorum = h.quorum;
       promises = λ a below member.
           let p = promise_found w.sent b None a member in
           subst (λ r. Has (Promise a b r) w.sent) (within_none p.0 p.1.within) p.1.stands;
@@ -66,7 +67,7 @@ safe_from_free n w b v h =
 
 -- ---- a value that is adopted
 
-module _ (n : ℕ) (w : World) (b v k : ℕ) (x : Vote) (below : k < n) (stands : Has (Promise k b (Some x)) w.sent) (value : x.value ≡ v) (majority : is_majority n (has_promised w.sent b (Some x.ballot)) ≡ true) where
+module _ (n : ℕ) (w : World) (b v k : ℕ) (x : Vote) (below : k < n) (stands : Has (Promise k b (Some x)) w.sent) (value : x.value ≡ v) (quorum : IsPromiseQuorum n (has_promised w.sent b (Some x.ballot))) where
   -- what node a is taken to have reported, where it has promised
   abbrev Report : ℕ → Type 0
   Report a = (report : Option Vote) × (IsTrue (has_promised w.sent b (Some x.ballot) a) → Promised w.sent b (Some x.ballot) a report)
@@ -95,7 +96,7 @@ module _ (n : ℕ) (w : World) (b v k : ℕ) (x : Vote) (below : k < n) (stands 
       record {
         members = has_promised w.sent b (Some x.ballot);
         reports = λ a. (report_of a).0;
-        quorum = IsQuorum-from_majority n (has_promised w.sent b (Some x.ballot)) majority;
+        quorum = quorum;
         promises = λ a in_room member. ((report_of a).1 member).stands;
         choice = inr (record {
           node = k;
@@ -109,9 +110,9 @@ module _ (n : ℕ) (w : World) (b v k : ℕ) (x : Vote) (below : k < n) (stands 
 
 highest_in : (n : ℕ) (w : World) (b v : ℕ) (m : Msg) → Has m w.sent → is_highest w.sent n b v m ≡ true → IsSafeChoice n w b v
 highest_in n w b v (Promise k c (Some x)) h e =
-    let all = and_parts (ltb k n) (eqb c b && (eqb x.value v && is_majority n (has_promised w.sent b (Some x.ballot)))) e in
-    let rest = and_parts (eqb c b) (eqb x.value v && is_majority n (has_promised w.sent b (Some x.ballot))) all.1 in
-    let last = and_parts (eqb x.value v) (is_majority n (has_promised w.sent b (Some x.ballot))) rest.1 in
+    let all = and_parts (ltb k n) (eqb c b && (eqb x.value v && is_promise_quorum n (has_promised w.sent b (Some x.ballot)))) e in
+    let rest = and_parts (eqb c b) (eqb x.value v && is_promise_quorum n (has_promised w.sent b (Some x.ballot))) all.1 in
+    let last = and_parts (eqb x.value v) (is_promise_quorum n (has_promised w.sent b (Some x.ballot))) rest.1 in
     let stands : Has (Promise k b (Some x)) w.sent = subst (λ d. Has (Promise k d (Some x)) w.sent) (eqb-true c b rest.0) h in
     safe_from_highest n w b v k x (ltb-true k n all.0) stands (eqb-true x.value v last.0) last.1
 highest_in n w b v (Promise k c None) h e = absurd (cc)
@@ -129,7 +130,7 @@ module _ (n : ℕ) (w : World) (b v : ℕ) (s : IsSafeChoice n w b v) where
   free_from_safe none offered =
       record {
         offered = offered;
-        majority = is_majority-grows n s.members (has_promised w.sent b None)
+        quorum = promise_quorum_grows n s.members (has_promised w.sent b None)
             (λ a below member. promise_shown w.sent b None a (s.reports a) (s.promises a below member) (ap (is_within None) (none a below member))) s.quorum;
       }
 
@@ -137,14 +138,14 @@ module _ (n : ℕ) (w : World) (b v : ℕ) (s : IsSafeChoice n w b v) where
   adopted_from_safe high =
       let stands : Has (Promise high.node b (Some (vote high.ballot v))) w.sent
       = subst (λ r. Has (Promise high.node b r) w.sent) high.report (s.promises high.node high.below high.member) in
-      let majority : is_majority n (has_promised w.sent b (Some high.ballot)) ≡ true
-      = is_majority-grows n s.members (has_promised w.sent b (Some high.ballot))
+      let quorum : IsPromiseQuorum n (has_promised w.sent b (Some high.ballot))
+      = promise_quorum_grows n s.members (has_promised w.sent b (Some high.ballot))
       (λ a below member. promise_shown w.sent b (Some high.ballot) a (s.reports a) (s.promises a below member)
       (within_from high.ballot (s.reports a) (λ x is. high.highest a x below member is))) s.quorum in
       any_has (is_highest w.sent n b v) (Promise high.node b (Some (vote high.ballot v))) w.sent stands
-      (and_from (ltb high.node n) (eqb b b && (eqb v v && is_majority n (has_promised w.sent b (Some high.ballot)))) (lt-ltb high.node n high.below)
-      (and_from (eqb b b) (eqb v v && is_majority n (has_promised w.sent b (Some high.ballot))) (eq-eqb b b refl)
-      (and_from (eqb v v) (is_majority n (has_promised w.sent b (Some high.ballot))) (eq-eqb v v refl) majority)))
+      (and_from (ltb high.node n) (eqb b b && (eqb v v && is_promise_quorum n (has_promised w.sent b (Some high.ballot)))) (lt-ltb high.node n high.below)
+      (and_from (eqb b b) (eqb v v && is_promise_quorum n (has_promised w.sent b (Some high.ballot))) (eq-eqb b b refl)
+      (and_from (eqb v v) (is_promise_quorum n (has_promised w.sent b (Some high.ballot))) (eq-eqb v v refl) quorum)))
 
   safe_cases : IsFree n w b v ⊎ (list_any (is_highest w.sent n b v) w.sent ≡ true)
   safe_cases = elim s.choice [ inl none ↦ inl (free_from_safe none.0 none.1) | inr high ↦ inr (adopted_from_safe high) ]
@@ -182,11 +183,11 @@ vote_in sent b v a (Propose c u) h e = absurd (cc)
 
 tally_in : (n : ℕ) (w : World) (v : ℕ) (m : Msg) → Has m w.sent → is_tally w.sent n v m ≡ true → (b : ℕ) × IsChosen n w b v
 tally_in n w v (Accepted k b u) h e =
-    let all = and_parts (eqb u v) (is_majority n (has_voted w.sent b v)) e in (
+    let all = and_parts (eqb u v) (is_accept_quorum n (has_voted w.sent b v)) e in (
       b,
       record {
         members = has_voted w.sent b v;
-        quorum = IsQuorum-from_majority n (has_voted w.sent b v) all.1;
+        quorum = all.1;
         votes = λ a below member. let f = found (is_accepted a b v) w.sent member in vote_in w.sent b v a f.item f.stands f.passes;
       },
     )
@@ -198,10 +199,10 @@ tally_from : (n : ℕ) (w : World) (b v : ℕ) → IsChosen n w b v → list_any
 tally_from n w b v h =
     let one = member_of n h.members h.quorum in
     any_has (is_tally w.sent n v) (Accepted one.node b v) w.sent (h.votes one.node one.below one.member)
-    (and_from (eqb v v) (is_majority n (has_voted w.sent b v)) (eq-eqb v v refl)
-    (is_majority-grows n h.members (has_voted w.sent b v) (λ a below member. vote_shown w.sent b v a (h.votes a below member)) h.quorum))
+    (and_from (eqb v v) (is_accept_quorum n (has_voted w.sent b v)) (eq-eqb v v refl)
+    (accept_quorum_grows n h.members (has_voted w.sent b v) (λ a below member. vote_shown w.sent b v a (h.votes a below member)) h.quorum))
 
--- a majority voted for v under one ballot
+-- an accept quorum voted for v under one ballot
 pub chosen_tells : (n : ℕ) (w : World) (v : ℕ) (r : Bool) → r ≡ list_any (is_tally w.sent n v) w.sent → IsTrue r ↔ ((b : ℕ) × IsChosen n w b v)
 chosen_tells n w v r is = (
   λ h. let f = found (is_tally w.sent n v) w.sent (sym is ∙ h) in tally_in n w v f.item f.stands f.passes,

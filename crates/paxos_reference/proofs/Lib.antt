@@ -2,4 +2,3 @@ pub mod Choices
 pub mod Found
 pub mod FromOne
 pub mod OpeningLemmas
-pub mod Quorums

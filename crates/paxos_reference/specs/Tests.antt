@@ -1,7 +1,7 @@
 -- What is sought in the messages that were sent, one definition for each function that seeks it.
-use Rattle.std.specs.Prelude.{◌≡◌, ℕ, ◌*◌, ◌==◌, nat_lt, nat_le, Bool, true, false, ◌&&◌, List, Option, Some, None}
+use Rattle.std.specs.Prelude.{◌≡◌, ℕ, ◌==◌, nat_lt, nat_le, Bool, true, false, ◌&&◌, List, Option, Some, None}
 use Rattle.std.specs.List.{list_any}
-use Rattle.paxos_world.specs.Quorum.{count_below}
+use Rattle.paxos_world.specs.Quorum.{is_promise_quorum, is_accept_quorum, IsPromiseQuorum}
 use Rattle.paxos_world.specs.Step.{HasOffered}
 use Rattle.paxos_world.specs.World.{World}
 use Rattle.paxos_world.specs.declared.msg.Msg.{Msg}
@@ -47,22 +47,18 @@ has_promised sent b most a = list_any (is_promise a b most) sent
 abbrev pub has_voted : List Msg → ℕ → ℕ → ℕ → Bool
 has_voted sent b v a = list_any (is_accepted a b v) sent
 
--- more than half of the n nodes pass the test
-abbrev pub is_majority : ℕ → (ℕ → Bool) → Bool
-is_majority n q = nat_lt n (2 * count_below n q)
-
--- the message is a promise for ballot b that reports a vote for v, and a majority's promises report none above it
+-- the message is a promise for ballot b that reports a vote for v, and a promise quorum's promises report none above it
 abbrev pub is_highest : List Msg → ℕ → ℕ → ℕ → Msg → Bool
 is_highest sent n b v (Promise k c (Some x)) =
-    nat_lt k n && ((c == b) && ((x.value == v) && is_majority n (has_promised sent b (Some x.ballot))))
+    nat_lt k n && ((c == b) && ((x.value == v) && is_promise_quorum n (has_promised sent b (Some x.ballot))))
 is_highest sent n b v other = false
 
--- the message is a vote for v, and a majority voted as it does
+-- the message is a vote for v, and an accept quorum voted as it does
 abbrev pub is_tally : List Msg → ℕ → ℕ → Msg → Bool
-is_tally sent n v (Accepted k b u) = (u == v) && is_majority n (has_voted sent b v)
+is_tally sent n v (Accepted k b u) = (u == v) && is_accept_quorum n (has_voted sent b v)
 is_tally sent n v other = false
 
--- a majority's promises for ballot b report no vote, and v has offered
+-- a promise quorum's promises for ballot b report no vote, and v has offered
 pub record IsFree (n : ℕ) (w : World) (b v : ℕ) : Type 0 where
   pub offered : HasOffered n w.nodes v
-  pub majority : is_majority n (has_promised w.sent b None) ≡ true
+  pub quorum : IsPromiseQuorum n (has_promised w.sent b None)

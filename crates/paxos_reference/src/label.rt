@@ -11,7 +11,7 @@ pub enum Label {
     Proposes(u16, u16),
     /// `Accepts(node, ballot, value)`: phase 2b.
     Accepts(u8, u16, u16),
-    /// `Learns(node, value)`: a majority has voted for the value under one ballot.
+    /// `Learns(node, value)`: an accept quorum has voted for the value under one ballot.
     Learns(u8, u16),
     /// `Restarts(node)`: it forgets all but its kept part.
     Restarts(u8),

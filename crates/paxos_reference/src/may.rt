@@ -84,7 +84,7 @@ impl World {
         is_proposed(&self.sent, ballot, value) && part.promised() <= ballot
     }
 
-    /// What a majority voted for under one ballot is learned.
+    /// What an accept quorum voted for under one ballot is learned.
     fn may_learn(&self, node: u8, value: u16) -> bool
         ensures { IsTrue result ↔ Allowed (length self.now.nodes.items) (world_of self.now) (Learns node value) }
     {
@@ -92,7 +92,7 @@ impl World {
         usize::from(node) < count && is_chosen(&self.sent, count, value)
     }
 
-    /// Whether the value is that of the highest vote that a majority's promises report, or free to choose.
+    /// Whether the value is that of the highest vote that a promise quorum reports, or free to choose.
     fn is_safe_choice(&self, ballot: u16, value: u16) -> bool
         ensures { IsTrue result ↔ IsSafeChoice (length self.now.nodes.items) (world_of self.now) ballot value }
     {
@@ -100,7 +100,7 @@ impl World {
         adopted || self.is_free(ballot, value)
     }
 
-    /// Whether a majority's promises report no vote, and the value's node has offered.
+    /// Whether a promise quorum reports no vote, and the value's node has offered.
     fn is_free(&self, ballot: u16, value: u16) -> bool
         ensures { IsTrue result ↔ IsFree (length self.now.nodes.items) (world_of self.now) ballot value }
     {

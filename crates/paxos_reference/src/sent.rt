@@ -1,11 +1,12 @@
-ghost use Rattle.std.specs.Prelude.{◌≡◌, ℕ, ◌↔◌, ◌*◌, ◌<◌, ◌≤◌, IsTrue, length};
+ghost use Rattle.std.specs.Prelude.{◌≡◌, ℕ, ◌↔◌, ◌≤◌, IsTrue, length};
 ghost use Rattle.std.specs.List.{list_any};
-ghost use Rattle.paxos_world.specs.Quorum.{count_below};
+ghost use Rattle.paxos_world.specs.Quorum.{count_below, is_promise_quorum};
 ghost use Rattle.paxos_world.specs.World.{Has};
 ghost use Rattle.paxos_world.specs.declared.msg.Msg.TheVariants.{Prepare, Propose};
-ghost use Rattle.paxos_reference.specs.Tests.{has_promised, has_voted, is_accepted, is_highest, is_majority, is_prepare, is_promise, is_proposal, is_propose, is_tally, is_within};
+ghost use Rattle.paxos_reference.specs.Tests.{has_promised, has_voted, is_accepted, is_highest, is_prepare, is_promise, is_proposal, is_propose, is_tally, is_within};
 
 use paxos_world::msg::Msg;
+use paxos_world::quorum::{is_accept_quorum, is_promise_quorum};
 use paxos_world::vote::Vote;
 
 /// Whether `Prepare(ballot)` was sent.
@@ -30,14 +31,14 @@ pub fn is_unproposed(sent: &[Msg], ballot: u16) -> bool
     !sent.iter().any(|message| is_proposal(*message, ballot))
 }
 
-/// Whether a majority's promises for the ballot report no vote above `most`, or none at all.
+/// Whether a promise quorum's promises for the ballot report no vote above `most`, or none at all.
 pub fn is_promised(sent: &[Msg], count: usize, ballot: u16, most: Option<u16>) -> bool
-    ensures { result ≡ is_majority count (has_promised sent.now ballot most) }
+    ensures { result ≡ is_promise_quorum count (has_promised sent.now ballot most) }
 {
-    is_more_than_half(count, count_promised(sent, count, ballot, most))
+    is_promise_quorum(count, count_promised(sent, count, ballot, most))
 }
 
-/// Whether the value is that of the highest vote that promises of some majority for the ballot report.
+/// Whether the value is that of the highest vote that promises of some promise quorum for the ballot report.
 pub fn is_adopted(sent: &[Msg], count: usize, ballot: u16, value: u16) -> bool
     ensures { result ≡ list_any (is_highest sent.now count ballot value) sent.now }
 {
@@ -45,7 +46,7 @@ pub fn is_adopted(sent: &[Msg], count: usize, ballot: u16, value: u16) -> bool
         .any(|message| is_highest(sent, count, *message, ballot, value))
 }
 
-/// Whether a majority voted for the value under one ballot.
+/// Whether an accept quorum voted for the value under one ballot.
 pub fn is_chosen(sent: &[Msg], count: usize, value: u16) -> bool
     ensures { result ≡ list_any (is_tally sent.now count value) sent.now }
 {
@@ -54,7 +55,7 @@ pub fn is_chosen(sent: &[Msg], count: usize, value: u16) -> bool
 }
 
 /// Whether the message is a promise whose reported vote is for the value, and is the highest that promises of some
-/// majority report.
+/// promise quorum report.
 fn is_highest(sent: &[Msg], count: usize, message: Msg, ballot: u16, value: u16) -> bool
     ensures { result ≡ is_highest sent.now count ballot value message }
 {
@@ -69,23 +70,16 @@ fn is_highest(sent: &[Msg], count: usize, message: Msg, ballot: u16, value: u16)
     }
 }
 
-/// Whether the message is a vote for the value, and a majority voted as it does.
+/// Whether the message is a vote for the value, and an accept quorum voted as it does.
 fn is_tally(sent: &[Msg], count: usize, message: Msg, value: u16) -> bool
     ensures { result ≡ is_tally sent.now count value message }
 {
     match message {
         Msg::Accepted(_, ballot, voted) => {
-            voted == value && is_more_than_half(count, count_voted(sent, count, ballot, value))
+            voted == value && is_accept_quorum(count, count_voted(sent, count, ballot, value))
         }
         _ => false,
     }
-}
-
-fn is_more_than_half(count: usize, part: usize) -> bool
-    requires { part ≤ count }
-    ensures { IsTrue result ↔ (count < 2 * part) }
-{
-    count / 2 < part
 }
 
 /// How many nodes sent a promise for the ballot that reports no vote above `most`.

@@ -22,6 +22,10 @@ IsWithinPromise promised accepted = IfSome accepted (λ x. (1 ≤ x.ballot) × (
 abbrev pub with_offer : KeptPart → KeptPart
 with_offer k = record { offered = true; started = k.started; promised = k.promised; accepted = k.accepted }
 
+-- the part without its node's offer
+abbrev pub without_offer : KeptPart → KeptPart
+without_offer k = record { offered = false; started = k.started; promised = k.promised; accepted = k.accepted }
+
 -- the part once its node has started ballot b
 abbrev pub with_start : ℕ → KeptPart → KeptPart
 with_start b k = record { offered = k.offered; started = b; promised = k.promised; accepted = k.accepted }

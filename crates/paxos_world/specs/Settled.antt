@@ -2,7 +2,7 @@
 use Rattle.std.specs.Prelude.{◌≡◌, ◌≢◌, ℕ, ◌<◌, ◌≤◌, ◌⊎◌, Bool, false, ◌&&◌, not, ◌==◌, nat_lt, nat_le, Option, Some, None}
 use Rattle.paxos_world.specs.Ballot.{Owns}
 use Rattle.paxos_world.specs.KeptPart.{KeptPart, IsWithinPromise}
-use Rattle.paxos_world.specs.Quorum.{IsQuorum}
+use Rattle.paxos_world.specs.Quorum.{IsPromiseQuorum}
 use Rattle.paxos_world.specs.Step.{HasOffered}
 use Rattle.paxos_world.specs.declared.vote.Vote.{Vote}
 
@@ -33,15 +33,15 @@ pub record BallotsSettled (n : ℕ) (nodes : ℕ → KeptPart) (i : ℕ) : Type 
   pub promised : (j : ℕ) → j < n → IsStarted n i (nodes i) (nodes j).promised
   pub accepted : (j : ℕ) (x : Vote) → j < n → (nodes j).accepted ≡ Some x → IsStarted n i (nodes i) x.ballot
 
--- a vote: its value is a node that has offered, and a quorum has promised at least its ballot
+-- a vote: its value is a node that has offered, and a promise quorum has promised at least its ballot
 pub record VoteSettled (n : ℕ) (nodes : ℕ → KeptPart) (x : Vote) : Type 0 where
   pub offered : HasOffered n nodes x.value
-  pub quorum : IsQuorum n (λ a. has_promised x.ballot (nodes a))
+  pub quorum : IsPromiseQuorum n (λ a. has_promised x.ballot (nodes a))
 
 -- two votes: those of one ballot have one value, and one of a lower ballot and another value can no more be chosen
 pub record PairSettled (n : ℕ) (nodes : ℕ → KeptPart) (x y : Vote) : Type 0 where
   pub same : x.ballot ≡ y.ballot → x.value ≡ y.value
-  pub lower : y.ballot < x.ballot → y.value ≢ x.value → IsQuorum n (λ a. has_passed y (nodes a))
+  pub lower : y.ballot < x.ballot → y.value ≢ x.value → IsPromiseQuorum n (λ a. has_passed y (nodes a))
 
 -- the kept parts of n nodes are settled, node by node
 pub record Settled (n : ℕ) (nodes : ℕ → KeptPart) : Type 0 where

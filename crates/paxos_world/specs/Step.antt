@@ -3,7 +3,7 @@
 use Rattle.std.specs.Prelude.{◌≡◌, ℕ, ◌<◌, ◌≤◌, ◌⊎◌, Bool, false, IsTrue, ◌∷◌, Option, Some, None}
 use Rattle.paxos_world.specs.Ballot.{Owns}
 use Rattle.paxos_world.specs.KeptPart.{KeptPart, with_offer, with_start, with_promise, with_vote, vote}
-use Rattle.paxos_world.specs.Quorum.{IsQuorum}
+use Rattle.paxos_world.specs.Quorum.{IsPromiseQuorum, IsAcceptQuorum}
 use Rattle.paxos_world.specs.World.{World, Has, put}
 use Rattle.paxos_world.specs.declared.msg.Msg.TheVariants.{Prepare, Promise, Propose, Accepted}
 use Rattle.paxos_world.specs.declared.vote.Vote.{Vote}
@@ -35,19 +35,19 @@ pub record IsHighest (n : ℕ) (members : ℕ → Bool) (reports : ℕ → Optio
   pub report : reports node ≡ Some (vote ballot v)
   pub highest : (a : ℕ) (x : Vote) → a < n → IsTrue (members a) → reports a ≡ Some x → x.ballot ≤ ballot
 
--- what a proposal of v under b rests on: all of some quorum sent promises for b, and v is the value of the highest
+-- what a proposal of v under b rests on: all of some promise quorum sent promises for b, and v is the value of the highest
 -- vote that they report or, if they report none, a node that has offered
 pub record IsSafeChoice (n : ℕ) (w : World) (b v : ℕ) : Type 0 where
   pub members : ℕ → Bool
   pub reports : ℕ → Option Vote
-  pub quorum : IsQuorum n members
+  pub quorum : IsPromiseQuorum n members
   pub promises : (a : ℕ) → a < n → IsTrue (members a) → Has (Promise a b (reports a)) w.sent
   pub choice : (NamesNone n members reports × HasOffered n w.nodes v) ⊎ IsHighest n members reports v
 
--- all of some quorum voted for v under the one ballot b
+-- all of some accept quorum voted for v under the one ballot b
 pub record IsChosen (n : ℕ) (w : World) (b v : ℕ) : Type 0 where
   pub members : ℕ → Bool
-  pub quorum : IsQuorum n members
+  pub quorum : IsAcceptQuorum n members
   pub votes : (a : ℕ) → a < n → IsTrue (members a) → Has (Accepted a b v) w.sent
 
 -- what a step needs, among n nodes

@@ -3,6 +3,8 @@
 //! Promises only what its types keep: a `Kept` holds no vote above its promise.
 #![tactic(auto)]
 
+pub mod ballot;
 pub mod kept;
 pub mod msg;
+pub mod quorum;
 pub mod vote;

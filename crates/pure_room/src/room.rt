@@ -1,9 +1,9 @@
-ghost use Rattle.std.specs.Prelude.{◌≡◌, ℕ, ◌<◌, Contains, Some, IfOk, IfSome, OnOk, length, slice_get};
+ghost use Rattle.std.specs.Prelude.{◌≡◌, ℕ, ◌<◌, Some, IfOk, IfSome, OnOk, length, slice_get};
 ghost use Rattle.paxos_core.specs.Call.{Offer, Proposal, Start};
 ghost use Rattle.pure_room.specs.HandedOn.{HaveLearned, after_call_of, after_message_to, new_room};
 ghost use Rattle.pure_room.specs.Played.{IsLearnedByAll};
 
-use paxos_core::Node;
+use paxos_core::{Node, agreement};
 use paxos_world::msg::Msg;
 use std::alloc::{AllocError, Global};
 use std::marker::Model;
@@ -19,13 +19,11 @@ struct Room {
 }
 
 impl Model for Room {
-    ghost use Rattle.pure_room.specs.Played.{RoomState, CameAbout};
+    ghost use Rattle.pure_room.specs.HandedOn.{RoomState};
 
     ghost Value = { RoomState };
 
     ghost view = { λ r. record { nodes = r.nodes; sent = r.sent.items } };
-
-    ghost invariant = { λ r. CameAbout (record { nodes = r.nodes; sent = r.sent.items }) };
 }
 
 impl Room {
@@ -88,7 +86,7 @@ impl Room {
 
     /// The value that all three have learned, if they have learned one.
     fn learned_by_all(&self) -> Option<u8>
-        ensures all { IfSome result IsLearnedByAll }
+        ensures all { IfSome result (HaveLearned self.now) }
         ensures value { (v : ℕ) → HaveLearned self.now v → result ≡ Some v }
     {
         let value = self.nodes[0].learned()?;
@@ -98,19 +96,20 @@ impl Room {
 }
 
 fn message_at(sent: &[Msg], place: usize) -> Option<Msg>
-    ensures value { result ≡ slice_get sent.now place }
-    ensures one { IfSome result (Contains sent.now) }
+    ensures { result ≡ slice_get sent.now place }
 {
     sent.get(place).copied()
 }
 
 /// Three nodes make their offers and node 0 starts. Then each message, in the order of sending, is
 /// handed to nodes 0, 1 and 2, whose answers are sent, and after each message node 0 is asked to
-/// propose. The value that all three then have learned is node 0's.
+/// propose. The value that all three have learned in the run that was made is node 0's, and nobody has
+/// learned another.
 pub fn agree(alloc: Global) -> Result<Option<u8>, AllocError>
     ensures played { IfOk result (λ learned. IfSome learned IsLearnedByAll) }
     ensures value { IfOk result (λ learned. learned ≡ Some 0) }
 {
+    agreement();
     let mut room = Room::new(alloc);
     for node in 0..3 {
         room.offer(node);

@@ -1,5 +1,6 @@
 use Rattle.paxos_law.proofs.BallotLemmas.{least_above_is}
 use Rattle.paxos_law.proofs.TakesLemmas.{offer_takes, start_takes, propose_takes, on_takes, restart_takes}
+use Rattle.paxos_law.proofs.WouldLemmas.{told_is_done, proposed_once}
 use Rattle.paxos_law.proofs.law.law.Goals as goal
 
 pub returns-clause-next : goal.returns-clause-next
@@ -19,3 +20,9 @@ returns-clause-message c = on_takes
 
 pub returns-clause-restart : goal.returns-clause-restart
 returns-clause-restart c = restart_takes
+
+pub returns-clause-told : goal.returns-clause-told
+returns-clause-told c = told_is_done
+
+pub returns-clause-once : goal.returns-clause-once
+returns-clause-once c = proposed_once

@@ -1,5 +1,5 @@
 use Rattle.std.proofs.Common.{◌≡◌, ◌≤◌}
-use Rattle.pure_room.proofs.HandOn.{handed_on, handed_to, offers_made}
+use Rattle.pure_room.specs.HandedOn.{handed_on, handed_to, offers_made}
 use Rattle.pure_room.proofs.room.agree.Given as goal
 
 -- the first nodes have offered

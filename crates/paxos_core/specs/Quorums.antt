@@ -1,7 +1,7 @@
 -- What it takes to learn (Lamport, Paxos Made Simple, section 2.3), over all the calls of a node since a restart.
 use Rattle.std.specs.Prelude.{◌≡◌, ℕ, ◌≤◌, List, [], ◌∷◌, ◌++◌, Some, IsSome}
 use Rattle.paxos_world.specs.KeptPart.{KeptPart, vote}
-use Rattle.paxos_world.specs.Quorum.{IsQuorum}
+use Rattle.paxos_world.specs.Quorum.{IsAcceptQuorum}
 use Rattle.paxos_core.specs.Call.{Call, Offer, Start, Proposal, On, Restart, after_calls}
 use Rattle.paxos_law.specs.NodeState.{NodeState, node_with}
 use Rattle.paxos_law.specs.Notes.{note_of, has_voted}
@@ -15,28 +15,28 @@ HasNoRestart (Proposal ∷ cs) = HasNoRestart cs
 HasNoRestart (On message ∷ cs) = HasNoRestart cs
 HasNoRestart (Restart ∷ cs) = ⊥
 
--- the votes noted of a majority have this one ballot
-abbrev pub HasMajority : NodeState → ℕ → Type 0
-HasMajority s b = IsQuorum s.count (has_voted s.votes b)
+-- the votes noted of an accept quorum have this one ballot
+abbrev pub HasQuorum : NodeState → ℕ → Type 0
+HasQuorum s b = IsAcceptQuorum s.count (has_voted s.votes b)
 
--- at some moment of these calls the votes noted of a majority had one ballot, and a vote under it for v was noted
-pub record WasMajority (s : NodeState) (calls : List Call) (v : ℕ) : Type 0 where
+-- at some moment of these calls the votes noted of an accept quorum had one ballot, and a vote under it for v was noted
+pub record WasQuorum (s : NodeState) (calls : List Call) (v : ℕ) : Type 0 where
   pub later : List Call
   pub earlier : List Call
   pub split : calls ≡ later ++ earlier
   pub ballot : ℕ
-  pub majority : HasMajority (after_calls s earlier) ballot
+  pub quorum : HasQuorum (after_calls s earlier) ballot
   pub node : ℕ
   pub noted : note_of (after_calls s earlier).votes node ≡ Some (vote ballot v)
 
--- what a node of a room has learned since a restart, it learned from such a majority
-abbrev pub LearnsFromMajority : Type 0
-LearnsFromMajority =
+-- what a node of a room has learned since a restart, it learned from such a quorum
+abbrev pub LearnsFromQuorum : Type 0
+LearnsFromQuorum =
     (me n : ℕ) (kept : KeptPart) (calls : List Call) (v : ℕ) → n ≤ 7 → HasNoRestart calls
-    → (after_calls (node_with me n kept) calls).learned ≡ Some v → WasMajority (node_with me n kept) calls v
+    → (after_calls (node_with me n kept) calls).learned ≡ Some v → WasQuorum (node_with me n kept) calls v
 
--- and once there was such a majority, it has learned
-abbrev pub MajorityIsLearned : Type 0
-MajorityIsLearned =
+-- and once there was such a quorum, it has learned
+abbrev pub QuorumIsLearned : Type 0
+QuorumIsLearned =
     (me n : ℕ) (kept : KeptPart) (later earlier : List Call) (b : ℕ) → HasNoRestart (later ++ earlier)
-    → HasMajority (after_calls (node_with me n kept) earlier) b → IsSome (after_calls (node_with me n kept) (later ++ earlier)).learned
+    → HasQuorum (after_calls (node_with me n kept) earlier) b → IsSome (after_calls (node_with me n kept) (later ++ earlier)).learned

@@ -1,19 +1,19 @@
--- A node learns exactly once the votes noted of a majority have had one ballot.
-use Rattle.std.proofs.Common.{◌≡◌, ℕ, ◌*◌, ◌<◌, ◌≤◌, ◌⊎◌, Bool, true, false, cond, ◌&&◌, ltb, List, [], ◌∷◌, ◌++◌, length, Option, Some, None, IsTrue, IsSome, refl, sym, ap, ◌∙◌, subst, inl, inr, arith}
-use Rattle.std.proofs.lemmas.Bool.{ltb-true, lt-ltb, eq-eqb, and_parts, cases_eq}
+-- A node learns exactly once the votes noted of an accept quorum have had one ballot.
+use Rattle.std.proofs.Common.{◌≡◌, ℕ, ◌<◌, ◌≤◌, ◌⊎◌, Bool, true, false, cond, ◌&&◌, ltb, List, [], ◌∷◌, ◌++◌, length, Option, Some, None, IsTrue, IsSome, refl, sym, ap, ◌∙◌, subst, inl, inr, arith}
+use Rattle.std.proofs.lemmas.Bool.{ltb-true, eq-eqb, and_parts, cases_eq}
 use Rattle.std.proofs.lemmas.List.{get_or-set_same}
 use Rattle.paxos_world.specs.KeptPart.{KeptPart, vote}
-use Rattle.paxos_world.specs.Quorum.{count_below, IsQuorum}
+use Rattle.paxos_world.specs.Quorum.{is_accept_quorum, IsAcceptQuorum}
+use Rattle.paxos_world.proofs.Quorums.{member_of, accept_quorum_grows}
 use Rattle.paxos_world.specs.declared.msg.Msg.{Msg}
 use Rattle.paxos_world.specs.declared.msg.Msg.TheVariants.{Prepare, Promise, Propose, Accepted}
 use Rattle.paxos_world.specs.declared.vote.Vote.{Vote}
-use Rattle.paxos_invariant.proofs.Quorums.{meet, quorum_grows}
 use Rattle.paxos_law.specs.Acceptor.{is_vote, promises, accepts}
 use Rattle.paxos_core.specs.Call.{Call, Offer, Start, Proposal, On, Restart, has_ballot, after_call, after_calls}
 use Rattle.paxos_law.specs.Learner.{is_at_most, notes_promise, notes_vote, votes_with, learned_with, voted}
-use Rattle.paxos_core.specs.Majority.{HasNoRestart, HasMajority, WasMajority, LearnsFromMajority, MajorityIsLearned}
+use Rattle.paxos_core.specs.Quorums.{HasNoRestart, HasQuorum, WasQuorum, LearnsFromQuorum, QuorumIsLearned}
 use Rattle.paxos_law.specs.NodeState.{NodeState, node_with, nothing_noted}
-use Rattle.paxos_law.specs.Notes.{note_of, is_under, has_voted, is_majority}
+use Rattle.paxos_law.specs.Notes.{note_of, is_under, has_voted}
 use Rattle.paxos_law.specs.Proposer.{proposal, after_answer}
 use Rattle.paxos_core.proofs.CallLemmas.{IsNode, node_with-is, after_call-is}
 use Rattle.paxos_law.proofs.NoteLemmas.{note_of-set, note_of-nothing, voted_vote}
@@ -66,14 +66,14 @@ stays_with None q v h = absurd (cc)
 stays : (s t : NodeState) → VotesChange s t → IsSome s.learned → IsSome t.learned
 stays s t d h = elim d [
   | inl e ↦ rw e.learned h
-  | inr e ↦ rw e.2.is (stays_with s.learned (is_majority s.count (has_voted (votes_with s e.0 e.1) e.1.ballot)) e.1.value h)
+  | inr e ↦ rw e.2.is (stays_with s.learned (is_accept_quorum s.count (has_voted (votes_with s e.0 e.1) e.1.ballot)) e.1.value h)
 ]
 
--- ---- a majority is learned
+-- ---- what a quorum votes for is learned
 
--- once a majority has voted under a ballot, a value is learned
+-- once an accept quorum has voted under a ballot, a value is learned
 abbrev HasLearned : NodeState → Type 0
-HasLearned s = (b : ℕ) → HasMajority s b → IsSome s.learned
+HasLearned s = (b : ℕ) → HasQuorum s b → IsSome s.learned
 
 learned_now : (o : Option ℕ) (q : Bool) (v : ℕ) → q ≡ true → IsSome (learned_with o q v)
 learned_now (Some u) q v h = refl
@@ -93,21 +93,21 @@ voted_before s a x b other k below h =
       | inr e ↦ under_vote (note_of s.votes k) b y.0 e y.2
     ]
 
--- the majority, in terms of what it was before
-majority_of : (n m b : ℕ) (vs us : List (Option Vote)) → n ≡ m → vs ≡ us → IsQuorum n (has_voted vs b) → IsQuorum m (has_voted us b)
-majority_of n m b vs us e f h = rw (← e, ← f) h
+-- the quorum, in terms of what it was before
+quorum_of : (n m b : ℕ) (vs us : List (Option Vote)) → n ≡ m → vs ≡ us → IsAcceptQuorum n (has_voted vs b) → IsAcceptQuorum m (has_voted us b)
+quorum_of n m b vs us e f h = rw (← e, ← f) h
 
 learned_vote : (s : NodeState) (a : ℕ) (x : Vote) → HasLearned s → HasLearned (voted s a x)
 learned_vote s a x h b q = elim (cases_eq x.ballot b) [
-  | inl same ↦ learned_now s.learned (is_majority s.count (has_voted (votes_with s a x) x.ballot)) x.value
-      (lt-ltb s.count (2 * count_below s.count (has_voted (votes_with s a x) x.ballot)) (subst (λ c. IsQuorum s.count (has_voted (votes_with s a x) c)) (sym same) q))
-  | inr other ↦ stays_with s.learned (is_majority s.count (has_voted (votes_with s a x) x.ballot)) x.value
-      (h b (quorum_grows s.count (has_voted (votes_with s a x) b) (has_voted s.votes b) (voted_before s a x b other) q))
+  | inl same ↦ learned_now s.learned (is_accept_quorum s.count (has_voted (votes_with s a x) x.ballot)) x.value
+      (subst (λ c. IsAcceptQuorum s.count (has_voted (votes_with s a x) c)) (sym same) q)
+  | inr other ↦ stays_with s.learned (is_accept_quorum s.count (has_voted (votes_with s a x) x.ballot)) x.value
+      (h b (accept_quorum_grows s.count (has_voted (votes_with s a x) b) (has_voted s.votes b) (voted_before s a x b other) q))
 ]
 
 learned_after : (s t : NodeState) → VotesChange s t → HasLearned s → HasLearned t
 learned_after s t d h = elim d [
-  | inl e ↦ λ b q. rw e.learned (h b (majority_of t.count s.count b t.votes s.votes e.count e.votes q))
+  | inl e ↦ λ b q. rw e.learned (h b (quorum_of t.count s.count b t.votes s.votes e.count e.votes q))
   | inr e ↦ subst HasLearned (sym e.2.is) (learned_vote s e.0 e.1 h)
 ]
 
@@ -137,10 +137,10 @@ change_by s c cs h = votes_change (after_calls s cs) c (no_restart_head c cs h)
 no_votes : (b a : ℕ) → IsTrue (has_voted nothing_noted b a) → ⊥
 no_votes b a h = let y = voted_vote nothing_noted b a h in note_of-nothing a y.0 y.1
 
-count_none : (n : ℕ) (q : ℕ → Bool) → ((a : ℕ) → IsTrue (q a) → ⊥) → IsQuorum n q → ⊥
-count_none n q h k = let one = meet n q q k k in h one.node one.left
+count_none : (n : ℕ) (q : ℕ → Bool) → ((a : ℕ) → IsTrue (q a) → ⊥) → IsAcceptQuorum n q → ⊥
+count_none n q h k = let one = member_of n q k in h one.node one.member
 
--- what is learned was learned before, or is learned now from a majority
+-- what is learned was learned before, or is learned now from a quorum
 learned_cases : (o : Option ℕ) (q : Bool) (u v : ℕ) → learned_with o q u ≡ Some v → (o ≡ Some v) ⊎ ((q ≡ true) × (u ≡ v))
 learned_cases (Some w) q u v h = inl h
 learned_cases None true u v h = inr (refl, cc)
@@ -163,27 +163,27 @@ module _ (me n : ℕ) (kept : KeptPart) where
   is_node [] = node_with-is me n kept
   is_node (c ∷ cs) = after_call-is me n (after_calls fresh cs) c (is_node cs)
 
-  later_than : (c : Call) (cs : List Call) (v : ℕ) → WasMajority fresh cs v → WasMajority fresh (c ∷ cs) v
+  later_than : (c : Call) (cs : List Call) (v : ℕ) → WasQuorum fresh cs v → WasQuorum fresh (c ∷ cs) v
   later_than c cs v h =
       record {
         later = c ∷ h.later;
         earlier = h.earlier;
         split = ap (λ xs. c ∷ xs) h.split;
         ballot = h.ballot;
-        majority = h.majority;
+        quorum = h.quorum;
         node = h.node;
         noted = h.noted;
       }
 
-  -- the vote that was noted last completed the majority
-  completed : (c : Call) (cs : List Call) (a : ℕ) (x : Vote) (v : ℕ) → n ≤ 7 → Notes (after_calls fresh cs) (after_calls fresh (c ∷ cs)) a x → is_majority (after_calls fresh cs).count (has_voted (votes_with (after_calls fresh cs) a x) x.ballot) ≡ true → x.value ≡ v → WasMajority fresh (c ∷ cs) v
+  -- the vote that was noted last completed the quorum
+  completed : (c : Call) (cs : List Call) (a : ℕ) (x : Vote) (v : ℕ) → n ≤ 7 → Notes (after_calls fresh cs) (after_calls fresh (c ∷ cs)) a x → is_accept_quorum (after_calls fresh cs).count (has_voted (votes_with (after_calls fresh cs) a x) x.ballot) ≡ true → x.value ≡ v → WasQuorum fresh (c ∷ cs) v
   completed c cs a x v few noted q e =
       record {
         later = [];
         earlier = c ∷ cs;
         split = refl;
         ballot = x.ballot;
-        majority = subst (λ t. HasMajority t x.ballot) (sym noted.is) (ltb-true s.count (2 * count_below s.count (has_voted (votes_with s a x) x.ballot)) q);
+        quorum = subst (λ t. HasQuorum t x.ballot) (sym noted.is) q;
         node = a;
         noted = ap (λ (t : NodeState). note_of t.votes a) noted.is ∙ (get_or-set_same s.votes a (Some x) None inside ∙ ap (λ u. Some (vote x.ballot u)) e);
       }
@@ -197,7 +197,7 @@ module _ (me n : ℕ) (kept : KeptPart) where
       inside : a < length s.votes
       inside = let under = below in let places = (is_node cs).places in let count = (is_node cs).count in omega arith
 
-  learned_from : (cs : List Call) (v : ℕ) → n ≤ 7 → HasNoRestart cs → (after_calls fresh cs).learned ≡ Some v → WasMajority fresh cs v
+  learned_from : (cs : List Call) (v : ℕ) → n ≤ 7 → HasNoRestart cs → (after_calls fresh cs).learned ≡ Some v → WasQuorum fresh cs v
   learned_from [] v few h e = absurd (cc)
   learned_from (c ∷ cs) v few h e =
       let tail = no_restart_tail c cs h in
@@ -209,9 +209,9 @@ module _ (me n : ℕ) (kept : KeptPart) where
         ]
       ]
 
-pub learns_from_majority : LearnsFromMajority
-learns_from_majority me n kept calls v few h e = learned_from me n kept calls v few h e
+pub learns_from_quorum : LearnsFromQuorum
+learns_from_quorum me n kept calls v few h e = learned_from me n kept calls v few h e
 
-pub majority_is_learned : MajorityIsLearned
-majority_is_learned me n kept later earlier b h q =
+pub quorum_is_learned : QuorumIsLearned
+quorum_is_learned me n kept later earlier b h q =
     stays_learned me n kept later earlier h (all_learned me n kept earlier (no_restart_earlier later earlier h) b q)
