@@ -5,6 +5,7 @@ ghost use Rattle.c_rules.specs.Told.{Tells};
 ghost use Rattle.c_rules.specs.Locals as L;
 
 use crate::here::Here;
+use crate::owned::ok;
 use c_rules::{CheckError, Meaning};
 use c_terms::{is_new, is_short};
 use c_tokens::IntegerType;
@@ -39,7 +40,7 @@ pub(crate) fn declare_local(
     ensures here { OnOk result (here.new ≡ L.with_local depth here.old kind name.now) }
     ensures err { IfErr result (λ e. Tells e (L.local_faults depth here.old name.now)) }
 {
-    check_local(depth, here, name)?;
+    ok!(check_local(depth, here, name));
     let number = here.locals;
     let meaning = Meaning::Local(number, kind);
     here.scope.bind(name.name.as_slice(), depth, meaning)?;

@@ -10,7 +10,7 @@ ghost use Rattle.c_rules.specs.Actions as A;
 ghost use Rattle.c_bodies.specs.Loops.{turns_faults, heads_faults};
 
 use crate::here::Here;
-use crate::owned::{beside, boxes};
+use crate::owned::{beside, boxes, ok};
 use crate::parts::{check_condition, check_start, check_step, two};
 use c_program::{Action, Term};
 use c_rules::{CheckError, Meaning};
@@ -36,7 +36,7 @@ pub(crate) fn repeated(
 ) -> Result<Action, NoMemory>
     ensures { IfOk result (λ a. action_tree a ≡ P.Loop (term_tree condition) (action_tree body) (action_tree behind)) }
 {
-    let (condition, (body, behind)) = beside(condition, boxes(alloc, body, behind))?;
+    let (condition, (body, behind)) = ok!(beside(condition, boxes(alloc, body, behind)));
     Ok(Action::Loop(condition, body, behind))
 }
 
@@ -68,7 +68,7 @@ fn check_turns(
     ensures step { IfOk result (λ t. action_tree t.1 ≡ A.step_action scope.now (optional_tree set_tree step.now)) }
     ensures err { IfErr result (λ e. Tells e (turns_faults scope.now (optional_tree expression_tree condition.now) (optional_tree set_tree step.now))) }
 {
-    let condition = check_condition(alloc, scope, condition)?;
+    let condition = ok!(check_condition(alloc, scope, condition));
     beside(condition, check_step(alloc, scope, step))
 }
 
@@ -89,8 +89,8 @@ pub(crate) fn check_heads(
     ensures here { OnOk result (here.new ≡ S.with_start depth here.old (start_tree start.now)) }
     ensures err { IfErr result (λ e. Tells e (heads_faults depth here.old (start_tree start.now) (optional_tree expression_tree condition.now) (optional_tree set_tree step.now))) }
 {
-    let first = Box::new(alloc, check_start(alloc, depth, here, start)?)?;
-    let (condition, step) = check_turns(alloc, &here.scope, condition, step)?;
+    let first = Box::new(alloc, ok!(check_start(alloc, depth, here, start)))?;
+    let (condition, step) = ok!(check_turns(alloc, &here.scope, condition, step));
     Ok(Heads {
         first,
         condition,

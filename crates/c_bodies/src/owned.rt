@@ -5,6 +5,18 @@ ghost use Rattle.std.specs.Prelude.{◌≡◌, [], ◌∷◌, IfOk, IfErr, Ok, E
 use lang::NoMemory;
 use std::alloc::Global;
 
+/// What was made; a fault is returned. It is `?` where a fault stays as it is: a `match` has no calls to be proved.
+macro_rules! ok {
+    ($made:expr) => {
+        match $made {
+            Ok(made) => made,
+            Err(fault) => return Err(fault),
+        }
+    };
+}
+
+pub(crate) use ok;
+
 /// What was made before, beside what is made behind it.
 pub(crate) fn beside<A: Drop, B, E>(before: A, behind: Result<B, E>) -> Result<(A, B), E>
     ensures ok { IfOk result (λ r. (r.0 ≡ before) × (behind ≡ Ok r.1)) }

@@ -17,7 +17,7 @@ ghost use Rattle.c_program.specs.declared.action.Target.TheVariants.{Nowhere};
 
 use crate::here::Here;
 use crate::locals::declare_local;
-use crate::owned::{beside, pair};
+use crate::owned::{beside, ok, pair};
 use c_program::{Action, Target, Term, Value};
 use c_rules::{CheckError, Meaning};
 use c_scopes::Scopes;
@@ -60,7 +60,7 @@ pub(crate) fn check_call_alone(
     ensures action { IfOk result (λ a. action_tree a ≡ P.Give Nowhere (call_given functions.now scope.now (call_tree call.now))) }
     ensures err { IfErr result (λ e. Tells e (call_faults functions.now scope.now false (call_tree call.now))) }
 {
-    let value = check_call(alloc, functions, scope, false, call)?;
+    let value = ok!(check_call(alloc, functions, scope, false, call));
     Ok(Action::Give(Target::Nowhere, value))
 }
 
@@ -77,8 +77,8 @@ pub(crate) fn check_assignment(
     ensures action { IfOk result (λ a. action_tree a ≡ P.Give (A.target_of (N.meaning_of scope.now name.now)) (value_given functions.now scope.now (value_tree value.now))) }
     ensures err { IfErr result (λ e. Tells e (variable_faults (N.meaning_of scope.now name.now) name.now.offset ++ value_faults functions.now scope.now (value_tree value.now))) }
 {
-    let target = check_target(scope, name)?;
-    let value = check_value(alloc, functions, scope, value)?;
+    let target = ok!(check_target(scope, name));
+    let value = ok!(check_value(alloc, functions, scope, value));
     Ok(Action::Give(target, value))
 }
 
@@ -95,9 +95,9 @@ pub(crate) fn check_store(
     ensures action { IfOk result (λ a. action_tree a ≡ P.Store (array_number (N.meaning_of scope.now name.now)) (term_of scope.now (expression_tree index.now)) (term_of scope.now (expression_tree value.now))) }
     ensures err { IfErr result (λ e. Tells e (array_faults (N.meaning_of scope.now name.now) name.now.offset ++ expression_faults scope.now (expression_tree index.now) ++ expression_faults scope.now (expression_tree value.now))) }
 {
-    let (number, _kind) = array(scope, name)?;
-    let Typed { term: cell, .. } = check_expression(alloc, scope, index)?;
-    let (cell, value) = beside(cell, check_expression(alloc, scope, value))?;
+    let (number, _kind) = ok!(array(scope, name));
+    let Typed { term: cell, .. } = ok!(check_expression(alloc, scope, index));
+    let (cell, value) = ok!(beside(cell, check_expression(alloc, scope, value)));
     Ok(Action::Store(number, cell, value.term))
 }
 
@@ -114,8 +114,8 @@ pub(crate) fn check_set(
 {
     match &set.place {
         Place::Variable(name) => {
-            let target = check_target(scope, name)?;
-            let Typed { term, .. } = check_expression(alloc, scope, &set.value)?;
+            let target = ok!(check_target(scope, name));
+            let Typed { term, .. } = ok!(check_expression(alloc, scope, &set.value));
             Ok(Action::Give(target, Value::Term(term)))
         }
         Place::Element(name, index) => check_store(alloc, scope, name, index, &set.value),
@@ -136,11 +136,11 @@ pub(crate) fn check_declaration(
     ensures here { OnOk result (here.new ≡ with_local depth here.old local.now.kind local.now.name) }
     ensures err { IfErr result (λ e. Tells e (S.declaration_faults functions.now depth here.old (local_tree local.now))) }
 {
-    let number = declare_local(depth, here, local.kind, &local.name)?;
+    let number = ok!(declare_local(depth, here, local.kind, &local.name));
     match &local.value {
         None => Ok(Action::Declare(number)),
         Some(value) => {
-            let value = check_value(alloc, functions, &here.scope, value)?;
+            let value = ok!(check_value(alloc, functions, &here.scope, value));
             let given = Action::Give(Target::Local(number), value);
             Ok(two(alloc, Action::Declare(number), given)?)
         }
@@ -164,8 +164,8 @@ pub(crate) fn check_start(
         ForStart::Nothing => Ok(Action::Nothing),
         ForStart::Set(set) => check_set(alloc, &here.scope, set),
         ForStart::Local(kind, name, value) => {
-            let number = declare_local(depth, here, *kind, name)?;
-            let Typed { term, .. } = check_expression(alloc, &here.scope, value)?;
+            let number = ok!(declare_local(depth, here, *kind, name));
+            let Typed { term, .. } = ok!(check_expression(alloc, &here.scope, value));
             let given = Action::Give(Target::Local(number), Value::Term(term));
             Ok(two(alloc, Action::Declare(number), given)?)
         }
@@ -185,7 +185,7 @@ pub(crate) fn check_condition(
     match condition {
         None => Ok(Term::Constant(1)),
         Some(condition) => {
-            let Typed { term, .. } = check_expression(alloc, scope, condition)?;
+            let Typed { term, .. } = ok!(check_expression(alloc, scope, condition));
             Ok(term)
         }
     }
@@ -236,7 +236,7 @@ pub(crate) fn check_return(
     match (gives, value) {
         (ReturnType::Void, None) => Ok(Action::Leave),
         (ReturnType::Value(_kind), Some(value)) => {
-            let value = check_value(alloc, functions, scope, value)?;
+            let value = ok!(check_value(alloc, functions, scope, value));
             Ok(Action::Give(Target::Caller, value))
         }
         (ReturnType::Void, Some(_value)) => Err(CheckError::VoidValue(at)),

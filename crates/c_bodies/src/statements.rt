@@ -13,7 +13,7 @@ ghost use Rattle.c_bodies.specs.Loops.{for_faults, for_action};
 
 use crate::here::Here;
 use crate::loops::check_heads;
-use crate::owned::beside;
+use crate::owned::{beside, ok};
 use crate::parts::{
     check_assignment, check_call_alone, check_declaration, check_return, check_store, in_loop,
 };
@@ -80,7 +80,7 @@ fn check_statement(
         Statement::Empty => Ok(Action::Nothing),
         Statement::Local(local) => { check_declaration(alloc, functions, place.depth, here, local) }
         Statement::Block(all) => {
-            let all = check_block(alloc, functions, place, here, all.as_slice())?;
+            let all = ok!(check_block(alloc, functions, place, here, all.as_slice()));
             Ok(Action::Sequence(all))
         }
         Statement::Call(call) => check_call_alone(alloc, functions, &here.scope, call),
@@ -91,25 +91,25 @@ fn check_statement(
             check_store(alloc, &here.scope, name, index, value)
         }
         Statement::If(condition, inner) => {
-            let condition = check_expression(alloc, &here.scope, condition)?;
+            let condition = ok!(check_expression(alloc, &here.scope, condition));
             let holds = check_inner(alloc, functions, place, here, inner);
-            let (condition, holds) = beside(condition.term, holds)?;
-            let (condition, other) = beside(condition, nothing(alloc))?;
+            let (condition, holds) = ok!(beside(condition.term, holds));
+            let (condition, other) = ok!(beside(condition, nothing(alloc)));
             Ok(Action::If(condition, holds, other))
         }
         Statement::IfElse(condition, inner, other) => {
-            let condition = check_expression(alloc, &here.scope, condition)?;
+            let condition = ok!(check_expression(alloc, &here.scope, condition));
             let holds = check_inner(alloc, functions, place, here, inner);
-            let (condition, holds) = beside(condition.term, holds)?;
+            let (condition, holds) = ok!(beside(condition.term, holds));
             let other = check_inner(alloc, functions, place, here, other);
-            let (condition, other) = beside(condition, other)?;
+            let (condition, other) = ok!(beside(condition, other));
             Ok(Action::If(condition, holds, other))
         }
         Statement::While(condition, inner) => {
-            let condition = check_expression(alloc, &here.scope, condition)?;
+            let condition = ok!(check_expression(alloc, &here.scope, condition));
             let body = check_inner(alloc, functions, looping(place), here, inner);
-            let (condition, body) = beside(condition.term, body)?;
-            let (condition, behind) = beside(condition, nothing(alloc))?;
+            let (condition, body) = ok!(beside(condition.term, body));
+            let (condition, behind) = ok!(beside(condition, nothing(alloc)));
             Ok(Action::Loop(condition, body, behind))
         }
         Statement::For(head, inner) => {
@@ -154,7 +154,7 @@ fn check_inner(
     ensures err { IfErr result (λ e. Tells e (S.statement_faults functions.now place here.old (statement_tree statement.now))) }
 {
     let mark = here.scope.len();
-    let action = check_statement(alloc, functions, place, here, statement)?;
+    let action = ok!(check_statement(alloc, functions, place, here, statement));
     leave(here, mark);
     Ok(Box::new(alloc, action)?)
 }
@@ -176,7 +176,7 @@ fn check_block(
     ensures err { IfErr result (λ e. Tells e (S.statements_faults functions.now (deeper place) here.old (statements_tree all.now))) }
 {
     let mark = here.scope.len();
-    let actions = check_statements(alloc, functions, deeper(place), here, all)?;
+    let actions = ok!(check_statements(alloc, functions, deeper(place), here, all));
     leave(here, mark);
     Ok(actions)
 }
@@ -201,9 +201,9 @@ fn check_for(
     ensures err { IfErr result (λ e. Tells e (for_faults functions.now place here.old (start_tree start.now) (optional_tree expression_tree condition.now) (optional_tree set_tree step.now) (statement_tree inner.now))) }
 {
     let mark = here.scope.len();
-    let heads = check_heads(alloc, place.depth, here, start, condition, step)?;
+    let heads = ok!(check_heads(alloc, place.depth, here, start, condition, step));
     let body = check_statement(alloc, functions, looping(place), here, inner);
-    let (heads, body) = beside(heads, body)?;
+    let (heads, body) = ok!(beside(heads, body));
     leave(here, mark);
     Ok(heads.around(alloc, body)?)
 }

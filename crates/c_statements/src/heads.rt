@@ -5,7 +5,7 @@ ghost use Rattle.c_tree.specs.Views.{optional_tree, expression_tree, set_tree};
 ghost use Rattle.c_statement_laws.specs.Reading.{Below, condition, step, by_first, if_in, while_in, for_in};
 ghost use Rattle.c_statements.specs.Heads.{behind_if, behind_loop, behind_head};
 
-use crate::beside::beside;
+use crate::beside::{beside, ok};
 use crate::parts::{read_set, read_start};
 use crate::simple::{
     read_assign, read_break, read_call_statement, read_continue, read_empty, read_local_statement,
@@ -43,10 +43,10 @@ fn read_if_head(alloc: Global, room: u8, tokens: &[Token]) -> Result<(Expression
     ensures ok { IfOk result (λ r. (below : Below) → if_in below room tokens.now ≡ behind_if below (expression_tree r.0) r.1.now) }
     ensures err { IfErr result (λ e. e ≢ Fault.NoMemory → (below : Below) → if_in below room tokens.now ≡ Err e) }
 {
-    let rest = read_word(Keyword::If, tokens)?;
-    let rest = read_sign(Punctuator::LeftParenthesis, rest)?;
-    let (condition, rest) = expression(alloc, room, 0, rest)?;
-    let (condition, rest) = beside(condition, read_sign(Punctuator::RightParenthesis, rest))?;
+    let rest = ok!(read_word(Keyword::If, tokens));
+    let rest = ok!(read_sign(Punctuator::LeftParenthesis, rest));
+    let (condition, rest) = ok!(expression(alloc, room, 0, rest));
+    let (condition, rest) = ok!(beside(condition, read_sign(Punctuator::RightParenthesis, rest)));
     Ok((condition, rest))
 }
 
@@ -55,10 +55,10 @@ fn read_while_head(alloc: Global, room: u8, tokens: &[Token]) -> Result<(Loop, &
     ensures ok { IfOk result (λ r. (below : Below) → while_in below room tokens.now ≡ behind_loop below r.0 r.1.now) }
     ensures err { IfErr result (λ e. e ≢ Fault.NoMemory → (below : Below) → while_in below room tokens.now ≡ Err e) }
 {
-    let rest = read_word(Keyword::While, tokens)?;
-    let rest = read_sign(Punctuator::LeftParenthesis, rest)?;
-    let (condition, rest) = expression(alloc, room, 0, rest)?;
-    let (condition, rest) = beside(condition, read_sign(Punctuator::RightParenthesis, rest))?;
+    let rest = ok!(read_word(Keyword::While, tokens));
+    let rest = ok!(read_sign(Punctuator::LeftParenthesis, rest));
+    let (condition, rest) = ok!(expression(alloc, room, 0, rest));
+    let (condition, rest) = ok!(beside(condition, read_sign(Punctuator::RightParenthesis, rest)));
     Ok((Loop::While(condition), rest))
 }
 
@@ -74,7 +74,7 @@ fn read_condition(
     if is_sign_next(Punctuator::Semicolon, tokens) {
         return Ok((None, tokens));
     }
-    let (condition, rest) = expression(alloc, room, 0, tokens)?;
+    let (condition, rest) = ok!(expression(alloc, room, 0, tokens));
     Ok((Some(condition), rest))
 }
 
@@ -86,7 +86,7 @@ fn read_step(alloc: Global, room: u8, tokens: &[Token]) -> Result<(Option<Set>, 
     if is_sign_next(Punctuator::RightParenthesis, tokens) {
         return Ok((None, tokens));
     }
-    let (step, rest) = read_set(alloc, room, tokens)?;
+    let (step, rest) = ok!(read_set(alloc, room, tokens));
     Ok((Some(step), rest))
 }
 
@@ -115,15 +115,15 @@ fn read_for_head(alloc: Global, room: u8, tokens: &[Token]) -> Result<(Loop, &[T
     ensures ok { IfOk result (λ r. (below : Below) → for_in below room tokens.now ≡ behind_loop below r.0 r.1.now) }
     ensures err { IfErr result (λ e. e ≢ Fault.NoMemory → (below : Below) → for_in below room tokens.now ≡ Err e) }
 {
-    let rest = read_word(Keyword::For, tokens)?;
-    let rest = read_sign(Punctuator::LeftParenthesis, rest)?;
-    let (start, rest) = read_start(alloc, room, rest)?;
-    let (start, (condition, rest)) = beside(start, read_condition(alloc, room, rest))?;
-    let (parts, rest) = beside((start, condition), read_sign(Punctuator::Semicolon, rest))?;
-    let (parts, (step, rest)) = beside(parts, read_step(alloc, room, rest))?;
-    let (parts, rest) = beside((parts, step), read_sign(Punctuator::RightParenthesis, rest))?;
+    let rest = ok!(read_word(Keyword::For, tokens));
+    let rest = ok!(read_sign(Punctuator::LeftParenthesis, rest));
+    let (start, rest) = ok!(read_start(alloc, room, rest));
+    let (start, (condition, rest)) = ok!(beside(start, read_condition(alloc, room, rest)));
+    let (parts, rest) = ok!(beside((start, condition), read_sign(Punctuator::Semicolon, rest)));
+    let (parts, (step, rest)) = ok!(beside(parts, read_step(alloc, room, rest)));
+    let (parts, rest) = ok!(beside((parts, step), read_sign(Punctuator::RightParenthesis, rest)));
     let ((start, condition), step) = parts;
-    Ok((Loop::For(boxed(alloc, start, condition, step)?), rest))
+    Ok((Loop::For(ok!(boxed(alloc, start, condition, step))), rest))
 }
 
 /// What begins so, up to a statement inside it; its parts have this room.
@@ -139,29 +139,29 @@ pub(crate) fn read_head(
 {
     let (statement, rest) = match first {
         First::Block => {
-            let rest = read_sign(Punctuator::LeftBrace, tokens)?;
+            let rest = ok!(read_sign(Punctuator::LeftBrace, tokens));
             return Ok((Head::Block, rest));
         }
         First::If => {
-            let (condition, rest) = read_if_head(alloc, room, tokens)?;
+            let (condition, rest) = ok!(read_if_head(alloc, room, tokens));
             return Ok((Head::If(condition), rest));
         }
         First::While => {
-            let (head, rest) = read_while_head(alloc, room, tokens)?;
+            let (head, rest) = ok!(read_while_head(alloc, room, tokens));
             return Ok((Head::Loop(head), rest));
         }
         First::For => {
-            let (head, rest) = read_for_head(alloc, room, tokens)?;
+            let (head, rest) = ok!(read_for_head(alloc, room, tokens));
             return Ok((Head::Loop(head), rest));
         }
-        First::Empty => read_empty(tokens)?,
-        First::Local => read_local_statement(alloc, room, tokens)?,
-        First::Call => read_call_statement(alloc, room, tokens)?,
-        First::Assign => read_assign(alloc, room, tokens)?,
-        First::Store => read_store(alloc, room, tokens)?,
-        First::Break => read_break(tokens)?,
-        First::Continue => read_continue(tokens)?,
-        First::Return => read_return(alloc, room, tokens)?,
+        First::Empty => ok!(read_empty(tokens)),
+        First::Local => ok!(read_local_statement(alloc, room, tokens)),
+        First::Call => ok!(read_call_statement(alloc, room, tokens)),
+        First::Assign => ok!(read_assign(alloc, room, tokens)),
+        First::Store => ok!(read_store(alloc, room, tokens)),
+        First::Break => ok!(read_break(tokens)),
+        First::Continue => ok!(read_continue(tokens)),
+        First::Return => ok!(read_return(alloc, room, tokens)),
         First::Other => return Err(misfit(tokens)),
     };
     Ok((Head::Whole(statement), rest))

@@ -7,7 +7,7 @@ ghost use Rattle.c_expression_laws.specs.Reading.{expression_at};
 ghost use Rattle.c_productions.specs.Combining.{commas};
 ghost use Rattle.c_productions.specs.Parts.{less, name, arguments, call, value, is_cell_next, cell, place, set, local_value, local, start_local, start_set, start};
 
-use crate::beside::beside;
+use crate::beside::{beside, ok};
 use c_expressions::expression;
 use c_reading::{
     Fault, is_call_next, is_name_next, is_sign_next, is_type_next, read_name, read_sign, read_type,
@@ -38,7 +38,7 @@ pub(crate) fn read_name_in(
     ensures ok { IfOk result (λ r. name room tokens.now ≡ Ok (r.0, r.1.now)) }
     ensures err { IfErr result (λ e. e ≢ Fault.NoMemory → name room tokens.now ≡ Err e) }
 {
-    let _below = one_less(room)?;
+    let _below = ok!(one_less(room));
     read_name(alloc, tokens)
 }
 
@@ -79,7 +79,7 @@ fn read_arguments(
     if is_sign_next(Punctuator::RightParenthesis, tokens) {
         return Ok((Row::from_vec(Vec::new(alloc)), tokens));
     }
-    let (expressions, rest) = read_expressions(alloc, room, tokens)?;
+    let (expressions, rest) = ok!(read_expressions(alloc, room, tokens));
     Ok((Row::from_vec(expressions), rest))
 }
 
@@ -93,14 +93,14 @@ pub(crate) fn read_call(
     ensures ok { IfOk result (λ r. call room tokens.now ≡ Ok (call_tree r.0, r.1.now)) }
     ensures err { IfErr result (λ e. e ≢ Fault.NoMemory → call room tokens.now ≡ Err e) }
 {
-    let below = one_less(room)?;
-    let (callee, rest) = read_name_in(alloc, below, tokens)?;
-    let (callee, rest) = beside(callee, read_sign(Punctuator::LeftParenthesis, rest))?;
-    let (callee, (arguments, rest)) = beside(callee, read_arguments(alloc, below, rest))?;
-    let (parts, rest) = beside(
+    let below = ok!(one_less(room));
+    let (callee, rest) = ok!(read_name_in(alloc, below, tokens));
+    let (callee, rest) = ok!(beside(callee, read_sign(Punctuator::LeftParenthesis, rest)));
+    let (callee, (arguments, rest)) = ok!(beside(callee, read_arguments(alloc, below, rest)));
+    let (parts, rest) = ok!(beside(
         (callee, arguments),
         read_sign(Punctuator::RightParenthesis, rest),
-    )?;
+    ));
     let (callee, arguments) = parts;
     Ok((Call { callee, arguments }, rest))
 }
@@ -116,10 +116,10 @@ pub(crate) fn read_value(
     ensures err { IfErr result (λ e. e ≢ Fault.NoMemory → value room tokens.now ≡ Err e) }
 {
     if is_call_next(tokens) {
-        let (call, rest) = read_call(alloc, room, tokens)?;
+        let (call, rest) = ok!(read_call(alloc, room, tokens));
         return Ok((Value::Call(call), rest));
     }
-    let (value, rest) = expression(alloc, room, 0, tokens)?;
+    let (value, rest) = ok!(expression(alloc, room, 0, tokens));
     Ok((Value::Expression(value), rest))
 }
 
@@ -140,11 +140,11 @@ fn read_cell(alloc: Global, room: u8, tokens: &[Token]) -> Result<(Place, &[Toke
     ensures ok { IfOk result (λ r. cell room tokens.now ≡ Ok (place_tree r.0, r.1.now)) }
     ensures err { IfErr result (λ e. e ≢ Fault.NoMemory → cell room tokens.now ≡ Err e) }
 {
-    let below = one_less(room)?;
-    let (array, rest) = read_name_in(alloc, below, tokens)?;
-    let (array, rest) = beside(array, read_sign(Punctuator::LeftBracket, rest))?;
-    let (array, (index, rest)) = beside(array, expression(alloc, below, 0, rest))?;
-    let (cell, rest) = beside((array, index), read_sign(Punctuator::RightBracket, rest))?;
+    let below = ok!(one_less(room));
+    let (array, rest) = ok!(read_name_in(alloc, below, tokens));
+    let (array, rest) = ok!(beside(array, read_sign(Punctuator::LeftBracket, rest)));
+    let (array, (index, rest)) = ok!(beside(array, expression(alloc, below, 0, rest)));
+    let (cell, rest) = ok!(beside((array, index), read_sign(Punctuator::RightBracket, rest)));
     let (array, index) = cell;
     Ok((Place::Element(array, index), rest))
 }
@@ -157,7 +157,7 @@ fn read_place(alloc: Global, room: u8, tokens: &[Token]) -> Result<(Place, &[Tok
     if is_cell_next(tokens) {
         return read_cell(alloc, room, tokens);
     }
-    let (variable, rest) = read_name_in(alloc, room, tokens)?;
+    let (variable, rest) = ok!(read_name_in(alloc, room, tokens));
     Ok((Place::Variable(variable), rest))
 }
 
@@ -167,10 +167,10 @@ pub(crate) fn read_set(alloc: Global, room: u8, tokens: &[Token]) -> Result<(Set
     ensures ok { IfOk result (λ r. set room tokens.now ≡ Ok (set_tree r.0, r.1.now)) }
     ensures err { IfErr result (λ e. e ≢ Fault.NoMemory → set room tokens.now ≡ Err e) }
 {
-    let below = one_less(room)?;
-    let (place, rest) = read_place(alloc, below, tokens)?;
-    let (place, rest) = beside(place, read_sign(Punctuator::Assign, rest))?;
-    let (place, (value, rest)) = beside(place, expression(alloc, below, 0, rest))?;
+    let below = ok!(one_less(room));
+    let (place, rest) = ok!(read_place(alloc, below, tokens));
+    let (place, rest) = ok!(beside(place, read_sign(Punctuator::Assign, rest)));
+    let (place, (value, rest)) = ok!(beside(place, expression(alloc, below, 0, rest)));
     Ok((Set { place, value }, rest))
 }
 
@@ -186,8 +186,8 @@ fn read_local_value(
     if !is_sign_next(Punctuator::Assign, tokens) {
         return Ok((None, tokens));
     }
-    let rest = read_sign(Punctuator::Assign, tokens)?;
-    let (value, rest) = read_value(alloc, room, rest)?;
+    let rest = ok!(read_sign(Punctuator::Assign, tokens));
+    let (value, rest) = ok!(read_value(alloc, room, rest));
     Ok((Some(value), rest))
 }
 
@@ -201,10 +201,10 @@ pub(crate) fn read_local(
     ensures ok { IfOk result (λ r. local room tokens.now ≡ Ok (local_tree r.0, r.1.now)) }
     ensures err { IfErr result (λ e. e ≢ Fault.NoMemory → local room tokens.now ≡ Err e) }
 {
-    let (kind, rest) = read_type(tokens)?;
-    let (name, rest) = read_name_in(alloc, room, rest)?;
-    let (name, (value, rest)) = beside(name, read_local_value(alloc, room, rest))?;
-    let (parts, rest) = beside((name, value), read_sign(Punctuator::Semicolon, rest))?;
+    let (kind, rest) = ok!(read_type(tokens));
+    let (name, rest) = ok!(read_name_in(alloc, room, rest));
+    let (name, (value, rest)) = ok!(beside(name, read_local_value(alloc, room, rest)));
+    let (parts, rest) = ok!(beside((name, value), read_sign(Punctuator::Semicolon, rest)));
     let (name, value) = parts;
     Ok((Local { kind, name, value }, rest))
 }
@@ -218,12 +218,12 @@ fn read_start_local(
     ensures ok { IfOk result (λ r. start_local room tokens.now ≡ Ok (start_tree r.0, r.1.now)) }
     ensures err { IfErr result (λ e. e ≢ Fault.NoMemory → start_local room tokens.now ≡ Err e) }
 {
-    let (kind, rest) = read_type(tokens)?;
-    let below = one_less(room)?;
-    let (name, rest) = read_name_in(alloc, below, rest)?;
-    let (name, rest) = beside(name, read_sign(Punctuator::Assign, rest))?;
-    let (name, (value, rest)) = beside(name, expression(alloc, below, 0, rest))?;
-    let (parts, rest) = beside((name, value), read_sign(Punctuator::Semicolon, rest))?;
+    let (kind, rest) = ok!(read_type(tokens));
+    let below = ok!(one_less(room));
+    let (name, rest) = ok!(read_name_in(alloc, below, rest));
+    let (name, rest) = ok!(beside(name, read_sign(Punctuator::Assign, rest)));
+    let (name, (value, rest)) = ok!(beside(name, expression(alloc, below, 0, rest)));
+    let (parts, rest) = ok!(beside((name, value), read_sign(Punctuator::Semicolon, rest)));
     let (name, value) = parts;
     Ok((ForStart::Local(kind, name, value), rest))
 }
@@ -233,8 +233,8 @@ fn read_start_set(alloc: Global, room: u8, tokens: &[Token]) -> Result<(ForStart
     ensures ok { IfOk result (λ r. start_set room tokens.now ≡ Ok (start_tree r.0, r.1.now)) }
     ensures err { IfErr result (λ e. e ≢ Fault.NoMemory → start_set room tokens.now ≡ Err e) }
 {
-    let (set, rest) = read_set(alloc, room, tokens)?;
-    let (set, rest) = beside(set, read_sign(Punctuator::Semicolon, rest))?;
+    let (set, rest) = ok!(read_set(alloc, room, tokens));
+    let (set, rest) = ok!(beside(set, read_sign(Punctuator::Semicolon, rest)));
     Ok((ForStart::Set(set), rest))
 }
 
@@ -249,7 +249,7 @@ pub(crate) fn read_start(
     ensures err { IfErr result (λ e. e ≢ Fault.NoMemory → start room tokens.now ≡ Err e) }
 {
     if is_sign_next(Punctuator::Semicolon, tokens) {
-        let rest = read_sign(Punctuator::Semicolon, tokens)?;
+        let rest = ok!(read_sign(Punctuator::Semicolon, tokens));
         return Ok((ForStart::Nothing, rest));
     }
     if is_type_next(tokens) {

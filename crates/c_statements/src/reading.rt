@@ -9,7 +9,7 @@ ghost use Rattle.c_reading.specs.Peeking.{is_word_next};
 ghost use Rattle.c_statement_laws.specs.Reading.{branched, items_in, block_in, else_in, branches_in, statement_at};
 ghost use Rattle.c_statements.specs.Heads.{behind_head, looped};
 
-use crate::beside::beside;
+use crate::beside::{beside, ok};
 use crate::first::{first_of, too_high};
 use crate::heads::{Head, Loop, read_head};
 use c_reading::{Fault, is_sign_next, is_word_next, read_sign, read_word};
@@ -35,7 +35,7 @@ fn branched_twice(
     ensures ok { IfOk result (λ s. statement_tree s ≡ T.IfElse (expression_tree condition) (statement_tree then.value) (statement_tree other)) }
     ensures err { IfErr result (λ e. e ≡ Fault.NoMemory) }
 {
-    let ((condition, then), other) = beside((condition, then), boxed(alloc, other))?;
+    let ((condition, then), other) = ok!(beside((condition, then), boxed(alloc, other)));
     Ok(Statement::IfElse(condition, then, other))
 }
 
@@ -49,7 +49,7 @@ fn branched(
     ensures err { IfErr result (λ e. e ≡ Fault.NoMemory) }
 {
     let (then, other) = branches;
-    let ((condition, other), then) = beside((condition, other), boxed(alloc, then))?;
+    let ((condition, other), then) = ok!(beside((condition, other), boxed(alloc, then)));
     match other {
         None => Ok(Statement::If(condition, then)),
         Some(other) => branched_twice(alloc, condition, then, other),
@@ -61,7 +61,7 @@ fn looped(alloc: Global, head: Loop, body: Statement) -> Result<Statement, Fault
     ensures ok { IfOk result (λ s. statement_tree s ≡ looped head (statement_tree body)) }
     ensures err { IfErr result (λ e. e ≡ Fault.NoMemory) }
 {
-    let (head, body) = beside(head, boxed(alloc, body))?;
+    let (head, body) = ok!(beside(head, boxed(alloc, body)));
     match head {
         Loop::While(condition) => Ok(Statement::While(condition, body)),
         Loop::For(head) => Ok(Statement::For(head, body)),
@@ -128,8 +128,8 @@ fn read_other(
     if !is_else_next(tokens) {
         return Ok((None, tokens));
     }
-    let rest = read_word(Keyword::Else, tokens)?;
-    let (other, rest) = read_statement(alloc, room, false, rest)?;
+    let rest = ok!(read_word(Keyword::Else, tokens));
+    let (other, rest) = ok!(read_statement(alloc, room, false, rest));
     Ok((Some(other), rest))
 }
 
@@ -144,8 +144,8 @@ fn read_branches(
     ensures ok { IfOk result (λ r. branches_in (statement_at room) tokens.now ≡ Ok ((statement_tree r.0.0, optional_tree statement_tree r.0.1), r.1.now)) }
     ensures err { IfErr result (λ e. e ≢ Fault.NoMemory → branches_in (statement_at room) tokens.now ≡ Err e) }
 {
-    let (then, rest) = read_statement(alloc, room, false, tokens)?;
-    let (then, (other, rest)) = beside(then, read_other(alloc, room, rest))?;
+    let (then, rest) = ok!(read_statement(alloc, room, false, tokens));
+    let (then, (other, rest)) = ok!(beside(then, read_other(alloc, room, rest)));
     Ok(((then, other), rest))
 }
 
@@ -164,19 +164,19 @@ fn read_behind(
     match head {
         Head::Whole(statement) => Ok((statement, tokens)),
         Head::Block => {
-            let (statements, rest) = read_items(alloc, room, tokens)?;
-            let rest = read_sign(Punctuator::RightBrace, rest)?;
+            let (statements, rest) = ok!(read_items(alloc, room, tokens));
+            let rest = ok!(read_sign(Punctuator::RightBrace, rest));
             Ok((block_of(statements), rest))
         }
         Head::If(condition) => {
             let branches = read_branches(alloc, room, tokens);
-            let (condition, (branches, rest)) = beside(condition, branches)?;
-            Ok((branched(alloc, condition, branches)?, rest))
+            let (condition, (branches, rest)) = ok!(beside(condition, branches));
+            Ok((ok!(branched(alloc, condition, branches)), rest))
         }
         Head::Loop(head) => {
             let body = read_statement(alloc, room, false, tokens);
-            let (head, (body, rest)) = beside(head, body)?;
-            Ok((looped(alloc, head, body)?, rest))
+            let (head, (body, rest)) = ok!(beside(head, body));
+            Ok((ok!(looped(alloc, head, body)), rest))
         }
     }
 }
@@ -197,7 +197,7 @@ fn read_statement(
     if room == 0 {
         return Err(too_high(first, tokens));
     }
-    let (head, rest) = read_head(alloc, room - 1, first, tokens)?;
+    let (head, rest) = ok!(read_head(alloc, room - 1, first, tokens));
     read_behind(alloc, room - 1, head, rest)
 }
 
@@ -211,8 +211,8 @@ pub fn read_block(
     ensures ok { IfOk result (λ r. block_in (statement_at room) tokens.now ≡ Ok (statements_tree r.0.items, r.1.now)) }
     ensures err { IfErr result (λ e. e ≢ Fault.NoMemory → block_in (statement_at room) tokens.now ≡ Err e) }
 {
-    let rest = read_sign(Punctuator::LeftBrace, tokens)?;
-    let (statements, rest) = read_items(alloc, room, rest)?;
-    let rest = read_sign(Punctuator::RightBrace, rest)?;
+    let rest = ok!(read_sign(Punctuator::LeftBrace, tokens));
+    let (statements, rest) = ok!(read_items(alloc, room, rest));
+    let rest = ok!(read_sign(Punctuator::RightBrace, rest));
     Ok((fitted(statements), rest))
 }

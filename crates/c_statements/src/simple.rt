@@ -7,7 +7,7 @@ ghost use Rattle.c_productions.specs.Combining.{made};
 ghost use Rattle.c_productions.specs.Parts.{local};
 ghost use Rattle.c_statement_laws.specs.Reading.{empty, call_statement, assign, store, break_statement, continue_statement, returned, return_statement};
 
-use crate::beside::beside;
+use crate::beside::{beside, ok};
 use crate::parts::{one_less, read_call, read_local, read_name_in, read_value};
 use c_expressions::expression;
 use c_reading::{Fault, is_sign_next, read_placed_word, read_sign};
@@ -20,7 +20,7 @@ pub(crate) fn read_empty(tokens: &[Token]) -> Result<(Statement, &[Token]), Faul
     ensures ok { IfOk result (λ r. empty tokens.now ≡ Ok (statement_tree r.0, r.1.now)) }
     ensures err { IfErr result (λ e. empty tokens.now ≡ Err e) }
 {
-    let rest = read_sign(Punctuator::Semicolon, tokens)?;
+    let rest = ok!(read_sign(Punctuator::Semicolon, tokens));
     Ok((Statement::Empty, rest))
 }
 
@@ -32,7 +32,7 @@ pub(crate) fn read_local_statement(
     ensures ok { IfOk result (λ r. made (λ l. T.Local l) (local room) tokens.now ≡ Ok (statement_tree r.0, r.1.now)) }
     ensures err { IfErr result (λ e. e ≢ Fault.NoMemory → made (λ l. T.Local l) (local room) tokens.now ≡ Err e) }
 {
-    let (local, rest) = read_local(alloc, room, tokens)?;
+    let (local, rest) = ok!(read_local(alloc, room, tokens));
     Ok((Statement::Local(local), rest))
 }
 
@@ -45,8 +45,8 @@ pub(crate) fn read_call_statement(
     ensures ok { IfOk result (λ r. call_statement room tokens.now ≡ Ok (statement_tree r.0, r.1.now)) }
     ensures err { IfErr result (λ e. e ≢ Fault.NoMemory → call_statement room tokens.now ≡ Err e) }
 {
-    let (call, rest) = read_call(alloc, room, tokens)?;
-    let (call, rest) = beside(call, read_sign(Punctuator::Semicolon, rest))?;
+    let (call, rest) = ok!(read_call(alloc, room, tokens));
+    let (call, rest) = ok!(beside(call, read_sign(Punctuator::Semicolon, rest)));
     Ok((Statement::Call(call), rest))
 }
 
@@ -59,10 +59,10 @@ pub(crate) fn read_assign(
     ensures ok { IfOk result (λ r. assign room tokens.now ≡ Ok (statement_tree r.0, r.1.now)) }
     ensures err { IfErr result (λ e. e ≢ Fault.NoMemory → assign room tokens.now ≡ Err e) }
 {
-    let (name, rest) = read_name_in(alloc, room, tokens)?;
-    let (name, rest) = beside(name, read_sign(Punctuator::Assign, rest))?;
-    let (name, (value, rest)) = beside(name, read_value(alloc, room, rest))?;
-    let ((name, value), rest) = beside((name, value), read_sign(Punctuator::Semicolon, rest))?;
+    let (name, rest) = ok!(read_name_in(alloc, room, tokens));
+    let (name, rest) = ok!(beside(name, read_sign(Punctuator::Assign, rest)));
+    let (name, (value, rest)) = ok!(beside(name, read_value(alloc, room, rest)));
+    let ((name, value), rest) = ok!(beside((name, value), read_sign(Punctuator::Semicolon, rest)));
     Ok((Statement::Assign(name, value), rest))
 }
 
@@ -75,14 +75,14 @@ pub(crate) fn read_store(
     ensures ok { IfOk result (λ r. store room tokens.now ≡ Ok (statement_tree r.0, r.1.now)) }
     ensures err { IfErr result (λ e. e ≢ Fault.NoMemory → store room tokens.now ≡ Err e) }
 {
-    let below = one_less(room)?;
-    let (array, rest) = read_name_in(alloc, below, tokens)?;
-    let (array, rest) = beside(array, read_sign(Punctuator::LeftBracket, rest))?;
-    let (array, (index, rest)) = beside(array, expression(alloc, below, 0, rest))?;
-    let (cell, rest) = beside((array, index), read_sign(Punctuator::RightBracket, rest))?;
-    let (cell, rest) = beside(cell, read_sign(Punctuator::Assign, rest))?;
-    let (cell, (value, rest)) = beside(cell, expression(alloc, room, 0, rest))?;
-    let (parts, rest) = beside((cell, value), read_sign(Punctuator::Semicolon, rest))?;
+    let below = ok!(one_less(room));
+    let (array, rest) = ok!(read_name_in(alloc, below, tokens));
+    let (array, rest) = ok!(beside(array, read_sign(Punctuator::LeftBracket, rest)));
+    let (array, (index, rest)) = ok!(beside(array, expression(alloc, below, 0, rest)));
+    let (cell, rest) = ok!(beside((array, index), read_sign(Punctuator::RightBracket, rest)));
+    let (cell, rest) = ok!(beside(cell, read_sign(Punctuator::Assign, rest)));
+    let (cell, (value, rest)) = ok!(beside(cell, expression(alloc, room, 0, rest)));
+    let (parts, rest) = ok!(beside((cell, value), read_sign(Punctuator::Semicolon, rest)));
     let ((array, index), value) = parts;
     Ok((Statement::Store(array, index, value), rest))
 }
@@ -92,8 +92,8 @@ pub(crate) fn read_break(tokens: &[Token]) -> Result<(Statement, &[Token]), Faul
     ensures ok { IfOk result (λ r. break_statement tokens.now ≡ Ok (statement_tree r.0, r.1.now)) }
     ensures err { IfErr result (λ e. break_statement tokens.now ≡ Err e) }
 {
-    let (at, rest) = read_placed_word(Keyword::Break, tokens)?;
-    let rest = read_sign(Punctuator::Semicolon, rest)?;
+    let (at, rest) = ok!(read_placed_word(Keyword::Break, tokens));
+    let rest = ok!(read_sign(Punctuator::Semicolon, rest));
     Ok((Statement::Break(at), rest))
 }
 
@@ -102,8 +102,8 @@ pub(crate) fn read_continue(tokens: &[Token]) -> Result<(Statement, &[Token]), F
     ensures ok { IfOk result (λ r. continue_statement tokens.now ≡ Ok (statement_tree r.0, r.1.now)) }
     ensures err { IfErr result (λ e. continue_statement tokens.now ≡ Err e) }
 {
-    let (at, rest) = read_placed_word(Keyword::Continue, tokens)?;
-    let rest = read_sign(Punctuator::Semicolon, rest)?;
+    let (at, rest) = ok!(read_placed_word(Keyword::Continue, tokens));
+    let rest = ok!(read_sign(Punctuator::Semicolon, rest));
     Ok((Statement::Continue(at), rest))
 }
 
@@ -118,7 +118,7 @@ fn read_returned(
     if is_sign_next(Punctuator::Semicolon, tokens) {
         return Ok((None, tokens));
     }
-    let (value, rest) = read_value(alloc, room, tokens)?;
+    let (value, rest) = ok!(read_value(alloc, room, tokens));
     Ok((Some(value), rest))
 }
 
@@ -131,8 +131,8 @@ pub(crate) fn read_return(
     ensures ok { IfOk result (λ r. return_statement room tokens.now ≡ Ok (statement_tree r.0, r.1.now)) }
     ensures err { IfErr result (λ e. e ≢ Fault.NoMemory → return_statement room tokens.now ≡ Err e) }
 {
-    let (at, rest) = read_placed_word(Keyword::Return, tokens)?;
-    let (value, rest) = read_returned(alloc, room, rest)?;
-    let (value, rest) = beside(value, read_sign(Punctuator::Semicolon, rest))?;
+    let (at, rest) = ok!(read_placed_word(Keyword::Return, tokens));
+    let (value, rest) = ok!(read_returned(alloc, room, rest));
+    let (value, rest) = ok!(beside(value, read_sign(Punctuator::Semicolon, rest)));
     Ok((Statement::Return(at, value), rest))
 }

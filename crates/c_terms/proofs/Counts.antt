@@ -1,11 +1,11 @@
 -- An operator with another number of words than it takes goes wrong.
 use Rattle.std.proofs.Common.{◌≡◌, ◌≢◌, ℕ, [], ◌∷◌, refl}
-use Rattle.std.specs.Prelude.{None}
+use Rattle.std.specs.Prelude.{Option, Some, None, option_and_then}
 use Rattle.ints.specs.declared.operators.Op.{Op}
 use Rattle.ints.specs.declared.operators.Op.TheVariants as O
 use Rattle.ints.specs.Codes.{argument_count_of}
 use Rattle.ints.specs.CTable.{c_table}
-use Rattle.c_program.specs.Values.{computed}
+use Rattle.c_program.specs.Values.{computed, cell_of}
 
 pub one_only : (o : Op) (x : ℕ) → argument_count_of o ≢ 1 → computed o (x ∷ []) ≡ None
 unfolding argument_count_of c_table
@@ -66,3 +66,8 @@ two_only O.LtS x y other = elim (other refl) [ ]
 two_only O.LtU x y other = elim (other refl) [ ]
 two_only O.LeS x y other = elim (other refl) [ ]
 two_only O.LeU x y other = elim (other refl) [ ]
+
+-- no cell is worth anything where nothing is declared
+pub no_cells : (g : ℕ) (index : Option ℕ) → option_and_then (cell_of [] g) index ≡ None
+no_cells g None = refl
+no_cells g (Some i) = refl

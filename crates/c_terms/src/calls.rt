@@ -14,6 +14,7 @@ ghost use Rattle.c_rules.specs.Calls as C;
 use crate::expressions::check_expression;
 use crate::functions::Functions;
 use crate::names::meaning_of;
+use crate::owned::ok;
 use c_program::{Called, Term, Value};
 use c_rules::{CheckError, Meaning};
 use c_scopes::Scopes;
@@ -79,7 +80,7 @@ fn check_arguments(
     let mut terms = Vec::new(alloc);
     let mut rest = arguments;
     while let [argument, behind @ ..] = rest {
-        let typed = check_expression(alloc, scope, argument)?;
+        let typed = ok!(check_expression(alloc, scope, argument));
         terms.push(typed.term)?;
         rest = behind;
     }
@@ -97,7 +98,6 @@ fn put(arguments: Vec<Term>) -> Value
 }
 
 /// What a call gives, whose value is wanted or dropped; or the first fault in it.
-#[tactic(auto, using(c_rules::proofs::Firsts::tells_front, c_rules::proofs::Firsts::tells_behind))]
 pub fn check_call(
     alloc: Global,
     functions: &Functions,
@@ -110,8 +110,8 @@ pub fn check_call(
     ensures err { IfErr result (λ e. Tells e (C.call_faults functions.now scope.now wanted (call_tree call.now))) }
 {
     let arguments = call.arguments.as_slice();
-    check_callee(functions, scope, wanted, &call.callee, arguments.len())?;
-    let terms = check_arguments(alloc, scope, arguments)?;
+    ok!(check_callee(functions, scope, wanted, &call.callee, arguments.len(),));
+    let terms = ok!(check_arguments(alloc, scope, arguments));
     if is_putchar(&call.callee) {
         return Ok(put(terms));
     }
@@ -135,7 +135,7 @@ pub fn check_value(
 {
     match value {
         c_tree::Value::Expression(expression) => {
-            let typed = check_expression(alloc, scope, expression)?;
+            let typed = ok!(check_expression(alloc, scope, expression));
             Ok(Value::Term(typed.term))
         }
         c_tree::Value::Call(call) => check_call(alloc, functions, scope, true, call),

@@ -30,9 +30,10 @@ pub fn has_name(expression: &Expression) -> bool
 
 /// What C's table gives for one word; nothing for an operator on two.
 #[tactic(auto, using(crate::proofs::Counts::one_only), unfolding(ints::specs::Codes::argument_count_of))]
-fn on_one(operator: Op, operand: u32) -> Option<u32>
-    ensures { result ≡ V.computed operator (operand ∷ []) }
+fn on_one(operator: Op, operand: Option<u32>) -> Option<u32>
+    ensures { result ≡ V.on_one operator operand }
 {
+    let operand = operand?;
     if operator.argument_count() != 1 {
         return None;
     }
@@ -41,42 +42,66 @@ fn on_one(operator: Op, operand: u32) -> Option<u32>
 
 /// What C's table gives for two words; nothing for an operator on one.
 #[tactic(auto, using(crate::proofs::Counts::two_only), unfolding(ints::specs::Codes::argument_count_of))]
-fn on_two(operator: Op, left: u32, right: u32) -> Option<u32>
-    ensures { result ≡ V.computed operator (left ∷ right ∷ []) }
+fn on_two(operator: Op, left: Option<u32>, right: Option<u32>) -> Option<u32>
+    ensures { result ≡ V.on_two operator left right }
 {
+    let left = left?;
+    let right = right?;
     if operator.argument_count() != 2 {
         return None;
     }
     eval_c(operator, &[left, right]).ok()
 }
 
+/// `&&`.
+fn both(left: Option<u32>, right: Option<u32>) -> Option<u32>
+    ensures { result ≡ V.both left right }
+{
+    match left? {
+        0 => Some(0),
+        _ => Some(u32::from(right? != 0)),
+    }
+}
+
+/// `||`.
+fn either(left: Option<u32>, right: Option<u32>) -> Option<u32>
+    ensures { result ≡ V.either left right }
+{
+    match left? {
+        0 => Some(u32::from(right? != 0)),
+        _ => Some(1),
+    }
+}
+
+/// `?:`.
+fn chosen(condition: Option<u32>, left: Option<u32>, right: Option<u32>) -> Option<u32>
+    ensures { result ≡ V.chosen condition left right }
+{
+    match condition? {
+        0 => right,
+        _ => left,
+    }
+}
+
 /// What a term is worth where nothing is declared. It calls itself no deeper than the term is high.
+#[tactic(auto, using(crate::proofs::Counts::no_cells))]
 pub fn constant_value(term: &Term) -> Option<u32>
     ensures { result ≡ V.value V.nothing_declared (term_tree term.now) }
 {
     match term {
         Term::Constant(word) => Some(*word),
         Term::Local(_number) => None,
-        Term::Cell(_number, index) => {
-            let _index = constant_value(index)?;
-            None
-        }
-        Term::Unary(operator, operand) => on_one(*operator, constant_value(operand)?),
+        Term::Cell(_number, _index) => None,
+        Term::Unary(operator, operand) => on_one(*operator, constant_value(operand)),
         Term::Binary(operator, left, right) => {
-            let left = constant_value(left)?;
-            on_two(*operator, left, constant_value(right)?)
+            let left = constant_value(left);
+            on_two(*operator, left, constant_value(right))
         }
-        Term::Both(left, right) => match constant_value(left)? {
-            0 => Some(0),
-            _ => Some(u32::from(constant_value(right)? != 0)),
-        },
-        Term::Either(left, right) => match constant_value(left)? {
-            0 => Some(u32::from(constant_value(right)? != 0)),
-            _ => Some(1),
-        },
-        Term::Conditional(condition, left, right) => match constant_value(condition)? {
-            0 => constant_value(right),
-            _ => constant_value(left),
-        },
+        Term::Both(left, right) => both(constant_value(left), constant_value(right)),
+        Term::Either(left, right) => either(constant_value(left), constant_value(right)),
+        Term::Conditional(condition, left, right) => {
+            let condition = constant_value(condition);
+            chosen(condition, constant_value(left), constant_value(right))
+        }
     }
 }

@@ -7,10 +7,11 @@ ghost use Rattle.c_rules.specs.Told.{Tells};
 ghost use Rattle.c_rules.specs.Types.{type_of};
 ghost use Rattle.c_rules.specs.Terms.{term_of};
 ghost use Rattle.c_rules.specs.Expressions.{expression_faults};
+ghost use Rattle.c_terms.specs.Checked.{Checks};
 
-use crate::names::{array, variable};
-use crate::owned::beside;
-use crate::typed::{Typed, binary, conditional, unary};
+use crate::names::variable;
+use crate::parts::{binary_of, cast_of, conditional_of, element_of, unary_of};
+use crate::typed::Typed;
 use c_program::Term;
 use c_rules::{CheckError, Meaning};
 use c_scopes::Scopes;
@@ -18,7 +19,6 @@ use c_tree::Expression;
 use std::alloc::Global;
 
 /// The term that an expression stands for, and its type; or the first fault in it.
-#[tactic(auto, using(c_rules::proofs::Firsts::tells_front, c_rules::proofs::Firsts::tells_behind))]
 pub fn check_expression(
     alloc: Global,
     scope: &Scopes<Meaning>,
@@ -29,6 +29,17 @@ pub fn check_expression(
     ensures term { IfOk result (λ t. term_tree t.term ≡ term_of scope.now (expression_tree expression.now)) }
     ensures err { IfErr result (λ e. Tells e (expression_faults scope.now (expression_tree expression.now))) }
 {
+    checked(alloc, scope, expression)
+}
+
+/// The same by one clause. What its parts gave goes as it is to functions outside of the cycle.
+fn checked(
+    alloc: Global,
+    scope: &Scopes<Meaning>,
+    expression: &Expression,
+) -> Result<Typed, CheckError>
+    ensures { Checks scope.now (expression_tree expression.now) result }
+{
     match expression {
         Expression::Constant(constant) => Ok(Typed {
             term: Term::Constant(constant.value),
@@ -36,31 +47,25 @@ pub fn check_expression(
         }),
         Expression::Variable(name) => variable(alloc, scope, name),
         Expression::Element(name, index) => {
-            let (number, kind) = array(scope, name)?;
-            let index = check_expression(alloc, scope, index)?;
-            let term = Term::Cell(number, Box::new(alloc, index.term)?);
-            Ok(Typed { term, kind })
+            let index = checked(alloc, scope, index);
+            element_of(alloc, scope, name, index)
         }
-        Expression::Parenthesis(inner) => check_expression(alloc, scope, inner),
-        Expression::Cast(kind, operand) => {
-            let Typed { term, .. } = check_expression(alloc, scope, operand)?;
-            Ok(Typed { term, kind: *kind })
-        }
+        Expression::Parenthesis(inner) => checked(alloc, scope, inner),
+        Expression::Cast(kind, operand) => cast_of(*kind, checked(alloc, scope, operand)),
         Expression::Unary(operator, operand) => {
-            let operand = check_expression(alloc, scope, operand)?;
-            Ok(unary(alloc, *operator, operand)?)
+            let operand = checked(alloc, scope, operand);
+            unary_of(alloc, *operator, operand)
         }
         Expression::Binary(operator, left, right) => {
-            let left = check_expression(alloc, scope, left)?;
-            let (left, right) = beside(left, check_expression(alloc, scope, right))?;
-            Ok(binary(alloc, *operator, left, right)?)
+            let left = checked(alloc, scope, left);
+            let right = checked(alloc, scope, right);
+            binary_of(alloc, *operator, left, right)
         }
         Expression::Conditional(condition, left, right) => {
-            let condition = check_expression(alloc, scope, condition)?;
-            let (condition, left) = beside(condition, check_expression(alloc, scope, left))?;
-            let (parts, right) = beside((condition, left), check_expression(alloc, scope, right))?;
-            let (condition, left) = parts;
-            Ok(conditional(alloc, condition, left, right)?)
+            let condition = checked(alloc, scope, condition);
+            let left = checked(alloc, scope, left);
+            let right = checked(alloc, scope, right);
+            conditional_of(alloc, condition, left, right)
         }
     }
 }

@@ -8,6 +8,7 @@ mod expressions;
 mod functions;
 mod names;
 mod owned;
+mod parts;
 mod typed;
 
 pub use calls::{check_call, check_value, is_putchar};

@@ -1,9 +1,21 @@
 //! Owned values of any type while more is made: at a fault they are dropped.
 
-ghost use Rattle.std.specs.Prelude.{◌≡◌, IfOk, IfErr, Ok, Err};
+ghost use Rattle.std.specs.Prelude.{◌≡◌, IfOk, IfErr, MatchResult, Ok, Err};
 
 use lang::NoMemory;
 use std::alloc::Global;
+
+/// What was made; a fault is returned. It is `?` where a fault stays as it is: a `match` has no calls to be proved.
+macro_rules! ok {
+    ($made:expr) => {
+        match $made {
+            Ok(made) => made,
+            Err(fault) => return Err(fault),
+        }
+    };
+}
+
+pub(crate) use ok;
 
 /// What was made before, beside what is made behind it.
 pub(crate) fn beside<A: Drop, B, E>(before: A, behind: Result<B, E>) -> Result<(A, B), E>
@@ -12,6 +24,20 @@ pub(crate) fn beside<A: Drop, B, E>(before: A, behind: Result<B, E>) -> Result<(
 {
     match behind {
         Ok(behind) => Ok((before, behind)),
+        Err(fault) => Err(fault),
+    }
+}
+
+/// Two results as one. A fault of the first comes before one of the second.
+pub(crate) fn both<A: Drop, B: Drop, E: Drop>(
+    first: Result<A, E>,
+    second: Result<B, E>,
+) -> Result<(A, B), E>
+    ensures ok { IfOk result (λ r. (first ≡ Ok r.0) × (second ≡ Ok r.1)) }
+    ensures err { IfErr result (λ e. MatchResult first (λ x. second ≡ Err e) (λ fault. fault ≡ e)) }
+{
+    match first {
+        Ok(first) => beside(first, second),
         Err(fault) => Err(fault),
     }
 }

@@ -6,7 +6,7 @@ ghost use Rattle.c_program.specs.Views.{term_tree};
 ghost use Rattle.c_rules.specs.Types.{common, unary_type, binary_type};
 ghost use Rattle.c_rules.specs.Terms.{by_type, unary_term, binary_term};
 
-use crate::owned::{beside, boxes};
+use crate::owned::{beside, boxes, ok};
 use c_program::Term;
 use c_tokens::IntegerType;
 use c_tree::{BinaryOperator, UnaryOperator};
@@ -96,7 +96,7 @@ fn binary_type(operator: BinaryOperator, left: IntegerType, right: IntegerType) 
 fn applied(alloc: Global, operator: Op, left: Term, right: Term) -> Result<Term, NoMemory>
     ensures { IfOk result (λ t. term_tree t ≡ P.Binary operator (term_tree left) (term_tree right)) }
 {
-    let (left, right) = boxes(alloc, left, right)?;
+    let (left, right) = ok!(boxes(alloc, left, right));
     Ok(Term::Binary(operator, left, right))
 }
 
@@ -114,11 +114,11 @@ fn binary_term(
     let shifted = kinds.0;
     match operator {
         BinaryOperator::LogicalOr => {
-            let (left, right) = boxes(alloc, left, right)?;
+            let (left, right) = ok!(boxes(alloc, left, right));
             Ok(Term::Either(left, right))
         }
         BinaryOperator::LogicalAnd => {
-            let (left, right) = boxes(alloc, left, right)?;
+            let (left, right) = ok!(boxes(alloc, left, right));
             Ok(Term::Both(left, right))
         }
         BinaryOperator::Or => applied(alloc, Op::Or, left, right),
@@ -160,7 +160,7 @@ pub(crate) fn binary(
 {
     let kind = binary_type(operator, left.kind, right.kind);
     let kinds = (left.kind, right.kind);
-    let term = binary_term(alloc, operator, kinds, left.term, right.term)?;
+    let term = ok!(binary_term(alloc, operator, kinds, left.term, right.term));
     Ok(Typed { term, kind })
 }
 
@@ -176,7 +176,7 @@ pub(crate) fn conditional(
 {
     let kind = common(left.kind, right.kind);
     let behind = boxes(alloc, condition.term, left.term);
-    let (right, (condition, left)) = beside(right.term, behind)?;
+    let (right, (condition, left)) = ok!(beside(right.term, behind));
     let term = Term::Conditional(condition, left, Box::new(alloc, right)?);
     Ok(Typed { term, kind })
 }
