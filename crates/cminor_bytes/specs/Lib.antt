@@ -1,3 +1,4 @@
+pub mod Codes
 pub mod Results
 pub mod Short
 pub use Rattle.cminor_forms.specs.Reading

@@ -1,59 +1,14 @@
 //! Readers of expressions. What calls itself does so with less room.
 
-ghost use Rattle.std.specs.Prelude.{◌≡◌, IfOk, IfErr};
 ghost use Rattle.lang.specs.Reading.{Reads, made};
 ghost use Rattle.ints.specs.Codes.{argument_count_of};
-ghost use Rattle.cminor_tree.specs.Trees as T;
-ghost use Rattle.cminor_tree.specs.Views.{expression_tree};
 ghost use Rattle.cminor_forms.specs.Reading.{expression_of, too_high, load, operands, applied, operation, choice, expression_by_code, expression};
 
-use crate::parts::{beside, read_global, read_variable};
+use crate::parts::{beside, boxed, read_global, read_variable};
 use cminor_tree::Expression;
 use ints::Op;
 use lang::{FormError, read_byte, read_u32};
 use std::alloc::Global;
-
-/// An expression in a box.
-fn boxed(alloc: Global, inner: Expression) -> Result<Box<Expression>, FormError>
-    ensures ok { IfOk result (λ b. expression_tree b.value ≡ expression_tree inner) }
-    ensures err { IfErr result (λ e. e ≡ FormError.NoMemory) }
-{
-    Ok(Box::new(alloc, inner)?)
-}
-
-/// An operator of two words on its operands.
-fn binary(
-    alloc: Global,
-    op: Op,
-    first: Expression,
-    second: Expression,
-) -> Result<Expression, FormError>
-    ensures ok { IfOk result (λ e. expression_tree e ≡ T.Binary op (expression_tree first) (expression_tree second)) }
-    ensures err { IfErr result (λ e. e ≡ FormError.NoMemory) }
-{
-    let (second, first) = beside(second, boxed(alloc, first))?;
-    let (first, second) = beside(first, boxed(alloc, second))?;
-    Ok(Expression::Binary(op, first, second))
-}
-
-/// A condition, the value where it is not 0, and the value where it is.
-fn chosen(
-    alloc: Global,
-    condition: Expression,
-    then: Expression,
-    other: Expression,
-) -> Result<Expression, FormError>
-    ensures ok { IfOk result (λ e. expression_tree e ≡ T.Choice (expression_tree condition) (expression_tree then) (expression_tree other)) }
-    ensures err { IfErr result (λ e. e ≡ FormError.NoMemory) }
-{
-    let (values, condition) = beside((then, other), boxed(alloc, condition))?;
-    let (then, other) = values;
-    let (parts, then) = beside((condition, other), boxed(alloc, then))?;
-    let (condition, other) = parts;
-    let (parts, other) = beside((condition, then), boxed(alloc, other))?;
-    let (condition, then) = parts;
-    Ok(Expression::Choice(condition, then, other))
-}
 
 /// A node for which no room is left.
 #[tactic(auto, unfolding(cminor_forms::specs::Reading::too_high))]
@@ -114,8 +69,8 @@ fn read_load(
     ensures { Reads (load (expression below variables) bytes.old.now) (expression_of result) bytes.new.now }
 {
     let global = read_global(bytes)?;
-    let index = read_expression(alloc, below, variables, bytes)?;
-    Ok(Expression::Load(global, Box::new(alloc, index)?))
+    let index = boxed(alloc, read_expression(alloc, below, variables, bytes))?;
+    Ok(Expression::Load(global, index))
 }
 
 /// An operator, and as many operands as it takes.
@@ -144,12 +99,13 @@ fn read_operands(
 ) -> Result<Expression, FormError>
     ensures { Reads (made (applied op) (operands (argument_count_of op) (expression below variables)) bytes.old.now) (expression_of result) bytes.new.now }
 {
-    let first = read_expression(alloc, below, variables, bytes)?;
+    let first = boxed(alloc, read_expression(alloc, below, variables, bytes))?;
     if op.argument_count() == 1 {
-        return Ok(Expression::Unary(op, Box::new(alloc, first)?));
+        return Ok(Expression::Unary(op, first));
     }
-    let (first, second) = beside(first, read_expression(alloc, below, variables, bytes))?;
-    binary(alloc, op, first, second)
+    let second = boxed(alloc, read_expression(alloc, below, variables, bytes));
+    let (first, second) = beside(first, second)?;
+    Ok(Expression::Binary(op, first, second))
 }
 
 /// A condition and two values.
@@ -163,10 +119,10 @@ fn read_choice(
 ) -> Result<Expression, FormError>
     ensures { Reads (choice (expression below variables) bytes.old.now) (expression_of result) bytes.new.now }
 {
-    let condition = read_expression(alloc, below, variables, bytes)?;
-    let (condition, then) = beside(condition, read_expression(alloc, below, variables, bytes))?;
-    let parts = (condition, then);
-    let (parts, other) = beside(parts, read_expression(alloc, below, variables, bytes))?;
-    let (condition, then) = parts;
-    chosen(alloc, condition, then, other)
+    let condition = boxed(alloc, read_expression(alloc, below, variables, bytes))?;
+    let then = boxed(alloc, read_expression(alloc, below, variables, bytes));
+    let parts = beside(condition, then)?;
+    let other = boxed(alloc, read_expression(alloc, below, variables, bytes));
+    let ((condition, then), other) = beside(parts, other)?;
+    Ok(Expression::Choice(condition, then, other))
 }

@@ -1,10 +1,11 @@
 //! Readers of the numbers in a function.
 
-ghost use Rattle.std.specs.Prelude.{◌≡◌, IfOk, IfErr, Ok, Err};
+ghost use Rattle.std.specs.Prelude.{◌≡◌, ◌≢◌, IfOk, IfErr, Ok, Err};
 ghost use Rattle.lang.specs.Reading.{IsRead};
 ghost use Rattle.cminor_forms.specs.Reading.{variable, global, function_number, target, frame};
 
 use lang::{FormError, read_byte, read_count, read_u16, read_u16_below};
+use std::alloc::Global;
 
 /// What was read before, beside what is read behind it.
 pub(crate) fn beside<A: Drop, B>(
@@ -16,6 +17,15 @@ pub(crate) fn beside<A: Drop, B>(
 {
     let behind = behind?;
     Ok((before, behind))
+}
+
+/// What was read, in a box.
+pub(crate) fn boxed<A: Drop>(alloc: Global, read: Result<A, FormError>) -> Result<Box<A>, FormError>
+    ensures ok { IfOk result (λ b. read ≡ Ok b.value) }
+    ensures err { IfErr result (λ e. e ≢ FormError.NoMemory → read ≡ Err e) }
+{
+    let read = read?;
+    Ok(Box::new(alloc, read)?)
 }
 
 /// One of so many variables.

@@ -1,17 +1,17 @@
 //! Readers of statements. What calls itself does so with less room.
 
-ghost use Rattle.std.specs.Prelude.{◌≡◌, [], IfOk, IfErr};
+ghost use Rattle.std.specs.Prelude.{◌≡◌, []};
 ghost use Rattle.lang.specs.Reading.{Reads, more};
 ghost use Rattle.cminor_tree.specs.Fits.{height_limit};
 ghost use Rattle.cminor_tree.specs.Trees as T;
-ghost use Rattle.cminor_tree.specs.Views.{expression_tree, statement_tree, statements_tree};
+ghost use Rattle.cminor_tree.specs.Views.{statement_tree, statements_tree};
 ghost use Rattle.cminor_forms.specs.Reading.{statement_of, too_high, expression, sequence, branch, statement_by_code, statement};
 ghost use Rattle.cminor_bytes.specs.Results.{statements_of};
 
 use crate::expressions::read_expression;
-use crate::parts::beside;
+use crate::parts::{beside, boxed};
 use crate::plain::read_plain;
-use cminor_tree::{Expression, Statement};
+use cminor_tree::Statement;
 use lang::{FormError, read_byte, read_u32};
 use std::alloc::Global;
 
@@ -39,31 +39,6 @@ pub fn sequence(statements: Vec<Statement>) -> Statement
     ensures { statement_tree result ≡ T.Sequence (statements_tree statements.items) }
 {
     Statement::Sequence(statements)
-}
-
-/// A statement in a box.
-fn boxed(alloc: Global, inner: Statement) -> Result<Box<Statement>, FormError>
-    ensures ok { IfOk result (λ b. statement_tree b.value ≡ statement_tree inner) }
-    ensures err { IfErr result (λ e. e ≡ FormError.NoMemory) }
-{
-    Ok(Box::new(alloc, inner)?)
-}
-
-/// A condition, the statement where it is not 0, and the statement where it is.
-fn branched(
-    alloc: Global,
-    condition: Expression,
-    then: Statement,
-    other: Statement,
-) -> Result<Statement, FormError>
-    ensures ok { IfOk result (λ s. statement_tree s ≡ T.If (expression_tree condition) (statement_tree then) (statement_tree other)) }
-    ensures err { IfErr result (λ e. e ≡ FormError.NoMemory) }
-{
-    let (parts, then) = beside((condition, other), boxed(alloc, then))?;
-    let (condition, other) = parts;
-    let (parts, other) = beside((condition, then), boxed(alloc, other))?;
-    let (condition, then) = parts;
-    Ok(Statement::If(condition, then, other))
 }
 
 /// A statement that is at most as high as the room.
@@ -98,12 +73,12 @@ fn read_by_code(
         5 => read_sequence(alloc, below, variables, bytes),
         6 => read_branch(alloc, below, variables, bytes),
         7 => {
-            let body = read_statement(alloc, below, variables, bytes)?;
-            Ok(Statement::Loop(Box::new(alloc, body)?))
+            let body = boxed(alloc, read_statement(alloc, below, variables, bytes))?;
+            Ok(Statement::Loop(body))
         }
         8 => {
-            let body = read_statement(alloc, below, variables, bytes)?;
-            Ok(Statement::Block(Box::new(alloc, body)?))
+            let body = boxed(alloc, read_statement(alloc, below, variables, bytes))?;
+            Ok(Statement::Block(body))
         }
         code => read_plain(alloc, below, variables, code, bytes),
     }
@@ -155,9 +130,9 @@ fn read_branch(
     ensures { Reads (branch (expression below variables) (statement below variables) bytes.old.now) (statement_of result) bytes.new.now }
 {
     let condition = read_expression(alloc, below, variables, bytes)?;
-    let (condition, then) = beside(condition, read_statement(alloc, below, variables, bytes))?;
-    let parts = (condition, then);
-    let (parts, other) = beside(parts, read_statement(alloc, below, variables, bytes))?;
-    let (condition, then) = parts;
-    branched(alloc, condition, then, other)
+    let then = boxed(alloc, read_statement(alloc, below, variables, bytes));
+    let parts = beside(condition, then)?;
+    let other = boxed(alloc, read_statement(alloc, below, variables, bytes));
+    let ((condition, then), other) = beside(parts, other)?;
+    Ok(Statement::If(condition, then, other))
 }

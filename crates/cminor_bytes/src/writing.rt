@@ -1,6 +1,6 @@
 //! Writers of trees: each appends the text.
 
-ghost use Rattle.std.specs.Prelude.{◌<◌, ◌^◌, All, length, map};
+ghost use Rattle.std.specs.Prelude.{◌≡◌, ◌<◌, ◌^◌, All, length, map};
 ghost use Rattle.std.specs.Int.{w32, to_be_bytes};
 ghost use Rattle.std.specs.List.{flat_map};
 ghost use Rattle.lang.specs.Texts.{Appends, optional_text};
@@ -8,42 +8,47 @@ ghost use Rattle.cminor_tree.specs.Fits.{statement_count};
 ghost use Rattle.cminor_tree.specs.Trees as T;
 ghost use Rattle.cminor_tree.specs.Views.{expression_tree, statement_tree, statements_tree, optional_tree};
 ghost use Rattle.cminor_forms.specs.Spelling.{expression_text, target_text, arguments_text, statement_text};
+ghost use Rattle.cminor_bytes.specs.Codes.{expression_code, statement_code, store_text, call_text};
 ghost use Rattle.cminor_bytes.specs.Short.{HasShortLists};
 
 use cminor_tree::{Expression, Statement};
 use lang::{NoMemory, push_byte, push_u16, push_u32};
 
+/// The first byte of an expression.
+fn code_of_expression(expression: &Expression) -> u8
+    ensures { result ≡ expression_code (expression_tree expression.now) }
+{
+    match expression {
+        Expression::Constant(_) => 0,
+        Expression::Variable(_) => 1,
+        Expression::Load(..) => 2,
+        Expression::Unary(..) | Expression::Binary(..) => 3,
+        Expression::Choice(..) => 4,
+    }
+}
+
 /// A code, and what follows it.
 fn push_expression(out: &mut Vec<u8>, expression: &Expression) -> Result<(), NoMemory>
     ensures { Appends result (expression_text (expression_tree expression.now)) out.old.items out.new.items }
 {
+    push_byte(out, code_of_expression(expression))?;
     match expression {
-        Expression::Constant(word) => {
-            push_byte(out, 0)?;
-            push_u32(out, *word)
-        }
-        Expression::Variable(variable) => {
-            push_byte(out, 1)?;
-            push_u16(out, *variable)
-        }
+        Expression::Constant(word) => push_u32(out, *word),
+        Expression::Variable(variable) => push_u16(out, *variable),
         Expression::Load(global, index) => {
-            push_byte(out, 2)?;
             push_u16(out, *global)?;
             push_expression(out, index)
         }
         Expression::Unary(op, operand) => {
-            push_byte(out, 3)?;
             push_byte(out, op.code())?;
             push_expression(out, operand)
         }
         Expression::Binary(op, left, right) => {
-            push_byte(out, 3)?;
             push_byte(out, op.code())?;
             push_expression(out, left)?;
             push_expression(out, right)
         }
         Expression::Choice(condition, then, other) => {
-            push_byte(out, 4)?;
             push_expression(out, condition)?;
             push_expression(out, then)?;
             push_expression(out, other)
@@ -112,65 +117,90 @@ fn push_count(out: &mut Vec<u8>, statements: &[Statement]) -> Result<(), NoMemor
     push_u32(out, statements.len() as u32)
 }
 
+/// The first byte of a statement.
+fn code_of_statement(statement: &Statement) -> u8
+    ensures { result ≡ statement_code (statement_tree statement.now) }
+{
+    match statement {
+        Statement::Skip => 0,
+        Statement::Assign(..) => 1,
+        Statement::Store(..) => 2,
+        Statement::Call(..) => 3,
+        Statement::Put(..) => 4,
+        Statement::Sequence(_) => 5,
+        Statement::If(..) => 6,
+        Statement::Loop(_) => 7,
+        Statement::Block(_) => 8,
+        Statement::Exit(_) => 9,
+        Statement::Return(_) => 10,
+    }
+}
+
+/// A global, the index of a cell, and the word that it becomes.
+fn push_store(
+    out: &mut Vec<u8>,
+    global: u16,
+    index: &Expression,
+    value: &Expression,
+) -> Result<(), NoMemory>
+    ensures { Appends result (store_text global (expression_tree index.now) (expression_tree value.now)) out.old.items out.new.items }
+{
+    push_u16(out, global)?;
+    push_expression(out, index)?;
+    push_expression(out, value)
+}
+
+/// A function, the variable that gets its result, and the arguments.
+fn push_call(
+    out: &mut Vec<u8>,
+    callee: u8,
+    target: Option<u16>,
+    arguments: &[Expression],
+) -> Result<(), NoMemory>
+    requires { length (map expression_tree arguments.now) < 256 }
+    ensures { Appends result (call_text callee target (map expression_tree arguments.now)) out.old.items out.new.items }
+{
+    push_byte(out, callee)?;
+    push_target(out, target)?;
+    push_arguments(out, arguments)
+}
+
 /// A code, and what follows it. Each count has room in its bytes.
 #[cycle(writing)]
 pub fn push_statement(out: &mut Vec<u8>, statement: &Statement) -> Result<(), NoMemory>
     requires { HasShortLists (statement_tree statement.now) }
     ensures { Appends result (statement_text (statement_tree statement.now)) out.old.items out.new.items }
 {
+    push_byte(out, code_of_statement(statement))?;
     match statement {
-        Statement::Skip => push_byte(out, 0),
+        Statement::Skip => Ok(()),
         Statement::Assign(variable, value) => {
-            push_byte(out, 1)?;
             push_u16(out, *variable)?;
             push_expression(out, value)
         }
-        Statement::Store(global, index, value) => {
-            push_byte(out, 2)?;
-            push_u16(out, *global)?;
-            push_expression(out, index)?;
-            push_expression(out, value)
-        }
+        Statement::Store(global, index, value) => push_store(out, *global, index, value),
         Statement::Call(callee, target, arguments) => {
-            push_byte(out, 3)?;
-            push_byte(out, *callee)?;
-            push_target(out, *target)?;
-            push_arguments(out, arguments.as_slice())
+            push_call(out, *callee, *target, arguments.as_slice())
         }
         Statement::Put(target, word) => {
-            push_byte(out, 4)?;
             push_target(out, *target)?;
             push_expression(out, word)
         }
         Statement::Sequence(statements) => {
             let statements = statements.as_slice();
             are_short(statements);
-            push_byte(out, 5)?;
             push_count(out, statements)?;
             push_each(out, statements)
         }
         Statement::If(condition, then, other) => {
-            push_byte(out, 6)?;
             push_expression(out, condition)?;
             push_statement(out, then)?;
             push_statement(out, other)
         }
-        Statement::Loop(body) => {
-            push_byte(out, 7)?;
-            push_statement(out, body)
-        }
-        Statement::Block(body) => {
-            push_byte(out, 8)?;
-            push_statement(out, body)
-        }
-        Statement::Exit(blocks) => {
-            push_byte(out, 9)?;
-            push_u16(out, *blocks)
-        }
-        Statement::Return(value) => {
-            push_byte(out, 10)?;
-            push_returned(out, value)
-        }
+        Statement::Loop(body) => push_statement(out, body),
+        Statement::Block(body) => push_statement(out, body),
+        Statement::Exit(blocks) => push_u16(out, *blocks),
+        Statement::Return(value) => push_returned(out, value),
     }
 }
 

@@ -32,8 +32,8 @@ same_laws =
 
 lists_tell : {A : Type 0} (eq : A → A → Bool) → Tells eq → Tells (pointwise eq)
 lists_tell eq tells [] [] e = refl
-lists_tell eq tells [] (y ∷ ys) e = absurd cc
-lists_tell eq tells (x ∷ xs) [] e = absurd cc
+lists_tell eq tells [] (y ∷ ys) e = absurd (false≢true e)
+lists_tell eq tells (x ∷ xs) [] e = absurd (false≢true e)
 lists_tell eq tells (x ∷ xs) (y ∷ ys) e = let p = and_parts (eq x y) (pointwise eq xs ys) e in λ i. tells x y p.0 i ∷ lists_tell eq tells xs ys p.1 i
 
 moves_tell : Tells (pointwise (move_eq.ghosts).eq)
@@ -41,8 +41,8 @@ moves_tell = lists_tell (move_eq.ghosts).eq move_tells
 
 value_tells : (v w : Option ℕ) → (body_eq.ghosts).eq (Return v) (Return w) ≡ true → v ≡ w
 value_tells None None e = refl
-value_tells None (Some r) e = absurd cc
-value_tells (Some r) None e = absurd cc
+value_tells None (Some r) e = absurd (false≢true e)
+value_tells (Some r) None e = absurd (false≢true e)
 value_tells (Some r) (Some q) e = ap (λ n. Some n) (eqb-true r q e)
 
 locations_tell : Tells (pointwise (location_eq.ghosts).eq)
@@ -56,12 +56,10 @@ call_tells f g xs ys None None ms ns s r e =
     λ i. Call (eqb-true f g p.0 i) (locations_tell xs ys q.0 i) None (moves_tell ms ns w.0 i) (eqb-true s r w.1 i)
 call_tells f g xs ys None (Some b) ms ns s r e =
     let p = and_parts (nat_eq f g) _ e in
-    let no : false ≡ true = (and_parts (pointwise (location_eq.ghosts).eq xs ys) false p.1).1 in
-    absurd cc
+    absurd (false≢true (and_parts (pointwise (location_eq.ghosts).eq xs ys) false p.1).1)
 call_tells f g xs ys (Some a) None ms ns s r e =
     let p = and_parts (nat_eq f g) _ e in
-    let no : false ≡ true = (and_parts (pointwise (location_eq.ghosts).eq xs ys) false p.1).1 in
-    absurd cc
+    absurd (false≢true (and_parts (pointwise (location_eq.ghosts).eq xs ys) false p.1).1)
 call_tells f g xs ys (Some a) (Some b) ms ns s r e =
     let p = and_parts (nat_eq f g) _ e in
     let q = and_parts (pointwise (location_eq.ghosts).eq xs ys) ((location_eq.ghosts).eq a b && (pointwise (move_eq.ghosts).eq ms ns && nat_eq s r)) p.1 in
@@ -70,9 +68,9 @@ call_tells f g xs ys (Some a) (Some b) ms ns s r e =
     λ i. Call (eqb-true f g p.0 i) (locations_tell xs ys q.0 i) (Some (location_tells a b v.0 i)) (moves_tell ms ns w.0 i) (eqb-true s r w.1 i)
 
 body_tells : Tells (body_eq.ghosts).eq
-body_tells (Go None ms s) (Go None ns t) e = let p = and_parts _ _ e in λ i. Go None (moves_tell ms ns p.0 i) (eqb-true s t p.1 i)
-body_tells (Go None ms s) (Go (Some b) ns t) e = absurd cc
-body_tells (Go (Some a) ms s) (Go None ns t) e = absurd cc
+body_tells (Go None ms s) (Go None ns t) e = let p = and_parts (pointwise (move_eq.ghosts).eq ms ns) (nat_eq s t) e in λ i. Go None (moves_tell ms ns p.0 i) (eqb-true s t p.1 i)
+body_tells (Go None ms s) (Go (Some b) ns t) e = absurd (false≢true e)
+body_tells (Go (Some a) ms s) (Go None ns t) e = absurd (false≢true e)
 body_tells (Go (Some a) ms s) (Go (Some b) ns t) e =
     let p = and_parts ((act_eq.ghosts).eq a b) (pointwise (move_eq.ghosts).eq ms ns && nat_eq s t) e in
     let q = and_parts (pointwise (move_eq.ghosts).eq ms ns) (nat_eq s t) p.1 in

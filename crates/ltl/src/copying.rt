@@ -5,14 +5,7 @@ ghost use Rattle.std.specs.Prelude.{◌≡◌, IfOk};
 use crate::block::{Block, Body};
 use crate::function::Function;
 use lang::{NoMemory, Row};
-use machine::Move;
 use std::alloc::Global;
-
-fn copy_moves(alloc: Global, moves: &Row<Move>) -> Result<Row<Move>, NoMemory>
-    ensures { IfOk result (λ copied. copied ≡ moves.now) }
-{
-    Ok(Row::from_vec(Vec::from_slice(alloc, moves.as_slice())?))
-}
 
 fn copy_body(alloc: Global, body: &Body) -> Result<Body, NoMemory>
     ensures { IfOk result (λ copied. copied ≡ body.now) }
@@ -24,7 +17,7 @@ fn copy_body(alloc: Global, body: &Body) -> Result<Body, NoMemory>
             successor,
         } => Ok(Body::Go {
             act: *act,
-            after: copy_moves(alloc, after)?,
+            after: after.copied(alloc)?,
             successor: *successor,
         }),
         Body::Call {
@@ -37,7 +30,7 @@ fn copy_body(alloc: Global, body: &Body) -> Result<Body, NoMemory>
             function: *function,
             arguments: arguments.copied(alloc)?,
             target: *target,
-            after: copy_moves(alloc, after)?,
+            after: after.copied(alloc)?,
             successor: *successor,
         }),
         Body::Branch { test, taken, other } => Ok(Body::Branch {
@@ -52,7 +45,7 @@ fn copy_body(alloc: Global, body: &Body) -> Result<Body, NoMemory>
 fn copy_block(alloc: Global, block: &Block) -> Result<Block, NoMemory>
     ensures { IfOk result (λ copied. copied ≡ block.now) }
 {
-    let before = copy_moves(alloc, &block.before)?;
+    let before = block.before.copied(alloc)?;
     let body = copy_body(alloc, &block.body)?;
     Ok(Block { before, body })
 }
@@ -71,10 +64,10 @@ fn copy_blocks(alloc: Global, blocks: &[Block]) -> Result<Vec<Block>, NoMemory>
 pub fn copy_function(alloc: Global, function: &Function) -> Result<Function, NoMemory>
     ensures { IfOk result (λ copied. copied ≡ function.now) }
 {
-    let parameters = Vec::from_slice(alloc, function.parameters().as_slice())?;
+    let parameters = function.parameters().copied(alloc)?;
     let blocks = copy_blocks(alloc, function.blocks().as_slice())?;
     Ok(Function::new(
-        Row::from_vec(parameters),
+        parameters,
         function.slots(),
         function.entry(),
         Row::from_vec(blocks),

@@ -1,16 +1,19 @@
 //! Writers of the parts of a function: each appends the text.
 
-ghost use Rattle.std.specs.Prelude.{◌≤◌, All, length};
+ghost use Rattle.std.specs.Prelude.{◌≤◌, ◌∷◌, All, length};
 ghost use Rattle.std.specs.List.{flat_map};
 ghost use Rattle.lang.specs.Texts.{Appends};
 ghost use Rattle.machine.specs.Fits.{move_limit, argument_limit};
+ghost use Rattle.ltl.specs.declared.block.Body.TheVariants.{Branch};
 ghost use Rattle.ltl.specs.Function.{HasShortLists, after_of, arguments_of};
 ghost use Rattle.ltl.specs.Spelling.{any_code, any_body, going_text, body_text, block_text, spelling};
 
 use crate::block::{Block, Body};
 use crate::function::Function;
 use lang::{NoMemory, push_byte, push_u16};
-use machine::{Move, push_act, push_call, push_frame, push_moves, push_test, push_value};
+use machine::{
+    Act, Move, Test, push_act, push_call, push_frame, push_moves, push_test, push_value,
+};
 
 /// The successor, and the moves behind the instruction.
 fn push_going(out: &mut Vec<u8>, successor: u16, after: &[Move]) -> Result<(), NoMemory>
@@ -19,6 +22,26 @@ fn push_going(out: &mut Vec<u8>, successor: u16, after: &[Move]) -> Result<(), N
 {
     push_u16(out, successor)?;
     push_moves(out, after)
+}
+
+/// An act, or nothing to do.
+fn push_any(out: &mut Vec<u8>, act: &Option<Act>) -> Result<(), NoMemory>
+    ensures { Appends result (any_code act.now ∷ any_body act.now) out.old.items out.new.items }
+{
+    match act {
+        None => push_byte(out, 0),
+        Some(act) => push_act(out, act),
+    }
+}
+
+/// A test, where to go on where it holds, and where else.
+fn push_branch(out: &mut Vec<u8>, test: &Test, taken: u16, other: u16) -> Result<(), NoMemory>
+    ensures { Appends result (body_text (Branch test.now taken other)) out.old.items out.new.items }
+{
+    push_byte(out, 8)?;
+    push_test(out, test)?;
+    push_u16(out, taken)?;
+    push_u16(out, other)
 }
 
 fn push_body(out: &mut Vec<u8>, body: &Body) -> Result<(), NoMemory>
@@ -32,10 +55,7 @@ fn push_body(out: &mut Vec<u8>, body: &Body) -> Result<(), NoMemory>
             after,
             successor,
         } => {
-            match act {
-                None => push_byte(out, 0)?,
-                Some(act) => push_act(out, act)?,
-            }
+            push_any(out, act)?;
             push_going(out, *successor, after.as_slice())
         }
         Body::Call {
@@ -49,12 +69,7 @@ fn push_body(out: &mut Vec<u8>, body: &Body) -> Result<(), NoMemory>
             push_call(out, *function, arguments.as_slice(), target)?;
             push_going(out, *successor, after.as_slice())
         }
-        Body::Branch { test, taken, other } => {
-            push_byte(out, 8)?;
-            push_test(out, test)?;
-            push_u16(out, *taken)?;
-            push_u16(out, *other)
-        }
+        Body::Branch { test, taken, other } => push_branch(out, test, *taken, *other),
         Body::Return { value } => {
             push_byte(out, 9)?;
             push_value(out, *value)

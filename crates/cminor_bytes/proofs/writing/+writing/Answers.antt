@@ -28,6 +28,7 @@ push_statement-returns-in_ok-push_count-in-Sequence t c =
     let ss = statements_tree c.as_slice-statements.result.now in
     let same : statement_tree c.args.statement.now ≡ T.Sequence ss =
     ap statement_tree c.in-Sequence.is ∙ view_sequence v ∙ ap (λ xs. T.Sequence (statements_tree xs)) (sym c.as_slice-statements.ensures.value) in
+    let coded = rw (c.code_of_statement.ensures, same) at c.in_ok-push_byte.ensures in
     rw (same, statements_texts c.as_slice-statements.result.now)
-    (appends_behind c.push_each.result (5 ∷ []) _ c.args.out.now.items c.push_byte-in-Sequence.new.out.items c.push_each.new.out.items c.in_ok-push_byte-in-Sequence.ensures
-    (appends_behind c.push_each.result (to_be_bytes w32 (statement_count ss)) _ c.push_byte-in-Sequence.new.out.items c.push_count.new.out.items c.push_each.new.out.items c.in_ok-push_count-in-Sequence.ensures c.push_each.ensures))
+    (appends_behind c.push_each.result (5 ∷ []) _ c.args.out.now.items c.push_byte.new.out.items c.push_each.new.out.items coded
+    (appends_behind c.push_each.result (to_be_bytes w32 (statement_count ss)) _ c.push_byte.new.out.items c.push_count.new.out.items c.push_each.new.out.items c.in_ok-push_count-in-Sequence.ensures c.push_each.ensures))
