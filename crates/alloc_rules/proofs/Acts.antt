@@ -40,6 +40,10 @@ pub cond_some : {A : Type 0} (b : Bool) (x : Option A) (c : A) → cond b x None
 cond_some true x c e = (refl, e)
 cond_some false x c e = cc (e)
 
+-- nothing is not something
+none_some : {A B : Type 0} (x : A) → None ≡ Some x → B
+none_some x is = absurd cc
+
 -- equal codes are of one operator, and of one condition
 op_is : (a b : Op) → code_of a ≡ code_of b → a ≡ b
 op_is a b e = let one : Some a ≡ Some b = sym (op_of_code-code_of a) ∙ ap op_of_code e ∙ op_of_code-code_of b in cc
@@ -242,4 +246,4 @@ module _ (d : rtl_data.Data) (e : Data) (globals : e.globals ≡ d.globals) (out
       (used 0 (in_register index j) (omega arith)) (used 1 (in_register source k) (omega arith)) d' done))
   act_done (Put source target) (Some (act.Put k place)) change is used d' done =
       put_done target place change is (rtl_data.value_at source d) (value_at (InRegister k) e) (used 0 (in_register source k) (omega arith)) d' done
-  act_done _ _ change is used d' done = cc (is)
+  act_done _ _ change is used d' done = none_some change is

@@ -2,7 +2,7 @@ use locations::Location;
 use rtl_parts::Register;
 
 /// What an instruction and the body that stands for it define.
-#[derive(Clone, Copy, Debug, PartialEq, Eq)]
+#[derive(Clone, Copy)]
 pub enum Change {
     /// Neither defines anything.
     Nothing,

@@ -1,7 +1,7 @@
 use crate::equation::Equation;
 
 /// What must hold before an instruction, so that an equation holds behind it.
-#[derive(Clone, Copy, Debug, PartialEq, Eq)]
+#[derive(Clone, Copy)]
 pub enum Demand {
     /// Nothing.
     Met,

@@ -2,7 +2,7 @@ use locations::Location;
 use rtl_parts::Register;
 
 /// At a node the location holds the register's word, where the register has one.
-#[derive(Clone, Copy, Debug, PartialEq, Eq)]
+#[derive(Clone, Copy)]
 pub struct Equation {
     pub register: Register,
     pub location: Location,

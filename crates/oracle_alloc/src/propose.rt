@@ -2,11 +2,12 @@ use crate::certificate::equations_of;
 use crate::choosing::places_for;
 use crate::interference::interference_of;
 use crate::liveness::live_before;
+use crate::register_set::RegisterSet;
 use crate::worth::needless;
 use alloc_pass::{Alloc, EquationLists};
 use lang::{NoMemory, Oracle, Row};
 use ltl::Function;
-use placed_blocks::{are_distinct, blocks_of, places_of};
+use placed_blocks::{Places, are_distinct, blocks_of, places_of};
 use rand_pcg::Pcg32;
 use std::alloc::Global;
 
@@ -36,16 +37,27 @@ fn allocate(
 ) -> Result<Option<(Function, EquationLists)>, NoMemory> {
     let live = live_before(alloc, input.registers(), input.nodes().as_slice())?;
     let interference = interference_of(alloc, input, &live)?;
-    let Some(places) = places_for(alloc, input.registers(), &interference, words)? else {
-        return Ok(None);
-    };
-    let parameters = places_of(alloc, &places, input.parameters().as_slice())?;
+    match places_for(alloc, input.registers(), &interference, words)? {
+        None => Ok(None),
+        Some(places) => in_places(alloc, input, &live, &places, words),
+    }
+}
+
+/// Blocks and equations for registers that lie in these places; none where two parameters lie in one.
+fn in_places(
+    alloc: Global,
+    input: &rtl::Function,
+    live: &[RegisterSet],
+    places: &Places,
+    words: &mut Pcg32,
+) -> Result<Option<(Function, EquationLists)>, NoMemory> {
+    let parameters = places_of(alloc, places, input.parameters().as_slice())?;
     if !are_distinct(&parameters) {
         return Ok(None);
     }
-    let left_out = needless(alloc, input.nodes().as_slice(), &live, words)?;
-    let blocks = blocks_of(alloc, input, &places, &left_out)?;
-    let equations = equations_of(alloc, &places, &live)?;
+    let left_out = needless(alloc, input.nodes().as_slice(), live, words)?;
+    let blocks = blocks_of(alloc, input, places, &left_out)?;
+    let equations = equations_of(alloc, places, live)?;
     let output = Function::new(
         Row::from_vec(parameters),
         places.slots,

@@ -2,16 +2,16 @@ use Rattle.std.proofs.Common.{◌≡◌, ℕ, length, sym, subst, refl, ap, ◌�
 use Rattle.std.proofs.lemmas.List.Elements.{recursion_from_All, All-same}
 use Rattle.locations.specs.Fits.{LocationFits, AreDistinct}
 use Rattle.ltl.specs.Function.{BlockFits}
-use Rattle.oracle_alloc.proofs.propose.allocate.Goals as goal
+use Rattle.oracle_alloc.proofs.propose.in_places.Goals as goal
 
 pub new-output-requires : goal.new-output-requires
 new-output-requires c =
     let input = c.args.input.now in
     let fits = c.nodes.ensures.in_range in
-    let slots = c.in-Some.places.slots in
+    let slots = c.args.places.now.slots in
     let parameters = c.from_vec.result in
     let blocks = c.from_vec-2.result in
-    let count : length parameters ≡ length input.parameters = ap length c.from_vec.ensures ∙ (c.in_ok-parameters.ensures.count ∙ ap length (c.as_slice-2.ensures ∙ c.parameters.ensures)) in
+    let count : length parameters ≡ length input.parameters = ap length c.from_vec.ensures ∙ (c.in_ok-parameters.ensures.count ∙ ap length (c.as_slice.ensures ∙ c.parameters.ensures)) in
     let nodes : length blocks ≡ length input.nodes = ap length c.from_vec-2.ensures ∙ c.in_ok-blocks.ensures.count in
     let P = LocationFits slots in
     let Q = BlockFits slots (length input.nodes) in
@@ -19,9 +19,9 @@ new-output-requires c =
       parameters = record {
         few = omega (arith, count, fits.parameters.few);
         each = recursion_from_All P parameters (All-same P parameters _ c.from_vec.ensures c.in_ok-parameters.ensures.fit);
-        distinct = subst AreDistinct (c.deref-2.ensures.value ∙ sym c.from_vec.ensures) (c.if-not-are_distinct.ensures refl);
+        distinct = subst AreDistinct (c.deref.ensures.value ∙ sym c.from_vec.ensures) (c.if-not-are_distinct.ensures refl);
       };
-      slots = c.in-Some.places.few;
+      slots = c.args.places.now.few;
       entry = omega (arith, nodes, fits.entry, c.entry.ensures);
       nodes = omega (arith, nodes, fits.nodes);
       each = recursion_from_All (BlockFits slots (length blocks)) blocks (subst (λ (n : ℕ). All (BlockFits slots n) blocks) (sym nodes) (All-same Q blocks _ c.from_vec-2.ensures c.in_ok-blocks.ensures.fit));
