@@ -1,7 +1,7 @@
 #!/usr/bin/env python3
 """Draws well-formed C programs that never go wrong, and writes them with what two C compilers say of them.
 
-    bench/draw_programs.py COUNT SEED    prints so many rows of crates/worked_programs/data/drawn.txt
+    bench/draw_programs.py COUNT SEED    prints so many rows of crates/worked_rows/data/drawn.txt
 
 A row: the bound, the program, its output and its closing line, with tabs between. A program has globals, arrays,
 functions that call those before them, loops with few turns, `break`, `continue`, `if` with and without `else`, all

@@ -1,5 +1,5 @@
 #!/usr/bin/env python3
-"""What a C compiler says of programs, as rows of crates/worked_programs/data/gcc.txt.
+"""What a C compiler says of programs, as rows of crates/worked_rows/data/gcc.txt.
 
     bench/gcc_rows.py FILE          one program a line: prints its row
     bench/gcc_rows.py --compare     compares the rows that stand in gcc.txt with the compiler

@@ -35,10 +35,11 @@ use crate::rows::Rows;
 use program_rows::compare;
 use std::io;
 
-fn main(rt: HostRuntime) -> io::Result<()> {
-    compare(&rt, "tokens.txt", &mut Rows)?;
-    compare(&rt, "texts.txt", &mut Rows)?;
-    compare(&rt, "trees.txt", &mut Rows)?;
-    compare(&rt, "lowered.txt", &mut Rows)?;
-    compare(&rt, "operators.txt", &mut Rows)
+/// Asks for each row of the files that lie beside the program, and tells how many agree.
+pub fn tell(rt: &HostRuntime) -> io::Result<()> {
+    compare(rt, "tokens.txt", &mut Rows)?;
+    compare(rt, "texts.txt", &mut Rows)?;
+    compare(rt, "trees.txt", &mut Rows)?;
+    compare(rt, "lowered.txt", &mut Rows)?;
+    compare(rt, "operators.txt", &mut Rows)
 }

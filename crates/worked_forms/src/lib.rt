@@ -23,11 +23,12 @@ use crate::rows::Rows;
 use program_rows::compare;
 use std::io;
 
-fn main(rt: HostRuntime) -> io::Result<()> {
-    compare(&rt, "cminor.txt", &mut Rows)?;
-    compare(&rt, "rtl.txt", &mut Rows)?;
-    compare(&rt, "ltl.txt", &mut Rows)?;
-    compare(&rt, "linear.txt", &mut Rows)?;
-    compare(&rt, "programs.txt", &mut Rows)?;
-    compare(&rt, "runs.txt", &mut Rows)
+/// Asks for each row of the files that lie beside the program, and tells how many agree.
+pub fn tell(rt: &HostRuntime) -> io::Result<()> {
+    compare(rt, "cminor.txt", &mut Rows)?;
+    compare(rt, "rtl.txt", &mut Rows)?;
+    compare(rt, "ltl.txt", &mut Rows)?;
+    compare(rt, "linear.txt", &mut Rows)?;
+    compare(rt, "programs.txt", &mut Rows)?;
+    compare(rt, "runs.txt", &mut Rows)
 }

@@ -21,13 +21,14 @@ use program_rows::{Form, Row, row_of};
 use std::alloc::{AllocError, Global};
 use std::{fs, io};
 
-fn main(rt: HostRuntime) -> io::Result<()> {
-    compare(&rt, "vectors.txt", Form::Hex)?;
-    compare(&rt, "gcc.txt", Form::Plain)?;
-    compare(&rt, "examples.txt", Form::Hex)?;
-    compare(&rt, "drawn.txt", Form::Plain)?;
-    compare(&rt, "rows.txt", Form::Plain)?;
-    execute(&rt)
+/// Asks for each row of the files that lie beside the program, and tells how many agree.
+pub fn tell(rt: &HostRuntime) -> io::Result<()> {
+    compare(rt, "vectors.txt", Form::Hex)?;
+    compare(rt, "gcc.txt", Form::Plain)?;
+    compare(rt, "examples.txt", Form::Hex)?;
+    compare(rt, "drawn.txt", Form::Plain)?;
+    compare(rt, "rows.txt", Form::Plain)?;
+    execute(rt)
 }
 
 /// Whether what is told of a text is what its line says.

@@ -31,12 +31,13 @@ use crate::rows::Rows;
 use program_rows::compare;
 use std::io;
 
-fn main(rt: HostRuntime) -> io::Result<()> {
-    compare(&rt, "constants.txt", &mut Rows::Constants)?;
-    compare(&rt, "subexpressions.txt", &mut Rows::Subexpressions)?;
-    compare(&rt, "allocations.txt", &mut Rows::Allocations)?;
-    compare(&rt, "slots.txt", &mut Rows::Slots)?;
-    compare(&rt, "linearized.txt", &mut Rows::Linearized)?;
-    compare(&rt, "orders.txt", &mut Rows::Orders)?;
-    compare(&rt, "linked.txt", &mut Rows::Linked)
+/// Asks for each row of the files that lie beside the program, and tells how many agree.
+pub fn tell(rt: &HostRuntime) -> io::Result<()> {
+    compare(rt, "constants.txt", &mut Rows::Constants)?;
+    compare(rt, "subexpressions.txt", &mut Rows::Subexpressions)?;
+    compare(rt, "allocations.txt", &mut Rows::Allocations)?;
+    compare(rt, "slots.txt", &mut Rows::Slots)?;
+    compare(rt, "linearized.txt", &mut Rows::Linearized)?;
+    compare(rt, "orders.txt", &mut Rows::Orders)?;
+    compare(rt, "linked.txt", &mut Rows::Linked)
 }
