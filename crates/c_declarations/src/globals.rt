@@ -7,6 +7,7 @@ ghost use Rattle.c_productions.specs.Combining.{commas};
 ghost use Rattle.c_declaration_laws.specs.Reading.{here, initial, initializer, size, beginning, global};
 
 use crate::misread::Misread;
+use crate::owned::{beside, ok};
 use c_expressions::expression;
 use c_reading::{Fault, is_sign_next, misfit, read_constant, read_name, read_sign, read_type};
 use c_tokens::{Constant, Punctuator, Token};
@@ -73,12 +74,12 @@ fn read_initializer(alloc: Memory, tokens: &[Token]) -> Result<(Initializer, &[T
     ensures err { IfErr result (λ e. e.fault ≢ Fault.NoMemory → initializer highest tokens.now ≡ Err e.fault) }
 {
     if !is_sign_next(Punctuator::LeftBrace, tokens) {
-        let (initial, rest) = read_initial(alloc, tokens)?;
+        let (initial, rest) = ok!(read_initial(alloc, tokens));
         return Ok((Initializer::Plain(initial), rest));
     }
     let rest = read_sign(Punctuator::LeftBrace, tokens)?;
-    let (initials, rest) = read_initials(alloc, rest)?;
-    let rest = read_sign(Punctuator::RightBrace, rest)?;
+    let (initials, rest) = ok!(read_initials(alloc, rest));
+    let (initials, rest) = beside(initials, read_sign(Punctuator::RightBrace, rest))?;
     Ok((Initializer::Braced(Row::from_vec(initials)), rest))
 }
 
@@ -90,9 +91,9 @@ fn read_size(tokens: &[Token]) -> Result<(Option<Constant>, &[Token]), Fault>
     if !is_sign_next(Punctuator::LeftBracket, tokens) {
         return Ok((None, tokens));
     }
-    let rest = read_sign(Punctuator::LeftBracket, tokens)?;
-    let (size, rest) = read_constant(rest)?;
-    let rest = read_sign(Punctuator::RightBracket, rest)?;
+    let rest = ok!(read_sign(Punctuator::LeftBracket, tokens));
+    let (size, rest) = ok!(read_constant(rest));
+    let rest = ok!(read_sign(Punctuator::RightBracket, rest));
     Ok((Some(size), rest))
 }
 
@@ -109,7 +110,7 @@ fn read_beginning(
         return Ok((None, tokens));
     }
     let rest = read_sign(Punctuator::Assign, tokens)?;
-    let (initializer, rest) = read_initializer(alloc, rest)?;
+    let (initializer, rest) = ok!(read_initializer(alloc, rest));
     Ok((Some(initializer), rest))
 }
 
@@ -121,9 +122,10 @@ pub(crate) fn read_global(alloc: Memory, tokens: &[Token]) -> Result<(Global, &[
 {
     let (kind, rest) = read_type(tokens)?;
     let (name, rest) = read_name(alloc, rest)?;
-    let (size, rest) = read_size(rest)?;
-    let (initializer, rest) = read_beginning(alloc, rest)?;
-    let rest = read_sign(Punctuator::Semicolon, rest)?;
+    let (name, (size, rest)) = beside(name, read_size(rest))?;
+    let (name, (initializer, rest)) = ok!(beside(name, read_beginning(alloc, rest)));
+    let (parts, rest) = beside((name, initializer), read_sign(Punctuator::Semicolon, rest))?;
+    let (name, initializer) = parts;
     Ok((
         Global {
             kind,

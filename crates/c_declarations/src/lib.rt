@@ -4,6 +4,7 @@
 
 mod globals;
 mod misread;
+mod owned;
 mod parameters;
 mod reading;
 

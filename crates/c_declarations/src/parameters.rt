@@ -8,6 +8,7 @@ ghost use Rattle.c_declaration_laws.specs.Parameters.{named, all_named};
 ghost use Rattle.c_declaration_laws.specs.Reading.{open_parameter, open_parameters, return_type, heading};
 
 use crate::globals::read_here;
+use crate::owned::{beside, ok};
 use c_reading::{
     Fault, is_name_next, is_sign_next, is_word_next, read_name, read_sign, read_type, read_word,
 };
@@ -23,7 +24,7 @@ fn read_open_name(alloc: Global, tokens: &[Token]) -> Result<(Option<Identifier>
     if !is_name_next(tokens) {
         return Ok((None, tokens));
     }
-    let (name, rest) = read_name(alloc, tokens)?;
+    let (name, rest) = ok!(read_name(alloc, tokens));
     Ok((Some(name), rest))
 }
 
@@ -32,9 +33,9 @@ fn read_open_parameter(alloc: Global, tokens: &[Token]) -> Result<(OpenParameter
     ensures ok { IfOk result (λ r. open_parameter tokens.now ≡ Ok (r.0, r.1.now)) }
     ensures err { IfErr result (λ e. e ≢ Fault.NoMemory → open_parameter tokens.now ≡ Err e) }
 {
-    let offset = read_here(tokens)?;
-    let (kind, rest) = read_type(tokens)?;
-    let (name, rest) = read_open_name(alloc, rest)?;
+    let offset = ok!(read_here(tokens));
+    let (kind, rest) = ok!(read_type(tokens));
+    let (name, rest) = ok!(read_open_name(alloc, rest));
     Ok((OpenParameter { kind, name, offset }, rest))
 }
 
@@ -68,10 +69,10 @@ fn read_open_parameters(
     ensures err { IfErr result (λ e. e ≢ Fault.NoMemory → open_parameters tokens.now ≡ Err e) }
 {
     if is_word_next(Keyword::Void, tokens) {
-        let rest = read_word(Keyword::Void, tokens)?;
+        let rest = ok!(read_word(Keyword::Void, tokens));
         return Ok((Row::from_vec(Vec::new(alloc)), rest));
     }
-    let (parameters, rest) = read_listed(alloc, tokens)?;
+    let (parameters, rest) = ok!(read_listed(alloc, tokens));
     Ok((Row::from_vec(parameters), rest))
 }
 
@@ -81,10 +82,10 @@ fn read_return_type(tokens: &[Token]) -> Result<(ReturnType, &[Token]), Fault>
     ensures err { IfErr result (λ e. return_type tokens.now ≡ Err e) }
 {
     if is_word_next(Keyword::Void, tokens) {
-        let rest = read_word(Keyword::Void, tokens)?;
+        let rest = ok!(read_word(Keyword::Void, tokens));
         return Ok((ReturnType::Void, rest));
     }
-    let (kind, rest) = read_type(tokens)?;
+    let (kind, rest) = ok!(read_type(tokens));
     Ok((ReturnType::Value(kind), rest))
 }
 
@@ -94,11 +95,12 @@ pub(crate) fn read_heading(alloc: Global, tokens: &[Token]) -> Result<(Prototype
     ensures ok { IfOk result (λ r. heading tokens.now ≡ Ok (r.0, r.1.now)) }
     ensures err { IfErr result (λ e. e ≢ Fault.NoMemory → heading tokens.now ≡ Err e) }
 {
-    let (result, rest) = read_return_type(tokens)?;
-    let (name, rest) = read_name(alloc, rest)?;
-    let rest = read_sign(Punctuator::LeftParenthesis, rest)?;
-    let (parameters, rest) = read_open_parameters(alloc, rest)?;
-    let rest = read_sign(Punctuator::RightParenthesis, rest)?;
+    let (result, rest) = ok!(read_return_type(tokens));
+    let (name, rest) = ok!(read_name(alloc, rest));
+    let (name, rest) = ok!(beside(name, read_sign(Punctuator::LeftParenthesis, rest)));
+    let (name, (parameters, rest)) = ok!(beside(name, read_open_parameters(alloc, rest)));
+    let behind = read_sign(Punctuator::RightParenthesis, rest);
+    let ((name, parameters), rest) = ok!(beside((name, parameters), behind));
     Ok((
         Prototype {
             result,

@@ -8,6 +8,7 @@ ghost use Rattle.c_declaration_laws.specs.Reading.{body, function, headed, calla
 
 use crate::globals::{HIGHEST, read_global};
 use crate::misread::Misread;
+use crate::owned::{beside, ok};
 use crate::parameters::{all_named, read_heading};
 use c_reading::{Fault, is_call_next, is_sign_next, is_word_next, misfit, read_sign, read_type};
 use c_statements::read_block;
@@ -42,7 +43,8 @@ fn read_function(
     let Some(parameters) = all_named(alloc, parameters.as_slice())? else {
         return Err(misfit(tokens));
     };
-    let (body, rest) = read_body(alloc, tokens)?;
+    let (parts, (body, rest)) = ok!(beside((name, parameters), read_body(alloc, tokens)));
+    let (name, parameters) = parts;
     let function = Function {
         result,
         name,
@@ -65,7 +67,7 @@ fn read_headed(
     if is_sign_next(Punctuator::LeftBrace, tokens) {
         return read_function(alloc, prototype, tokens);
     }
-    let rest = read_sign(Punctuator::Semicolon, tokens)?;
+    let (prototype, rest) = ok!(beside(prototype, read_sign(Punctuator::Semicolon, tokens)));
     Ok((Declaration::Prototype(prototype), rest))
 }
 
@@ -74,7 +76,7 @@ fn read_callable(alloc: Global, tokens: &[Token]) -> Result<(Declaration, &[Toke
     ensures ok { IfOk result (λ r. callable highest tokens.now ≡ Ok (declaration_tree r.0, r.1.now)) }
     ensures err { IfErr result (λ e. e ≢ Fault.NoMemory → callable highest tokens.now ≡ Err e) }
 {
-    let (prototype, rest) = read_heading(alloc, tokens)?;
+    let (prototype, rest) = ok!(read_heading(alloc, tokens));
     read_headed(alloc, prototype, rest)
 }
 
@@ -104,6 +106,6 @@ pub fn read_declaration(alloc: Global, tokens: &[Token]) -> Result<(Declaration,
     if is_callable_next(tokens) {
         return Ok(read_callable(alloc, tokens)?);
     }
-    let (global, rest) = read_global(alloc, tokens)?;
+    let (global, rest) = ok!(read_global(alloc, tokens));
     Ok((Declaration::Global(global), rest))
 }
