@@ -2,7 +2,7 @@
 use Rattle.std.proofs.Common.{◌≡◌, Bool, true, ap, subst}
 use Rattle.std.specs.Prelude.{◌↔◌}
 use Rattle.std.specs.Cmp.{IsEquivalence}
-use Rattle.std.proofs.lemmas.Bool.{eqb-true, and_parts}
+use Rattle.std.proofs.lemmas.Bool.{eqb-true, and_parts, false≢true}
 use Rattle.locations.specs.declared.location.Location.TheVariants.{InRegister, InSlot}
 use Rattle.locations.specs.contracts.location.LocationPartialEq.TheImpl as location_eq
 use Rattle.locations.specs.contracts.location.MovePartialEq.TheImpl as move_eq
@@ -17,8 +17,8 @@ tells_decides {eq = eq} laws tells a b = (tells a b, λ same. subst (λ x. eq a 
 
 pub location_tells : Tells (location_eq.ghosts).eq
 location_tells (InRegister r) (InRegister q) e = ap (λ n. InRegister n) (eqb-true r q e)
-location_tells (InRegister r) (InSlot s) e = absurd cc
-location_tells (InSlot s) (InRegister r) e = absurd cc
+location_tells (InRegister r) (InSlot s) e = absurd (false≢true e)
+location_tells (InSlot s) (InRegister r) e = absurd (false≢true e)
 location_tells (InSlot s) (InSlot t) e = ap (λ n. InSlot n) (eqb-true s t e)
 
 pub move_tells : Tells (move_eq.ghosts).eq

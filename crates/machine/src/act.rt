@@ -4,7 +4,7 @@ use locations::Register;
 
 /// An instruction that goes on to what follows it, within its function (Leroy 2009, section 3.3).
 /// Globals are meant by number, and their cells by the word of a register.
-#[derive(Clone, Copy, Debug, PartialEq, Eq)]
+#[derive(Clone, Copy, PartialEq, Eq)]
 pub enum Act {
     /// The target becomes the word.
     Constant {

@@ -1,7 +1,7 @@
 use locations::Register;
 
 /// The registers that an operator or a condition takes.
-#[derive(Clone, Copy, Debug, PartialEq, Eq)]
+#[derive(Clone, Copy, PartialEq, Eq)]
 pub enum Arguments {
     One(Register),
     Two(Register, Register),

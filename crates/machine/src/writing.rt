@@ -1,6 +1,6 @@
 //! Writers of plain instructions and tests: each appends the text.
 
-ghost use Rattle.std.specs.Prelude.{◌∷◌};
+ghost use Rattle.std.specs.Prelude.{◌≡◌, ◌∷◌};
 ghost use Rattle.lang.specs.Texts.{Appends};
 ghost use Rattle.machine.specs.Spelling.{arguments_text, test_text, act_code, act_body};
 
@@ -30,13 +30,25 @@ pub fn push_test(out: &mut Vec<u8>, test: &Test) -> Result<(), NoMemory>
     push_arguments(out, &test.arguments)
 }
 
-/// A plain instruction: its code, and what follows that.
-pub fn push_act(out: &mut Vec<u8>, act: &Act) -> Result<(), NoMemory>
-    ensures { Appends result (act_code act.now ∷ act_body act.now) out.old.items out.new.items }
+/// The code of a plain instruction.
+fn code_of(act: &Act) -> u8
+    ensures { result ≡ act_code act.now }
+{
+    match act {
+        Act::Constant { .. } => 1,
+        Act::Operate { .. } => 3,
+        Act::Load { .. } => 4,
+        Act::Store { .. } => 5,
+        Act::Put { .. } => 7,
+    }
+}
+
+/// What follows the code of a plain instruction.
+fn push_body(out: &mut Vec<u8>, act: &Act) -> Result<(), NoMemory>
+    ensures { Appends result (act_body act.now) out.old.items out.new.items }
 {
     match act {
         Act::Constant { target, word } => {
-            push_byte(out, 1)?;
             push_byte(out, *target)?;
             push_u32(out, *word)
         }
@@ -45,7 +57,6 @@ pub fn push_act(out: &mut Vec<u8>, act: &Act) -> Result<(), NoMemory>
             target,
             arguments,
         } => {
-            push_byte(out, 3)?;
             push_byte(out, op.code())?;
             push_byte(out, *target)?;
             push_arguments(out, arguments)
@@ -55,7 +66,6 @@ pub fn push_act(out: &mut Vec<u8>, act: &Act) -> Result<(), NoMemory>
             global,
             index,
         } => {
-            push_byte(out, 4)?;
             push_byte(out, *target)?;
             push_u16(out, *global)?;
             push_byte(out, *index)
@@ -65,15 +75,21 @@ pub fn push_act(out: &mut Vec<u8>, act: &Act) -> Result<(), NoMemory>
             index,
             source,
         } => {
-            push_byte(out, 5)?;
             push_u16(out, *global)?;
             push_byte(out, *index)?;
             push_byte(out, *source)
         }
         Act::Put { source, target } => {
-            push_byte(out, 7)?;
             push_byte(out, *source)?;
             push_value(out, *target)
         }
     }
+}
+
+/// A plain instruction: its code, and what follows that.
+pub fn push_act(out: &mut Vec<u8>, act: &Act) -> Result<(), NoMemory>
+    ensures { Appends result (act_code act.now ∷ act_body act.now) out.old.items out.new.items }
+{
+    push_byte(out, code_of(act))?;
+    push_body(out, act)
 }

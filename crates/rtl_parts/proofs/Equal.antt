@@ -22,14 +22,14 @@ cond_tells a b e = same_true cond_type.the_type (search rules) a b e
 
 pub arguments_tells : Tells (arguments_eq.ghosts).eq
 arguments_tells (One a) (One b) e = ap (λ n. One n) (eqb-true a b e)
-arguments_tells (One a) (Two b c) e = absurd cc
-arguments_tells (Two a b) (One c) e = absurd cc
+arguments_tells (One a) (Two b c) e = absurd (false≢true e)
+arguments_tells (Two a b) (One c) e = absurd (false≢true e)
 arguments_tells (Two a b) (Two c d) e = let p = and_parts _ _ e in λ i. Two (eqb-true a c p.0 i) (eqb-true b d p.1 i)
 
 target_tells : (a b : ℕ) (t u : Option ℕ) → (act_eq.ghosts).eq (Put a t) (Put b u) ≡ true → Put a t ≡ Put b u
 target_tells a b None None e = ap (λ n. Put n None) (eqb-true a b (and_parts _ _ e).0)
-target_tells a b None (Some u) e = let no : false ≡ true = (and_parts (nat_eq a b) false e).1 in absurd cc
-target_tells a b (Some t) None e = let no : false ≡ true = (and_parts (nat_eq a b) false e).1 in absurd cc
+target_tells a b None (Some u) e = absurd (false≢true (and_parts (nat_eq a b) false e).1)
+target_tells a b (Some t) None e = absurd (false≢true (and_parts (nat_eq a b) false e).1)
 target_tells a b (Some t) (Some u) e = let p = and_parts _ _ e in λ i. Put (eqb-true a b p.0 i) (Some (eqb-true t u p.1 i))
 
 pub act_tells : Tells (act_eq.ghosts).eq

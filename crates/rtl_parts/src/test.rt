@@ -2,7 +2,7 @@ use crate::arguments::Arguments;
 use ints::Cond;
 
 /// What a branch asks.
-#[derive(Clone, Copy, Debug, PartialEq, Eq)]
+#[derive(Clone, Copy, PartialEq, Eq)]
 pub struct Test {
     pub condition: Cond,
     pub arguments: Arguments,

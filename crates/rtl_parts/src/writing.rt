@@ -1,6 +1,6 @@
 //! Writers of the parts of a function: each appends the text.
 
-ghost use Rattle.std.specs.Prelude.{◌≤◌, ◌∷◌, length};
+ghost use Rattle.std.specs.Prelude.{◌≡◌, ◌≤◌, ◌∷◌, ◌++◌, length};
 ghost use Rattle.std.specs.List.{flat_map};
 ghost use Rattle.lang.specs.Texts.{Appends};
 ghost use Rattle.rtl_parts.specs.Fits.{parameter_limit, argument_limit};
@@ -63,19 +63,41 @@ pub fn push_test(out: &mut Vec<u8>, test: &Test) -> Result<(), NoMemory>
     push_arguments(out, &test.arguments)
 }
 
-/// A plain instruction: its code, and what follows that.
-pub fn push_act(out: &mut Vec<u8>, act: &Act) -> Result<(), NoMemory>
-    ensures { Appends result (act_code act.now ∷ act_body act.now) out.old.items out.new.items }
+/// The code of a plain instruction.
+fn code_of(act: &Act) -> u8
+    ensures { result ≡ act_code act.now }
 {
     match act {
-        Act::Nop => push_byte(out, 0),
+        Act::Nop => 0,
+        Act::Constant { .. } => 1,
+        Act::Move { .. } => 2,
+        Act::Operate { .. } => 3,
+        Act::Load { .. } => 4,
+        Act::Store { .. } => 5,
+        Act::Put { .. } => 7,
+    }
+}
+
+/// Three numbers, one behind the other.
+fn push_three(out: &mut Vec<u8>, first: u16, second: u16, third: u16) -> Result<(), NoMemory>
+    ensures { Appends result (register_text first ++ (register_text second ++ register_text third)) out.old.items out.new.items }
+{
+    push_u16(out, first)?;
+    push_u16(out, second)?;
+    push_u16(out, third)
+}
+
+/// What follows the code of a plain instruction.
+fn push_body(out: &mut Vec<u8>, act: &Act) -> Result<(), NoMemory>
+    ensures { Appends result (act_body act.now) out.old.items out.new.items }
+{
+    match act {
+        Act::Nop => Ok(()),
         Act::Constant { target, word } => {
-            push_byte(out, 1)?;
             push_u16(out, *target)?;
             push_u32(out, *word)
         }
         Act::Move { target, source } => {
-            push_byte(out, 2)?;
             push_u16(out, *target)?;
             push_u16(out, *source)
         }
@@ -84,7 +106,6 @@ pub fn push_act(out: &mut Vec<u8>, act: &Act) -> Result<(), NoMemory>
             target,
             arguments,
         } => {
-            push_byte(out, 3)?;
             push_byte(out, op.code())?;
             push_u16(out, *target)?;
             push_arguments(out, arguments)
@@ -93,28 +114,25 @@ pub fn push_act(out: &mut Vec<u8>, act: &Act) -> Result<(), NoMemory>
             target,
             global,
             index,
-        } => {
-            push_byte(out, 4)?;
-            push_u16(out, *target)?;
-            push_u16(out, *global)?;
-            push_u16(out, *index)
-        }
+        } => push_three(out, *target, *global, *index),
         Act::Store {
             global,
             index,
             source,
-        } => {
-            push_byte(out, 5)?;
-            push_u16(out, *global)?;
-            push_u16(out, *index)?;
-            push_u16(out, *source)
-        }
+        } => push_three(out, *global, *index, *source),
         Act::Put { source, target } => {
-            push_byte(out, 7)?;
             push_u16(out, *source)?;
             push_target(out, *target)
         }
     }
+}
+
+/// A plain instruction: its code, and what follows that.
+pub fn push_act(out: &mut Vec<u8>, act: &Act) -> Result<(), NoMemory>
+    ensures { Appends result (act_code act.now ∷ act_body act.now) out.old.items out.new.items }
+{
+    push_byte(out, code_of(act))?;
+    push_body(out, act)
 }
 
 /// The parameters' registers, and the number of registers.
