@@ -1,3 +1,4 @@
 pub mod Accepted
 pub mod Fits
+pub mod Mapped
 pub mod Owns

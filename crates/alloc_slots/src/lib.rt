@@ -8,5 +8,6 @@ mod every;
 mod function;
 mod live;
 mod nodes;
+mod owned;
 
 pub use base::baseline;

@@ -1,3 +1,4 @@
 pub mod Baseline
 pub mod Rising
 pub mod Readings
+pub mod Written

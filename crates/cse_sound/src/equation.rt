@@ -2,7 +2,7 @@ use ints::Op;
 use rtl_parts::{Arguments, Register};
 
 /// What stands on the right of an equation.
-#[derive(Clone, Copy, Debug, PartialEq, Eq)]
+#[derive(Clone, Copy, PartialEq, Eq)]
 pub enum RightSide {
     /// What the operator gives.
     Operation { op: Op, arguments: Arguments },
@@ -13,7 +13,7 @@ pub enum RightSide {
 }
 
 /// At a node the register holds what the right side gives there.
-#[derive(Clone, Copy, Debug, PartialEq, Eq)]
+#[derive(Clone, Copy, PartialEq, Eq)]
 pub struct Equation {
     pub register: Register,
     pub right: RightSide,
