@@ -7,7 +7,7 @@ ghost use Rattle.c_expression_laws.specs.Reading.{operated, chosen, if_room, cha
 
 use crate::measured::Measured;
 use crate::operators::{binary_sign, binding, deep, next, unary_operator, unary_sign};
-use crate::owned::{beside, ok};
+use crate::owned::beside;
 use c_expression_laws::Next;
 use c_reading::{
     Fault, is_sign_next, is_type_next, misfit, read_constant, read_name, read_sign, read_type,
@@ -30,7 +30,7 @@ pub fn expression(
     ensures ok { IfOk result (λ r. expression_at room level tokens.now ≡ Ok (expression_tree r.0, r.1.now)) }
     ensures err { IfErr result (λ e. e ≢ Fault.NoMemory → expression_at room level tokens.now ≡ Err e) }
 {
-    let (read, rest) = ok!(read_at(alloc, room, level, tokens));
+    let (read, rest) = read_at(alloc, room, level, tokens)?;
     let Measured { expression, .. } = read;
     Ok((expression, rest))
 }
@@ -84,7 +84,7 @@ fn number(tokens: &[Token]) -> Result<(Measured, &[Token]), Fault>
     ensures ok { IfOk result (λ r. number tokens.now ≡ Ok (expression_tree r.0.expression, r.1.now)) }
     ensures err { IfErr result (λ e. e ≢ Fault.NoMemory → number tokens.now ≡ Err e) }
 {
-    let (value, rest) = ok!(read_constant(tokens));
+    let (value, rest) = read_constant(tokens)?;
     Ok((Measured::constant(value), rest))
 }
 
@@ -95,7 +95,7 @@ fn variable(alloc: Global, below: u8, tokens: &[Token]) -> Result<(Measured, &[T
     ensures ok { IfOk result (λ r. variable (expression_at below) tokens.now ≡ Ok (expression_tree r.0.expression, r.1.now)) }
     ensures err { IfErr result (λ e. e ≢ Fault.NoMemory → variable (expression_at below) tokens.now ≡ Err e) }
 {
-    let (name, rest) = ok!(read_name(alloc, tokens));
+    let (name, rest) = read_name(alloc, tokens)?;
     if is_sign_next(Punctuator::LeftBracket, rest) {
         indexed(alloc, below, name, rest)
     } else {
@@ -115,11 +115,11 @@ fn indexed(
     ensures ok { IfOk result (λ r. indexed (expression_at below) array tokens.now ≡ Ok (expression_tree r.0.expression, r.1.now)) }
     ensures err { IfErr result (λ e. e ≢ Fault.NoMemory → indexed (expression_at below) array tokens.now ≡ Err e) }
 {
-    let (array, inner) = ok!(beside(array, read_sign(Punctuator::LeftBracket, tokens)));
-    let (array, (index, behind)) = ok!(beside(array, read_at(alloc, below, 0, inner)));
-    let (cell, rest) = ok!(beside((array, index), read_sign(Punctuator::RightBracket, behind)));
+    let (array, inner) = beside(array, read_sign(Punctuator::LeftBracket, tokens))?;
+    let (array, (index, behind)) = beside(array, read_at(alloc, below, 0, inner))?;
+    let (cell, rest) = beside((array, index), read_sign(Punctuator::RightBracket, behind))?;
     let (array, index) = cell;
-    Ok((ok!(Measured::element(alloc, array, index)), rest))
+    Ok((Measured::element(alloc, array, index)?, rest))
 }
 
 /// A cast, or an expression in parentheses.
@@ -129,7 +129,7 @@ fn parenthesized(alloc: Global, below: u8, tokens: &[Token]) -> Result<(Measured
     ensures ok { IfOk result (λ r. parenthesized (expression_at below) tokens.now ≡ Ok (expression_tree r.0.expression, r.1.now)) }
     ensures err { IfErr result (λ e. e ≢ Fault.NoMemory → parenthesized (expression_at below) tokens.now ≡ Err e) }
 {
-    let inner = ok!(read_sign(Punctuator::LeftParenthesis, tokens));
+    let inner = read_sign(Punctuator::LeftParenthesis, tokens)?;
     if is_type_next(inner) {
         cast(alloc, below, inner)
     } else {
@@ -144,10 +144,10 @@ fn cast(alloc: Global, below: u8, tokens: &[Token]) -> Result<(Measured, &[Token
     ensures ok { IfOk result (λ r. cast (expression_at below) tokens.now ≡ Ok (expression_tree r.0.expression, r.1.now)) }
     ensures err { IfErr result (λ e. e ≢ Fault.NoMemory → cast (expression_at below) tokens.now ≡ Err e) }
 {
-    let (kind, behind) = ok!(read_type(tokens));
-    let inner = ok!(read_sign(Punctuator::RightParenthesis, behind));
-    let (operand, rest) = ok!(read_at(alloc, below, OPERAND_LEVEL, inner));
-    Ok((ok!(Measured::cast(alloc, kind, operand)), rest))
+    let (kind, behind) = read_type(tokens)?;
+    let inner = read_sign(Punctuator::RightParenthesis, behind)?;
+    let (operand, rest) = read_at(alloc, below, OPERAND_LEVEL, inner)?;
+    Ok((Measured::cast(alloc, kind, operand)?, rest))
 }
 
 /// Behind `(`: an expression and `)`.
@@ -157,9 +157,9 @@ fn enclosed(alloc: Global, below: u8, tokens: &[Token]) -> Result<(Measured, &[T
     ensures ok { IfOk result (λ r. enclosed (expression_at below) tokens.now ≡ Ok (expression_tree r.0.expression, r.1.now)) }
     ensures err { IfErr result (λ e. e ≢ Fault.NoMemory → enclosed (expression_at below) tokens.now ≡ Err e) }
 {
-    let (inner, behind) = ok!(read_at(alloc, below, 0, tokens));
-    let (inner, rest) = ok!(beside(inner, read_sign(Punctuator::RightParenthesis, behind)));
-    Ok((ok!(Measured::parenthesis(alloc, inner)), rest))
+    let (inner, behind) = read_at(alloc, below, 0, tokens)?;
+    let (inner, rest) = beside(inner, read_sign(Punctuator::RightParenthesis, behind))?;
+    Ok((Measured::parenthesis(alloc, inner)?, rest))
 }
 
 /// A unary operator, if there is one, and its operand.
@@ -177,9 +177,9 @@ fn perhaps_signed(
     let Some(operator) = found else {
         return Err(misfit(tokens));
     };
-    let inner = ok!(read_sign(unary_sign(operator), tokens));
-    let (operand, rest) = ok!(read_at(alloc, below, OPERAND_LEVEL, inner));
-    Ok((ok!(Measured::unary(alloc, operator, operand)), rest))
+    let inner = read_sign(unary_sign(operator), tokens)?;
+    let (operand, rest) = read_at(alloc, below, OPERAND_LEVEL, inner)?;
+    Ok((Measured::unary(alloc, operator, operand)?, rest))
 }
 
 /// Behind a left operand: operators that bind at least as strongly as the level, as long as there are any.
@@ -229,10 +229,10 @@ fn operated(
     if left.height > u16::from(below) {
         return Err(Fault::TooDeep);
     }
-    let (left, inner) = ok!(beside(left, read_sign(binary_sign(operator), tokens)));
+    let (left, inner) = beside(left, read_sign(binary_sign(operator), tokens))?;
     let right = read_at(alloc, below, binding(operator) + 1, inner);
-    let (left, (right, rest)) = ok!(beside(left, right));
-    Ok((ok!(Measured::binary(alloc, operator, left, right)), rest))
+    let (left, (right, rest)) = beside(left, right)?;
+    Ok((Measured::binary(alloc, operator, left, right)?, rest))
 }
 
 /// A condition, which leaves room for a choice above it; `?`, a value, `:` and a value.
@@ -250,13 +250,10 @@ fn chosen(
     if condition.height > u16::from(below) {
         return Err(Fault::TooDeep);
     }
-    let (condition, inner) = ok!(beside(condition, read_sign(Punctuator::Question, tokens)));
-    let (condition, (then, behind)) = ok!(beside(condition, read_at(alloc, below, 0, inner)));
-    let (parts, inner) = ok!(beside((condition, then), read_sign(Punctuator::Colon, behind)));
-    let (parts, (other, rest)) = ok!(beside(parts, read_at(alloc, below, 0, inner)));
+    let (condition, inner) = beside(condition, read_sign(Punctuator::Question, tokens))?;
+    let (condition, (then, behind)) = beside(condition, read_at(alloc, below, 0, inner))?;
+    let (parts, inner) = beside((condition, then), read_sign(Punctuator::Colon, behind))?;
+    let (parts, (other, rest)) = beside(parts, read_at(alloc, below, 0, inner))?;
     let (condition, then) = parts;
-    Ok((
-        ok!(Measured::conditional(alloc, condition, then, other)),
-        rest,
-    ))
+    Ok((Measured::conditional(alloc, condition, then, other)?, rest))
 }
