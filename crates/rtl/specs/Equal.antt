@@ -27,8 +27,8 @@ same_laws =
 
 lists_tell : {A : Type 0} (eq : A → A → Bool) → Tells eq → Tells (pointwise eq)
 lists_tell eq tells [] [] e = refl
-lists_tell eq tells [] (y ∷ ys) e = absurd cc
-lists_tell eq tells (x ∷ xs) [] e = absurd cc
+lists_tell eq tells [] (y ∷ ys) e = absurd (false≢true e)
+lists_tell eq tells (x ∷ xs) [] e = absurd (false≢true e)
 lists_tell eq tells (x ∷ xs) (y ∷ ys) e = let p = and_parts (eq x y) (pointwise eq xs ys) e in λ i. tells x y p.0 i ∷ lists_tell eq tells xs ys p.1 i
 
 number_tells : Tells nat_eq
@@ -39,8 +39,8 @@ registers_tell = lists_tell nat_eq number_tells
 
 value_tells : (v w : Option ℕ) → (instruction_eq.ghosts).eq (Return v) (Return w) ≡ true → v ≡ w
 value_tells None None e = refl
-value_tells None (Some r) e = absurd cc
-value_tells (Some r) None e = absurd cc
+value_tells None (Some r) e = absurd (false≢true e)
+value_tells (Some r) None e = absurd (false≢true e)
 value_tells (Some r) (Some q) e = ap (λ n. Some n) (eqb-true r q e)
 
 pub instruction_tells : Tells (instruction_eq.ghosts).eq

@@ -1,15 +1,45 @@
 //! Writers of the parts of a function: each appends the text.
 
-ghost use Rattle.std.specs.Prelude.{All};
+ghost use Rattle.std.specs.Prelude.{◌≤◌, All, length};
 ghost use Rattle.std.specs.List.{flat_map};
 ghost use Rattle.lang.specs.Texts.{Appends};
+ghost use Rattle.rtl_parts.specs.Fits.{argument_limit};
+ghost use Rattle.rtl.specs.declared.instruction.Instruction.TheVariants.{Call, Branch};
 ghost use Rattle.rtl.specs.Function.{HasShortList};
 ghost use Rattle.rtl.specs.Spelling.{instruction_text, spelling};
 
 use crate::function::Function;
 use crate::instruction::Instruction;
 use lang::{NoMemory, push_byte, push_u16};
-use rtl_parts::{push_act, push_frame, push_registers, push_target, push_test};
+use rtl_parts::{Register, Test, push_act, push_frame, push_registers, push_target, push_test};
+
+/// A call: the function, the arguments, the target, and the successor.
+fn push_call(
+    out: &mut Vec<u8>,
+    function: u8,
+    arguments: &[Register],
+    target: Option<Register>,
+    successor: u16,
+) -> Result<(), NoMemory>
+    requires { length arguments.now ≤ argument_limit }
+    ensures { Appends result (instruction_text (Call function arguments.now target successor)) out.old.items out.new.items }
+{
+    push_byte(out, 6)?;
+    push_byte(out, function)?;
+    push_registers(out, arguments)?;
+    push_target(out, target)?;
+    push_u16(out, successor)
+}
+
+/// A test, where to go on where it holds, and where else.
+fn push_branch(out: &mut Vec<u8>, test: &Test, taken: u16, other: u16) -> Result<(), NoMemory>
+    ensures { Appends result (instruction_text (Branch test.now taken other)) out.old.items out.new.items }
+{
+    push_byte(out, 8)?;
+    push_test(out, test)?;
+    push_u16(out, taken)?;
+    push_u16(out, other)
+}
 
 fn push_instruction(out: &mut Vec<u8>, instruction: &Instruction) -> Result<(), NoMemory>
     requires { HasShortList instruction.now }
@@ -26,18 +56,10 @@ fn push_instruction(out: &mut Vec<u8>, instruction: &Instruction) -> Result<(), 
             target,
             successor,
         } => {
-            push_byte(out, 6)?;
-            push_byte(out, *function)?;
-            push_registers(out, arguments.as_slice())?;
-            push_target(out, *target)?;
-            push_u16(out, *successor)
+            let arguments = arguments.as_slice();
+            push_call(out, *function, arguments, *target, *successor)
         }
-        Instruction::Branch { test, taken, other } => {
-            push_byte(out, 8)?;
-            push_test(out, test)?;
-            push_u16(out, *taken)?;
-            push_u16(out, *other)
-        }
+        Instruction::Branch { test, taken, other } => push_branch(out, test, *taken, *other),
         Instruction::Return { value } => {
             push_byte(out, 9)?;
             push_target(out, *value)
