@@ -14,7 +14,7 @@ import sys
 import tempfile
 
 ROOT = os.path.dirname(os.path.dirname(os.path.abspath(__file__)))
-ROWS = os.path.join(ROOT, "crates", "worked_programs", "data", "gcc.txt")
+ROWS = os.path.join(ROOT, "crates", "worked_rows", "data", "gcc.txt")
 DRIVER = '#include <stdio.h>\nint program_main(void);\nint main(void) { int r = program_main(); fflush(stdout); fprintf(stderr, "%d", r); return 0; }\n'
 
 
