@@ -99,7 +99,8 @@ fn push_go(
     successor: u16,
     behind: &[u16],
 ) -> Result<(), NoMemory>
-    ensures { OnOk result (code.new.items ≡ code.old.items ++ body_code (Body.Go act.now after.now successor) behind.now []) }
+    ensures { OnOk result
+        (code.new.items ≡ code.old.items ++ body_code (Body.Go act.now after.now successor) behind.now []) }
 {
     push_act(code, act)?;
     push_copies(code, after.as_slice())?;
