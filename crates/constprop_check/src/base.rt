@@ -2,6 +2,7 @@ ghost use Rattle.std.specs.Prelude.{◌≡◌, [], length, replicate, IfOk};
 ghost use Rattle.constprop_sound.specs.Rules.{IsPropagated};
 
 use crate::lists::FactLists;
+use crate::owned::beside;
 use lang::{Language, NoMemory};
 use rtl::{Function, Rtl};
 use rtl_passes::empty_lists;
@@ -14,6 +15,6 @@ pub(crate) fn baseline(alloc: Global, input: &Function) -> Result<(Function, Fac
     ensures accepted { IfOk result (λ made. IsPropagated input.now made.0 made.1) }
 {
     let output = Rtl::copy(alloc, input)?;
-    let facts = empty_lists(alloc, input.nodes().len())?;
-    Ok((output, facts))
+    let facts = empty_lists(alloc, input.nodes().len());
+    Ok(beside(output, facts)?)
 }

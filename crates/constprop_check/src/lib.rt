@@ -8,6 +8,7 @@ mod edges;
 mod form;
 mod lists;
 mod nodes;
+mod owned;
 mod pass;
 mod verdict;
 

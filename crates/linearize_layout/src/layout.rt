@@ -1,11 +1,12 @@
 //! The code of blocks in an order, written from the first stretch to the last.
 
-ghost use Rattle.std.specs.Prelude.{◌≡◌, ◌++◌, [], slice_get, IfOk, OnOk};
+ghost use Rattle.std.specs.Prelude.{◌≡◌, ◌++◌, [], ◌∷◌, slice_get, IfOk, OnOk};
 ghost use Rattle.std.specs.Option.{option_copied};
 ghost use Rattle.linearize_sound.specs.Layout.{copies, act_code, is_next, jump, body_code, stretch, order_code};
 
-use lang::NoMemory;
+use lang::{NoMemory, Row};
 use linear::Instruction;
+use locations::Location;
 use ltl::{Block, Body};
 use machine::{Act, Move};
 use std::alloc::Global;
@@ -50,7 +51,7 @@ pub fn push_stretch(
     Ok(())
 }
 
-#[tactic(auto, using(crate::proofs::Stretches::go_code, crate::proofs::Stretches::call_code))]
+#[tactic(auto, using(crate::proofs::Stretches::call_code))]
 fn push_body(
     alloc: Global,
     code: &mut Vec<Instruction>,
@@ -64,11 +65,7 @@ fn push_body(
             act,
             after,
             successor,
-        } => {
-            push_act(code, act)?;
-            push_copies(code, after.as_slice())?;
-            push_jump(code, *successor, behind)
-        }
+        } => push_go(code, act, after, *successor, behind),
         Body::Call {
             function,
             arguments,
@@ -76,11 +73,7 @@ fn push_body(
             after,
             successor,
         } => {
-            code.push(Instruction::Call {
-                function: *function,
-                arguments: arguments.copied(alloc)?,
-                target: *target,
-            })?;
+            push_call(alloc, code, *function, arguments, *target)?;
             push_copies(code, after.as_slice())?;
             push_jump(code, *successor, behind)
         }
@@ -96,6 +89,39 @@ fn push_body(
             Ok(())
         }
     }
+}
+
+#[tactic(auto, using(crate::proofs::Stretches::go_code))]
+fn push_go(
+    code: &mut Vec<Instruction>,
+    act: &Option<Act>,
+    after: &Row<Move>,
+    successor: u16,
+    behind: &[u16],
+) -> Result<(), NoMemory>
+    ensures { OnOk result
+        (code.new.items ≡ code.old.items ++ body_code (Body.Go act.now after.now successor) behind.now []) }
+{
+    push_act(code, act)?;
+    push_copies(code, after.as_slice())?;
+    push_jump(code, successor, behind)
+}
+
+fn push_call(
+    alloc: Global,
+    code: &mut Vec<Instruction>,
+    function: u8,
+    arguments: &Row<Location>,
+    target: Option<Location>,
+) -> Result<(), NoMemory>
+    ensures { OnOk result (code.new.items ≡ code.old.items ++ Instruction.Call function arguments.now target ∷ []) }
+{
+    code.push(Instruction::Call {
+        function,
+        arguments: arguments.copied(alloc)?,
+        target,
+    })?;
+    Ok(())
 }
 
 fn push_act(code: &mut Vec<Instruction>, act: &Option<Act>) -> Result<(), NoMemory>

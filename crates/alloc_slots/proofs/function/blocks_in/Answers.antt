@@ -1,4 +1,4 @@
-use Rattle.std.proofs.Common.{◌≡◌, [], ◌∷◌, ◌++◌, ap, ◌∙◌}
+use Rattle.std.proofs.Common.{[], ◌∷◌, ◌++◌, ap, ◌∙◌}
 use Rattle.std.specs.Prelude.{map, take}
 use Rattle.alloc_slots.specs.Slots.{block_in}
 use Rattle.alloc_slots.proofs.Mapped.{map_more}

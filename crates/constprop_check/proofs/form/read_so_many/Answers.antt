@@ -1,5 +1,5 @@
 use Rattle.std.proofs.lemmas.Result.{err_from_is_err_and}
-use Rattle.lang.proofs.Loops.{goes_on, stops}
+use Rattle.lang.proofs.Loops.{goes_on, stops, is_done}
 use Rattle.constprop_check.specs.FactForm.{fact}
 use Rattle.constprop_check.proofs.form.read_so_many.Goals as goal
 
@@ -10,3 +10,6 @@ returns-in_err-fact c =
 
 pub loop-preserved : goal.loop-preserved
 loop-preserved c = rw c.in_ok-push.ensures.items (goes_on (λ before. fact c.args.registers) c.args.count _ c.loop.facts.items c.loop.counter c.loop.bytes.now _ c.read_fact.new.bytes.now c.loop-test.true c.loop.invariant c.in_ok-fact.ensures)
+
+pub returns : goal.returns
+returns c = is_done (λ before. fact c.args.registers) c.args.count _ c.loop.facts.items c.loop.counter c.loop.bytes.now c.loop-test.false c.loop.invariant

@@ -1,5 +1,5 @@
 use Rattle.std.proofs.lemmas.Result.{err_from_is_err_and}
-use Rattle.lang.proofs.Loops.{goes_on, stops}
+use Rattle.lang.proofs.Loops.{goes_on, stops, is_done}
 use Rattle.rtl_passes.specs.ListForm.{list}
 use Rattle.cse_form.specs.Reading.{equation}
 use Rattle.cse_form.proofs.reading.read_each.Goals as goal
@@ -11,3 +11,6 @@ returns-in_err-equations c =
 
 pub loop-preserved : goal.loop-preserved
 loop-preserved c = rw c.in_ok-push.ensures.items (goes_on (λ before. list (equation c.args.registers)) c.args.nodes _ c.loop.read.items c.loop.counter c.loop.bytes.now _ c.read_list.new.bytes.now c.loop-test.true c.loop.invariant c.in_ok-equations.ensures)
+
+pub returns : goal.returns
+returns c = is_done (λ before. list (equation c.args.registers)) c.args.nodes _ c.loop.read.items c.loop.counter c.loop.bytes.now c.loop-test.false c.loop.invariant

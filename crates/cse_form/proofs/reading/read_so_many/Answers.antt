@@ -1,5 +1,5 @@
 use Rattle.std.proofs.lemmas.Result.{err_from_is_err_and}
-use Rattle.lang.proofs.Loops.{goes_on, stops}
+use Rattle.lang.proofs.Loops.{goes_on, stops, is_done}
 use Rattle.cse_form.specs.Reading.{equation}
 use Rattle.cse_form.proofs.reading.read_so_many.Goals as goal
 
@@ -10,3 +10,6 @@ returns-in_err-equation c =
 
 pub loop-preserved : goal.loop-preserved
 loop-preserved c = rw c.in_ok-push.ensures.items (goes_on (λ before. equation c.args.registers) c.args.count _ c.loop.equations.items c.loop.counter c.loop.bytes.now _ c.read_equation.new.bytes.now c.loop-test.true c.loop.invariant c.in_ok-equation.ensures)
+
+pub returns : goal.returns
+returns c = is_done (λ before. equation c.args.registers) c.args.count _ c.loop.equations.items c.loop.counter c.loop.bytes.now c.loop-test.false c.loop.invariant
