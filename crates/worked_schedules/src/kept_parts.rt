@@ -1,119 +1,48 @@
-use paxos_core::{Kept, settled};
-use std::process::Abort;
+//! Kept parts of nodes, and what is settled.
 
-/// A part given as offered, started, promised, and the vote's ballot (0 for none) and value.
-fn part(rt: &impl Abort, entries: [u32; 5]) -> Kept {
-    let [offered, started, promised, ballot, value] = entries;
-    let accepted = if ballot == 0 {
-        None
-    } else {
-        Some((ballot, value))
+use crate::words::{numbers, yes_or_no};
+use paxos_core::{Kept, settled};
+use program_rows::owned;
+use std::alloc::Global;
+
+/// The part with these entries; none where they are no five numbers, or make no part.
+fn part_of(alloc: Global, text: &str) -> Option<Kept> {
+    let entries = numbers(alloc, text, ',')?;
+    let [offered, started, promised, ballot, value] = entries.as_slice() else {
+        return None;
     };
-    Kept::of(offered == 1, started, promised, accepted).expect(rt, "a kept part")
+    let is_vote = *ballot != 0 || *value != 0;
+    let accepted = is_vote.then_some((*ballot, *value));
+    Kept::of(*offered == 1, *started, *promised, accepted)
 }
 
-#[test]
-fn three_nodes(rt: HostRuntime) {
-    for (rows, want) in [
-        // a quorum voted for 0, one node for 1 above it; the same without one of the votes; the same with another node's ballot started
-        ([[1, 3, 3, 3, 0], [1, 4, 3, 3, 0], [0, 0, 4, 4, 1]], false),
-        ([[1, 3, 3, 3, 0], [1, 4, 4, 0, 0], [0, 0, 4, 4, 1]], true),
-        ([[1, 3, 3, 3, 0], [1, 4, 4, 0, 0], [0, 4, 4, 4, 1]], false),
-        // an own ballot is promised above the started one
-        ([[0, 3, 7, 0, 0], [1, 1, 4, 1, 2], [1, 2, 0, 0, 0]], false),
-        // a value has not offered
-        ([[1, 6, 0, 0, 0], [0, 4, 2, 0, 0], [0, 2, 1, 1, 1]], false),
-        // no quorum has promised a vote's ballot
-        ([[0, 3, 1, 1, 2], [0, 4, 4, 3, 2], [1, 5, 0, 0, 0]], false),
-        ([[1, 0, 0, 0, 0], [1, 1, 0, 0, 0], [1, 2, 1, 1, 1]], false),
-        ([[1, 0, 7, 1, 0], [0, 7, 0, 0, 0], [0, 0, 0, 0, 0]], false),
-        // one ballot has two values
-        ([[0, 6, 3, 1, 1], [1, 7, 7, 0, 0], [1, 0, 7, 1, 2]], false),
-        // a lower vote of another value may yet be chosen, and may not
-        ([[0, 3, 1, 1, 2], [1, 4, 5, 1, 2], [1, 5, 2, 2, 1]], false),
-        ([[1, 0, 2, 1, 0], [1, 7, 7, 7, 1], [0, 2, 7, 0, 0]], true),
-        ([[1, 6, 7, 0, 0], [1, 7, 5, 2, 0], [1, 5, 4, 1, 1]], true),
-        ([[1, 3, 3, 1, 2], [1, 7, 3, 2, 2], [1, 5, 4, 3, 1]], true),
-        ([[0, 0, 0, 0, 0], [1, 7, 2, 2, 1], [1, 5, 5, 2, 1]], true),
-    ] {
-        let [first, second, third] = rows;
-        let parts = [part(&rt, first), part(&rt, second), part(&rt, third)];
-        assert_eq!(rt; settled(&parts), want, "{rows:?}");
+/// Whether a room may open with these parts.
+pub fn settled_told(alloc: Global, text: &str) -> Option<String> {
+    let mut parts = Vec::new(alloc);
+    for part in text.split(';') {
+        parts.push(part_of(alloc, part)?).ok()?;
+    }
+    match parts.len() {
+        3 | 5 | 7 => owned(alloc, yes_or_no(settled(&parts))),
+        _ => None,
     }
 }
 
-#[test]
-fn five_nodes(rt: HostRuntime) {
-    for (rows, want) in [
-        (
-            [
-                [1, 5, 4, 0, 0],
-                [1, 1, 1, 1, 1],
-                [1, 2, 0, 0, 0],
-                [0, 3, 3, 1, 1],
-                [1, 4, 5, 2, 1],
-            ],
-            true,
-        ),
-        (
-            [
-                [0, 5, 1, 1, 1],
-                [1, 1, 3, 3, 4],
-                [0, 7, 5, 0, 0],
-                [1, 3, 0, 0, 0],
-                [1, 4, 3, 0, 0],
-            ],
-            true,
-        ),
-        (
-            [
-                [1, 5, 2, 2, 2],
-                [1, 6, 5, 2, 2],
-                [1, 2, 4, 1, 0],
-                [1, 3, 2, 0, 0],
-                [1, 4, 2, 0, 0],
-            ],
-            true,
-        ),
-        (
-            [
-                [1, 5, 0, 0, 0],
-                [1, 1, 0, 0, 0],
-                [1, 7, 7, 1, 3],
-                [1, 0, 2, 1, 3],
-                [0, 4, 0, 0, 0],
-            ],
-            false,
-        ),
-        (
-            [
-                [1, 5, 0, 0, 0],
-                [0, 6, 0, 0, 0],
-                [1, 7, 5, 5, 4],
-                [1, 3, 5, 1, 3],
-                [1, 4, 6, 3, 4],
-            ],
-            false,
-        ),
-        (
-            [
-                [0, 5, 4, 0, 0],
-                [1, 6, 0, 0, 0],
-                [0, 7, 3, 0, 0],
-                [1, 3, 7, 1, 4],
-                [1, 4, 6, 5, 3],
-            ],
-            false,
-        ),
-    ] {
-        let [first, second, third, fourth, fifth] = rows;
-        let parts = [
-            part(&rt, first),
-            part(&rt, second),
-            part(&rt, third),
-            part(&rt, fourth),
-            part(&rt, fifth),
-        ];
-        assert_eq!(rt; settled(&parts), want, "{rows:?}");
+/// The entries of a part.
+pub fn entries_told(alloc: Global, part: Kept) -> Option<String> {
+    let (ballot, value) = match part.accepted() {
+        Some(vote) => (vote.ballot, vote.value),
+        None => (0, 0),
+    };
+    let offered = u8::from(part.offered());
+    let (started, promised) = (part.started(), part.promised());
+    format!(in alloc; "{offered},{started},{promised},{ballot},{value}").ok()
+}
+
+/// The part with these entries, or `none`.
+pub fn kept_told(alloc: Global, text: &str) -> Option<String> {
+    match part_of(alloc, text) {
+        Some(part) => entries_told(alloc, part),
+        None => owned(alloc, "none"),
     }
 }

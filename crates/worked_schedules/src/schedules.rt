@@ -1,19 +1,20 @@
 //! Random schedules of the nodes of a room, with losses, repeats, delays, restarts and reopenings: each call is a step
 //! that the reference allows, or none where it allows none, and sends what the reference sends.
 
-ghost use Rattle.std.specs.Prelude.{◌≡◌, ◌<◌, ◌⊎◌};
+ghost use Rattle.std.specs.Prelude.{◌≡◌, ◌⊎◌};
 
+use crate::nodes::{all_nodes, restart};
+use crate::words::numbers;
 use paxos_core::{Kept, Msg, Node, settled};
 use paxos_reference::label::Label;
 use paxos_reference::world::World;
+use program_rows::{numbered, owned};
 use rand_core::utils::NextWord;
 use rand_pcg::Pcg32;
-use std::alloc::{AllocError, Global};
-use std::process::Abort;
-use std::test::Fail;
+use std::alloc::Global;
 
 /// A call of a node, but a restart.
-#[derive(Clone, Copy, Debug)]
+#[derive(Clone, Copy)]
 enum Call {
     Offer,
     Start,
@@ -22,7 +23,7 @@ enum Call {
 }
 
 /// What is done next in a room.
-#[derive(Clone, Copy, Debug)]
+#[derive(Clone, Copy)]
 enum Turn {
     Call(Call),
     Restart,
@@ -38,85 +39,77 @@ struct Room {
 }
 
 impl Room {
-    fn new(alloc: Global, count: u8) -> Result<Room, Fail>
+    fn new(alloc: Global, count: u8) -> Option<Room>
         requires { (count ≡ 3) ⊎ (count ≡ 5) ⊎ (count ≡ 7) }
     {
-        let mut nodes = Vec::new(alloc);
-        for me in 0..count {
-            nodes.push(Node::new(me, count))?;
-        }
         let parts = [Kept::nothing(); 7];
-        Ok(Room {
-            nodes,
-            world: World::opening(alloc, &parts[..usize::from(count)])?,
+        Some(Room {
+            nodes: all_nodes(alloc, count)?,
+            world: World::opening(alloc, &parts[..usize::from(count)]).ok()?,
             learned: None,
         })
     }
 
-    /// The step is allowed in the reference, and is taken there. What is learned is what was learned before.
-    fn step(&mut self, rt: &impl Abort, label: Label) -> Result<(), Fail> {
-        assert!(rt; self.world.allows(&label), "{label:?} in {:?}", self.world);
-        self.world.take(&label)?;
-        if let Label::Learns(_, value) = label {
-            assert_eq!(rt;
-                *self.learned.get_or_insert(value),
-                value,
-                "{:?}",
-                self.world
-            );
+    /// Takes the step in the reference, if it is allowed there, and what is learned is what was learned before.
+    fn step(&mut self, label: Label) -> Option<()> {
+        if !self.world.allows(&label) {
+            return None;
         }
-        Ok(())
+        self.world.take(&label).ok()?;
+        match label {
+            Label::Learns(_, value) if *self.learned.get_or_insert(value) != value => None,
+            _ => Some(()),
+        }
     }
 
-    fn call(&mut self, rt: &impl Abort, place: usize, call: Call) -> Result<(), Fail> {
-        let Some(node) = self.nodes.get_mut(place) else {
-            return Ok(());
-        };
+    /// Makes a call of a node, if the reference agrees with what it does and answers, and with what is kept.
+    fn call(&mut self, place: usize, call: Call) -> Option<()> {
+        let node = self.nodes.get_mut(place)?;
         let me = node.me();
         let (answer, taken) = answer_of(node, call);
         let kept = node.kept();
-        if let Some(label) = taken {
-            self.step(rt, label)?;
-        } else if let Some(label) = step_asked(me, call) {
-            assert!(rt; !self.world.allows(&label), "{label:?} in {:?}", self.world);
+        match taken {
+            Some(label) => self.step(label)?,
+            None => self.is_allowed_none(step_asked(me, call))?,
         }
-        if answer.is_some() {
-            assert_eq!(rt; self.world.sent.first().copied(), answer);
-        }
-        assert_eq!(rt; self.world.nodes.get(place).copied(), Some(kept));
-        Ok(())
+        let is_sent = answer.is_none() || self.world.sent.first().copied() == answer;
+        let is_kept = self.world.nodes.get(place).copied() == Some(kept);
+        (is_sent && is_kept).then_some(())
     }
 
-    fn restart(&mut self, rt: &impl Abort, place: usize) -> Result<(), Fail> {
-        if place >= self.nodes.len() {
-            return Ok(());
+    /// Nothing, if the reference does not allow the step.
+    fn is_allowed_none(&self, label: Option<Label>) -> Option<()> {
+        match label {
+            Some(label) if self.world.allows(&label) => None,
+            _ => Some(()),
         }
-        let node = self.nodes.remove(place);
-        let label = Label::Restarts(node.me());
-        let kept = node.kept();
-        self.nodes
-            .insert(place, node.restart(kept))
-            .map_err(AllocError::from)?;
-        self.step(rt, label)
+    }
+
+    fn restart(&mut self, place: usize) -> Option<()> {
+        let me = self.nodes.get(place)?.me();
+        restart(&mut self.nodes, place, None)?;
+        self.step(Label::Restarts(me))
     }
 
     /// All nodes restart, and the messages are forgotten but for those that the kept parts show.
-    fn reopen(&mut self, rt: &impl Abort, alloc: Global) -> Result<(), Fail> {
+    fn reopen(&mut self, alloc: Global) -> Option<()> {
         for place in 0..self.nodes.len() {
-            self.restart(rt, place)?;
+            self.restart(place)?;
         }
-        assert!(rt; self.world.nodes.len() <= 7);
-        assert!(rt; settled(&self.world.nodes), "{:?}", self.world);
-        self.world = World::opening(alloc, &self.world.nodes)?;
-        Ok(())
+        let parts = &self.world.nodes;
+        if parts.len() > 7 || !settled(parts) {
+            return None;
+        }
+        self.world = World::opening(alloc, parts).ok()?;
+        Some(())
     }
 
-    fn turn(&mut self, rt: &impl Abort, alloc: Global, words: &mut Pcg32) -> Result<(), Fail> {
+    fn turn(&mut self, alloc: Global, words: &mut Pcg32) -> Option<()> {
         let place = place_below(words, self.nodes.len());
         match random_turn(words, &self.world.sent) {
-            Turn::Call(call) => self.call(rt, place, call),
-            Turn::Restart => self.restart(rt, place),
-            Turn::Reopen => self.reopen(rt, alloc),
+            Turn::Call(call) => self.call(place, call),
+            Turn::Restart => self.restart(place),
+            Turn::Reopen => self.reopen(alloc),
         }
     }
 }
@@ -126,14 +119,7 @@ fn answer_of(node: &mut Node, call: Call) -> (Option<Msg>, Option<Label>) {
     let me = node.me();
     let before = node.learned();
     let answer = match call {
-        Call::Offer => {
-            let label = if node.offer() {
-                Some(Label::Offers(me))
-            } else {
-                None
-            };
-            return (None, label);
-        }
+        Call::Offer => return (None, node.offer().then_some(Label::Offers(me))),
         Call::Start => node.start().ok(),
         Call::Propose => node.propose(),
         Call::On(message) => node.on(&message),
@@ -192,41 +178,43 @@ fn place_below(words: &mut Pcg32, count: usize) -> usize {
     words.next_word() as usize % count.max(1)
 }
 
-/// Plays schedules of so many turns, one for each stream of the generator, and counts those in which a value is learned.
-fn play(rt: &impl Abort, alloc: Global, count: u8, streams: u64, turns: u32) -> Result<u64, Fail>
+/// Plays one schedule of so many turns, if the nodes and the reference agree in all. Whether a value was learned.
+fn play(alloc: Global, count: u8, stream: u64, turns: u32) -> Option<bool>
     requires { (count ≡ 3) ⊎ (count ≡ 5) ⊎ (count ≡ 7) }
 {
-    let mut learned = 0u64;
+    let mut words = Pcg32::new(1, stream);
+    let mut room = Room::new(alloc, count)?;
+    for _ in 0..turns {
+        room.turn(alloc, &mut words)?;
+    }
+    Some(room.learned.is_some())
+}
+
+/// Plays schedules, one for each stream of the generator, and tells whether in more than half of them a value is learned.
+fn played(alloc: Global, count: u8, streams: u32, turns: u32) -> Option<String>
+    requires { (count ≡ 3) ⊎ (count ≡ 5) ⊎ (count ≡ 7) }
+{
+    let mut learned = 0u32;
     for stream in 0..streams {
-        let mut words = Pcg32::new(1, stream);
-        let mut room = Room::new(alloc, count)?;
-        for _ in 0..turns {
-            room.turn(rt, alloc, &mut words)?;
-        }
-        if room.learned.is_some() {
-            learned = learned.saturating_add(1);
+        match play(alloc, count, u64::from(stream), turns) {
+            Some(true) => learned = learned.saturating_add(1),
+            Some(false) => {}
+            None => return numbered(alloc, "differs in ", u64::from(stream)),
         }
     }
-    Ok(learned)
+    if learned > streams / 2 {
+        return owned(alloc, "learned");
+    }
+    numbered(alloc, "learned in ", u64::from(learned))
 }
 
-#[test]
-fn three_nodes(rt: HostRuntime) -> Result<(), Fail> {
-    let learned = play(&rt, rt.alloc(), 3, 4000, 500)?;
-    assert!(rt; learned > 2000, "{learned} of 4000");
-    Ok(())
-}
-
-#[test]
-fn five_nodes(rt: HostRuntime) -> Result<(), Fail> {
-    let learned = play(&rt, rt.alloc(), 5, 1500, 1000)?;
-    assert!(rt; learned > 750, "{learned} of 1500");
-    Ok(())
-}
-
-#[test]
-fn seven_nodes(rt: HostRuntime) -> Result<(), Fail> {
-    let learned = play(&rt, rt.alloc(), 7, 500, 2000)?;
-    assert!(rt; learned > 250, "{learned} of 500");
-    Ok(())
+/// What is told of random schedules of so many nodes, streams and turns.
+pub fn random_told(alloc: Global, question: &str) -> Option<String> {
+    let counts = numbers(alloc, question, ' ')?;
+    match counts.as_slice() {
+        [3, streams, turns] => played(alloc, 3, *streams, *turns),
+        [5, streams, turns] => played(alloc, 5, *streams, *turns),
+        [7, streams, turns] => played(alloc, 7, *streams, *turns),
+        _ => None,
+    }
 }

@@ -1,0 +1,99 @@
+//! Nodes, call by call.
+
+ghost use Rattle.std.specs.Prelude.{◌≡◌, ◌⊎◌};
+
+use crate::kept_parts::entries_told;
+use crate::nodes::{all_nodes, restart};
+use crate::words::{message_of, message_told, yes_or_no};
+use paxos_core::{Kept, Msg, Node};
+use program_rows::{numbered, owned};
+use std::alloc::Global;
+
+/// A message that a node answers, or `no`.
+fn answer_told(alloc: Global, answer: Option<Msg>) -> Option<String> {
+    match answer {
+        Some(message) => message_told(alloc, message),
+        None => owned(alloc, "no"),
+    }
+}
+
+/// What a node answers to the start of a ballot.
+fn start_told(alloc: Global, node: &mut Node) -> Option<String> {
+    match node.start() {
+        Ok(message) => message_told(alloc, message),
+        Err(fault) => numbered(alloc, "", u64::from(fault.number())),
+    }
+}
+
+/// What a node has learned, or `no`.
+fn learned_told(alloc: Global, node: &Node) -> Option<String> {
+    match node.learned() {
+        Some(value) => numbered(alloc, "", u64::from(value)),
+        None => owned(alloc, "no"),
+    }
+}
+
+/// The part of a node that has started and promised this ballot, and kept nothing else.
+fn opened_at(ballot: &str) -> Option<Kept> {
+    let ballot = ballot.parse().ok()?;
+    Kept::of(false, ballot, ballot, None)
+}
+
+/// What a restarted node has kept.
+fn restart_told(
+    alloc: Global,
+    nodes: &mut Vec<Node>,
+    place: usize,
+    given: Option<Kept>,
+) -> Option<String> {
+    restart(nodes, place, given)?;
+    entries_told(alloc, nodes.get(place)?.kept())
+}
+
+/// What the nodes answer to a call.
+fn call_told(alloc: Global, nodes: &mut Vec<Node>, call: &str) -> Option<String> {
+    let (kind, rest) = call.split_once(' ')?;
+    let (node, rest) = rest.split_once(' ').unwrap_or((rest, ""));
+    let place: usize = node.parse().ok()?;
+    match kind {
+        "again" => restart_told(alloc, nodes, place, None),
+        "opened" => restart_told(alloc, nodes, place, Some(opened_at(rest)?)),
+        _ => node_told(alloc, nodes.get_mut(place)?, kind, rest),
+    }
+}
+
+/// What a node answers to a call other than a restart.
+fn node_told(alloc: Global, node: &mut Node, kind: &str, rest: &str) -> Option<String> {
+    match kind {
+        "offer" => owned(alloc, yes_or_no(node.offer())),
+        "start" => start_told(alloc, node),
+        "propose" => answer_told(alloc, node.propose()),
+        "learned" => learned_told(alloc, node),
+        "on" => answer_told(alloc, node.on(&message_of(alloc, rest)?)),
+        _ => None,
+    }
+}
+
+/// What so many nodes answer to the calls.
+fn answers_told(alloc: Global, count: u8, calls: &str) -> Option<String>
+    requires { (count ≡ 3) ⊎ (count ≡ 5) ⊎ (count ≡ 7) }
+{
+    let mut nodes = all_nodes(alloc, count)?;
+    let mut told = String::new(alloc);
+    for call in calls.split(';') {
+        let answer = call_told(alloc, &mut nodes, call)?;
+        write!(told, "{answer};").ok()?;
+    }
+    Some(told)
+}
+
+/// What the nodes of a room answer to the calls.
+pub fn calls_told(alloc: Global, question: &str) -> Option<String> {
+    let (count, calls) = question.split_once(' ')?;
+    match count {
+        "3" => answers_told(alloc, 3, calls),
+        "5" => answers_told(alloc, 5, calls),
+        "7" => answers_told(alloc, 7, calls),
+        _ => None,
+    }
+}
