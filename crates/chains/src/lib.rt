@@ -1,9 +1,16 @@
-//! C programs compiled by optimisers that nobody trusts, one for each pass, each on the output of the one
-//! before it: what a pass does not accept, or is not offered, is replaced by its baseline.
+//! C programs compiled: four offers of each function, one for each pass, each on the output of the one before it, and
+//! all linked. The offers are the baselines', or those of optimisers that nobody trusts: what a pass does not accept, or
+//! is not offered, is replaced by its baseline.
 #![tactic(auto)]
 
 mod compiling;
+mod errors;
+mod makers;
+mod offering;
 mod proposing;
 
-pub use compiling::{Compiled, compile};
+pub use compiling::{compile, link_offers};
+pub use errors::CompileError;
+pub use makers::{Baselines, Maker, Optimisers};
+pub use offering::{Offers, baseline_of};
 pub use proposing::{Proposed, proposed_of};

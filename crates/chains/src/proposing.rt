@@ -2,7 +2,7 @@
 
 ghost use Rattle.std.specs.Prelude.{◌≡◌, ◌≢◌, IfOk, IfErr, IfSome};
 
-use baselines::baseline_of;
+use crate::offering::baseline_of;
 use lang::{Language, NoMemory, Oracle, Pass, PassError};
 use offers::{Offer, OfferError};
 use rand_pcg::Pcg32;

@@ -45,7 +45,7 @@ impl Explained for OrderOracle {
 }
 
 /// The fault of the fourth pass as one of the others.
-pub fn same_fault(fault: Option<linearize_check::Fault>) -> Option<Fault> {
+fn same_fault(fault: Option<linearize_check::Fault>) -> Option<Fault> {
     match fault {
         None => None,
         Some(linearize_check::Fault::Shape) => Some(Fault::Shape),
@@ -80,12 +80,24 @@ pub fn is_written_again<P: Pass>(alloc: Global, bytes: &[u8]) -> Option<bool> {
 }
 
 /// What a fault is called.
-pub fn fault_told(alloc: Global, fault: Option<Fault>) -> Option<String> {
+fn fault_told(alloc: Global, fault: Option<Fault>) -> Option<String> {
     match fault {
         None => owned(alloc, "yes"),
         Some(Fault::Shape) => owned(alloc, "shape"),
         Some(Fault::Node(node)) => numbered(alloc, "node", u64::from(node)),
     }
+}
+
+/// What is wrong with the parts of an offer, if anything is, and if the two calls that judge them agree.
+fn agreed_fault<O: Explained>(alloc: Global, parts: &PartsOf<O::P>) -> Option<Option<Fault>> {
+    let fault = O::fault_of(alloc, parts).ok()?;
+    let accepted = O::P::check(alloc, &parts.input, &parts.output, &parts.certificate).ok()?;
+    (accepted == fault.is_none()).then_some(fault)
+}
+
+/// What is said of the parts of an offer, if the two calls that judge them agree.
+pub fn parts_told<O: Explained>(alloc: Global, parts: &PartsOf<O::P>) -> Option<String> {
+    fault_told(alloc, agreed_fault::<O>(alloc, parts)?)
 }
 
 /// What is said of a written offer, if the three calls that judge it agree and what is accepted is written again.
@@ -98,11 +110,10 @@ pub fn judged<O: Explained>(alloc: Global, bytes: &[u8]) -> Option<String> {
         }
         Err(_fault) => return None,
     };
-    let fault = O::fault_of(alloc, &parts).ok()?;
-    let accepted = O::P::check(alloc, &parts.input, &parts.output, &parts.certificate).ok()?;
+    let fault = agreed_fault::<O>(alloc, &parts)?;
     let agreed = match fault {
-        None => accepted && is_written_again::<O::P>(alloc, bytes)?,
-        Some(_fault) => !accepted && number == 301,
+        None => is_written_again::<O::P>(alloc, bytes)?,
+        Some(_fault) => number == 301,
     };
     if agreed {
         fault_told(alloc, fault)

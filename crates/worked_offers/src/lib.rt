@@ -16,6 +16,8 @@
 //! | `arranged INPUT NODES` | what the nodes lay out, or `none` |
 //! | `reached INPUT MARKS NODES` | `yes`, where the marks of the nodes that are reached and their list are so |
 //! | `linked NAME:INPUT:BESIDE:OFFERS ..` | for each function its name and its last output, or the number of the refusal and the function's |
+//! | `constants COUNT MOST OFFER OTHER`, `subexpressions`, `linearized` likewise | `in turn`, where for each number of workers up to the most so many jobs, in turn of the one offer and of the other, are answered yes and no in turn |
+//! | `met 2 2 OFFER OTHER` | `met`, where two workers do the two jobs at the same time |
 #![tactic(auto)]
 
 mod changes;
@@ -26,18 +28,23 @@ mod orders;
 mod proposing;
 mod rows;
 mod slots;
+mod validations;
 
 use crate::rows::Rows;
+use crate::validations::Validations;
 use program_rows::compare;
 use std::io;
+use std::sync::Wait;
+use std::thread::Threads;
 
-/// Asks for each row of the files that lie beside the program, and tells how many agree.
-pub fn tell(rt: &HostRuntime) -> io::Result<()> {
+/// Asks for each row of the files that lie beside the program, and tells how many agree. Many validations take threads.
+pub fn tell<R: Threads + Wait + Sync>(rt: &HostRuntime, threads: &R) -> io::Result<()> {
     compare(rt, "constants.txt", &mut Rows::Constants)?;
     compare(rt, "subexpressions.txt", &mut Rows::Subexpressions)?;
     compare(rt, "allocations.txt", &mut Rows::Allocations)?;
     compare(rt, "slots.txt", &mut Rows::Slots)?;
     compare(rt, "linearized.txt", &mut Rows::Linearized)?;
     compare(rt, "orders.txt", &mut Rows::Orders)?;
-    compare(rt, "linked.txt", &mut Rows::Linked)
+    compare(rt, "linked.txt", &mut Rows::Linked)?;
+    compare(rt, "validations.txt", &mut Validations { threads })
 }

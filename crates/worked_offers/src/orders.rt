@@ -1,10 +1,12 @@
 //! Orders of nodes, and what is laid out by them.
 
-use crate::judging::{fault_told, same_fault};
+use crate::judging::{Explained, parts_told};
 use crate::proposing::{function_of, proposed, text_of};
+use lang::Pass;
 use linear::Linear;
-use linearize_check::{Order, arrange, check, reachable, rising, why};
-use ltl::Ltl;
+use linearize_check::{Order, arrange, reachable, rising};
+use ltl::{Function, Ltl};
+use offers::Parts;
 use oracle_order::OrderOracle;
 use program_rows::owned;
 use std::alloc::Global;
@@ -21,50 +23,77 @@ fn nodes_of(alloc: Global, text: &str) -> Option<Vec<u16>> {
     Some(nodes)
 }
 
-/// What is said of an input, an output and an order.
-fn order_told(alloc: Global, input: &str, output: &str, nodes: &str) -> Option<String> {
-    let input = function_of::<Ltl>(alloc, input)?;
-    let output = function_of::<Linear>(alloc, output)?;
-    let order = Order::from_vec(nodes_of(alloc, nodes)?);
-    let fault = why(alloc, &input, &output, &order).ok()?;
-    if check(alloc, &input, &output, &order).ok()? != fault.is_none() {
-        return None;
+/// What is said of an input, an output and an order of the nodes.
+fn order_told<O: Explained>(
+    alloc: Global,
+    input: &str,
+    output: &str,
+    certificate: <O::P as Pass>::Cert,
+) -> Option<String> {
+    let input = function_of::<<O::P as Pass>::In>(alloc, input)?;
+    let output = function_of::<<O::P as Pass>::Out>(alloc, output)?;
+    let parts = Parts {
+        input,
+        output,
+        certificate,
+    };
+    parts_told::<O>(alloc, &parts)
+}
+
+/// The text of what is laid out by the nodes, or `none`.
+fn layout_told(alloc: Global, input: &Function, nodes: Vec<u16>) -> Option<String> {
+    match arrange(alloc, input, nodes).ok()? {
+        Some((output, _order)) => text_of::<Linear>(alloc, &output),
+        None => owned(alloc, "none"),
     }
-    fault_told(alloc, same_fault(fault))
 }
 
 /// The output that is laid out by the nodes, if what is proposed for the input is accepted.
 fn arranged(alloc: Global, text: &str, nodes: &str, seed: u64) -> Option<String> {
-    let input = function_of::<Ltl>(alloc, text)?;
     let nodes = nodes_of(alloc, nodes)?;
-    let Some((output, _order)) = arrange(alloc, &input, nodes).ok()? else {
-        return owned(alloc, "none");
-    };
-    let _offer = proposed(alloc, &mut OrderOracle, input, seed)?;
-    text_of::<Linear>(alloc, &output)
+    let input = function_of::<Ltl>(alloc, text)?;
+    let told = layout_told(alloc, &input, nodes);
+    if told.as_deref() != Some("none") {
+        let _offer = proposed(alloc, &mut OrderOracle, input, seed)?;
+    }
+    told
+}
+
+/// The nodes that are marked.
+fn marked(alloc: Global, input: &Function) -> Option<Vec<u16>> {
+    let marks = reachable(alloc, input).ok()?;
+    let mut nodes = Vec::new(alloc);
+    for (node, is_reached) in (0..u16::MAX).zip(marks.as_slice()) {
+        if *is_reached {
+            nodes.push(node).ok()?;
+        }
+    }
+    Some(nodes)
+}
+
+/// Whether just these nodes are marked, and listed rising.
+fn are_reached(alloc: Global, input: &Function, nodes: &[u16]) -> Option<bool> {
+    let marks = marked(alloc, input)?;
+    let rises = rising(alloc, input).ok()?;
+    Some(rises.as_slice() == nodes && marks.as_slice() == nodes)
 }
 
 /// Whether these nodes are reached, and listed rising.
 fn reached(alloc: Global, text: &str, nodes: &str) -> Option<String> {
-    let input = function_of::<Ltl>(alloc, text)?;
-    let marks = reachable(alloc, &input).ok()?;
     let nodes = nodes_of(alloc, nodes)?;
-    let mut marked = Vec::new(alloc);
-    for (node, is_reached) in (0..u16::MAX).zip(marks.as_slice()) {
-        if *is_reached {
-            marked.push(node).ok()?;
-        }
-    }
-    let rises = rising(alloc, &input).ok()?;
-    let is_so = rises.as_slice() == nodes.as_slice() && marked.as_slice() == nodes.as_slice();
-    owned(alloc, if is_so { "yes" } else { "no" })
+    let input = function_of::<Ltl>(alloc, text)?;
+    let is_so = are_reached(alloc, &input, nodes.as_slice());
+    owned(alloc, if is_so? { "yes" } else { "no" })
 }
 
 /// The answer to a question about orders.
 pub fn order_answer(alloc: Global, question: &str, row: u64) -> Option<String> {
     let words: Vec<&str> = question.split(' ').collect(alloc).ok()?;
     match words.as_slice() {
-        ["order", input, output, nodes] => order_told(alloc, input, output, nodes),
+        ["order", input, output, nodes] => {
+            let order = Order::from_vec(nodes_of(alloc, nodes)?);
+            order_told::<OrderOracle>(alloc, input, output, order)
+        }
         ["arranged", input, nodes] => arranged(alloc, input, nodes, row),
         ["reached", input, nodes] => reached(alloc, input, nodes),
         _ => None,

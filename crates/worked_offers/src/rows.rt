@@ -7,6 +7,7 @@ use crate::linked::linked_told;
 use crate::orders::order_answer;
 use crate::proposing::{baseline_of, both, proposed, varied};
 use crate::slots::slots_told;
+use constprop_check::ConstProp;
 use lang::Oracle;
 use offers::Offer;
 use oracle_alloc::AllocOracle;
@@ -14,6 +15,7 @@ use oracle_const::ConstOracle;
 use oracle_cse::CseOracle;
 use oracle_order::OrderOracle;
 use program_rows::{Answers, bytes_of};
+use rtl::Rtl;
 use std::alloc::Global;
 
 /// What the questions of a file are about: offers of a pass, slots, orders of nodes, or linking.
@@ -83,7 +85,7 @@ impl Answers for Rows {
             Rows::Linearized => told(alloc, &mut OrderOracle, question, row),
             Rows::Slots => slots_told(alloc, question),
             Rows::Orders => order_answer(alloc, question, row),
-            Rows::Linked => linked_told(alloc, question),
+            Rows::Linked => linked_told::<Rtl, ConstProp>(alloc, question),
         }
     }
 }

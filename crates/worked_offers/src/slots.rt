@@ -58,6 +58,20 @@ fn touching(function: &Function) -> u64 {
     count
 }
 
+/// How many blocks of the baseline touch slots.
+fn touching_baseline(alloc: Global, input: &rtl::Function) -> Option<u64> {
+    let (output, _equations) = baseline(alloc, input).ok()?;
+    Some(touching(&output))
+}
+
+/// How many blocks touch slots: of the proposal for a function, if it is accepted, and of the baseline.
+fn touching_both(alloc: Global, text: &str, seed: u64) -> Option<(u64, u64)> {
+    let input = function_of::<Rtl>(alloc, text)?;
+    let theirs = touching_baseline(alloc, &input);
+    let offer = proposed(alloc, &mut AllocOracle, input, seed)?;
+    Some((touching(offer.output()), theirs?))
+}
+
 /// Whether the proposals for all functions that are drawn are accepted, and fewer than a third as many of their blocks
 /// touch slots as of the baselines'.
 pub fn slots_told(alloc: Global, question: &str) -> Option<String> {
@@ -67,11 +81,9 @@ pub fn slots_told(alloc: Global, question: &str) -> Option<String> {
     let mut theirs = 0u64;
     for seed in 1..=drawing.count {
         let text = drawn_text(alloc, drawing, seed).ok()?;
-        let input = function_of::<Rtl>(alloc, text.as_str())?;
-        let (simplest, _equations) = baseline(alloc, &input).ok()?;
-        let offer = proposed(alloc, &mut AllocOracle, input, seed)?;
-        ours = ours.saturating_add(touching(offer.output()));
-        theirs = theirs.saturating_add(touching(&simplest));
+        let (touched, simplest) = touching_both(alloc, text.as_str(), seed)?;
+        ours = ours.saturating_add(touched);
+        theirs = theirs.saturating_add(simplest);
     }
     let is_few = ours.saturating_mul(3) < theirs;
     owned(alloc, if is_few { "accepted, few" } else { "accepted" })

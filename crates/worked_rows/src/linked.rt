@@ -1,8 +1,9 @@
-//! What the Linear program of a C program does, compiled by the baselines of all passes.
+//! What the linked program of a C program does, compiled by the offers of a maker.
 
 use crate::told::Told;
-use baselines::compile;
 use c_checker::CProgram;
+use chains::{Maker, compile};
+use lang::Program;
 use linear_run::run;
 use std::alloc::{AllocError, Global};
 use text_commands::Closing;
@@ -10,15 +11,27 @@ use text_commands::Closing;
 /// More instructions than any of the programs does.
 const LIMIT: u64 = 1_000_000_000;
 
-/// What the linked program of a C program prints, and how its run stands.
-pub fn linked(alloc: Global, program: &CProgram) -> Result<Told, AllocError> {
+/// What a Linear program prints, and how its run stands.
+fn ran(alloc: Global, program: &Program<linear::Function>) -> Result<Told, AllocError> {
     let mut output = Vec::new(alloc);
-    let closing = match compile(alloc, program) {
-        Ok(made) => match run(alloc, &made, LIMIT, &mut output) {
-            Ok(shown) => Closing(shown).to_string(alloc)?,
-            Err(fault) => format!(in alloc; "{fault}")?,
-        },
+    let closing = match run(alloc, program, LIMIT, &mut output) {
+        Ok(shown) => Closing(shown).to_string(alloc)?,
         Err(fault) => format!(in alloc; "{fault}")?,
     };
     Ok(Told { output, closing })
+}
+
+/// What the linked program of a C program prints, and how its run stands.
+pub fn linked<M: Maker>(
+    alloc: Global,
+    program: &CProgram,
+    maker: &mut M,
+) -> Result<Told, AllocError> {
+    match compile(alloc, program, maker) {
+        Ok(made) => ran(alloc, &made),
+        Err(fault) => Ok(Told {
+            output: Vec::new(alloc),
+            closing: format!(in alloc; "{fault}")?,
+        }),
+    }
 }

@@ -9,26 +9,37 @@
 //! All are one program, since a program is linked with all that it stands on, by two compilers.
 #![tactic(auto)]
 
-mod chained;
 mod executed;
 mod linked;
 mod told;
 mod translated;
 
-use crate::chained::{Tally, chained};
 use crate::executed::executed;
 use crate::linked::linked;
 use crate::told::{Told, told_of};
 use crate::translated::translated;
+use c_checker::CProgram;
 use c_text::accept;
+use chains::{Baselines, Optimisers};
 use program_rows::{Form, Row, row_of};
+use rand_pcg::Pcg32;
 use std::alloc::{AllocError, Global};
+use std::sync::Wait;
+use std::thread::Threads;
 use std::{fs, io};
 
+/// How many offers were linked, and how many of them are the optimisers'.
+#[derive(Clone, Copy, Debug)]
+struct Tally {
+    offers: u64,
+    proposals: u64,
+}
+
 fn main(rt: HostRuntime) -> io::Result<()> {
+    worked_agreement::tell(&rt)?;
     worked_texts::tell(&rt)?;
     worked_forms::tell(&rt)?;
-    worked_offers::tell(&rt)?;
+    worked_offers::tell(&rt, &rt)?;
     tell(&rt)
 }
 
@@ -84,7 +95,7 @@ fn compiled_difference(
     if !is_told(&told, row) {
         return Ok(Some(format!(in alloc; "translated: {}", told.closing)?));
     }
-    let told = linked(alloc, &program)?;
+    let told = linked(alloc, &program, &mut Baselines)?;
     if !is_told(&told, row) {
         return Ok(Some(format!(in alloc; "linked: {}", told.closing)?));
     }
@@ -93,6 +104,25 @@ fn compiled_difference(
         return Ok(Some(format!(in alloc; "chained: {}", told.closing)?));
     }
     Ok(None)
+}
+
+/// What the program that is linked of the optimisers' offers prints, and how its run stands. They draw their choices from
+/// the seed. Four offers of each function are counted.
+fn chained(
+    alloc: Global,
+    program: &CProgram,
+    seed: u64,
+    tally: &mut Tally,
+) -> Result<Told, AllocError> {
+    let mut maker = Optimisers {
+        words: Pcg32::new(seed, 0),
+        proposals: 0,
+    };
+    let told = linked(alloc, program, &mut maker)?;
+    let offers = (program.functions().len() as u64).saturating_mul(4);
+    tally.offers = tally.offers.saturating_add(offers);
+    tally.proposals = tally.proposals.saturating_add(maker.proposals);
+    Ok(told)
 }
 
 /// Tells how many lines of a file agree, and which do not; and how many offers are the optimisers'.

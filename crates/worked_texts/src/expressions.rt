@@ -89,6 +89,14 @@ fn fault_told(alloc: Global, fault: Fault) -> Option<String> {
     }
 }
 
+/// An expression, and how many tokens are left.
+fn shown(alloc: Global, expression: &Expression, left: usize) -> Option<String> {
+    let mut out = String::new(alloc);
+    show(&mut out, expression).ok()?;
+    write!(out, " {left}").ok()?;
+    Some(out)
+}
+
 /// What is read of a text, and how many tokens are left.
 pub fn expression_told(alloc: Global, text: &[u8]) -> Option<String> {
     let tokens = lex(alloc, text).ok()?;
@@ -96,11 +104,7 @@ pub fn expression_told(alloc: Global, text: &[u8]) -> Option<String> {
         Ok(found) => found,
         Err(fault) => return fault_told(alloc, fault),
     };
-    let mut out = String::new(alloc);
-    show(&mut out, &found).ok()?;
-    let left = rest.len();
-    write!(out, " {left}").ok()?;
-    Some(out)
+    shown(alloc, &found, rest.len())
 }
 
 /// Whether an expression is read.

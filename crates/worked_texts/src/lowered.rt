@@ -1,10 +1,11 @@
 //! What texts are lowered and translated to.
 
+use c_checker::CProgram;
 use c_lengths::is_short_function;
 use c_text::accept;
 use cminor::Cminor;
 use cminor_lowering::lower;
-use lang::{Language, Named};
+use lang::{Language, Named, Program};
 use lowering_ranges::lowered_fits;
 use program_ranges::lowered_program_fits;
 use program_rows::{numbered, owned};
@@ -29,53 +30,91 @@ fn form_of<L: Language>(alloc: Global, named: &Named<L::Fun>) -> Option<String> 
     hex::encode(alloc, &form).ok()
 }
 
-/// The Cminor program of a text.
-pub fn lowered(alloc: Global, text: &[u8]) -> Option<String> {
-    let program = accept(alloc, text).ok()?;
-    let made = lower(alloc, &program).ok()?;
+/// The globals of a program, and its functions' names and forms.
+fn program_told<L: Language>(alloc: Global, program: &Program<L::Fun>) -> Option<String> {
     let mut out = String::new(alloc);
-    for global in made.globals.as_slice() {
+    for global in program.globals.as_slice() {
         push_global(&mut out, global).ok()?;
     }
-    for named in made.functions.as_slice() {
+    for named in program.functions.as_slice() {
         let name = String::from_utf8_lossy(alloc, named.name.as_slice()).ok()?;
-        let form = form_of::<Cminor>(alloc, named)?;
+        let form = form_of::<L>(alloc, named)?;
         write!(out, " {name}:{form}").ok()?;
     }
     out.trim_start().to_string(alloc).ok()
 }
 
-/// The RTL functions of a text.
-pub fn graphs(alloc: Global, text: &[u8]) -> Option<String> {
-    let program = accept(alloc, text).ok()?;
-    let made = lower(alloc, &program).ok()?;
-    let translated = translate(alloc, &made).ok()?;
+/// The forms of a program's functions.
+fn forms_told<L: Language>(alloc: Global, program: &Program<L::Fun>) -> Option<String> {
     let mut out = String::new(alloc);
-    for named in translated.functions.as_slice() {
-        out.push_str(" ").ok()?;
-        out.push_str(form_of::<Rtl>(alloc, named)?.as_str()).ok()?;
+    for named in program.functions.as_slice() {
+        let form = form_of::<L>(alloc, named)?;
+        write!(out, " {form}").ok()?;
     }
     out.trim_start().to_string(alloc).ok()
 }
 
+/// The Cminor program of a C program.
+fn lowered_of(alloc: Global, program: &CProgram) -> Option<String> {
+    let made = lower(alloc, program).ok()?;
+    program_told::<Cminor>(alloc, &made)
+}
+
+/// The Cminor program of a text.
+pub fn lowered(alloc: Global, text: &[u8]) -> Option<String> {
+    let program = accept(alloc, text).ok()?;
+    lowered_of(alloc, &program)
+}
+
+/// The RTL functions of a Cminor program.
+fn graphs_of(alloc: Global, program: &Program<cminor::Function>) -> Option<String> {
+    let made = translate(alloc, program).ok()?;
+    forms_told::<Rtl>(alloc, &made)
+}
+
+/// How many RTL functions a Cminor program has, or the number of the fault.
+fn translated_of(alloc: Global, program: &Program<cminor::Function>) -> Option<String> {
+    match translate(alloc, program) {
+        Ok(made) => numbered(alloc, "functions ", made.functions.len() as u64),
+        Err(fault) => format!(in alloc; "{} {fault:?}", fault.number()).ok(),
+    }
+}
+
+/// The Cminor program of a text.
+fn program_of(alloc: Global, text: &[u8]) -> Option<Program<cminor::Function>> {
+    let program = accept(alloc, text).ok()?;
+    lower(alloc, &program).ok()
+}
+
+/// The RTL functions of a text.
+pub fn graphs(alloc: Global, text: &[u8]) -> Option<String> {
+    let program = program_of(alloc, text)?;
+    graphs_of(alloc, &program)
+}
+
 /// How many functions of RTL a text has, or the number of the fault.
 pub fn translated(alloc: Global, text: &[u8]) -> Option<String> {
-    let program = accept(alloc, text).ok()?;
-    let made = lower(alloc, &program).ok()?;
-    match translate(alloc, &made) {
-        Ok(translated) => numbered(alloc, "functions ", translated.functions.len() as u64),
-        Err(fault) => format!(in alloc; "{} {fault:?}", fault.number()).ok(),
+    let program = program_of(alloc, text)?;
+    translated_of(alloc, &program)
+}
+
+/// Whether each function of a C program is short, and what it is lowered to is in range.
+fn fits_told(program: &CProgram) -> &'static str {
+    for function in program.functions() {
+        if !is_short_function(function) {
+            return "long";
+        }
+    }
+    if lowered_fits(program) && lowered_program_fits(program) {
+        "yes"
+    } else {
+        "no"
     }
 }
 
 /// Whether each function is short, and what the text is lowered to is in range.
 pub fn in_range(alloc: Global, text: &[u8]) -> Option<String> {
     let program = accept(alloc, text).ok()?;
-    for function in program.functions() {
-        if !is_short_function(function) {
-            return owned(alloc, "long");
-        }
-    }
-    let fits = lowered_fits(&program) && lowered_program_fits(&program);
-    owned(alloc, if fits { "yes" } else { "no" })
+    let told = fits_told(&program);
+    owned(alloc, told)
 }

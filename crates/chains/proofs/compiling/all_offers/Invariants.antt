@@ -1,8 +1,8 @@
 use Rattle.std.proofs.Common.{map, take}
 use Rattle.program_data.specs.Seen.{named_seen}
-use Rattle.baselines.specs.Offered.{AllGoOn}
+use Rattle.chains.specs.Offered.{AllGoOn}
 use Rattle.chains.proofs.compiling.all_offers.Given as goal
 
 -- the first functions have offers that chain
 abbrev pub invariant-loop-number : goal.invariant-loop-number
-invariant-loop-number l = AllGoOn (map named_seen (take l.number l.functions)) l.all.items
+invariant-loop-number g l = AllGoOn (map named_seen (take l.number l.functions)) l.offers.items

@@ -1,0 +1,61 @@
+//! Kept parts of nodes, and what is settled.
+
+use crate::words::yes_or_no;
+use paxos_core::{Kept, settled};
+use program_rows::owned;
+use std::alloc::Global;
+
+/// The numbers of a list with commas between.
+fn entries_of(alloc: Global, text: &str) -> Option<Vec<u32>> {
+    let mut all = Vec::new(alloc);
+    for word in text.split(',') {
+        all.push(word.parse().ok()?).ok()?;
+    }
+    Some(all)
+}
+
+/// The part with these entries, if they make one.
+fn part_with(entries: &[u32]) -> Option<Kept> {
+    let [offered, started, promised, ballot, value] = entries else {
+        return None;
+    };
+    let is_vote = *ballot != 0 || *value != 0;
+    let accepted = is_vote.then_some((*ballot, *value));
+    Kept::of(*offered == 1, *started, *promised, accepted)
+}
+
+/// The part with these entries; none where they are no five numbers, or make no part.
+fn part_of(alloc: Global, text: &str) -> Option<Kept> {
+    part_with(&entries_of(alloc, text)?)
+}
+
+/// Whether a room may open with these parts.
+pub fn settled_told(alloc: Global, text: &str) -> Option<String> {
+    let mut parts = Vec::new(alloc);
+    for part in text.split(';') {
+        parts.push(part_of(alloc, part)?).ok()?;
+    }
+    match parts.len() {
+        3 | 5 | 7 => owned(alloc, yes_or_no(settled(&parts))),
+        _ => None,
+    }
+}
+
+/// The entries of a part.
+pub fn entries_told(alloc: Global, part: Kept) -> Option<String> {
+    let (ballot, value) = match part.accepted() {
+        Some(vote) => (vote.ballot, vote.value),
+        None => (0, 0),
+    };
+    let offered = u8::from(part.offered());
+    let (started, promised) = (part.started(), part.promised());
+    format!(in alloc; "{offered},{started},{promised},{ballot},{value}").ok()
+}
+
+/// The part with these entries, or `none`.
+pub fn kept_told(alloc: Global, text: &str) -> Option<String> {
+    match part_of(alloc, text) {
+        Some(part) => entries_told(alloc, part),
+        None => owned(alloc, "none"),
+    }
+}

@@ -1,0 +1,43 @@
+//! Rows about agreement: what is settled, nodes call by call, the steps of the protocol's slow reference, and random
+//! schedules of nodes, each call compared with the reference. Tells how many rows of each file are answered as they say.
+//!
+//! | Question | Answer |
+//! |---|---|
+//! | `settled PARTS` | `yes` or `no`: whether a room may open with these kept parts |
+//! | `kept PART` | the part with these entries, or `none` |
+//! | `calls COUNT CALLS` | what so many nodes answer to each call, a message or `yes` or `no` |
+//! | `steps COUNT STEPS` | of each step in turn, the message that it sends, or `yes` where it sends none, or `no` where it is not allowed |
+//! | `random COUNT STREAMS TURNS` | `learned`, where in more than half of the schedules a value is, and each call is a step that the reference allows, or none where it allows none |
+//! | `settle INPUT OUTPUT ..` | `agreed`, where `settle` prints one of the outputs |
+//! | `refused INPUT` | the status and the line of a refusal by `settle`, which prints nothing |
+//! | `near INPUT` | `well`, where on each strict front of the input, and each change of one byte of it, `settle` prints what is settled or refuses the form and prints nothing |
+//! | `noise COUNT` | `well` likewise, of so many random inputs |
+//! | `orders INPUT` | the nodes of a graph as each of the three nodes of `settle` lists them |
+//! | `agree` | the value that three nodes learn where node 0 alone starts |
+//!
+//! A kept part is `OFFERED,STARTED,PROMISED,BALLOT,VALUE`, with ballot 0 for no vote; parts, calls and steps have semicolons
+//! between. A call is `offer NODE`, `start NODE`, `propose NODE`, `learned NODE`, `again NODE` (a restart), `opened NODE BALLOT` (a
+//! restart with that ballot started and promised) or `on NODE MESSAGE`. A message is `prepare BALLOT`, `promise FROM BALLOT VOTE`,
+//! `propose BALLOT VALUE` or `accepted FROM BALLOT VALUE`; a vote is a ballot and a value, `0 0` for none.
+#![tactic(auto)]
+
+mod calls;
+mod kept_parts;
+mod nodes;
+mod orders;
+mod rows;
+mod schedules;
+mod settle;
+mod steps;
+mod words;
+
+use crate::rows::Rows;
+use program_rows::compare;
+use std::io;
+
+/// Asks for each row of the files that lie beside the program, and tells how many agree.
+pub fn tell(rt: &HostRuntime) -> io::Result<()> {
+    compare(rt, "settled.txt", &mut Rows)?;
+    compare(rt, "protocol.txt", &mut Rows)?;
+    compare(rt, "settle.txt", &mut Rows)
+}

@@ -1,0 +1,220 @@
+//! Random schedules of the nodes of a room, with losses, repeats, delays, restarts and reopenings: each call is a step
+//! that the reference allows, or none where it allows none, and sends what the reference sends.
+
+ghost use Rattle.std.specs.Prelude.{◌≡◌, ◌⊎◌};
+
+use crate::nodes::{all_nodes, restart};
+use crate::words::numbers;
+use paxos_core::{Kept, Msg, Node, settled};
+use paxos_reference::label::Label;
+use paxos_reference::world::World;
+use program_rows::{numbered, owned};
+use rand_core::utils::NextWord;
+use rand_pcg::Pcg32;
+use std::alloc::Global;
+
+/// A call of a node, but a restart.
+#[derive(Clone, Copy)]
+enum Call {
+    Offer,
+    Start,
+    Propose,
+    On(Msg),
+}
+
+/// What is done next in a room.
+#[derive(Clone, Copy)]
+enum Turn {
+    Call(Call),
+    Restart,
+    Reopen,
+}
+
+/// The nodes of a room, the reference world in which they move, and the value that any of them ever learned.
+#[derive(Drop)]
+struct Room {
+    nodes: Vec<Node>,
+    world: World,
+    learned: Option<u16>,
+}
+
+impl Room {
+    fn new(alloc: Global, count: u8) -> Option<Room>
+        requires { (count ≡ 3) ⊎ (count ≡ 5) ⊎ (count ≡ 7) }
+    {
+        let parts = [Kept::nothing(); 7];
+        Some(Room {
+            nodes: all_nodes(alloc, count)?,
+            world: World::opening(alloc, &parts[..usize::from(count)]).ok()?,
+            learned: None,
+        })
+    }
+
+    /// Takes the step in the reference, if it is allowed there, and what is learned is what was learned before.
+    fn step(&mut self, label: Label) -> Option<()> {
+        if !self.world.allows(&label) {
+            return None;
+        }
+        self.world.take(&label).ok()?;
+        match label {
+            Label::Learns(_, value) if *self.learned.get_or_insert(value) != value => None,
+            _ => Some(()),
+        }
+    }
+
+    /// Makes a call of a node, if the reference agrees with what it does and answers, and with what is kept.
+    fn call(&mut self, place: usize, call: Call) -> Option<()> {
+        let node = self.nodes.get_mut(place)?;
+        let me = node.me();
+        let (answer, taken) = answer_of(node, call);
+        let kept = node.kept();
+        match taken {
+            Some(label) => self.step(label)?,
+            None => self.is_allowed_none(step_asked(me, call))?,
+        }
+        let is_sent = answer.is_none() || self.world.sent.first().copied() == answer;
+        let is_kept = self.world.nodes.get(place).copied() == Some(kept);
+        (is_sent && is_kept).then_some(())
+    }
+
+    /// Nothing, if the reference does not allow the step.
+    fn is_allowed_none(&self, label: Option<Label>) -> Option<()> {
+        match label {
+            Some(label) if self.world.allows(&label) => None,
+            _ => Some(()),
+        }
+    }
+
+    fn restart(&mut self, place: usize) -> Option<()> {
+        let me = self.nodes.get(place)?.me();
+        restart(&mut self.nodes, place, None)?;
+        self.step(Label::Restarts(me))
+    }
+
+    /// All nodes restart, and the messages are forgotten but for those that the kept parts show.
+    fn reopen(&mut self, alloc: Global) -> Option<()> {
+        for place in 0..self.nodes.len() {
+            self.restart(place)?;
+        }
+        let parts = &self.world.nodes;
+        if parts.len() > 7 || !settled(parts) {
+            return None;
+        }
+        self.world = World::opening(alloc, parts).ok()?;
+        Some(())
+    }
+
+    fn turn(&mut self, alloc: Global, words: &mut Pcg32) -> Option<()> {
+        let place = place_below(words, self.nodes.len());
+        match random_turn(words, &self.world.sent) {
+            Turn::Call(call) => self.call(place, call),
+            Turn::Restart => self.restart(place),
+            Turn::Reopen => self.reopen(alloc),
+        }
+    }
+}
+
+/// What the node answers, and the step of the protocol that the call then was.
+fn answer_of(node: &mut Node, call: Call) -> (Option<Msg>, Option<Label>) {
+    let me = node.me();
+    let before = node.learned();
+    let answer = match call {
+        Call::Offer => return (None, node.offer().then_some(Label::Offers(me))),
+        Call::Start => node.start().ok(),
+        Call::Propose => node.propose(),
+        Call::On(message) => node.on(&message),
+    };
+    let label = match (answer, before, node.learned()) {
+        (Some(message), _, _) => Some(label_of(me, message)),
+        (None, None, Some(value)) => Some(Label::Learns(me, u16::from(value))),
+        _ => None,
+    };
+    (answer, label)
+}
+
+/// The step of node `me` by which the message is sent.
+fn label_of(me: u8, message: Msg) -> Label {
+    match message {
+        Msg::Prepare(ballot) => Label::Starts(me, ballot),
+        Msg::Promise(_, ballot, _) => Label::Promises(me, ballot),
+        Msg::Propose(ballot, value) => Label::Proposes(ballot, value),
+        Msg::Accepted(_, ballot, value) => Label::Accepts(me, ballot, value),
+    }
+}
+
+/// The step that the call asks of node `me`, where the node knows all that the step needs.
+fn step_asked(me: u8, call: Call) -> Option<Label> {
+    match call {
+        Call::Offer => Some(Label::Offers(me)),
+        Call::On(Msg::Prepare(ballot)) => Some(Label::Promises(me, ballot)),
+        Call::On(Msg::Propose(ballot, value)) => Some(Label::Accepts(me, ballot, value)),
+        _ => None,
+    }
+}
+
+/// Mostly a recent message is handed over, at times an old one.
+fn random_turn(words: &mut Pcg32, sent: &[Msg]) -> Turn {
+    match words.next_word() % 512 {
+        0 => Turn::Restart,
+        1 if words.next_word() % 4 == 0 => Turn::Reopen,
+        2..=9 => Turn::Call(Call::Offer),
+        10..=13 => Turn::Call(Call::Start),
+        14..=63 => Turn::Call(Call::Propose),
+        64..=127 => hand_one_of(words, sent, sent.len()),
+        _ => hand_one_of(words, sent, sent.len().min(12)),
+    }
+}
+
+/// Hands over one of the newest messages.
+fn hand_one_of(words: &mut Pcg32, sent: &[Msg], newest: usize) -> Turn {
+    match sent.get(place_below(words, newest)) {
+        Some(message) => Turn::Call(Call::On(*message)),
+        None => Turn::Call(Call::Start),
+    }
+}
+
+/// A place below the count, 0 where there is none.
+fn place_below(words: &mut Pcg32, count: usize) -> usize {
+    words.next_word() as usize % count.max(1)
+}
+
+/// Plays one schedule of so many turns, if the nodes and the reference agree in all. Whether a value was learned.
+fn play(alloc: Global, count: u8, stream: u64, turns: u16) -> Option<bool>
+    requires { (count ≡ 3) ⊎ (count ≡ 5) ⊎ (count ≡ 7) }
+{
+    let mut words = Pcg32::new(1, stream);
+    let mut room = Room::new(alloc, count)?;
+    for _ in 0..turns {
+        room.turn(alloc, &mut words)?;
+    }
+    Some(room.learned.is_some())
+}
+
+/// Plays schedules, one for each stream of the generator, and tells whether in more than half of them a value is learned.
+fn played(alloc: Global, count: u8, streams: u16, turns: u16) -> Option<String>
+    requires { (count ≡ 3) ⊎ (count ≡ 5) ⊎ (count ≡ 7) }
+{
+    let mut learned = 0u16;
+    for stream in 0..streams {
+        match play(alloc, count, u64::from(stream), turns) {
+            Some(true) => learned = learned.saturating_add(1),
+            Some(false) => {}
+            None => return numbered(alloc, "differs in ", u64::from(stream)),
+        }
+    }
+    if learned > streams / 2 {
+        return owned(alloc, "learned");
+    }
+    numbered(alloc, "learned in ", u64::from(learned))
+}
+
+/// What is told of random schedules of so many nodes, streams and turns.
+pub fn random_told(alloc: Global, question: &str) -> Option<String> {
+    let counts = numbers(alloc, question, ' ')?;
+    match counts.as_slice() {
+        [3, streams, turns] => played(alloc, 3, *streams, *turns),
+        [5, streams, turns] => played(alloc, 5, *streams, *turns),
+        [7, streams, turns] => played(alloc, 7, *streams, *turns),
+        _ => None,
+    }
+}

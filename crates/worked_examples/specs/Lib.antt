@@ -1,4 +1,0 @@
-pub mod ToyLanguage
-pub mod ToyLanguageLaws
-pub mod ToyPass
-pub mod ToyPassLaws
