@@ -13,7 +13,7 @@ ghost use Rattle.chains.specs.Offered.{AllGoOn, linked_offers};
 ghost use Rattle.chains.specs.Refused.{IsNoMemory, IsRefused, IsUnlinked};
 
 use crate::errors::CompileError;
-use crate::makers::Maker;
+use crate::makers::{Maker, offers_of};
 use crate::offering::Offers;
 use alloc_pass::Alloc;
 use c_checker::CProgram;
@@ -26,17 +26,17 @@ use linker::{LinkError, translated};
 use std::alloc::Global;
 
 /// The offers of each function, in order.
-fn all_offers<M: Maker>(
+fn all_offers(
     alloc: Global,
     functions: &[Named<rtl::Function>],
-    maker: &mut M,
+    maker: &mut Maker,
 ) -> Result<Vec<Offers>, CompileError>
     ensures chained { IfOk result (λ offers. AllGoOn (map named_seen functions.now) offers.items) }
     ensures refused { All (λ f. f.function.registers ≤ 2048) (map named_seen functions.now) → IfErr result IsNoMemory }
 {
     let mut offers = Vec::with_capacity(alloc, functions.len())?;
     for number in 0..functions.len() {
-        offers.push(maker.offers_of(alloc, &functions[number].function)?)?;
+        offers.push(offers_of(alloc, &functions[number].function, maker)?)?;
     }
     Ok(offers)
 }
@@ -86,10 +86,10 @@ pub fn link_offers(
 
 /// The Linear program of a checked C program by the offers that the maker makes. It keeps the meaning of the C program,
 /// whatever they are. The C program is lowered and translated once.
-pub fn compile<M: Maker>(
+pub fn compile(
     alloc: Global,
     program: &CProgram,
-    maker: &mut M,
+    maker: &mut Maker,
 ) -> Result<Program<Function>, CompileError>
     ensures keeps { IfOk result (λ made. Keeps (crun (program_tree program.now)) (linear.run (seen made))) }
     ensures same_names { IfOk result (λ made. names_of (seen made).functions ≡ names_of (low (program_tree program.now)).functions) }

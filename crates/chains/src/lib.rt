@@ -11,6 +11,6 @@ mod proposing;
 
 pub use compiling::{compile, link_offers};
 pub use errors::CompileError;
-pub use makers::{Baselines, Maker, Optimisers};
+pub use makers::Maker;
 pub use offering::{Offers, baseline_of};
 pub use proposing::{Proposed, proposed_of};

@@ -1,16 +1,13 @@
-//! Who makes the offers of a function.
+//! Who makes the offers of a function, and the four offers of one.
 
-ghost use Rattle.std.specs.Prelude.{◌≡◌, ◌≢◌, ◌≤◌, IfOk, IfErr};
+ghost use Rattle.std.specs.Prelude.{◌≡◌, ◌≢◌, ◌≤◌, Some, None, IfOk, IfErr};
 ghost use Rattle.alloc_rules.specs.Rules.{IsTooLarge};
 ghost use Rattle.chains.specs.Offered.{GoOnFrom};
 
 use crate::offering::{Offers, baseline_of};
 use crate::proposing::proposed_of;
-use alloc_pass::Alloc;
-use constprop_check::ConstProp;
-use cse_check::Cse;
-use lang::PassError;
-use linearize_check::Linearize;
+use lang::{Language, Oracle, Pass, PassError};
+use offers::Offer;
 use oracle_alloc::AllocOracle;
 use oracle_const::ConstOracle;
 use oracle_cse::CseOracle;
@@ -19,69 +16,99 @@ use rand_pcg::Pcg32;
 use rtl::Function;
 use std::alloc::Global;
 
-/// What makes the four offers of each function. Passes 1 and 2 keep the number of registers, whatever they accept, so
-/// pass 3 refuses only what has too many from the start.
-pub trait Maker {
-    /// The offers of a function, each on the output of the one before it.
-    fn offers_of(&mut self, alloc: Global, function: &Function) -> Result<Offers, PassError>
-        ensures chained { IfOk result (λ offers. GoOnFrom function.now offers) }
-        ensures refused { IfErr result (λ e. e ≢ PassError.NoMemory → IsTooLarge function.now) };
-}
-
-/// The baselines of all passes: nothing is chosen.
+/// Who makes the offers: the baselines of all passes, where there are no words, or their optimisers, which draw their
+/// choices from the words. It counts how many of the offers were the optimisers'; the others are baselines'.
 #[derive(Drop)]
-pub struct Baselines;
-
-impl Maker for Baselines {
-    fn offers_of(&mut self, alloc: Global, function: &Function) -> Result<Offers, PassError> {
-        let constants = baseline_of::<ConstProp>(alloc, function)?;
-        constants.validated();
-        let expressions = baseline_of::<Cse>(alloc, constants.output())?;
-        expressions.validated();
-        let allocation = baseline_of::<Alloc>(alloc, expressions.output())?;
-        let order = baseline_of::<Linearize>(alloc, allocation.output())?;
-        Ok(Offers {
-            constants,
-            expressions,
-            allocation,
-            order,
-        })
-    }
-}
-
-/// The optimisers of all passes, which draw their choices from `words`. It counts how many of the offers were theirs; the
-/// others are baselines'.
-#[derive(Drop)]
-pub struct Optimisers {
-    pub words: Pcg32,
+pub struct Maker {
+    pub words: Option<Pcg32>,
     pub proposals: u64,
 }
 
-fn one_if(is_proposal: bool) -> u64
-    ensures { result ≤ 1 }
-{
-    if is_proposal { 1 } else { 0 }
+impl Maker {
+    /// The baselines of all passes: nothing is chosen.
+    pub fn baselines() -> Maker
+        ensures words { result.words ≡ None }
+        ensures none { result.proposals ≡ 0 }
+    {
+        Maker {
+            words: None,
+            proposals: 0,
+        }
+    }
+
+    /// The optimisers of all passes.
+    pub fn optimisers(words: Pcg32) -> Maker
+        ensures words { result.words ≡ Some words }
+        ensures none { result.proposals ≡ 0 }
+    {
+        Maker {
+            words: Some(words),
+            proposals: 0,
+        }
+    }
+
+    /// An offer for the input, of the pass that the optimiser is for.
+    fn offer_of<O: Oracle>(
+        &mut self,
+        alloc: Global,
+        oracle: &mut O,
+        input: &<<O::P as Pass>::In as Language>::Fun,
+    ) -> Result<Offer<O::P>, PassError>
+        ensures input { IfOk result (λ offer. offer.input ≡ input.now) }
+
+        // Only what has no baseline is refused.
+        ensures refused { IfErr result (λ e. e ≢ PassError.NoMemory → O.P.too_large input.now) }
+    {
+        let Some(words) = &mut self.words else {
+            return baseline_of::<O::P>(alloc, input);
+        };
+        let proposed = proposed_of(alloc, oracle, input, words)?;
+        if proposed.is_proposal {
+            self.proposals = self.proposals.saturating_add(1);
+        }
+        Ok(proposed.offer)
+    }
 }
 
-impl Maker for Optimisers {
-    fn offers_of(&mut self, alloc: Global, function: &Function) -> Result<Offers, PassError> {
-        let words = &mut self.words;
-        let constants = proposed_of(alloc, &mut ConstOracle, function, words)?;
-        constants.offer.validated();
-        let expressions = proposed_of(alloc, &mut CseOracle, constants.offer.output(), words)?;
-        expressions.offer.validated();
-        let allocation = proposed_of(alloc, &mut AllocOracle, expressions.offer.output(), words)?;
-        let order = proposed_of(alloc, &mut OrderOracle, allocation.offer.output(), words)?;
-        let proposals = one_if(constants.is_proposal)
-            + one_if(expressions.is_proposal)
-            + one_if(allocation.is_proposal)
-            + one_if(order.is_proposal);
-        self.proposals = self.proposals.saturating_add(proposals);
-        Ok(Offers {
-            constants: constants.offer,
-            expressions: expressions.offer,
-            allocation: allocation.offer,
-            order: order.offer,
-        })
-    }
+/// An offer for the output of the last one, which is handed on with what was made before it. So nothing is let go at an
+/// exit whose type has many cases.
+fn behind<T: Drop, B: Pass, P: Pass<In = <B as Pass>::Out>, O: Oracle<P = P>>(
+    alloc: Global,
+    maker: &mut Maker,
+    oracle: &mut O,
+    before: T,
+    last: Offer<B>,
+) -> Result<(T, Offer<B>, Offer<P>), PassError>
+    ensures before { IfOk result (λ made. (made.0 ≡ before) × (made.1 ≡ last)) }
+    ensures input { IfOk result (λ made. made.2.input ≡ last.output) }
+    ensures refused { IfErr result (λ e. e ≢ PassError.NoMemory → P.too_large last.output) }
+{
+    let next = maker.offer_of(alloc, oracle, last.output())?;
+    Ok((before, last, next))
+}
+
+/// The four offers of a function, each on the output of the one before it. Passes 1 and 2 keep the number of registers,
+/// whatever they accept, so pass 3 refuses only what has too many from the start.
+pub(crate) fn offers_of(
+    alloc: Global,
+    function: &Function,
+    maker: &mut Maker,
+) -> Result<Offers, PassError>
+    ensures chained { IfOk result (λ offers. GoOnFrom function.now offers) }
+    ensures refused { IfErr result (λ e. e ≢ PassError.NoMemory → IsTooLarge function.now) }
+{
+    let first = maker.offer_of(alloc, &mut ConstOracle, function)?;
+    first.validated();
+    let (_, first, second) = behind(alloc, maker, &mut CseOracle, (), first)?;
+    second.validated();
+    let (constants, expressions, third) = behind(alloc, maker, &mut AllocOracle, first, second)?;
+    let before = (constants, expressions);
+    let (before, allocation, order) = behind(alloc, maker, &mut OrderOracle, before, third)?;
+    let (constants, expressions) = before;
+    Ok(Offers {
+        constants,
+        expressions,
+        allocation,
+        order,
+    })
 }

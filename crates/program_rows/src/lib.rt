@@ -5,5 +5,5 @@
 mod answers;
 mod row;
 
-pub use answers::{Answers, compare, numbered, owned};
+pub use answers::{Answers, agrees, compare, numbered, owned, parts_of_row};
 pub use row::{Form, Row, bytes_of, row_of};

@@ -31,7 +31,7 @@ mod slots;
 mod validations;
 
 use crate::rows::Rows;
-use crate::validations::Validations;
+use crate::validations::tell_validations;
 use program_rows::compare;
 use std::io;
 use std::sync::Wait;
@@ -46,5 +46,5 @@ pub fn tell<R: Threads + Wait + Sync>(rt: &HostRuntime, threads: &R) -> io::Resu
     compare(rt, "linearized.txt", &mut Rows::Linearized)?;
     compare(rt, "orders.txt", &mut Rows::Orders)?;
     compare(rt, "linked.txt", &mut Rows::Linked)?;
-    compare(rt, "validations.txt", &mut Validations { threads })
+    tell_validations(rt, threads)
 }

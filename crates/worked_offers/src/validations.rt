@@ -6,20 +6,18 @@ use cse_check::Cse;
 use lang::Pass;
 use linearize_check::Linearize;
 use parallel_validate::{Gate, Job, OpenGate, check_all};
-use program_rows::{Answers, bytes_of, owned};
+use program_rows::{agrees, bytes_of, owned, parts_of_row};
 use std::alloc::Global;
 use std::sync::Wait;
 use std::sync::atomic::{AtomicBool, Ordering};
 use std::thread::{self, Threads};
+use std::{fs, io};
+
+/// The file of the rows.
+const NAME: &str = "validations.txt";
 
 /// How often the first job looks for the answer of the second.
 const LOOKS: u32 = 1_000_000;
-
-/// Answers questions about many validations, on threads.
-#[derive(Drop)]
-pub struct Validations<'a, R> {
-    pub threads: &'a R,
-}
 
 /// So many jobs: one that the pass accepts, one that it refuses, and so on in turn.
 fn in_turn<P: Pass>(
@@ -142,31 +140,37 @@ where
     )
 }
 
-impl<R: Threads + Wait + Sync> Answers for Validations<'_, R> {
-    fn answer(&mut self, alloc: Global, question: &str, _row: u64) -> Option<String> {
-        let words: Vec<&str> = question.split(' ').collect(alloc).ok()?;
-        let [kind, count, most, accepted, refused] = words.as_slice() else {
-            return None;
-        };
-        let counts = (count.parse().ok()?, most.parse().ok()?);
-        match *kind {
-            "constants" => many_told::<ConstProp, R>(
-                self.threads,
-                alloc,
-                counts,
-                accepted,
-                refused,
-            ),
-            "subexpressions" => many_told::<Cse, R>(self.threads, alloc, counts, accepted, refused),
-            "linearized" => many_told::<Linearize, R>(
-                self.threads,
-                alloc,
-                counts,
-                accepted,
-                refused,
-            ),
-            "met" => met_told::<ConstProp, R>(self.threads, alloc, accepted, refused),
-            _ => None,
+/// The answer to a question about many validations.
+fn answer<R: Threads + Wait + Sync>(threads: &R, alloc: Global, question: &str) -> Option<String> {
+    let words: Vec<&str> = question.split(' ').collect(alloc).ok()?;
+    let [kind, count, most, accepted, refused] = words.as_slice() else {
+        return None;
+    };
+    let counts = (count.parse().ok()?, most.parse().ok()?);
+    match *kind {
+        "constants" => many_told::<ConstProp, R>(threads, alloc, counts, accepted, refused),
+        "subexpressions" => many_told::<Cse, R>(threads, alloc, counts, accepted, refused),
+        "linearized" => many_told::<Linearize, R>(threads, alloc, counts, accepted, refused),
+        "met" => met_told::<ConstProp, R>(threads, alloc, accepted, refused),
+        _ => None,
+    }
+}
+
+/// Tells how many rows are answered as they say, on threads.
+pub fn tell_validations<R: Threads + Wait + Sync>(rt: &HostRuntime, threads: &R) -> io::Result<()> {
+    let text = fs::read_to_string(rt, NAME)?;
+    let mut all = 0u64;
+    let mut agree = 0u64;
+    for line in text.lines() {
+        if line.starts_with('#') {
+            continue;
+        }
+        all = all.saturating_add(1);
+        let (question, _said) = parts_of_row(line);
+        let told = answer(threads, rt.alloc(), question);
+        if agrees(rt, NAME, line, all, told)? {
+            agree = agree.saturating_add(1);
         }
     }
+    println!(rt; "{NAME}: {agree} of {all} agree")
 }

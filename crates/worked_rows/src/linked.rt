@@ -22,10 +22,10 @@ fn ran(alloc: Global, program: &Program<linear::Function>) -> Result<Told, Alloc
 }
 
 /// What the linked program of a C program prints, and how its run stands.
-pub fn linked<M: Maker>(
+pub fn linked(
     alloc: Global,
     program: &CProgram,
-    maker: &mut M,
+    maker: &mut Maker,
 ) -> Result<Told, AllocError> {
     match compile(alloc, program, maker) {
         Ok(made) => ran(alloc, &made),

@@ -20,7 +20,7 @@ use crate::told::{Told, told_of};
 use crate::translated::translated;
 use c_checker::CProgram;
 use c_text::accept;
-use chains::{Baselines, Optimisers};
+use chains::Maker;
 use program_rows::{Form, Row, row_of};
 use rand_pcg::Pcg32;
 use std::alloc::{AllocError, Global};
@@ -95,7 +95,7 @@ fn compiled_difference(
     if !is_told(&told, row) {
         return Ok(Some(format!(in alloc; "translated: {}", told.closing)?));
     }
-    let told = linked(alloc, &program, &mut Baselines)?;
+    let told = linked(alloc, &program, &mut Maker::baselines())?;
     if !is_told(&told, row) {
         return Ok(Some(format!(in alloc; "linked: {}", told.closing)?));
     }
@@ -114,10 +114,7 @@ fn chained(
     seed: u64,
     tally: &mut Tally,
 ) -> Result<Told, AllocError> {
-    let mut maker = Optimisers {
-        words: Pcg32::new(seed, 0),
-        proposals: 0,
-    };
+    let mut maker = Maker::optimisers(Pcg32::new(seed, 0));
     let told = linked(alloc, program, &mut maker)?;
     let offers = (program.functions().len() as u64).saturating_mul(4);
     tally.offers = tally.offers.saturating_add(offers);

@@ -10,7 +10,7 @@ use Rattle.chains.proofs.Registers.{few_at}
 use Rattle.chains.proofs.compiling.all_offers.Goals as goal
 
 pub loop-number-preserved : goal.loop-number-preserved
-loop-number-preserved g c =
+loop-number-preserved c =
     let done = c.loop-number in
     let goes = subst (λ f. GoOnFrom f.function c.in_ok-offers_of.field-0) (sym c.index-functions-number.is) c.in_ok-offers_of.ensures.chained in
     let more = go_on_next c.args.functions.now done.number done.offers.items c.index-functions-number.result c.in_ok-offers_of.field-0
@@ -18,7 +18,7 @@ loop-number-preserved g c =
     rw c.in_ok-push.ensures.items (simp unary_clauses more)
 
 pub returns-in_err-offers_of-clause-refused : goal.returns-in_err-offers_of-clause-refused
-returns-in_err-offers_of-clause-refused g c = λ small.
+returns-in_err-offers_of-clause-refused c = λ small.
     let f = c.index-functions-number.result in
     let few = few_at c.args.functions.now c.loop-number.number f c.loop-number-test.true c.index-functions-number.is small in
     let p = err_from_is_err_and c.from_residual-in_err-offers_of.result c.from_residual-in_err-offers_of.ensures.1 in

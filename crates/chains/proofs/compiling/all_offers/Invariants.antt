@@ -5,4 +5,4 @@ use Rattle.chains.proofs.compiling.all_offers.Given as goal
 
 -- the first functions have offers that chain
 abbrev pub invariant-loop-number : goal.invariant-loop-number
-invariant-loop-number g l = AllGoOn (map named_seen (take l.number l.functions)) l.offers.items
+invariant-loop-number l = AllGoOn (map named_seen (take l.number l.functions)) l.offers.items

@@ -11,19 +11,19 @@ use Rattle.chains.proofs.Memory.{memory_refused}
 use Rattle.chains.proofs.compiling.compile.Goals as goal
 
 pub returns-clause-keeps : goal.returns-clause-keeps
-returns-clause-keeps g c = c.keeps_composes.ensures _ _ _ c.in_ok-begun.ensures.keeps c.in_ok-made.ensures.keeps
+returns-clause-keeps c = c.keeps_composes.ensures _ _ _ c.in_ok-begun.ensures.keeps c.in_ok-made.ensures.keeps
 
 pub returns-clause-same_names : goal.returns-clause-same_names
-returns-clause-same_names g c = c.in_ok-made.ensures.same_names ∙ c.in_ok-begun.ensures.same_names
+returns-clause-same_names c = c.in_ok-made.ensures.same_names ∙ c.in_ok-begun.ensures.same_names
 
 pub returns-in_err-offers-clause-refused : goal.returns-in_err-offers-clause-refused
-returns-in_err-offers-clause-refused g c =
+returns-in_err-offers-clause-refused c =
     let small = subst (λ fs. All (λ f. f.function.registers ≤ 2048) (map named_seen fs)) (sym c.as_slice.ensures.value) c.in_ok-begun.ensures.small in
     let p = err_from_is_err_and c.from_residual-in_err-offers.result c.from_residual-in_err-offers.ensures.1 in
     rw (p.1, p.2) (memory_refused (low (program_tree c.args.program.now)) c.in_err-offers.field-0.0 (c.in_err-offers.ensures.refused small))
 
 pub returns-in_err-made-clause-refused : goal.returns-in_err-made-clause-refused
-returns-in_err-made-clause-refused g c =
+returns-in_err-made-clause-refused c =
     let begun = subst (λ fs. AllGoOn (map named_seen fs) c.in_ok-offers.offers.items) c.as_slice.ensures.value c.in_ok-offers.ensures.chained in
     let all = subst (λ os. AllGoOn (map named_seen c.in_ok-begun.begun.functions.items) os) (sym c.deref.ensures.value) begun in
     let p = err_from_is_err_and c.from_residual-in_err-made.result c.from_residual-in_err-made.ensures.1 in

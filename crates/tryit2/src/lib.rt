@@ -1,4 +1,0 @@
-//! Tries.
-#![tactic(auto)]
-pub mod linked;
-pub mod proposing;
