@@ -9,7 +9,7 @@ Inputs of the check: `plain`, 40 equations at each node and one move in each blo
 and 255 moves before and behind each block's instruction, the most that a block can have. Inputs of the
 optimiser: `chain`, each register defined and used soon after, with loops; `live`, almost each register live
 at almost each node; `tangle`, each fourth node a branch to a node drawn by chance. Build the program first:
-`rt run` in crates/measure. Milliseconds are those of the calls alone.
+`bench/measure.py`. Milliseconds are those of the calls alone.
 """
 import argparse
 import os

@@ -114,7 +114,7 @@ def main():
     words.add_argument("--keep")
     given = words.parse_args()
     if not os.path.exists(given.program):
-        sys.exit("build the program first: cd crates/measure && rt run")
+        sys.exit("build the program first: bench/measure.py")
     makers = [given.by] if given.by else ["baselines", "optimisers"]
     ours = {by: [] for by in makers}
     others = {"gcc -O0": [], "tcc": []}

@@ -225,7 +225,7 @@ def main():
     words.add_argument("--program", default=os.path.join(ROOT, "crates/measure/out/measure"))
     given = words.parse_args()
     if not os.path.exists(given.program):
-        sys.exit("build the program first: cd crates/measure && rt run")
+        sys.exit("build the program first: bench/measure.py")
     with tempfile.TemporaryDirectory() as scratch:
         twin = os.path.join(scratch, "linear_twin")
         subprocess.run(["rustc", "-O", "--edition", "2024", "-o", twin, os.path.join(ROOT, "bench/linear_twin.rs")], check=True)

@@ -148,7 +148,7 @@ def main():
     words.add_argument("--keep")
     given = words.parse_args()
     if not os.path.exists(given.program):
-        sys.exit("build the program first: cd crates/measure && rt run")
+        sys.exit("build the program first: bench/measure.py")
     print(f"{'program':10} {'RTL s':>8} {'Lua s':>8} {'times':>6}")
     with tempfile.TemporaryDirectory() as scratch:
         for name, make, text, sizes in ROWS:

@@ -134,7 +134,7 @@ def main():
     words.add_argument("--keep")
     given = words.parse_args()
     if not os.path.exists(given.program):
-        sys.exit("build the program first: cd crates/measure && rt run")
+        sys.exit("build the program first: bench/measure.py")
     print(f"{'shape':8} {'bytes':>9} {'tokens':>9} {'lexer s':>8} {'MB/s':>6} {'both s':>7} {'MB/s':>6} {'peak MB':>8} {'floor s':>8}")
     with tempfile.TemporaryDirectory() as scratch:
         folder = given.keep or scratch

@@ -68,7 +68,7 @@ def main():
     words.add_argument("--program", default=os.path.join(ROOT, "crates/measure/out/measure"))
     given = words.parse_args()
     if not os.path.exists(given.program):
-        sys.exit("build the program first: cd crates/measure && rt run")
+        sys.exit("build the program first: bench/measure.py")
     with tempfile.NamedTemporaryFile() as file:
         file.write(offer(given.nodes))
         file.flush()
