@@ -22,11 +22,7 @@ fn ran(alloc: Global, program: &Program<linear::Function>) -> Result<Told, Alloc
 }
 
 /// What the linked program of a C program prints, and how its run stands.
-pub fn linked(
-    alloc: Global,
-    program: &CProgram,
-    maker: &mut Maker,
-) -> Result<Told, AllocError> {
+pub fn linked(alloc: Global, program: &CProgram, maker: &mut Maker) -> Result<Told, AllocError> {
     match compile(alloc, program, maker) {
         Ok(made) => ran(alloc, &made),
         Err(fault) => Ok(Told {
