@@ -1,0 +1,192 @@
+//! A disk in memory, which can fail, crash and tear writes.
+
+ghost use Rattle.std.specs.Prelude.{◌≡◌, [], length, sum_by};
+ghost use Rattle.durable_model.specs.History.{size_of, noted, seen_after};
+
+use crate::call::{Call, keep, note};
+use crate::disk::Disk;
+use crate::error::{DiskError, failed};
+use crate::overwriting::overwrite;
+use crate::replaying::torn_image;
+use lang::NoMemory;
+use rand_pcg::Pcg32;
+use std::alloc::Global;
+
+/// An honest disk in memory. It notes each call, so that what a crash at any past moment might have left is known.
+#[derive(Drop)]
+pub struct MemoryDisk {
+    /// What it held at first, all of it synced.
+    first: Vec<u8>,
+    /// What a read gives.
+    bytes: Vec<u8>,
+    /// The calls so far, in order; its capacity is the room for them.
+    calls: Vec<Call>,
+    /// The bytes of the writes that were done, one after another; its capacity is the room for them.
+    written: Vec<u8>,
+    /// How many calls stand up to the last sync.
+    synced: usize,
+    /// Which call is to fail, counted from 1.
+    fails: usize,
+    failures: u64,
+    ghost kept: { bytes.items ≡ seen_after (noted calls.items written.items []) first.items },
+    ghost whole: { sum_by size_of calls.items ≡ length written.items },
+}
+
+impl MemoryDisk {
+    ghost use Rattle.std.specs.Prelude.{◌≡◌, ◌<◌, ◌≤◌, ◌+◌, [], ◌∷◌, vec_len, vec_capacity, IsTrue, IfOk};
+    ghost use Rattle.durable_model.specs.History.{size_of};
+    ghost use Rattle.durable_model.specs.Memory.{history, Notes, seen_by_memory, memory_may_leave, IsSettled, HasRoom};
+
+    /// An empty disk with room for so many calls, and for so many bytes in its writes. A call past it is a failure
+    /// of the device.
+    pub fn new(alloc: Global, calls: usize, bytes: usize) -> Result<MemoryDisk, NoMemory>
+        ensures empty { IfOk result (λ disk. seen_by_memory disk ≡ []) }
+        ensures settled { IfOk result IsSettled }
+        ensures room { IfOk result (HasRoom calls bytes) }
+        ensures whole { IfOk result (λ disk. disk.failures ≡ 0) }
+    {
+        MemoryDisk::holding(alloc, Vec::new(alloc), calls, bytes)
+    }
+
+    /// A disk that holds these bytes, all of them synced.
+    fn holding(
+        alloc: Global,
+        content: Vec<u8>,
+        calls: usize,
+        bytes: usize,
+    ) -> Result<MemoryDisk, NoMemory>
+        ensures seen { IfOk result (λ disk. seen_by_memory disk ≡ content.items) }
+        ensures settled { IfOk result IsSettled }
+        ensures room { IfOk result (HasRoom calls bytes) }
+        ensures whole { IfOk result (λ disk. disk.failures ≡ 0) }
+    {
+        Ok(MemoryDisk {
+            first: content.to_vec(alloc)?,
+            bytes: content,
+            calls: Vec::with_capacity(alloc, calls)?,
+            written: Vec::with_capacity(alloc, bytes)?,
+            synced: 0,
+            fails: 0,
+            failures: 0,
+        })
+    }
+
+    /// Lets its nth call fail, counted from the first after it was made; there is no call 0. A write that fails so
+    /// may tear its range.
+    pub fn fail_at(&mut self, n: usize)
+        ensures { self.new ≡ record self.old { fails = n } }
+    {
+        self.fails = n;
+    }
+
+    /// A disk that a crash now may leave, with as much room anew, and with no call that is to fail. Each write that
+    /// was not synced is lost, done, mixed with what was there, or garbage, as the words choose.
+    pub fn crash(&self, alloc: Global, words: &mut Pcg32) -> Result<MemoryDisk, NoMemory>
+        ensures image { IfOk result (λ disk. memory_may_leave self.now (seen_by_memory disk)) }
+        ensures settled { IfOk result IsSettled }
+        ensures room { IfOk result (HasRoom (vec_capacity self.now.calls) (vec_capacity self.now.written)) }
+        ensures whole { IfOk result (λ disk. disk.failures ≡ 0) }
+    {
+        let image = torn_image(
+            alloc,
+            &self.first,
+            &self.calls,
+            &self.written,
+            self.synced,
+            words,
+        )?;
+        MemoryDisk::holding(alloc, image, self.calls.capacity(), self.written.capacity())
+    }
+
+    /// Notes a call that wrote nothing.
+    fn note_call(&mut self, call: Call)
+        requires room { vec_len self.old.calls < vec_capacity self.old.calls }
+        requires nothing { size_of call ≡ 0 }
+        ensures notes { Notes call [] self.old self.new }
+        ensures bytes { self.new.bytes ≡ self.old.bytes }
+        ensures failures { self.new.failures ≡ self.old.failures }
+    {
+        note(&mut self.calls, call);
+    }
+
+    fn fails_now(&self) -> bool {
+        self.fails != 0 && self.calls.len() == self.fails - 1
+    }
+
+    fn has_room(&self, bytes: usize) -> bool
+        ensures calls { IsTrue result → vec_len self.now.calls < vec_capacity self.now.calls }
+        ensures bytes { IsTrue result → vec_len self.now.written + bytes ≤ vec_capacity self.now.written }
+    {
+        self.calls.len() < self.calls.capacity()
+            && bytes <= self.written.capacity() - self.written.len()
+    }
+}
+
+impl Disk for MemoryDisk {
+    ghost use Rattle.std.specs.Prelude.{length, ⊤};
+    ghost use Rattle.durable_model.specs.History.{MayLeave, LeftSince};
+    ghost use Rattle.durable_model.specs.Memory.{history, left_as_kept, counts_as_kept, only_as_kept};
+
+    ghost is_honest = { λ _. ⊤ };
+
+    ghost seen = { λ d. d.bytes.items };
+
+    ghost may_leave = { λ d. MayLeave (history d) d.first.items };
+
+    ghost moment = { λ d. length (history d) };
+
+    ghost left_since = { λ d. LeftSince (history d) d.first.items };
+
+    ghost faults = { λ d. d.failures };
+
+    ghost left_as_seen = { λ d _. left_as_kept d };
+
+    ghost counts_now = { λ d t c _. counts_as_kept d t c };
+
+    ghost only_now = { λ d c _. only_as_kept d c };
+
+    fn read(&mut self, alloc: Global) -> Result<Vec<u8>, DiskError> {
+        if !self.has_room(0) {
+            return Err(failed(&mut self.failures));
+        }
+        if self.fails_now() {
+            self.note_call(Call::Left);
+            return Err(failed(&mut self.failures));
+        }
+        let bytes = self.bytes.to_vec(alloc)?;
+        self.note_call(Call::Left);
+        Ok(bytes)
+    }
+
+    fn write_at(&mut self, at: u64, bytes: &[u8]) -> Result<(), DiskError> {
+        let at = at as usize;
+        if !self.has_room(bytes.len()) {
+            return Err(failed(&mut self.failures));
+        }
+        if self.fails_now() {
+            self.note_call(Call::Tore(at, bytes.len()));
+            return Err(failed(&mut self.failures));
+        }
+        overwrite(&mut self.bytes, at, bytes)?;
+        keep(&mut self.written, bytes);
+        note(&mut self.calls, Call::Wrote(at, bytes.len()));
+        Ok(())
+    }
+
+    fn sync(&mut self) -> Result<(), DiskError> {
+        if !self.has_room(0) {
+            return Err(failed(&mut self.failures));
+        }
+        if self.fails_now() {
+            self.note_call(Call::Left);
+            return Err(failed(&mut self.failures));
+        }
+        self.note_call(Call::Synced);
+        self.synced = self.calls.len();
+        Ok(())
+    }
+
+    fn failures(&self) -> u64 {
+        self.failures
+    }
+}
