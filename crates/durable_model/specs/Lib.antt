@@ -4,3 +4,4 @@ pub mod Moments
 pub mod History
 pub mod Memory
 pub mod Growth
+pub mod RealFile

@@ -16,6 +16,10 @@ history disk = noted disk.calls.items disk.written.items []
 abbrev pub seen_by_memory : MemoryDisk → List ℕ
 seen_by_memory disk = disk.bytes.items
 
+-- how many calls have failed
+abbrev pub memory_faults : MemoryDisk → ℕ
+memory_faults disk = disk.failures
+
 -- what a crash now may leave
 abbrev pub memory_may_leave : MemoryDisk → List ℕ → Type 0
 memory_may_leave disk = MayLeave (history disk) disk.first.items

@@ -5,6 +5,7 @@
 mod call;
 mod disk;
 mod error;
+mod file;
 mod memory;
 mod overwriting;
 mod replaying;
@@ -12,4 +13,5 @@ mod tearing;
 
 pub use disk::Disk;
 pub use error::DiskError;
+pub use file::FileDisk;
 pub use memory::MemoryDisk;

@@ -35,7 +35,7 @@ pub struct MemoryDisk {
 impl MemoryDisk {
     ghost use Rattle.std.specs.Prelude.{◌≡◌, ◌<◌, ◌≤◌, ◌+◌, [], ◌∷◌, vec_len, vec_capacity, IsTrue, IfOk};
     ghost use Rattle.durable_model.specs.History.{size_of};
-    ghost use Rattle.durable_model.specs.Memory.{history, Notes, seen_by_memory, memory_may_leave, IsSettled, HasRoom};
+    ghost use Rattle.durable_model.specs.Memory.{history, Notes, seen_by_memory, memory_may_leave, memory_faults, IsSettled, HasRoom};
 
     /// An empty disk with room for so many calls, and for so many bytes in its writes. A call past it is a failure
     /// of the device.
@@ -43,7 +43,7 @@ impl MemoryDisk {
         ensures empty { IfOk result (λ disk. seen_by_memory disk ≡ []) }
         ensures settled { IfOk result IsSettled }
         ensures room { IfOk result (HasRoom calls bytes) }
-        ensures whole { IfOk result (λ disk. disk.failures ≡ 0) }
+        ensures whole { IfOk result (λ disk. memory_faults disk ≡ 0) }
     {
         MemoryDisk::holding(alloc, Vec::new(alloc), calls, bytes)
     }
@@ -58,7 +58,7 @@ impl MemoryDisk {
         ensures seen { IfOk result (λ disk. seen_by_memory disk ≡ content.items) }
         ensures settled { IfOk result IsSettled }
         ensures room { IfOk result (HasRoom calls bytes) }
-        ensures whole { IfOk result (λ disk. disk.failures ≡ 0) }
+        ensures whole { IfOk result (λ disk. memory_faults disk ≡ 0) }
     {
         Ok(MemoryDisk {
             first: content.to_vec(alloc)?,
@@ -85,7 +85,7 @@ impl MemoryDisk {
         ensures image { IfOk result (λ disk. memory_may_leave self.now (seen_by_memory disk)) }
         ensures settled { IfOk result IsSettled }
         ensures room { IfOk result (HasRoom (vec_capacity self.now.calls) (vec_capacity self.now.written)) }
-        ensures whole { IfOk result (λ disk. disk.failures ≡ 0) }
+        ensures whole { IfOk result (λ disk. memory_faults disk ≡ 0) }
     {
         let image = torn_image(
             alloc,
