@@ -1,5 +1,5 @@
 -- What a disk in memory stands for.
-use Rattle.std.specs.Prelude.{◌≡◌, ◌≤◌, ℕ, List, [], ◌∷◌, ◌++◌, length, vec_capacity, refl}
+use Rattle.std.specs.Prelude.{◌≡◌, ◌≤◌, ℕ, List, [], ◌∷◌, ◌++◌, length, refl, ◌⊎◌, ◌<◌, ◌+◌}
 use Rattle.std.proofs.Common.{sym, ◌∙◌, ap, subst, arith, length-append}
 use Rattle.std.proofs.lemmas.List.{nil_from_length}
 use Rattle.durable_model.specs.declared.call.Call.{Call}
@@ -29,10 +29,48 @@ pub record IsSettled (disk : MemoryDisk) : Type 0 where
   pub no_call : history disk ≡ []
   pub settled : disk.first.items ≡ disk.bytes.items
 
+-- how many calls stand in the record, and how many bytes of their writes
+abbrev pub calls_made : MemoryDisk → ℕ
+calls_made disk = length disk.calls.items
+
+abbrev pub bytes_noted : MemoryDisk → ℕ
+bytes_noted disk = length disk.written.items
+
 -- there is room for so many calls, and for so many bytes in their writes
 pub record HasRoom (calls bytes : ℕ) (disk : MemoryDisk) : Type 0 where
-  pub for_calls : vec_capacity disk.calls ≡ calls
-  pub for_bytes : vec_capacity disk.written ≡ bytes
+  pub for_calls : disk.call_room ≡ calls
+  pub for_bytes : disk.byte_room ≡ bytes
+
+-- a call that writes so many bytes is past the room
+abbrev pub IsPastRoom : ℕ → MemoryDisk → Type 0
+IsPastRoom bytes disk = (disk.call_room ≤ calls_made disk) ⊎ (disk.byte_room < bytes_noted disk + bytes)
+
+-- call number n is to fail, counted from 1
+abbrev pub FailsAt : ℕ → MemoryDisk → Type 0
+FailsAt n disk = disk.fails ≡ n
+
+-- the rooms are as they were
+pub record KeepsRoom (old new : MemoryDisk) : Type 0 where
+  pub for_calls : new.call_room ≡ old.call_room
+  pub for_bytes : new.byte_room ≡ old.byte_room
+
+-- but for the call that is to fail all is as it was
+pub record SameButFails (old new : MemoryDisk) : Type 0 where
+  pub history_is : history new ≡ history old
+  pub first_is : new.first ≡ old.first
+  pub bytes_is : new.bytes ≡ old.bytes
+  pub made : calls_made new ≡ calls_made old
+  pub noted : bytes_noted new ≡ bytes_noted old
+  pub faults : new.failures ≡ old.failures
+  pub room : KeepsRoom old new
+
+-- but for what the record says of calls all is as it was
+pub record SameButCalls (old new : MemoryDisk) : Type 0 where
+  pub bytes_is : new.bytes ≡ old.bytes
+  pub noted : bytes_noted new ≡ bytes_noted old
+  pub same_call : new.fails ≡ old.fails
+  pub faults : new.failures ≡ old.failures
+  pub room : KeepsRoom old new
 
 -- it has noted this call, with what it wrote, and nothing else
 pub record Notes (call : Call) (bytes : List ℕ) (old new : MemoryDisk) : Type 0 where

@@ -18,7 +18,8 @@ pub enum Call {
 /// Notes a call where there is room for it.
 pub(crate) fn note(calls: &mut Vec<Call>, call: Call)
     requires { vec_len calls.old < vec_capacity calls.old }
-    ensures { calls.new.items ≡ calls.old.items ++ call ∷ [] }
+    ensures noted { calls.new.items ≡ calls.old.items ++ call ∷ [] }
+    ensures capacity { vec_capacity calls.old ≤ vec_capacity calls.new }
 {
     let _ = calls.push(call);
 }
@@ -26,7 +27,8 @@ pub(crate) fn note(calls: &mut Vec<Call>, call: Call)
 /// Keeps the bytes of a write where there is room for them.
 pub(crate) fn keep(written: &mut Vec<u8>, bytes: &[u8])
     requires { vec_len written.old + length bytes.now ≤ vec_capacity written.old }
-    ensures { written.new.items ≡ written.old.items ++ bytes.now }
+    ensures kept { written.new.items ≡ written.old.items ++ bytes.now }
+    ensures capacity { vec_capacity written.old ≤ vec_capacity written.new }
 {
     let _ = written.extend_from_slice(bytes);
 }

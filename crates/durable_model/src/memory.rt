@@ -1,6 +1,6 @@
 //! A disk in memory, which can fail, crash and tear writes.
 
-ghost use Rattle.std.specs.Prelude.{◌≡◌, [], length, sum_by};
+ghost use Rattle.std.specs.Prelude.{◌≡◌, ◌≤◌, [], length, sum_by, vec_capacity};
 ghost use Rattle.durable_model.specs.History.{size_of, noted, seen_after};
 
 use crate::call::{Call, keep, note};
@@ -19,10 +19,14 @@ pub struct MemoryDisk {
     first: Vec<u8>,
     /// What a read gives.
     bytes: Vec<u8>,
-    /// The calls so far, in order; its capacity is the room for them.
+    /// The calls so far, in order.
     calls: Vec<Call>,
-    /// The bytes of the writes that were done, one after another; its capacity is the room for them.
+    /// The bytes of the writes that were done, one after another.
     written: Vec<u8>,
+    /// How many calls there is room for.
+    call_room: usize,
+    /// How many bytes of writes there is room for.
+    byte_room: usize,
     /// How many calls stand up to the last sync.
     synced: usize,
     /// Which call is to fail, counted from 1.
@@ -30,12 +34,16 @@ pub struct MemoryDisk {
     failures: u64,
     ghost kept: { bytes.items ≡ seen_after (noted calls.items written.items []) first.items },
     ghost whole: { sum_by size_of calls.items ≡ length written.items },
+    ghost for_calls: { call_room ≤ vec_capacity calls },
+    ghost for_bytes: { byte_room ≤ vec_capacity written },
 }
 
 impl MemoryDisk {
-    ghost use Rattle.std.specs.Prelude.{◌≡◌, ◌<◌, ◌≤◌, ◌+◌, [], ◌∷◌, vec_len, vec_capacity, IsTrue, IfOk};
+    ghost use Rattle.std.specs.Prelude.{◌≡◌, ◌<◌, ◌≤◌, ◌↔◌, ◌+◌, [], false, IsTrue, IfOk};
     ghost use Rattle.durable_model.specs.History.{size_of};
-    ghost use Rattle.durable_model.specs.Memory.{history, Notes, seen_by_memory, memory_may_leave, memory_faults, IsSettled, HasRoom};
+    ghost use Rattle.durable_model.specs.Memory.{seen_by_memory, memory_may_leave, memory_faults, calls_made, bytes_noted};
+    ghost use Rattle.durable_model.specs.Memory.{IsSettled, HasRoom, KeepsRoom, IsPastRoom, FailsAt, Notes};
+    ghost use Rattle.durable_model.specs.Memory.{SameButFails, SameButCalls};
 
     /// An empty disk with room for so many calls, and for so many bytes in its writes. A call past it is a failure
     /// of the device.
@@ -65,6 +73,8 @@ impl MemoryDisk {
             bytes: content,
             calls: Vec::with_capacity(alloc, calls)?,
             written: Vec::with_capacity(alloc, bytes)?,
+            call_room: calls,
+            byte_room: bytes,
             synced: 0,
             fails: 0,
             failures: 0,
@@ -74,7 +84,8 @@ impl MemoryDisk {
     /// Lets its nth call fail, counted from the first after it was made; there is no call 0. A write that fails so
     /// may tear its range.
     pub fn fail_at(&mut self, n: usize)
-        ensures { self.new ≡ record self.old { fails = n } }
+        ensures fails { FailsAt n self.new }
+        ensures same { SameButFails self.old self.new }
     {
         self.fails = n;
     }
@@ -84,7 +95,7 @@ impl MemoryDisk {
     pub fn crash(&self, alloc: Global, words: &mut Pcg32) -> Result<MemoryDisk, NoMemory>
         ensures image { IfOk result (λ disk. memory_may_leave self.now (seen_by_memory disk)) }
         ensures settled { IfOk result IsSettled }
-        ensures room { IfOk result (HasRoom (vec_capacity self.now.calls) (vec_capacity self.now.written)) }
+        ensures room { IfOk result (KeepsRoom self.now) }
         ensures whole { IfOk result (λ disk. memory_faults disk ≡ 0) }
     {
         let image = torn_image(
@@ -95,30 +106,36 @@ impl MemoryDisk {
             self.synced,
             words,
         )?;
-        MemoryDisk::holding(alloc, image, self.calls.capacity(), self.written.capacity())
+        MemoryDisk::holding(alloc, image, self.call_room, self.byte_room)
     }
 
     /// Notes a call that wrote nothing.
     fn note_call(&mut self, call: Call)
-        requires room { vec_len self.old.calls < vec_capacity self.old.calls }
+        requires room { calls_made self.old < self.old.call_room }
         requires nothing { size_of call ≡ 0 }
         ensures notes { Notes call [] self.old self.new }
-        ensures bytes { self.new.bytes ≡ self.old.bytes }
-        ensures failures { self.new.failures ≡ self.old.failures }
+        ensures same { SameButCalls self.old self.new }
+        ensures made { calls_made self.new ≡ calls_made self.old + 1 }
     {
         note(&mut self.calls, call);
     }
 
-    fn fails_now(&self) -> bool {
+    /// The next call is the one that is to fail.
+    fn fails_now(&self) -> bool
+        ensures { IsTrue result ↔ FailsAt (calls_made self.now + 1) self.now }
+    {
         self.fails != 0 && self.calls.len() == self.fails - 1
     }
 
+    /// There is room for one call more, which writes so many bytes.
     fn has_room(&self, bytes: usize) -> bool
-        ensures calls { IsTrue result → vec_len self.now.calls < vec_capacity self.now.calls }
-        ensures bytes { IsTrue result → vec_len self.now.written + bytes ≤ vec_capacity self.now.written }
+        ensures yes_calls { IsTrue result → calls_made self.now < self.now.call_room }
+        ensures yes_bytes { IsTrue result → bytes_noted self.now + bytes ≤ self.now.byte_room }
+        ensures no { result ≡ false → IsPastRoom bytes self.now }
     {
-        self.calls.len() < self.calls.capacity()
-            && bytes <= self.written.capacity() - self.written.len()
+        self.calls.len() < self.call_room
+            && self.written.len() <= self.byte_room
+            && bytes <= self.byte_room - self.written.len()
     }
 }
 

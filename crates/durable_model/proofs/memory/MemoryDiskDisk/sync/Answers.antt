@@ -16,7 +16,7 @@ returns-clause-unchanged c h =
     let old = c.args.self.now in
     let notes = c.note_call-2.ensures.notes in
     record {
-      same = ap (λ b. b.items) c.note_call-2.ensures.bytes;
+      same = ap (λ b. b.items) c.note_call-2.ensures.same.bytes_is;
       nothing_new = λ image left.
           let is = noted_leaves old c.note_call-2.new.self Synced [] notes image left in
           subst (MayLeave (history old) old.first.items) (sym (is ∙ sym old.kept)) (left_as_kept old);
