@@ -49,6 +49,11 @@ pub record LeftSince (history : List (Call × List ℕ)) (first : List ℕ) (t :
   pub since : t ≤ length earlier
   pub left : MayLeave earlier first c
 
+-- on top of any calls after which a read gave `seen`, a crash leaves new of what it would have left as old
+abbrev pub Tears : Call → List ℕ → List ℕ → List ℕ → List ℕ → Type 0
+Tears call bytes seen old new = (first : List ℕ) (h : List (Call × List ℕ)) → seen ≡ seen_after h first
+    → MayLeave h first old → MayLeave ((call, bytes) ∷ h) first new
+
 -- the calls were done again behind h: what is left of the written bytes, and what a read gives
 pub record Redone (first : List ℕ) (calls : List Call) (written : List ℕ) (h : List (Call × List ℕ)) (rest seen : List ℕ) : Type 0 where
   pub through : List (Call × List ℕ)

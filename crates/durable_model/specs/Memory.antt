@@ -24,6 +24,10 @@ memory_faults disk = disk.failures
 abbrev pub memory_may_leave : MemoryDisk → List ℕ → Type 0
 memory_may_leave disk = MayLeave (history disk) disk.first.items
 
+-- what a crash might have left since t calls were made
+abbrev pub memory_left_since : MemoryDisk → ℕ → List ℕ → Type 0
+memory_left_since disk = LeftSince (history disk) disk.first.items
+
 -- no call was made, and a crash leaves what a read gives
 pub record IsSettled (disk : MemoryDisk) : Type 0 where
   pub no_call : history disk ≡ []

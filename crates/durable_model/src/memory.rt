@@ -141,20 +141,20 @@ impl MemoryDisk {
 
 impl Disk for MemoryDisk {
     ghost use Rattle.std.specs.Prelude.{length, ⊤};
-    ghost use Rattle.durable_model.specs.History.{MayLeave, LeftSince};
-    ghost use Rattle.durable_model.specs.Memory.{history, left_as_kept, counts_as_kept, only_as_kept};
+    ghost use Rattle.durable_model.specs.Memory.{history, seen_by_memory, memory_may_leave, memory_left_since, memory_faults};
+    ghost use Rattle.durable_model.specs.Memory.{left_as_kept, counts_as_kept, only_as_kept};
 
     ghost is_honest = { λ _. ⊤ };
 
-    ghost seen = { λ d. d.bytes.items };
+    ghost seen = { seen_by_memory };
 
-    ghost may_leave = { λ d. MayLeave (history d) d.first.items };
+    ghost may_leave = { memory_may_leave };
 
     ghost moment = { λ d. length (history d) };
 
-    ghost left_since = { λ d. LeftSince (history d) d.first.items };
+    ghost left_since = { memory_left_since };
 
-    ghost faults = { λ d. d.failures };
+    ghost faults = { memory_faults };
 
     ghost left_as_seen = { λ d _. left_as_kept d };
 

@@ -1,7 +1,7 @@
 //! What a crash may leave of a disk that noted its calls.
 
-ghost use Rattle.std.specs.Prelude.{◌≡◌, ℕ, List, [], ◌∷◌, take, drop, OnOk, IfOk};
-ghost use Rattle.durable_model.specs.History.{size_of, noted, after, seen_after, MayLeave, Redone};
+ghost use Rattle.std.specs.Prelude.{◌≡◌, ℕ, List, [], take, drop, OnOk, IfOk};
+ghost use Rattle.durable_model.specs.History.{size_of, noted, after, seen_after, MayLeave, Redone, Tears};
 ghost use Rattle.durable_model.specs.declared.call.Call.{Call};
 
 use crate::call::Call;
@@ -106,8 +106,7 @@ fn tear_call(
     written: &[u8],
     words: &mut Pcg32,
 ) -> Result<(), AllocError>
-    ensures { OnOk result ((first : List ℕ) (h : List (Call × List ℕ)) → seen.now ≡ seen_after h first
-        → MayLeave h first image.old.items → MayLeave ((call, take (size_of call) written.now) ∷ h) first image.new.items) }
+    ensures { OnOk result (Tears call (take (size_of call) written.now) seen.now image.old.items image.new.items) }
 {
     match call {
         Call::Wrote(at, _) => tear(image, at, bytes_of(call, written), words),

@@ -7,13 +7,13 @@ pub invariant_of-self-clause-kept : goal.invariant_of-self-clause-kept
 invariant_of-self-clause-kept c =
     let old = c.args.self.now in
     kept_none old.calls.items c.note.new.calls.items old.written.items old.bytes.items old.first.items c.args.call
-      c.requires.nothing c.note.ensures.noted old.kept
+    c.requires.nothing c.note.ensures.noted old.kept
 
 pub invariant_of-self-clause-whole : goal.invariant_of-self-clause-whole
 invariant_of-self-clause-whole c =
     let old = c.args.self.now in
     whole_more old.calls.items c.note.new.calls.items old.written.items old.written.items c.args.call old.whole
-      c.note.ensures.noted (omega (arith, c.requires.nothing))
+    c.note.ensures.noted (omega (arith, c.requires.nothing))
 
 pub returns-clause-notes : goal.returns-clause-notes
 returns-clause-notes c =

@@ -12,14 +12,14 @@ pub invariant_of-self-2-clause-kept : goal.invariant_of-self-2-clause-kept
 invariant_of-self-2-clause-kept c =
     let old = c.args.self.now in
     kept_wrote old.calls.items c.note.new.calls.items old.written.items c.keep.new.written.items c.args.bytes.now old.bytes.items
-      c.overwrite.new.file.items old.first.items c.args.at old.whole c.note.ensures.noted c.keep.ensures.kept (search rules) old.kept
+    c.overwrite.new.file.items old.first.items c.args.at old.whole c.note.ensures.noted c.keep.ensures.kept (search rules) old.kept
 
 pub invariant_of-self-2-clause-whole : goal.invariant_of-self-2-clause-whole
 invariant_of-self-2-clause-whole c =
     let old = c.args.self.now in
     let bytes = c.args.bytes.now in
     whole_more old.calls.items c.note.new.calls.items old.written.items c.keep.new.written.items (Wrote c.args.at (length bytes))
-      old.whole c.note.ensures.noted (ap length c.keep.ensures.kept ∙ length-append old.written.items bytes)
+    old.whole c.note.ensures.noted (ap length c.keep.ensures.kept ∙ length-append old.written.items bytes)
 
 pub returns-clause-time : goal.returns-clause-time
 returns-clause-time c h =
