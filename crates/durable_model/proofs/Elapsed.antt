@@ -4,7 +4,7 @@ use Rattle.durable_model.specs.declared.call.Call.{Call}
 use Rattle.durable_model.specs.declared.memory.MemoryDisk.{MemoryDisk}
 use Rattle.durable_model.specs.Honest.{Elapses}
 use Rattle.durable_model.specs.History.{MayLeave, Leaves, LeftSince, seen_after}
-use Rattle.durable_model.specs.Memory.{history, Notes}
+use Rattle.durable_model.specs.Memory.{history, memory_may_leave, memory_left_since, Notes}
 
 -- a moment before the last call, or this one
 split_since : (first : List ℕ) (last : Call × List ℕ) (all later earlier : List (Call × List ℕ)) (t : ℕ) (c : List ℕ)
@@ -24,17 +24,8 @@ since_more first last all t c left = record {
   left = left.left;
 }
 
-abbrev moment_of : MemoryDisk → ℕ
-moment_of disk = length (history disk)
-
-abbrev left_of : MemoryDisk → ℕ → List ℕ → Type 0
-left_of disk = LeftSince (history disk) disk.first.items
-
-abbrev may_of : MemoryDisk → List ℕ → Type 0
-may_of disk = MayLeave (history disk) disk.first.items
-
 pub noted_elapses : (old new : MemoryDisk) (call : Call) (bytes : List ℕ) → Notes call bytes old new
-    → Elapses moment_of left_of may_of old new
+    → Elapses (λ disk. length (history disk)) memory_left_since memory_may_leave old new
 noted_elapses old new call bytes notes =
     let last : Call × List ℕ = (call, bytes) in
     let all = history old in
@@ -54,7 +45,7 @@ noted_elapses old new call bytes notes =
     }
 
 -- what a crash may leave after a call
-pub noted_leaves : (old new : MemoryDisk) (call : Call) (bytes : List ℕ) → Notes call bytes old new → (c : List ℕ) → may_of new c
-    → Leaves call bytes (may_of old) (seen_after (history old) old.first.items) c
+pub noted_leaves : (old new : MemoryDisk) (call : Call) (bytes : List ℕ) → Notes call bytes old new → (c : List ℕ) → memory_may_leave new c
+    → Leaves call bytes (memory_may_leave old) (seen_after (history old) old.first.items) c
 noted_leaves old new call bytes notes c left =
     subst (λ h. MayLeave h old.first.items c) notes.history_is (subst (λ f. MayLeave (history new) f c) notes.first_is left)

@@ -46,15 +46,21 @@ kept_none calls new written bytes first call none is kept =
     ap (λ cs. noted cs written []) is ∙ noted_none calls written [] call none in
     kept ∙ sym (after_nothing call (seen_after (noted calls written []) first) none) ∙ sym (ap (λ h. seen_after h first) now)
 
+-- a write is the last call
+pub noted_last : (calls new : List Call) (written longer bytes : List ℕ) (at : ℕ) → sum_by size_of calls ≡ length written
+    → new ≡ calls ++ Wrote at (length bytes) ∷ [] → longer ≡ written ++ bytes
+    → noted new longer [] ≡ (Wrote at (length bytes), bytes) ∷ noted calls written []
+noted_last calls new written longer bytes at whole is more =
+    ap (λ cs. noted cs longer []) is
+    ∙ ap (λ (w : List ℕ). noted (calls ++ Wrote at (length bytes) ∷ []) w []) more
+    ∙ noted_wrote calls written bytes [] (Wrote at (length bytes)) whole refl
+
 -- what was written is seen
-pub kept_wrote : (calls new : List Call) (written longer bytes seen now first : List ℕ) (at : ℕ) → sum_by size_of calls ≡ length written
-    → new ≡ calls ++ Wrote at (length bytes) ∷ [] → longer ≡ written ++ bytes → now ≡ overwritten seen at bytes
+pub kept_wrote : (calls new : List Call) (written longer bytes seen now first : List ℕ) (at : ℕ)
+    → noted new longer [] ≡ (Wrote at (length bytes), bytes) ∷ noted calls written [] → now ≡ overwritten seen at bytes
     → seen ≡ seen_after (noted calls written []) first → now ≡ seen_after (noted new longer []) first
-kept_wrote calls new written longer bytes seen now first at whole is more over kept =
-    let noted_now : noted new longer [] ≡ (Wrote at (length bytes), bytes) ∷ noted calls written [] =
-    ap (λ cs. noted cs longer []) is ∙ ap (λ (w : List ℕ). noted (calls ++ Wrote at (length bytes) ∷ []) w []) more
-    ∙ noted_wrote calls written bytes [] (Wrote at (length bytes)) whole refl in
-    over ∙ ap (λ (s : List ℕ). overwritten s at bytes) kept ∙ sym (ap (λ h. seen_after h first) noted_now)
+kept_wrote calls new written longer bytes seen now first at last over kept =
+    over ∙ ap (λ (s : List ℕ). overwritten s at bytes) kept ∙ sym (ap (λ h. seen_after h first) last)
 
 -- the bytes that were written are those of the calls
 pub whole_more : (calls new : List Call) (written longer : List ℕ) (call : Call) → sum_by size_of calls ≡ length written

@@ -3,10 +3,6 @@ use Rattle.std.proofs.Common.{◌≡◌, ℕ, ◌+◌, List, [], ◌∷◌, ◌+
 use Rattle.durable_model.specs.declared.call.Call.{Call}
 use Rattle.durable_model.specs.History.{size_of, noted, after, seen_after, MayLeave, Redone, RedoneTo}
 
-pub none_redone : (first written : List ℕ) (h : List (Call × List ℕ)) (seen : List ℕ) → seen ≡ seen_after h first
-    → Redone first [] written h written seen
-none_redone first written h seen is = record { through = h; on = λ more. refl; seen_is = is }
-
 -- one call more
 pub more_redone : (first : List ℕ) (calls : List Call) (k : ℕ) (call : Call) (written : List ℕ) (h : List (Call × List ℕ)) (rest seen rest' seen' : List ℕ)
     → take (k + 1) calls ≡ take k calls ++ call ∷ [] → rest' ≡ drop (size_of call) rest → seen' ≡ after call (take (size_of call) rest) seen
@@ -42,5 +38,5 @@ all_redone_to first calls written h rest seen image all =
 
 pub none_redone_to : (first written : List ℕ) (h : List (Call × List ℕ)) (seen image : List ℕ) → seen ≡ seen_after h first
     → MayLeave h first image → RedoneTo first [] written h written seen image
-unfolding none_redone
-none_redone_to first written h seen image is left = record { redone = none_redone first written h seen is; left = left }
+none_redone_to first written h seen image is left =
+    record { redone = record { through = h; on = λ more. refl; seen_is = is }; left = left }

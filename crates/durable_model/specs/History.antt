@@ -55,12 +55,14 @@ Tears call bytes seen old new = (first : List ℕ) (h : List (Call × List ℕ))
     → MayLeave h first old → MayLeave ((call, bytes) ∷ h) first new
 
 -- the calls were done again behind h: what is left of the written bytes, and what a read gives
-pub record Redone (first : List ℕ) (calls : List Call) (written : List ℕ) (h : List (Call × List ℕ)) (rest seen : List ℕ) : Type 0 where
+pub record Redone (first : List ℕ) (calls : List Call) (written : List ℕ) (h : List (Call × List ℕ))
+    (rest seen : List ℕ) : Type 0 where
   pub through : List (Call × List ℕ)
   pub on : (more : List Call) → noted (calls ++ more) written h ≡ noted more rest through
   pub seen_is : seen ≡ seen_after through first
 
 -- the same, where a crash may leave the image
-pub record RedoneTo (first : List ℕ) (calls : List Call) (written : List ℕ) (h : List (Call × List ℕ)) (rest seen image : List ℕ) : Type 0 where
+pub record RedoneTo (first : List ℕ) (calls : List Call) (written : List ℕ) (h : List (Call × List ℕ))
+    (rest seen image : List ℕ) : Type 0 where
   pub redone : Redone first calls written h rest seen
   pub left : MayLeave redone.through first image

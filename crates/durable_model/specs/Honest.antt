@@ -48,5 +48,6 @@ pub risen_within : (a b c d : ℕ) → a ≤ b → Risen b c → c ≤ d → Ris
 risen_within a b c d first rise last = grind (arith, first, rise, last)
 
 -- what a call that answered `Device` counted
-pub risen_by : {T : Type 0} {result : Result T DiskError} {before now : ℕ} → Counts result before now → IsErrOf result Device → Risen before now
+pub risen_by : {T : Type 0} {result : Result T DiskError} {before now : ℕ} → Counts result before now
+    → IsErrOf result Device → Risen before now
 risen_by counts failed = omega (arith, counts.device failed)

@@ -3,5 +3,4 @@ pub mod Honest
 pub mod Moments
 pub mod History
 pub mod Memory
-pub mod Growth
 pub mod RealFile

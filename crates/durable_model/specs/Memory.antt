@@ -49,24 +49,18 @@ pub record HasRoom (calls bytes : ℕ) (disk : MemoryDisk) : Type 0 where
 abbrev pub IsPastRoom : ℕ → MemoryDisk → Type 0
 IsPastRoom bytes disk = (disk.call_room ≤ calls_made disk) ⊎ (disk.byte_room < bytes_noted disk + bytes)
 
--- call number n is to fail, counted from 1
+-- call number n is the one that is to fail, counted from 1
 abbrev pub FailsAt : ℕ → MemoryDisk → Type 0
 FailsAt n disk = disk.fails ≡ n
+
+-- the same, where call number n is to fail
+abbrev pub told_to_fail : MemoryDisk → ℕ → MemoryDisk
+told_to_fail disk n = record disk { fails = n }
 
 -- the rooms are as they were
 pub record KeepsRoom (old new : MemoryDisk) : Type 0 where
   pub for_calls : new.call_room ≡ old.call_room
   pub for_bytes : new.byte_room ≡ old.byte_room
-
--- but for the call that is to fail all is as it was
-pub record SameButFails (old new : MemoryDisk) : Type 0 where
-  pub history_is : history new ≡ history old
-  pub first_is : new.first ≡ old.first
-  pub bytes_is : new.bytes ≡ old.bytes
-  pub made : calls_made new ≡ calls_made old
-  pub noted : bytes_noted new ≡ bytes_noted old
-  pub faults : new.failures ≡ old.failures
-  pub room : KeepsRoom old new
 
 -- but for what the record says of calls all is as it was
 pub record SameButCalls (old new : MemoryDisk) : Type 0 where
@@ -81,7 +75,8 @@ pub record Notes (call : Call) (bytes : List ℕ) (old new : MemoryDisk) : Type 
   pub history_is : history new ≡ (call, bytes) ∷ history old
   pub first_is : new.first.items ≡ old.first.items
 
-seen_by : (call : Call) (bytes : List ℕ) (before : List ℕ → Type 0) (seen : List ℕ) → before seen → Leaves call bytes before seen (after call bytes seen)
+seen_by : (call : Call) (bytes : List ℕ) (before : List ℕ → Type 0) (seen : List ℕ) → before seen
+    → Leaves call bytes before seen (after call bytes seen)
 seen_by (Wrote at n) bytes before seen here = (seen, here, torn_overwritten seen at bytes)
 seen_by (Tore at n) bytes before seen here = (seen, here, torn_nothing seen at n)
 seen_by Synced bytes before seen here = refl
@@ -110,7 +105,8 @@ none_later later earlier long = nil_from_length later (omega (arith, long, lengt
 pub only_as_kept : (disk : MemoryDisk) (c : List ℕ)
     → LeftSince (history disk) disk.first.items (length (history disk)) c → MayLeave (history disk) disk.first.items c
 only_as_kept disk c left =
-    let long : length (left.later ++ left.earlier) ≤ length left.earlier = subst (λ h. length h ≤ length left.earlier) left.whole left.since in
+    let long : length (left.later ++ left.earlier) ≤ length left.earlier =
+    subst (λ h. length h ≤ length left.earlier) left.whole left.since in
     let none = none_later left.later left.earlier long in
     let same : history disk ≡ left.earlier = left.whole ∙ ap (λ later. later ++ left.earlier) none in
     subst (λ h. MayLeave h disk.first.items c) (sym same) left.left

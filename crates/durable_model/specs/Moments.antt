@@ -4,7 +4,8 @@ use Rattle.std.proofs.Common.{inl, inr, ⊎_elim, arith}
 use Rattle.durable_model.specs.Honest.{Elapses}
 
 -- A crash at some moment from old to new leaves bytes that have P.
-pub record LeavesOnly {D : Type 0} (moment : D → ℕ) (left_since : D → ℕ → List ℕ → Type 0) (old new : D) (P : List ℕ → Type 0) : Type 0 where
+pub record LeavesOnly {D : Type 0} (moment : D → ℕ) (left_since : D → ℕ → List ℕ → Type 0)
+    (old new : D) (P : List ℕ → Type 0) : Type 0 where
   pub later : moment old ≤ moment new
   pub each : (c : List ℕ) → left_since new (moment old) c → P c
   -- for a run that began earlier

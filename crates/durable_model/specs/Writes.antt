@@ -24,6 +24,12 @@ pub record Torn (at n : ℕ) (old new : List ℕ) : Type 0 where
   pub before : take (min at (length old)) new ≡ take at old
   pub after : 0 < n → drop (at + n) new ≡ drop (at + n) old
 
+-- new is old with some bytes behind it, up to an end at most
+pub record Grown (end : ℕ) (old new : List ℕ) : Type 0 where
+  pub no_shorter : length old ≤ length new
+  pub front : take (length old) new ≡ old
+  pub rest : drop end new ≡ drop end old
+
 -- within the disk nothing is filled up
 pub overwritten_within : (old : List ℕ) (at : ℕ) (bytes : List ℕ) → at ≤ length old
     → overwritten old at bytes ≡ take at old ++ bytes ++ drop (at + length bytes) old

@@ -1,5 +1,6 @@
 //! A disk as a journal sees it: what a read gives, what a crash at any moment may leave, and how often the device
-//! failed. [`Disk`] is the contract of an honest disk, and [`MemoryDisk`] is one that fails and crashes as it is told.
+//! failed. [`Disk`] is the contract of an honest disk, [`MemoryDisk`] one that fails and crashes as it is told, and
+//! [`FileDisk`] one over a real file, whose honesty is a premise with a name.
 #![tactic(auto)]
 
 mod call;

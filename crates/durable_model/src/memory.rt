@@ -41,9 +41,9 @@ pub struct MemoryDisk {
 impl MemoryDisk {
     ghost use Rattle.std.specs.Prelude.{◌≡◌, ◌<◌, ◌≤◌, ◌↔◌, ◌+◌, [], false, IsTrue, IfOk};
     ghost use Rattle.durable_model.specs.History.{size_of};
-    ghost use Rattle.durable_model.specs.Memory.{seen_by_memory, memory_may_leave, memory_faults, calls_made, bytes_noted};
-    ghost use Rattle.durable_model.specs.Memory.{IsSettled, HasRoom, KeepsRoom, IsPastRoom, FailsAt, Notes};
-    ghost use Rattle.durable_model.specs.Memory.{SameButFails, SameButCalls};
+    ghost use Rattle.durable_model.specs.Memory.{seen_by_memory, memory_may_leave, memory_faults};
+    ghost use Rattle.durable_model.specs.Memory.{calls_made, bytes_noted, told_to_fail, FailsAt, IsPastRoom};
+    ghost use Rattle.durable_model.specs.Memory.{IsSettled, HasRoom, KeepsRoom, SameButCalls, Notes};
 
     /// An empty disk with room for so many calls, and for so many bytes in its writes. A call past it is a failure
     /// of the device.
@@ -84,8 +84,7 @@ impl MemoryDisk {
     /// Lets its nth call fail, counted from the first after it was made; there is no call 0. A write that fails so
     /// may tear its range.
     pub fn fail_at(&mut self, n: usize)
-        ensures fails { FailsAt n self.new }
-        ensures same { SameButFails self.old self.new }
+        ensures { self.new ≡ told_to_fail self.old n }
     {
         self.fails = n;
     }
@@ -141,7 +140,8 @@ impl MemoryDisk {
 
 impl Disk for MemoryDisk {
     ghost use Rattle.std.specs.Prelude.{length, ⊤};
-    ghost use Rattle.durable_model.specs.Memory.{history, seen_by_memory, memory_may_leave, memory_left_since, memory_faults};
+    ghost use Rattle.durable_model.specs.Memory.{history, seen_by_memory, memory_faults};
+    ghost use Rattle.durable_model.specs.Memory.{memory_may_leave, memory_left_since};
     ghost use Rattle.durable_model.specs.Memory.{left_as_kept, counts_as_kept, only_as_kept};
 
     ghost is_honest = { λ _. ⊤ };

@@ -1,8 +1,7 @@
 //! What a crash makes of a write that is not synced.
 
 ghost use Rattle.std.specs.Prelude.{◌≡◌, ◌<◌, ◌≤◌, ◌+◌, ◌^◌, length, OnOk};
-ghost use Rattle.durable_model.specs.Writes.{Torn};
-ghost use Rattle.durable_model.specs.Growth.{Grown};
+ghost use Rattle.durable_model.specs.Writes.{Torn, Grown};
 
 use crate::overwriting::{lengthen, overwrite};
 use rand_core::utils::NextWord;

@@ -6,10 +6,14 @@ use Rattle.durable_model.proofs.Elapsed.{noted_elapses, noted_leaves}
 use Rattle.durable_model.proofs.memory.MemoryDiskDisk.sync.Goals as goal
 
 pub returns-then-fails_now-clause-time : goal.returns-then-fails_now-clause-time
-returns-then-fails_now-clause-time c h = noted_elapses _ _ _ _ (record { history_is = c.note_call.ensures.notes.history_is; first_is = c.note_call.ensures.notes.first_is })
+returns-then-fails_now-clause-time c h =
+    let notes = c.note_call.ensures.notes in
+    noted_elapses _ _ _ _ (record { history_is = notes.history_is; first_is = notes.first_is })
 
 pub returns-clause-time : goal.returns-clause-time
-returns-clause-time c h = noted_elapses _ _ _ _ (record { history_is = c.note_call-2.ensures.notes.history_is; first_is = c.note_call-2.ensures.notes.first_is })
+returns-clause-time c h =
+    let notes = c.note_call-2.ensures.notes in
+    noted_elapses _ _ _ _ (record { history_is = notes.history_is; first_is = notes.first_is })
 
 pub returns-clause-unchanged : goal.returns-clause-unchanged
 returns-clause-unchanged c h =
