@@ -4,29 +4,30 @@ use Rattle.durable_model.specs.declared.call.Call.{Call}
 use Rattle.durable_model.specs.History.{size_of, noted, after, seen_after, MayLeave, Redone, RedoneTo}
 
 -- one call more
-pub more_redone : (first : List ℕ) (calls : List Call) (k : ℕ) (call : Call) (written : List ℕ) (h : List (Call × List ℕ)) (rest seen rest' seen' : List ℕ)
-    → take (k + 1) calls ≡ take k calls ++ call ∷ [] → rest' ≡ drop (size_of call) rest → seen' ≡ after call (take (size_of call) rest) seen
+pub more_redone : (first : List ℕ) (calls : List Call) (k : ℕ) (call : Call) (written : List ℕ) (h : List (Call × List ℕ))
+    (rest bytes seen rest' seen' : List ℕ) → take (k + 1) calls ≡ take k calls ++ call ∷ []
+    → bytes ≡ take (size_of call) rest → rest' ≡ drop (size_of call) rest → seen' ≡ after call bytes seen
     → Redone first (take k calls) written h rest seen → Redone first (take (k + 1) calls) written h rest' seen'
-more_redone first calls k call written h rest seen rest' seen' one left is so_far = record {
-  through = (call, take (size_of call) rest) ∷ so_far.through;
+more_redone first calls k call written h rest bytes seen rest' seen' one own left is so_far = record {
+  through = (call, bytes) ∷ so_far.through;
   on = λ more.
-      ap (λ (cs : List Call). noted (cs ++ more) written h) one
-      ∙ ap (λ (cs : List Call). noted cs written h) (append_assoc (take k calls) (call ∷ []) more)
-      ∙ so_far.on (call ∷ more)
-      ∙ ap (λ (r : List ℕ). noted more r ((call, take (size_of call) rest) ∷ so_far.through)) (sym left);
-  seen_is = is ∙ ap (λ (s : List ℕ). after call (take (size_of call) rest) s) so_far.seen_is;
+    ap (λ (cs : List Call). noted (cs ++ more) written h) one
+    ∙ ap (λ (cs : List Call). noted cs written h) (append_assoc (take k calls) (call ∷ []) more)
+    ∙ so_far.on (call ∷ more)
+    ∙ ap (λ (b : List ℕ). noted more (drop (size_of call) rest) ((call, b) ∷ so_far.through)) (sym own)
+    ∙ ap (λ (r : List ℕ). noted more r ((call, bytes) ∷ so_far.through)) (sym left);
+  seen_is = is ∙ ap (λ (s : List ℕ). after call bytes s) so_far.seen_is;
 }
 
 -- the same with an image
 pub more_redone_to : (first : List ℕ) (calls : List Call) (k : ℕ) (call : Call) (written : List ℕ) (h : List (Call × List ℕ))
-    (rest seen image rest' seen' image' : List ℕ)
-    → take (k + 1) calls ≡ take k calls ++ call ∷ [] → rest' ≡ drop (size_of call) rest → seen' ≡ after call (take (size_of call) rest) seen
-    → ((g : List (Call × List ℕ)) → seen ≡ seen_after g first → MayLeave g first image
-    → MayLeave ((call, take (size_of call) rest) ∷ g) first image')
+    (rest bytes seen image rest' seen' image' : List ℕ) → take (k + 1) calls ≡ take k calls ++ call ∷ []
+    → bytes ≡ take (size_of call) rest → rest' ≡ drop (size_of call) rest → seen' ≡ after call bytes seen
+    → ((g : List (Call × List ℕ)) → seen ≡ seen_after g first → MayLeave g first image → MayLeave ((call, bytes) ∷ g) first image')
     → RedoneTo first (take k calls) written h rest seen image → RedoneTo first (take (k + 1) calls) written h rest' seen' image'
 unfolding more_redone
-more_redone_to first calls k call written h rest seen image rest' seen' image' one left is torn so_far = record {
-  redone = more_redone first calls k call written h rest seen rest' seen' one left is so_far.redone;
+more_redone_to first calls k call written h rest bytes seen image rest' seen' image' one own left is torn so_far = record {
+  redone = more_redone first calls k call written h rest bytes seen rest' seen' one own left is so_far.redone;
   left = torn so_far.redone.through so_far.redone.seen_is so_far.left;
 }
 

@@ -58,9 +58,8 @@ abbrev pub told_to_fail : MemoryDisk → ℕ → MemoryDisk
 told_to_fail disk n = record disk { fails = n }
 
 -- the rooms are as they were
-pub record KeepsRoom (old new : MemoryDisk) : Type 0 where
-  pub for_calls : new.call_room ≡ old.call_room
-  pub for_bytes : new.byte_room ≡ old.byte_room
+abbrev pub KeepsRoom : MemoryDisk → MemoryDisk → Type 0
+KeepsRoom old = HasRoom old.call_room old.byte_room
 
 -- but for what the record says of calls all is as it was
 pub record SameButCalls (old new : MemoryDisk) : Type 0 where

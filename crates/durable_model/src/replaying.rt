@@ -42,8 +42,9 @@ fn redo_all<'a>(
 {
     let mut rest = written;
     for call in calls {
-        redo(seen, *call, rest)?;
-        rest = rest_of(*call, rest);
+        let (bytes, later) = split_at_call(*call, rest);
+        redo(seen, *call, bytes)?;
+        rest = later;
     }
     Ok(rest)
 }
@@ -61,39 +62,31 @@ fn tear_all(
 {
     let mut rest = written;
     for call in calls {
-        tear_call(image, seen, *call, rest, words)?;
-        redo(seen, *call, rest)?;
-        rest = rest_of(*call, rest);
+        let (bytes, later) = split_at_call(*call, rest);
+        tear_call(image, seen, *call, bytes, words)?;
+        redo(seen, *call, bytes)?;
+        rest = later;
     }
     Ok(())
 }
 
-/// The bytes that a call wrote.
-fn bytes_of(call: Call, written: &[u8]) -> &[u8]
-    ensures { result.now ≡ take (size_of call) written.now }
+/// The bytes that a call wrote, and those that later calls wrote.
+fn split_at_call(call: Call, written: &[u8]) -> (&[u8], &[u8])
+    ensures bytes { result.0.now ≡ take (size_of call) written.now }
+    ensures rest { result.1.now ≡ drop (size_of call) written.now }
 {
     match call {
-        Call::Wrote(_, n) => &written[..n.min(written.len())],
-        _ => &[],
-    }
-}
-
-/// The bytes that later calls wrote.
-fn rest_of(call: Call, written: &[u8]) -> &[u8]
-    ensures { result.now ≡ drop (size_of call) written.now }
-{
-    match call {
-        Call::Wrote(_, n) => &written[n.min(written.len())..],
-        _ => written,
+        Call::Wrote(_, n) => written.split_at(n.min(written.len())),
+        _ => (&[], written),
     }
 }
 
 /// Does a call again.
-fn redo(seen: &mut Vec<u8>, call: Call, written: &[u8]) -> Result<(), AllocError>
-    ensures { OnOk result (seen.new.items ≡ after call (take (size_of call) written.now) seen.old.items) }
+fn redo(seen: &mut Vec<u8>, call: Call, bytes: &[u8]) -> Result<(), AllocError>
+    ensures { OnOk result (seen.new.items ≡ after call bytes.now seen.old.items) }
 {
     match call {
-        Call::Wrote(at, _) => overwrite(seen, at, bytes_of(call, written)),
+        Call::Wrote(at, _) => overwrite(seen, at, bytes),
         _ => Ok(()),
     }
 }
@@ -103,13 +96,13 @@ fn tear_call(
     image: &mut Vec<u8>,
     seen: &[u8],
     call: Call,
-    written: &[u8],
+    bytes: &[u8],
     words: &mut Pcg32,
 ) -> Result<(), AllocError>
-    ensures { OnOk result (Tears call (take (size_of call) written.now) seen.now image.old.items image.new.items) }
+    ensures { OnOk result (Tears call bytes.now seen.now image.old.items image.new.items) }
 {
     match call {
-        Call::Wrote(at, _) => tear(image, at, bytes_of(call, written), words),
+        Call::Wrote(at, _) => tear(image, at, bytes, words),
         Call::Tore(at, n) => garble(image, at, n, &[], words),
         Call::Synced => hold(image, seen),
         Call::Left => Ok(()),

@@ -59,7 +59,8 @@ pub(crate) fn garble(
 /// What a crash leaves of one byte: where it was to be `done`, that or the old one, and else any.
 fn torn_byte(old: u8, done: Option<u8>, word: u32) -> u8 {
     match done {
-        Some(new) => { if word % 2 == 0 { new } else { old } }
+        Some(new) if word % 2 == 0 => new,
+        Some(_) => old,
         None => (word % 256) as u8,
     }
 }
