@@ -3,7 +3,7 @@ use Rattle.std.proofs.Common.{◌≡◌, ◌⊎◌, ℕ, ◌≤◌, List, [], �
 use Rattle.durable_model.specs.declared.call.Call.{Call}
 use Rattle.durable_model.specs.declared.memory.MemoryDisk.{MemoryDisk}
 use Rattle.durable_model.specs.Honest.{Elapses}
-use Rattle.durable_model.specs.History.{MayLeave, Leaves, LeftSince, seen_after}
+use Rattle.durable_model.specs.History.{MayLeave, LeftSince}
 use Rattle.durable_model.specs.Memory.{history, memory_may_leave, memory_left_since, Notes}
 
 -- a moment before the last call, or this one
@@ -43,9 +43,3 @@ noted_elapses old new call bytes notes =
           subst (λ f. LeftSince (history new) f t c) (sym notes.first_is)
           (subst (λ h. LeftSince h first t c) (sym notes.history_is) (since_more first last all t c left));
     }
-
--- what a crash may leave after a call
-pub noted_leaves : (old new : MemoryDisk) (call : Call) (bytes : List ℕ) → Notes call bytes old new → (c : List ℕ) → memory_may_leave new c
-    → Leaves call bytes (memory_may_leave old) (seen_after (history old) old.first.items) c
-noted_leaves old new call bytes notes c left =
-    subst (λ h. MayLeave h old.first.items c) notes.history_is (subst (λ f. MayLeave (history new) f c) notes.first_is left)

@@ -11,11 +11,11 @@ pub more_redone : (first : List ℕ) (calls : List Call) (k : ℕ) (call : Call)
 more_redone first calls k call written h rest bytes seen rest' seen' one own left is so_far = record {
   through = (call, bytes) ∷ so_far.through;
   on = λ more.
-    ap (λ (cs : List Call). noted (cs ++ more) written h) one
-    ∙ ap (λ (cs : List Call). noted cs written h) (append_assoc (take k calls) (call ∷ []) more)
-    ∙ so_far.on (call ∷ more)
-    ∙ ap (λ (b : List ℕ). noted more (drop (size_of call) rest) ((call, b) ∷ so_far.through)) (sym own)
-    ∙ ap (λ (r : List ℕ). noted more r ((call, bytes) ∷ so_far.through)) (sym left);
+      ap (λ (cs : List Call). noted (cs ++ more) written h) one
+      ∙ ap (λ (cs : List Call). noted cs written h) (append_assoc (take k calls) (call ∷ []) more)
+      ∙ so_far.on (call ∷ more)
+      ∙ ap (λ (b : List ℕ). noted more (drop (size_of call) rest) ((call, b) ∷ so_far.through)) (sym own)
+      ∙ ap (λ (r : List ℕ). noted more r ((call, bytes) ∷ so_far.through)) (sym left);
   seen_is = is ∙ ap (λ (s : List ℕ). after call bytes s) so_far.seen_is;
 }
 

@@ -61,14 +61,6 @@ told_to_fail disk n = record disk { fails = n }
 abbrev pub KeepsRoom : MemoryDisk → MemoryDisk → Type 0
 KeepsRoom old = HasRoom old.call_room old.byte_room
 
--- but for what the record says of calls all is as it was
-pub record SameButCalls (old new : MemoryDisk) : Type 0 where
-  pub bytes_is : new.bytes ≡ old.bytes
-  pub noted : bytes_noted new ≡ bytes_noted old
-  pub same_call : new.fails ≡ old.fails
-  pub faults : new.failures ≡ old.failures
-  pub room : KeepsRoom old new
-
 -- it has noted this call, with what it wrote, and nothing else
 pub record Notes (call : Call) (bytes : List ℕ) (old new : MemoryDisk) : Type 0 where
   pub history_is : history new ≡ (call, bytes) ∷ history old

@@ -43,7 +43,7 @@ impl MemoryDisk {
     ghost use Rattle.durable_model.specs.History.{size_of};
     ghost use Rattle.durable_model.specs.Memory.{seen_by_memory, memory_may_leave, memory_faults};
     ghost use Rattle.durable_model.specs.Memory.{calls_made, bytes_noted, told_to_fail, FailsAt, IsPastRoom};
-    ghost use Rattle.durable_model.specs.Memory.{IsSettled, HasRoom, KeepsRoom, SameButCalls, Notes};
+    ghost use Rattle.durable_model.specs.Memory.{IsSettled, HasRoom, KeepsRoom, Notes};
 
     /// An empty disk with room for so many calls, and for so many bytes in its writes. A call past it is a failure
     /// of the device.
@@ -113,8 +113,8 @@ impl MemoryDisk {
         requires room { calls_made self.old < self.old.call_room }
         requires nothing { size_of call ≡ 0 }
         ensures notes { Notes call [] self.old self.new }
-        ensures same { SameButCalls self.old self.new }
-        ensures made { calls_made self.new ≡ calls_made self.old + 1 }
+        ensures bytes { self.new.bytes ≡ self.old.bytes }
+        ensures failures { self.new.failures ≡ self.old.failures }
     {
         note(&mut self.calls, call);
     }

@@ -45,11 +45,7 @@ pub(crate) fn garble(
     grow(file, end, words)?;
     let to = end.min(file.len());
     for i in from..to {
-        let done = if at <= i {
-            bytes.get(i - at).copied()
-        } else {
-            None
-        };
+        let done = i.checked_sub(at).and_then(|k| bytes.get(k)).copied();
         let byte = torn_byte(file[i], done, words.next_word());
         file[i] = byte;
     }

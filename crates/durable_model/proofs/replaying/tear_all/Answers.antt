@@ -11,10 +11,10 @@ pub loop-call-preserved : goal.loop-call-preserved
 loop-call-preserved c first h is left =
     let split = c.split_at_call in
     more_redone_to first c.args.calls.now c.loop-call.call-index _ c.args.written.now h c.loop-call.rest.now split.result.0.now
-      c.loop-call.seen.items c.loop-call.image.items split.result.1.now c.redo.new.seen.items c.tear_call.new.image.items
-      (take_more _ _ _ c.loop-call-test.true) split.ensures.bytes split.ensures.rest c.in_ok-redo.ensures
-      (λ g seen_is image_left. c.in_ok-tear_call.ensures first g (c.deref.ensures.value ∙ seen_is) image_left)
-      (c.loop-call.invariant first h is left)
+    c.loop-call.seen.items c.loop-call.image.items split.result.1.now c.redo.new.seen.items c.tear_call.new.image.items
+    (take_more _ _ _ c.loop-call-test.true) split.ensures.bytes split.ensures.rest c.in_ok-redo.ensures
+    (λ g seen_is image_left. c.in_ok-tear_call.ensures first g (c.deref.ensures.value ∙ seen_is) image_left)
+    (c.loop-call.invariant first h is left)
 
 pub returns : goal.returns
 returns c first h is left =

@@ -1,8 +1,7 @@
-use Rattle.std.proofs.Common.{[], ap, sym, ◌∙◌, subst}
+use Rattle.std.proofs.Common.{ap, sym, ◌∙◌, subst}
 use Rattle.durable_model.specs.History.{MayLeave}
 use Rattle.durable_model.specs.Memory.{history, left_as_kept}
-use Rattle.durable_model.specs.declared.call.Call.TheVariants.{Synced}
-use Rattle.durable_model.proofs.Elapsed.{noted_elapses, noted_leaves}
+use Rattle.durable_model.proofs.Elapsed.{noted_elapses}
 use Rattle.durable_model.proofs.memory.MemoryDiskDisk.sync.Goals as goal
 
 pub returns-then-fails_now-clause-time : goal.returns-then-fails_now-clause-time
@@ -20,8 +19,9 @@ returns-clause-unchanged c h =
     let old = c.args.self.now in
     let notes = c.note_call-2.ensures.notes in
     record {
-      same = ap (λ b. b.items) c.note_call-2.ensures.same.bytes_is;
+      same = ap (λ b. b.items) c.note_call-2.ensures.bytes;
       nothing_new = λ image left.
-          let is = noted_leaves old c.note_call-2.new.self Synced [] notes image left in
+          let left_then = subst (λ f. MayLeave (history c.note_call-2.new.self) f image) notes.first_is left in
+          let is = subst (λ h. MayLeave h old.first.items image) notes.history_is left_then in
           subst (MayLeave (history old) old.first.items) (sym (is ∙ sym old.kept)) (left_as_kept old);
     }
