@@ -1,0 +1,6 @@
+pub mod Writes
+pub mod Honest
+pub mod Moments
+pub mod History
+pub mod Memory
+pub mod RealFile

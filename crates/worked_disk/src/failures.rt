@@ -1,0 +1,73 @@
+//! Which call of a disk in memory fails.
+
+use durable_model::{Disk, DiskError, MemoryDisk};
+use std::alloc::Global;
+use std::test::Fail;
+
+/// The number of the first of six calls that the device fails, counted from 1, or 0.
+fn first_failed(alloc: Global, disk: &mut MemoryDisk) -> u64 {
+    let answers = [
+        disk.write_at(0, b"abc"),
+        disk.sync(),
+        disk.read(alloc).map(|_| ()),
+        disk.write_at(3, b"def"),
+        disk.sync(),
+        disk.read(alloc).map(|_| ()),
+    ];
+    let mut number = 0u64;
+    let mut first = 0;
+    for answer in &answers {
+        number = number.saturating_add(1);
+        if first == 0 && *answer == Err(DiskError::Device) {
+            first = number;
+        }
+    }
+    first
+}
+
+#[test]
+fn fails_the_nth_call_alone(rt: HostRuntime) -> Result<(), Fail> {
+    let alloc = rt.alloc();
+    for n in 0..8usize {
+        let mut disk = MemoryDisk::new(alloc, 100, 100)?;
+        disk.fail_at(n);
+        let wanted = if n <= 6 { n as u64 } else { 0 };
+        assert_eq!(rt; first_failed(alloc, &mut disk), wanted);
+        assert_eq!(rt; disk.failures(), wanted.min(1));
+    }
+    Ok(())
+}
+
+#[test]
+fn a_call_past_the_room_fails(rt: HostRuntime) -> Result<(), Fail> {
+    let alloc = rt.alloc();
+    for calls in 0..8usize {
+        let mut disk = MemoryDisk::new(alloc, calls, 100)?;
+        let wanted = if calls < 6 { calls as u64 + 1 } else { 0 };
+        assert_eq!(rt; first_failed(alloc, &mut disk), wanted);
+    }
+    let mut disk = MemoryDisk::new(alloc, 100, 5)?;
+    assert_eq!(rt; first_failed(alloc, &mut disk), 4);
+    assert_eq!(rt; disk.failures(), 1);
+    assert_eq!(rt; disk.read(alloc)?.as_slice(), b"abc".as_slice());
+    Ok(())
+}
+
+#[test]
+fn a_write_goes_over_and_past_the_end(rt: HostRuntime) -> Result<(), Fail> {
+    let alloc = rt.alloc();
+    let mut disk = MemoryDisk::new(alloc, 100, 100)?;
+    disk.write_at(0, b"abcdef")?;
+    disk.write_at(2, b"XY")?;
+    assert_eq!(rt; disk.read(alloc)?.as_slice(), b"abXYef".as_slice());
+    disk.write_at(5, b"12")?;
+    assert_eq!(rt; disk.read(alloc)?.as_slice(), b"abXYe12".as_slice());
+    disk.write_at(9, b"z")?;
+    assert_eq!(rt; disk.read(alloc)?.as_slice(), b"abXYe12\0\0z".as_slice());
+    disk.write_at(50, b"")?;
+    assert_eq!(rt; disk.read(alloc)?.as_slice(), b"abXYe12\0\0z".as_slice());
+    assert_eq!(rt; disk.write_at(u64::MAX, b"zz"), Err(DiskError::NoMemory));
+    assert_eq!(rt; disk.read(alloc)?.as_slice(), b"abXYe12\0\0z".as_slice());
+    assert_eq!(rt; disk.failures(), 0);
+    Ok(())
+}
