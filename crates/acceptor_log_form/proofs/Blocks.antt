@@ -70,3 +70,26 @@ records_behind-stands rs bytes stands =
     ap (λ (l : List ℕ). records_behind 0 l) stands.text
     ∙ records_behind-blocks rs [] (stands.gate ∷ stands.behind) stands.fits (closed_gate stands.gate stands.behind stands.closed)
     ∙ ap (λ (l : List Record). Some l) (append-nil rs)
+
+-- the bytes behind whole records, at an open gate with no record behind it
+pub records_behind-cut : (bytes rest behind : List ℕ) (rs : List Record) → bytes ≡ blocks rs ++ rest → All Fits rs → rest ≡ 1 ∷ behind → first_record behind ≡ None → records_behind 0 bytes ≡ None
+records_behind-cut bytes rest behind rs read fit open none =
+    ap (λ (l : List ℕ). records_behind 0 l) read
+    ∙ records_behind-blocks_none rs rest fit (ap (λ (l : List ℕ). records_behind 0 l) open ∙ no_first_record behind none)
+
+-- and with no gate
+pub records_behind-no_gate : (bytes rest : List ℕ) (rs : List Record) → bytes ≡ blocks rs ++ rest → All Fits rs → rest ≡ [] → records_behind 0 bytes ≡ None
+records_behind-no_gate bytes rest rs read fit nothing =
+    ap (λ (l : List ℕ). records_behind 0 l) read
+    ∙ records_behind-blocks_none rs rest fit (ap (λ (l : List ℕ). records_behind 0 l) nothing)
+
+-- at a closed gate the bytes stand for the records
+pub stands_behind : (bytes rest : List ℕ) (rs : List Record) → bytes ≡ blocks rs ++ rest → All Fits rs → ((behind : List ℕ) → rest ≢ 1 ∷ behind) → rest ≢ [] → StandsBehind rs bytes
+stands_behind bytes [] rs read fit closed some = absurd (some refl)
+stands_behind bytes (gate ∷ behind) rs read fit closed some =
+    record { gate = gate; behind = behind; closed = λ is. closed behind (ap (λ x. x ∷ behind) is); fits = fit; text = read }
+
+-- one more record was read
+pub one_more_read : (bytes rest behind after : List ℕ) (rs more : List Record) (r : Record) → bytes ≡ blocks rs ++ rest → rest ≡ 1 ∷ behind → behind ≡ block_text r ++ after → more ≡ rs ++ r ∷ [] → bytes ≡ blocks more ++ after
+one_more_read bytes rest behind after rs more r read open text are =
+    read ∙ ap (λ (l : List ℕ). blocks rs ++ l) (open ∙ ap (λ (l : List ℕ). 1 ∷ l) text) ∙ sym (blocks-push_rest rs r after) ∙ ap (λ l. blocks l ++ after) (sym are)

@@ -4,8 +4,8 @@ use Rattle.acceptor_log_form.specs.Text.{blocks, Fits}
 use Rattle.acceptor_log_form.proofs.reading.read_records.Given as goal
 
 -- what was read stands in front of the rest
-abbrev pub invariant-loop-rest : goal.invariant-loop-rest
-invariant-loop-rest l = record { read : l.bytes ≡ blocks l.records.items ++ l.rest; fits : All Fits l.records.items }
+abbrev pub invariant-loop-behind : goal.invariant-loop-behind
+invariant-loop-behind l = record { read : l.bytes ≡ blocks l.records.items ++ l.rest; fits : All Fits l.records.items }
 
-abbrev pub decreases-loop-rest : goal.decreases-loop-rest
-decreases-loop-rest l = length l.rest
+abbrev pub decreases-loop-behind : goal.decreases-loop-behind
+decreases-loop-behind l = length l.rest
