@@ -73,9 +73,9 @@ records_behind-stands rs bytes stands =
 
 -- the bytes behind whole records, at an open gate with no record behind it
 pub records_behind-cut : (bytes rest behind : List ℕ) (rs : List Record) → bytes ≡ blocks rs ++ rest → All Fits rs → rest ≡ 1 ∷ behind → first_record behind ≡ None → records_behind 0 bytes ≡ None
-records_behind-cut bytes rest behind rs read fit open none =
+records_behind-cut bytes rest behind rs read fit opened none =
     ap (λ (l : List ℕ). records_behind 0 l) read
-    ∙ records_behind-blocks_none rs rest fit (ap (λ (l : List ℕ). records_behind 0 l) open ∙ no_first_record behind none)
+    ∙ records_behind-blocks_none rs rest fit (ap (λ (l : List ℕ). records_behind 0 l) opened ∙ no_first_record behind none)
 
 -- and with no gate
 pub records_behind-no_gate : (bytes rest : List ℕ) (rs : List Record) → bytes ≡ blocks rs ++ rest → All Fits rs → rest ≡ [] → records_behind 0 bytes ≡ None
@@ -91,5 +91,5 @@ stands_behind bytes (gate ∷ behind) rs read fit closed some =
 
 -- one more record was read
 pub one_more_read : (bytes rest behind after : List ℕ) (rs more : List Record) (r : Record) → bytes ≡ blocks rs ++ rest → rest ≡ 1 ∷ behind → behind ≡ block_text r ++ after → more ≡ rs ++ r ∷ [] → bytes ≡ blocks more ++ after
-one_more_read bytes rest behind after rs more r read open text are =
-    read ∙ ap (λ (l : List ℕ). blocks rs ++ l) (open ∙ ap (λ (l : List ℕ). 1 ∷ l) text) ∙ sym (blocks-push_rest rs r after) ∙ ap (λ l. blocks l ++ after) (sym are)
+one_more_read bytes rest behind after rs more r read opened text are =
+    read ∙ ap (λ (l : List ℕ). blocks rs ++ l) (opened ∙ ap (λ (l : List ℕ). 1 ∷ l) text) ∙ sym (blocks-push_rest rs r after) ∙ ap (λ l. blocks l ++ after) (sym are)

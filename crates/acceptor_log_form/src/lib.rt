@@ -7,10 +7,12 @@ mod errors;
 mod header;
 mod reading;
 mod record;
+mod rooms;
 mod writing;
 
 pub use errors::LogError;
 pub use header::Header;
 pub use reading::{Listed, read};
 pub use record::Record;
+pub use rooms::kept_parts;
 pub use writing::{header_bytes, journal_bytes, record_bytes};

@@ -101,7 +101,7 @@ fn read_records(alloc: Global, bytes: &[u8]) -> Result<Listed, LogError>
 
 /// The bytes behind an open gate.
 fn behind_open(bytes: &[u8]) -> Option<&[u8]>
-    ensures open { IfSome result (λ behind. bytes.now ≡ 1 ∷ behind.now) }
+    ensures opened { IfSome result (λ behind. bytes.now ≡ 1 ∷ behind.now) }
     ensures closed { IfNone result ((behind : List ℕ) → bytes.now ≢ 1 ∷ behind) }
 {
     match bytes {

@@ -15,14 +15,14 @@ returns-in_err-entry-clause-refused c =
     let i = c.loop-behind.invariant in
     rw (p.1, p.2) (λ memory.
     let refused = c.in_err-entry.ensures.refused memory in
-    (refused.0, records_behind-cut c.args.bytes.now c.loop-behind.rest.now c.in-Some.behind.now c.loop-behind.records.items i.read i.fits c.in-Some.ensures.open refused.1))
+    (refused.0, records_behind-cut c.args.bytes.now c.loop-behind.rest.now c.in-Some.behind.now c.loop-behind.records.items i.read i.fits c.in-Some.ensures.opened refused.1))
 
 pub loop-behind-preserved : goal.loop-behind-preserved
 loop-behind-preserved c =
     let i = c.loop-behind.invariant in
     record {
       read = one_more_read c.args.bytes.now c.loop-behind.rest.now c.in-Some.behind.now c.in_ok-entry.after.now c.loop-behind.records.items c.push.new.self.items c.in_ok-entry.entry
-          i.read c.in-Some.ensures.open c.in_ok-entry.ensures.text c.in_ok-push.ensures.items;
+          i.read c.in-Some.ensures.opened c.in_ok-entry.ensures.text c.in_ok-push.ensures.items;
       fits = All-same Fits c.push.new.self.items _ c.in_ok-push.ensures.items (All-push Fits c.loop-behind.records.items c.in_ok-entry.entry i.fits c.in_ok-entry.ensures.fits);
     }
 
