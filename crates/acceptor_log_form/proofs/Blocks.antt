@@ -1,5 +1,5 @@
 -- Blocks of records, one behind the other, and what they are read as.
-use Rattle.std.proofs.Common.{◌≡◌, ◌≢◌, inl, inr, ℕ, zero, suc, cond, eqb, List, [], ◌∷◌, ◌++◌, length, take, drop, Option, Some, None, refl, sym, ap, ◌∙◌, append_assoc, append-nil}
+use Rattle.std.proofs.Common.{◌≡◌, ◌≢◌, ℕ, zero, suc, cond, List, [], ◌∷◌, ◌++◌, drop, Some, None, refl, sym, ap, ◌∙◌, append_assoc, append-nil}
 use Rattle.std.specs.List.{AllByRecursion}
 use Rattle.std.specs.Prelude.{All}
 use Rattle.std.proofs.lemmas.Bool.{ne_eqb}
@@ -7,7 +7,7 @@ use Rattle.std.proofs.lemmas.List.{drop_at}
 use Rattle.std.proofs.lemmas.List.Elements.{recursion_from_All}
 use Rattle.acceptor_log_form.specs.declared.record.Record.{Record}
 use Rattle.acceptor_log_form.specs.Text.{block_text, blocks, Fits, StandsBehind}
-use Rattle.acceptor_log_form.specs.Reading.{block_size, first_record, in_front, records_behind, listed}
+use Rattle.acceptor_log_form.specs.Reading.{block_size, first_record, in_front, records_behind}
 use Rattle.acceptor_log_form.proofs.Bodies.{block_size-text, first_record-text}
 
 -- one record more

@@ -5,6 +5,7 @@
 
 mod errors;
 mod header;
+mod laws;
 mod reading;
 mod record;
 mod rooms;
@@ -12,6 +13,7 @@ mod writing;
 
 pub use errors::LogError;
 pub use header::Header;
+pub use laws::{one_list, text_stands};
 pub use reading::{Listed, read};
 pub use record::Record;
 pub use rooms::kept_parts;

@@ -139,22 +139,11 @@ fn read_body(alloc: Global, body: &[u8]) -> Result<Record, LogError>
     };
     let room = u16::from_be_bytes([*high, *low]);
     match (*code, rest) {
-        (1, offer) => Ok(Record::Offered(
-            room,
-            Row::from_vec(Vec::from_slice(alloc, offer)?),
-        )),
+        (1, offer) => Ok(Record::Offered(room, Row::from_vec(Vec::from_slice(alloc, offer)?))),
         (2, [a, b]) => Ok(Record::Started(room, u16::from_be_bytes([*a, *b]))),
-        (3, [a, b, value]) => Ok(Record::Proposed(
-            room,
-            u16::from_be_bytes([*a, *b]),
-            *value,
-        )),
+        (3, [a, b, value]) => Ok(Record::Proposed(room, u16::from_be_bytes([*a, *b]), *value)),
         (4, [a, b]) => Ok(Record::Promised(room, u16::from_be_bytes([*a, *b]))),
-        (5, [a, b, value]) => Ok(Record::Accepted(
-            room,
-            u16::from_be_bytes([*a, *b]),
-            *value,
-        )),
+        (5, [a, b, value]) => Ok(Record::Accepted(room, u16::from_be_bytes([*a, *b]), *value)),
         _ => Err(LogError::BadRecord),
     }
 }
