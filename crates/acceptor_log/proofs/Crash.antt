@@ -1,9 +1,9 @@
 -- What a crash leaves of a journal in each of the two writes of an append.
-use Rattle.std.proofs.Common.{◌≡◌, ◌≢◌, ◌⊎◌, inl, inr, ⊎_elim, ℕ, ◌+◌, ◌<◌, ◌≤◌, List, [], ◌∷◌, ◌++◌, length, get_or, take, drop, refl, sym, ◌∙◌, ap, subst, append_assoc, append-nil, arith}
+use Rattle.std.proofs.Common.{◌≡◌, ◌≢◌, inl, inr, ⊎_elim, ℕ, ◌+◌, ◌<◌, ◌≤◌, List, [], ◌∷◌, ◌++◌, length, get_or, take, drop, refl, sym, ◌∙◌, ap, subst, append_assoc, append-nil, arith}
 use Rattle.std.specs.Prelude.{All}
 use Rattle.std.proofs.lemmas.Bool.{cases_eq}
-use Rattle.std.proofs.lemmas.List.{take_at, drop_at, drop_more, length-append, take-append-drop, length-take, length-drop}
-use Rattle.std.proofs.lemmas.List.Elements.{All-push}
+use Rattle.std.proofs.lemmas.List.{take_at, drop_at, drop_more, length-append, take-append-drop}
+use Rattle.std.proofs.lemmas.List.Elements.{All-push, All-nil}
 use Rattle.durable_model.specs.Writes.{Torn, overwritten, overwritten_within, torn_before}
 use Rattle.durable_model.specs.Honest.{Only}
 use Rattle.acceptor_log_form.specs.declared.header.Header.{Header}
@@ -143,9 +143,9 @@ module _ (h : Header) (rs : List Record) (bytes : List ℕ) (gate : ℕ) (stands
     pub between-first : (may_leave : List ℕ → Type 0) → Only bytes may_leave → (n : ℕ) (c : List ℕ) → MayTear may_leave (gate + 1) n c → Between h rs (rs ++ r ∷ []) c
     between-first may_leave only n c left =
         let kept : StandsFor h rs c = ⊎_elim
-            (λ was. subst (λ (l : List ℕ). StandsFor h rs l) (sym (only c was)) stands)
-            (λ tears. stands-torn n c (subst (λ (l : List ℕ). Torn (gate + 1) n l c) (only tears.0 tears.1) tears.2))
-            left in
+        (λ was. subst (λ (l : List ℕ). StandsFor h rs l) (sym (only c was)) stands)
+        (λ tears. stands-torn n c (subst (λ (l : List ℕ). Torn (gate + 1) n l c) (only tears.0 tears.1) tears.2))
+        left in
         record { records = rs; stands = kept; all_of_low = ([], sym (append-nil rs)); none_else = (r ∷ [], refl) }
 
     -- a crash within the second
@@ -155,3 +155,16 @@ module _ (h : Header) (rs : List Record) (bytes : List ℕ) (gate : ℕ) (stands
         (λ was. before_or_after stands.records.gate c (only c was ∙ is ∙ staged))
         (λ tears. between-torn written c is (subst (λ (l : List ℕ). Torn gate 1 l c) (only tears.0 tears.1) tears.2))
         left
+
+-- a journal of no records, over what was there
+pub stands-created : (h : Header) (old bytes new : List ℕ) → length (header_text h) ≡ 38 → bytes ≡ header_text h ++ 0 ∷ [] → new ≡ overwritten old 0 bytes → StandsFor h [] new
+stands-created h old bytes new long are is =
+    stands-pieces h [] 0 (drop (0 + length bytes) old) new long (All-nil Fits) (omega arith)
+    (is ∙ overwritten_within old 0 bytes (omega arith) ∙ ap (λ (l : List ℕ). l ++ drop (0 + length bytes) old) are
+    ∙ append_assoc (header_text h) (0 ∷ []) (drop (0 + length bytes) old)
+    ∙ ap (λ (l : List ℕ). l ++ 0 ∷ drop (0 + length bytes) old) (sym (append-nil (header_text h))))
+
+-- there are at least as many bytes as records
+pub length-blocks : (rs : List Record) → length rs ≤ length (blocks rs)
+length-blocks [] = omega arith
+length-blocks (r ∷ rs) = omega (arith, length-blocks rs, length-append (block_text r) (blocks rs))

@@ -1,8 +1,8 @@
 -- What a log has acknowledged, from what its disk's bytes stand for.
-use Rattle.std.proofs.Common.{◌≡◌, ℕ, List, [], ◌∷◌, ◌++◌, length, take, Some, refl, sym, ◌∙◌, ap, subst, arith, append-nil}
+use Rattle.std.proofs.Common.{◌≡◌, ℕ, List, [], length, take, sym, ◌∙◌, ap, subst, append-nil}
 use Rattle.std.specs.Prelude.{unwrap_or}
 use Rattle.std.proofs.lemmas.List.{take_at}
-use Rattle.durable_model.specs.Honest.{Only, Unchanged}
+use Rattle.durable_model.specs.Honest.{Unchanged}
 use Rattle.acceptor_log_form.specs.declared.header.Header.{Header}
 use Rattle.acceptor_log_form.specs.declared.record.Record.{Record}
 use Rattle.acceptor_log_form.specs.Text.{StandsFor}

@@ -1,5 +1,5 @@
 -- Runs of device calls, and what results of calls say.
-use Rattle.std.proofs.Common.{◌⊎◌, inl, inr, ⊎_elim, ℕ, List, Result, Ok, Err}
+use Rattle.std.proofs.Common.{inl, inr, ⊎_elim, ℕ, List, Result, Ok, Err}
 use Rattle.std.specs.Result.{OnOk}
 use Rattle.durable_model.specs.Moments.{LeavesOnly}
 

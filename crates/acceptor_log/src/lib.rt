@@ -5,6 +5,7 @@
 
 mod device;
 mod log;
+mod opening;
 
 pub use acceptor_log_form::{
     Header, Listed, LogError, Record, header_bytes, journal_bytes, kept_parts, one_list, read,

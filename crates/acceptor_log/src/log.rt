@@ -1,12 +1,14 @@
-ghost use Rattle.std.specs.Prelude.{◌≡◌, ◌≢◌, ◌≤◌, ◌<◌, ◌+◌, ◌↔◌, [], ◌∷◌, ◌++◌, true, false, length, OnOk, OnErr, IfOk, IfErr};
-ghost use Rattle.durable_model.specs.Honest.{Risen};
+ghost use Rattle.std.specs.Prelude.{◌≡◌, ◌≢◌, ◌≤◌, ◌<◌, ◌+◌, ◌↔◌, [], ◌∷◌, ◌++◌, true, false, length, OnOk, OnErr, IfOk, IfErr, MatchResult};
+ghost use Rattle.durable_model.specs.Honest.{Unchanged, Risen};
 ghost use Rattle.durable_model.specs.Moments.{LeavesOnly};
-ghost use Rattle.acceptor_log_form.specs.Text.{body_text, journal_text};
+ghost use Rattle.acceptor_log_form.specs.Text.{body_text, StandsFor};
+ghost use Rattle.acceptor_log_form.specs.Fault.{HasFault};
 ghost use Rattle.acceptor_log_form.specs.Lists.{Between};
 ghost use Rattle.acceptor_log.specs.Rest.{IsBlock};
 
 use crate::device::put;
-use acceptor_log_form::{Header, LogError, Record, record_bytes};
+use crate::opening::{lay, load};
+use acceptor_log_form::{Header, Listed, LogError, Record, record_bytes};
 use durable_model::{Disk, DiskError};
 use std::alloc::Global;
 
@@ -30,6 +32,84 @@ pub struct Log<D> {
 
 impl<D: Disk> Log<D> {
     ghost use Rattle.acceptor_log.specs.Acknowledged.{acknowledged, IsSound, IsUnwritten, IsNoFault};
+
+    /// Makes the journal with this header and no records on a disk, over what is there. Until it has answered `Ok` nothing is
+    /// promised of the disk; after `NoMemory` nothing was written.
+    pub fn create(alloc: Global, disk: D, header: &Header) -> Result<Log<D>, (D, LogError)>
+        ensures sound { IfOk result (IsSound D.is_honest D.seen D.may_leave) }
+        ensures ok { IfOk result (λ log. (log.going ≡ true) × (log.header ≡ header.now)) }
+        ensures honest { MatchResult result (λ log. D.is_honest log.disk ↔ D.is_honest disk)
+            (λ refused. D.is_honest refused.0 ↔ D.is_honest disk) }
+        ensures none { D.is_honest disk → IfOk result (λ log. acknowledged D.seen log ≡ []) }
+
+        // It does not give up by itself.
+        ensures unwritten { D.is_honest disk
+            → IfErr result (λ refused. refused.1 ≢ LogError.Device → Unchanged D.seen D.may_leave disk refused.0) }
+        ensures faults { IfErr result (λ refused. refused.1 ≢ LogError.Device → refused.1 ≡ LogError.NoMemory) }
+        ensures failed { IfErr result (λ refused. refused.1 ≡ LogError.Device → Risen (D.faults disk) (D.faults refused.0)) }
+        ensures later { MatchResult result (λ log. D.faults disk ≤ D.faults log.disk)
+            (λ refused. D.faults disk ≤ D.faults refused.0) }
+    {
+        let mut disk = disk;
+        match lay(alloc, header, &mut disk) {
+            Ok(()) => Ok(Log {
+                alloc,
+                disk,
+                header: *header,
+                gate: 38,
+                count: 0,
+                going: true,
+            }),
+            Err(refused) => Err((disk, refused)),
+        }
+    }
+
+    /// Opens the journal with this header, and lists its records. It syncs before it reads, so what it lists is durable.
+    pub fn open(
+        alloc: Global,
+        disk: D,
+        header: &Header,
+    ) -> Result<(Log<D>, Vec<Record>), (D, LogError)>
+        ensures sound { IfOk result (λ opened. IsSound D.is_honest D.seen D.may_leave opened.0) }
+        ensures ok { IfOk result (λ opened. (opened.0.going ≡ true) × (opened.0.header ≡ header.now)) }
+        ensures honest { MatchResult result (λ opened. D.is_honest opened.0.disk ↔ D.is_honest disk)
+            (λ refused. D.is_honest refused.0 ↔ D.is_honest disk) }
+        ensures listed { D.is_honest disk → IfOk result (λ opened. StandsFor header.now opened.1.items (D.seen disk)) }
+        ensures acknowledged { D.is_honest disk
+            → IfOk result (λ opened. acknowledged D.seen opened.0 ≡ opened.1.items) }
+
+        // The disk is as it was, and a crash meanwhile leaves what it might have left before.
+        ensures unchanged { D.is_honest disk → MatchResult result
+            (λ opened. Unchanged D.seen D.may_leave disk opened.0.disk)
+            (λ refused. Unchanged D.seen D.may_leave disk refused.0) }
+        ensures any_moment { D.is_honest disk → MatchResult result
+            (λ opened. LeavesOnly D.moment D.left_since disk opened.0.disk (D.may_leave disk))
+            (λ refused. LeavesOnly D.moment D.left_since disk refused.0 (D.may_leave disk)) }
+
+        // It does not give up by itself.
+        ensures refused { D.is_honest disk → IfErr result (λ refused. refused.1 ≢ LogError.NoMemory
+            → refused.1 ≢ LogError.Device → HasFault header.now (D.seen disk) refused.1) }
+        ensures failed { IfErr result (λ refused. refused.1 ≡ LogError.Device → Risen (D.faults disk) (D.faults refused.0)) }
+        ensures later { MatchResult result (λ opened. D.faults disk ≤ D.faults opened.0.disk)
+            (λ refused. D.faults disk ≤ D.faults refused.0) }
+    {
+        let mut disk = disk;
+        match load(alloc, header, &mut disk) {
+            Ok(found) => {
+                let Listed { records, gate } = found;
+                let log = Log {
+                    alloc,
+                    disk,
+                    header: *header,
+                    gate: gate as u64,
+                    count: records.len() as u64,
+                    going: true,
+                };
+                Ok((log, records))
+            }
+            Err(refused) => Err((disk, refused)),
+        }
+    }
 
     /// Adds a record. At `Ok` it is acknowledged: from then on each crash leaves a journal that has it. After `Device` every
     /// call answers `Stopped`, until the journal is opened again.

@@ -1,6 +1,6 @@
 //! Writing headers, records and whole journals.
 
-ghost use Rattle.std.specs.Prelude.{◌≡◌, [], ◌∷◌, ◌++◌, All, IfOk, OnOk};
+ghost use Rattle.std.specs.Prelude.{◌≡◌, [], ◌∷◌, ◌++◌, length, All, IfOk, OnOk};
 ghost use Rattle.std.specs.Int.{w16, to_be_bytes};
 ghost use Rattle.acceptor_log_form.specs.Text.{header_text, body_text, block_text, journal_text, HasLength};
 
@@ -11,7 +11,8 @@ use std::alloc::Global;
 
 /// The header's 38 bytes.
 pub fn header_bytes(alloc: Global, header: &Header) -> Result<Vec<u8>, NoMemory>
-    ensures { IfOk result (λ bytes. bytes.items ≡ header_text header.now) }
+    ensures text { IfOk result (λ bytes. bytes.items ≡ header_text header.now) }
+    ensures len { IfOk result (λ bytes. length bytes.items ≡ 38) }
 {
     let mut bytes = Vec::new(alloc);
     bytes.extend_from_slice(b"CFJ1")?;
