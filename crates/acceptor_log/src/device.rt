@@ -16,7 +16,8 @@ pub fn write_durably<D: Disk>(disk: &mut D, at: u64, bytes: &[u8]) -> Result<(),
     ensures honest { D.is_honest disk.new ↔ D.is_honest disk.old }
     ensures any_moment { D.is_honest disk.old →
         LeavesOnly D.moment D.left_since disk.old disk.new (MayTear (D.may_leave disk.old) at (length bytes.now)) }
-    ensures written { D.is_honest disk.old → OnOk result (D.seen disk.new ≡ overwritten (D.seen disk.old) at bytes.now) }
+    ensures written { D.is_honest disk.old
+        → OnOk result (D.seen disk.new ≡ overwritten (D.seen disk.old) at bytes.now) }
     ensures durable { D.is_honest disk.old → OnOk result (Only (D.seen disk.new) (D.may_leave disk.new)) }
     ensures longer { D.is_honest disk.old → length (D.seen disk.old) ≤ length (D.seen disk.new) }
     ensures memory { D.is_honest disk.old → IsErrOf result DiskError.NoMemory

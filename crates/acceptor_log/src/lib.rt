@@ -1,6 +1,6 @@
-//! The journal of one node on a disk. A record is acknowledged once its gate is open on the disk, and the gate is opened
-//! by a write of its own once the record is there. So a crash at any moment leaves a journal of what was acknowledged, in
-//! order, with the record that was being written or without it.
+//! The journal of one node on a disk. A record is acknowledged once its gate is open on the disk, and the gate is
+//! opened by a write of its own once the record is there. So a crash at any moment leaves a journal of what was
+//! acknowledged, in order, with the record that was being written or without it.
 #![tactic(auto)]
 
 mod device;

@@ -1,4 +1,5 @@
-ghost use Rattle.std.specs.Prelude.{◌≡◌, ◌≢◌, ◌≤◌, ◌<◌, ◌+◌, ◌↔◌, [], ◌∷◌, ◌++◌, true, false, length, OnOk, OnErr, IfOk, IfErr, MatchResult};
+ghost use Rattle.std.specs.Prelude.{◌≡◌, ◌≢◌, ◌≤◌, ◌<◌, ◌+◌, ◌↔◌, [], ◌∷◌, ◌++◌, true, false, length, OnOk, OnErr};
+ghost use Rattle.std.specs.Prelude.{IfOk, IfErr, MatchResult};
 ghost use Rattle.durable_model.specs.Honest.{Unchanged, Risen};
 ghost use Rattle.durable_model.specs.Moments.{LeavesOnly};
 ghost use Rattle.acceptor_log_form.specs.Text.{body_text, StandsFor};
@@ -13,7 +14,7 @@ use durable_model::{Disk, DiskError};
 use std::alloc::Global;
 
 /// A journal's file has at most so many bytes.
-const MOST_BYTES: u64 = 4_294_967_295;
+pub const MOST_BYTES: u64 = 4_294_967_295;
 
 /// The journal of one node, open on its disk.
 #[derive(Drop)]
@@ -31,10 +32,10 @@ pub struct Log<D> {
 }
 
 impl<D: Disk> Log<D> {
-    ghost use Rattle.acceptor_log.specs.Acknowledged.{acknowledged, IsSound, IsUnwritten, IsNoFault};
+    ghost use Rattle.acceptor_log.specs.Acknowledged.{acknowledged, file_with, IsSound, IsUnwritten, IsNoFault};
 
-    /// Makes the journal with this header and no records on a disk, over what is there. Until it has answered `Ok` nothing is
-    /// promised of the disk; after `NoMemory` nothing was written.
+    /// Makes the journal with this header and no records on a disk, over what is there. Until it has answered `Ok`
+    /// nothing is promised of the disk; after `NoMemory` nothing was written.
     pub fn create(alloc: Global, disk: D, header: &Header) -> Result<Log<D>, (D, LogError)>
         ensures sound { IfOk result (IsSound D.is_honest D.seen D.may_leave) }
         ensures ok { IfOk result (λ log. (log.going ≡ true) × (log.header ≡ header.now)) }
@@ -43,10 +44,11 @@ impl<D: Disk> Log<D> {
         ensures none { D.is_honest disk → IfOk result (λ log. acknowledged D.seen log ≡ []) }
 
         // It does not give up by itself.
-        ensures unwritten { D.is_honest disk
-            → IfErr result (λ refused. refused.1 ≢ LogError.Device → Unchanged D.seen D.may_leave disk refused.0) }
+        ensures unwritten { D.is_honest disk → IfErr result (λ refused. refused.1 ≢ LogError.Device
+            → Unchanged D.seen D.may_leave disk refused.0) }
         ensures faults { IfErr result (λ refused. refused.1 ≢ LogError.Device → refused.1 ≡ LogError.NoMemory) }
-        ensures failed { IfErr result (λ refused. refused.1 ≡ LogError.Device → Risen (D.faults disk) (D.faults refused.0)) }
+        ensures failed { IfErr result (λ refused. refused.1 ≡ LogError.Device
+            → Risen (D.faults disk) (D.faults refused.0)) }
         ensures later { MatchResult result (λ log. D.faults disk ≤ D.faults log.disk)
             (λ refused. D.faults disk ≤ D.faults refused.0) }
     {
@@ -64,7 +66,8 @@ impl<D: Disk> Log<D> {
         }
     }
 
-    /// Opens the journal with this header, and lists its records. It syncs before it reads, so what it lists is durable.
+    /// Opens the journal with this header, and lists its records. It syncs before it reads, so what it lists is
+    /// durable. Where it refuses, the disk comes back.
     pub fn open(
         alloc: Global,
         disk: D,
@@ -74,7 +77,8 @@ impl<D: Disk> Log<D> {
         ensures ok { IfOk result (λ opened. (opened.0.going ≡ true) × (opened.0.header ≡ header.now)) }
         ensures honest { MatchResult result (λ opened. D.is_honest opened.0.disk ↔ D.is_honest disk)
             (λ refused. D.is_honest refused.0 ↔ D.is_honest disk) }
-        ensures listed { D.is_honest disk → IfOk result (λ opened. StandsFor header.now opened.1.items (D.seen disk)) }
+        ensures listed { D.is_honest disk
+            → IfOk result (λ opened. StandsFor header.now opened.1.items (D.seen disk)) }
         ensures acknowledged { D.is_honest disk
             → IfOk result (λ opened. acknowledged D.seen opened.0 ≡ opened.1.items) }
 
@@ -89,7 +93,8 @@ impl<D: Disk> Log<D> {
         // It does not give up by itself.
         ensures refused { D.is_honest disk → IfErr result (λ refused. refused.1 ≢ LogError.NoMemory
             → refused.1 ≢ LogError.Device → HasFault header.now (D.seen disk) refused.1) }
-        ensures failed { IfErr result (λ refused. refused.1 ≡ LogError.Device → Risen (D.faults disk) (D.faults refused.0)) }
+        ensures failed { IfErr result (λ refused. refused.1 ≡ LogError.Device
+            → Risen (D.faults disk) (D.faults refused.0)) }
         ensures later { MatchResult result (λ opened. D.faults disk ≤ D.faults opened.0.disk)
             (λ refused. D.faults disk ≤ D.faults refused.0) }
     {
@@ -111,8 +116,8 @@ impl<D: Disk> Log<D> {
         }
     }
 
-    /// Adds a record. At `Ok` it is acknowledged: from then on each crash leaves a journal that has it. After `Device` every
-    /// call answers `Stopped`, until the journal is opened again.
+    /// Adds a record. At `Ok` it is acknowledged: from then on each crash leaves a journal that has it. After
+    /// `Device` every call answers `Stopped`, until the journal is opened again.
     pub fn append(&mut self, entry: &Record) -> Result<(), LogError>
         requires { IsSound D.is_honest D.seen D.may_leave self.old }
         ensures sound { IsSound D.is_honest D.seen D.may_leave self.new }
@@ -121,7 +126,8 @@ impl<D: Disk> Log<D> {
 
         ensures added { D.is_honest self.old.disk → self.old.going ≡ true → OnOk result
             (acknowledged D.seen self.new ≡ acknowledged D.seen self.old ++ entry.now ∷ []) }
-        ensures err { D.is_honest self.old.disk → OnErr result (acknowledged D.seen self.new ≡ acknowledged D.seen self.old) }
+        ensures err { D.is_honest self.old.disk
+            → OnErr result (acknowledged D.seen self.new ≡ acknowledged D.seen self.old) }
         ensures ok { OnOk result ((self.old.going ≡ true) × (self.new.going ≡ true)) }
 
         // A crash at any moment of the call leaves what was acknowledged before it, with the record or without.
@@ -137,9 +143,8 @@ impl<D: Disk> Log<D> {
         ensures later { D.faults self.old.disk ≤ D.faults self.new.disk }
         ensures unwritten { D.is_honest self.old.disk
             → IfErr result (λ e. e ≢ LogError.Device → IsUnwritten D.seen D.may_leave self.old self.new) }
-        ensures full { result ≡ Err LogError.Full → 4294967295 < self.old.gate + 6 + length (body_text entry.now) }
-        ensures too_long { self.old.going ≡ true → 4294967295 < self.old.gate + 6 + length (body_text entry.now)
-            → result ≡ Err LogError.Full }
+        ensures full { result ≡ Err LogError.Full → MOST_BYTES < file_with self.old entry.now }
+        ensures too_long { self.old.going ≡ true → MOST_BYTES < file_with self.old entry.now → result ≡ Err LogError.Full }
         ensures no_fault { IfErr result IsNoFault }
     {
         if !self.going {
@@ -179,14 +184,15 @@ impl<D: Disk> Log<D> {
     }
 }
 
-/// What is written for a record behind a gate that stands there: its block and a next gate, closed, where the file has room.
+/// What is written for a record behind a gate that stands there: its block and a next gate, closed, where the file
+/// has room for it.
 fn block_behind(alloc: Global, gate: u64, entry: &Record) -> Result<Vec<u8>, LogError>
     ensures block { IfOk result (λ block. IsBlock entry.now block.items) }
-    ensures room { IfOk result (λ block. gate + 1 + length block.items ≤ 4294967295) }
-    ensures size { OnOk result (gate + 6 + length (body_text entry.now) ≤ 4294967295) }
+    ensures room { IfOk result (λ block. gate + 1 + length block.items ≤ MOST_BYTES) }
+    ensures size { OnOk result (gate + 6 + length (body_text entry.now) ≤ MOST_BYTES) }
     ensures refused { IfErr result (λ e. e ≢ LogError.NoMemory →
-        (e ≡ LogError.Full) × (4294967295 < gate + 6 + length (body_text entry.now))) }
-    ensures full { 4294967295 < gate + 6 + length (body_text entry.now) → result ≡ Err LogError.Full }
+        (e ≡ LogError.Full) × (MOST_BYTES < gate + 6 + length (body_text entry.now))) }
+    ensures full { MOST_BYTES < gate + 6 + length (body_text entry.now) → result ≡ Err LogError.Full }
 {
     let body = entry.body_len() as u64;
     if body > MOST_BYTES - 6 || gate > MOST_BYTES - 6 - body {

@@ -2,7 +2,8 @@
 use Rattle.std.specs.Prelude.{◌≡◌, ◌≢◌, ◌⊎◌, ℕ, ◌<◌, ◌≤◌, List, [], ◌∷◌, length, take, None}
 use Rattle.acceptor_log_form.specs.declared.header.Header.{Header}
 use Rattle.acceptor_log_form.specs.declared.errors.LogError.{LogError}
-use Rattle.acceptor_log_form.specs.declared.errors.LogError.TheVariants.{NoMemory, Device, NotAJournal, BadRecord, OtherSource, Stopped, Full}
+use Rattle.acceptor_log_form.specs.declared.errors.LogError.TheVariants.{NoMemory, Device, NotAJournal, BadRecord}
+use Rattle.acceptor_log_form.specs.declared.errors.LogError.TheVariants.{OtherSource, Stopped, Full}
 use Rattle.acceptor_log_form.specs.Text.{header_text}
 use Rattle.acceptor_log_form.specs.Reading.{listed}
 
@@ -15,8 +16,8 @@ pub record IsInForm (bytes : List ℕ) : Type 0 where
   pub long : 39 ≤ length bytes
   pub begins : take 4 bytes ≡ magic
 
--- No journal: too short, or other first bytes. Another source: another header. A bad record: the header is this one, and what
--- stands behind it is no list of records.
+-- No journal: too short, or other first bytes. Another source: another header. A bad record: the header is this one, and
+-- what stands behind it is no list of records.
 abbrev pub HasFault : Header → List ℕ → LogError → Type 0
 HasFault h bytes NotAJournal = (length bytes < 39) ⊎ (take 4 bytes ≢ magic)
 HasFault h bytes OtherSource = IsInForm bytes × (take 38 bytes ≢ header_text h)

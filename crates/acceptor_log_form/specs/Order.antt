@@ -7,10 +7,10 @@ use Rattle.acceptor_log_form.specs.declared.record.Record.TheVariants.{Offered, 
 use Rattle.acceptor_log_form.specs.Text.{room_of}
 use Rattle.acceptor_log_form.specs.Leaves.{kept_in, proposed_in}
 
--- What node i of n may put down of a room in which it has kept this part, and proposed last under this ballot: one offer; an
--- own ballot above the last that it started; a value under the ballot that it started last, once; a ballot above the one
--- promised; a vote whose ballot is not below the promised one, and not again under the ballot of the last vote. Ballots are
--- numbered from 1, and a value is the number of a node.
+-- What node i of n may put down of a room in which it has kept this part, and proposed last under this ballot: one
+-- offer; an own ballot above the last that it started; a value under the ballot that it started last, once; a ballot
+-- above the one promised; a vote whose ballot is not below the promised one, and not again under the ballot of the last
+-- vote. Ballots are numbered from 1, and a value is the number of a node.
 abbrev pub GoesOn : ℕ → ℕ → KeptPart → ℕ → Record → Type 0
 GoesOn n i kept proposed (Offered room offer) = kept.offered ≡ false
 GoesOn n i kept proposed (Started room b) = Owns n i b × (kept.started < b)

@@ -1,5 +1,6 @@
 -- Reading the bytes of a journal: the list of records that they stand for, if there is one.
-use Rattle.std.specs.Prelude.{ℕ, zero, suc, ◌+◌, nat_le, ◌==◌, if◌then◌else◌, List, [], ◌∷◌, length, take, Option, Some, None}
+use Rattle.std.specs.Prelude.{ℕ, zero, suc, ◌+◌, nat_le, ◌==◌, if◌then◌else◌, List, [], ◌∷◌, length, take, Option}
+use Rattle.std.specs.Prelude.{Some, None}
 use Rattle.std.specs.Int.{w16, w32, from_be_bytes}
 use Rattle.std.specs.Option.{option_map}
 use Rattle.acceptor_log_form.specs.declared.record.Record.{Record}
@@ -46,8 +47,8 @@ abbrev pub in_front : Option Record → Option (List Record) → Option (List Re
 in_front (Some r) (Some rs) = Some (r ∷ rs)
 in_front _ _ = None
 
--- The records from the gate on that stands behind so many bytes. A gate is open exactly if it is 1; the list ends at the
--- first other gate. Behind an open gate, a block that is cut or is of no record, or a missing next gate, makes no list.
+-- The records from the gate on that stands behind so many bytes. A gate is open exactly if it is 1; the list ends at
+-- the first other gate. Behind an open gate, a block that is cut or of no record, or a missing next gate, makes no list.
 abbrev pub records_behind : ℕ → List ℕ → Option (List Record)
 records_behind n [] = None
 records_behind (suc n) (b ∷ bytes) = records_behind n bytes

@@ -13,5 +13,6 @@ pub fn one_list()
 
 /// What is written stands for what was written.
 pub fn text_stands()
-    ensures { (h : Header) (rs : List Record) → length h.digest ≡ 32 → All Fits rs → StandsFor h rs (journal_text h rs) }
+    ensures { (h : Header) (rs : List Record) → length h.digest ≡ 32 → All Fits rs
+        → StandsFor h rs (journal_text h rs) }
 {}

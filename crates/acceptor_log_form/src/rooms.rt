@@ -1,6 +1,7 @@
 //! What the records of a journal leave of each room, and the order that they keep there.
 
-ghost use Rattle.std.specs.Prelude.{◌≡◌, ◌≢◌, ◌<◌, ◌↔◌, ℕ, Some, slice_get, length, IsTrue, All, IfOk, OnOk, IfErr, IfSome, OnSome, IfNone};
+ghost use Rattle.std.specs.Prelude.{◌≡◌, ◌≢◌, ◌<◌, ◌↔◌, ℕ, Some, slice_get, length, IsTrue, All, IfOk, OnOk, IfErr};
+ghost use Rattle.std.specs.Prelude.{IfSome, OnSome, IfNone};
 ghost use Rattle.paxos_world.specs.KeptPart.{nothing_kept};
 ghost use Rattle.acceptor_log_form.specs.Leaves.{kept_by, proposed_by, kept_in};
 ghost use Rattle.acceptor_log_form.specs.Order.{GoesOn, AreInOrder};
@@ -22,7 +23,8 @@ pub fn kept_parts(
 ) -> Result<Vec<Kept>, LogError>
     requires { 0 < header.now.nodes }
     ensures rooms { IfOk result (λ parts. length parts.items ≡ rooms) }
-    ensures kept { IfOk result (λ parts. (m : ℕ) → m < rooms → slice_get parts.items m ≡ Some (kept_in records.now m)) }
+    ensures kept { IfOk result (λ parts. (m : ℕ) → m < rooms →
+        slice_get parts.items m ≡ Some (kept_in records.now m)) }
     ensures in_order { OnOk result (AreInOrder header.now.nodes header.now.node rooms records.now) }
     ensures refused { IfErr result (λ e. e ≢ LogError.NoMemory →
         (e ≡ LogError.BadRecord) × (AreInOrder header.now.nodes header.now.node rooms records.now → ⊥)) }
