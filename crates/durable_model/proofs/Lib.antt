@@ -1,0 +1,5 @@
+pub mod Elapsed
+pub mod Filled
+pub mod Garbled
+pub mod Noted
+pub mod Redone

@@ -49,7 +49,8 @@ pub trait Disk {
             → Follows (Torn at (length bytes.now)) (may_leave self.old) (may_leave self.new) }
         ensures time { is_honest self.old → Elapses moment left_since may_leave self.old self.new }
         // Only a write that makes the disk longer wants memory, and then nothing was written.
-        ensures memory { is_honest self.old → IsErrOf result NoMemory → Lengthens at (length bytes.now) (seen self.old) }
+        ensures memory { is_honest self.old
+            → IsErrOf result NoMemory → Lengthens at (length bytes.now) (seen self.old) }
         ensures unwritten { is_honest self.old → IsErrOf result NoMemory → Unchanged seen may_leave self.old self.new }
         ensures failures { Counts result (faults self.old) (faults self.new) };
 

@@ -1,5 +1,9 @@
 //! Why a call of a disk failed.
 
+ghost use Rattle.std.specs.Prelude.{◌≡◌, ◌≤◌, ◌+◌, min};
+ghost use Rattle.durable_model.specs.declared.error.DiskError.TheVariants.{Device};
+ghost use Rattle.durable_model.specs.Honest.{most_failures};
+
 use std::alloc::{AllocError, AllocFailed};
 use thiserror::Error;
 
@@ -34,4 +38,14 @@ impl<T: Drop> From<AllocFailed<T>> for DiskError {
     fn from(_e: AllocFailed<T>) -> DiskError {
         DiskError::NoMemory
     }
+}
+
+/// Counts a failure of the device.
+pub(crate) fn failed(failures: &mut u64) -> DiskError
+    ensures device { result ≡ Device }
+    ensures counted { failures.new ≡ min (failures.old + 1) most_failures }
+    ensures later { failures.old ≤ failures.new }
+{
+    *failures = failures.saturating_add(1);
+    DiskError::Device
 }

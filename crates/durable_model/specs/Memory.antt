@@ -1,0 +1,116 @@
+-- What a disk in memory stands for.
+use Rattle.std.specs.Prelude.{◌≡◌, ◌≤◌, ℕ, List, [], ◌∷◌, ◌++◌, length, refl, ◌⊎◌, ◌<◌, ◌+◌}
+use Rattle.std.proofs.Common.{sym, ◌∙◌, ap, subst, arith, length-append}
+use Rattle.std.proofs.lemmas.List.{nil_from_length}
+use Rattle.durable_model.specs.declared.call.Call.{Call}
+use Rattle.durable_model.specs.declared.call.Call.TheVariants.{Wrote, Tore, Synced, Left}
+use Rattle.durable_model.specs.declared.memory.MemoryDisk.{MemoryDisk}
+use Rattle.durable_model.specs.Writes.{torn_overwritten, torn_nothing}
+use Rattle.durable_model.specs.History.{noted, after, seen_after, Leaves, MayLeave, LeftSince}
+
+-- its calls with what they wrote, the last first
+abbrev pub history : MemoryDisk → List (Call × List ℕ)
+history disk = noted disk.calls.items disk.written.items []
+
+-- what a read gives
+abbrev pub seen_by_memory : MemoryDisk → List ℕ
+seen_by_memory disk = disk.bytes.items
+
+-- how many calls have failed
+abbrev pub memory_faults : MemoryDisk → ℕ
+memory_faults disk = disk.failures
+
+-- what a crash now may leave
+abbrev pub memory_may_leave : MemoryDisk → List ℕ → Type 0
+memory_may_leave disk = MayLeave (history disk) disk.first.items
+
+-- what a crash might have left since t calls were made
+abbrev pub memory_left_since : MemoryDisk → ℕ → List ℕ → Type 0
+memory_left_since disk = LeftSince (history disk) disk.first.items
+
+-- no call was made, and a crash leaves what a read gives
+pub record IsSettled (disk : MemoryDisk) : Type 0 where
+  pub no_call : history disk ≡ []
+  pub settled : disk.first.items ≡ disk.bytes.items
+
+-- how many calls stand in the record, and how many bytes of their writes
+abbrev pub calls_made : MemoryDisk → ℕ
+calls_made disk = length disk.calls.items
+
+abbrev pub bytes_noted : MemoryDisk → ℕ
+bytes_noted disk = length disk.written.items
+
+-- there is room for so many calls, and for so many bytes in their writes
+pub record HasRoom (calls bytes : ℕ) (disk : MemoryDisk) : Type 0 where
+  pub for_calls : disk.call_room ≡ calls
+  pub for_bytes : disk.byte_room ≡ bytes
+
+-- a call that writes so many bytes is past the room
+abbrev pub IsPastRoom : ℕ → MemoryDisk → Type 0
+IsPastRoom bytes disk = (disk.call_room ≤ calls_made disk) ⊎ (disk.byte_room < bytes_noted disk + bytes)
+
+-- call number n is to fail, counted from 1
+abbrev pub FailsAt : ℕ → MemoryDisk → Type 0
+FailsAt n disk = disk.fails ≡ n
+
+-- the rooms are as they were
+pub record KeepsRoom (old new : MemoryDisk) : Type 0 where
+  pub for_calls : new.call_room ≡ old.call_room
+  pub for_bytes : new.byte_room ≡ old.byte_room
+
+-- but for the call that is to fail all is as it was
+pub record SameButFails (old new : MemoryDisk) : Type 0 where
+  pub history_is : history new ≡ history old
+  pub first_is : new.first ≡ old.first
+  pub bytes_is : new.bytes ≡ old.bytes
+  pub made : calls_made new ≡ calls_made old
+  pub noted : bytes_noted new ≡ bytes_noted old
+  pub faults : new.failures ≡ old.failures
+  pub room : KeepsRoom old new
+
+-- but for what the record says of calls all is as it was
+pub record SameButCalls (old new : MemoryDisk) : Type 0 where
+  pub bytes_is : new.bytes ≡ old.bytes
+  pub noted : bytes_noted new ≡ bytes_noted old
+  pub same_call : new.fails ≡ old.fails
+  pub faults : new.failures ≡ old.failures
+  pub room : KeepsRoom old new
+
+-- it has noted this call, with what it wrote, and nothing else
+pub record Notes (call : Call) (bytes : List ℕ) (old new : MemoryDisk) : Type 0 where
+  pub history_is : history new ≡ (call, bytes) ∷ history old
+  pub first_is : new.first.items ≡ old.first.items
+
+seen_by : (call : Call) (bytes : List ℕ) (before : List ℕ → Type 0) (seen : List ℕ) → before seen → Leaves call bytes before seen (after call bytes seen)
+seen_by (Wrote at n) bytes before seen here = (seen, here, torn_overwritten seen at bytes)
+seen_by (Tore at n) bytes before seen here = (seen, here, torn_nothing seen at n)
+seen_by Synced bytes before seen here = refl
+seen_by Left bytes before seen here = here
+
+pub seen_left : (history : List (Call × List ℕ)) (first : List ℕ) → MayLeave history first (seen_after history first)
+seen_left [] first = refl
+seen_left (last ∷ earlier) first =
+    seen_by last.0 last.1 (MayLeave earlier first) (seen_after earlier first) (seen_left earlier first)
+
+-- what a read gives is an image that a crash now may leave
+pub left_as_kept : (disk : MemoryDisk) → MayLeave (history disk) disk.first.items disk.bytes.items
+left_as_kept disk =
+    subst (MayLeave (history disk) disk.first.items) (sym disk.kept) (seen_left (history disk) disk.first.items)
+
+-- this moment is one of those since an earlier one
+pub counts_as_kept : (disk : MemoryDisk) (t : ℕ) (c : List ℕ) → t ≤ length (history disk)
+    → MayLeave (history disk) disk.first.items c → LeftSince (history disk) disk.first.items t c
+counts_as_kept disk t c since left =
+    record { later = []; earlier = history disk; whole = refl; since = since; left = left }
+
+none_later : (later earlier : List (Call × List ℕ)) → length (later ++ earlier) ≤ length earlier → later ≡ []
+none_later later earlier long = nil_from_length later (omega (arith, long, length-append later earlier))
+
+-- since this moment there is no other
+pub only_as_kept : (disk : MemoryDisk) (c : List ℕ)
+    → LeftSince (history disk) disk.first.items (length (history disk)) c → MayLeave (history disk) disk.first.items c
+only_as_kept disk c left =
+    let long : length (left.later ++ left.earlier) ≤ length left.earlier = subst (λ h. length h ≤ length left.earlier) left.whole left.since in
+    let none = none_later left.later left.earlier long in
+    let same : history disk ≡ left.earlier = left.whole ∙ ap (λ later. later ++ left.earlier) none in
+    subst (λ h. MayLeave h disk.first.items c) (sym same) left.left
