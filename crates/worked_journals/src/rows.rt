@@ -5,6 +5,7 @@ use program_rows::{Answers, bytes_of, numbered, owned};
 use std::alloc::Global;
 
 /// Answers what a row asks.
+#[derive(Clone, Copy)]
 pub struct Rows;
 
 impl Answers for Rows {
