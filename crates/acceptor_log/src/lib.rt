@@ -8,7 +8,7 @@ mod log;
 mod opening;
 
 pub use acceptor_log_form::{
-    Header, Listed, LogError, Record, header_bytes, journal_bytes, kept_parts, one_list, read,
-    record_bytes, text_stands,
+    Header, Listed, LogError, Record, header_bytes, journal_bytes, kept_parts, no_fault, one_list,
+    read, record_bytes, text_stands,
 };
 pub use log::Log;

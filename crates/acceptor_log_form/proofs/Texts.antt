@@ -7,7 +7,12 @@ use Rattle.acceptor_log_form.specs.declared.header.Header.{Header}
 use Rattle.acceptor_log_form.specs.declared.record.Record.{Record}
 use Rattle.acceptor_log_form.specs.Text.{header_text, blocks, journal_text, Fits, StandsFor}
 use Rattle.acceptor_log_form.specs.Reading.{listed}
+use Rattle.acceptor_log_form.specs.declared.errors.LogError.{LogError}
+use Rattle.acceptor_log_form.specs.declared.errors.LogError.TheVariants.{NoMemory, Device, NotAJournal, BadRecord, OtherSource, Stopped, Full}
+use Rattle.acceptor_log_form.specs.Fault.{HasFault}
 use Rattle.acceptor_log_form.proofs.Blocks.{records_behind-drop, records_behind-stands}
+use Rattle.std.proofs.Common.{◌≤◌, inl, inr}
+use Rattle.std.proofs.lemmas.List.{take-take}
 
 -- what stands before the gate
 abbrev pub before_gate : Header → List Record → List ℕ
@@ -49,3 +54,18 @@ length-header_text h long = omega (arith, long)
 
 pub text-stands : (h : Header) (rs : List Record) → length h.digest ≡ 32 → All Fits rs → StandsFor h rs (journal_text h rs)
 text-stands h rs long fit = stands-pieces h rs 0 [] (journal_text h rs) (length-header_text h long) fit (omega arith) (sym (append_assoc (header_text h) (blocks rs) (0 ∷ [])))
+
+-- what stands for records has no fault
+pub stands-no_fault : (h : Header) (rs : List Record) (bytes : List ℕ) (e : LogError) → StandsFor h rs bytes → HasFault h bytes e → ⊥
+stands-no_fault h rs bytes NotAJournal stands (inl short) =
+    let r = stands.records in
+    omega (arith, length-header_stands h rs bytes stands, ap length stands.header, length-take 38 bytes, length-drop 38 bytes, ap length r.text, length-append (blocks rs) (r.gate ∷ r.behind))
+stands-no_fault h rs bytes NotAJournal stands (inr other) =
+    let four : 4 ≤ 38 = omega arith in
+    other (sym (take-take 4 38 bytes four) ∙ ap (take 4) stands.header)
+stands-no_fault h rs bytes OtherSource stands fault = fault.1 stands.header
+stands-no_fault h rs bytes BadRecord stands fault = let some = listed-stands h rs bytes stands in let none = fault.2 in absurd cc
+stands-no_fault h rs bytes NoMemory stands fault = fault
+stands-no_fault h rs bytes Device stands fault = fault
+stands-no_fault h rs bytes Stopped stands fault = fault
+stands-no_fault h rs bytes Full stands fault = fault

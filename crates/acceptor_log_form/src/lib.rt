@@ -13,7 +13,7 @@ mod writing;
 
 pub use errors::LogError;
 pub use header::Header;
-pub use laws::{one_list, text_stands};
+pub use laws::{no_fault, one_list, text_stands};
 pub use reading::{Listed, read};
 pub use record::Record;
 pub use rooms::kept_parts;
