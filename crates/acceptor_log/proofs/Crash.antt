@@ -1,0 +1,171 @@
+-- What a crash leaves of a journal in each of the two writes of an append.
+use Rattle.std.proofs.Common.{◌≡◌, ◌≢◌, inl, inr, ⊎_elim, ℕ, ◌+◌, ◌<◌, ◌≤◌, List, [], ◌∷◌, ◌++◌, length, get_or, take}
+use Rattle.std.proofs.Common.{drop, refl, sym, ◌∙◌, ap, subst, append_assoc, append-nil, arith}
+use Rattle.std.specs.Prelude.{All}
+use Rattle.std.proofs.lemmas.Bool.{cases_eq}
+use Rattle.std.proofs.lemmas.List.{take_at, drop_at, drop_more, length-append, take-append-drop}
+use Rattle.std.proofs.lemmas.List.Elements.{All-push, All-nil}
+use Rattle.durable_model.specs.Writes.{Torn, overwritten, overwritten_within, torn_before}
+use Rattle.durable_model.specs.Honest.{Only}
+use Rattle.acceptor_log_form.specs.declared.header.Header.{Header}
+use Rattle.acceptor_log_form.specs.declared.record.Record.{Record}
+use Rattle.acceptor_log_form.specs.Text.{header_text, block_text, blocks, Fits, StandsFor}
+use Rattle.acceptor_log_form.specs.Lists.{Between}
+use Rattle.acceptor_log_form.proofs.Blocks.{blocks-push_rest}
+use Rattle.acceptor_log_form.proofs.Texts.{before_gate, stands-pieces, pieces-stand, length-header_stands}
+use Rattle.acceptor_log.specs.Rest.{MayTear, IsBlock}
+
+module _ (h : Header) (rs : List Record) (bytes : List ℕ) (gate : ℕ) (stands : StandsFor h rs bytes) (at_gate : gate ≡ 38 + length (blocks rs)) where
+  abbrev Front : List ℕ
+  Front = before_gate h rs
+
+  long : length (header_text h) ≡ 38
+  long = length-header_stands h rs bytes stands
+
+  size : length Front ≡ gate
+  size = omega (arith, length-append (header_text h) (blocks rs), long, at_gate)
+
+  whole : bytes ≡ Front ++ stands.records.gate ∷ stands.records.behind
+  whole = pieces-stand h rs bytes stands
+
+  -- the gate stands within the bytes
+  pub gate-within : gate < length bytes
+  gate-within = omega (arith, size, ap length whole, length-append Front (stands.records.gate ∷ stands.records.behind))
+
+  through_gate : bytes ≡ (Front ++ stands.records.gate ∷ []) ++ stands.records.behind
+  through_gate = whole ∙ sym (append_assoc Front (stands.records.gate ∷ []) stands.records.behind)
+
+  size_through : length (Front ++ stands.records.gate ∷ []) ≡ gate + 1
+  size_through = omega (arith, size, length-append Front (stands.records.gate ∷ []))
+
+  front_through : take (gate + 1) bytes ≡ Front ++ stands.records.gate ∷ []
+  front_through = ap (take (gate + 1)) through_gate ∙ take_at (Front ++ stands.records.gate ∷ []) stands.records.behind (gate + 1) size_through
+
+  -- what keeps the bytes up to the closed gate stands for the same records
+  pub stands-behind_gate : (c : List ℕ) → take (gate + 1) c ≡ take (gate + 1) bytes → StandsFor h rs c
+  stands-behind_gate c same =
+      let front : take (gate + 1) c ≡ Front ++ stands.records.gate ∷ [] = same ∙ front_through in
+      stands-pieces h rs stands.records.gate (drop (gate + 1) c) c long stands.records.fits stands.records.closed
+      (sym (take-append-drop (gate + 1) c) ∙ ap (λ (l : List ℕ). l ++ drop (gate + 1) c) front ∙ append_assoc Front (stands.records.gate ∷ []) (drop (gate + 1) c))
+
+  -- while the block is written
+  pub stands-torn : (n : ℕ) (c : List ℕ) → Torn (gate + 1) n bytes c → StandsFor h rs c
+  stands-torn n c torn = stands-behind_gate c (torn_before (omega (arith, gate-within)) torn)
+
+  module _ (r : Record) (block : List ℕ) (is_block : IsBlock r block) where
+    fit_all : All Fits (rs ++ r ∷ [])
+    fit_all = All-push Fits rs r stands.records.fits is_block.fits
+
+    abbrev Rest : List ℕ
+    Rest = drop (gate + 1 + length block) bytes
+
+    abbrev Staged : ℕ → List ℕ
+    Staged g = Front ++ g ∷ (block_text r ++ 0 ∷ Rest)
+
+    -- once the block is written
+    staged : overwritten bytes (gate + 1) block ≡ Staged stands.records.gate
+    staged =
+        overwritten_within bytes (gate + 1) block (omega (arith, gate-within))
+        ∙ ap (λ (l : List ℕ). l ++ block ++ Rest) front_through
+        ∙ ap (λ (l : List ℕ). (Front ++ stands.records.gate ∷ []) ++ l ++ Rest) is_block.text
+        ∙ regrouped Front stands.records.gate (block_text r) Rest
+      where
+        regrouped : (a : List ℕ) (g : ℕ) (b d : List ℕ) → (a ++ g ∷ []) ++ (b ++ 0 ∷ []) ++ d ≡ a ++ g ∷ (b ++ 0 ∷ d)
+        regrouped a g b d = simp append_assoc
+
+    -- an open gate makes it one record more
+    stands-open : (c : List ℕ) → c ≡ Staged 1 → StandsFor h (rs ++ r ∷ []) c
+    stands-open c is =
+        stands-pieces h (rs ++ r ∷ []) 0 Rest c long fit_all (omega arith)
+        (is ∙ append_assoc (header_text h) (blocks rs) (1 ∷ (block_text r ++ 0 ∷ Rest))
+        ∙ ap (λ (l : List ℕ). header_text h ++ l) (sym (blocks-push_rest rs r (0 ∷ Rest)))
+        ∙ sym (append_assoc (header_text h) (blocks (rs ++ r ∷ [])) (0 ∷ Rest)))
+
+    stands-shut : (g : ℕ) (c : List ℕ) → g ≢ 1 → c ≡ Staged g → StandsFor h rs c
+    stands-shut g c shut is = stands-pieces h rs g (block_text r ++ 0 ∷ Rest) c long stands.records.fits shut is
+
+    pub before_or_after : (g : ℕ) (c : List ℕ) → c ≡ Staged g → Between h rs (rs ++ r ∷ []) c
+    before_or_after g c is =
+        elim (cases_eq g 1) [
+          | inl one ↦ record {
+            records = rs ++ r ∷ [];
+            stands = stands-open c (is ∙ ap Staged one);
+            all_of_low = (r ∷ [], refl);
+            none_else = ([], sym (append-nil (rs ++ r ∷ [])));
+          }
+          | inr shut ↦ record {
+            records = rs;
+            stands = stands-shut g c shut is;
+            all_of_low = ([], sym (append-nil rs));
+            none_else = (r ∷ [], refl);
+          }
+        ]
+
+    length-staged : (g : ℕ) → gate < length (Staged g)
+    length-staged g = omega (arith, size, length-append Front (g ∷ (block_text r ++ 0 ∷ Rest)))
+
+    -- while the gate is opened
+    pub between-torn : (written c : List ℕ) → written ≡ overwritten bytes (gate + 1) block → Torn gate 1 written c → Between h rs (rs ++ r ∷ []) c
+    between-torn written c is torn =
+        let g = stands.records.gate in
+        let was : written ≡ Staged g = is ∙ staged in
+        let longer : gate < length written = omega (arith, ap length was, length-staged g) in
+        let front : take gate c ≡ Front = torn_before (omega (arith, longer)) torn ∙ ap (take gate) was ∙ take_at Front (g ∷ (block_text r ++ 0 ∷ Rest)) gate size in
+        let behind : drop (gate + 1) c ≡ block_text r ++ 0 ∷ Rest =
+        torn.after (omega arith) ∙ ap (drop (gate + 1)) (was ∙ sym (append_assoc Front (g ∷ []) (block_text r ++ 0 ∷ Rest)))
+        ∙ drop_at (Front ++ g ∷ []) (block_text r ++ 0 ∷ Rest) (gate + 1) size_through in
+        let at = get_or c gate 0 in
+        let rest : drop gate c ≡ at ∷ (block_text r ++ 0 ∷ Rest) = drop_more c gate 0 (omega (arith, longer, torn.no_shorter)) ∙ ap (λ (l : List ℕ). at ∷ l) behind in
+        before_or_after at c (sym (take-append-drop gate c) ∙ ap (λ (l : List ℕ). l ++ drop gate c) front ∙ ap (λ (l : List ℕ). Front ++ l) rest)
+
+    -- once the gate is open
+    pub stands-written : (written c : List ℕ) → written ≡ overwritten bytes (gate + 1) block → c ≡ overwritten written gate (1 ∷ []) → StandsFor h (rs ++ r ∷ []) c
+    stands-written written c is opened =
+        let g = stands.records.gate in
+        let was : written ≡ Staged g = is ∙ staged in
+        let longer : gate < length written = omega (arith, ap length was, length-staged g) in
+        let front : take gate written ≡ Front = ap (take gate) was ∙ take_at Front (g ∷ (block_text r ++ 0 ∷ Rest)) gate size in
+        let behind : drop (gate + 1) written ≡ block_text r ++ 0 ∷ Rest =
+        ap (drop (gate + 1)) (was ∙ sym (append_assoc Front (g ∷ []) (block_text r ++ 0 ∷ Rest)))
+        ∙ drop_at (Front ++ g ∷ []) (block_text r ++ 0 ∷ Rest) (gate + 1) size_through in
+        stands-open c
+        (opened ∙ overwritten_within written gate (1 ∷ []) (omega (arith, longer))
+        ∙ ap (λ (l : List ℕ). l ++ (1 ∷ []) ++ drop (gate + 1) written) front
+        ∙ ap (λ (l : List ℕ). Front ++ (1 ∷ []) ++ l) behind
+        ∙ append_assoc Front (1 ∷ []) (block_text r ++ 0 ∷ Rest))
+
+    -- where the next gate stands
+    pub next-gate : gate + length block ≡ 38 + length (blocks (rs ++ r ∷ []))
+    next-gate =
+        let pushed = ap length (blocks-push_rest rs r []) in
+        omega (arith, at_gate, ap length is_block.text, length-append (block_text r) (0 ∷ []), pushed, ap length (append-nil (blocks (rs ++ r ∷ []))), length-append (blocks rs) (1 ∷ (block_text r ++ [])), ap length (append-nil (block_text r)))
+
+    -- a crash within the first write
+    pub between-first : (may_leave : List ℕ → Type 0) → Only bytes may_leave → (n : ℕ) (c : List ℕ) → MayTear may_leave (gate + 1) n c → Between h rs (rs ++ r ∷ []) c
+    between-first may_leave only n c left =
+        let kept : StandsFor h rs c = ⊎_elim
+        (λ was. subst (λ (l : List ℕ). StandsFor h rs l) (sym (only c was)) stands)
+        (λ tears. stands-torn n c (subst (λ (l : List ℕ). Torn (gate + 1) n l c) (only tears.0 tears.1) tears.2))
+        left in
+        record { records = rs; stands = kept; all_of_low = ([], sym (append-nil rs)); none_else = (r ∷ [], refl) }
+
+    -- a crash within the second
+    pub between-second : (written : List ℕ) (may_leave : List ℕ → Type 0) → written ≡ overwritten bytes (gate + 1) block → Only written may_leave → (c : List ℕ) → MayTear may_leave gate 1 c → Between h rs (rs ++ r ∷ []) c
+    between-second written may_leave is only c left =
+        ⊎_elim
+        (λ was. before_or_after stands.records.gate c (only c was ∙ is ∙ staged))
+        (λ tears. between-torn written c is (subst (λ (l : List ℕ). Torn gate 1 l c) (only tears.0 tears.1) tears.2))
+        left
+
+-- a journal of no records, over what was there
+pub stands-created : (h : Header) (old bytes new : List ℕ) → length (header_text h) ≡ 38 → bytes ≡ header_text h ++ 0 ∷ [] → new ≡ overwritten old 0 bytes → StandsFor h [] new
+stands-created h old bytes new long are is =
+    stands-pieces h [] 0 (drop (0 + length bytes) old) new long (All-nil Fits) (omega arith)
+    (is ∙ overwritten_within old 0 bytes (omega arith) ∙ ap (λ (l : List ℕ). l ++ drop (0 + length bytes) old) are
+    ∙ append_assoc (header_text h) (0 ∷ []) (drop (0 + length bytes) old)
+    ∙ ap (λ (l : List ℕ). l ++ 0 ∷ drop (0 + length bytes) old) (sym (append-nil (header_text h))))
+
+-- there are at least as many bytes as records
+pub length-blocks : (rs : List Record) → length rs ≤ length (blocks rs)
+length-blocks [] = omega arith
+length-blocks (r ∷ rs) = omega (arith, length-blocks rs, length-append (block_text r) (blocks rs))

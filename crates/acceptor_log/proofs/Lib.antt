@@ -1,0 +1,3 @@
+pub mod Crash
+pub mod Runs
+pub mod Ready

@@ -1,0 +1,38 @@
+-- What a log has acknowledged, and what is known of its disk.
+use Rattle.std.specs.Prelude.{◌≡◌, ◌≢◌, true, ℕ, ◌+◌, List, [], length, take, unwrap_or}
+use Rattle.durable_model.specs.Honest.{Unchanged}
+use Rattle.acceptor_log_form.specs.declared.errors.LogError.{LogError}
+use Rattle.acceptor_log_form.specs.declared.errors.LogError.TheVariants.{NotAJournal, BadRecord, OtherSource}
+use Rattle.acceptor_log_form.specs.declared.record.Record.{Record}
+use Rattle.acceptor_log_form.specs.Text.{body_text}
+use Rattle.acceptor_log_form.specs.Reading.{listed}
+use Rattle.acceptor_log.specs.declared.log.Log.{Log}
+use Rattle.acceptor_log.specs.Rest.{Rests}
+
+-- The records that were listed when the journal was opened and those acknowledged since: no field, but the first of
+-- those that the bytes stand for which a read of the log's disk gives.
+abbrev pub acknowledged : {D : Type 0} → (D → List ℕ) → Log D → List Record
+acknowledged seen log = take log.count (unwrap_or (listed (seen log.disk)) [])
+
+-- the log may go on: its disk rests on what it has acknowledged
+pub record IsReady {D : Type 0} (is_honest : D → Type 0) (seen : D → List ℕ) (may_leave : D → List ℕ → Type 0)
+    (log : Log D) : Type 0 where
+  pub rests : Rests is_honest seen may_leave log.header (acknowledged seen log) log.gate log.disk
+  pub counted : log.count ≡ length (acknowledged seen log)
+
+-- while it goes on, it may
+abbrev pub IsSound : {D : Type 0} → (D → Type 0) → (D → List ℕ) → (D → List ℕ → Type 0) → Log D → Type 0
+IsSound is_honest seen may_leave log =
+    is_honest log.disk → log.going ≡ true → IsReady is_honest seen may_leave log
+
+-- how many bytes the file has up to its closed gate, once the record is put down
+abbrev pub file_with : {D : Type 0} → Log D → Record → ℕ
+file_with log r = log.gate + 6 + length (body_text r)
+
+-- a call wrote nothing, and stopped nothing
+abbrev pub IsUnwritten : {D : Type 0} → (D → List ℕ) → (D → List ℕ → Type 0) → Log D → Log D → Type 0
+IsUnwritten seen may_leave old new = Unchanged seen may_leave old.disk new.disk × (new.going ≡ old.going)
+
+-- it is no fault of what was read
+abbrev pub IsNoFault : LogError → Type 0
+IsNoFault e = (e ≢ NotAJournal) × (e ≢ BadRecord) × (e ≢ OtherSource)

@@ -1,0 +1,9 @@
+-- What a failed call of the disk is told as.
+use Rattle.durable_model.specs.declared.error.DiskError.{DiskError}
+use Rattle.durable_model.specs.declared.error.DiskError.TheVariants as disk
+use Rattle.acceptor_log_form.specs.declared.errors.LogError.{LogError}
+use Rattle.acceptor_log_form.specs.declared.errors.LogError.TheVariants as log
+
+abbrev pub fault_of : DiskError → LogError
+fault_of disk.Device = log.Device
+fault_of disk.NoMemory = log.NoMemory

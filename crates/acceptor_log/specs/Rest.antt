@@ -1,0 +1,25 @@
+-- A disk with a journal on it, between two calls.
+use Rattle.std.specs.Prelude.{◌≡◌, ◌⊎◌, ℕ, ◌+◌, List, [], ◌∷◌, ◌++◌, length}
+use Rattle.durable_model.specs.Writes.{Torn}
+use Rattle.durable_model.specs.Honest.{Only}
+use Rattle.acceptor_log_form.specs.declared.header.Header.{Header}
+use Rattle.acceptor_log_form.specs.declared.record.Record.{Record}
+use Rattle.acceptor_log_form.specs.Text.{block_text, blocks, Fits, StandsFor}
+
+-- what a crash leaves while so many bytes are written from `at` on: what it left before, torn there or not
+abbrev pub MayTear : (List ℕ → Type 0) → ℕ → ℕ → List ℕ → Type 0
+MayTear old at n c = old c ⊎ ((d : List ℕ) × old d × Torn at n d c)
+
+-- The disk is honest; what a read of it gives stands for these records, and their closed gate stands at `gate`; a crash
+-- leaves just that.
+pub record Rests {D : Type 0} (is_honest : D → Type 0) (seen : D → List ℕ) (may_leave : D → List ℕ → Type 0)
+    (h : Header) (rs : List Record) (gate : ℕ) (disk : D) : Type 0 where
+  pub honest : is_honest disk
+  pub stands : StandsFor h rs (seen disk)
+  pub at_gate : gate ≡ 38 + length (blocks rs)
+  pub durable : Only (seen disk) (may_leave disk)
+
+-- what is written for a record behind a gate: its block, and a next gate, closed
+pub record IsBlock (r : Record) (block : List ℕ) : Type 0 where
+  pub fits : Fits r
+  pub text : block ≡ block_text r ++ 0 ∷ []

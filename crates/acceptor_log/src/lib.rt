@@ -1,0 +1,14 @@
+//! The journal of one node on a disk. A record is acknowledged once its gate is open on the disk, and the gate is
+//! opened by a write of its own once the record is there. So a crash at any moment leaves a journal of what was
+//! acknowledged, in order, with the record that was being written or without it.
+#![tactic(auto)]
+
+mod device;
+mod log;
+mod opening;
+
+pub use acceptor_log_form::{
+    Header, Listed, LogError, Record, header_bytes, journal_bytes, kept_parts, no_fault, one_list,
+    read, record_bytes, text_stands,
+};
+pub use log::Log;

@@ -1,0 +1,204 @@
+ghost use Rattle.std.specs.Prelude.{◌≡◌, ◌≢◌, ◌≤◌, ◌<◌, ◌+◌, ◌↔◌, [], ◌∷◌, ◌++◌, true, false, length, OnOk, OnErr};
+ghost use Rattle.std.specs.Prelude.{IfOk, IfErr, MatchResult};
+ghost use Rattle.durable_model.specs.Honest.{Unchanged, Risen};
+ghost use Rattle.durable_model.specs.Moments.{LeavesOnly};
+ghost use Rattle.acceptor_log_form.specs.Text.{body_text, StandsFor};
+ghost use Rattle.acceptor_log_form.specs.Fault.{HasFault};
+ghost use Rattle.acceptor_log_form.specs.Lists.{Between};
+ghost use Rattle.acceptor_log.specs.Rest.{IsBlock};
+
+use crate::device::put;
+use crate::opening::{lay, load};
+use acceptor_log_form::{Header, Listed, LogError, Record, record_bytes};
+use durable_model::{Disk, DiskError};
+use std::alloc::Global;
+
+/// A journal's file has at most so many bytes.
+pub const MOST_BYTES: u64 = 4_294_967_295;
+
+/// The journal of one node, open on its disk.
+#[derive(Drop)]
+pub struct Log<D> {
+    alloc: Global,
+    disk: D,
+    header: Header,
+    /// Where the closed gate stands.
+    gate: u64,
+    /// How many records were listed and acknowledged.
+    count: u64,
+    /// False once the device has failed.
+    going: bool,
+    ghost fewer: { count ≤ gate },
+}
+
+impl<D: Disk> Log<D> {
+    ghost use Rattle.acceptor_log.specs.Acknowledged.{acknowledged, file_with, IsSound, IsUnwritten, IsNoFault};
+
+    /// Makes the journal with this header and no records on a disk, over what is there. Until it has answered `Ok`
+    /// nothing is promised of the disk; after `NoMemory` nothing was written.
+    pub fn create(alloc: Global, disk: D, header: &Header) -> Result<Log<D>, (D, LogError)>
+        ensures sound { IfOk result (IsSound D.is_honest D.seen D.may_leave) }
+        ensures ok { IfOk result (λ log. (log.going ≡ true) × (log.header ≡ header.now)) }
+        ensures honest { MatchResult result (λ log. D.is_honest log.disk ↔ D.is_honest disk)
+            (λ refused. D.is_honest refused.0 ↔ D.is_honest disk) }
+        ensures none { D.is_honest disk → IfOk result (λ log. acknowledged D.seen log ≡ []) }
+
+        // It does not give up by itself.
+        ensures unwritten { D.is_honest disk → IfErr result (λ refused. refused.1 ≢ LogError.Device
+            → Unchanged D.seen D.may_leave disk refused.0) }
+        ensures faults { IfErr result (λ refused. refused.1 ≢ LogError.Device → refused.1 ≡ LogError.NoMemory) }
+        ensures failed { IfErr result (λ refused. refused.1 ≡ LogError.Device
+            → Risen (D.faults disk) (D.faults refused.0)) }
+        ensures later { MatchResult result (λ log. D.faults disk ≤ D.faults log.disk)
+            (λ refused. D.faults disk ≤ D.faults refused.0) }
+    {
+        let mut disk = disk;
+        match lay(alloc, header, &mut disk) {
+            Ok(()) => Ok(Log {
+                alloc,
+                disk,
+                header: *header,
+                gate: 38,
+                count: 0,
+                going: true,
+            }),
+            Err(refused) => Err((disk, refused)),
+        }
+    }
+
+    /// Opens the journal with this header, and lists its records. It syncs before it reads, so what it lists is
+    /// durable. Where it refuses, the disk comes back.
+    pub fn open(
+        alloc: Global,
+        disk: D,
+        header: &Header,
+    ) -> Result<(Log<D>, Vec<Record>), (D, LogError)>
+        ensures sound { IfOk result (λ opened. IsSound D.is_honest D.seen D.may_leave opened.0) }
+        ensures ok { IfOk result (λ opened. (opened.0.going ≡ true) × (opened.0.header ≡ header.now)) }
+        ensures honest { MatchResult result (λ opened. D.is_honest opened.0.disk ↔ D.is_honest disk)
+            (λ refused. D.is_honest refused.0 ↔ D.is_honest disk) }
+        ensures listed { D.is_honest disk
+            → IfOk result (λ opened. StandsFor header.now opened.1.items (D.seen disk)) }
+        ensures acknowledged { D.is_honest disk
+            → IfOk result (λ opened. acknowledged D.seen opened.0 ≡ opened.1.items) }
+
+        // The disk is as it was, and a crash meanwhile leaves what it might have left before.
+        ensures unchanged { D.is_honest disk → MatchResult result
+            (λ opened. Unchanged D.seen D.may_leave disk opened.0.disk)
+            (λ refused. Unchanged D.seen D.may_leave disk refused.0) }
+        ensures any_moment { D.is_honest disk → MatchResult result
+            (λ opened. LeavesOnly D.moment D.left_since disk opened.0.disk (D.may_leave disk))
+            (λ refused. LeavesOnly D.moment D.left_since disk refused.0 (D.may_leave disk)) }
+
+        // It does not give up by itself.
+        ensures refused { D.is_honest disk → IfErr result (λ refused. refused.1 ≢ LogError.NoMemory
+            → refused.1 ≢ LogError.Device → HasFault header.now (D.seen disk) refused.1) }
+        ensures failed { IfErr result (λ refused. refused.1 ≡ LogError.Device
+            → Risen (D.faults disk) (D.faults refused.0)) }
+        ensures later { MatchResult result (λ opened. D.faults disk ≤ D.faults opened.0.disk)
+            (λ refused. D.faults disk ≤ D.faults refused.0) }
+    {
+        let mut disk = disk;
+        match load(alloc, header, &mut disk) {
+            Ok(found) => {
+                let Listed { records, gate } = found;
+                let log = Log {
+                    alloc,
+                    disk,
+                    header: *header,
+                    gate: gate as u64,
+                    count: records.len() as u64,
+                    going: true,
+                };
+                Ok((log, records))
+            }
+            Err(refused) => Err((disk, refused)),
+        }
+    }
+
+    /// Adds a record. At `Ok` it is acknowledged: from then on each crash leaves a journal that has it. After
+    /// `Device` every call answers `Stopped`, until the journal is opened again.
+    pub fn append(&mut self, entry: &Record) -> Result<(), LogError>
+        requires { IsSound D.is_honest D.seen D.may_leave self.old }
+        ensures sound { IsSound D.is_honest D.seen D.may_leave self.new }
+        ensures honest { D.is_honest self.new.disk ↔ D.is_honest self.old.disk }
+        ensures same { self.new.header ≡ self.old.header }
+
+        ensures added { D.is_honest self.old.disk → self.old.going ≡ true → OnOk result
+            (acknowledged D.seen self.new ≡ acknowledged D.seen self.old ++ entry.now ∷ []) }
+        ensures err { D.is_honest self.old.disk
+            → OnErr result (acknowledged D.seen self.new ≡ acknowledged D.seen self.old) }
+        ensures ok { OnOk result ((self.old.going ≡ true) × (self.new.going ≡ true)) }
+
+        // A crash at any moment of the call leaves what was acknowledged before it, with the record or without.
+        ensures any_moment { D.is_honest self.old.disk → self.old.going ≡ true
+            → LeavesOnly D.moment D.left_since self.old.disk self.new.disk
+            (Between self.old.header (acknowledged D.seen self.old) (acknowledged D.seen self.old ++ entry.now ∷ [])) }
+
+        // It does not give up by itself.
+        ensures stopped { self.old.going ≡ false → (result ≡ Err LogError.Stopped) × (self.new ≡ self.old) }
+        ensures only_stopped { result ≡ Err LogError.Stopped → self.old.going ≡ false }
+        ensures stops { result ≡ Err LogError.Device → self.new.going ≡ false }
+        ensures failed { result ≡ Err LogError.Device → Risen (D.faults self.old.disk) (D.faults self.new.disk) }
+        ensures later { D.faults self.old.disk ≤ D.faults self.new.disk }
+        ensures unwritten { D.is_honest self.old.disk
+            → IfErr result (λ e. e ≢ LogError.Device → IsUnwritten D.seen D.may_leave self.old self.new) }
+        ensures full { result ≡ Err LogError.Full → MOST_BYTES < file_with self.old entry.now }
+        ensures too_long { self.old.going ≡ true → MOST_BYTES < file_with self.old entry.now → result ≡ Err LogError.Full }
+        ensures no_fault { IfErr result IsNoFault }
+    {
+        if !self.going {
+            return Err(LogError::Stopped);
+        }
+        let block = match block_behind(self.alloc, self.gate, entry) {
+            Ok(block) => block,
+            Err(refused) => return Err(refused),
+        };
+        match put(&mut self.disk, self.gate, block.as_slice()) {
+            Ok(()) => {
+                self.gate += block.len() as u64;
+                self.count += 1;
+                Ok(())
+            }
+            Err(DiskError::NoMemory) => Err(LogError::NoMemory),
+            Err(DiskError::Device) => {
+                self.going = false;
+                Err(LogError::Device)
+            }
+        }
+    }
+
+    /// The disk that the journal is on.
+    pub fn disk(&self) -> &D
+        ensures { result.now ≡ self.now.disk }
+    {
+        &self.disk
+    }
+
+    /// Gives the disk back; takes no memory.
+    pub fn into_disk(self) -> D
+        ensures { result ≡ self.disk }
+    {
+        let Log { disk, .. } = self;
+        disk
+    }
+}
+
+/// What is written for a record behind a gate that stands there: its block and a next gate, closed, where the file
+/// has room for it.
+fn block_behind(alloc: Global, gate: u64, entry: &Record) -> Result<Vec<u8>, LogError>
+    ensures block { IfOk result (λ block. IsBlock entry.now block.items) }
+    ensures room { IfOk result (λ block. gate + 1 + length block.items ≤ MOST_BYTES) }
+    ensures size { OnOk result (gate + 6 + length (body_text entry.now) ≤ MOST_BYTES) }
+    ensures refused { IfErr result (λ e. e ≢ LogError.NoMemory →
+        (e ≡ LogError.Full) × (MOST_BYTES < gate + 6 + length (body_text entry.now))) }
+    ensures full { MOST_BYTES < gate + 6 + length (body_text entry.now) → result ≡ Err LogError.Full }
+{
+    let body = entry.body_len() as u64;
+    if body > MOST_BYTES - 6 || gate > MOST_BYTES - 6 - body {
+        return Err(LogError::Full);
+    }
+    let mut block = record_bytes(alloc, entry)?;
+    block.push(0)?;
+    Ok(block)
+}

@@ -1,0 +1,67 @@
+//! Making a journal, and opening one.
+
+ghost use Rattle.std.specs.Prelude.{◌≡◌, ◌≢◌, ◌≤◌, ◌+◌, ◌↔◌, [], true, length, OnOk, IfOk, IfErr, MatchResult};
+ghost use Rattle.durable_model.specs.Honest.{Only, Unchanged, Risen};
+ghost use Rattle.durable_model.specs.Moments.{LeavesOnly};
+ghost use Rattle.acceptor_log_form.specs.Text.{blocks, StandsFor};
+ghost use Rattle.acceptor_log_form.specs.Fault.{HasFault};
+ghost use Rattle.acceptor_log.specs.Rest.{Rests};
+ghost use Rattle.acceptor_log.specs.Faults.{fault_of};
+
+use crate::device::write_durably;
+use acceptor_log_form::{Header, Listed, LogError, header_bytes, read};
+use durable_model::{Disk, DiskError};
+use std::alloc::Global;
+
+/// Writes the journal of no records, in one write, and syncs it.
+pub fn lay<D: Disk>(alloc: Global, header: &Header, disk: &mut D) -> Result<(), LogError>
+    ensures honest { D.is_honest disk.new ↔ D.is_honest disk.old }
+    ensures rests { D.is_honest disk.old
+        → OnOk result (Rests D.is_honest D.seen D.may_leave header.now [] 38 disk.new) }
+    ensures unwritten { D.is_honest disk.old
+        → IfErr result (λ e. e ≢ LogError.Device → Unchanged D.seen D.may_leave disk.old disk.new) }
+    ensures faults { IfErr result (λ e. e ≢ LogError.Device → e ≡ LogError.NoMemory) }
+    ensures failed { result ≡ Err LogError.Device → Risen (D.faults disk.old) (D.faults disk.new) }
+    ensures later { D.faults disk.old ≤ D.faults disk.new }
+{
+    let mut bytes = header_bytes(alloc, header)?;
+    bytes.push(0)?;
+    match write_durably(disk, 0, bytes.as_slice()) {
+        Ok(()) => Ok(()),
+        Err(fault) => Err(told(fault)),
+    }
+}
+
+/// Syncs, so that what is read is durable, and reads the journal with this header.
+pub fn load<D: Disk>(alloc: Global, header: &Header, disk: &mut D) -> Result<Listed, LogError>
+    ensures honest { D.is_honest disk.new ↔ D.is_honest disk.old }
+    ensures unchanged { D.is_honest disk.old → Unchanged D.seen D.may_leave disk.old disk.new }
+    ensures any_moment { D.is_honest disk.old
+        → LeavesOnly D.moment D.left_since disk.old disk.new (D.may_leave disk.old) }
+    ensures rests { D.is_honest disk.old → IfOk result (λ found.
+        Rests D.is_honest D.seen D.may_leave header.now found.records.items found.gate disk.new) }
+    ensures fewer { IfOk result (λ found. length found.records.items ≤ found.gate) }
+    ensures refused { D.is_honest disk.old → IfErr result (λ e.
+        e ≢ LogError.NoMemory → e ≢ LogError.Device → HasFault header.now (D.seen disk.old) e) }
+    ensures failed { result ≡ Err LogError.Device → Risen (D.faults disk.old) (D.faults disk.new) }
+    ensures later { D.faults disk.old ≤ D.faults disk.new }
+{
+    match disk.sync() {
+        Ok(()) => {}
+        Err(fault) => return Err(told(fault)),
+    }
+    match disk.read(alloc) {
+        Ok(bytes) => read(alloc, header, bytes.as_slice()),
+        Err(fault) => Err(told(fault)),
+    }
+}
+
+/// What a failed call of the disk is told as.
+fn told(fault: DiskError) -> LogError
+    ensures { result ≡ fault_of fault }
+{
+    match fault {
+        DiskError::Device => LogError::Device,
+        DiskError::NoMemory => LogError::NoMemory,
+    }
+}

@@ -1,0 +1,47 @@
+-- A body is of one record, and a record has one body.
+use Rattle.std.proofs.Common.{◌≡◌, ℕ, zero, suc, ◌+◌, true, leb, ◌<◌, ◌^◌, cond, List, [], ◌∷◌, ◌++◌, length, get_or}
+use Rattle.std.proofs.Common.{take, Some, None, refl, sym, ap, ◌∙◌, arith}
+use Rattle.std.specs.Int.{w16, w32, from_be_bytes, to_be_bytes}
+use Rattle.std.proofs.lemmas.Bool.{le-leb}
+use Rattle.std.proofs.lemmas.List.{length-append, take_at}
+use Rattle.std.proofs.lemmas.Nat.{be_bytes_2, from_be_bytes-to_be_bytes_2, from_be_bytes-to_be_bytes_4}
+use Rattle.acceptor_log_form.specs.declared.record.Record.{Record}
+use Rattle.acceptor_log_form.specs.declared.record.Record.TheVariants.{Offered, Started, Proposed, Promised, Accepted}
+use Rattle.acceptor_log_form.specs.Text.{body_text, block_text, Fits, FitsWidths}
+use Rattle.acceptor_log_form.specs.Reading.{record_of, block_size, first_record}
+
+-- two bytes are the text of the number that they are
+pub number-text : (a b : ℕ) → a < 256 → b < 256 → to_be_bytes w16 (from_be_bytes w16 (a ∷ b ∷ [])) ≡ a ∷ b ∷ []
+number-text a b below_a below_b = be_bytes_2 (a ∷ b ∷ []) _ refl are refl
+  where
+    are : (i : ℕ) → get_or (a ∷ b ∷ []) i 0 < 256
+    are zero = below_a
+    are (suc zero) = below_b
+    are (suc (suc i)) = omega arith
+
+pub number-width : (a b : ℕ) → a < 256 → b < 256 → from_be_bytes w16 (a ∷ b ∷ []) < 2 ^ 16
+number-width a b below_a below_b = omega (arith, below_a, below_b)
+
+pub record_of-text : (r : Record) → FitsWidths r → record_of (body_text r) ≡ Some r
+record_of-text (Offered room offer) fits = λ i. Some (Offered (from_be_bytes-to_be_bytes_2 room fits i) offer)
+record_of-text (Started room b) fits = λ i. Some (Started (from_be_bytes-to_be_bytes_2 room fits.0 i) (from_be_bytes-to_be_bytes_2 b fits.1 i))
+record_of-text (Proposed room b v) fits = λ i. Some (Proposed (from_be_bytes-to_be_bytes_2 room fits.0 i) (from_be_bytes-to_be_bytes_2 b fits.1 i) v)
+record_of-text (Promised room b) fits = λ i. Some (Promised (from_be_bytes-to_be_bytes_2 room fits.0 i) (from_be_bytes-to_be_bytes_2 b fits.1 i))
+record_of-text (Accepted room b v) fits = λ i. Some (Accepted (from_be_bytes-to_be_bytes_2 room fits.0 i) (from_be_bytes-to_be_bytes_2 b fits.1 i) v)
+
+pub length-block_text : (r : Record) → length (block_text r) ≡ 4 + length (body_text r)
+length-block_text r = length-append (to_be_bytes w32 (length (body_text r))) (body_text r)
+
+-- a block and what stands behind it: its size
+pub block_size-text : (r : Record) (rest : List ℕ) → Fits r → block_size (block_text r ++ rest) ≡ length (block_text r)
+block_size-text r rest fits = ap (λ (n : ℕ). 4 + n) (from_be_bytes-to_be_bytes_4 (length (body_text r)) fits.1) ∙ sym (length-block_text r)
+
+-- and its record
+pub first_record-text : (r : Record) (rest : List ℕ) → Fits r → first_record (block_text r ++ rest) ≡ Some r
+first_record-text r rest fits =
+    let size : from_be_bytes w32 (to_be_bytes w32 (length (body_text r))) ≡ length (body_text r) = from_be_bytes-to_be_bytes_4 (length (body_text r)) fits.1 in
+    let whole : leb (length (body_text r)) (length (body_text r ++ rest)) ≡ true = le-leb _ _ (omega (arith, length-append (body_text r) rest)) in
+    ap (λ n. cond (leb n (length (body_text r ++ rest))) (record_of (take n (body_text r ++ rest))) None) size
+    ∙ ap (λ t. cond t (record_of (take (length (body_text r)) (body_text r ++ rest))) None) whole
+    ∙ ap record_of (take_at (body_text r) rest (length (body_text r)) refl)
+    ∙ record_of-text r fits.0

@@ -1,0 +1,4 @@
+pub mod Blocks
+pub mod Bodies
+pub mod LeavesLemmas
+pub mod Texts

@@ -1,0 +1,20 @@
+//! What the bytes of a node's journal stand for: a header that names the node and its source, then records, each behind
+//! a gate that counts only where it is open, up to a closed gate. Reading and writing are exact, each list of records
+//! has one text, and what the records leave of each room, with the order that they keep there, is defined and tested.
+#![tactic(auto)]
+
+mod errors;
+mod header;
+mod laws;
+mod reading;
+mod record;
+mod rooms;
+mod writing;
+
+pub use errors::LogError;
+pub use header::Header;
+pub use laws::{no_fault, one_list, text_stands};
+pub use reading::{Listed, read};
+pub use record::Record;
+pub use rooms::kept_parts;
+pub use writing::{header_bytes, journal_bytes, record_bytes};

@@ -1,0 +1,154 @@
+//! Reading journals.
+
+ghost use Rattle.std.specs.Prelude.{◌≡◌, ◌≢◌, ◌+◌, ◌↔◌, ℕ, List, ◌∷◌, ◌++◌, None, length, take, drop, IsTrue, IfSome};
+ghost use Rattle.std.specs.Prelude.{IfNone, IfOk, OnOk, IfErr};
+ghost use Rattle.acceptor_log_form.specs.Text.{body_text, block_text, blocks, header_text, Fits, FitsWidths};
+ghost use Rattle.acceptor_log_form.specs.Text.{StandsBehind, StandsFor};
+ghost use Rattle.acceptor_log_form.specs.Reading.{record_of, first_record, records_behind};
+ghost use Rattle.acceptor_log_form.specs.Fault.{magic, IsInForm, HasFault};
+
+use crate::errors::LogError;
+use crate::header::Header;
+use crate::record::Record;
+use lang::Row;
+use std::alloc::Global;
+
+/// What a journal's bytes stand for, and where its closed gate stands.
+#[derive(Drop)]
+pub struct Listed {
+    pub records: Vec<Record>,
+    pub gate: usize,
+}
+
+/// The records of the journal with this header, and where its closed gate stands. What is refused has the fault that is
+/// told: the first one in the order of the bytes.
+pub fn read(alloc: Global, header: &Header, bytes: &[u8]) -> Result<Listed, LogError>
+    ensures ok { IfOk result (λ found. StandsFor header.now found.records.items bytes.now) }
+    ensures gate { IfOk result (λ found. found.gate ≡ 38 + length (blocks found.records.items)) }
+    ensures refused { IfErr result (λ e. e ≢ LogError.NoMemory → HasFault header.now bytes.now e) }
+{
+    let behind = behind_header(header, bytes)?;
+    let mut found = read_records(alloc, behind)?;
+    found.gate += 38;
+    Ok(found)
+}
+
+/// What stands behind the header's 38 bytes.
+fn behind_header<'a>(header: &Header, bytes: &'a [u8]) -> Result<&'a [u8], LogError>
+    ensures header { OnOk result (IsInForm bytes.now × (take 38 bytes.now ≡ header_text header.now)) }
+    ensures behind { IfOk result (λ behind. behind.now ≡ drop 38 bytes.now) }
+    ensures refused { IfErr result (λ e. (e ≢ LogError.BadRecord) × HasFault header.now bytes.now e) }
+{
+    if bytes.len() < 39 {
+        return Err(LogError::NotAJournal);
+    }
+    if !begins_with_magic(bytes) {
+        return Err(LogError::NotAJournal);
+    }
+    let (head, behind) = bytes.split_at(38);
+    if !is_header(header, head) {
+        return Err(LogError::OtherSource);
+    }
+    Ok(behind)
+}
+
+fn begins_with_magic(bytes: &[u8]) -> bool
+    ensures { IsTrue result ↔ (take 4 bytes.now ≡ magic) }
+{
+    match bytes {
+        [a, b, c, d, _rest @ ..] => *a == b'C' && *b == b'F' && *c == b'J' && *d == b'1',
+        _ => false,
+    }
+}
+
+/// Whether the bytes are the header's, all of them.
+fn is_header(header: &Header, bytes: &[u8]) -> bool
+    ensures { IsTrue result ↔ (bytes.now ≡ header_text header.now) }
+{
+    match bytes {
+        [b'C', b'F', b'J', b'1', nodes, node, digest @ ..] => {
+            *nodes == header.nodes && *node == header.node && is_digest(&header.digest, digest)
+        }
+        _ => false,
+    }
+}
+
+fn is_digest(digest: &[u8; 32], bytes: &[u8]) -> bool
+    ensures { IsTrue result ↔ (bytes.now ≡ digest.now) }
+{
+    bytes == digest.as_slice()
+}
+
+/// The records from a gate on.
+fn read_records(alloc: Global, bytes: &[u8]) -> Result<Listed, LogError>
+    ensures ok { IfOk result (λ found. StandsBehind found.records.items bytes.now) }
+    ensures gate { IfOk result (λ found. found.gate ≡ length (blocks found.records.items)) }
+    ensures refused { IfErr result (λ e. e ≢ LogError.NoMemory →
+        (e ≡ LogError.BadRecord) × (records_behind 0 bytes.now ≡ None)) }
+{
+    let mut records = Vec::new(alloc);
+    let mut rest = bytes;
+    while let Some(behind) = behind_open(rest) {
+        let (entry, after) = read_first(alloc, behind)?;
+        records.push(entry)?;
+        rest = after;
+    }
+    if rest.is_empty() {
+        return Err(LogError::BadRecord);
+    }
+    Ok(Listed {
+        records,
+        gate: bytes.len() - rest.len(),
+    })
+}
+
+/// The bytes behind an open gate.
+fn behind_open(bytes: &[u8]) -> Option<&[u8]>
+    ensures opened { IfSome result (λ behind. bytes.now ≡ 1 ∷ behind.now) }
+    ensures closed { IfNone result ((behind : List ℕ) → bytes.now ≢ 1 ∷ behind) }
+{
+    match bytes {
+        [1, behind @ ..] => Some(behind),
+        _ => None,
+    }
+}
+
+/// The record of the block that the bytes begin with, and what stands behind it.
+fn read_first(alloc: Global, bytes: &[u8]) -> Result<(Record, &[u8]), LogError>
+    ensures text { IfOk result (λ found. bytes.now ≡ block_text found.0 ++ found.1.now) }
+    ensures fits { IfOk result (λ found. Fits found.0) }
+    ensures refused { IfErr result (λ e. e ≢ LogError.NoMemory →
+        (e ≡ LogError.BadRecord) × (first_record bytes.now ≡ None)) }
+{
+    let [a, b, c, d, rest @ ..] = bytes else {
+        return Err(LogError::BadRecord);
+    };
+    let size = u32::from_be_bytes([*a, *b, *c, *d]) as usize;
+    if rest.len() < size {
+        return Err(LogError::BadRecord);
+    }
+    let (body, after) = rest.split_at(size);
+    let entry = read_body(alloc, body)?;
+    Ok((entry, after))
+}
+
+/// The record that a body is, all of it.
+fn read_body(alloc: Global, body: &[u8]) -> Result<Record, LogError>
+    ensures text { IfOk result (λ entry. body.now ≡ body_text entry) }
+    ensures widths { IfOk result FitsWidths }
+    ensures refused { IfErr result (λ e. e ≢ LogError.NoMemory →
+        (e ≡ LogError.BadRecord) × (record_of body.now ≡ None)) }
+{
+    let [code, high, low, rest @ ..] = body else {
+        return Err(LogError::BadRecord);
+    };
+    let room = u16::from_be_bytes([*high, *low]);
+    match (*code, rest) {
+        (1, offer) => Ok(Record::Offered(room, Row::from_vec(Vec::from_slice(alloc, offer)?))),
+        (2, [a, b]) => Ok(Record::Started(room, u16::from_be_bytes([*a, *b]))),
+        (3, [a, b, value]) => Ok(Record::Proposed(room, u16::from_be_bytes([*a, *b]), *value)),
+        (4, [a, b]) => Ok(Record::Promised(room, u16::from_be_bytes([*a, *b]))),
+        (5, [a, b, value]) => Ok(Record::Accepted(room, u16::from_be_bytes([*a, *b]), *value)),
+        _ => Err(LogError::BadRecord),
+    }
+}

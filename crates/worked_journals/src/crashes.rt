@@ -1,0 +1,89 @@
+//! Appends on disks that fail and crash.
+
+use acceptor_log::{Header, Log, Record};
+use durable_model::{Disk, MemoryDisk};
+use lang::Row;
+use rand_pcg::Pcg32;
+use std::alloc::Global;
+
+const HEADER: Header = Header {
+    nodes: 3,
+    node: 0,
+    digest: [7; 32],
+};
+
+/// Whether, with each of so many calls failing in turn, each of 16 crashes leaves what was acknowledged.
+pub fn all_survive(alloc: Global, appends: u16, calls: usize) -> Option<bool> {
+    for fails in 0..calls {
+        let mut disk = MemoryDisk::new(alloc, calls, 100_000).ok()?;
+        disk.fail_at(fails);
+        let (disk, done) = filled(alloc, disk, appends)?;
+        let Some(done) = done else {
+            continue;
+        };
+        for seed in 0..16u64 {
+            if !survives(alloc, &disk, done, seed)? {
+                return Some(false);
+            }
+        }
+    }
+    Some(true)
+}
+
+/// Makes a journal and appends so many records, up to the first that is refused; tells how many were acknowledged.
+fn filled<D: Disk>(alloc: Global, disk: D, appends: u16) -> Option<(D, Option<u16>)> {
+    let mut log = match Log::create(alloc, disk, &HEADER) {
+        Ok(log) => log,
+        Err((disk, _refused)) => return Some((disk, None)),
+    };
+    let mut done = 0;
+    for number in 0..appends {
+        let Some(entry) = entry_of(alloc, number) else {
+            break;
+        };
+        if log.append(&entry).is_err() {
+            break;
+        }
+        done = number + 1;
+    }
+    Some((log.into_disk(), Some(done)))
+}
+
+/// Whether a crash leaves a journal of the first so many records, or of one more.
+fn survives(alloc: Global, disk: &MemoryDisk, done: u16, seed: u64) -> Option<bool> {
+    let crashed = disk.crash(alloc, &mut Pcg32::new(seed, 0)).ok()?;
+    let Ok((_log, records)) = Log::open(alloc, crashed, &HEADER) else {
+        return Some(false);
+    };
+    let many = records.len();
+    let known = usize::from(done);
+    Some((many == known || many == known + 1) && are_first(alloc, records.as_slice())?)
+}
+
+fn are_first(alloc: Global, records: &[Record]) -> Option<bool> {
+    for (number, entry) in records.iter().enumerate() {
+        if *entry != entry_of(alloc, u16::try_from(number).ok()?)? {
+            return Some(false);
+        }
+    }
+    Some(true)
+}
+
+/// One record for each number, of each kind in turn.
+fn entry_of(alloc: Global, number: u16) -> Option<Record> {
+    Some(match number % 5 {
+        0 => Record::Offered(number, offer_of(alloc, number)?),
+        1 => Record::Started(number, 3),
+        2 => Record::Proposed(number, 3, 1),
+        3 => Record::Promised(number, 4),
+        _ => Record::Accepted(number, 4, 2),
+    })
+}
+
+fn offer_of(alloc: Global, number: u16) -> Option<Row<u8>> {
+    let mut bytes = Vec::new(alloc);
+    for index in 0..number {
+        bytes.push((index % 251) as u8).ok()?;
+    }
+    Some(Row::from_vec(bytes))
+}

@@ -1,0 +1,20 @@
+//! Journals with known answers: each row of a file is asked for, and those that are answered otherwise are told.
+//!
+//! | Question | Answer |
+//! |---|---|
+//! | `read HEADER JOURNAL` | how many records the bytes stand for, or the number of the fault. As in the file that the rows come from, a ballot 0 or a value that is no node is 403 |
+//! | `list HEADER JOURNAL` | the records: the code of each, its room and its numbers |
+//! | `open HEADER JOURNAL` | how many records are listed where the bytes lie on a disk, or the number of the fault |
+//! | `crashes APPENDS CALLS` | `yes`, where with each of so many calls of the disk failing in turn, and 16 crashes behind each, a journal opens with what was acknowledged, with one record more or without |
+#![tactic(auto)]
+
+mod crashes;
+mod rows;
+
+use crate::rows::Rows;
+use program_rows::compare;
+use std::io;
+
+fn main(rt: HostRuntime) -> io::Result<()> {
+    compare(&rt, "journals.txt", &mut Rows)
+}
