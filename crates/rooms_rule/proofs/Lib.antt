@@ -5,3 +5,4 @@ pub mod OfferLemmas
 pub mod HearLemmas
 pub mod Looks
 pub mod Stores
+pub mod Deal

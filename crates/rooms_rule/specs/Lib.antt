@@ -5,3 +5,4 @@ pub mod Rule
 pub mod NotBelow
 pub mod Heard
 pub mod Steps
+pub mod Deal
