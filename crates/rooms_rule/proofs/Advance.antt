@@ -93,12 +93,12 @@ module _ {S : Type 0} (s : State S View) (id : ℕ) (v : View) (rule : RoomRule 
           later = events_of steps ++ h.later;
           seen = ap (λ (r : List Event). events_of steps ++ r) h.seen ∙ sym (append_assoc (events_of steps) h.later u.seen);
           quiet = λ i mine.
-            subst (λ (ls : List Label). AreStepsOfOthers v.opening.count i ls) (sym (labels_of-events steps h.later))
-            (others-append v.opening.count i steps (labels_of h.later) (others_of_own v.opening.count i v.node.me steps own (apart i mine)) (h.quiet i mine));
+              subst (λ (ls : List Label). AreStepsOfOthers v.opening.count i ls) (sym (labels_of-events steps h.later))
+              (others-append v.opening.count i steps (labels_of h.later) (others_of_own v.opening.count i v.node.me steps own (apart i mine)) (h.quiet i mine));
           told = begins_longer (events_of steps) rule.run u.told h.told;
           belongs = λ mine.
-            subst (λ (x : World). BelongsButOffer v.opening.count x u.node) (sym (world_after-events v.opening steps rule.run))
-            (others_leave v.opening.count (world_after v.opening rule.run) u.node steps (others_of_own v.opening.count u.node.me v.node.me steps own (apart u.node.me mine)) (h.belongs mine));
+              subst (λ (x : World). BelongsButOffer v.opening.count x u.node) (sym (world_after-events v.opening steps rule.run))
+              (others_leave v.opening.count (world_after v.opening rule.run) u.node steps (others_of_own v.opening.count u.node.me v.node.me steps own (apart u.node.me mine)) (h.belongs mine));
         }
 
     views_fit : (j : ℕ) (u : View) → get_elem? (set s.views id (view_with v (events_of steps ++ rule.run) t)) j ≡ some u → Fits v.opening (events_of steps ++ rule.run) u
@@ -146,13 +146,12 @@ pub allows : {S : Type 0} (o : Opening) (slots id : ℕ) (me : Me S View) (k : �
 allows {S} o slots id me k f then seated step s rule len at bound =
     subst
     (λ (x : Opening). (w : View) × (a : Act S) × Valid s.homes me.1 a × RoomRule x (stepped s k (f (get_or s.words k 0)) id me.1 w a) × then (get_or s.words k 0) (w, carried_after me.1 a))
-    ((rule.views id me.0 at).opening seated.live)
-    (
+    ((rule.views id me.0 at).opening seated.live) (
       view_with me.0 (events_of todo.steps ++ here.run) todo.node,
       keeps,
       tt,
       keeps_rule s id me.0 here at seated todo.steps todo.node todo.answer todo.takes todo.me (set s.words k (f (get_or s.words k 0)))
-        (subst (λ (x : World). ShowsWorld me.0.opening.count x (set s.words k (f (get_or s.words k 0)))) (sym (world_after-events me.0.opening todo.steps here.run)) todo.shows),
+          (subst (λ (x : World). ShowsWorld me.0.opening.count x (set s.words k (f (get_or s.words k 0)))) (sym (world_after-events me.0.opening todo.steps here.run)) todo.shows),
       todo.told (advances s id me.0 here at seated todo.steps todo.node todo.answer todo.takes todo.me),
     )
   where

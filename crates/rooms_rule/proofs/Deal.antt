@@ -2,7 +2,7 @@
 use Rattle.std.proofs.Common.{◌≡◌, ◌≢◌, ℕ, zero, suc, ◌+◌, ◌*◌, ◌<◌, ◌≤◌, ◌⊎◌, true, false, List, [], ◌∷◌, ◌++◌, length, set, get_or, append-nil, Option, Some, None, refl, sym, ap, ◌∙◌, subst, inl, inr, arith}
 use mathlib.Core.Option.{some, some-injective, some-ne-none}
 use lib.ListN.{get_elem?}
-use Rattle.atomic_table.specs.Table.{State, Splits, Joins} 
+use Rattle.atomic_table.specs.Table.{State, Splits, Joins}
 use Rattle.atomic_table.specs.Table as table
 use Rattle.atomic_table.proofs.Lists.{at_set}
 use Rattle.paxos_world.specs.KeptPart.{KeptPart, nothing_kept}
@@ -47,9 +47,9 @@ module _ {S : Type 0} (o : Opening) (id : ℕ) (v left right : View)
       views j u e =
           elim (at_end (set s.views id left) right u j e) [
             | inl h ↦ elim (at_set s.views id j left u h) [
-                | inl p ↦ subst (λ (x : View). Fits o rule.run x) p.1 (fits_left rule.run rule.legal (rule.views id v at))
-                | inr p ↦ rule.views j u p.1
-              ]
+              | inl p ↦ subst (λ (x : View). Fits o rule.run x) p.1 (fits_left rule.run rule.legal (rule.views id v at))
+              | inr p ↦ rule.views j u p.1
+            ]
             | inr h ↦ subst (λ (x : View). Fits o rule.run x) h.0 (fits_right rule.run rule.legal (rule.views id v at))
           ]
 
@@ -72,28 +72,28 @@ module _ {S : Type 0} (o : Opening) (id : ℕ) (v left right : View)
       apart p q i u w e f mu mw =
           elim (place p u e) [
             | inl a ↦ elim (place q w f) [
-                | inl b ↦ a.0 ∙ sym b.0
-                | inr y ↦ elim y [
-                    | inl b ↦ absurd (b.0 (rule.apart q id i w v b.1 at mw (mine_left i (of_left u i a.1 mu))))
-                    | inr b ↦ absurd (other i (of_left u i a.1 mu) (of_right w i b.0 mw))
-                  ]
+              | inl b ↦ a.0 ∙ sym b.0
+              | inr y ↦ elim y [
+                | inl b ↦ absurd (b.0 (rule.apart q id i w v b.1 at mw (mine_left i (of_left u i a.1 mu))))
+                | inr b ↦ absurd (other i (of_left u i a.1 mu) (of_right w i b.0 mw))
               ]
+            ]
             | inr x ↦ elim x [
-                | inl a ↦ elim (place q w f) [
-                    | inl b ↦ absurd (a.0 (rule.apart p id i u v a.1 at mu (mine_left i (of_left w i b.1 mw))))
-                    | inr y ↦ elim y [
-                        | inl b ↦ rule.apart p q i u w a.1 b.1 mu mw
-                        | inr b ↦ absurd (a.0 (rule.apart p id i u v a.1 at mu (mine_right i (of_right w i b.0 mw))))
-                      ]
-                  ]
-                | inr a ↦ elim (place q w f) [
-                    | inl b ↦ absurd (other i (of_left w i b.1 mw) (of_right u i a.0 mu))
-                    | inr y ↦ elim y [
-                        | inl b ↦ absurd (b.0 (rule.apart q id i w v b.1 at mw (mine_right i (of_right u i a.0 mu))))
-                        | inr b ↦ a.1 ∙ sym b.1
-                      ]
-                  ]
+              | inl a ↦ elim (place q w f) [
+                | inl b ↦ absurd (a.0 (rule.apart p id i u v a.1 at mu (mine_left i (of_left w i b.1 mw))))
+                | inr y ↦ elim y [
+                  | inl b ↦ rule.apart p q i u w a.1 b.1 mu mw
+                  | inr b ↦ absurd (a.0 (rule.apart p id i u v a.1 at mu (mine_right i (of_right w i b.0 mw))))
+                ]
               ]
+              | inr a ↦ elim (place q w f) [
+                | inl b ↦ absurd (other i (of_left w i b.1 mw) (of_right u i a.0 mu))
+                | inr y ↦ elim y [
+                  | inl b ↦ absurd (b.0 (rule.apart q id i w v b.1 at mw (mine_right i (of_right u i a.0 mu))))
+                  | inr b ↦ a.1 ∙ sym b.1
+                ]
+              ]
+            ]
           ]
 
 -- a node belongs to its room as it opens, and as long as others alone take steps
@@ -111,10 +111,10 @@ dealt_fits o k e i end run legal h low high most =
       quiet = λ j mine. h.quiet j (wider j mine);
       told = h.told;
       belongs = λ mine.
-        let here : i < end = mine.1 in
-        let world : world_after o run ≡ reached (world_after o []) (labels_of h.later) = ap (λ (r : List Event). world_after o r) h.seen ∙ world_after-append o h.later [] in
-        subst (λ (x : World). BelongsButOffer o.count x (dealt_node o i)) (sym world)
-        (others_leave o.count (world_after o []) (dealt_node o i) (labels_of h.later) (h.quiet i (wider i mine)) (opens_with o i legal.settled (omega arith)));
+          let here : i < end = mine.1 in
+          let world : world_after o run ≡ reached (world_after o []) (labels_of h.later) = ap (λ (r : List Event). world_after o r) h.seen ∙ world_after-append o h.later [] in
+          subst (λ (x : World). BelongsButOffer o.count x (dealt_node o i)) (sym world)
+          (others_leave o.count (world_after o []) (dealt_node o i) (labels_of h.later) (h.quiet i (wider i mine)) (opens_with o i legal.settled (omega arith)));
     }
   where
     wider : (j : ℕ) → IsMine (dealt_to o i end) j → IsMine (dealt_to o k e) j
@@ -126,12 +126,12 @@ deals {S} o id p k lt s rule at =
     let e : p ≡ o = (rule.views id (dealing p k) at).opening refl in
     subst (λ (x : Opening). RoomRule x record { words = s.words; homes = s.homes; views = set s.views id (dealing p (k + 1)) ++ dealt p k ∷ [] }) e
     (cuts {S = S} p id (dealing p k) (dealing p (k + 1)) (dealt p k)
-      (λ i m. let x : k + 1 ≤ i = m.0 in (omega arith, m.1))
-      (λ i m. let x : i < k + 1 = m.1 in (m.0, omega arith))
-      (λ i m r. let x : k + 1 ≤ i = m.0 in let y : i < k + 1 = r.1 in omega arith)
-      (λ run legal h. dealt_fits p k p.count (k + 1) p.count run legal h (omega arith) (omega arith) (omega arith))
-      (λ run legal h. dealt_fits p k p.count k (k + 1) run legal h (omega arith) (omega arith) (omega arith))
-      s (subst (λ (x : Opening). RoomRule x s) (sym e) rule) at)
+    (λ i m. let x : k + 1 ≤ i = m.0 in (omega arith, m.1))
+    (λ i m. let x : i < k + 1 = m.1 in (m.0, omega arith))
+    (λ i m r. let x : k + 1 ≤ i = m.0 in let y : i < k + 1 = r.1 in omega arith)
+    (λ run legal h. dealt_fits p k p.count (k + 1) p.count run legal h (omega arith) (omega arith) (omega arith))
+    (λ run legal h. dealt_fits p k p.count k (k + 1) run legal h (omega arith) (omega arith) (omega arith))
+    s (subst (λ (x : Opening). RoomRule x s) (sym e) rule) at)
 
 -- ---- telling
 
@@ -140,14 +140,14 @@ pub makes_witness : {S : Type 0} (o : Opening) (id : ℕ) (v : View) → Splits 
 makes_witness {S} o id v =
     cuts {S = S} o id v v (witness v) (λ i m. m) (λ i m. let x : i < 0 = m.1 in absurd (omega arith)) (λ i m r. let x : i < 0 = r.1 in omega arith) (λ run legal h. h)
     (λ run legal h.
-      record {
-        opening = h.opening;
-        later = h.later;
-        seen = h.seen;
-        quiet = λ i m. let x : i < 0 = m.1 in absurd (omega arith);
-        told = h.told;
-        belongs = λ m. let x : v.node.me < 0 = m.1 in absurd (omega arith);
-      })
+    record {
+      opening = h.opening;
+      later = h.later;
+      seen = h.seen;
+      quiet = λ i m. let x : i < 0 = m.1 in absurd (omega arith);
+      told = h.told;
+      belongs = λ m. let x : v.node.me < 0 = m.1 in absurd (omega arith);
+    })
 
 -- another seat takes in what a witness has seen
 pub takes_witness : {S : Type 0} (o : Opening) (id : ℕ) (v : View) (other : ℕ) (w : View) → Joins {S = S} (RoomRule o) id v other w (informed v w) nobody
@@ -182,9 +182,9 @@ takes_witness {S} o id v other w s rule at away there =
         elim (at_set (set s.views id (informed v w)) other j nobody u e) [
           | inl p ↦ subst (λ (x : View). Fits o rule.run x) p.1 fits_nobody
           | inr p ↦ elim (at_set s.views id j (informed v w) u p.1) [
-              | inl q ↦ subst (λ (x : View). Fits o rule.run x) q.1 fits_informed
-              | inr q ↦ rule.views j u q.1
-            ]
+            | inl q ↦ subst (λ (x : View). Fits o rule.run x) q.1 fits_informed
+            | inr q ↦ rule.views j u q.1
+          ]
         ]
 
     -- a view that owns a node, as the old view with that node
@@ -194,9 +194,9 @@ takes_witness {S} o id v other w s rule at away there =
         elim (at_set (set s.views id (informed v w)) other j nobody u e) [
           | inl p ↦ absurd (none i (subst (λ (x : View). IsMine x i) (sym p.1) mine))
           | inr p ↦ elim (at_set s.views id j (informed v w) u p.1) [
-              | inl q ↦ (v, subst (λ (k : ℕ). get_elem? s.views k ≡ some v) (sym q.0) at, subst (λ (x : View). IsMine x i) (sym q.1) mine)
-              | inr q ↦ (u, q.1, mine)
-            ]
+            | inl q ↦ (v, subst (λ (k : ℕ). get_elem? s.views k ≡ some v) (sym q.0) at, subst (λ (x : View). IsMine x i) (sym q.1) mine)
+            | inr q ↦ (u, q.1, mine)
+          ]
         ]
       where
         none : (i : ℕ) → IsMine nobody i → ⊥
@@ -234,10 +234,10 @@ opens o words empty size zeros =
         record {
           size = size;
           proposers = λ i lt.
-            subst (λ (m : ℕ). IsProposerWord m 0 (proposed_under 0 (shown o.count no_nodes))) (sym (zeros (proposer_at i)))
-            (subst (λ (ms : List Msg). IsProposerWord 0 0 (proposed_under 0 ms)) (sym (shown_nothing o.count)) record { packed = refl; tells_started = refl; tells_proposed = refl });
+              subst (λ (m : ℕ). IsProposerWord m 0 (proposed_under 0 (shown o.count no_nodes))) (sym (zeros (proposer_at i)))
+              (subst (λ (ms : List Msg). IsProposerWord 0 0 (proposed_under 0 ms)) (sym (shown_nothing o.count)) record { packed = refl; tells_started = refl; tells_proposed = refl });
           acceptors = λ i lt.
-            subst (λ (m : ℕ). IsAcceptorWord m 0 None) (sym (zeros (acceptor_at i))) record { packed = refl; tells_promised = refl; tells_accepted = refl };
+              subst (λ (m : ℕ). IsAcceptorWord m 0 None) (sym (zeros (acceptor_at i))) record { packed = refl; tells_promised = refl; tells_accepted = refl };
         }
 
     fits : Fits o [] (dealing o 0)

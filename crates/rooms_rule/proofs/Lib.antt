@@ -6,3 +6,4 @@ pub mod HearLemmas
 pub mod Looks
 pub mod Stores
 pub mod Deal
+pub mod Stays

@@ -64,30 +64,30 @@ module _ {S : Type 0} (o : Opening) (slots id : ℕ) (me : Me S View) (j : ℕ) 
   looks_at_acceptor =
       allows o slots id me (acceptor_at j) (λ n. n) (AcceptorLook (step slots (acceptor_at j) 0 0 none) me) seated
       (λ s rule at.
-        let n = get_or s.words (acceptor_at j) 0 in
-        let w : World = world_after me.0.opening rule.run in
-        let word : IsAcceptorOf w j n = rule.words.acceptors j lt in
-        let quiet = vote_quiet (after_promise me.0.node j (promised_in n) (accepted_in n)) j (accepted_in n) w in
-        let takes = heard s rule at n word in
-        record {
-          steps = taken_by_hearing me.0.node j (promised_in n) (accepted_in n);
-          node = after_hearing me.0.node j (promised_in n) (accepted_in n);
-          answer = None;
-          takes = takes;
-          me = me_hearing me.0.node j (promised_in n) (accepted_in n);
-          shows =
+      let n = get_or s.words (acceptor_at j) 0 in
+      let w : World = world_after me.0.opening rule.run in
+      let word : IsAcceptorOf w j n = rule.words.acceptors j lt in
+      let quiet = vote_quiet (after_promise me.0.node j (promised_in n) (accepted_in n)) j (accepted_in n) w in
+      let takes = heard s rule at n word in
+      record {
+        steps = taken_by_hearing me.0.node j (promised_in n) (accepted_in n);
+        node = after_hearing me.0.node j (promised_in n) (accepted_in n);
+        answer = None;
+        takes = takes;
+        me = me_hearing me.0.node j (promised_in n) (accepted_in n);
+        shows =
             subst (λ (ws : List ℕ). ShowsWorld me.0.opening.count (reached w (taken_by_hearing me.0.node j (promised_in n) (accepted_in n))) ws) (sym (set-get_or s.words (acceptor_at j) 0))
             (shows_read me.0.opening.count w (reached w (taken_by_hearing me.0.node j (promised_in n) (accepted_in n))) s.words 0 rule.words quiet.0 quiet.1);
-          told = λ a i e il.
+        told = λ a i e il.
             let same : j ≡ i = omega arith in
             subst (λ (k : ℕ). LooksAtAcceptor k n me.0 (view_with me.0 (events_of (taken_by_hearing me.0.node j (promised_in n) (accepted_in n)) ++ rule.run) (after_hearing me.0.node j (promised_in n) (accepted_in n)))) same
             record {
               advances = a;
               shows =
-                subst (λ (x : World). IsAcceptorOf x j n) (sym (world_after-events me.0.opening (taken_by_hearing me.0.node j (promised_in n) (accepted_in n)) rule.run))
-                (quiet.1 j n word);
+                  subst (λ (x : World). IsAcceptorOf x j n) (sym (world_after-events me.0.opening (taken_by_hearing me.0.node j (promised_in n) (accepted_in n)) rule.run))
+                  (quiet.1 j n word);
             };
-        })
+      })
     where
       heard : (s : State S View) (rule : RoomRule me.0.opening s) → get_elem? s.views id ≡ some me.0 → (n : ℕ) → IsAcceptorOf (world_after me.0.opening rule.run) j n
           → TakesLate me.0.opening.count (world_after me.0.opening rule.run) (taken_by_hearing me.0.node j (promised_in n) (accepted_in n)) (after_hearing me.0.node j (promised_in n) (accepted_in n)) None

@@ -51,8 +51,8 @@ legal_more o ls run h r =
     record {
       settled = h.settled;
       run =
-        subst (λ (x : List Label). IsRun o.count (opening o.count (nodes_of o.kept)) x) (sym (labels_of-events ls run))
-        (run_append o.count (opening o.count (nodes_of o.kept)) ls (labels_of run) h.run r);
+          subst (λ (x : List Label). IsRun o.count (opening o.count (nodes_of o.kept)) x) (sym (labels_of-events ls run))
+          (run_append o.count (opening o.count (nodes_of o.kept)) ls (labels_of run) h.run r);
     }
 
 pub legal_reached : (o : Opening) (run : List Event) → IsLegal o run → IsReached o.count (world_after o run)
@@ -72,8 +72,8 @@ legal_before o later run h =
     record {
       settled = h.settled;
       run =
-        run_tail o.count (opening o.count (nodes_of o.kept)) (labels_of later) (labels_of run)
-        (subst (λ (x : List Label). IsRun o.count (opening o.count (nodes_of o.kept)) x) (labels_of-append later run) h.run);
+          run_tail o.count (opening o.count (nodes_of o.kept)) (labels_of later) (labels_of run)
+          (subst (λ (x : List Label). IsRun o.count (opening o.count (nodes_of o.kept)) x) (labels_of-append later run) h.run);
     }
 
 pub run_behind : (o : Opening) (later run : List Event) → IsLegal o (later ++ run) → IsRun o.count (world_after o run) (labels_of later)
@@ -111,10 +111,10 @@ reached_more n w ls r h =
       nodes = r.nodes;
       steps = ls ++ r.steps;
       run =
-        record {
-          settled = r.run.settled;
-          run = run_append n (opening n r.nodes) ls r.steps r.run.run (subst (λ (x : World). IsRun n x ls) r.world h);
-        };
+          record {
+            settled = r.run.settled;
+            run = run_append n (opening n r.nodes) ls r.steps r.run.run (subst (λ (x : World). IsRun n x ls) r.world h);
+          };
       world = ap (λ (x : World). reached x ls) r.world ∙ sym (reached-append (opening n r.nodes) ls r.steps);
     }
 

@@ -75,11 +75,11 @@ module _ {S : Type 0} (o : Opening) (slots id : ℕ) (me : Me S View) (number : 
     (word : IsAcceptorWord number (after_message me.0.node m).kept.promised (after_message me.0.node m).kept.accepted)
     (then : View → Type 0)
     (told : (w : View) → StoresAcceptor a number me.0 w → then w)
-    where
-  stores_acceptor : Allows (RoomRule o) slots id me (acceptor_at me.0.node.me) (λ _. number) (λ _ w. then w.0)
-  stores_acceptor =
-      allows o slots id me (acceptor_at me.0.node.me) (λ _. number) (λ _ w. then w.0) seated
-      (λ s rule at.
+  where
+    stores_acceptor : Allows (RoomRule o) slots id me (acceptor_at me.0.node.me) (λ _. number) (λ _ w. then w.0)
+    stores_acceptor =
+        allows o slots id me (acceptor_at me.0.node.me) (λ _. number) (λ _ w. then w.0) seated
+        (λ s rule at.
         let n = me.0.opening.count in
         let w : World = world_after me.0.opening rule.run in
         let t : NodeState = after_message me.0.node m in
@@ -87,7 +87,7 @@ module _ {S : Type 0} (o : Opening) (slots id : ℕ) (me : Me S View) (number : 
         let fits = rule.views id me.0 at in
         let belongs = belongs_now s id me.0 rule at seated in
         let takes : TakesLate n w (taken_on me.0.node m) (after_message me.0.node m) (reply me.0.node m) =
-          offers_may_be_late.message me.0.node m n w (reached_now s id me.0 rule at seated) belongs (sent_later me.0.opening rule.run fits.later me.0.seen m fits.seen sent) in
+        offers_may_be_late.message me.0.node m n w (reached_now s id me.0 rule at seated) belongs (sent_later me.0.opening rule.run fits.later me.0.seen m fits.seen sent) in
         let here : IsAcceptorOf (reached w (taken_on me.0.node m)) me.0.node.me number = here_is n (reached w (taken_on me.0.node m)) takes.belongs in
         record {
           steps = taken_on me.0.node m;
@@ -96,29 +96,29 @@ module _ {S : Type 0} (o : Opening) (slots id : ℕ) (me : Me S View) (number : 
           takes = takes;
           me = same_me;
           shows =
-            shows_acceptor n w (reached w (taken_on me.0.node m)) s.words me.0.node.me number (below_count n w me.0.node belongs) rule.words
-            (quiet w)
-            (λ i k d h. acceptor_of_others n w (taken_on me.0.node m) i k (others_of_own n i me.0.node.me (taken_on me.0.node m) (subst (λ (x : ℕ). AreStepsOf n x (taken_on me.0.node m)) same_me takes.own) d) h)
-            here;
+              shows_acceptor n w (reached w (taken_on me.0.node m)) s.words me.0.node.me number (below_count n w me.0.node belongs) rule.words
+              (quiet w)
+              (λ i k d h. acceptor_of_others n w (taken_on me.0.node m) i k (others_of_own n i me.0.node.me (taken_on me.0.node m) (subst (λ (x : ℕ). AreStepsOf n x (taken_on me.0.node m)) same_me takes.own) d) h)
+              here;
           told = λ adv.
-            told (view_with me.0 (events_of (taken_on me.0.node m) ++ rule.run) (after_message me.0.node m))
-            record {
-              took =
-                record {
-                  steps = taken_on me.0.node m;
-                  taken = inl same_steps;
-                  advances =
-                    subst (λ (x : NodeState). Advances me.0 (taken_on me.0.node m) x (view_with me.0 (events_of (taken_on me.0.node m) ++ rule.run) (after_message me.0.node m))) same_after adv;
-                };
-              shows = subst (λ (x : World). IsAcceptorOf x me.0.node.me number) (sym (world_after-events me.0.opening (taken_on me.0.node m) rule.run)) here;
-            };
+              told (view_with me.0 (events_of (taken_on me.0.node m) ++ rule.run) (after_message me.0.node m))
+              record {
+                took =
+                    record {
+                      steps = taken_on me.0.node m;
+                      taken = inl same_steps;
+                      advances =
+                          subst (λ (x : NodeState). Advances me.0 (taken_on me.0.node m) x (view_with me.0 (events_of (taken_on me.0.node m) ++ rule.run) (after_message me.0.node m))) same_after adv;
+                    };
+                shows = subst (λ (x : World). IsAcceptorOf x me.0.node.me number) (sym (world_after-events me.0.opening (taken_on me.0.node m) rule.run)) here;
+              };
         })
-    where
-      here_is : (n : ℕ) (x : World) → BelongsButOffer n x (after_message me.0.node m) → IsAcceptorOf x me.0.node.me number
-      here_is n x h =
-          subst (λ (i : ℕ). IsAcceptorWord number (x.nodes i).promised (x.nodes i).accepted) same_me
-          (subst (λ (p : ℕ). IsAcceptorWord number p (x.nodes (after_message me.0.node m).me).accepted) (sym (kept_of n x (after_message me.0.node m) (λ (k : KeptPart). k.promised) (λ k. refl) h))
-          (subst (λ (y : Option Vote). IsAcceptorWord number (after_message me.0.node m).kept.promised y) (sym (kept_of n x (after_message me.0.node m) (λ (k : KeptPart). k.accepted) (λ k. refl) h)) word))
+      where
+        here_is : (n : ℕ) (x : World) → BelongsButOffer n x (after_message me.0.node m) → IsAcceptorOf x me.0.node.me number
+        here_is n x h =
+            subst (λ (i : ℕ). IsAcceptorWord number (x.nodes i).promised (x.nodes i).accepted) same_me
+            (subst (λ (p : ℕ). IsAcceptorWord number p (x.nodes (after_message me.0.node m).me).accepted) (sym (kept_of n x (after_message me.0.node m) (λ (k : KeptPart). k.promised) (λ k. refl) h))
+            (subst (λ (y : Option Vote). IsAcceptorWord number (after_message me.0.node m).kept.promised y) (sym (kept_of n x (after_message me.0.node m) (λ (k : KeptPart). k.accepted) (λ k. refl) h)) word))
 
 accepted_of : (number p : ℕ) (x : Option Vote) (y : Vote) → IsAcceptorWord number p x → x ≡ Some y → accepted_in number ≡ Some y
 accepted_of number p x y h e = h.tells_accepted ∙ e
@@ -193,11 +193,11 @@ module _ {S : Type 0} (o : Opening) (slots id : ℕ) (me : Me S View) (number : 
     (quiet : (w : World) (i k : ℕ) → IsAcceptorOf w i k → IsAcceptorOf (reached w (steps w)) i k)
     (takes : (w : World) → IsReached me.0.opening.count w → BelongsButOffer me.0.opening.count w me.0.node → TakesLate me.0.opening.count w (steps w) t answer)
     (here : (w : World) → BelongsButOffer me.0.opening.count w me.0.node → BelongsButOffer me.0.opening.count (reached w (steps w)) t → IsProposerOf (reached w (steps w)) me.0.node.me number)
-    where
-  stores_proposer : Allows (RoomRule o) slots id me (proposer_at me.0.node.me) (λ _. number) (λ _ w. StoresProposer a number me.0 w.0)
-  stores_proposer =
-      allows o slots id me (proposer_at me.0.node.me) (λ _. number) (λ _ w. StoresProposer a number me.0 w.0) seated
-      (λ s rule at.
+  where
+    stores_proposer : Allows (RoomRule o) slots id me (proposer_at me.0.node.me) (λ _. number) (λ _ w. StoresProposer a number me.0 w.0)
+    stores_proposer =
+        allows o slots id me (proposer_at me.0.node.me) (λ _. number) (λ _ w. StoresProposer a number me.0 w.0) seated
+        (λ s rule at.
         let n = me.0.opening.count in
         let w : World = world_after me.0.opening rule.run in
         let belongs = belongs_now s id me.0 rule at seated in
@@ -211,19 +211,19 @@ module _ {S : Type 0} (o : Opening) (slots id : ℕ) (me : Me S View) (number : 
           takes = done;
           me = same_me;
           shows =
-            shows_proposer n w (reached w (steps w)) s.words me.0.node.me number (below_count n w me.0.node belongs) rule.words
-            (λ i k il d h. proposer_of_others n w (steps w) i k r il done.run (others_of_own n i me.0.node.me (steps w) (subst (λ (x : ℕ). AreStepsOf n x (steps w)) same_me done.own) d) h)
-            (quiet w) word;
+              shows_proposer n w (reached w (steps w)) s.words me.0.node.me number (below_count n w me.0.node belongs) rule.words
+              (λ i k il d h. proposer_of_others n w (steps w) i k r il done.run (others_of_own n i me.0.node.me (steps w) (subst (λ (x : ℕ). AreStepsOf n x (steps w)) same_me done.own) d) h)
+              (quiet w) word;
           told = λ adv.
-            record {
-              took =
-                record {
-                  steps = steps w;
-                  taken = taken w;
-                  advances = subst (λ (x : NodeState). Advances me.0 (steps w) x (view_with me.0 (events_of (steps w) ++ rule.run) t)) same_after adv;
-                };
-              shows = subst (λ (x : World). IsProposerOf x me.0.node.me number) (sym (world_after-events me.0.opening (steps w) rule.run)) word;
-            };
+              record {
+                took =
+                    record {
+                      steps = steps w;
+                      taken = taken w;
+                      advances = subst (λ (x : NodeState). Advances me.0 (steps w) x (view_with me.0 (events_of (steps w) ++ rule.run) t)) same_after adv;
+                    };
+                shows = subst (λ (x : World). IsProposerOf x me.0.node.me number) (sym (world_after-events me.0.opening (steps w) rule.run)) word;
+              };
         })
 
 module _ {S : Type 0} (o : Opening) (slots id : ℕ) (me : Me S View) (number : ℕ) (s : NodeState) (tie : me.0.node ≡ offered s) (seated : IsSeated me.0) where
@@ -291,7 +291,7 @@ module _ {S : Type 0} (o : Opening) (slots id : ℕ) (me : Me S View) (number : 
       is_here t w before h =
           let x : World = reached w (cond t (taken_by_propose me.0.node ++ Offers me.0.node.me ∷ []) (taken_by_propose me.0.node)) in
           let at : (x.nodes (after_proposal me.0.node).me).started ≡ (after_proposal me.0.node).kept.started =
-            kept_of me.0.opening.count x (after_proposal me.0.node) (λ (k : KeptPart). k.started) (λ k. refl) h in
+          kept_of me.0.opening.count x (after_proposal me.0.node) (λ (k : KeptPart). k.started) (λ k. refl) h in
           let kept : (after_proposal me.0.node).kept.started ≡ me.0.node.kept.started = ap (λ (z : Option (ℕ × ℕ)). (after_answer me.0.node (propose_message z)).kept.started) own in
           let ballot : me.0.node.kept.started ≡ b = started_here me.0.opening.count w me.0.node b before (ballot_of me.0.node.ballot (may_propose me.0.node) (choice (highest_below me.0.node.count me.0.node.promises) me.0.node.kept.offered me.0.node.me) own) in
           subst (λ (i : ℕ). IsProposerOf x i number) same_me

@@ -99,7 +99,7 @@ proposer_of_other : (n : ℕ) (w : World) (l : Label) (i j number : ℕ) → ((w
 proposer_of_other n w l i j number own o d h =
     let same : (after w l).nodes i ≡ w.nodes i = nodes_of_others n w l i j o d in
     let quiet : ProposesNot (w.nodes i).started l =
-      elim own [ inl e ↦ zero_not n j (w.nodes i).started l e o | inr e ↦ proposes_not_of_others n i j (w.nodes i).started l o e d ] in
+    elim own [ inl e ↦ zero_not n j (w.nodes i).started l e o | inr e ↦ proposes_not_of_others n i j (w.nodes i).started l o e d ] in
     subst (λ (k : KeptPart). IsProposerWord number k.started (proposed_under k.started (after w l).sent)) (sym same)
     (subst (λ (p : Option ℕ). IsProposerWord number (w.nodes i).started p) (sym (proposed_after w l (w.nodes i).started quiet)) h)
 

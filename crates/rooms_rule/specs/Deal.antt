@@ -23,6 +23,13 @@ dealing o i = dealt_to o i o.count
 abbrev pub dealt : Opening → ℕ → View
 dealt o i = dealt_to o i (i + 1)
 
+-- a token gives its first node's seat away, and keeps the others
+abbrev pub dealing_rest : View → View
+dealing_rest v = dealing v.opening (v.first + 1)
+
+abbrev pub dealing_seat : View → View
+dealing_seat v = dealt v.opening v.first
+
 -- a seat's witness, which has seen what it has seen and steps for nobody
 abbrev pub witness : View → View
 witness v = record v { first = 0; end = 0 }

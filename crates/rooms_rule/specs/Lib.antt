@@ -6,3 +6,4 @@ pub mod NotBelow
 pub mod Heard
 pub mod Steps
 pub mod Deal
+pub mod Sight

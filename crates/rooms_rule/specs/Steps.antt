@@ -46,7 +46,7 @@ pub record LooksAtProposer (j number : ℕ) (v w : View) : Type 0 where
 -- a look at the word of node j's acceptor, from which the node notes and learns
 pub record LooksAtAcceptor (j number : ℕ) (v w : View) : Type 0 where
   pub advances :
-    Advances v (taken_by_hearing v.node j (promised_in number) (accepted_in number))
+      Advances v (taken_by_hearing v.node j (promised_in number) (accepted_in number))
       (after_hearing v.node j (promised_in number) (accepted_in number)) w
   pub shows : IsAcceptorOf (world_after v.opening w.seen) j number
 

@@ -4,4 +4,5 @@
 #![tactic(auto)]
 
 pub mod event;
+pub mod rule;
 pub mod view;
