@@ -47,15 +47,15 @@ looks_at_proposer {S} o slots id me k seated =
 
 -- ---- an acceptor's word
 
--- at most a Learns
-abbrev IsQuiet : List Label → Type 0
+-- at most a Learns: it leaves all words
+abbrev pub IsQuiet : List Label → Type 0
 IsQuiet ls = (w : World) → ((i number : ℕ) → IsProposerOf w i number → IsProposerOf (reached w ls) i number) × ((i number : ℕ) → IsAcceptorOf w i number → IsAcceptorOf (reached w ls) i number)
 
 quiet_if : (t : Bool) (i v : ℕ) → IsQuiet (cond t (Learns i v ∷ []) [])
 quiet_if true i v w = ((λ j m h. proposer_kept w (Learns i v) j m tt h), (λ j m h. acceptor_kept w (Learns i v) j m tt h))
 quiet_if false i v w = ((λ j m h. h), (λ j m h. h))
 
-vote_quiet : (s : NodeState) (j : ℕ) (x : Option Vote) → IsQuiet (taken_on_vote s j x)
+pub vote_quiet : (s : NodeState) (j : ℕ) (x : Option Vote) → IsQuiet (taken_on_vote s j x)
 vote_quiet s j None w = ((λ j m h. h), (λ j m h. h))
 vote_quiet s j (Some x) w = quiet_if (learns_from s j x) s.me x.value w
 

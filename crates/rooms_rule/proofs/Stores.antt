@@ -52,11 +52,8 @@ sent_later o run later seen m e h =
 
 -- ---- the own acceptor's word
 
--- the steps neither start nor propose
-KeepsAll : List Label → Type 0
-KeepsAll ls = (w : World) (i number : ℕ) → IsProposerOf w i number → IsProposerOf (reached w ls) i number
-
-keeps_if : (t : Bool) (l : Label) → KeepsProposers l → (w : World) (i number : ℕ) → IsProposerOf w i number → IsProposerOf (reached w (cond t (l ∷ []) [])) i number
+-- a step that neither starts nor proposes, or none, leaves all proposers' words
+pub keeps_if : (t : Bool) (l : Label) → KeepsProposers l → (w : World) (i number : ℕ) → IsProposerOf w i number → IsProposerOf (reached w (cond t (l ∷ []) [])) i number
 keeps_if true l q w i number h = proposer_kept w l i number q h
 keeps_if false l q w i number h = h
 
