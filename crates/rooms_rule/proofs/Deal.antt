@@ -23,7 +23,7 @@ use Rattle.rooms_rule.specs.Deal.{dealt_node, dealt_to, dealing, dealt, witness,
 use Rattle.rooms_rule.specs.Events.{labels_of}
 use Rattle.rooms_rule.specs.Rule.{AreApart, RoomRule}
 use Rattle.rooms_rule.specs.Views.{world_after, IsLegal, IsMine, Fits}
-use Rattle.rooms_rule.specs.WordsOf.{proposed_under, proposer_at, acceptor_at, ShowsWorld}
+use Rattle.rooms_rule.specs.WordsOf.{proposed_under, proposer_at, acceptor_at, IsProposerOf, ShowsWorld}
 use Rattle.rooms_rule.proofs.RunLemmas.{world_after-append, legal_reached, others_leave}
 
 -- ---- dealing out
@@ -97,7 +97,7 @@ module _ {S : Type 0} (o : Opening) (id : ℕ) (v left right : View)
           ]
 
 -- a node belongs to its room as it opens, and as long as others alone take steps
-opens_with : (o : Opening) (i : ℕ) → Settled o.count (nodes_of o.kept) → i < o.count → BelongsButOffer o.count (world_after o []) (dealt_node o i)
+pub opens_with : (o : Opening) (i : ℕ) → Settled o.count (nodes_of o.kept) → i < o.count → BelongsButOffer o.count (world_after o []) (dealt_node o i)
 opens_with o i settled lt =
     (offers_may_be_late.offer (node_with i o.count (nodes_of o.kept i)) o.count (world_after o []) (legal_reached o [] record { settled = settled; run = tt })
     (inl (belongs_with o.count (world_after o []) i (nodes_of o.kept i) lt refl))).belongs
@@ -258,3 +258,9 @@ opens o words empty size zeros =
     first_only : (j : ℕ) (u : View) → get_elem? (dealing o 0 ∷ []) j ≡ some u → j ≡ 0
     first_only zero u e = refl
     first_only (suc j) u e = absurd (some-ne-none u (sym e))
+
+-- 0 is the word of a proposer that has done nothing
+pub zero_words : (o : Opening) (i : ℕ) → nodes_of o.kept ≡ no_nodes → IsProposerOf (world_after o []) i 0
+zero_words o i empty =
+    subst (λ (nodes : ℕ → KeptPart). IsProposerOf (opening o.count nodes) i 0) (sym empty)
+    (subst (λ (ms : List Msg). IsProposerWord 0 0 (proposed_under 0 ms)) (sym (shown_nothing o.count)) record { packed = refl; tells_started = refl; tells_proposed = refl })

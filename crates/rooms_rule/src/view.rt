@@ -3,6 +3,7 @@ use paxos_core::{Kept, Node};
 use std::collections::LinkedList;
 
 /// How a room was opened: how many nodes it has, and what each of them had kept.
+#[derive(Clone, Copy)]
 pub struct Opening {
     pub count: u8,
     pub kept: [Kept; 7],

@@ -1,14 +1,16 @@
 -- A seat at one moment: what it knows of its room, its node, and what it has last seen of the words.
-use Rattle.std.specs.Prelude.{ℕ, List, if◌then◌else◌, Option, Some, None, slice_index_or}
+use Rattle.std.specs.Prelude.{◌≡◌, ℕ, List, length, replicate, slice_get, if◌then◌else◌, Option, Some, None, slice_index_or}
 use Rattle.atomic_table.specs.Seated.{TableId}
-use Rattle.paxos_world.specs.KeptPart.{vote}
+use Rattle.paxos_world.specs.KeptPart.{nothing_kept, vote}
 use Rattle.paxos_world.specs.Settled.{is_given}
 use Rattle.paxos_world.specs.World.{World}
 use Rattle.paxos_world.specs.declared.vote.Vote.{Vote}
-use Rattle.paxos_law.specs.NodeState.{NodeState}
+use Rattle.paxos_law.specs.NodeState.{NodeState, new_node}
 use Rattle.paxos_law.specs.Would.{next_promise, next_vote}
 use Rattle.rooms_words.specs.declared.acceptor.AcceptorWord.{AcceptorWord}
 use Rattle.rooms_words.specs.declared.proposer.ProposerWord.{ProposerWord}
+use Rattle.rooms_rule.specs.Deal.{dealt}
+use Rattle.rooms_rule.specs.declared.view.Opening.{Opening}
 use Rattle.rooms_rule.specs.declared.view.View.{View}
 use Rattle.rooms_rule.specs.Views.{world_after}
 
@@ -28,6 +30,28 @@ no_proposer = record { started = 0; proposed = None }
 
 abbrev pub no_acceptor : AcceptorWord
 no_acceptor = record { promised = 0; accepted = None }
+
+-- a room of so many nodes that have kept nothing
+abbrev pub empty_opening : ℕ → Opening
+empty_opening count = record { count = count; kept = replicate 7 nothing_kept }
+
+-- node i's seat of such a room, at this table
+abbrev pub fresh_seat : TableId → ℕ → ℕ → SeatState
+fresh_seat table count i =
+    record {
+      table = table;
+      view = dealt (empty_opening count) i;
+      node = new_node i count;
+      proposed = None;
+      proposers = replicate 7 no_proposer;
+      acceptors = replicate 7 no_acceptor;
+    }
+
+-- the seats of such a room, in the order of their nodes
+pub record AreFresh (count : ℕ) (seats : List SeatState) : Type 0 where
+  pub table : TableId
+  pub number : length seats ≡ count
+  pub each : (i : ℕ) (s : SeatState) → slice_get seats i ≡ Some s → s ≡ fresh_seat table count i
 
 -- what was last seen of node j
 abbrev pub proposer_of : SeatState → ℕ → ProposerWord

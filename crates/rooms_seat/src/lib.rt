@@ -2,6 +2,8 @@
 //! each call is exactly one load or one store of one word, and which step of the protocol that is.
 #![tactic(auto)]
 
+mod opening;
 mod seat;
 
+pub use opening::open;
 pub use seat::{Board, WordSeat};

@@ -1,0 +1,62 @@
+-- The seats of a room that has just been opened.
+use Rattle.std.proofs.Common.{◌≡◌, ℕ, zero, suc, ◌+◌, ◌*◌, ◌<◌, ◌≤◌, ◌⊎◌, List, [], ◌∷◌, length, get_or, replicate, Option, Some, None, refl, sym, ap, ◌∙◌, subst, inl, inr, arith}
+use Rattle.atomic_table.specs.Seated.{TableId}
+use Rattle.paxos_world.specs.KeptPart.{KeptPart, nothing_kept}
+use Rattle.paxos_world.specs.Settled.{Settled}
+use Rattle.paxos_world.specs.World.{World, opening, nodes_of, no_nodes}
+use Rattle.paxos_model.proofs.Theorem.{nothing_settled}
+use Rattle.paxos_law.specs.NodeState.{IsRoomSize, new_node}
+use Rattle.paxos_law.specs.Reached.{IsReached}
+use Rattle.rooms_words.specs.Words.{IsProposerWord}
+use Rattle.rooms_rule.specs.Deal.{dealt}
+use Rattle.rooms_rule.specs.Views.{world_after, IsLegal}
+use Rattle.rooms_rule.specs.WordsOf.{IsProposerOf}
+use Rattle.rooms_rule.proofs.Deal.{opens_with, zero_words}
+use Rattle.rooms_rule.proofs.RunLemmas.{legal_reached}
+use Rattle.rooms_rule.specs.Sight.{ProposerSeen, AcceptorSeen}
+use Rattle.rooms_words.specs.declared.acceptor.AcceptorWord.{AcceptorWord}
+use Rattle.rooms_words.specs.declared.proposer.ProposerWord.{ProposerWord}
+use Rattle.rooms_seat.specs.SeatState.{SeatState, empty_opening, fresh_seat, no_proposer, no_acceptor}
+use Rattle.rooms_seat.specs.Sound.{IsSound}
+
+get_or-replicate : {A : Type 0} (n i : ℕ) (x : A) → get_or (replicate n x) i x ≡ x
+get_or-replicate zero i x = refl
+get_or-replicate (suc n) zero x = refl
+get_or-replicate (suc n) (suc i) x = get_or-replicate n i x
+
+pub nothing_kept_yet : nodes_of (replicate 7 nothing_kept) ≡ no_nodes
+nothing_kept_yet = λ k i. get_or-replicate 7 i nothing_kept k
+
+pub opening_settled : (count : ℕ) → Settled count (nodes_of (replicate 7 nothing_kept))
+opening_settled count = subst (λ (nodes : ℕ → KeptPart). Settled count nodes) (sym nothing_kept_yet) (nothing_settled count)
+
+room_size : (n : ℕ) → IsRoomSize n → n ≤ 7
+room_size n (inl e) = omega arith
+room_size n (inr (inl e)) = omega arith
+room_size n (inr (inr e)) = omega arith
+
+pub fresh_sound : (table t : TableId) (count i : ℕ) → t ≡ table → t.words ≡ 2 * count → IsRoomSize count → i < count → IsSound table (fresh_seat t count i)
+fresh_sound table t count i same words size lt =
+    record {
+      same = same;
+      words = words;
+      count = refl;
+      most = room_size count size;
+      proposer_row = refl;
+      acceptor_row = refl;
+      seated = record { live = refl; first = refl; last = refl };
+      node = refl;
+      legal = record { settled = opening_settled count; run = tt };
+      belongs = opens_with (empty_opening count) i (opening_settled count) lt;
+      own_word = 0;
+      own = zero_words (empty_opening count) i nothing_kept_yet;
+      proposed = refl;
+      proposers = λ j jl. subst (λ (x : ProposerWord). ProposerSeen (world_after (empty_opening count) []) j x) (sym (get_or-replicate 7 j no_proposer)) (nothing_seen j);
+      acceptors = λ j jl. subst (λ (x : AcceptorWord). AcceptorSeen (world_after (empty_opening count) []) j x) (sym (get_or-replicate 7 j no_acceptor)) (nothing_heard j);
+    }
+  where
+    nothing_seen : (j : ℕ) → ProposerSeen (world_after (empty_opening count) []) j no_proposer
+    nothing_seen j = subst (λ (nodes : ℕ → KeptPart). ProposerSeen (opening count nodes) j no_proposer) (sym nothing_kept_yet) record { below = inr (refl, λ v e. absurd (cc)); prepare = λ l. absurd (omega arith); propose = λ v e. absurd (cc) }
+
+    nothing_heard : (j : ℕ) → AcceptorSeen (world_after (empty_opening count) []) j no_acceptor
+    nothing_heard j = subst (λ (nodes : ℕ → KeptPart). AcceptorSeen (opening count nodes) j no_acceptor) (sym nothing_kept_yet) record { below = (omega arith, λ x e. absurd (cc)); vote = λ y e. absurd (cc) }
