@@ -1,17 +1,19 @@
 -- The seats of a room that has just been opened.
-use Rattle.std.proofs.Common.{◌≡◌, ℕ, zero, suc, ◌+◌, ◌*◌, ◌<◌, ◌≤◌, ◌⊎◌, List, [], ◌∷◌, length, get_or, replicate, Option, Some, None, refl, sym, ap, ◌∙◌, subst, inl, inr, arith}
+use Rattle.std.proofs.Common.{◌≡◌, ℕ, zero, suc, ◌+◌, ◌*◌, ◌<◌, ◌≤◌, ◌⊎◌, List, [], ◌∷◌, length, get_or, take, length-take, min, replicate, Option, Some, None, refl, sym, ap, ◌∙◌, subst, inl, inr, arith}
 use Rattle.atomic_table.specs.Seated.{TableId}
 use Rattle.paxos_world.specs.KeptPart.{KeptPart, nothing_kept}
 use Rattle.paxos_world.specs.Settled.{Settled}
 use Rattle.paxos_world.specs.World.{World, opening, nodes_of, no_nodes}
 use Rattle.paxos_model.proofs.Theorem.{nothing_settled}
-use Rattle.paxos_law.specs.NodeState.{IsRoomSize, new_node}
+use Rattle.paxos_law.specs.NodeState.{IsRoomSize, node_with, new_node, offered}
 use Rattle.paxos_law.specs.Reached.{IsReached}
 use Rattle.rooms_words.specs.Words.{IsProposerWord}
-use Rattle.rooms_rule.specs.Deal.{dealt}
+use Rattle.atomic_table.specs.Table as table
+use Rattle.rooms_rule.specs.Deal.{dealing, dealt}
+use Rattle.rooms_rule.specs.Rule.{RoomRule}
 use Rattle.rooms_rule.specs.Views.{world_after, IsLegal}
 use Rattle.rooms_rule.specs.WordsOf.{IsProposerOf}
-use Rattle.rooms_rule.proofs.Deal.{opens_with, zero_words}
+use Rattle.rooms_rule.proofs.Deal.{opens_with, opens, zero_words}
 use Rattle.rooms_rule.proofs.RunLemmas.{legal_reached}
 use Rattle.rooms_rule.specs.Sight.{ProposerSeen, AcceptorSeen}
 use Rattle.rooms_words.specs.declared.acceptor.AcceptorWord.{AcceptorWord}
@@ -45,7 +47,7 @@ fresh_sound table t count i same words size lt =
       proposer_row = refl;
       acceptor_row = refl;
       seated = record { live = refl; first = refl; last = refl };
-      node = refl;
+      node = ap (λ (nodes : ℕ → KeptPart). offered (node_with i count (nodes i))) nothing_kept_yet;
       legal = record { settled = opening_settled count; run = tt };
       belongs = opens_with (empty_opening count) i (opening_settled count) lt;
       own_word = 0;
@@ -60,3 +62,16 @@ fresh_sound table t count i same words size lt =
 
     nothing_heard : (j : ℕ) → AcceptorSeen (world_after (empty_opening count) []) j no_acceptor
     nothing_heard j = subst (λ (nodes : ℕ → KeptPart). AcceptorSeen (opening count nodes) j no_acceptor) (sym nothing_kept_yet) record { below = (omega arith, λ x e. absurd (cc)); vote = λ y e. absurd (cc) }
+
+zeros : (n m k : ℕ) → ◌≡◌ {A = ℕ} (get_or (take m (replicate n 0)) k 0) 0
+zeros zero zero k = refl
+zeros zero (suc m) k = refl
+zeros (suc n) zero k = refl
+zeros (suc n) (suc m) zero = refl
+zeros (suc n) (suc m) (suc k) = zeros n m k
+
+-- the rule holds as the room opens
+pub opens_empty : (count m : ℕ) → m ≡ count → IsRoomSize count → RoomRule (empty_opening count) (table.opening {S = Unit {0}} (take (2 * m) (replicate 14 0)) [] (dealing (empty_opening count) 0))
+opens_empty count m e size =
+    let most : count ≤ 7 = room_size count size in
+    opens (empty_opening count) (take (2 * m) (replicate 14 0)) nothing_kept_yet (length-take (2 * m) (replicate 14 0) ∙ omega arith) (λ k. zeros 14 (2 * m) k)

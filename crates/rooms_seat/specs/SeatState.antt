@@ -1,5 +1,5 @@
 -- A seat at one moment: what it knows of its room, its node, and what it has last seen of the words.
-use Rattle.std.specs.Prelude.{◌≡◌, ℕ, List, length, replicate, slice_get, if◌then◌else◌, Option, Some, None, slice_index_or}
+use Rattle.std.specs.Prelude.{◌≡◌, ℕ, zero, suc, List, [], ◌∷◌, ◌++◌, replicate, if◌then◌else◌, Option, Some, None, slice_index_or}
 use Rattle.atomic_table.specs.Seated.{TableId}
 use Rattle.paxos_world.specs.KeptPart.{nothing_kept, vote}
 use Rattle.paxos_world.specs.Settled.{is_given}
@@ -47,11 +47,14 @@ fresh_seat table count i =
       acceptors = replicate 7 no_acceptor;
     }
 
--- the seats of such a room, in the order of their nodes
-pub record AreFresh (count : ℕ) (seats : List SeatState) : Type 0 where
-  pub table : TableId
-  pub number : length seats ≡ count
-  pub each : (i : ℕ) (s : SeatState) → slice_get seats i ≡ Some s → s ≡ fresh_seat table count i
+-- the seats of the first k nodes of such a room, in their order
+abbrev pub fresh_seats : TableId → ℕ → ℕ → List SeatState
+fresh_seats table count zero = []
+fresh_seats table count (suc k) = fresh_seats table count k ++ fresh_seat table count k ∷ []
+
+-- they are the seats of all nodes of such a room
+abbrev pub AreFresh : ℕ → List SeatState → Type 0
+AreFresh count seats = (table : TableId) × (seats ≡ fresh_seats table count count)
 
 -- what was last seen of node j
 abbrev pub proposer_of : SeatState → ℕ → ProposerWord
