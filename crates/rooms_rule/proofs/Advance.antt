@@ -71,6 +71,7 @@ module _ {S : Type 0} (s : State S View) (id : ℕ) (v : View) (rule : RoomRule 
           own = own;
           legal = legal;
           told = begins_longer (events_of steps) rule.run v.told fits.told;
+          told_by = fits.told_by seated.live;
           stays = refl;
           belongs = belongs;
         }
@@ -83,6 +84,7 @@ module _ {S : Type 0} (s : State S View) (id : ℕ) (v : View) (rule : RoomRule 
           seen = refl;
           quiet = λ i h. tt;
           told = begins_longer (events_of steps) rule.run v.told (rule.views id v at).told;
+          told_by = (rule.views id v at).told_by;
           belongs = λ _. belongs;
         }
 
@@ -96,6 +98,7 @@ module _ {S : Type 0} (s : State S View) (id : ℕ) (v : View) (rule : RoomRule 
               subst (λ (ls : List Label). AreStepsOfOthers v.opening.count i ls) (sym (labels_of-events steps h.later))
               (others-append v.opening.count i steps (labels_of h.later) (others_of_own v.opening.count i v.node.me steps own (apart i mine)) (h.quiet i mine));
           told = begins_longer (events_of steps) rule.run u.told h.told;
+          told_by = h.told_by;
           belongs = λ mine.
               subst (λ (x : World). BelongsButOffer v.opening.count x u.node) (sym (world_after-events v.opening steps rule.run))
               (others_leave v.opening.count (world_after v.opening rule.run) u.node steps (others_of_own v.opening.count u.node.me v.node.me steps own (apart u.node.me mine)) (h.belongs mine));

@@ -110,6 +110,7 @@ dealt_fits o k e i end run legal h low high most =
       seen = h.seen;
       quiet = λ j mine. h.quiet j (wider j mine);
       told = h.told;
+      told_by = λ _. refl;
       belongs = λ mine.
           let here : i < end = mine.1 in
           let world : world_after o run ≡ reached (world_after o []) (labels_of h.later) = ap (λ (r : List Event). world_after o r) h.seen ∙ world_after-append o h.later [] in
@@ -146,12 +147,13 @@ makes_witness {S} o id v =
       seen = h.seen;
       quiet = λ i m. let x : i < 0 = m.1 in absurd (omega arith);
       told = h.told;
+      told_by = h.told_by;
       belongs = λ m. let x : v.node.me < 0 = m.1 in absurd (omega arith);
     })
 
 -- another seat takes in what a witness has seen
-pub takes_witness : {S : Type 0} (o : Opening) (id : ℕ) (v : View) (other : ℕ) (w : View) → Joins {S = S} (RoomRule o) id v other w (informed v w) nobody
-takes_witness {S} o id v other w s rule at away there =
+pub takes_witness : {S : Type 0} (o : Opening) (id : ℕ) (v : View) (other : ℕ) (w : View) → w.live ≡ true → Joins {S = S} (RoomRule o) id v other w (informed v w) nobody
+takes_witness {S} o id v other w lives s rule at away there =
     record { run = rule.run; legal = rule.legal; words = rule.words; views = views; apart = apart }
   where
     seen_of : Fits o rule.run w
@@ -164,7 +166,7 @@ takes_witness {S} o id v other w s rule at away there =
     fits_informed : Fits o rule.run (informed v w)
     fits_informed =
         let h = rule.views id v at in
-        record { opening = h.opening; later = h.later; seen = h.seen; quiet = h.quiet; told = (seen_of.later, seen_of.seen); belongs = h.belongs }
+        record { opening = h.opening; later = h.later; seen = h.seen; quiet = h.quiet; told = (seen_of.later, seen_of.seen); told_by = λ _. seen_of.opening lives; belongs = h.belongs }
 
     fits_nobody : Fits o rule.run nobody
     fits_nobody =
@@ -174,6 +176,7 @@ takes_witness {S} o id v other w s rule at away there =
           seen = sym (append-nil rule.run);
           quiet = λ i m. let x : i < 0 = m.1 in absurd (omega arith);
           told = (rule.run, sym (append-nil rule.run));
+          told_by = λ e. absurd (cc);
           belongs = λ m. let x : 0 < 0 = m.1 in absurd (omega arith);
         }
 
@@ -248,6 +251,7 @@ opens o words empty size zeros =
           seen = refl;
           quiet = λ i m. tt;
           told = ([], refl);
+          told_by = λ _. refl;
           belongs = λ m. let x : 0 < o.count = m.1 in opens_with o 0 settled x;
         }
 

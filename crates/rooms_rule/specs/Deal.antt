@@ -13,7 +13,7 @@ dealt_node o i = offered (node_with i o.count (nodes_of o.kept i))
 -- the view of a token for the nodes from i up to `end`, as the room opens
 abbrev pub dealt_to : Opening → ℕ → ℕ → View
 dealt_to o i end =
-    record { live = true; opening = o; first = i; end = end; seen = []; told = []; node = dealt_node o i }
+    record { live = true; opening = o; first = i; end = end; seen = []; told = []; told_by = o; node = dealt_node o i }
 
 -- the token for all nodes from i on
 abbrev pub dealing : Opening → ℕ → View
@@ -36,7 +36,7 @@ witness v = record v { first = 0; end = 0 }
 
 -- a seat once it was told what a witness has seen
 abbrev pub informed : View → View → View
-informed v w = record v { told = w.seen }
+informed v w = record v { told = w.seen; told_by = w.opening }
 
 -- who has told what it knew
 abbrev pub nobody : View
@@ -48,5 +48,6 @@ nobody =
       end = 0;
       seen = [];
       told = [];
+      told_by = record { count = 0; kept = [] };
       node = node_with 0 0 nothing_kept;
     }

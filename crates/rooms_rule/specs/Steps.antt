@@ -25,6 +25,7 @@ pub record Advances (v : View) (steps : List Label) (t : NodeState) (w : View) :
   pub own : AreStepsOf v.opening.count v.node.me steps
   pub legal : IsLegal v.opening w.seen
   pub told : BeginsWith w.seen v.told
+  pub told_by : v.told_by ≡ v.opening
   pub stays : w ≡ record v { seen = w.seen; node = t }
   pub belongs : BelongsButOffer v.opening.count (world_after v.opening w.seen) t
 

@@ -49,4 +49,5 @@ pub record Fits (o : Opening) (run : List Event) (v : View) : Type 0 where
   pub seen : run ≡ later ++ v.seen
   pub quiet : (i : ℕ) → IsMine v i → AreStepsOfOthers o.count i (labels_of later)
   pub told : BeginsWith run v.told
+  pub told_by : v.live ≡ true → v.told_by ≡ o
   pub belongs : IsMine v v.node.me → BelongsButOffer o.count (world_after o run) v.node

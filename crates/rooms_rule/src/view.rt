@@ -19,8 +19,9 @@ pub struct View {
     pub end: u8,
     /// The run of the protocol so far, the newest step first, as it was when the seat last stepped.
     pub seen: LinkedList<Event>,
-    /// A beginning of the run that another seat told it.
+    /// A beginning of the run that another seat told it, and how that seat's room was opened.
     pub told: LinkedList<Event>,
+    pub told_by: Opening,
     /// The node of the seat, held as if it had made its offer, which stands in a cell and not in a word.
     pub node: Node,
 }
