@@ -252,7 +252,7 @@ kept_shown s j None f = refl
 kept_shown s j (Some y) f = kept_if f (notes_vote s j y) s _ refl
 
 -- hearing changes nothing that is kept
-kept_hearing : {A : Type 0} (s : NodeState) (j p : ℕ) (y : Option Vote) (f : KeptPart → A) → f (after_hearing s j p y).kept ≡ f s.kept
+pub kept_hearing : {A : Type 0} (s : NodeState) (j p : ℕ) (y : Option Vote) (f : KeptPart → A) → f (after_hearing s j p y).kept ≡ f s.kept
 kept_hearing s j p y f = kept_shown (after_promise s j p y) j y f ∙ kept_if f (notes_promise s j p y) s _ refl
 
 pub acceptor_look : (table : TableId) (old : SeatState) → IsSound table old → (place j number : ℕ) → place ≡ j → place < old.node.count → (x : AcceptorWord) → x.promised ≡ promised_in number → x.accepted ≡ accepted_in number

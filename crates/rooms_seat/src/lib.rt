@@ -2,8 +2,10 @@
 //! each call is exactly one load or one store of one word, and which step of the protocol that is.
 #![tactic(auto)]
 
+mod meeting;
 mod opening;
 mod seat;
 
+pub use meeting::{Meeting, meet};
 pub use opening::open;
 pub use seat::{Board, WordSeat};

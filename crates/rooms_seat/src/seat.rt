@@ -2,16 +2,17 @@ ghost use Rattle.std.specs.Prelude.{◌≡◌, ◌*◌, ◌<◌, ◌↔◌, Some
 ghost use Rattle.paxos_law.specs.Proposer.{next_ballot, next_proposal};
 ghost use Rattle.paxos_law.specs.declared.step.Act.TheVariants as act;
 ghost use Rattle.rooms_seat.specs.Did.{Did, LookedAtAcceptor, LookedAtProposer};
+ghost use Rattle.rooms_seat.specs.Meeting.{IsKnown};
 ghost use Rattle.rooms_seat.specs.SeatState.{empty_opening, fresh_seat, promise_of, seen_world, vote_by, vote_of};
 ghost use Rattle.std.specs.Arc.{arc_value};
 ghost use Rattle.paxos_law.specs.NodeState.{IsRoomSize};
-ghost use Rattle.rooms_rule.specs.Deal.{dealt};
+ghost use Rattle.rooms_rule.specs.Deal.{dealt, informed};
 ghost use Rattle.rooms_rule.specs.Heard.{after_hearing};
 ghost use Rattle.paxos_world.specs.World.{Has};
 
 use atomic_table::{Seat as Token, Table};
 use paxos_core::{CoreError, Msg, Node, Vote};
-use rooms_rule::rule::{Accepts, LooksAtAcceptor, LooksAtProposer, Promises, Proposes, RoomLaw, Starts};
+use rooms_rule::rule::{Accepts, LooksAtAcceptor, LooksAtProposer, Promises, Proposes, RoomLaw, Starts, Tells};
 use rooms_rule::view::{Opening, View};
 use rooms_words::acceptor::AcceptorWord;
 use rooms_words::proposer::ProposerWord;
@@ -199,6 +200,31 @@ impl WordSeat {
         self.board.shared.store::<Accepts>(&mut self.token, 2 * place + 1, word.pack());
         self.node = next;
         Some(vote)
+    }
+
+    /// How many nodes the room has.
+    pub fn count(&self) -> u8
+        ensures value { result ≡ self.now.node.count }
+        ensures size { IsRoomSize result }
+    {
+        self.node.count()
+    }
+
+    /// What the type keeps, for a caller's proof.
+    pub fn known(&self)
+        ensures { IsKnown self.now }
+    {
+        let _node = self.node.me();
+    }
+
+    /// Takes in what another seat of the room has seen: the next look shows no less.
+    pub(crate) fn hear(&mut self, other: &mut WordSeat)
+        requires { self.old.table ≡ other.old.table }
+        ensures heard { self.new ≡ record self.old { view = informed self.old.view other.old.view } }
+        ensures other { other.new ≡ other.old }
+    {
+        let witness = other.board.shared.split_seat::<Tells>(&mut other.token);
+        self.board.shared.join_seat::<Tells>(&mut self.token, witness);
     }
 
     /// The value that the node has learned, the number of the node whose offer it is.
