@@ -1,10 +1,10 @@
 -- A seat takes steps: they keep the rule, and the seat knows what it did. Each kind of word step rests on this.
-use Rattle.std.proofs.Common.{◌≡◌, ◌≢◌, ℕ, ◌+◌, ◌<◌, ◌≤◌, ◌⊎◌, true, List, [], ◌∷◌, ◌++◌, set, length, get_or, append_assoc, Option, Some, None, refl, sym, ap, ◌∙◌, subst, inl, inr, arith}
+use Rattle.std.proofs.Common.{◌≡◌, ◌≢◌, ℕ, ◌+◌, ◌<◌, ◌≤◌, List, [], ◌++◌, set, get_or, append_assoc, Option, refl, sym, ap, ◌∙◌, subst, inl, inr, arith}
 use mathlib.Core.Option.{some}
 use lib.ListN.{get_elem?}
 use Rattle.atomic_table.specs.Table.{State, Me, Act, keeps, Valid, stepped, Allows, carried_after}
 use Rattle.atomic_table.proofs.Lists.{at_set}
-use Rattle.paxos_world.specs.Run.{IsRun, reached}
+use Rattle.paxos_world.specs.Run.{reached}
 use Rattle.paxos_world.specs.Step.{Label}
 use Rattle.paxos_world.specs.World.{World}
 use Rattle.paxos_world.specs.declared.msg.Msg.{Msg}
@@ -18,7 +18,7 @@ use Rattle.rooms_rule.specs.declared.view.View.{View}
 use Rattle.rooms_rule.specs.Events.{labels_of, events_of}
 use Rattle.rooms_rule.specs.Rule.{AreApart, RoomRule}
 use Rattle.rooms_rule.specs.Steps.{Advances}
-use Rattle.rooms_rule.specs.Views.{world_after, IsLegal, BeginsWith, AreStepsOfOthers, IsMine, IsSeated, Fits}
+use Rattle.rooms_rule.specs.Views.{world_after, IsLegal, AreStepsOfOthers, IsMine, IsSeated, Fits}
 use Rattle.rooms_rule.specs.WordsOf.{ShowsWorld}
 use Rattle.rooms_rule.proofs.RunLemmas.{labels_of-events, world_after-events, legal_more, legal_reached, begins_longer, others-append, others_of_own, others_leave}
 

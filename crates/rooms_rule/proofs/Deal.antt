@@ -1,17 +1,17 @@
 -- The rule holds as a room opens, and while its seats are dealt out and tell each other what they have seen.
-use Rattle.std.proofs.Common.{◌≡◌, ◌≢◌, ℕ, zero, suc, ◌+◌, ◌*◌, ◌<◌, ◌≤◌, ◌⊎◌, true, false, List, [], ◌∷◌, ◌++◌, length, set, get_or, append-nil, Option, Some, None, refl, sym, ap, ◌∙◌, subst, inl, inr, arith}
+use Rattle.std.proofs.Common.{◌≡◌, ◌≢◌, ℕ, zero, suc, ◌+◌, ◌*◌, ◌<◌, ◌≤◌, ◌⊎◌, true, List, [], ◌∷◌, ◌++◌, length, set, get_or, append-nil, None, refl, sym, ap, ◌∙◌, subst, inl, inr, arith}
 use mathlib.Core.Option.{some, some-injective, some-ne-none}
 use lib.ListN.{get_elem?}
 use Rattle.atomic_table.specs.Table.{State, Splits, Joins}
 use Rattle.atomic_table.specs.Table as table
 use Rattle.atomic_table.proofs.Lists.{at_set}
-use Rattle.paxos_world.specs.KeptPart.{KeptPart, nothing_kept}
+use Rattle.paxos_world.specs.KeptPart.{KeptPart}
 use Rattle.paxos_world.specs.Run.{reached}
 use Rattle.paxos_world.specs.Settled.{Settled}
 use Rattle.paxos_world.specs.World.{World, opening, nodes_of, no_nodes, shown}
 use Rattle.paxos_world.specs.declared.msg.Msg.{Msg}
 use Rattle.paxos_model.proofs.Theorem.{nothing_settled}
-use Rattle.paxos_law.specs.NodeState.{NodeState, node_with, offered}
+use Rattle.paxos_law.specs.NodeState.{node_with}
 use Rattle.paxos_law.proofs.BelongsLemmas.{belongs_with}
 use Rattle.paxos_core.specs.LateOffer.{BelongsButOffer}
 use Rattle.paxos_core.proofs.LateLemmas.{offers_may_be_late}

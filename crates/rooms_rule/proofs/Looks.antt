@@ -1,10 +1,10 @@
 -- The looks keep the rule, and tell what they tell.
-use Rattle.std.proofs.Common.{◌≡◌, ℕ, ◌+◌, ◌*◌, ◌<◌, Bool, true, false, cond, List, [], ◌∷◌, ◌++◌, set, get_or, Option, Some, None, refl, sym, ap, ◌∙◌, subst, arith}
+use Rattle.std.proofs.Common.{◌≡◌, ℕ, ◌<◌, Bool, true, false, cond, List, [], ◌∷◌, ◌++◌, get_or, Option, Some, None, refl, sym, subst, arith}
 use Rattle.std.proofs.lemmas.List.{set-get_or}
 use mathlib.Core.Option.{none, some}
 use lib.ListN.{get_elem?}
 use Rattle.atomic_table.specs.Table.{State, Me, step, Allows}
-use Rattle.paxos_world.specs.Run.{IsRun, reached}
+use Rattle.paxos_world.specs.Run.{reached}
 use Rattle.paxos_world.specs.Step.{Label, Learns}
 use Rattle.paxos_world.specs.World.{World}
 use Rattle.paxos_world.specs.declared.vote.Vote.{Vote}
@@ -12,7 +12,7 @@ use Rattle.paxos_law.specs.Learner.{after_promise}
 use Rattle.paxos_law.specs.NodeState.{NodeState}
 use Rattle.paxos_law.specs.Taken.{learns_from}
 use Rattle.paxos_core.specs.LateOffer.{TakesLate}
-use Rattle.rooms_words.specs.Words.{promised_in, accepted_in, IsAcceptorWord}
+use Rattle.rooms_words.specs.Words.{promised_in, accepted_in}
 use Rattle.rooms_rule.specs.declared.view.Opening.{Opening}
 use Rattle.rooms_rule.specs.declared.view.View.{View}
 use Rattle.rooms_rule.specs.Events.{events_of}
@@ -20,8 +20,8 @@ use Rattle.rooms_rule.specs.Heard.{taken_on_vote, after_hearing, taken_by_hearin
 use Rattle.rooms_rule.specs.Rule.{RoomRule}
 use Rattle.rooms_rule.specs.Steps.{LooksAtAcceptor, ProposerLook, AcceptorLook}
 use Rattle.rooms_rule.specs.Views.{world_after, IsSeated}
-use Rattle.rooms_rule.specs.WordsOf.{proposer_at, acceptor_at, IsProposerOf, IsAcceptorOf, ShowsWorld}
-use Rattle.rooms_rule.proofs.Advance.{view_with, Steps, allows, belongs_now, reached_now}
+use Rattle.rooms_rule.specs.WordsOf.{acceptor_at, IsProposerOf, IsAcceptorOf, ShowsWorld}
+use Rattle.rooms_rule.proofs.Advance.{view_with, allows, belongs_now, reached_now}
 use Rattle.rooms_rule.proofs.HearLemmas.{hearing_takes, me_hearing}
 use Rattle.rooms_rule.proofs.RunLemmas.{world_after-events}
 use Rattle.rooms_rule.proofs.WordLemmas.{proposer_kept, acceptor_kept, shows_read}

@@ -1,6 +1,6 @@
 -- No word falls below what it was, so what a seat saw of the words stays true.
-use Rattle.std.proofs.Common.{◌≡◌, ◌≢◌, ℕ, ◌<◌, ◌≤◌, ◌⊎◌, Bool, true, false, cond, eqb, leb, List, [], ◌∷◌, Option, Some, None, IfSome, le_refl, lt_of_not-le, refl, sym, ap, ◌∙◌, subst, inl, inr, arith}
-use Rattle.std.proofs.lemmas.Bool.{eqb-true, cond-true, cond-false}
+use Rattle.std.proofs.Common.{◌≡◌, ℕ, ◌<◌, ◌≤◌, ◌⊎◌, Bool, true, false, cond, eqb, List, [], ◌∷◌, Option, Some, IfSome, le_refl, lt_of_not-le, refl, sym, ap, ◌∙◌, subst, inl, inr, arith}
+use Rattle.std.proofs.lemmas.Bool.{eqb-true}
 use native.Mathlib.Decide.{dec_le}
 use Rattle.paxos_world.specs.KeptPart.{KeptPart, with_start, with_promise, with_vote, vote}
 use Rattle.paxos_world.specs.Run.{IsRun, reached}
@@ -9,7 +9,7 @@ use Rattle.paxos_world.specs.World.{World, Has, put}
 use Rattle.paxos_world.specs.declared.msg.Msg.{Msg}
 use Rattle.paxos_world.specs.declared.msg.Msg.TheVariants.{Prepare, Promise, Propose, Accepted}
 use Rattle.paxos_world.specs.declared.vote.Vote.{Vote}
-use Rattle.paxos_law.proofs.WorldLemmas.{grows, grows_by}
+use Rattle.paxos_law.proofs.WorldLemmas.{grows_by}
 use Rattle.paxos_law.specs.Reached.{IsReached}
 use Rattle.rooms_words.specs.declared.acceptor.AcceptorWord.{AcceptorWord}
 use Rattle.rooms_words.specs.declared.proposer.ProposerWord.{ProposerWord}

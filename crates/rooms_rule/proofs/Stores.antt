@@ -1,11 +1,10 @@
 -- The stores keep the rule, and tell what they tell.
-use Rattle.std.proofs.Common.{◌≡◌, ◌≢◌, ℕ, ◌+◌, ◌*◌, ◌<◌, ◌≤◌, ◌⊎◌, Bool, true, false, cond, leb, eqb, List, [], ◌∷◌, ◌++◌, set, get_or, Option, Some, None, IfSome, refl, sym, ap, ◌∙◌, subst, inl, inr, arith}
-use Rattle.std.proofs.lemmas.Bool.{le-leb, eqb-true, eq-eqb, cond-true, cond-false}
-use mathlib.Core.Option.{none, some}
-use lib.ListN.{get_elem?}
-use Rattle.atomic_table.specs.Table.{State, Me, step, Allows}
-use Rattle.paxos_world.specs.KeptPart.{KeptPart, with_promise, with_vote, vote}
-use Rattle.paxos_world.specs.Run.{IsRun, reached}
+use Rattle.std.proofs.Common.{◌≡◌, ℕ, ◌<◌, ◌≤◌, Bool, true, false, cond, leb, eqb, List, [], ◌∷◌, ◌++◌, Option, Some, None, IfSome, refl, sym, ap, ◌∙◌, subst, inl, inr}
+use Rattle.std.proofs.lemmas.Bool.{le-leb, eqb-true, eq-eqb, cond-true}
+use mathlib.Core.Option.{none}
+use Rattle.atomic_table.specs.Table.{Me, step, Allows}
+use Rattle.paxos_world.specs.KeptPart.{KeptPart, with_promise, with_vote}
+use Rattle.paxos_world.specs.Run.{reached}
 use Rattle.paxos_world.specs.Step.{Label, Offers, Starts, Promises, Proposes, Accepts}
 use Rattle.paxos_world.specs.World.{World, Has}
 use Rattle.paxos_world.specs.declared.msg.Msg.{Msg}
@@ -32,13 +31,13 @@ use Rattle.rooms_rule.specs.declared.view.Opening.{Opening}
 use Rattle.rooms_rule.specs.declared.view.View.{View}
 use Rattle.rooms_rule.specs.Events.{labels_of, events_of}
 use Rattle.rooms_rule.specs.Rule.{RoomRule}
-use Rattle.rooms_rule.specs.Steps.{Advances, AreTakenBy, Took, StoresProposer, StoresAcceptor, StartStore, ProposeStore, PromiseStore, AcceptStore}
+use Rattle.rooms_rule.specs.Steps.{Advances, AreTakenBy, StoresProposer, StoresAcceptor, StartStore, ProposeStore, PromiseStore, AcceptStore}
 use Rattle.rooms_rule.specs.Views.{world_after, IsSeated}
-use Rattle.rooms_rule.specs.WordsOf.{proposed_under, proposer_at, acceptor_at, IsProposerOf, IsAcceptorOf, ShowsWorld}
-use Rattle.rooms_rule.proofs.Advance.{view_with, Steps, allows, belongs_now, reached_now}
-use Rattle.rooms_rule.proofs.OfferLemmas.{message_offered, proposal_offered, proposed_offered}
+use Rattle.rooms_rule.specs.WordsOf.{proposed_under, proposer_at, acceptor_at, IsProposerOf, IsAcceptorOf}
+use Rattle.rooms_rule.proofs.Advance.{view_with, allows, belongs_now, reached_now}
+use Rattle.rooms_rule.proofs.OfferLemmas.{message_offered, proposal_offered}
 use Rattle.rooms_rule.proofs.RunLemmas.{world_after-events, world_after-append, others_of_own, kept_of}
-use Rattle.rooms_rule.proofs.WordLemmas.{KeepsProposers, KeepsAcceptors, proposer_kept, acceptor_kept, proposer_of_others, acceptor_of_others, shows_acceptor, shows_proposer}
+use Rattle.rooms_rule.proofs.WordLemmas.{KeepsProposers, proposer_kept, acceptor_kept, proposer_of_others, acceptor_of_others, shows_acceptor, shows_proposer}
 
 below_count : (n : ℕ) (w : World) (s : NodeState) → BelongsButOffer n w s → s.me < n
 below_count n w s (inl h) = h.number

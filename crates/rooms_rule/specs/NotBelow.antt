@@ -1,5 +1,5 @@
 -- When a word is not below another of the same node: what it shows is the same or later.
-use Rattle.std.specs.Prelude.{◌≡◌, ℕ, ◌<◌, ◌≤◌, ◌⊎◌, Option, Some, None}
+use Rattle.std.specs.Prelude.{◌≡◌, ℕ, ◌<◌, ◌≤◌, ◌⊎◌, Option, Some}
 use Rattle.paxos_world.specs.declared.vote.Vote.{Vote}
 
 -- a proposal of the other stands in it

@@ -1,5 +1,5 @@
 -- What a seat has last seen of a node's words: it is not above what stands there, and the messages that it shows were sent.
-use Rattle.std.specs.Prelude.{◌≡◌, ℕ, ◌<◌, ◌≤◌, Some}
+use Rattle.std.specs.Prelude.{◌≡◌, ℕ, ◌≤◌, Some}
 use Rattle.paxos_world.specs.World.{World, Has}
 use Rattle.paxos_world.specs.declared.msg.Msg.TheVariants.{Prepare, Propose, Accepted}
 use Rattle.paxos_world.specs.declared.vote.Vote.{Vote}

@@ -1,5 +1,5 @@
 -- What each kind of word step tells the seat that takes it.
-use Rattle.std.specs.Prelude.{◌≡◌, ℕ, ◌<◌, ◌⊎◌, List, [], ◌∷◌, ◌++◌, Option, Some, None, IfSome}
+use Rattle.std.specs.Prelude.{◌≡◌, ℕ, ◌<◌, ◌⊎◌, List, [], ◌∷◌, ◌++◌, IfSome}
 use Rattle.atomic_table.specs.Table.{Step, Me}
 use Rattle.paxos_world.specs.Step.{Label, Offers}
 use Rattle.paxos_law.specs.NodeState.{NodeState}

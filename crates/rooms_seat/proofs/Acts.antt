@@ -1,5 +1,5 @@
 -- What the stores of a seat ask and leave.
-use Rattle.std.proofs.Common.{◌≡◌, ◌≢◌, ℕ, ◌+◌, ◌*◌, ◌<◌, ◌≤◌, ◌⊎◌, Bool, true, false, cond, leb, ltb, List, [], ◌∷◌, ◌++◌, get_or, Option, Some, None, IfSome, IsTrue, refl, sym, ap, ◌∙◌, subst, inl, inr, arith}
+use Rattle.std.proofs.Common.{◌≡◌, ℕ, ◌+◌, ◌*◌, ◌<◌, ◌≤◌, Bool, true, false, cond, leb, ltb, List, get_or, Option, Some, None, IfSome, refl, sym, ap, ◌∙◌, subst, inl, inr, arith}
 use Rattle.std.proofs.lemmas.Bool.{and_parts, ltb-true, le-leb, cond-true}
 use mathlib.Core.Option.{none}
 use Rattle.atomic_table.specs.Seated.{TableId}
@@ -15,24 +15,22 @@ use Rattle.paxos_world.specs.declared.vote.Vote.{Vote}
 use Rattle.paxos_law.specs.Acceptor.{is_vote, promises, accepts, after_prepare, after_propose}
 use Rattle.paxos_law.specs.Message.{after_message}
 use Rattle.paxos_law.specs.NodeState.{NodeState, offered}
-use Rattle.paxos_law.specs.Proposer.{next_ballot, started, next_proposal, propose_message, proposal, after_answer, after_proposal}
+use Rattle.paxos_law.specs.Proposer.{next_ballot, started, next_proposal, propose_message, after_answer, after_proposal}
 use Rattle.paxos_law.specs.Reached.{IsReached}
 use Rattle.paxos_law.specs.Would.{after_act, next_promise, next_vote}
 use Rattle.paxos_law.specs.declared.step.Act.{Act}
 use Rattle.paxos_law.specs.declared.step.Act.TheVariants as act
-use Rattle.paxos_core.specs.LateOffer.{TakesLate, taken_late_by_propose}
+use Rattle.paxos_core.specs.LateOffer.{taken_late_by_propose}
 use Rattle.paxos_core.proofs.LateLemmas.{offers_may_be_late}
-use Rattle.rooms_words.specs.Words.{proposed_in, promised_in, accepted_in, IsProposerWord, IsAcceptorWord}
+use Rattle.rooms_words.specs.Words.{proposed_in, IsProposerWord, IsAcceptorWord}
 use Rattle.rooms_words.specs.declared.acceptor.AcceptorWord.{AcceptorWord}
 use Rattle.rooms_words.specs.declared.proposer.ProposerWord.{ProposerWord}
-use Rattle.rooms_rule.specs.declared.event.Event.{Event}
 use Rattle.rooms_rule.specs.declared.view.Opening.{Opening}
 use Rattle.rooms_rule.specs.declared.view.View.{View}
 use Rattle.rooms_rule.specs.Rule.{RoomRule}
 use Rattle.rooms_rule.specs.Steps.{Advances, AreTakenBy, Took, StoresProposer, StoresAcceptor, StartStore, ProposeStore, PromiseStore, AcceptStore}
 use Rattle.rooms_rule.specs.Views.{world_after}
 use Rattle.rooms_rule.specs.WordsOf.{IsProposerOf}
-use Rattle.rooms_rule.proofs.Advance.{view_with}
 use Rattle.rooms_rule.proofs.HearLemmas.{invariant_of}
 use Rattle.rooms_rule.proofs.OfferLemmas.{message_offered, proposal_offered, proposed_offered}
 use Rattle.rooms_rule.proofs.RunLemmas.{legal_reached, reached_more, kept_of}
@@ -79,7 +77,7 @@ module _ (table : TableId) (s : SeatState) (sound : IsSound table s) where
   kept_value x e =
       let lt : s.view.node.me < s.view.opening.count = number_below s.view.opening.count (seen_world s) s.view.node sound.belongs in
       let at : ((seen_world s).nodes s.view.node.me).accepted ≡ Some x =
-        kept_of s.view.opening.count (seen_world s) s.view.node (λ (k : KeptPart). k.accepted) (λ k. refl) sound.belongs ∙ (ap (λ (t : NodeState). t.kept.accepted) sound.node ∙ e) in
+      kept_of s.view.opening.count (seen_world s) s.view.node (λ (k : KeptPart). k.accepted) (λ k. refl) sound.belongs ∙ (ap (λ (t : NodeState). t.kept.accepted) sound.node ∙ e) in
       let all = invariant_of s.view.opening.count (seen_world s) r in
       let low : x.value < s.view.opening.count = (all.offered x.ballot x.value (inr (s.view.node.me, all.kept s.view.node.me x lt at))).0 in
       let count : s.node.count ≡ s.view.opening.count = sound.count in
@@ -106,10 +104,10 @@ module _ (table : TableId) (s : SeatState) (sound : IsSound table s) where
       let done = offers_may_be_late.propose s.view.node s.view.opening.count (seen_world s) r sound.belongs in
       let steps = taken_late_by_propose (seen_world s) s.view.node in
       let sent : Has (Propose b v) (reached (seen_world s) (taken_late_by_propose (seen_world s) s.view.node)).sent =
-        subst (λ (m : Option (ℕ × ℕ)). IfSome (propose_message m) (λ m. Has m (reached (seen_world s) (taken_late_by_propose (seen_world s) s.view.node)).sent)) own done.sent in
+      subst (λ (m : Option (ℕ × ℕ)). IfSome (propose_message m) (λ m. Has m (reached (seen_world s) (taken_late_by_propose (seen_world s) s.view.node)).sent)) own done.sent in
       let low : v < s.view.opening.count =
-        ((invariant_of s.view.opening.count (reached (seen_world s) (taken_late_by_propose (seen_world s) s.view.node))
-          (reached_more s.view.opening.count (seen_world s) (taken_late_by_propose (seen_world s) s.view.node) r done.run)).offered b v (inl sent)).0 in
+      ((invariant_of s.view.opening.count (reached (seen_world s) (taken_late_by_propose (seen_world s) s.view.node))
+      (reached_more s.view.opening.count (seen_world s) (taken_late_by_propose (seen_world s) s.view.node) r done.run)).offered b v (inl sent)).0 in
       let count : s.node.count ≡ s.view.opening.count = sound.count in
       let most : s.node.count ≤ 7 = sound.most in
       omega arith
@@ -142,8 +140,8 @@ module _ {S : Type 0} (table t : TableId) (o : Opening) (slots id : ℕ) (me : M
       let may : promises s b ≡ true = subst (λ (d : ℕ). promises s d ≡ true) (sym told.1) told.0 in
       let low : s.kept.promised < b = ltb-true s.kept.promised b may in
       let sent : Has (Prepare b) (world_after me.0.opening me.0.seen).sent =
-        subst (λ (d : ℕ). Has (Prepare d) (world_after me.0.opening me.0.seen).sent) (sym told.1)
-        ((sound.proposers j (subst (λ (m : ℕ). j < m) sound.count lt)).prepare (subst (λ (d : ℕ). 1 ≤ d) told.1 (omega arith))) in
+      subst (λ (d : ℕ). Has (Prepare d) (world_after me.0.opening me.0.seen).sent) (sym told.1)
+      ((sound.proposers j (subst (λ (m : ℕ). j < m) sound.count lt)).prepare (subst (λ (d : ℕ). 1 ≤ d) told.1 (omega arith))) in
       let kept : (after_prepare s b).kept ≡ with_promise b s.kept = ap (λ (q : Bool). (cond q (record s { kept = with_promise b s.kept }) s).kept) may in
       subst (λ (i : ℕ). Allows (RoomRule o) slots id me (2 * i + 1) (λ _. number) (λ _. PromiseStore (step slots (2 * i + 1) number 0 none) me number)) here
       (stores_promise o slots id me number s sound.node sound.seated b may sent (subst (λ (k : KeptPart). IsAcceptorWord number k.promised k.accepted) (sym kept) word))
@@ -154,8 +152,8 @@ module _ {S : Type 0} (table t : TableId) (o : Opening) (slots id : ℕ) (me : M
   vote_allowed j x lt e word =
       let told = vote_seen s (get_or xs j no_proposer).started (get_or xs j no_proposer).proposed x e in
       let sent : Has (Propose x.ballot x.value) (world_after me.0.opening me.0.seen).sent =
-        subst (λ (d : ℕ). Has (Propose d x.value) (world_after me.0.opening me.0.seen).sent) (sym told.2)
-        ((sound.proposers j (subst (λ (m : ℕ). j < m) sound.count lt)).propose x.value told.1) in
+      subst (λ (d : ℕ). Has (Propose d x.value) (world_after me.0.opening me.0.seen).sent) (sym told.2)
+      ((sound.proposers j (subst (λ (m : ℕ). j < m) sound.count lt)).propose x.value told.1) in
       let kept : (after_propose s x).kept ≡ with_vote x s.kept = ap (λ (q : Bool). (cond q (record s { kept = with_vote x s.kept }) s).kept) told.0 in
       subst (λ (i : ℕ). Allows (RoomRule o) slots id me (2 * i + 1) (λ _. number) (λ _. AcceptStore (step slots (2 * i + 1) number 0 none) me number)) here
       (stores_vote o slots id me number s sound.node sound.seated x told.0 sent (subst (λ (k : KeptPart). IsAcceptorWord number k.promised k.accepted) (sym kept) word))
@@ -171,8 +169,8 @@ act_sound table old sound a w took tie me number p own ep t et node en =
     (subst (λ (x : NodeState). IsSound table (record old { view = w; node = x; proposed = p })) (sym en)
     (subst (λ (z : View). IsSound table (record old { view = z; node = after_act old.node a; proposed = p })) (sym took.advances.stays)
     (store_sound table old sound took.steps (after_act old.view.node a) w.seen
-      (subst (λ (z : View). Advances old.view took.steps (after_act old.view.node a) z) took.advances.stays took.advances)
-      (ap (λ (x : NodeState). x.me) tie ∙ (me ∙ sym (ap (λ (x : NodeState). x.me) sound.node))) (after_act old.node a) tie number own p ep)))
+    (subst (λ (z : View). Advances old.view took.steps (after_act old.view.node a) z) took.advances.stays took.advances)
+    (ap (λ (x : NodeState). x.me) tie ∙ (me ∙ sym (ap (λ (x : NodeState). x.me) sound.node))) (after_act old.node a) tie number own p ep)))
 
 offered_if : (t : Bool) (s u : NodeState) → cond t (offered u) (offered s) ≡ offered (cond t u s)
 offered_if true s u = refl
@@ -212,10 +210,10 @@ module _ (table : TableId) (old : SeatState) (sound : IsSound table old) (w : Vi
       (ap (λ (s : NodeState). after_message s (Prepare b)) sound.node ∙ message_offered old.node (Prepare b))
       (me_if (promises old.node b) old.node _ refl) sound.own_word old.proposed
       (kept_own (act.Promise b) (Prepare b) h (λ steps taken x i k g.
-        elim taken [
-          | inl e ↦ subst (λ (ls : List Label). IsProposerOf (reached x ls) i k) (sym e) (keeps_if (promises old.view.node b) (Promises old.view.node.me b) tt x i k g)
-          | inr e ↦ absurd (apart_promise b e.0)
-        ]))
+      elim taken [
+        | inl e ↦ subst (λ (ls : List Label). IsProposerOf (reached x ls) i k) (sym e) (keeps_if (promises old.view.node b) (Promises old.view.node.me b) tt x i k g)
+        | inr e ↦ absurd (apart_promise b e.0)
+      ]))
       sound.proposed t et node en
     where
       apart_promise : (b : ℕ) → act.Promise b ≡ act.Propose → ⊥
@@ -227,10 +225,10 @@ module _ (table : TableId) (old : SeatState) (sound : IsSound table old) (w : Vi
       (ap (λ (s : NodeState). after_message s (Propose x.ballot x.value)) sound.node ∙ message_offered old.node (Propose x.ballot x.value))
       (me_if (accepts old.node x) old.node _ refl) sound.own_word old.proposed
       (kept_own (act.Accept x.ballot x.value) (Propose x.ballot x.value) h (λ steps taken z i k g.
-        elim taken [
-          | inl e ↦ subst (λ (ls : List Label). IsProposerOf (reached z ls) i k) (sym e) (keeps_if (accepts old.view.node x) (Accepts old.view.node.me x.ballot x.value) tt z i k g)
-          | inr e ↦ absurd (apart_vote x.ballot x.value e.0)
-        ]))
+      elim taken [
+        | inl e ↦ subst (λ (ls : List Label). IsProposerOf (reached z ls) i k) (sym e) (keeps_if (accepts old.view.node x) (Accepts old.view.node.me x.ballot x.value) tt z i k g)
+        | inr e ↦ absurd (apart_vote x.ballot x.value e.0)
+      ]))
       sound.proposed t et node en
     where
       apart_vote : (b v : ℕ) → act.Accept b v ≡ act.Propose → ⊥

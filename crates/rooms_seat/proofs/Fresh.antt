@@ -1,24 +1,20 @@
 -- The seats of a room that has just been opened.
-use Rattle.std.proofs.Common.{◌≡◌, ℕ, zero, suc, ◌+◌, ◌*◌, ◌<◌, ◌≤◌, ◌⊎◌, List, [], ◌∷◌, length, get_or, take, length-take, min, replicate, Option, Some, None, refl, sym, ap, ◌∙◌, subst, inl, inr, arith}
+use Rattle.std.proofs.Common.{◌≡◌, ℕ, zero, suc, ◌*◌, ◌<◌, ◌≤◌, [], get_or, take, length-take, replicate, refl, sym, ap, ◌∙◌, subst, inl, inr, arith}
 use Rattle.atomic_table.specs.Seated.{TableId}
 use Rattle.paxos_world.specs.KeptPart.{KeptPart, nothing_kept}
 use Rattle.paxos_world.specs.Settled.{Settled}
-use Rattle.paxos_world.specs.World.{World, opening, nodes_of, no_nodes}
+use Rattle.paxos_world.specs.World.{opening, nodes_of, no_nodes}
 use Rattle.paxos_model.proofs.Theorem.{nothing_settled}
-use Rattle.paxos_law.specs.NodeState.{IsRoomSize, node_with, new_node, offered}
-use Rattle.paxos_law.specs.Reached.{IsReached}
-use Rattle.rooms_words.specs.Words.{IsProposerWord}
+use Rattle.paxos_law.specs.NodeState.{IsRoomSize, node_with, offered}
 use Rattle.atomic_table.specs.Table as table
-use Rattle.rooms_rule.specs.Deal.{dealing, dealt}
+use Rattle.rooms_rule.specs.Deal.{dealing}
 use Rattle.rooms_rule.specs.Rule.{RoomRule}
-use Rattle.rooms_rule.specs.Views.{world_after, IsLegal}
-use Rattle.rooms_rule.specs.WordsOf.{IsProposerOf}
+use Rattle.rooms_rule.specs.Views.{world_after}
 use Rattle.rooms_rule.proofs.Deal.{opens_with, opens, zero_words}
-use Rattle.rooms_rule.proofs.RunLemmas.{legal_reached}
 use Rattle.rooms_rule.specs.Sight.{ProposerSeen, AcceptorSeen}
 use Rattle.rooms_words.specs.declared.acceptor.AcceptorWord.{AcceptorWord}
 use Rattle.rooms_words.specs.declared.proposer.ProposerWord.{ProposerWord}
-use Rattle.rooms_seat.specs.SeatState.{SeatState, empty_opening, fresh_seat, no_proposer, no_acceptor}
+use Rattle.rooms_seat.specs.SeatState.{empty_opening, fresh_seat, no_proposer, no_acceptor}
 use Rattle.rooms_seat.specs.Sound.{IsSound}
 
 get_or-replicate : {A : Type 0} (n i : ℕ) (x : A) → get_or (replicate n x) i x ≡ x

@@ -1,8 +1,7 @@
 -- Two seats of one room that have told each other what they have seen have learned one value.
-use Rattle.std.proofs.Common.{◌≡◌, ℕ, zero, suc, ◌+◌, ◌<◌, ◌≤◌, ◌⊎◌, Bool, true, false, cond, List, [], ◌∷◌, ◌++◌, append_assoc, Option, Some, None, refl, sym, ap, ◌∙◌, subst, inl, inr, arith}
+use Rattle.std.proofs.Common.{◌≡◌, ℕ, zero, suc, ◌<◌, Bool, true, false, cond, List, [], ◌++◌, append_assoc, Option, Some, None, refl, sym, ap, ◌∙◌, subst, arith}
 use Rattle.atomic_table.specs.Seated.{TableId}
 use Rattle.paxos_world.specs.KeptPart.{KeptPart}
-use Rattle.paxos_world.specs.Run.{reached}
 use Rattle.paxos_world.specs.Step.{Label}
 use Rattle.paxos_world.specs.World.{World, Has, nodes_of}
 use Rattle.paxos_world.specs.declared.vote.Vote.{Vote}
@@ -24,7 +23,7 @@ use Rattle.rooms_rule.proofs.HearLemmas.{me_hearing}
 use Rattle.rooms_rule.proofs.RunLemmas.{world_after-append, begins_through}
 use Rattle.rooms_seat.specs.Did.{LookedAtAcceptor, LookedAtProposer}
 use Rattle.rooms_seat.specs.Meeting.{IsKnown, LookedOn, HaveMet}
-use Rattle.rooms_seat.specs.SeatState.{SeatState, seen_world}
+use Rattle.rooms_seat.specs.SeatState.{SeatState}
 use Rattle.rooms_seat.specs.Sound.{IsSound}
 use Rattle.rooms_seat.proofs.Moves.{kept_hearing}
 

@@ -1,5 +1,5 @@
 -- What stays true of a seat through a word step.
-use Rattle.std.proofs.Common.{◌≡◌, ◌≢◌, ℕ, ◌+◌, ◌*◌, ◌<◌, ◌≤◌, ◌⊎◌, Bool, true, false, cond, List, [], ◌∷◌, ◌++◌, length, set, get_or, append_assoc, length-set, get_or-set_same, get_or-set_other, Option, Some, None, refl, sym, ap, ◌∙◌, subst, inl, inr, arith}
+use Rattle.std.proofs.Common.{◌≡◌, ℕ, ◌+◌, ◌*◌, ◌<◌, ◌≤◌, Bool, true, false, cond, List, [], ◌++◌, length, set, get_or, append_assoc, length-set, get_or-set_same, get_or-set_other, Option, Some, None, refl, sym, ap, ◌∙◌, subst, inl, inr, arith}
 use native.Mathlib.Decide.{ℕ_discrete}
 use Rattle.atomic_table.specs.Seated.{TableId}
 use Rattle.paxos_world.specs.KeptPart.{KeptPart, with_offer, without_offer}
@@ -21,7 +21,7 @@ use Rattle.rooms_rule.specs.Heard.{after_hearing, after_shown_vote, taken_by_hea
 use Rattle.rooms_rule.specs.NotBelow.{ProposerNotBelow, AcceptorNotBelow}
 use Rattle.rooms_rule.specs.Sight.{ProposerSeen, AcceptorSeen}
 use Rattle.rooms_rule.specs.Steps.{Advances, LooksAtProposer, LooksAtAcceptor}
-use Rattle.rooms_rule.specs.Views.{world_after, IsLegal, IsSeated}
+use Rattle.rooms_rule.specs.Views.{world_after, IsLegal}
 use Rattle.rooms_rule.specs.WordsOf.{proposed_by, IsProposerOf, IsAcceptorOf}
 use Rattle.rooms_rule.proofs.Advance.{view_with}
 use Rattle.rooms_rule.proofs.HearLemmas.{me_hearing}
@@ -79,8 +79,8 @@ module _ (v : View) (steps : List Label) (t : NodeState) (w : View) (a : Advance
       let legal : IsLegal v.opening (events_of steps ++ (a.between ++ v.seen)) = subst (λ (r : List Event). IsLegal v.opening r) a.seen a.legal in
       let run = run_behind v.opening a.between v.seen (legal_before v.opening (events_of steps) (a.between ++ v.seen) legal) in
       let there : IsProposerOf (world_after v.opening (a.between ++ v.seen)) v.node.me number =
-        subst (λ (z : World). IsProposerOf z v.node.me number) (sym (world_after-append v.opening a.between v.seen))
-        (proposer_of_others v.opening.count (world_after v.opening v.seen) (labels_of a.between) v.node.me number (legal_reached v.opening v.seen before) lt run a.others h) in
+      subst (λ (z : World). IsProposerOf z v.node.me number) (sym (world_after-append v.opening a.between v.seen))
+      (proposer_of_others v.opening.count (world_after v.opening v.seen) (labels_of a.between) v.node.me number (legal_reached v.opening v.seen before) lt run a.others h) in
       subst (λ (z : World). IsProposerOf z v.node.me number) (sym (ap (λ (r : List Event). world_after v.opening r) a.seen ∙ world_after-events v.opening steps (a.between ++ v.seen)))
       (quiet (world_after v.opening (a.between ++ v.seen)) v.node.me number there)
 
@@ -152,7 +152,7 @@ module _ (table : TableId) (old : SeatState) (sound : IsSound table old) (j numb
           own = subst (λ (i : ℕ). IsProposerOf (world_after old.view.opening run) i sound.own_word) me_is own_word_stays;
           proposed = sound.proposed;
           proposers = proposers_with (world_after old.view.opening run) old.view.opening.count old.proposers j x room sight
-            (λ i il. proposer_stays_seen old.view [] old.view.node (view_with old.view run old.view.node) h.advances sound.legal i _ (sound.proposers i il));
+              (λ i il. proposer_stays_seen old.view [] old.view.node (view_with old.view run old.view.node) h.advances sound.legal i _ (sound.proposers i il));
           acceptors = λ i il. acceptor_stays_seen old.view [] old.view.node (view_with old.view run old.view.node) h.advances sound.legal i _ il (sound.acceptors i il);
         }
 
@@ -164,16 +164,16 @@ module _ (table : TableId) (old : SeatState) (sound : IsSound table old) (j numb
           started = started_is;
           proposed = proposed_is;
           below =
-            let held = proposer_stays_seen old.view [] old.view.node (view_with old.view run old.view.node) h.advances sound.legal j _ (sound.proposers j low) in
-            subst (λ (c : ℕ). ProposerNotBelow c x.proposed (proposer_of old j).started (proposer_of old j).proposed) (sym started_is)
-            (subst (λ (p : Option ℕ). ProposerNotBelow ((world_after old.view.opening run).nodes j).started p (proposer_of old j).started (proposer_of old j).proposed) (sym proposed_is) held.below);
+              let held = proposer_stays_seen old.view [] old.view.node (view_with old.view run old.view.node) h.advances sound.legal j _ (sound.proposers j low) in
+              subst (λ (c : ℕ). ProposerNotBelow c x.proposed (proposer_of old j).started (proposer_of old j).proposed) (sym started_is)
+              (subst (λ (p : Option ℕ). ProposerNotBelow ((world_after old.view.opening run).nodes j).started p (proposer_of old j).started (proposer_of old j).proposed) (sym proposed_is) held.below);
           own = λ e.
-            let mine : j ≡ old.view.node.me = e ∙ sym me_is in (
-              started_is ∙ (ap (λ (i : ℕ). ((world_after old.view.opening run).nodes i).started) mine
-                ∙ (kept_of old.view.opening.count (world_after old.view.opening run) old.view.node (λ (k : KeptPart). k.started) (λ k. refl) h.advances.belongs
-                  ∙ ap (λ (s : NodeState). s.kept.started) sound.node)),
-              proposed_is ∙ (ap (λ (i : ℕ). proposed_by (world_after old.view.opening run) i) mine ∙ (sym own_word_stays.tells_proposed ∙ sound.proposed)),
-            );
+              let mine : j ≡ old.view.node.me = e ∙ sym me_is in (
+                started_is ∙ (ap (λ (i : ℕ). ((world_after old.view.opening run).nodes i).started) mine
+                    ∙ (kept_of old.view.opening.count (world_after old.view.opening run) old.view.node (λ (k : KeptPart). k.started) (λ k. refl) h.advances.belongs
+                    ∙ ap (λ (s : NodeState). s.kept.started) sound.node)),
+                proposed_is ∙ (ap (λ (i : ℕ). proposed_by (world_after old.view.opening run) i) mine ∙ (sym own_word_stays.tells_proposed ∙ sound.proposed)),
+              );
         }
 
 -- the same at whatever view the look left, and where the node's place and the seat's table are told otherwise
@@ -184,8 +184,7 @@ proposer_look table old sound place j number at lt x es ep t et w h =
     let e : w ≡ view_with old.view w.seen old.view.node = h.advances.stays in
     let h' : LooksAtProposer place number old.view (view_with old.view w.seen old.view.node) = subst (λ (z : View). LooksAtProposer place number old.view z) e h in
     subst (λ (u : TableId). IsSound table (record old { table = u; view = w; proposers = set old.proposers place x }) × LookedAtProposer j x old (record old { table = u; view = w; proposers = set old.proposers place x })) (sym et)
-    (subst (λ (z : View). IsSound table (after_proposer_look old z place x) × LookedAtProposer j x old (after_proposer_look old z place x)) (sym e)
-    (
+    (subst (λ (z : View). IsSound table (after_proposer_look old z place x) × LookedAtProposer j x old (after_proposer_look old z place x)) (sym e) (
       proposer_look_sound table old sound place number lt x es ep w.seen h',
       subst (λ (i : ℕ). LookedAtProposer i x old (after_proposer_look old (view_with old.view w.seen old.view.node) place x)) at (proposer_looked table old sound place number lt x es ep w.seen h'),
     ))
@@ -329,19 +328,19 @@ acceptor_look table old sound place j number at lt x ep ea t et w h node en =
     kept_is f g o mine =
         ap (λ (i : ℕ). f ((world_after old.view.opening w.seen).nodes i)) (mine ∙ (sym me_is ∙ sym (me_hearing old.view.node j x.promised x.accepted)))
         ∙ (kept_of old.view.opening.count (world_after old.view.opening w.seen) (after_hearing old.view.node j x.promised x.accepted) f g here.belongs
-          ∙ (ap (λ (s : NodeState). f s.kept) tie ∙ o (after_hearing old.node j x.promised x.accepted).kept))
+        ∙ (ap (λ (s : NodeState). f s.kept) tie ∙ o (after_hearing old.node j x.promised x.accepted).kept))
 
     looked : LookedAtAcceptor j x old (record old { view = view_with old.view w.seen (after_hearing old.view.node j x.promised x.accepted); node = after_hearing old.node j x.promised x.accepted; acceptors = set old.acceptors place x })
     looked =
         record {
           advances = here;
           after = subst (λ (i : ℕ). record old { view = view_with old.view w.seen (after_hearing old.view.node j x.promised x.accepted); node = after_hearing old.node j x.promised x.accepted; acceptors = set old.acceptors place x }
-            ≡ record old { view = view_with old.view w.seen (after_hearing old.view.node j x.promised x.accepted); node = after_hearing old.node j x.promised x.accepted; acceptors = set old.acceptors i x }) at refl;
+              ≡ record old { view = view_with old.view w.seen (after_hearing old.view.node j x.promised x.accepted); node = after_hearing old.node j x.promised x.accepted; acceptors = set old.acceptors i x }) at refl;
           promised = promised_is;
           accepted = accepted_is;
           below =
-            subst (λ (c : ℕ). AcceptorNotBelow c x.accepted (acceptor_of old j).promised (acceptor_of old j).accepted) (sym promised_is)
-            (subst (λ (q : Option Vote). AcceptorNotBelow ((world_after old.view.opening w.seen).nodes j).promised q (acceptor_of old j).promised (acceptor_of old j).accepted) (sym accepted_is) (kept_seen j low).below);
+              subst (λ (c : ℕ). AcceptorNotBelow c x.accepted (acceptor_of old j).promised (acceptor_of old j).accepted) (sym promised_is)
+              (subst (λ (q : Option Vote). AcceptorNotBelow ((world_after old.view.opening w.seen).nodes j).promised q (acceptor_of old j).promised (acceptor_of old j).accepted) (sym accepted_is) (kept_seen j low).below);
           own = λ mine. (
             promised_is ∙ (kept_is (λ (k : KeptPart). k.promised) (λ k. refl) (λ k. refl) mine ∙ kept_hearing old.node j x.promised x.accepted (λ (k : KeptPart). k.promised)),
             accepted_is ∙ (kept_is (λ (k : KeptPart). k.accepted) (λ k. refl) (λ k. refl) mine ∙ kept_hearing old.node j x.promised x.accepted (λ (k : KeptPart). k.accepted)),

@@ -12,7 +12,9 @@ ghost use Rattle.paxos_world.specs.World.{Has};
 
 use atomic_table::{Seat as Token, Table};
 use paxos_core::{CoreError, Msg, Node, Vote};
-use rooms_rule::rule::{Accepts, LooksAtAcceptor, LooksAtProposer, Promises, Proposes, RoomLaw, Starts, Tells};
+use rooms_rule::rule::{
+    Accepts, LooksAtAcceptor, LooksAtProposer, Promises, Proposes, RoomLaw, Starts, Tells,
+};
 use rooms_rule::view::{Opening, View};
 use rooms_words::acceptor::AcceptorWord;
 use rooms_words::proposer::ProposerWord;
@@ -95,7 +97,10 @@ impl WordSeat {
         ensures { LookedAtProposer j result self.old self.new }
     {
         let place = usize::from(j);
-        let found = self.board.shared.load::<LooksAtProposer>(&mut self.token, 2 * place);
+        let found = self
+            .board
+            .shared
+            .load::<LooksAtProposer>(&mut self.token, 2 * place);
         let word = ProposerWord::unpack(found);
         self.proposers[place] = word;
         word
@@ -108,7 +113,10 @@ impl WordSeat {
         ensures { LookedAtAcceptor j result self.old self.new }
     {
         let place = usize::from(j);
-        let found = self.board.shared.load::<LooksAtAcceptor>(&mut self.token, 2 * place + 1);
+        let found = self
+            .board
+            .shared
+            .load::<LooksAtAcceptor>(&mut self.token, 2 * place + 1);
         let word = AcceptorWord::unpack(found);
         self.acceptors[place] = word;
         self.node = heard(self.node, j, word);
@@ -131,7 +139,9 @@ impl WordSeat {
             proposed: None,
         };
         let place = usize::from(self.node.me());
-        self.board.shared.store::<Starts>(&mut self.token, 2 * place, word.pack());
+        self.board
+            .shared
+            .store::<Starts>(&mut self.token, 2 * place, word.pack());
         self.node = next;
         self.proposed = None;
         Ok(started)
@@ -154,7 +164,9 @@ impl WordSeat {
             accepted: self.node.kept().accepted(),
         };
         let place = usize::from(self.node.me());
-        self.board.shared.store::<Promises>(&mut self.token, 2 * place + 1, word.pack());
+        self.board
+            .shared
+            .store::<Promises>(&mut self.token, 2 * place + 1, word.pack());
         self.node = next;
         Some(ballot)
     }
@@ -175,7 +187,9 @@ impl WordSeat {
             proposed,
         };
         let place = usize::from(self.node.me());
-        self.board.shared.store::<Proposes>(&mut self.token, 2 * place, word.pack());
+        self.board
+            .shared
+            .store::<Proposes>(&mut self.token, 2 * place, word.pack());
         self.node = next;
         self.proposed = proposed;
         Some((ballot, value))
@@ -197,7 +211,9 @@ impl WordSeat {
             accepted: Some(vote),
         };
         let place = usize::from(self.node.me());
-        self.board.shared.store::<Accepts>(&mut self.token, 2 * place + 1, word.pack());
+        self.board
+            .shared
+            .store::<Accepts>(&mut self.token, 2 * place + 1, word.pack());
         self.node = next;
         Some(vote)
     }
@@ -224,7 +240,9 @@ impl WordSeat {
         ensures other { other.new ≡ other.old }
     {
         let witness = other.board.shared.split_seat::<Tells>(&mut other.token);
-        self.board.shared.join_seat::<Tells>(&mut self.token, witness);
+        self.board
+            .shared
+            .join_seat::<Tells>(&mut self.token, witness);
     }
 
     /// The value that the node has learned, the number of the node whose offer it is.

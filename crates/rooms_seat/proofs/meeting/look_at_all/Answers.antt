@@ -1,4 +1,4 @@
-use Rattle.std.proofs.Common.{◌≡◌, ℕ, ◌∙◌, arith}
+use Rattle.std.proofs.Common.{◌∙◌, arith}
 use Rattle.rooms_seat.proofs.Meetings.{on_acceptor, on_next, on_proposer}
 use Rattle.rooms_seat.proofs.meeting.look_at_all.Goals as goal
 

@@ -7,5 +7,5 @@ invariant-loop-j l =
     record {
       start : l.j ≡ 0 → l.seat ≡ l.initial.seat;
       on : 0 < l.j → LookedOn l.initial.seat l.seat;
-      count : l.seat.node.count ≡ l.initial.seat.node.count
+      count : l.seat.node.count ≡ l.initial.seat.node.count;
     }

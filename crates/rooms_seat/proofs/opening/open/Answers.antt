@@ -1,4 +1,4 @@
-use Rattle.std.proofs.Common.{◌≡◌, ℕ, ◌*◌, ◌<◌, sym, ap, ◌∙◌, subst, arith}
+use Rattle.std.proofs.Common.{◌≡◌, ◌*◌, ◌<◌, sym, ap, ◌∙◌, subst, arith}
 use Rattle.atomic_table.specs.Seated.{TableId}
 use Rattle.atomic_table.specs.Table.{Splits}
 use Rattle.rooms_rule.specs.declared.view.View.{View}
@@ -20,5 +20,5 @@ split_seat-mine-requires c =
       same,
       subst (λ (t : TableId). 0 < t.words) same some_word,
       subst (λ (v : View). Splits (RoomRule c.deref.result.now.shared.key) c.loop-me.token.id v (dealing_rest v) (dealing_seat v)) (sym inv.view)
-        (deals c.deref.result.now.shared.key c.loop-me.token.id (empty_opening c.args.count) c.loop-me.me (omega arith)),
+          (deals c.deref.result.now.shared.key c.loop-me.token.id (empty_opening c.args.count) c.loop-me.me (omega arith)),
     )

@@ -10,5 +10,5 @@ invariant-loop-me l =
       table : l.token.table_id ≡ (arc_value l.board).shared.table_id;
       words : l.token.table_id.words ≡ 2 * l.count;
       view : l.token.me.0 ≡ dealing (empty_opening l.count) l.me;
-      seats : l.seats.items ≡ fresh_seats l.token.table_id l.count l.me
+      seats : l.seats.items ≡ fresh_seats l.token.table_id l.count l.me;
     }

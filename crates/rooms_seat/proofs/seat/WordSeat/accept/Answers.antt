@@ -1,4 +1,4 @@
-use Rattle.std.proofs.Common.{◌≡◌, ℕ, ◌<◌, Option, IfSome, sym, ap, ◌∙◌, subst, refl}
+use Rattle.std.proofs.Common.{◌≡◌, ℕ, ◌<◌, Option, IfSome, sym, ap, ◌∙◌, subst}
 use Rattle.paxos_world.specs.declared.vote.Vote.{Vote}
 use Rattle.paxos_law.specs.declared.step.Act.TheVariants as act
 use Rattle.rooms_rule.specs.Steps.{StoresAcceptor}

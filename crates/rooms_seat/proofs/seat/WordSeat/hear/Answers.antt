@@ -1,4 +1,4 @@
-use Rattle.std.proofs.Common.{◌≡◌, ℕ, ◌+◌, ◌*◌, ◌<◌, true, sym, ap, ◌∙◌, subst, arith}
+use Rattle.std.proofs.Common.{◌≡◌, ◌*◌, ◌<◌, sym, ap, ◌∙◌, subst, arith}
 use Rattle.atomic_table.specs.Seated.{TableId}
 use Rattle.atomic_table.specs.Table.{Me}
 use Rattle.rooms_rule.specs.declared.view.View.{View}
@@ -28,12 +28,12 @@ join_seat-requires c =
     let sound = c.self.invariant in
     let same : c.self.inside.token.table_id ≡ c.deref-2.result.now.shared.table_id = sound.same ∙ ap (λ t. t.shared.table_id) (sym c.deref-2.ensures) in
     let one : c.self.inside.token.table_id ≡ c.other.inside.token.table_id =
-      ap (λ (s : SeatState). s.table) c.self.view_is ∙ (c.requires ∙ sym (ap (λ (s : SeatState). s.table) c.other.view_is)) in
+    ap (λ (s : SeatState). s.table) c.self.view_is ∙ (c.requires ∙ sym (ap (λ (s : SeatState). s.table) c.other.view_is)) in
     let made = c.split_seat-witness.ensures in (
       same,
       made.3 ∙ (sym one ∙ same),
       ap (λ (m : Me (Unit {0}) View). m.1) made.4,
       some_word _ _ sound _ same,
       takes_witness c.deref-2.result.now.shared.key c.self.inside.token.id c.self.inside.token.me.0 c.split_seat-witness.result.id c.split_seat-witness.result.me.0
-        (ap (λ (m : Me (Unit {0}) View). m.0.live) made.4 ∙ c.other.invariant.seated.live),
+          (ap (λ (m : Me (Unit {0}) View). m.0.live) made.4 ∙ c.other.invariant.seated.live),
     )

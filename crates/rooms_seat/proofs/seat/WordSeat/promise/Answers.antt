@@ -35,7 +35,7 @@ store-requires c =
       same,
       (word_below _ _ sound _ same c.from-place.result mine).1,
       promise_allowed _ _ _ _ _ c.self.inside.token.me _ _ _ _ sound c.from-place.result c.pack.result at c.from.result c.in_ok-ballot.ballot low c.in_ok-ballot.ensures
-        (subst (λ (o : Option Vote). IsAcceptorWord c.pack.result c.in_ok-ballot.ballot o) is c.pack.ensures.word),
+          (subst (λ (o : Option Vote). IsAcceptorWord c.pack.result c.in_ok-ballot.ballot o) is c.pack.ensures.word),
     )
 
 pub invariant_of-self : goal.invariant_of-self

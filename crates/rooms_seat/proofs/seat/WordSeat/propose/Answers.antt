@@ -1,6 +1,5 @@
-use Rattle.std.proofs.Common.{◌≡◌, ℕ, ◌<◌, Option, Some, sym, ap, ◌∙◌, subst, refl, arith, Fits, w8}
+use Rattle.std.proofs.Common.{◌≡◌, ℕ, ◌<◌, Some, sym, ap, ◌∙◌, subst, arith}
 use Rattle.paxos_world.specs.KeptPart.{KeptPart}
-use Rattle.paxos_law.specs.Proposer.{next_proposal}
 use Rattle.rooms_words.specs.Words.{IsProposerWord}
 use Rattle.rooms_seat.proofs.Acts.{proposed_value, propose_allowed, propose_sound}
 use Rattle.rooms_seat.proofs.Moves.{word_below}
@@ -23,7 +22,7 @@ store-requires c =
       same,
       (word_below _ _ sound _ same c.from-place.result mine).0,
       propose_allowed _ _ _ _ _ c.self.inside.token.me _ _ _ _ sound c.from-place.result c.pack.result at c.in_ok-ballot.ballot c.in_ok-ballot.value (sym c.in_ok-ballot.ensures)
-        (subst (λ (b : ℕ). IsProposerWord c.pack.result b (Some c.in_ok-ballot.value)) is c.pack.ensures.word),
+          (subst (λ (b : ℕ). IsProposerWord c.pack.result b (Some c.in_ok-ballot.value)) is c.pack.ensures.word),
     )
 
 pub invariant_of-self : goal.invariant_of-self
