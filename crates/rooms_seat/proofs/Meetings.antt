@@ -19,13 +19,13 @@ use Rattle.rooms_rule.specs.Events.{labels_of, events_of}
 use Rattle.rooms_rule.specs.Heard.{after_shown_vote, after_hearing}
 use Rattle.rooms_rule.specs.Steps.{Advances}
 use Rattle.rooms_rule.specs.Views.{world_after, BeginsWith}
-use Rattle.rooms_rule.proofs.HearLemmas.{me_hearing}
+use Rattle.rooms_steps.proofs.HearLemmas.{me_hearing}
 use Rattle.rooms_rule.proofs.RunLemmas.{world_after-append, begins_through}
-use Rattle.rooms_seat.specs.Did.{LookedAtAcceptor, LookedAtProposer}
+use Rattle.rooms_state.specs.Did.{LookedAtAcceptor, LookedAtProposer}
 use Rattle.rooms_seat.specs.Meeting.{IsKnown, LookedOn, HaveMet}
-use Rattle.rooms_seat.specs.SeatState.{SeatState}
-use Rattle.rooms_seat.specs.Sound.{IsSound}
-use Rattle.rooms_seat.proofs.Moves.{kept_hearing}
+use Rattle.rooms_state.specs.SeatState.{SeatState}
+use Rattle.rooms_state.specs.Sound.{IsSound}
+use Rattle.rooms_state.proofs.Moves.{kept_hearing}
 
 -- ---- looks
 

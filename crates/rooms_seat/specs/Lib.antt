@@ -1,4 +1,1 @@
-pub mod SeatState
-pub mod Sound
-pub mod Did
 pub mod Meeting

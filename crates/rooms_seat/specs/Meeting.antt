@@ -3,7 +3,7 @@ use Rattle.std.specs.Prelude.{◌≡◌, ℕ, Option, Some, None}
 use Rattle.paxos_world.specs.World.{Has}
 use Rattle.paxos_core.specs.LateOffer.{BelongsButOffer}
 use Rattle.rooms_rule.specs.Views.{IsLegal, BeginsWith}
-use Rattle.rooms_seat.specs.SeatState.{SeatState, seen_world}
+use Rattle.rooms_state.specs.SeatState.{SeatState, seen_world}
 use Rattle.rooms_seat.specs.declared.meeting.Meeting.{Meeting}
 use Rattle.rooms_seat.specs.declared.meeting.Meeting.TheVariants.{Neither, One, Same}
 

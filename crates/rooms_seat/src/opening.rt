@@ -1,6 +1,6 @@
 ghost use Rattle.std.specs.Prelude.{IfOk};
 ghost use Rattle.paxos_law.specs.NodeState.{IsRoomSize};
-ghost use Rattle.rooms_seat.specs.SeatState.{AreFresh};
+ghost use Rattle.rooms_state.specs.SeatState.{AreFresh};
 
 use crate::seat::{Board, WordSeat};
 use paxos_core::Kept;

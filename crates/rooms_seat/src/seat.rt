@@ -1,9 +1,9 @@
 ghost use Rattle.std.specs.Prelude.{◌≡◌, ◌*◌, ◌<◌, ◌↔◌, Some, None, IsErr, IsNone, OnErr, IfOk, IfSome};
 ghost use Rattle.paxos_law.specs.Proposer.{next_ballot, next_proposal};
 ghost use Rattle.paxos_law.specs.declared.step.Act.TheVariants as act;
-ghost use Rattle.rooms_seat.specs.Did.{Did, LookedAtAcceptor, LookedAtProposer};
+ghost use Rattle.rooms_state.specs.Did.{Did, LookedAtAcceptor, LookedAtProposer};
 ghost use Rattle.rooms_seat.specs.Meeting.{IsKnown};
-ghost use Rattle.rooms_seat.specs.SeatState.{empty_opening, fresh_seat, promise_of, seen_world, vote_by, vote_of};
+ghost use Rattle.rooms_state.specs.SeatState.{empty_opening, fresh_seat, promise_of, seen_world, vote_by, vote_of};
 ghost use Rattle.std.specs.Arc.{arc_value};
 ghost use Rattle.paxos_law.specs.NodeState.{IsRoomSize};
 ghost use Rattle.rooms_rule.specs.Deal.{dealt, informed};
@@ -39,8 +39,8 @@ pub struct WordSeat {
 
 impl Model for WordSeat {
     ghost use Rattle.std.specs.Arc.{arc_value};
-    ghost use Rattle.rooms_seat.specs.SeatState.{SeatState};
-    ghost use Rattle.rooms_seat.specs.Sound.{IsSound};
+    ghost use Rattle.rooms_state.specs.SeatState.{SeatState};
+    ghost use Rattle.rooms_state.specs.Sound.{IsSound};
 
     ghost Value = { SeatState };
 

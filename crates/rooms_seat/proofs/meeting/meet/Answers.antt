@@ -1,7 +1,7 @@
 use Rattle.std.proofs.Common.{◌≡◌, sym, subst}
 use Rattle.rooms_rule.specs.Deal.{informed}
 use Rattle.rooms_seat.specs.Meeting.{HaveMet}
-use Rattle.rooms_seat.specs.SeatState.{SeatState}
+use Rattle.rooms_state.specs.SeatState.{SeatState}
 use Rattle.rooms_seat.proofs.Meetings.{have_met, met_agree}
 use Rattle.rooms_seat.proofs.meeting.meet.Goals as goal
 

@@ -5,8 +5,8 @@ use Rattle.rooms_rule.specs.declared.view.View.{View}
 use Rattle.rooms_rule.specs.Deal.{dealing_rest, dealing_seat}
 use Rattle.rooms_rule.specs.Rule.{RoomRule}
 use Rattle.rooms_rule.proofs.Deal.{deals}
-use Rattle.rooms_seat.specs.SeatState.{empty_opening}
-use Rattle.rooms_seat.proofs.Fresh.{opens_empty}
+use Rattle.rooms_state.specs.SeatState.{empty_opening}
+use Rattle.rooms_state.proofs.Fresh.{opens_empty}
 use Rattle.rooms_seat.proofs.opening.open.Goals as goal
 
 pub of_words-requires : goal.of_words-requires

@@ -1,7 +1,7 @@
 use Rattle.std.proofs.Common.{◌≡◌, ◌*◌}
 use Rattle.std.specs.Arc.{arc_value}
 use Rattle.rooms_rule.specs.Deal.{dealing}
-use Rattle.rooms_seat.specs.SeatState.{empty_opening, fresh_seats}
+use Rattle.rooms_state.specs.SeatState.{empty_opening, fresh_seats}
 use Rattle.rooms_seat.proofs.opening.open.Given as goal
 
 abbrev pub invariant-loop-me : goal.invariant-loop-me

@@ -2,9 +2,9 @@ use Rattle.std.proofs.Common.{◌≡◌, ℕ, ◌<◌, Option, IfSome, sym, ap, 
 use Rattle.paxos_world.specs.declared.vote.Vote.{Vote}
 use Rattle.paxos_law.specs.declared.step.Act.TheVariants as act
 use Rattle.rooms_rule.specs.Steps.{StoresAcceptor}
-use Rattle.rooms_seat.specs.SeatState.{SeatState}
-use Rattle.rooms_seat.proofs.Acts.{vote_allowed, vote_sound}
-use Rattle.rooms_seat.proofs.Moves.{word_below}
+use Rattle.rooms_state.specs.SeatState.{SeatState}
+use Rattle.rooms_state.proofs.Acts.{vote_allowed, vote_sound}
+use Rattle.rooms_state.proofs.Moves.{word_below}
 use Rattle.rooms_seat.proofs.seat.WordSeat.accept.Goals as goal
 
 pub store-requires : goal.store-requires

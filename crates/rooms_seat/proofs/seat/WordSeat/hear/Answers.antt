@@ -3,9 +3,9 @@ use Rattle.atomic_table.specs.Seated.{TableId}
 use Rattle.atomic_table.specs.Table.{Me}
 use Rattle.rooms_rule.specs.declared.view.View.{View}
 use Rattle.rooms_rule.proofs.Deal.{makes_witness, takes_witness}
-use Rattle.rooms_seat.specs.SeatState.{SeatState}
-use Rattle.rooms_seat.specs.Sound.{IsSound}
-use Rattle.rooms_seat.proofs.Moves.{number_below}
+use Rattle.rooms_state.specs.SeatState.{SeatState}
+use Rattle.rooms_state.specs.Sound.{IsSound}
+use Rattle.rooms_state.proofs.Moves.{number_below}
 use Rattle.rooms_seat.proofs.seat.WordSeat.hear.Goals as goal
 
 some_word : (table : TableId) (s : SeatState) → IsSound table s → (t : TableId) → s.table ≡ t → 0 < t.words

@@ -1,7 +1,7 @@
 use Rattle.std.proofs.Common.{◌≡◌, ℕ, ◌<◌, sym, ap, ◌∙◌, subst, refl}
-use Rattle.rooms_rule.proofs.Looks.{looks_at_acceptor}
-use Rattle.rooms_seat.specs.SeatState.{SeatState}
-use Rattle.rooms_seat.proofs.Moves.{acceptor_look, word_below}
+use Rattle.rooms_steps.proofs.Looks.{looks_at_acceptor}
+use Rattle.rooms_state.specs.SeatState.{SeatState}
+use Rattle.rooms_state.proofs.Moves.{acceptor_look, word_below}
 use Rattle.rooms_seat.proofs.seat.WordSeat.look_acceptor.Goals as goal
 
 pub load-found-requires : goal.load-found-requires

@@ -1,4 +1,4 @@
-use Rattle.rooms_seat.proofs.Fresh.{fresh_sound}
+use Rattle.rooms_state.proofs.Fresh.{fresh_sound}
 use Rattle.rooms_seat.proofs.seat.WordSeat.new.Goals as goal
 
 pub invariant_of-result : goal.invariant_of-result

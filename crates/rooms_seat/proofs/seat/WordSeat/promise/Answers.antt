@@ -4,9 +4,9 @@ use Rattle.paxos_world.specs.declared.vote.Vote.{Vote}
 use Rattle.paxos_law.specs.declared.step.Act.TheVariants as act
 use Rattle.rooms_words.specs.Words.{IsAcceptorWord, IsVoteInWord}
 use Rattle.rooms_rule.specs.Steps.{StoresAcceptor}
-use Rattle.rooms_seat.specs.SeatState.{SeatState}
-use Rattle.rooms_seat.proofs.Acts.{kept_value, promise_allowed, promise_sound}
-use Rattle.rooms_seat.proofs.Moves.{word_below}
+use Rattle.rooms_state.specs.SeatState.{SeatState}
+use Rattle.rooms_state.proofs.Acts.{kept_value, promise_allowed, promise_sound}
+use Rattle.rooms_state.proofs.Moves.{word_below}
 use Rattle.rooms_seat.proofs.seat.WordSeat.promise.Goals as goal
 
 fits : (o : Option Vote) → ((x : Vote) → o ≡ Some x → (1 ≤ x.ballot) × (x.value < 256)) → IfSome o IsVoteInWord

@@ -1,8 +1,8 @@
 use Rattle.std.proofs.Common.{◌≡◌, ℕ, ◌<◌, Some, sym, ap, ◌∙◌, subst, arith}
 use Rattle.paxos_world.specs.KeptPart.{KeptPart}
 use Rattle.rooms_words.specs.Words.{IsProposerWord}
-use Rattle.rooms_seat.proofs.Acts.{proposed_value, propose_allowed, propose_sound}
-use Rattle.rooms_seat.proofs.Moves.{word_below}
+use Rattle.rooms_state.proofs.Acts.{proposed_value, propose_allowed, propose_sound}
+use Rattle.rooms_state.proofs.Moves.{word_below}
 use Rattle.rooms_seat.proofs.seat.WordSeat.propose.Goals as goal
 
 pub overflow_cast-proposed : goal.overflow_cast-proposed

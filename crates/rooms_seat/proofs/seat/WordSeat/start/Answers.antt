@@ -3,8 +3,8 @@ use Rattle.paxos_world.specs.KeptPart.{KeptPart}
 use Rattle.paxos_law.specs.NodeState.{NodeState}
 use Rattle.paxos_law.specs.Proposer.{next_ballot}
 use Rattle.rooms_words.specs.Words.{IsProposerWord}
-use Rattle.rooms_seat.proofs.Acts.{start_allowed, start_sound}
-use Rattle.rooms_seat.proofs.Moves.{word_below}
+use Rattle.rooms_state.proofs.Acts.{start_allowed, start_sound}
+use Rattle.rooms_state.proofs.Moves.{word_below}
 use Rattle.rooms_seat.proofs.seat.WordSeat.start.Goals as goal
 
 pub store-requires : goal.store-requires

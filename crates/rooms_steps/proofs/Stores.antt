@@ -35,7 +35,7 @@ use Rattle.rooms_rule.specs.Steps.{Advances, AreTakenBy, StoresProposer, StoresA
 use Rattle.rooms_rule.specs.Views.{world_after, IsSeated}
 use Rattle.rooms_rule.specs.WordsOf.{proposed_under, proposer_at, acceptor_at, IsProposerOf, IsAcceptorOf}
 use Rattle.rooms_rule.proofs.Advance.{view_with, allows, belongs_now, reached_now}
-use Rattle.rooms_rule.proofs.OfferLemmas.{message_offered, proposal_offered}
+use Rattle.rooms_steps.proofs.OfferLemmas.{message_offered, proposal_offered}
 use Rattle.rooms_rule.proofs.RunLemmas.{world_after-events, world_after-append, others_of_own, kept_of}
 use Rattle.rooms_rule.proofs.WordLemmas.{KeepsProposers, proposer_kept, acceptor_kept, proposer_of_others, acceptor_of_others, shows_acceptor, shows_proposer}
 

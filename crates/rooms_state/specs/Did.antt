@@ -8,7 +8,7 @@ use Rattle.rooms_rule.specs.Heard.{after_hearing, taken_by_hearing}
 use Rattle.rooms_rule.specs.NotBelow.{ProposerNotBelow, AcceptorNotBelow}
 use Rattle.rooms_rule.specs.Steps.{Advances, Took}
 use Rattle.rooms_rule.specs.WordsOf.{proposed_by}
-use Rattle.rooms_seat.specs.SeatState.{SeatState, seen_world, proposer_of, acceptor_of}
+use Rattle.rooms_state.specs.SeatState.{SeatState, seen_world, proposer_of, acceptor_of}
 
 -- the seat looked at node j's proposer and saw this: what stands in the world then seen, not below what it saw before, and of
 -- its own node what that keeps and has proposed

@@ -22,7 +22,7 @@ use Rattle.rooms_rule.specs.Steps.{LooksAtAcceptor, ProposerLook, AcceptorLook}
 use Rattle.rooms_rule.specs.Views.{world_after, IsSeated}
 use Rattle.rooms_rule.specs.WordsOf.{acceptor_at, IsProposerOf, IsAcceptorOf, ShowsWorld}
 use Rattle.rooms_rule.proofs.Advance.{view_with, allows, belongs_now, reached_now}
-use Rattle.rooms_rule.proofs.HearLemmas.{hearing_takes, me_hearing}
+use Rattle.rooms_steps.proofs.HearLemmas.{hearing_takes, me_hearing}
 use Rattle.rooms_rule.proofs.RunLemmas.{world_after-events}
 use Rattle.rooms_rule.proofs.WordLemmas.{proposer_kept, acceptor_kept, shows_read}
 

@@ -14,8 +14,8 @@ use Rattle.rooms_rule.proofs.Deal.{opens_with, opens, zero_words}
 use Rattle.rooms_rule.specs.Sight.{ProposerSeen, AcceptorSeen}
 use Rattle.rooms_words.specs.declared.acceptor.AcceptorWord.{AcceptorWord}
 use Rattle.rooms_words.specs.declared.proposer.ProposerWord.{ProposerWord}
-use Rattle.rooms_seat.specs.SeatState.{empty_opening, fresh_seat, no_proposer, no_acceptor}
-use Rattle.rooms_seat.specs.Sound.{IsSound}
+use Rattle.rooms_state.specs.SeatState.{empty_opening, fresh_seat, no_proposer, no_acceptor}
+use Rattle.rooms_state.specs.Sound.{IsSound}
 
 get_or-replicate : {A : Type 0} (n i : ℕ) (x : A) → get_or (replicate n x) i x ≡ x
 get_or-replicate zero i x = refl

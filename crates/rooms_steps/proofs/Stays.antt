@@ -16,7 +16,7 @@ use Rattle.rooms_words.specs.declared.proposer.ProposerWord.{ProposerWord}
 use Rattle.rooms_rule.specs.NotBelow.{StandsIn, ProposerNotBelow, VoteNotBelow, AcceptorNotBelow}
 use Rattle.rooms_rule.specs.Sight.{ProposerSeen, AcceptorSeen}
 use Rattle.rooms_rule.specs.WordsOf.{proposed_under, proposed_by}
-use Rattle.rooms_rule.proofs.HearLemmas.{invariant_of}
+use Rattle.rooms_steps.proofs.HearLemmas.{invariant_of}
 use Rattle.rooms_rule.proofs.RunLemmas.{reached_more}
 use Rattle.rooms_rule.proofs.WordLemmas.{put_field}
 

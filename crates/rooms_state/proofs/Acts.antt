@@ -31,13 +31,13 @@ use Rattle.rooms_rule.specs.Rule.{RoomRule}
 use Rattle.rooms_rule.specs.Steps.{Advances, AreTakenBy, Took, StoresProposer, StoresAcceptor, StartStore, ProposeStore, PromiseStore, AcceptStore}
 use Rattle.rooms_rule.specs.Views.{world_after}
 use Rattle.rooms_rule.specs.WordsOf.{IsProposerOf}
-use Rattle.rooms_rule.proofs.HearLemmas.{invariant_of}
-use Rattle.rooms_rule.proofs.OfferLemmas.{message_offered, proposal_offered, proposed_offered}
+use Rattle.rooms_steps.proofs.HearLemmas.{invariant_of}
+use Rattle.rooms_steps.proofs.OfferLemmas.{message_offered, proposal_offered, proposed_offered}
 use Rattle.rooms_rule.proofs.RunLemmas.{legal_reached, reached_more, kept_of}
-use Rattle.rooms_rule.proofs.Stores.{keeps_if, stores_promise, stores_vote, stores_start, stores_proposal}
-use Rattle.rooms_seat.specs.SeatState.{SeatState, no_proposer, seen_world, vote_by}
-use Rattle.rooms_seat.specs.Sound.{IsSound}
-use Rattle.rooms_seat.proofs.Moves.{number_below, own_stays, store_sound}
+use Rattle.rooms_steps.proofs.Stores.{keeps_if, stores_promise, stores_vote, stores_start, stores_proposal}
+use Rattle.rooms_state.specs.SeatState.{SeatState, no_proposer, seen_world, vote_by}
+use Rattle.rooms_state.specs.Sound.{IsSound}
+use Rattle.rooms_state.proofs.Moves.{number_below, own_stays, store_sound}
 
 -- ---- what answers tell
 

@@ -24,15 +24,15 @@ use Rattle.rooms_rule.specs.Steps.{Advances, LooksAtProposer, LooksAtAcceptor}
 use Rattle.rooms_rule.specs.Views.{world_after, IsLegal}
 use Rattle.rooms_rule.specs.WordsOf.{proposed_by, IsProposerOf, IsAcceptorOf}
 use Rattle.rooms_rule.proofs.Advance.{view_with}
-use Rattle.rooms_rule.proofs.HearLemmas.{me_hearing}
-use Rattle.rooms_rule.proofs.Looks.{vote_quiet}
-use Rattle.rooms_rule.proofs.OfferLemmas.{hearing_offered}
+use Rattle.rooms_steps.proofs.HearLemmas.{me_hearing}
+use Rattle.rooms_steps.proofs.Looks.{vote_quiet}
+use Rattle.rooms_steps.proofs.OfferLemmas.{hearing_offered}
 use Rattle.rooms_rule.proofs.RunLemmas.{world_after-events, world_after-append, legal_reached, legal_before, run_behind, kept_of}
-use Rattle.rooms_rule.proofs.Stays.{proposer_seen_later, acceptor_seen_later, proposer_seen, acceptor_seen}
+use Rattle.rooms_steps.proofs.Stays.{proposer_seen_later, acceptor_seen_later, proposer_seen, acceptor_seen}
 use Rattle.rooms_rule.proofs.WordLemmas.{proposer_of_others}
-use Rattle.rooms_seat.specs.Did.{LookedAtAcceptor, LookedAtProposer}
-use Rattle.rooms_seat.specs.SeatState.{SeatState, no_proposer, no_acceptor, proposer_of, acceptor_of, seen_world}
-use Rattle.rooms_seat.specs.Sound.{IsSound}
+use Rattle.rooms_state.specs.Did.{LookedAtAcceptor, LookedAtProposer}
+use Rattle.rooms_state.specs.SeatState.{SeatState, no_proposer, no_acceptor, proposer_of, acceptor_of, seen_world}
+use Rattle.rooms_state.specs.Sound.{IsSound}
 
 pub number_below : (n : ℕ) (w : World) (s : NodeState) → BelongsButOffer n w s → s.me < n
 number_below n w s (inl h) = h.number

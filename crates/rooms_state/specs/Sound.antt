@@ -7,7 +7,7 @@ use Rattle.rooms_words.specs.Words.{proposed_in}
 use Rattle.rooms_rule.specs.Sight.{ProposerSeen, AcceptorSeen}
 use Rattle.rooms_rule.specs.Views.{IsLegal, IsSeated}
 use Rattle.rooms_rule.specs.WordsOf.{IsProposerOf}
-use Rattle.rooms_seat.specs.SeatState.{SeatState, seen_world, proposer_of, acceptor_of}
+use Rattle.rooms_state.specs.SeatState.{SeatState, seen_world, proposer_of, acceptor_of}
 
 -- a seat at this table: it is its node's, what it has seen is a run of the protocol, to whose last world its node belongs,
 -- and what it saw of each word is not above what stands there
