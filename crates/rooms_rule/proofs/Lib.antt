@@ -1,0 +1,4 @@
+pub mod RunLemmas
+pub mod WordLemmas
+pub mod Advance
+pub mod Deal

@@ -1,0 +1,26 @@
+use Rattle.std.proofs.Common.{◌≡◌, ℕ, ◌<◌, Option, IfSome, sym, ap, ◌∙◌, subst}
+use Rattle.paxos_world.specs.declared.vote.Vote.{Vote}
+use Rattle.paxos_law.specs.declared.step.Act.TheVariants as act
+use Rattle.rooms_rule.specs.Steps.{StoresAcceptor}
+use Rattle.rooms_state.specs.SeatState.{SeatState}
+use Rattle.rooms_state.proofs.Acts.{vote_allowed, vote_sound}
+use Rattle.rooms_state.proofs.Moves.{word_below}
+use Rattle.rooms_seat.proofs.seat.WordSeat.accept.Goals as goal
+
+pub store-requires : goal.store-requires
+store-requires c =
+    let sound = c.self.invariant in
+    let same : c.self.inside.token.table_id ≡ c.deref.result.now.shared.table_id = sound.same ∙ ap (λ t. t.shared.table_id) (sym c.deref.ensures) in
+    let low : c.from.result < c.self.inside.node.count = rw c.from.ensures (subst (λ (s : SeatState). c.args.j < s.node.count) (sym c.self.view_is) c.requires) in
+    let at : c.from-place.result ≡ c.self.inside.node.me = c.from-place.ensures ∙ c.me.ensures.value in
+    let mine : c.from-place.result < c.self.inside.node.count = rw at (subst (λ (i : ℕ). i < c.self.inside.node.count) c.me.ensures.value c.me.ensures.below) in (
+      same,
+      (word_below _ _ sound _ same c.from-place.result mine).1,
+      vote_allowed _ _ _ _ _ c.self.inside.token.me _ _ _ _ sound c.from-place.result c.pack.result at c.from.result c.in_ok-vote.vote low c.in_ok-vote.ensures c.pack.ensures.word,
+    )
+
+pub invariant_of-self : goal.invariant_of-self
+invariant_of-self c =
+    let found = c.store.ensures in
+    vote_sound _ _ c.self.invariant c.store.new.seat.me.0 c.pack.result c.store.new.seat.table_id found.0 c.on-accepted.new.self c.in_ok-vote.vote
+    (subst (λ (o : Option Vote). IfSome o (λ y. StoresAcceptor (act.Accept y.ballot y.value) c.pack.result c.self.inside.token.me.0 c.store.new.seat.me.0)) c.pack.ensures.word.tells_accepted found.2) c.on-accepted.ensures.state

@@ -1,0 +1,45 @@
+use Rattle.std.proofs.Common.{◌≡◌, ℕ, ◌<◌, ◌≤◌, Option, Some, None, IfSome, sym, ap, ◌∙◌, subst, refl}
+use Rattle.paxos_world.specs.KeptPart.{KeptPart}
+use Rattle.paxos_world.specs.declared.vote.Vote.{Vote}
+use Rattle.paxos_law.specs.declared.step.Act.TheVariants as act
+use Rattle.rooms_words.specs.Words.{IsAcceptorWord, IsVoteInWord}
+use Rattle.rooms_rule.specs.Steps.{StoresAcceptor}
+use Rattle.rooms_state.specs.SeatState.{SeatState}
+use Rattle.rooms_state.proofs.Acts.{kept_value, promise_allowed, promise_sound}
+use Rattle.rooms_state.proofs.Moves.{word_below}
+use Rattle.rooms_seat.proofs.seat.WordSeat.promise.Goals as goal
+
+fits : (o : Option Vote) → ((x : Vote) → o ≡ Some x → (1 ≤ x.ballot) × (x.value < 256)) → IfSome o IsVoteInWord
+fits None h = tt
+fits (Some x) h = h x refl
+
+within : (o : Option Vote) (p : ℕ) → IfSome o (λ x. (1 ≤ x.ballot) × (x.ballot ≤ p)) → (x : Vote) → o ≡ Some x → 1 ≤ x.ballot
+within o p h x e = (subst (λ (q : Option Vote). IfSome q (λ y. (1 ≤ y.ballot) × (y.ballot ≤ p))) e h).0
+
+pub pack-requires : goal.pack-requires
+pack-requires c =
+    let is : c.accepted.result ≡ c.self.inside.node.kept.accepted = c.accepted.ensures.value ∙ ap (λ (k : KeptPart). k.accepted) c.kept.ensures in
+    fits c.accepted.result (λ x e. (
+      within c.accepted.result _ (subst (λ (o : Option Vote). IfSome o (λ y. (1 ≤ y.ballot) × (y.ballot ≤ c.kept.result.promised))) (sym c.accepted.ensures.value) c.accepted.ensures.within) x e,
+      kept_value _ _ c.self.invariant x (sym is ∙ e),
+    ))
+
+pub store-requires : goal.store-requires
+store-requires c =
+    let sound = c.self.invariant in
+    let same : c.self.inside.token.table_id ≡ c.deref.result.now.shared.table_id = sound.same ∙ ap (λ t. t.shared.table_id) (sym c.deref.ensures) in
+    let low : c.from.result < c.self.inside.node.count = rw c.from.ensures (subst (λ (s : SeatState). c.args.j < s.node.count) (sym c.self.view_is) c.requires) in
+    let at : c.from-place.result ≡ c.self.inside.node.me = c.from-place.ensures ∙ c.me.ensures.value in
+    let mine : c.from-place.result < c.self.inside.node.count = rw at (subst (λ (i : ℕ). i < c.self.inside.node.count) c.me.ensures.value c.me.ensures.below) in
+    let is : c.accepted.result ≡ c.self.inside.node.kept.accepted = c.accepted.ensures.value ∙ ap (λ (k : KeptPart). k.accepted) c.kept.ensures in (
+      same,
+      (word_below _ _ sound _ same c.from-place.result mine).1,
+      promise_allowed _ _ _ _ _ c.self.inside.token.me _ _ _ _ sound c.from-place.result c.pack.result at c.from.result c.in_ok-ballot.ballot low c.in_ok-ballot.ensures
+          (subst (λ (o : Option Vote). IsAcceptorWord c.pack.result c.in_ok-ballot.ballot o) is c.pack.ensures.word),
+    )
+
+pub invariant_of-self : goal.invariant_of-self
+invariant_of-self c =
+    let found = c.store.ensures in
+    promise_sound _ _ c.self.invariant c.store.new.seat.me.0 c.pack.result c.store.new.seat.table_id found.0 c.on-promise.new.self c.in_ok-ballot.ballot
+    (subst (λ (b : ℕ). StoresAcceptor (act.Promise b) c.pack.result c.self.inside.token.me.0 c.store.new.seat.me.0) c.pack.ensures.word.tells_promised found.2) c.on-promise.ensures.state

@@ -1,0 +1,45 @@
+-- What a seat knows of its room for certain, and what two seats of one room know once they have met.
+use Rattle.std.specs.Prelude.{◌≡◌, ℕ, Option, Some, None}
+use Rattle.paxos_world.specs.World.{Has}
+use Rattle.paxos_core.specs.LateOffer.{BelongsButOffer}
+use Rattle.rooms_rule.specs.Views.{IsLegal, BeginsWith}
+use Rattle.rooms_state.specs.SeatState.{SeatState, seen_world}
+use Rattle.rooms_seat.specs.declared.meeting.Meeting.{Meeting}
+use Rattle.rooms_seat.specs.declared.meeting.Meeting.TheVariants.{Neither, One, Same}
+
+-- the run that the seat has seen is one of the protocol; its node belongs to the last world, but that its offer may not stand
+-- there yet, and what it has learned is learned there
+pub record IsKnown (s : SeatState) : Type 0 where
+  pub legal : IsLegal s.view.opening s.view.seen
+  pub belongs : BelongsButOffer s.view.opening.count (seen_world s) s.view.node
+  pub learned : (v : ℕ) → s.node.learned ≡ Some v → Has (s.node.me, v) (seen_world s).learned
+
+-- the seat has looked, which left all that it keeps: it has seen what it had seen, and what it was told
+pub record LookedOn (old new : SeatState) : Type 0 where
+  pub seen : BeginsWith new.view.seen old.view.seen
+  pub told : BeginsWith new.view.seen old.view.told
+  pub told_by : old.view.told_by ≡ old.view.opening
+  pub still : new.view.told ≡ old.view.told
+  pub opening : new.view.opening ≡ old.view.opening
+  pub table : new.table ≡ old.table
+  pub me : new.node.me ≡ old.node.me
+  pub count : new.node.count ≡ old.node.count
+  pub kept : new.node.kept ≡ old.node.kept
+
+-- two seats of one room have met: each has seen what either had seen, and the run of the second is a beginning of the first's
+pub record HaveMet (a b a' b' : SeatState) : Type 0 where
+  pub opening : a'.view.opening ≡ b'.view.opening
+  pub first_own : BeginsWith a'.view.seen a.view.seen
+  pub first_other : BeginsWith a'.view.seen b.view.seen
+  pub second_own : BeginsWith b'.view.seen b.view.seen
+  pub second_other : BeginsWith b'.view.seen a.view.seen
+  pub one_run : BeginsWith a'.view.seen b'.view.seen
+  pub first_kept : a'.node.kept ≡ a.node.kept
+  pub second_kept : b'.node.kept ≡ b.node.kept
+
+-- what two nodes that have learned this tell
+abbrev pub meeting_of : Option ℕ → Option ℕ → Meeting
+meeting_of None None = Neither
+meeting_of (Some v) None = One
+meeting_of None (Some u) = One
+meeting_of (Some v) (Some u) = Same v

@@ -1,0 +1,11 @@
+//! The seat of a node of a room over shared words: its right to store its own two words and to load all. Promises that
+//! each call is exactly one load or one store of one word, and which step of the protocol that is.
+#![tactic(auto)]
+
+mod meeting;
+mod opening;
+mod seat;
+
+pub use meeting::{Meeting, meet};
+pub use opening::open;
+pub use seat::{Board, WordSeat};

@@ -1,0 +1,282 @@
+ghost use Rattle.std.specs.Prelude.{◌≡◌, ◌*◌, ◌<◌, ◌↔◌, Some, None, IsErr, IsNone, OnErr, IfOk, IfSome};
+ghost use Rattle.paxos_law.specs.Proposer.{next_ballot, next_proposal};
+ghost use Rattle.paxos_law.specs.declared.step.Act.TheVariants as act;
+ghost use Rattle.rooms_state.specs.Did.{Did, LookedAtAcceptor, LookedAtProposer};
+ghost use Rattle.rooms_seat.specs.Meeting.{IsKnown};
+ghost use Rattle.rooms_state.specs.SeatState.{empty_opening, fresh_seat, promise_of, seen_world, vote_by, vote_of};
+ghost use Rattle.std.specs.Arc.{arc_value};
+ghost use Rattle.paxos_law.specs.NodeState.{IsRoomSize};
+ghost use Rattle.rooms_rule.specs.Deal.{dealt, informed};
+ghost use Rattle.rooms_rule.specs.Heard.{after_hearing};
+ghost use Rattle.paxos_world.specs.World.{Has};
+
+use atomic_table::{Seat as Token, Table};
+use paxos_core::{CoreError, Msg, Node, Vote};
+use rooms_rule::rule::{
+    Accepts, LooksAtAcceptor, LooksAtProposer, Promises, Proposes, RoomLaw, Starts, Tells,
+};
+use rooms_rule::view::{Opening, View};
+use rooms_words::acceptor::AcceptorWord;
+use rooms_words::proposer::ProposerWord;
+use std::alloc::Global;
+use std::marker::Model;
+use std::sync::Arc;
+
+/// The words of a room: two for each node, its proposer's before its acceptor's.
+pub type Board = Table<(), View, Opening, RoomLaw, Global>;
+
+/// One node's right to store its two words and to load all. Its calls take no lock, wait for nobody and return.
+#[derive(Drop)]
+pub struct WordSeat {
+    board: Arc<Board>,
+    token: Token<(), View>,
+    node: Node,
+    /// The value that the node has proposed in this run under the ballot that it started last.
+    proposed: Option<u8>,
+    proposers: [ProposerWord; 7],
+    acceptors: [AcceptorWord; 7],
+}
+
+impl Model for WordSeat {
+    ghost use Rattle.std.specs.Arc.{arc_value};
+    ghost use Rattle.rooms_state.specs.SeatState.{SeatState};
+    ghost use Rattle.rooms_state.specs.Sound.{IsSound};
+
+    ghost Value = { SeatState };
+
+    ghost view = { λ s. record {
+      table = s.token.table_id;
+      view = s.token.me.0;
+      node = s.node;
+      proposed = s.proposed;
+      proposers = s.proposers;
+      acceptors = s.acceptors;
+    } };
+
+    ghost invariant = { λ s. IsSound (arc_value s.board).shared.table_id record {
+      table = s.token.table_id;
+      view = s.token.me.0;
+      node = s.node;
+      proposed = s.proposed;
+      proposers = s.proposers;
+      acceptors = s.acceptors;
+    } };
+}
+
+impl WordSeat {
+    /// Node `me`'s seat of a room of `count` nodes that have kept nothing, at the table that its token fits.
+    pub(crate) fn new(board: Arc<Board>, token: Token<(), View>, me: u8, count: u8) -> Self
+        requires size { IsRoomSize count }
+        requires number { me < count }
+        requires table { (token.table_id ≡ (arc_value board).shared.table_id) × (token.table_id.words ≡ 2 * count) }
+        requires view { token.me.0 ≡ dealt (empty_opening count) me }
+        ensures { result ≡ fresh_seat token.table_id count me }
+    {
+        let node = Node::new(me, count);
+        let fresh_proposer = ProposerWord {
+            started: 0,
+            proposed: None,
+        };
+        let fresh_acceptor = AcceptorWord {
+            promised: 0,
+            accepted: None,
+        };
+        WordSeat {
+            board,
+            token,
+            node,
+            proposed: None,
+            proposers: [fresh_proposer; 7],
+            acceptors: [fresh_acceptor; 7],
+        }
+    }
+
+    /// Loads the word of node `j`'s proposer.
+    pub fn look_proposer(&mut self, j: u8) -> ProposerWord
+        requires { j < self.old.node.count }
+        ensures { LookedAtProposer j result self.old self.new }
+    {
+        let place = usize::from(j);
+        let found = self
+            .board
+            .shared
+            .load::<LooksAtProposer>(&mut self.token, 2 * place);
+        let word = ProposerWord::unpack(found);
+        self.proposers[place] = word;
+        word
+    }
+
+    /// Loads the word of node `j`'s acceptor: notes the promise that it shows for the ballot under way, and its vote, and
+    /// may learn.
+    pub fn look_acceptor(&mut self, j: u8) -> AcceptorWord
+        requires { j < self.old.node.count }
+        ensures { LookedAtAcceptor j result self.old self.new }
+    {
+        let place = usize::from(j);
+        let found = self
+            .board
+            .shared
+            .load::<LooksAtAcceptor>(&mut self.token, 2 * place + 1);
+        let word = AcceptorWord::unpack(found);
+        self.acceptors[place] = word;
+        self.node = heard(self.node, j, word);
+        word
+    }
+
+    /// Starts the node's least own ballot above all that it has started or promised: stores its proposer's word.
+    pub fn start(&mut self) -> Result<u16, CoreError>
+        ensures ok { IfOk result (λ b. (b ≡ next_ballot self.old.node) × Did act.Start None self.old self.new) }
+        ensures spent { IsErr result ↔ (65535 < next_ballot self.old.node) }
+        ensures err { OnErr result (self.new ≡ self.old) }
+    {
+        let mut next = self.node;
+        let Ok(_prepare) = next.start() else {
+            return Err(CoreError::BallotsSpent);
+        };
+        let started = next.kept().started();
+        let word = ProposerWord {
+            started,
+            proposed: None,
+        };
+        let place = usize::from(self.node.me());
+        self.board
+            .shared
+            .store::<Starts>(&mut self.token, 2 * place, word.pack());
+        self.node = next;
+        self.proposed = None;
+        Ok(started)
+    }
+
+    /// Promises the ballot last seen of node `j`, where it is above all that was promised: stores its acceptor's word.
+    pub fn promise(&mut self, j: u8) -> Option<u16>
+        requires { j < self.old.node.count }
+        ensures answer { result ≡ promise_of self.old j }
+        ensures some { IfSome result (λ b. Did (act.Promise b) self.old.proposed self.old self.new) }
+        ensures none { IsNone result → self.new ≡ self.old }
+    {
+        let ballot = self
+            .node
+            .next_promise(self.proposers[usize::from(j)].started)?;
+        let mut next = self.node;
+        let _promise = next.on(&Msg::Prepare(ballot));
+        let word = AcceptorWord {
+            promised: ballot,
+            accepted: self.node.kept().accepted(),
+        };
+        let place = usize::from(self.node.me());
+        self.board
+            .shared
+            .store::<Promises>(&mut self.token, 2 * place + 1, word.pack());
+        self.node = next;
+        Some(ballot)
+    }
+
+    /// Proposes under the ballot under way, once, where a promise quorum's promises are noted: stores its proposer's
+    /// word. Answers ballot and value.
+    pub fn propose(&mut self) -> Option<(u16, u16)>
+        ensures answer { result ≡ next_proposal self.old.node }
+        ensures some { IfSome result (λ p. Did act.Propose (Some p.1) self.old self.new) }
+        ensures none { IsNone result → self.new ≡ self.old }
+    {
+        let (ballot, value) = self.node.proposal()?;
+        let mut next = self.node;
+        let _propose = next.propose();
+        let proposed = Some(value as u8);
+        let word = ProposerWord {
+            started: self.node.kept().started(),
+            proposed,
+        };
+        let place = usize::from(self.node.me());
+        self.board
+            .shared
+            .store::<Proposes>(&mut self.token, 2 * place, word.pack());
+        self.node = next;
+        self.proposed = proposed;
+        Some((ballot, value))
+    }
+
+    /// Votes for what node `j` was last seen to have proposed, where its ballot is not below all that was promised and
+    /// the vote was not given yet: stores its acceptor's word.
+    pub fn accept(&mut self, j: u8) -> Option<Vote>
+        requires { j < self.old.node.count }
+        ensures answer { result ≡ vote_of self.old j }
+        ensures some { IfSome result (λ x. Did (act.Accept x.ballot x.value) self.old.proposed self.old self.new) }
+        ensures none { IsNone result → self.new ≡ self.old }
+    {
+        let vote = next_vote(&self.node, self.proposers[usize::from(j)])?;
+        let mut next = self.node;
+        let _accepted = next.on(&Msg::Propose(vote.ballot, vote.value));
+        let word = AcceptorWord {
+            promised: vote.ballot,
+            accepted: Some(vote),
+        };
+        let place = usize::from(self.node.me());
+        self.board
+            .shared
+            .store::<Accepts>(&mut self.token, 2 * place + 1, word.pack());
+        self.node = next;
+        Some(vote)
+    }
+
+    /// How many nodes the room has.
+    pub fn count(&self) -> u8
+        ensures value { result ≡ self.now.node.count }
+        ensures size { IsRoomSize result }
+    {
+        self.node.count()
+    }
+
+    /// What the type keeps, for a caller's proof.
+    pub fn known(&self)
+        ensures { IsKnown self.now }
+    {
+        let _node = self.node.me();
+    }
+
+    /// Takes in what another seat of the room has seen: the next look shows no less.
+    pub(crate) fn hear(&mut self, other: &mut WordSeat)
+        requires { self.old.table ≡ other.old.table }
+        ensures heard { self.new ≡ record self.old { view = informed self.old.view other.old.view } }
+        ensures other { other.new ≡ other.old }
+    {
+        let witness = other.board.shared.split_seat::<Tells>(&mut other.token);
+        self.board
+            .shared
+            .join_seat::<Tells>(&mut self.token, witness);
+    }
+
+    /// The value that the node has learned, the number of the node whose offer it is.
+    pub fn learned(&self) -> Option<u8>
+        ensures value { result ≡ self.now.node.learned }
+        ensures there { IfSome result (λ v. Has (self.now.node.me, v) (seen_world self.now).learned) }
+    {
+        self.node.learned()
+    }
+}
+
+/// The node once it has noted what the word of node `j`'s acceptor shows.
+fn heard(node: Node, j: u8, word: AcceptorWord) -> Node
+    ensures { result ≡ after_hearing node j word.promised word.accepted }
+{
+    let mut next = node;
+    let _noted = next.on(&Msg::Promise(j, word.promised, word.accepted));
+    if let Some(vote) = word.accepted {
+        let _noted = next.on(&Msg::Accepted(j, vote.ballot, vote.value));
+    }
+    next
+}
+
+/// The vote for what a proposer's word shows, where the node would give it and has not given it yet.
+fn next_vote(node: &Node, seen: ProposerWord) -> Option<Vote>
+    ensures { result ≡ vote_by node.now seen.started seen.proposed }
+{
+    let value = seen.proposed?;
+    let vote = Vote {
+        ballot: seen.started,
+        value: u16::from(value),
+    };
+    if node.kept().accepted() == Some(vote) {
+        return None;
+    }
+    node.next_vote(vote)
+}

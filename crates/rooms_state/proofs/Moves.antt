@@ -1,0 +1,348 @@
+-- What stays true of a seat through a word step.
+use Rattle.std.proofs.Common.{◌≡◌, ℕ, ◌+◌, ◌*◌, ◌<◌, ◌≤◌, Bool, true, false, cond, List, [], ◌++◌, length, set, get_or, append_assoc, length-set, get_or-set_same, get_or-set_other, Option, Some, None, refl, sym, ap, ◌∙◌, subst, inl, inr, arith}
+use native.Mathlib.Decide.{ℕ_discrete}
+use Rattle.atomic_table.specs.Seated.{TableId}
+use Rattle.paxos_world.specs.KeptPart.{KeptPart, with_offer, without_offer}
+use Rattle.paxos_world.specs.Run.{IsRun, reached}
+use Rattle.paxos_world.specs.Step.{Label}
+use Rattle.paxos_world.specs.World.{World}
+use Rattle.paxos_world.specs.declared.vote.Vote.{Vote}
+use Rattle.paxos_law.specs.Learner.{after_promise, notes_promise, notes_vote}
+use Rattle.paxos_law.specs.NodeState.{NodeState, offered}
+use Rattle.paxos_law.specs.Reached.{IsReached}
+use Rattle.paxos_core.specs.LateOffer.{BelongsButOffer}
+use Rattle.rooms_words.specs.Words.{started_in, proposed_in, promised_in, accepted_in}
+use Rattle.rooms_words.specs.declared.acceptor.AcceptorWord.{AcceptorWord}
+use Rattle.rooms_words.specs.declared.proposer.ProposerWord.{ProposerWord}
+use Rattle.rooms_rule.specs.declared.event.Event.{Event}
+use Rattle.rooms_rule.specs.declared.view.View.{View}
+use Rattle.rooms_rule.specs.Events.{labels_of, events_of}
+use Rattle.rooms_rule.specs.Heard.{after_hearing, after_shown_vote, taken_by_hearing}
+use Rattle.rooms_rule.specs.NotBelow.{ProposerNotBelow, AcceptorNotBelow}
+use Rattle.rooms_rule.specs.Sight.{ProposerSeen, AcceptorSeen}
+use Rattle.rooms_rule.specs.Steps.{Advances, LooksAtProposer, LooksAtAcceptor}
+use Rattle.rooms_rule.specs.Views.{world_after, IsLegal}
+use Rattle.rooms_rule.specs.WordsOf.{proposed_by, IsProposerOf, IsAcceptorOf}
+use Rattle.rooms_rule.proofs.Advance.{view_with}
+use Rattle.rooms_steps.proofs.HearLemmas.{me_hearing}
+use Rattle.rooms_steps.proofs.Looks.{vote_quiet}
+use Rattle.rooms_steps.proofs.OfferLemmas.{hearing_offered}
+use Rattle.rooms_rule.proofs.RunLemmas.{world_after-events, world_after-append, legal_reached, legal_before, run_behind, kept_of}
+use Rattle.rooms_steps.proofs.Stays.{proposer_seen_later, acceptor_seen_later, proposer_seen, acceptor_seen}
+use Rattle.rooms_rule.proofs.WordLemmas.{proposer_of_others}
+use Rattle.rooms_state.specs.Did.{LookedAtAcceptor, LookedAtProposer}
+use Rattle.rooms_state.specs.SeatState.{SeatState, no_proposer, no_acceptor, proposer_of, acceptor_of, seen_world}
+use Rattle.rooms_state.specs.Sound.{IsSound}
+
+pub number_below : (n : ℕ) (w : World) (s : NodeState) → BelongsButOffer n w s → s.me < n
+number_below n w s (inl h) = h.number
+number_below n w s (inr h) = h.number
+
+count_is : (n : ℕ) (w : World) (s : NodeState) → BelongsButOffer n w s → s.count ≡ n
+count_is n w s (inl h) = h.count
+count_is n w s (inr h) = h.count
+
+-- the worlds before and after
+module _ (v : View) (steps : List Label) (t : NodeState) (w : View) (a : Advances v steps t w) (before : IsLegal v.opening v.seen) where
+  abbrev more : List Event
+  more = events_of steps ++ a.between
+
+  seen_is : w.seen ≡ (events_of steps ++ a.between) ++ v.seen
+  seen_is = a.seen ∙ sym (append_assoc (events_of steps) a.between v.seen)
+
+  legal_is : IsLegal v.opening ((events_of steps ++ a.between) ++ v.seen)
+  legal_is = subst (λ (r : List Event). IsLegal v.opening r) seen_is a.legal
+
+  run_is : IsRun v.opening.count (world_after v.opening v.seen) (labels_of (events_of steps ++ a.between))
+  run_is = run_behind v.opening (events_of steps ++ a.between) v.seen legal_is
+
+  world_is : world_after v.opening w.seen ≡ reached (world_after v.opening v.seen) (labels_of (events_of steps ++ a.between))
+  world_is = ap (λ (r : List Event). world_after v.opening r) seen_is ∙ world_after-append v.opening (events_of steps ++ a.between) v.seen
+
+  -- what was seen of the words stays true
+  pub proposer_stays_seen : (j : ℕ) (x : ProposerWord) → ProposerSeen (world_after v.opening v.seen) j x → ProposerSeen (world_after v.opening w.seen) j x
+  proposer_stays_seen j x h =
+      subst (λ (z : World). ProposerSeen z j x) (sym world_is)
+      (proposer_seen_later v.opening.count (world_after v.opening v.seen) (labels_of (events_of steps ++ a.between)) j x run_is h)
+
+  pub acceptor_stays_seen : (j : ℕ) (x : AcceptorWord) → j < v.opening.count → AcceptorSeen (world_after v.opening v.seen) j x → AcceptorSeen (world_after v.opening w.seen) j x
+  acceptor_stays_seen j x lt h =
+      subst (λ (z : World). AcceptorSeen z j x) (sym world_is)
+      (acceptor_seen_later v.opening.count (world_after v.opening v.seen) (labels_of (events_of steps ++ a.between)) j x (legal_reached v.opening v.seen before) lt run_is h)
+
+  pub reached_after : IsReached v.opening.count (world_after v.opening w.seen)
+  reached_after = legal_reached v.opening w.seen a.legal
+
+  -- the own proposer's word stays, unless the steps change it
+  pub own_stays : (number : ℕ) → v.node.me < v.opening.count → ((x : World) (i k : ℕ) → IsProposerOf x i k → IsProposerOf (reached x steps) i k) → IsProposerOf (world_after v.opening v.seen) v.node.me number → IsProposerOf (world_after v.opening w.seen) v.node.me number
+  own_stays number lt quiet h =
+      let legal : IsLegal v.opening (events_of steps ++ (a.between ++ v.seen)) = subst (λ (r : List Event). IsLegal v.opening r) a.seen a.legal in
+      let run = run_behind v.opening a.between v.seen (legal_before v.opening (events_of steps) (a.between ++ v.seen) legal) in
+      let there : IsProposerOf (world_after v.opening (a.between ++ v.seen)) v.node.me number =
+      subst (λ (z : World). IsProposerOf z v.node.me number) (sym (world_after-append v.opening a.between v.seen))
+      (proposer_of_others v.opening.count (world_after v.opening v.seen) (labels_of a.between) v.node.me number (legal_reached v.opening v.seen before) lt run a.others h) in
+      subst (λ (z : World). IsProposerOf z v.node.me number) (sym (ap (λ (r : List Event). world_after v.opening r) a.seen ∙ world_after-events v.opening steps (a.between ++ v.seen)))
+      (quiet (world_after v.opening (a.between ++ v.seen)) v.node.me number there)
+
+-- ---- sights of all nodes, with one of them new
+
+proposers_with : (w : World) (n : ℕ) (xs : List ProposerWord) (j : ℕ) (x : ProposerWord) → j < length xs → ProposerSeen w j x → ((i : ℕ) → i < n → ProposerSeen w i (get_or xs i no_proposer)) → (i : ℕ) → i < n → ProposerSeen w i (get_or (set xs j x) i no_proposer)
+proposers_with w n xs j x lt h all i il = at (ℕ_discrete i j)
+  where
+    at : Dec (i ≡ j) → ProposerSeen w i (get_or (set xs j x) i no_proposer)
+    at (yes e) = subst (λ (k : ℕ). ProposerSeen w k (get_or (set xs j x) k no_proposer)) (sym e) (subst (λ (y : ProposerWord). ProposerSeen w j y) (sym (get_or-set_same xs j x no_proposer lt)) h)
+    at (no d) = subst (λ (y : ProposerWord). ProposerSeen w i y) (sym (get_or-set_other xs j i x no_proposer d)) (all i il)
+
+acceptors_with : (w : World) (n : ℕ) (xs : List AcceptorWord) (j : ℕ) (x : AcceptorWord) → j < length xs → AcceptorSeen w j x → ((i : ℕ) → i < n → AcceptorSeen w i (get_or xs i no_acceptor)) → (i : ℕ) → i < n → AcceptorSeen w i (get_or (set xs j x) i no_acceptor)
+acceptors_with w n xs j x lt h all i il = at (ℕ_discrete i j)
+  where
+    at : Dec (i ≡ j) → AcceptorSeen w i (get_or (set xs j x) i no_acceptor)
+    at (yes e) = subst (λ (k : ℕ). AcceptorSeen w k (get_or (set xs j x) k no_acceptor)) (sym e) (subst (λ (y : AcceptorWord). AcceptorSeen w j y) (sym (get_or-set_same xs j x no_acceptor lt)) h)
+    at (no d) = subst (λ (y : AcceptorWord). AcceptorSeen w i y) (sym (get_or-set_other xs j i x no_acceptor d)) (all i il)
+
+-- ---- the looks
+
+-- what a look at j's proposer makes of the seat
+abbrev pub after_proposer_look : SeatState → View → ℕ → ProposerWord → SeatState
+after_proposer_look s w j x = record s { view = w; proposers = set s.proposers j x }
+
+module _ (table : TableId) (old : SeatState) (sound : IsSound table old) (j number : ℕ) (lt : j < old.node.count) (x : ProposerWord) (es : x.started ≡ started_in number) (ep : x.proposed ≡ proposed_in number) where
+  low : j < old.view.opening.count
+  low = subst (λ (n : ℕ). j < n) sound.count lt
+
+  room : j < length old.proposers
+  room = let a : length old.proposers ≡ 7 = sound.proposer_row in let b : old.node.count ≤ 7 = sound.most in omega arith
+
+  me_is : old.view.node.me ≡ old.node.me
+  me_is = ap (λ (s : NodeState). s.me) sound.node
+
+  module _ (run : List Event) (h : LooksAtProposer j number old.view (view_with old.view run old.view.node)) where
+    new : SeatState
+    new = after_proposer_look old (view_with old.view run old.view.node) j x
+
+    own_word_stays : IsProposerOf (world_after old.view.opening run) old.view.node.me sound.own_word
+    own_word_stays =
+        own_stays old.view [] old.view.node (view_with old.view run old.view.node) h.advances sound.legal sound.own_word
+        (number_below old.view.opening.count (seen_world old) old.view.node sound.belongs) (λ z i k g. g)
+        (subst (λ (i : ℕ). IsProposerOf (seen_world old) i sound.own_word) (sym me_is) sound.own)
+
+    started_is : x.started ≡ ((world_after old.view.opening run).nodes j).started
+    started_is = es ∙ h.shows.tells_started
+
+    proposed_is : x.proposed ≡ proposed_by (world_after old.view.opening run) j
+    proposed_is = ep ∙ h.shows.tells_proposed
+
+    sight : ProposerSeen (world_after old.view.opening run) j x
+    sight = proposer_seen old.view.opening.count (world_after old.view.opening run) j x (reached_after old.view [] old.view.node (view_with old.view run old.view.node) h.advances sound.legal) low started_is proposed_is
+
+    pub proposer_look_sound : IsSound table (after_proposer_look old (view_with old.view run old.view.node) j x)
+    proposer_look_sound =
+        record {
+          same = sound.same;
+          words = sound.words;
+          count = sound.count;
+          most = sound.most;
+          proposer_row = length-set old.proposers j x ∙ sound.proposer_row;
+          acceptor_row = sound.acceptor_row;
+          seated = record { live = sound.seated.live; first = sound.seated.first; last = sound.seated.last };
+          node = sound.node;
+          legal = h.advances.legal;
+          belongs = h.advances.belongs;
+          own_word = sound.own_word;
+          own = subst (λ (i : ℕ). IsProposerOf (world_after old.view.opening run) i sound.own_word) me_is own_word_stays;
+          proposed = sound.proposed;
+          proposers = proposers_with (world_after old.view.opening run) old.view.opening.count old.proposers j x room sight
+              (λ i il. proposer_stays_seen old.view [] old.view.node (view_with old.view run old.view.node) h.advances sound.legal i _ (sound.proposers i il));
+          acceptors = λ i il. acceptor_stays_seen old.view [] old.view.node (view_with old.view run old.view.node) h.advances sound.legal i _ il (sound.acceptors i il);
+        }
+
+    pub proposer_looked : LookedAtProposer j x old (after_proposer_look old (view_with old.view run old.view.node) j x)
+    proposer_looked =
+        record {
+          advances = h.advances;
+          after = refl;
+          started = started_is;
+          proposed = proposed_is;
+          below =
+              let held = proposer_stays_seen old.view [] old.view.node (view_with old.view run old.view.node) h.advances sound.legal j _ (sound.proposers j low) in
+              subst (λ (c : ℕ). ProposerNotBelow c x.proposed (proposer_of old j).started (proposer_of old j).proposed) (sym started_is)
+              (subst (λ (p : Option ℕ). ProposerNotBelow ((world_after old.view.opening run).nodes j).started p (proposer_of old j).started (proposer_of old j).proposed) (sym proposed_is) held.below);
+          own = λ e.
+              let mine : j ≡ old.view.node.me = e ∙ sym me_is in (
+                started_is ∙ (ap (λ (i : ℕ). ((world_after old.view.opening run).nodes i).started) mine
+                    ∙ (kept_of old.view.opening.count (world_after old.view.opening run) old.view.node (λ (k : KeptPart). k.started) (λ k. refl) h.advances.belongs
+                    ∙ ap (λ (s : NodeState). s.kept.started) sound.node)),
+                proposed_is ∙ (ap (λ (i : ℕ). proposed_by (world_after old.view.opening run) i) mine ∙ (sym own_word_stays.tells_proposed ∙ sound.proposed)),
+              );
+        }
+
+-- the same at whatever view the look left, and where the node's place and the seat's table are told otherwise
+pub proposer_look : (table : TableId) (old : SeatState) → IsSound table old → (place j number : ℕ) → place ≡ j → place < old.node.count → (x : ProposerWord) → x.started ≡ started_in number → x.proposed ≡ proposed_in number
+    → (t : TableId) → t ≡ old.table → (w : View) → LooksAtProposer place number old.view w
+    → IsSound table (record old { table = t; view = w; proposers = set old.proposers place x }) × LookedAtProposer j x old (record old { table = t; view = w; proposers = set old.proposers place x })
+proposer_look table old sound place j number at lt x es ep t et w h =
+    let e : w ≡ view_with old.view w.seen old.view.node = h.advances.stays in
+    let h' : LooksAtProposer place number old.view (view_with old.view w.seen old.view.node) = subst (λ (z : View). LooksAtProposer place number old.view z) e h in
+    subst (λ (u : TableId). IsSound table (record old { table = u; view = w; proposers = set old.proposers place x }) × LookedAtProposer j x old (record old { table = u; view = w; proposers = set old.proposers place x })) (sym et)
+    (subst (λ (z : View). IsSound table (after_proposer_look old z place x) × LookedAtProposer j x old (after_proposer_look old z place x)) (sym e) (
+      proposer_look_sound table old sound place number lt x es ep w.seen h',
+      subst (λ (i : ℕ). LookedAtProposer i x old (after_proposer_look old (view_with old.view w.seen old.view.node) place x)) at (proposer_looked table old sound place number lt x es ep w.seen h'),
+    ))
+
+-- ---- what each load and store of a seat asks
+
+-- the words of a node have their places in the table
+pub word_below : (table : TableId) (s : SeatState) → IsSound table s → (t : TableId) → s.table ≡ t → (j : ℕ) → j < s.node.count → (2 * j < t.words) × (2 * j + 1 < t.words)
+word_below table s sound t e j lt =
+    let words : s.table.words ≡ 2 * s.view.opening.count = sound.words in
+    let count : s.node.count ≡ s.view.opening.count = sound.count in
+    subst (λ (u : TableId). (2 * j < u.words) × (2 * j + 1 < u.words)) e (omega arith, omega arith)
+
+-- ---- a step of the seat's node
+
+-- the seat stays sound, whatever it now holds of the acceptors' words, its node and its own proposer's word
+module _ (table : TableId) (old : SeatState) (sound : IsSound table old) (steps : List Label) (t : NodeState) (run : List Event) (a : Advances old.view steps t (view_with old.view run t))
+    (me : t.me ≡ old.view.node.me) (node : NodeState) (tie : t ≡ offered node) (number : ℕ) (own : IsProposerOf (world_after old.view.opening run) old.view.node.me number) (p : Option ℕ) (ep : proposed_in number ≡ p) where
+  abbrev stepped : List AcceptorWord → SeatState
+  stepped xs = record old { view = view_with old.view run t; node = node; proposed = p; acceptors = xs }
+
+  node_me : node.me ≡ old.view.node.me
+  node_me = ap (λ (s : NodeState). s.me) (sym tie) ∙ me
+
+  node_count : node.count ≡ old.view.opening.count
+  node_count = ap (λ (s : NodeState). s.count) (sym tie) ∙ count_is old.view.opening.count (world_after old.view.opening run) t a.belongs
+
+  pub step_sound : (xs : List AcceptorWord) → length xs ≡ 7 → ((i : ℕ) → i < old.view.opening.count → AcceptorSeen (world_after old.view.opening run) i (get_or xs i no_acceptor))
+      → IsSound table (record old { view = view_with old.view run t; node = node; proposed = p; acceptors = xs })
+  step_sound xs len seen =
+      let most : old.node.count ≤ 7 = sound.most in
+      let same : node.count ≡ old.node.count = node_count ∙ sym sound.count in
+      let last : old.view.end ≡ old.view.node.me + 1 = sound.seated.last in
+      let moved : t.me ≡ old.view.node.me = me in
+      record {
+        same = sound.same;
+        words = sound.words;
+        count = node_count;
+        most = omega arith;
+        proposer_row = sound.proposer_row;
+        acceptor_row = len;
+        seated = record { live = sound.seated.live; first = sound.seated.first ∙ sym me; last = omega arith };
+        node = tie;
+        legal = a.legal;
+        belongs = a.belongs;
+        own_word = number;
+        own = subst (λ (i : ℕ). IsProposerOf (world_after old.view.opening run) i number) (sym node_me) own;
+        proposed = ep;
+        proposers = λ i il. proposer_stays_seen old.view steps t (view_with old.view run t) a sound.legal i _ (sound.proposers i il);
+        acceptors = seen;
+      }
+
+  pub store_sound : IsSound table (record old { view = view_with old.view run t; node = node; proposed = p })
+  store_sound = step_sound old.acceptors sound.acceptor_row (λ i il. acceptor_stays_seen old.view steps t (view_with old.view run t) a sound.legal i _ il (sound.acceptors i il))
+
+-- ---- a look at an acceptor
+
+kept_if : {A : Type 0} (f : KeptPart → A) (t : Bool) (s u : NodeState) → f u.kept ≡ f s.kept → f (cond t u s).kept ≡ f s.kept
+kept_if f true s u e = e
+kept_if f false s u e = refl
+
+kept_shown : {A : Type 0} (s : NodeState) (j : ℕ) (y : Option Vote) (f : KeptPart → A) → f (after_shown_vote s j y).kept ≡ f s.kept
+kept_shown s j None f = refl
+kept_shown s j (Some y) f = kept_if f (notes_vote s j y) s _ refl
+
+-- hearing changes nothing that is kept
+pub kept_hearing : {A : Type 0} (s : NodeState) (j p : ℕ) (y : Option Vote) (f : KeptPart → A) → f (after_hearing s j p y).kept ≡ f s.kept
+kept_hearing s j p y f = kept_shown (after_promise s j p y) j y f ∙ kept_if f (notes_promise s j p y) s _ refl
+
+pub acceptor_look : (table : TableId) (old : SeatState) → IsSound table old → (place j number : ℕ) → place ≡ j → place < old.node.count → (x : AcceptorWord) → x.promised ≡ promised_in number → x.accepted ≡ accepted_in number
+    → (t : TableId) → t ≡ old.table → (w : View) → LooksAtAcceptor place number old.view w → (node : NodeState) → node ≡ after_hearing old.node j x.promised x.accepted
+    → IsSound table (record old { table = t; view = w; node = node; acceptors = set old.acceptors place x }) × LookedAtAcceptor j x old (record old { table = t; view = w; node = node; acceptors = set old.acceptors place x })
+acceptor_look table old sound place j number at lt x ep ea t et w h node en =
+    subst (λ (u : TableId). IsSound table (record old { table = u; view = w; node = node; acceptors = set old.acceptors place x }) × LookedAtAcceptor j x old (record old { table = u; view = w; node = node; acceptors = set old.acceptors place x })) (sym et)
+    (subst (λ (s : NodeState). IsSound table (record old { view = w; node = s; acceptors = set old.acceptors place x }) × LookedAtAcceptor j x old (record old { view = w; node = s; acceptors = set old.acceptors place x })) (sym en)
+    (subst (λ (z : View). IsSound table (record old { view = z; node = after_hearing old.node j x.promised x.accepted; acceptors = set old.acceptors place x }) × LookedAtAcceptor j x old (record old { view = z; node = after_hearing old.node j x.promised x.accepted; acceptors = set old.acceptors place x })) (sym e)
+    (sound_after, looked)))
+  where
+    n : ℕ
+    n = old.view.opening.count
+
+    after : NodeState
+    after = after_hearing old.view.node j x.promised x.accepted
+
+    -- the step at what the word tells
+    adv : Advances old.view (taken_by_hearing old.view.node j x.promised x.accepted) (after_hearing old.view.node j x.promised x.accepted) w
+    adv =
+        subst (λ (q : Option Vote). Advances old.view (taken_by_hearing old.view.node j x.promised q) (after_hearing old.view.node j x.promised q) w) (sym ea)
+        (subst (λ (q : ℕ). Advances old.view (taken_by_hearing old.view.node j q (accepted_in number)) (after_hearing old.view.node j q (accepted_in number)) w) (sym ep)
+        (subst (λ (i : ℕ). Advances old.view (taken_by_hearing old.view.node i (promised_in number) (accepted_in number)) (after_hearing old.view.node i (promised_in number) (accepted_in number)) w) at h.advances))
+
+    e : w ≡ view_with old.view w.seen (after_hearing old.view.node j x.promised x.accepted)
+    e = adv.stays
+
+    here : Advances old.view (taken_by_hearing old.view.node j x.promised x.accepted) (after_hearing old.view.node j x.promised x.accepted) (view_with old.view w.seen (after_hearing old.view.node j x.promised x.accepted))
+    here = subst (λ (z : View). Advances old.view (taken_by_hearing old.view.node j x.promised x.accepted) (after_hearing old.view.node j x.promised x.accepted) z) e adv
+
+    low : j < old.view.opening.count
+    low = subst (λ (i : ℕ). i < old.view.opening.count) at (subst (λ (m : ℕ). place < m) sound.count lt)
+
+    me_is : old.view.node.me ≡ old.node.me
+    me_is = ap (λ (s : NodeState). s.me) sound.node
+
+    tie : after_hearing old.view.node j x.promised x.accepted ≡ offered (after_hearing old.node j x.promised x.accepted)
+    tie = ap (λ (s : NodeState). after_hearing s j x.promised x.accepted) sound.node ∙ hearing_offered old.node j x.promised x.accepted
+
+    quiet : (z : World) (i k : ℕ) → IsProposerOf z i k → IsProposerOf (reached z (taken_by_hearing old.view.node j x.promised x.accepted)) i k
+    quiet z = (vote_quiet (after_promise old.view.node j x.promised x.accepted) j x.accepted z).0
+
+    own : IsProposerOf (world_after old.view.opening w.seen) old.view.node.me sound.own_word
+    own =
+        own_stays old.view _ _ _ here sound.legal sound.own_word (number_below old.view.opening.count (seen_world old) old.view.node sound.belongs) quiet
+        (subst (λ (i : ℕ). IsProposerOf (seen_world old) i sound.own_word) (sym me_is) sound.own)
+
+    shows : IsAcceptorOf (world_after old.view.opening w.seen) j number
+    shows = subst (λ (i : ℕ). IsAcceptorOf (world_after old.view.opening w.seen) i number) at h.shows
+
+    promised_is : x.promised ≡ ((world_after old.view.opening w.seen).nodes j).promised
+    promised_is = ep ∙ shows.tells_promised
+
+    accepted_is : x.accepted ≡ ((world_after old.view.opening w.seen).nodes j).accepted
+    accepted_is = ea ∙ shows.tells_accepted
+
+    sight : AcceptorSeen (world_after old.view.opening w.seen) j x
+    sight = acceptor_seen old.view.opening.count (world_after old.view.opening w.seen) j x (reached_after old.view _ _ _ here sound.legal) low promised_is accepted_is
+
+    room : place < length old.acceptors
+    room = let a : length old.acceptors ≡ 7 = sound.acceptor_row in let b : old.node.count ≤ 7 = sound.most in omega arith
+
+    kept_seen : (i : ℕ) → i < old.view.opening.count → AcceptorSeen (world_after old.view.opening w.seen) i (get_or old.acceptors i no_acceptor)
+    kept_seen i il = acceptor_stays_seen old.view _ _ _ here sound.legal i _ il (sound.acceptors i il)
+
+    sound_after : IsSound table (record old { view = view_with old.view w.seen (after_hearing old.view.node j x.promised x.accepted); node = after_hearing old.node j x.promised x.accepted; acceptors = set old.acceptors place x })
+    sound_after =
+        step_sound table old sound (taken_by_hearing old.view.node j x.promised x.accepted) (after_hearing old.view.node j x.promised x.accepted) w.seen here (me_hearing old.view.node j x.promised x.accepted)
+        (after_hearing old.node j x.promised x.accepted) tie sound.own_word own old.proposed sound.proposed (set old.acceptors place x) (length-set old.acceptors place x ∙ sound.acceptor_row)
+        (acceptors_with (world_after old.view.opening w.seen) old.view.opening.count old.acceptors place x room (subst (λ (i : ℕ). AcceptorSeen (world_after old.view.opening w.seen) i x) (sym at) sight) kept_seen)
+
+    kept_is : {A : Type 0} (f : KeptPart → A) → ((k : KeptPart) → f (without_offer k) ≡ f k) → ((k : KeptPart) → f (with_offer k) ≡ f k) → j ≡ old.node.me
+        → f ((world_after old.view.opening w.seen).nodes j) ≡ f (after_hearing old.node j x.promised x.accepted).kept
+    kept_is f g o mine =
+        ap (λ (i : ℕ). f ((world_after old.view.opening w.seen).nodes i)) (mine ∙ (sym me_is ∙ sym (me_hearing old.view.node j x.promised x.accepted)))
+        ∙ (kept_of old.view.opening.count (world_after old.view.opening w.seen) (after_hearing old.view.node j x.promised x.accepted) f g here.belongs
+        ∙ (ap (λ (s : NodeState). f s.kept) tie ∙ o (after_hearing old.node j x.promised x.accepted).kept))
+
+    looked : LookedAtAcceptor j x old (record old { view = view_with old.view w.seen (after_hearing old.view.node j x.promised x.accepted); node = after_hearing old.node j x.promised x.accepted; acceptors = set old.acceptors place x })
+    looked =
+        record {
+          advances = here;
+          after = subst (λ (i : ℕ). record old { view = view_with old.view w.seen (after_hearing old.view.node j x.promised x.accepted); node = after_hearing old.node j x.promised x.accepted; acceptors = set old.acceptors place x }
+              ≡ record old { view = view_with old.view w.seen (after_hearing old.view.node j x.promised x.accepted); node = after_hearing old.node j x.promised x.accepted; acceptors = set old.acceptors i x }) at refl;
+          promised = promised_is;
+          accepted = accepted_is;
+          below =
+              subst (λ (c : ℕ). AcceptorNotBelow c x.accepted (acceptor_of old j).promised (acceptor_of old j).accepted) (sym promised_is)
+              (subst (λ (q : Option Vote). AcceptorNotBelow ((world_after old.view.opening w.seen).nodes j).promised q (acceptor_of old j).promised (acceptor_of old j).accepted) (sym accepted_is) (kept_seen j low).below);
+          own = λ mine. (
+            promised_is ∙ (kept_is (λ (k : KeptPart). k.promised) (λ k. refl) (λ k. refl) mine ∙ kept_hearing old.node j x.promised x.accepted (λ (k : KeptPart). k.promised)),
+            accepted_is ∙ (kept_is (λ (k : KeptPart). k.accepted) (λ k. refl) (λ k. refl) mine ∙ kept_hearing old.node j x.promised x.accepted (λ (k : KeptPart). k.accepted)),
+          );
+        }

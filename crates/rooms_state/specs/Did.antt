@@ -1,0 +1,35 @@
+-- What a call of a seat does: one word step, and with it at most one step of the protocol and an offer.
+use Rattle.std.specs.Prelude.{◌≡◌, ℕ, [], Option, slice_set}
+use Rattle.paxos_law.specs.Would.{after_act}
+use Rattle.paxos_law.specs.declared.step.Act.{Act}
+use Rattle.rooms_words.specs.declared.acceptor.AcceptorWord.{AcceptorWord}
+use Rattle.rooms_words.specs.declared.proposer.ProposerWord.{ProposerWord}
+use Rattle.rooms_rule.specs.Heard.{after_hearing, taken_by_hearing}
+use Rattle.rooms_rule.specs.NotBelow.{ProposerNotBelow, AcceptorNotBelow}
+use Rattle.rooms_rule.specs.Steps.{Advances, Took}
+use Rattle.rooms_rule.specs.WordsOf.{proposed_by}
+use Rattle.rooms_state.specs.SeatState.{SeatState, seen_world, proposer_of, acceptor_of}
+
+-- the seat looked at node j's proposer and saw this: what stands in the world then seen, not below what it saw before, and of
+-- its own node what that keeps and has proposed
+pub record LookedAtProposer (j : ℕ) (x : ProposerWord) (old new : SeatState) : Type 0 where
+  pub advances : Advances old.view [] old.view.node new.view
+  pub after : new ≡ record old { view = new.view; proposers = slice_set old.proposers j x }
+  pub started : x.started ≡ ((seen_world new).nodes j).started
+  pub proposed : x.proposed ≡ proposed_by (seen_world new) j
+  pub below : ProposerNotBelow x.started x.proposed (proposer_of old j).started (proposer_of old j).proposed
+  pub own : j ≡ old.node.me → (x.started ≡ old.node.kept.started) × (x.proposed ≡ old.proposed)
+
+-- the same of node j's acceptor; the node notes what it saw and may learn
+pub record LookedAtAcceptor (j : ℕ) (x : AcceptorWord) (old new : SeatState) : Type 0 where
+  pub advances : Advances old.view (taken_by_hearing old.view.node j x.promised x.accepted) (after_hearing old.view.node j x.promised x.accepted) new.view
+  pub after : new ≡ record old { view = new.view; node = after_hearing old.node j x.promised x.accepted; acceptors = slice_set old.acceptors j x }
+  pub promised : x.promised ≡ ((seen_world new).nodes j).promised
+  pub accepted : x.accepted ≡ ((seen_world new).nodes j).accepted
+  pub below : AcceptorNotBelow x.promised x.accepted (acceptor_of old j).promised (acceptor_of old j).accepted
+  pub own : j ≡ old.node.me → (x.promised ≡ old.node.kept.promised) × (x.accepted ≡ old.node.kept.accepted)
+
+-- the seat did what it was asked by one store; p is then what its node has proposed under the ballot started last
+pub record Did (a : Act) (p : Option ℕ) (old new : SeatState) : Type 0 where
+  pub took : Took a old.view new.view
+  pub after : new ≡ record old { view = new.view; node = after_act old.node a; proposed = p }

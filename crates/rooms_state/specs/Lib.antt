@@ -1,0 +1,3 @@
+pub mod SeatState
+pub mod Sound
+pub mod Did

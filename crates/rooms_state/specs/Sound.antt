@@ -1,0 +1,29 @@
+-- What holds of every seat.
+use Rattle.std.specs.Prelude.{◌≡◌, ℕ, ◌*◌, ◌<◌, ◌≤◌, length}
+use Rattle.atomic_table.specs.Seated.{TableId}
+use Rattle.paxos_law.specs.NodeState.{offered}
+use Rattle.paxos_core.specs.LateOffer.{BelongsButOffer}
+use Rattle.rooms_words.specs.Words.{proposed_in}
+use Rattle.rooms_rule.specs.Sight.{ProposerSeen, AcceptorSeen}
+use Rattle.rooms_rule.specs.Views.{IsLegal, IsSeated}
+use Rattle.rooms_rule.specs.WordsOf.{IsProposerOf}
+use Rattle.rooms_state.specs.SeatState.{SeatState, seen_world, proposer_of, acceptor_of}
+
+-- a seat at this table: it is its node's, what it has seen is a run of the protocol, to whose last world its node belongs,
+-- and what it saw of each word is not above what stands there
+pub record IsSound (table : TableId) (s : SeatState) : Type 0 where
+  pub same : s.table ≡ table
+  pub words : s.table.words ≡ 2 * s.view.opening.count
+  pub count : s.node.count ≡ s.view.opening.count
+  pub most : s.node.count ≤ 7
+  pub proposer_row : length s.proposers ≡ 7
+  pub acceptor_row : length s.acceptors ≡ 7
+  pub seated : IsSeated s.view
+  pub node : s.view.node ≡ offered s.node
+  pub legal : IsLegal s.view.opening s.view.seen
+  pub belongs : BelongsButOffer s.view.opening.count (seen_world s) s.view.node
+  pub own_word : ℕ
+  pub own : IsProposerOf (seen_world s) s.node.me own_word
+  pub proposed : proposed_in own_word ≡ s.proposed
+  pub proposers : (j : ℕ) → j < s.view.opening.count → ProposerSeen (seen_world s) j (proposer_of s j)
+  pub acceptors : (j : ℕ) → j < s.view.opening.count → AcceptorSeen (seen_world s) j (acceptor_of s j)

@@ -1,0 +1,3 @@
+//! What a seat of a room holds, as plain data: what holds of every seat, what a call of one does, and the lemmas that
+//! each call keeps it.
+#![tactic(auto)]

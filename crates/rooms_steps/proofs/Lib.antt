@@ -1,0 +1,5 @@
+pub mod OfferLemmas
+pub mod HearLemmas
+pub mod Looks
+pub mod Stores
+pub mod Stays
