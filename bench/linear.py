@@ -5,7 +5,7 @@ written in Rust (`linear_twin.rs`, built by `rustc -O`).
     bench/linear.py            a counting loop, a sieve and a recursion, median of five runs
     bench/linear.py --runs 1   one run each
 
-Seconds of Linear are those of the call `linear_run::run`, of the twin those of its own call, of Lua and Python
+Seconds of Linear are those of the call `linear::run`, of the twin those of its own call, of Lua and Python
 those of their own clocks around the program's work. A ratio is the other's time by ours.
 """
 import argparse

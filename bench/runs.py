@@ -4,7 +4,7 @@
     bench/runs.py            a counting loop, a sieve and a recursion, median of five runs
     bench/runs.py --runs 1   one run each
 
-Seconds of RTL are those of the call `rtl_run::run`, seconds of Lua those of its own clock around the
+Seconds of RTL are those of the call `rtl::run`, seconds of Lua those of its own clock around the
 program's work.
 """
 import argparse

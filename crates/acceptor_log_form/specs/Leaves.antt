@@ -1,6 +1,6 @@
 -- What the records of a journal leave of each room.
 use Rattle.std.specs.Prelude.{ℕ, ◌==◌, if◌then◌else◌, List, [], ◌∷◌}
-use Rattle.paxos_world.specs.KeptPart.{KeptPart, nothing_kept, with_offer, with_start, with_promise, with_vote, vote}
+use Rattle.paxos_core_world.specs.KeptPart.{KeptPart, nothing_kept, with_offer, with_start, with_promise, with_vote, vote}
 use Rattle.acceptor_log_form.specs.declared.record.Record.{Record}
 use Rattle.acceptor_log_form.specs.declared.record.Record.TheVariants.{Offered, Started, Proposed, Promised, Accepted}
 use Rattle.acceptor_log_form.specs.Text.{room_of}

@@ -1,7 +1,7 @@
 -- The order of records in a room.
 use Rattle.std.specs.Prelude.{◌≡◌, ◌≢◌, ℕ, ◌<◌, ◌≤◌, false, List, take, Some, slice_get, IfSome}
-use Rattle.paxos_world.specs.Ballot.{Owns}
-use Rattle.paxos_world.specs.KeptPart.{KeptPart}
+use Rattle.paxos_core_world.specs.Ballot.{Owns}
+use Rattle.paxos_core_world.specs.KeptPart.{KeptPart}
 use Rattle.acceptor_log_form.specs.declared.record.Record.{Record}
 use Rattle.acceptor_log_form.specs.declared.record.Record.TheVariants.{Offered, Started, Proposed, Promised, Accepted}
 use Rattle.acceptor_log_form.specs.Text.{room_of}

@@ -3,7 +3,7 @@
 ghost use Rattle.std.specs.Prelude.{◌≡◌};
 ghost use Rattle.acceptor_log_form.specs.Refusals.{number_of};
 
-use lang::NoMemory;
+use lang_base::NoMemory;
 use std::alloc::{AllocError, AllocFailed};
 use thiserror::Error;
 

@@ -10,7 +10,7 @@ ghost use Rattle.acceptor_log_form.specs.Fault.{magic, IsInForm, HasFault};
 use crate::errors::LogError;
 use crate::header::Header;
 use crate::record::Record;
-use lang::Row;
+use lang_base::Row;
 use std::alloc::Global;
 
 /// What a journal's bytes stand for, and where its closed gate stands.

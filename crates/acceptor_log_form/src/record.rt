@@ -1,7 +1,7 @@
 ghost use Rattle.std.specs.Prelude.{◌≡◌, ◌+◌, length};
 ghost use Rattle.acceptor_log_form.specs.Text.{body_text, room_of, FitsWidths};
 
-use lang::Row;
+use lang_base::Row;
 
 /// What a node puts down before it takes a step in a room (Lamport, Paxos Made Simple, section 3). Each names the room
 /// first; a ballot is behind it, and a value (the number of the node whose offer it is) behind the ballot.

@@ -2,16 +2,16 @@
 
 ghost use Rattle.std.specs.Prelude.{◌≡◌, ◌≢◌, ◌<◌, ◌↔◌, ℕ, Some, slice_get, length, IsTrue, All, IfOk, OnOk, IfErr};
 ghost use Rattle.std.specs.Prelude.{IfSome, OnSome, IfNone};
-ghost use Rattle.paxos_world.specs.KeptPart.{nothing_kept};
+ghost use Rattle.paxos_core_world.specs.KeptPart.{nothing_kept};
 ghost use Rattle.acceptor_log_form.specs.Leaves.{kept_by, proposed_by, kept_in};
 ghost use Rattle.acceptor_log_form.specs.Order.{GoesOn, AreInOrder};
 
 use crate::errors::LogError;
 use crate::header::Header;
 use crate::record::Record;
-use paxos_world::ballot::owns;
-use paxos_world::kept::Kept;
-use paxos_world::vote::Vote;
+use paxos_core_world::ballot::owns;
+use paxos_core_world::kept::Kept;
+use paxos_core_world::vote::Vote;
 use std::alloc::{AllocError, Global};
 
 /// The kept part of each of so many rooms, by its number, where the records are in order there.

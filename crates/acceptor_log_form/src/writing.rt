@@ -6,7 +6,7 @@ ghost use Rattle.acceptor_log_form.specs.Text.{header_text, body_text, block_tex
 
 use crate::header::Header;
 use crate::record::Record;
-use lang::NoMemory;
+use lang_base::NoMemory;
 use std::alloc::Global;
 
 /// The header's 38 bytes.

@@ -1,5 +1,4 @@
-pub mod Each
-pub mod Places
-pub mod Ranks
-pub mod Readings
-pub mod Searches
+pub mod Accepted
+pub mod Fits
+pub mod Mapped
+pub mod Owns

@@ -1,4 +1,5 @@
-pub mod Ranks
-pub mod Given
-pub use Rattle.alloc_rules.specs.Rules
+pub mod Slots
+pub mod PassLaws
+pub use Rattle.alloc_check_rules.specs.Rules
+pub use Rattle.alloc_check_codec.specs.Text
 pub use Rattle.rtl_passes.specs.Faults

@@ -1,17 +1,17 @@
-//! The check of the third pass, from RTL to LTL: anybody may propose an output and equations for each
-//! node, between registers of the input and locations of the output, and the check says whether they
-//! keep the rules of register allocation.
+//! The third pass, from RTL to LTL: anybody may propose an output and equations for each node, and the check says whether
+//! they keep the rules of register allocation. What is accepted keeps the meaning of whole programs. The baseline is made
+//! with no choice: each pseudo-register lies in a slot of its own, and instructions reach it by moves through r0 and r1.
 #![tactic(auto)]
 
-mod among;
-mod answers;
-mod entry;
-mod lists;
+mod base;
+mod blocks;
+mod every;
+mod function;
+mod live;
 mod nodes;
-mod uses;
-mod verdict;
+mod owned;
+mod pass;
 
-pub use alloc_rules::Equation;
-pub use lists::{EquationLists, equations_of};
-pub use rtl_passes::Fault;
-pub use verdict::{check, why};
+pub use alloc_check_verdict::{Equation, EquationLists, Fault, check, equations_of, why};
+pub use base::baseline;
+pub use pass::Alloc;

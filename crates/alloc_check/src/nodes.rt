@@ -1,157 +1,84 @@
-//! Whether a node keeps the rules.
+//! The block that does what an instruction does.
 
-ghost use Rattle.std.specs.Prelude.{◌≡◌, ◌↔◌, ◌<◌, ◌≤◌, ◌^◌, ℕ, length, All, IfOk, IsTrue};
-ghost use Rattle.rtl_passes.specs.Faults.{TellsLowest};
-ghost use Rattle.alloc_rules.specs.Pairs.{change_of as change_by, successors_of};
-ghost use Rattle.alloc_rules.specs.Rules.{equations_at, LeadsTo, IsCarried, StandsFor, HoldsAtEntry, IsRightAs, IsRightAt};
-ghost use Rattle.alloc_check.specs.Ranks.{RiseFrom};
+ghost use Rattle.std.specs.Prelude.{◌≡◌, map, IfOk};
+ghost use Rattle.alloc_check.specs.Slots.{slot, before_in, body_in, block_in};
 
-use crate::answers::are_answered;
-use crate::entry::hold_at_entry;
-use crate::lists::equations_of;
-use crate::uses::uses_given;
-use alloc_blocks::{TracedBlock, change_of};
-use alloc_rules::{Change, Equation};
-use lang::{NoMemory, Row};
-use ltl::Block;
-use rtl::Instruction;
+use crate::blocks::{
+    act_after, act_before, act_in, arguments_before, arguments_in, fetch_one, none,
+};
+use lang_base::{NoMemory, Row};
+use locations::{Location, Move};
+use ltl::{Block, Body};
+use rtl_language::Instruction;
+use rtl_parts::Register;
 use std::alloc::Global;
 
-/// Whether the equations at this node hold behind the block.
-fn leads_to(
-    lists: &[Row<Equation>],
-    equations: &[Equation],
-    block: &TracedBlock,
-    change: Change,
-    successor: u16,
-) -> bool
-    requires { RiseFrom 0 equations.now }
-    ensures { IsTrue result ↔ LeadsTo lists.now equations.now block.now change successor }
+/// The slots of these registers.
+pub(crate) fn slots_of(alloc: Global, registers: &[Register]) -> Result<Row<Location>, NoMemory>
+    ensures { IfOk result (λ places. places ≡ map slot registers.now) }
 {
-    let after = equations_of(lists, usize::from(successor));
-    are_answered(equations, block, change, after)
+    let mut places = Vec::new(alloc);
+    for register in registers {
+        places.push(Location::InSlot(*register))?;
+    }
+    Ok(Row::from_vec(places))
 }
 
-/// Whether the equations where the instruction can go on hold behind the block.
-fn leads_on(
-    lists: &[Row<Equation>],
-    equations: &[Equation],
-    instruction: &Instruction,
-    block: &TracedBlock,
-    change: Change,
-) -> bool
-    requires { RiseFrom 0 equations.now }
-    ensures { IsTrue result ↔ All (LeadsTo lists.now equations.now block.now change) (successors_of instruction.now) }
+fn before_in(alloc: Global, instruction: &Instruction) -> Result<Row<Move>, NoMemory>
+    ensures { IfOk result (λ moves. moves ≡ before_in instruction.now) }
 {
     match instruction {
-        Instruction::Do { successor, .. } | Instruction::Call { successor, .. } => {
-            leads_to(lists, equations, block, change, *successor)
+        Instruction::Do { act, .. } => act_before(alloc, act),
+        Instruction::Call { .. } | Instruction::Return { value: None } => Ok(none(alloc)),
+        Instruction::Branch { test, .. } => arguments_before(alloc, &test.arguments),
+        Instruction::Return { value: Some(value) } => fetch_one(alloc, *value),
+    }
+}
+
+fn body_in(alloc: Global, instruction: &Instruction) -> Result<Body, NoMemory>
+    ensures { IfOk result (λ body. body ≡ body_in instruction.now) }
+{
+    match instruction {
+        Instruction::Do { act, successor } => {
+            let after = act_after(alloc, act)?;
+            Ok(Body::Go {
+                act: act_in(act),
+                after,
+                successor: *successor,
+            })
         }
-        Instruction::Branch { taken, other, .. } => {
-            leads_to(lists, equations, block, change, *taken)
-                && leads_to(lists, equations, block, change, *other)
+        Instruction::Call {
+            function,
+            arguments,
+            target,
+            successor,
+        } => {
+            let arguments = slots_of(alloc, arguments.as_slice())?;
+            Ok(Body::Call {
+                function: *function,
+                arguments,
+                target: target.map(Location::InSlot),
+                after: none(alloc),
+                successor: *successor,
+            })
         }
-        Instruction::Return { .. } => true,
+        Instruction::Branch { test, taken, other } => Ok(Body::Branch {
+            test: machine::Test {
+                condition: test.condition,
+                arguments: arguments_in(&test.arguments),
+            },
+            taken: *taken,
+            other: *other,
+        }),
+        Instruction::Return { value: None } => Ok(Body::Return { value: None }),
+        Instruction::Return { value: Some(_) } => Ok(Body::Return { value: Some(0) }),
     }
 }
 
-fn is_carried(
-    lists: &[Row<Equation>],
-    equations: &[Equation],
-    instruction: &Instruction,
-    block: &TracedBlock,
-    change: Change,
-) -> bool
-    requires { RiseFrom 0 equations.now }
-    ensures { IsTrue result ↔ IsCarried lists.now equations.now instruction.now block.now change }
+pub(crate) fn block_in(alloc: Global, instruction: &Instruction) -> Result<Block, NoMemory>
+    ensures { IfOk result (λ block. block ≡ block_in instruction.now) }
 {
-    uses_given(equations, block, instruction, block.body())
-        && leads_on(lists, equations, instruction, block, change)
-}
-
-fn stands_traced(
-    lists: &[Row<Equation>],
-    equations: &[Equation],
-    instruction: &Instruction,
-    block: &TracedBlock,
-) -> bool
-    requires { RiseFrom 0 equations.now }
-    ensures { IsTrue result ↔ StandsFor lists.now equations.now instruction.now block.now (change_by instruction.now block.now.body) }
-{
-    match change_of(instruction, block.body()) {
-        Some(change) => is_carried(lists, equations, instruction, block, change),
-        None => false,
-    }
-}
-
-/// Whether the block stands for the instruction.
-fn stands_for(
-    alloc: Global,
-    lists: &[Row<Equation>],
-    equations: &[Equation],
-    instruction: &Instruction,
-    block: &Block,
-) -> Result<bool, NoMemory>
-    requires { RiseFrom 0 equations.now }
-    ensures { IfOk result (λ yes. IsTrue yes ↔ StandsFor lists.now equations.now instruction.now block.now (change_by instruction.now block.now.body)) }
-{
-    let traced = TracedBlock::of(alloc, block)?;
-    Ok(stands_traced(lists, equations, instruction, &traced))
-}
-
-/// Whether the equations hold at the entry, if the node is that.
-fn begins_right(
-    input: &rtl::Function,
-    output: &ltl::Function,
-    n: usize,
-    equations: &[Equation],
-) -> bool
-    ensures { IsTrue result ↔ (n ≡ input.now.entry → All (HoldsAtEntry input.now.parameters output.now.parameters) equations.now) }
-{
-    n != usize::from(input.entry())
-        || hold_at_entry(
-            input.parameters().as_slice(),
-            output.parameters().as_slice(),
-            equations,
-        )
-}
-
-fn is_right(
-    alloc: Global,
-    input: &rtl::Function,
-    output: &ltl::Function,
-    lists: &[Row<Equation>],
-    n: usize,
-    instruction: &Instruction,
-    block: &Block,
-) -> Result<bool, NoMemory>
-    requires { All (RiseFrom 0) lists.now }
-    ensures { IfOk result (λ yes. IsTrue yes ↔ IsRightAs input.now output.now lists.now n instruction.now block.now) }
-{
-    let equations = equations_of(lists, n);
-    if !begins_right(input, output, n, equations) {
-        return Ok(false);
-    }
-    Ok(stands_for(alloc, lists, equations, instruction, block)?)
-}
-
-/// Finds the lowest node that breaks a rule.
-pub(crate) fn lowest_wrong(
-    alloc: Global,
-    input: &rtl::Function,
-    output: &ltl::Function,
-    lists: &[Row<Equation>],
-) -> Result<Option<u16>, NoMemory>
-    requires blocks { length output.now.blocks ≡ length input.now.nodes }
-    requires rising { All (RiseFrom 0) lists.now }
-    ensures { IfOk result (TellsLowest (IsRightAt input.now output.now lists.now) (length input.now.nodes)) }
-{
-    let instructions = input.nodes().as_slice();
-    let blocks = output.blocks().as_slice();
-    for (n, instruction) in instructions.iter().enumerate() {
-        if !is_right(alloc, input, output, lists, n, instruction, &blocks[n])? {
-            return Ok(Some(n as u16));
-        }
-    }
-    Ok(None)
+    let before = before_in(alloc, instruction)?;
+    let body = body_in(alloc, instruction)?;
+    Ok(Block { before, body })
 }

@@ -1,11 +1,11 @@
 -- Functions with bodies, as a loop numbers them.
 use Rattle.std.proofs.Common.{◌≡◌, ℕ, suc, ◌+◌, ◌≤◌, ◌<◌, List, [], ◌∷◌, length, drop, map, sym, ap, ◌∙◌, arith}
 use Rattle.std.proofs.Math.ListN.{get_or, drop_of_length-le}
-use Rattle.c_scopes.specs.Bound.{Bound}
-use Rattle.c_tree.specs.declared.declaration.Declaration.{Declaration}
-use Rattle.c_tree.specs.Views.{declaration_tree}
-use Rattle.c_rules.specs.Units.{bodies_from}
-use Rattle.c_rules.proofs.Lists.{drop_next}
+use Rattle.c_checker_scopes.specs.Bound.{Bound}
+use Rattle.c_syntax.specs.declared.declaration.Declaration.{Declaration}
+use Rattle.c_syntax.specs.Views.{declaration_tree}
+use Rattle.c_checker_rules.specs.Units.{bodies_from}
+use Rattle.c_checker_rules.proofs.Lists.{drop_next}
 
 -- What is left gives what the whole gives, and no number is above its place.
 pub record IsNumbering (all : List Declaration) (bodies : List (Bound ℕ)) (number index : ℕ) : Type 0 where

@@ -2,22 +2,22 @@
 use Rattle.std.proofs.Common.{◌≡◌, ℕ, ◌+◌, ◌≤◌, ◌<◌, List, [], ◌∷◌, ◌++◌, length, drop, map, sym, ap, refl, subst, ◌∙◌, append_assoc, append-nil}
 use Rattle.std.proofs.Math.ListN.{get_or, drop_of_length-le}
 use Rattle.std.specs.List.{AllByRecursion}
-use Rattle.c_scopes.specs.Bound.{Bound}
-use Rattle.c_tree.specs.declared.declaration.Declaration.{Declaration}
-use Rattle.c_tree.specs.Trees.{DeclarationTree}
-use Rattle.c_tree.specs.Trees as T
-use Rattle.c_tree.specs.Heights.{IsLow}
-use Rattle.c_tree.specs.Views.{declaration_tree}
+use Rattle.c_checker_scopes.specs.Bound.{Bound}
+use Rattle.c_syntax.specs.declared.declaration.Declaration.{Declaration}
+use Rattle.c_syntax.specs.Trees.{DeclarationTree}
+use Rattle.c_syntax.specs.Trees as T
+use Rattle.c_syntax.specs.Heights.{IsLow}
+use Rattle.c_syntax.specs.Views.{declaration_tree}
 use Rattle.c_program.specs.declared.function.GlobalVariable.{GlobalVariable}
 use Rattle.c_program.specs.Trees as P
 use Rattle.c_program.specs.Views.{function_tree}
-use Rattle.c_rules.specs.declared.errors.CheckError.{CheckError}
-use Rattle.c_rules.specs.Told.{Tells}
-use Rattle.c_rules.specs.Units.{File, empty_file, behind, declaration_faults, declarations_faults, globals_from, functions_from}
-use Rattle.c_rules.proofs.Firsts.{tells_front}
+use Rattle.c_checker_rules.specs.declared.errors.CheckError.{CheckError}
+use Rattle.c_checker_rules.specs.Told.{Tells}
+use Rattle.c_checker_rules.specs.Units.{File, empty_file, behind, declaration_faults, declarations_faults, globals_from, functions_from}
+use Rattle.c_checker_rules.proofs.Firsts.{tells_front}
 use Rattle.c_checker.specs.declared.progress.Progress.{Progress}
 use Rattle.c_checker.specs.Reached.{file_of, globals_in, functions_in}
-use Rattle.c_rules.proofs.Lists.{drop_next}
+use Rattle.c_checker_rules.proofs.Lists.{drop_next}
 
 globals_next : (file : File) (d : DeclarationTree) (ds : List DeclarationTree) → globals_from file (d ∷ ds) ≡ globals_in file d ++ globals_from (behind file d) ds
 globals_next file (T.Global g) ds = refl

@@ -2,15 +2,15 @@
 use Rattle.std.proofs.Common.{rules, ◌≡◌, ℕ, true, List, [], ◌++◌, Option, Some, None, sym, ap, refl, subst, ◌∙◌}
 use Rattle.std.specs.Prelude.{is_some, codes}
 use Rattle.std.specs.Option.{option_map}
-use Rattle.c_scopes.specs.Bound.{Bound, found, binding_of}
-use Rattle.c_scopes.specs.declared.binding.Binding.{Binding}
-use Rattle.c_tree.specs.Trees.{UnitTree}
+use Rattle.c_checker_scopes.specs.Bound.{Bound, found, binding_of}
+use Rattle.c_checker_scopes.specs.declared.binding.Binding.{Binding}
+use Rattle.c_syntax.specs.Trees.{UnitTree}
 use Rattle.c_program.specs.declared.function.GlobalVariable.{GlobalVariable}
 use Rattle.c_program.specs.Trees as P
-use Rattle.c_rules.specs.declared.errors.CheckError.TheVariants.{NoMain}
-use Rattle.c_rules.specs.Told.{unless}
-use Rattle.c_rules.specs.Calls.{number_of}
-use Rattle.c_rules.specs.Units.{bodies_of, empty_file, declarations_faults, unit_faults, globals_from, functions_from, program_of}
+use Rattle.c_checker_rules.specs.declared.errors.CheckError.TheVariants.{NoMain}
+use Rattle.c_checker_rules.specs.Told.{unless}
+use Rattle.c_checker_rules.specs.Calls.{number_of}
+use Rattle.c_checker_rules.specs.Units.{bodies_of, empty_file, declarations_faults, unit_faults, globals_from, functions_from, program_of}
 
 value_of : Option (Binding ℕ) → ℕ
 value_of None = 0

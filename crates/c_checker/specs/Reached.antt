@@ -1,13 +1,13 @@
 -- What is reached behind some declarations of a text.
 use Rattle.std.specs.Prelude.{ℕ, List, [], ◌∷◌, length}
-use Rattle.c_scopes.specs.Bound.{Bound}
-use Rattle.c_tree.specs.Trees.{DeclarationTree}
-use Rattle.c_tree.specs.Trees as T
+use Rattle.c_checker_scopes.specs.Bound.{Bound}
+use Rattle.c_syntax.specs.Trees.{DeclarationTree}
+use Rattle.c_syntax.specs.Trees as T
 use Rattle.c_program.specs.declared.function.GlobalVariable.{GlobalVariable}
 use Rattle.c_program.specs.Trees as P
-use Rattle.c_rules.specs.Globals.{with_global, global_of}
-use Rattle.c_rules.specs.Functions.{function_of}
-use Rattle.c_rules.specs.Units.{File, naming, known}
+use Rattle.c_checker_rules.specs.Globals.{with_global, global_of}
+use Rattle.c_checker_rules.specs.Functions.{function_of}
+use Rattle.c_checker_rules.specs.Units.{File, naming, known}
 use Rattle.c_checker.specs.declared.progress.Progress.{Progress}
 
 abbrev pub file_of : Progress → File

@@ -1,12 +1,12 @@
 //! Which functions have bodies.
 
 ghost use Rattle.std.specs.Prelude.{◌≡◌, [], map, OnOk, IfOk, OnErr};
-ghost use Rattle.c_tree.specs.Views.{declaration_tree};
-ghost use Rattle.c_rules.specs.Units as U;
+ghost use Rattle.c_syntax.specs.Views.{declaration_tree};
+ghost use Rattle.c_checker_rules.specs.Units as U;
 
-use c_scopes::Scopes;
-use c_tree::{Declaration, Identifier};
-use lang::NoMemory;
+use c_checker_scopes::Scopes;
+use c_syntax::{Declaration, Identifier};
+use lang_base::NoMemory;
 use std::alloc::Global;
 
 /// A function with a body of this number; of two of one name the first counts.

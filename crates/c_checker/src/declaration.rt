@@ -1,23 +1,22 @@
 //! Declarations at the outside of a text (C99 6.9).
 
 ghost use Rattle.std.specs.Prelude.{◌≡◌, ◌≤◌, ◌++◌, [], map, OnOk, IfErr};
-ghost use Rattle.c_tree.specs.Heights.{IsLow};
-ghost use Rattle.c_tree.specs.Trees as T;
-ghost use Rattle.c_tree.specs.Views.{declaration_tree, function_tree, global_tree};
+ghost use Rattle.c_syntax.specs.Heights.{IsLow};
+ghost use Rattle.c_syntax.specs.Trees as T;
+ghost use Rattle.c_syntax.specs.Views.{declaration_tree, function_tree, global_tree};
 ghost use Rattle.c_program.specs.Views as V;
-ghost use Rattle.c_rules.specs.Told.{Tells};
-ghost use Rattle.c_rules.specs.Functions as F;
-ghost use Rattle.c_rules.specs.Units as U;
+ghost use Rattle.c_checker_rules.specs.Told.{Tells};
+ghost use Rattle.c_checker_rules.specs.Functions as F;
+ghost use Rattle.c_checker_rules.specs.Units as U;
 ghost use Rattle.c_checker.specs.Reached.{file_of, globals_in, functions_in};
 
 use crate::progress::Progress;
-use c_functions::{
-    check_function, check_name, check_prototype, declare_function, prototype_signature,
-    signature_of,
+use c_checker_declarations::{
+    check_function, check_global, check_name, check_prototype, declare_function,
+    prototype_signature, signature_of,
 };
-use c_globals::check_global;
-use c_rules::{CheckError, Signature};
-use c_tree::{Declaration, Function, Global as GlobalTree, Identifier, Prototype};
+use c_checker_rules::{CheckError, Signature};
+use c_syntax::{Declaration, Function, Global as GlobalTree, Identifier, Prototype};
 use std::alloc::Global;
 
 /// A global.
@@ -75,7 +74,7 @@ fn declare(
 }
 
 /// A function with its body.
-#[tactic(auto, using(c_rules::proofs::Firsts::tells_front, c_rules::proofs::Firsts::tells_behind))]
+#[tactic(auto, using(c_checker_rules::proofs::Firsts::tells_front, c_checker_rules::proofs::Firsts::tells_behind))]
 fn take_function(
     alloc: Global,
     progress: &mut Progress,
@@ -101,7 +100,7 @@ fn take_function(
 }
 
 /// A prototype.
-#[tactic(auto, using(c_rules::proofs::Firsts::tells_front, c_rules::proofs::Firsts::tells_behind))]
+#[tactic(auto, using(c_checker_rules::proofs::Firsts::tells_front, c_checker_rules::proofs::Firsts::tells_behind))]
 fn take_prototype(
     alloc: Global,
     progress: &mut Progress,

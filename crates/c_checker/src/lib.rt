@@ -5,9 +5,8 @@
 mod bodies;
 mod checking;
 mod declaration;
-mod program;
 mod progress;
 mod unit;
 
+pub use c_checker_rules::{CProgram, CheckError};
 pub use checking::check;
-pub use program::CProgram;

@@ -1,6 +1,6 @@
-use c_bodies::Here;
+use c_checker_bodies::Here;
+use c_checker_terms::Functions;
 use c_program::{Function, GlobalVariable};
-use c_terms::Functions;
 
 /// What is known of a text behind some of its declarations: its names, its functions' signatures and bodies,
 /// and the globals and functions with bodies so far.

@@ -2,21 +2,21 @@
 
 ghost use Rattle.std.specs.Prelude.{◌≡◌, ◌≤◌, [], map, OnOk, IfOk, IfErr};
 ghost use Rattle.std.specs.List.{AllByRecursion};
-ghost use Rattle.c_scopes.specs.Bound.{Bound};
-ghost use Rattle.c_tree.specs.Heights.{IsLow};
-ghost use Rattle.c_tree.specs.Views.{declaration_tree};
+ghost use Rattle.c_checker_scopes.specs.Bound.{Bound};
+ghost use Rattle.c_syntax.specs.Heights.{IsLow};
+ghost use Rattle.c_syntax.specs.Views.{declaration_tree};
 ghost use Rattle.c_program.specs.Views.{function_tree};
-ghost use Rattle.c_rules.specs.Told.{Tells};
-ghost use Rattle.c_rules.specs.Units as U;
+ghost use Rattle.c_checker_rules.specs.Told.{Tells};
+ghost use Rattle.c_checker_rules.specs.Units as U;
 ghost use Rattle.c_checker.specs.Reached.{file_of};
 
 use crate::declaration::take;
 use crate::progress::Progress;
-use c_bodies::Here;
-use c_rules::CheckError;
-use c_scopes::Scopes;
-use c_terms::Functions;
-use c_tree::Declaration;
+use c_checker_bodies::Here;
+use c_checker_rules::CheckError;
+use c_checker_scopes::Scopes;
+use c_checker_terms::Functions;
+use c_syntax::Declaration;
 use std::alloc::Global;
 
 /// What is known before the first declaration, with the functions that have bodies.

@@ -6,24 +6,24 @@ use Rattle.std.proofs.lemmas.List.Sums.{AllPass-from_list_all}
 use Rattle.std.proofs.lemmas.Bool.Decides.{nat_tests}
 use Rattle.std.proofs.lemmas.List.{append_cancel_left, take_at, get_or_at}
 use Rattle.std.proofs.str.Laws.{order}
-use Rattle.c_tokens.specs.declared.constant.Constant.{Constant}
-use Rattle.c_tokens.specs.declared.constant.IntegerType.TheVariants.{Int}
-use Rattle.c_tokens.specs.declared.keyword.Keyword.{Keyword}
-use Rattle.c_tokens.specs.declared.punctuator.Punctuator.{Punctuator}
-use Rattle.c_tokens.specs.declared.punctuator.Punctuator.TheVariants.{Slash}
-use Rattle.c_tokens.specs.declared.token.TokenKind.{TokenKind}
-use Rattle.c_tokens.specs.declared.token.TokenKind.TheVariants as kinds
-use Rattle.c_spellings.specs.Bytes.{is_white, is_word_byte, begins_with_digit}
-use Rattle.c_spellings.specs.Characters.{IsCharacter}
-use Rattle.c_spellings.specs.Keywords.{keyword_text}
-use Rattle.c_parts.specs.Lexemes.{IsWord, IsLexeme, IsLongest, IsNumber, Spells}
-use Rattle.c_spellings.specs.Lookups.{keyword_of, character_of, longest_of}
-use Rattle.c_spellings.specs.Numbers.{constant_of}
-use Rattle.c_parts.specs.Parts.{IsLineEnd, IsGap, IsToken, IsPart}
-use Rattle.c_spellings.specs.Punctuators.{punctuator_text}
-use Rattle.c_parts.proofs.CharacterFronts.{plain_found, escape_found}
-use Rattle.c_spellings.proofs.KeywordTexts.{keyword_is, keyword_found, keyword_bytes, keyword_some, keyword_no_digit}
-use Rattle.c_parts.proofs.Starts.{some_is, none_some, byte_of_front, length_of_front, word_first, punctuator_white, character_first, lexeme_some, not_both}
+use Rattle.c_syntax.specs.declared.constant.Constant.{Constant}
+use Rattle.c_syntax.specs.declared.constant.IntegerType.TheVariants.{Int}
+use Rattle.c_syntax.specs.declared.keyword.Keyword.{Keyword}
+use Rattle.c_syntax.specs.declared.punctuator.Punctuator.{Punctuator}
+use Rattle.c_syntax.specs.declared.punctuator.Punctuator.TheVariants.{Slash}
+use Rattle.c_syntax.specs.declared.token.TokenKind.{TokenKind}
+use Rattle.c_syntax.specs.declared.token.TokenKind.TheVariants as kinds
+use Rattle.c_lexer_spellings.specs.Bytes.{is_white, is_word_byte, begins_with_digit}
+use Rattle.c_lexer_spellings.specs.Characters.{IsCharacter}
+use Rattle.c_lexer_spellings.specs.Keywords.{keyword_text}
+use Rattle.c_lexer_parts.specs.Lexemes.{IsWord, IsLexeme, IsLongest, IsNumber, Spells}
+use Rattle.c_lexer_spellings.specs.Lookups.{keyword_of, character_of, longest_of}
+use Rattle.c_lexer_spellings.specs.Numbers.{constant_of}
+use Rattle.c_lexer_parts.specs.Parts.{IsLineEnd, IsGap, IsToken, IsPart}
+use Rattle.c_lexer_spellings.specs.Punctuators.{punctuator_text}
+use Rattle.c_lexer_parts.proofs.CharacterFronts.{plain_found, escape_found}
+use Rattle.c_lexer_spellings.proofs.KeywordTexts.{keyword_is, keyword_found, keyword_bytes, keyword_some, keyword_no_digit}
+use Rattle.c_lexer_parts.proofs.Starts.{some_is, none_some, byte_of_front, length_of_front, word_first, punctuator_white, character_first, lexeme_some, not_both}
 
 keyword_word : (k : Keyword) → IsWord (keyword_text k)
 keyword_word k = record { some = ltb-true 0 (length (keyword_text k)) (keyword_some k); all = AllPass-from_list_all is_word_byte (keyword_text k) (keyword_bytes k) }

@@ -1,10 +1,10 @@
 -- The tokens of a text, and its first fault.
 use Rattle.std.specs.Prelude.{◌≡◌, ℕ, ◌+◌, List, [], ◌∷◌, ◌++◌, length, Option, Some, None, flat_map}
-use Rattle.c_tokens.specs.declared.token.Token.{Token}
-use Rattle.c_tokens.specs.declared.token.TokenKind.{TokenKind}
-use Rattle.c_parts.specs.declared.errors.LexError.{LexError}
-use Rattle.c_parts.specs.Faults.{IsFaultAt}
-use Rattle.c_parts.specs.Parts.{IsPart}
+use Rattle.c_syntax.specs.declared.token.Token.{Token}
+use Rattle.c_syntax.specs.declared.token.TokenKind.{TokenKind}
+use Rattle.c_lexer_parts.specs.declared.errors.LexError.{LexError}
+use Rattle.c_lexer_parts.specs.Faults.{IsFaultAt}
+use Rattle.c_lexer_parts.specs.Parts.{IsPart}
 
 -- a part: its bytes, and the token that it is, or none
 pub record Part : Type 0 where

@@ -1,12 +1,12 @@
 //! The whole text.
 
 ghost use Rattle.std.specs.Prelude.{◌≡◌, ◌≢◌, IfOk, IfErr, IsErrAnd, MatchResult, List};
-ghost use Rattle.c_tokens.specs.declared.token.Token.{Token};
-ghost use Rattle.c_parts.specs.declared.errors.LexError.{LexError};
+ghost use Rattle.c_syntax.specs.declared.token.Token.{Token};
+ghost use Rattle.c_lexer_parts.specs.declared.errors.LexError.{LexError};
 ghost use Rattle.c_lexer.specs.Texts.{HasFault, HasTokens};
 
-use c_parts::{LexError, first_part};
-use c_tokens::Token;
+use c_lexer_parts::{LexError, first_part};
+use c_syntax::Token;
 use std::alloc::Global;
 
 /// Reads part after part, up to the end or the first fault.

@@ -3,5 +3,5 @@
 
 mod lexer;
 
-pub use c_parts::LexError;
+pub use c_lexer_parts::LexError;
 pub use lexer::lex;

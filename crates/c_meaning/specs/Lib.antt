@@ -1,3 +1,4 @@
-pub use Rattle.run_output.specs.Written
-pub use Rattle.c_behaviour.specs.Meaning
-pub use Rattle.c_checker.specs.Checked
+pub mod Arguments
+pub use Rattle.c_program.specs.Meaning
+pub use Rattle.lang_programs.specs.Written
+pub use Rattle.c_checker_rules.specs.Checked

@@ -1,3 +1,7 @@
 pub mod Trees
 pub mod Views
 pub mod Values
+pub mod State
+pub mod Meaning
+pub mod Growth
+pub use Rattle.lang_base.specs.Behaviour

@@ -1,5 +1,5 @@
 use crate::term::Term;
-use lang::Row;
+use lang_base::Row;
 
 /// A call of a function with a body.
 #[derive(Drop)]

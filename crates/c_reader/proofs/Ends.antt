@@ -1,8 +1,8 @@
 -- Where the last token ends.
 use Rattle.std.proofs.Common.{◌≡◌, ℕ, suc, ◌-◌, List, [], ◌∷◌, length, Option, Some, None, refl, ap, ◌∙◌, arith}
 use Rattle.std.specs.Prelude.{slice_get}
-use Rattle.c_tokens.specs.declared.token.Token.{Token}
-use Rattle.c_tree.specs.Declarations.{end_of}
+use Rattle.c_syntax.specs.declared.token.Token.{Token}
+use Rattle.c_syntax.specs.Declarations.{end_of}
 
 abbrev pub end_at : Option Token → ℕ
 end_at None = 0

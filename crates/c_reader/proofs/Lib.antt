@@ -1,3 +1,5 @@
+pub mod Naming
+pub mod Commas
 pub mod Telling
 pub mod Ends
 pub mod Sound

@@ -1,19 +1,19 @@
 -- What is read is spelled by the tokens, and low, and no other tree that is low is; and where nothing is read, nothing is.
 use Rattle.std.proofs.Common.{◌≡◌, ℕ, ◌≤◌, List, [], Result, Ok, sym, ◌∙◌}
 use Rattle.std.specs.List.{AllByRecursion}
-use Rattle.c_tokens.specs.declared.token.Token.{Token}
-use Rattle.c_tree.specs.Trees.{DeclarationTree, UnitTree}
-use Rattle.c_tree.specs.Heights.{highest, IsLow}
-use Rattle.c_tree.specs.Declarations.{AreDeclarations, IsUnit, end_of}
-use Rattle.c_reading.specs.declared.fault.Fault.{Fault}
-use Rattle.c_reading.specs.declared.fault.Fault.TheVariants as F
-use Rattle.c_statement_laws.specs.Reading.{block_in, statement_at}
-use Rattle.c_statement_laws.proofs.Body.{block_takes, block_again, block_stays}
-use Rattle.c_declaration_laws.specs.Reading.{declarations}
-use Rattle.c_productions.proofs.Combining.{IsReader, Any, Keeps}
-use Rattle.c_declaration_laws.proofs.Declaring.{IsBody, FitsBlock}
-use Rattle.c_declaration_laws.proofs.Laws.{declarations_takes, declarations_again, declarations_low, low_declarations}
-use Rattle.c_declaration_laws.proofs.Refusing.{low_refused, all_refused}
+use Rattle.c_syntax.specs.declared.token.Token.{Token}
+use Rattle.c_syntax.specs.Trees.{DeclarationTree, UnitTree}
+use Rattle.c_syntax.specs.Heights.{highest, IsLow}
+use Rattle.c_syntax.specs.Declarations.{AreDeclarations, IsUnit, end_of}
+use Rattle.c_reader_tokens.specs.declared.fault.Fault.{Fault}
+use Rattle.c_reader_tokens.specs.declared.fault.Fault.TheVariants as F
+use Rattle.c_reader_statement_laws.specs.Reading.{block_in, statement_at}
+use Rattle.c_reader_statement_laws.proofs.Body.{block_takes, block_again, block_stays}
+use Rattle.c_reader_declaration_laws.specs.Reading.{declarations}
+use Rattle.c_reader_productions.proofs.Combining.{IsReader, Any, Keeps}
+use Rattle.c_reader_declaration_laws.proofs.Declaring.{IsBody, FitsBlock}
+use Rattle.c_reader_declaration_laws.proofs.Laws.{declarations_takes, declarations_again, declarations_low, low_declarations}
+use Rattle.c_reader_declaration_laws.proofs.Refusing.{low_refused, all_refused}
 use Rattle.c_reader.specs.declared.errors.ReadError.{ReadError}
 use Rattle.c_reader.specs.declared.errors.ReadError.TheVariants as E
 use Rattle.c_reader.specs.Telling.{Tells}

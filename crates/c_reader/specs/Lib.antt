@@ -1,4 +1,6 @@
 pub mod Numbers
 pub mod Telling
-pub mod Units
 pub mod Refusing
+pub use Rattle.c_syntax.specs.Units
+pub use Rattle.c_reader_declaration_laws.specs.Parameters
+pub use Rattle.c_reader_declaration_laws.specs.Reading

@@ -1,10 +1,10 @@
 -- What a refusal says of the tokens: that none of the grammar's trees are spelled by them, or none that are low.
 use Rattle.std.specs.Prelude.{List}
 use Rattle.std.specs.List.{AllByRecursion}
-use Rattle.c_tokens.specs.declared.token.Token.{Token}
-use Rattle.c_tree.specs.Trees.{UnitTree}
-use Rattle.c_tree.specs.Heights.{IsLow}
-use Rattle.c_tree.specs.Declarations.{IsUnit}
+use Rattle.c_syntax.specs.declared.token.Token.{Token}
+use Rattle.c_syntax.specs.Trees.{UnitTree}
+use Rattle.c_syntax.specs.Heights.{IsLow}
+use Rattle.c_syntax.specs.Declarations.{IsUnit}
 use Rattle.c_reader.specs.declared.errors.ReadError.{ReadError}
 use Rattle.c_reader.specs.declared.errors.ReadError.TheVariants as E
 

@@ -1,8 +1,8 @@
 -- What a refusal tells of a reading, and where.
 use Rattle.std.specs.Prelude.{◌≡◌, ℕ, List, [], ◌∷◌, Option, Some, None, Result, Err}
-use Rattle.c_tokens.specs.declared.token.Token.{Token}
-use Rattle.c_reading.specs.declared.fault.Fault.{Fault}
-use Rattle.c_reading.specs.declared.fault.Fault.TheVariants as F
+use Rattle.c_syntax.specs.declared.token.Token.{Token}
+use Rattle.c_reader_tokens.specs.declared.fault.Fault.{Fault}
+use Rattle.c_reader_tokens.specs.declared.fault.Fault.TheVariants as F
 use Rattle.c_reader.specs.declared.errors.ReadError.{ReadError}
 use Rattle.c_reader.specs.declared.errors.ReadError.TheVariants as E
 

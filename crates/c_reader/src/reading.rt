@@ -1,22 +1,20 @@
 //! The reader of a whole text.
 
 ghost use Rattle.std.specs.Prelude.{◌≡◌, IfOk, IfErr, Ok, map};
-ghost use Rattle.c_tree.specs.Heights.{highest, IsLow};
-ghost use Rattle.c_tree.specs.Declarations.{end_of, IsUnit};
-ghost use Rattle.c_tree.specs.Trees.{UnitTree};
-ghost use Rattle.c_tree.specs.Views.{declaration_tree};
+ghost use Rattle.c_syntax.specs.Heights.{highest, IsLow};
+ghost use Rattle.c_syntax.specs.Declarations.{end_of, IsUnit};
+ghost use Rattle.c_syntax.specs.Trees.{UnitTree};
+ghost use Rattle.c_syntax.specs.Views.{declaration_tree};
 ghost use Rattle.std.specs.List.{AllByRecursion};
-ghost use Rattle.c_declaration_laws.specs.Reading.{is_next_there, declarations};
-ghost use Rattle.c_reader.specs.Units.{unit_tree};
+ghost use Rattle.c_reader_declaration_laws.specs.Reading.{is_next_there, declarations};
+ghost use Rattle.c_syntax.specs.Units.{unit_tree};
 ghost use Rattle.c_reader.specs.Refusing.{Refuses};
 ghost use Rattle.c_reader.specs.Telling.{begin_of, error_of, Tells};
 
 use crate::errors::ReadError;
-use crate::unit::Unit;
-use c_declarations::{Misread, read_declaration};
-use c_reading::Fault;
-use c_tokens::Token;
-use c_tree::Declaration;
+use crate::{Misread, read_declaration};
+use c_reader_tokens::Fault;
+use c_syntax::{Declaration, Token, Unit};
 use std::alloc::Global;
 
 /// Where the last token ends, 0 where there is none.
@@ -61,7 +59,7 @@ fn told(misread: Misread, tokens: &[Token], end: usize) -> ReadError
 }
 
 /// Declarations up to the end, which is at this offset.
-#[tactic(auto, using(c_statements::proofs::Loops::each_begins), unfolding(c_declaration_laws::specs::Reading::declarations))]
+#[tactic(auto, using(c_reader_statements::proofs::Loops::each_begins), unfolding(c_reader_declaration_laws::specs::Reading::declarations))]
 fn read_declarations(
     alloc: Global,
     tokens: &[Token],

@@ -1,13 +1,13 @@
 -- The exit statuses of the program: 0 where it is done, 2 for the command line or a file that cannot be read, and those of
 -- each command's refusals and runs.
 use Rattle.std.specs.Prelude.{◌≡◌, ◌⊎◌, ℕ}
-use Rattle.lang.specs.declared.shown.Shown.{Shown}
-use Rattle.commands.specs.declared.error.SettleError.{SettleError}
-use Rattle.commands.specs.Statuses.{status_of}
-use Rattle.text_commands.specs.declared.error.CommandError.{CommandError}
-use Rattle.text_commands.specs.Statuses.{status_of_error, status_of_shown}
-use Rattle.program_commands.specs.declared.error.ExecError.{ExecError}
-use Rattle.program_commands.specs.Statuses as program
+use Rattle.lang_base.specs.declared.shown.Shown.{Shown}
+use Rattle.cfarm_commands.specs.declared.error.SettleError.{SettleError}
+use Rattle.cfarm_commands.specs.Statuses.{status_of}
+use Rattle.cfarm_texts.specs.declared.error.CommandError.{CommandError}
+use Rattle.cfarm_texts.specs.Statuses.{status_of_error, status_of_shown}
+use Rattle.cfarm_commands.specs.declared.exec_error.ExecError.{ExecError}
+use Rattle.cfarm_commands.specs.ExecStatuses as program
 
 abbrev pub IsStatus : ℕ → Type 0
 IsStatus status =

@@ -4,9 +4,9 @@ ghost use Rattle.std.specs.Prelude.{IfOk};
 ghost use Rattle.cfarm.specs.Statuses.{IsStatus};
 
 use crate::files::{UNREADABLE, read_file};
+use cfarm_texts::check_text;
 use clap::ArgMatches;
 use std::io;
-use text_commands::check_text;
 
 /// Reads the file and checks its text. The status of the program.
 pub fn run(rt: &HostRuntime, words: &ArgMatches<'_>) -> io::Result<u8>

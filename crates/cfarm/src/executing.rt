@@ -5,11 +5,11 @@ ghost use Rattle.cfarm.specs.Statuses.{IsStatus};
 
 use crate::command_line::LIMIT;
 use crate::files::{UNREADABLE, read_file};
+use cfarm_commands::{ExecError, exec};
+use cfarm_texts::{Closing, RunError, status_of};
 use clap::ArgMatches;
-use program_commands::{ExecError, exec};
 use std::io;
 use std::io::{BufWriter, Write};
-use text_commands::{Closing, RunError, status_of};
 
 /// The bound of the run, which the command line has read as a number.
 fn limit_of(words: &ArgMatches<'_>) -> u64 {

@@ -5,10 +5,10 @@ ghost use Rattle.cfarm.specs.Statuses.{IsStatus};
 
 use crate::command_line::DEPTH;
 use crate::files::{UNREADABLE, read_file};
+use cfarm_texts::{Closing, CommandError, RunError, interpret, status_of};
 use clap::ArgMatches;
 use std::io;
 use std::io::{BufWriter, Write};
-use text_commands::{Closing, CommandError, RunError, interpret, status_of};
 
 /// The bound of the run, which the command line has read as a number.
 fn depth_of(words: &ArgMatches<'_>) -> u32 {

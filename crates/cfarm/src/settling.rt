@@ -4,8 +4,8 @@ ghost use Rattle.std.specs.Prelude.{IfOk};
 ghost use Rattle.cfarm.specs.Statuses.{IsStatus};
 
 use crate::files::{UNREADABLE, read_file};
+use cfarm_commands::settle;
 use clap::ArgMatches;
-use commands::settle;
 use std::io;
 
 /// Reads the file and settles its function. The status of the program.

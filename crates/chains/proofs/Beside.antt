@@ -1,11 +1,11 @@
 -- What offers that are lent beside names link.
 use Rattle.std.proofs.Common.{◌≡◌, ℕ, zero, suc, ◌<◌, List, [], ◌∷◌, ◌++◌, length, take, map, get_or, Option, Some, None, refl, sym, ap, subst, ◌∙◌, arith}
-use Rattle.lang.specs.declared.program.Named as code
-use Rattle.lang.specs.Programs.{NamedFunction}
-use Rattle.program_data.specs.Seen.{named_seen}
-use Rattle.rtl.specs.Function.{FunctionData}
-use Rattle.linear.specs.Function as linear
-use Rattle.linking.specs.Chains.{HasChain, AllChained, made_of, all_made_of, names_of, names_beside}
+use Rattle.lang_base.specs.declared.program.Named as code
+use Rattle.lang_base.specs.Programs.{NamedFunction}
+use Rattle.lang_programs.specs.Seen.{named_seen}
+use Rattle.rtl_language.specs.Function.{FunctionData}
+use Rattle.linear_language.specs.Function as linear
+use Rattle.linker_passes.specs.Chains.{HasChain, AllChained, made_of, all_made_of, names_of, names_beside}
 use Rattle.chains.specs.declared.offering.Offers.{Offers}
 use Rattle.chains.specs.Lent.{Chain, Named, LendsTo, IsBeside, AreBeside}
 use Rattle.chains.specs.Offered.{GoOnFrom, AllGoOn, ends_of}

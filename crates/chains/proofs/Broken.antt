@@ -1,13 +1,13 @@
 -- What a refusal to link the chains says of the offers.
 use Rattle.std.proofs.Common.{◌≡◌, ℕ, zero, suc, List, [], ◌∷◌, take, map, Option, Some, None, subst}
 use Rattle.std.specs.Prelude.{slice_get}
-use Rattle.lang.specs.declared.program.Named as code
-use Rattle.lang.specs.Programs.{NamedFunction}
-use Rattle.program_data.specs.Seen.{named_seen}
-use Rattle.rtl.specs.Function.{FunctionData}
-use Rattle.linking.specs.declared.errors.LinkError as chains
-use Rattle.linking.specs.declared.errors.LinkError.TheVariants as chain
-use Rattle.linking.specs.Chains.{HasChain, IsChain, AllChained, Refusal}
+use Rattle.lang_base.specs.declared.program.Named as code
+use Rattle.lang_base.specs.Programs.{NamedFunction}
+use Rattle.lang_programs.specs.Seen.{named_seen}
+use Rattle.rtl_language.specs.Function.{FunctionData}
+use Rattle.linker_passes.specs.declared.errors.LinkError as chains
+use Rattle.linker_passes.specs.declared.errors.LinkError.TheVariants as chain
+use Rattle.linker_passes.specs.Chains.{HasChain, IsChain, AllChained, Refusal}
 use Rattle.linker.specs.Numbers.{refusal_to_link}
 use Rattle.chains.specs.declared.offering.Offers.{Offers}
 use Rattle.chains.specs.Lent.{Chain, Named, LendsTo, AreBeside}

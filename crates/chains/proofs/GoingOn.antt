@@ -1,8 +1,8 @@
 -- The first functions' offers, and one more's.
 use Rattle.std.proofs.Common.{◌≡◌, ℕ, zero, suc, ◌<◌, List, [], ◌∷◌, ◌++◌, length, take, map, get_or, refl, ap, subst, arith}
-use Rattle.lang.specs.declared.program.Named as code
-use Rattle.program_data.specs.Seen.{named_seen}
-use Rattle.rtl.specs.Function.{FunctionData}
+use Rattle.lang_base.specs.declared.program.Named as code
+use Rattle.lang_programs.specs.Seen.{named_seen}
+use Rattle.rtl_language.specs.Function.{FunctionData}
 use Rattle.chains.specs.declared.offering.Offers.{Offers}
 use Rattle.chains.specs.Offered.{GoOnFrom, AllGoOn}
 

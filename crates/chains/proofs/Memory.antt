@@ -1,9 +1,9 @@
 -- Refusals that are for want of memory.
 use Rattle.std.proofs.Common.{◌≡◌, ◌≢◌, refl, sym, subst}
-use Rattle.lang.specs.Programs.{ProgramOf}
-use Rattle.lang.specs.declared.errors.PassError.{PassError}
-use Rattle.lang.specs.declared.errors.PassError.TheVariants.{NoMemory, TooManyRegisters}
-use Rattle.cminor_tree.specs.Trees.{FunctionTree}
+use Rattle.lang_base.specs.Programs.{ProgramOf}
+use Rattle.lang_base.specs.declared.errors.PassError.{PassError}
+use Rattle.lang_base.specs.declared.errors.PassError.TheVariants.{NoMemory, TooManyRegisters}
+use Rattle.cminor_syntax.specs.Trees.{FunctionTree}
 use Rattle.linker.specs.Refused.{HasNoTranslation}
 use Rattle.chains.specs.declared.errors.CompileError.{CompileError}
 use Rattle.chains.specs.declared.errors.CompileError.TheVariants.{Link, Pass}

@@ -3,15 +3,15 @@ use Rattle.std.proofs.Common.{◌≡◌, ℕ, ◌<◌, ◌≤◌, List, length, 
 use Rattle.std.specs.Prelude.{All}
 use Rattle.std.proofs.lemmas.List.{get_or-map, length-map}
 use Rattle.std.proofs.lemmas.List.Elements.{All-get_or}
-use Rattle.lang.specs.declared.program.Named as code
-use Rattle.lang.specs.Programs.{NamedFunction}
-use Rattle.program_data.specs.Seen.{named_seen}
-use Rattle.rtl.specs.Function.{FunctionData}
-use Rattle.constprop_sound.specs.declared.fact.Fact.{Fact}
-use Rattle.constprop_sound.specs.Rules.{IsPropagated}
-use Rattle.cse_sound.specs.declared.equation.Equation.{Equation}
-use Rattle.cse_sound.specs.Rules.{IsEliminated}
-use Rattle.alloc_rules.specs.Rules.{IsTooLarge, baseline_limit}
+use Rattle.lang_base.specs.declared.program.Named as code
+use Rattle.lang_base.specs.Programs.{NamedFunction}
+use Rattle.lang_programs.specs.Seen.{named_seen}
+use Rattle.rtl_language.specs.Function.{FunctionData}
+use Rattle.constprop_check_rules.specs.declared.fact.Fact.{Fact}
+use Rattle.constprop_check_rules.specs.Rules.{IsPropagated}
+use Rattle.cse_check_rules.specs.declared.equation.Equation.{Equation}
+use Rattle.cse_check_rules.specs.Rules.{IsEliminated}
+use Rattle.alloc_check_rules.specs.Rules.{IsTooLarge, baseline_limit}
 
 pub large_from_the_start : (f a b : FunctionData) (facts : List (List Fact)) (equations : List (List Equation)) → IsPropagated f a facts → IsEliminated a b equations → IsTooLarge b → IsTooLarge f
 large_from_the_start f a b facts equations first second large =

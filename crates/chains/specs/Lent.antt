@@ -1,15 +1,15 @@
 -- Names with the offers lent beside them.
 use Rattle.std.specs.Prelude.{◌≡◌, ℕ, List, [], ◌∷◌, Option, Some, None}
-use Rattle.lang.specs.declared.program.Named as code
+use Rattle.lang_base.specs.declared.program.Named as code
 use Rattle.offers.specs.declared.parts.Parts.{Parts}
-use Rattle.rtl.specs.Function as rtl
+use Rattle.rtl_language.specs.Function as rtl
 use Rattle.ltl.specs.Function as ltl
-use Rattle.linear.specs.Function as linear
-use Rattle.constprop_sound.specs.declared.fact.Fact.{Fact}
-use Rattle.cse_sound.specs.declared.equation.Equation as cse
-use Rattle.alloc_rules.specs.declared.equation.Equation as alloc
-use Rattle.linking.specs.declared.chain.Chain as linking_chain
-use Rattle.linking.specs.declared.chain.Named as linking_named
+use Rattle.linear_language.specs.Function as linear
+use Rattle.constprop_check_rules.specs.declared.fact.Fact.{Fact}
+use Rattle.cse_check_rules.specs.declared.equation.Equation as cse
+use Rattle.alloc_check_rules.specs.declared.equation.Equation as alloc
+use Rattle.linker_passes.specs.declared.chain.Chain as linking_chain
+use Rattle.linker_passes.specs.declared.chain.Named as linking_named
 use Rattle.chains.specs.declared.offering.Offers.{Offers}
 
 -- the parts of an offer of each pass

@@ -1,8 +1,8 @@
 -- Offers of a program's functions, and the program that they link.
 use Rattle.std.specs.Prelude.{◌≡◌, List, [], ◌∷◌}
-use Rattle.lang.specs.Programs.{NamedFunction, ProgramOf}
-use Rattle.rtl.specs.Function as rtl
-use Rattle.linear.specs.Function as linear
+use Rattle.lang_base.specs.Programs.{NamedFunction, ProgramOf}
+use Rattle.rtl_language.specs.Function as rtl
+use Rattle.linear_language.specs.Function as linear
 use Rattle.chains.specs.declared.offering.Offers.{Offers}
 
 -- each offer goes on from the output of the one before it, and the first from the function

@@ -1,9 +1,9 @@
 -- Why a checked program is not compiled, and why offers are not linked.
 use Rattle.std.specs.Prelude.{◌≡◌, ◌≢◌, ℕ, zero, suc, List, [], ◌∷◌, length}
-use Rattle.lang.specs.Programs.{NamedFunction, ProgramOf}
-use Rattle.lang.specs.declared.errors.PassError.TheVariants as pass
-use Rattle.cminor_tree.specs.Trees.{FunctionTree}
-use Rattle.rtl.specs.Function.{FunctionData}
+use Rattle.lang_base.specs.Programs.{NamedFunction, ProgramOf}
+use Rattle.lang_base.specs.declared.errors.PassError.TheVariants as pass
+use Rattle.cminor_syntax.specs.Trees.{FunctionTree}
+use Rattle.rtl_language.specs.Function.{FunctionData}
 use Rattle.linker.specs.declared.errors.LinkError.{LinkError}
 use Rattle.linker.specs.declared.errors.LinkError.TheVariants as link
 use Rattle.linker.specs.Refused.{HasNoTranslation}

@@ -1,13 +1,13 @@
 ghost use Rattle.std.specs.Prelude.{◌≡◌, ◌≤◌, All, IfOk, IfErr, OnOk, length, map};
-ghost use Rattle.lang.specs.Keeps.{Keeps};
-ghost use Rattle.c_behaviour.specs.Meaning.{crun};
-ghost use Rattle.c_checker.specs.Checked.{program_tree};
-ghost use Rattle.lowering.specs.Programs.{low};
+ghost use Rattle.lang_base.specs.Keeps.{Keeps};
+ghost use Rattle.c_program.specs.Meaning.{crun};
+ghost use Rattle.c_checker_rules.specs.Checked.{program_tree};
+ghost use Rattle.cminor_lowering.specs.Programs.{low};
 ghost use Rattle.rtlgen.specs.Refused.{HasFewNodes};
-ghost use Rattle.linear.specs.Meaning as linear;
-ghost use Rattle.linking.specs.Chains.{names_of};
-ghost use Rattle.program_data.specs.Seen.{named_seen, seen};
-ghost use Rattle.rtl.specs.Meaning as rtl;
+ghost use Rattle.linear_language.specs.Meaning as linear;
+ghost use Rattle.linker_passes.specs.Chains.{names_of};
+ghost use Rattle.lang_programs.specs.Seen.{named_seen, seen};
+ghost use Rattle.rtl_language.specs.Meaning as rtl;
 ghost use Rattle.chains.specs.Lent.{AreBeside};
 ghost use Rattle.chains.specs.Offered.{AllGoOn, linked_offers};
 ghost use Rattle.chains.specs.Refused.{IsNoMemory, IsRefused, IsUnlinked};
@@ -15,12 +15,12 @@ ghost use Rattle.chains.specs.Refused.{IsNoMemory, IsRefused, IsUnlinked};
 use crate::errors::CompileError;
 use crate::makers::{Maker, offers_of};
 use crate::offering::Offers;
-use alloc_pass::Alloc;
-use c_checker::CProgram;
+use alloc_check::Alloc;
+use c_checker_rules::CProgram;
 use constprop_check::ConstProp;
 use cse_check::Cse;
-use lang::{Named, NoMemory, Program, keeps_composes};
-use linear::Function;
+use lang_base::{Named, NoMemory, Program, keeps_composes};
+use linear_language::Function;
 use linearize_check::Linearize;
 use linker::{LinkError, translated};
 use std::alloc::Global;
@@ -28,7 +28,7 @@ use std::alloc::Global;
 /// The offers of each function, in order.
 fn all_offers(
     alloc: Global,
-    functions: &[Named<rtl::Function>],
+    functions: &[Named<rtl_language::Function>],
     maker: &mut Maker,
 ) -> Result<Vec<Offers>, CompileError>
     ensures chained { IfOk result (λ offers. AllGoOn (map named_seen functions.now) offers.items) }
@@ -44,7 +44,7 @@ fn all_offers(
 /// Each function's name with its offers.
 fn named_of<'a>(
     alloc: Global,
-    functions: &'a [Named<rtl::Function>],
+    functions: &'a [Named<rtl_language::Function>],
     offers: &'a [Offers],
 ) -> Result<Vec<linker::Named<'a>>, NoMemory>
     requires { length functions.now ≡ length offers.now }
@@ -64,7 +64,7 @@ fn named_of<'a>(
 /// they chain. It keeps the meaning of the RTL program.
 pub fn link_offers(
     alloc: Global,
-    program: &Program<rtl::Function>,
+    program: &Program<rtl_language::Function>,
     offers: &[Offers],
 ) -> Result<Program<Function>, LinkError>
     ensures ok { IfOk result (λ made. seen made ≡ linked_offers (seen program.now) offers.now) }
@@ -80,7 +80,7 @@ pub fn link_offers(
         return Err(LinkError::Names);
     }
     let named = named_of(alloc, program.functions.as_slice(), offers)?;
-    let made = linking::link::<ConstProp, Cse, Alloc, Linearize>(alloc, program, &named)?;
+    let made = linker_passes::link::<ConstProp, Cse, Alloc, Linearize>(alloc, program, &named)?;
     Ok(made)
 }
 

@@ -1,4 +1,4 @@
-use lang::{NoMemory, PassError};
+use lang_base::{NoMemory, PassError};
 use linker::LinkError;
 use std::alloc::{AllocError, AllocFailed};
 use std::fmt;

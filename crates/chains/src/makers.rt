@@ -1,19 +1,19 @@
 //! Who makes the offers of a function, and the four offers of one.
 
 ghost use Rattle.std.specs.Prelude.{◌≡◌, ◌≢◌, ◌≤◌, Some, None, IfOk, IfErr};
-ghost use Rattle.alloc_rules.specs.Rules.{IsTooLarge};
+ghost use Rattle.alloc_check_rules.specs.Rules.{IsTooLarge};
 ghost use Rattle.chains.specs.Offered.{GoOnFrom};
 
 use crate::offering::{Offers, baseline_of};
 use crate::proposing::proposed_of;
-use lang::{Language, Oracle, Pass, PassError};
+use lang_base::{Language, Oracle, Pass, PassError};
 use offers::Offer;
 use oracle_alloc::AllocOracle;
 use oracle_const::ConstOracle;
 use oracle_cse::CseOracle;
 use oracle_order::OrderOracle;
 use rand_pcg::Pcg32;
-use rtl::Function;
+use rtl_language::Function;
 use std::alloc::Global;
 
 /// Who makes the offers: the baselines of all passes, where there are no words, or their optimisers, which draw their

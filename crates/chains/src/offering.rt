@@ -3,10 +3,10 @@
 ghost use Rattle.std.specs.Prelude.{◌≡◌, ◌≢◌, IfOk, IfErr};
 ghost use Rattle.chains.specs.Lent.{IsLent};
 
-use alloc_pass::Alloc;
+use alloc_check::Alloc;
 use constprop_check::ConstProp;
 use cse_check::Cse;
-use lang::{Language, Pass, PassError};
+use lang_base::{Language, Pass, PassError};
 use linearize_check::Linearize;
 use linker::Chain;
 use offers::Offer;

@@ -3,7 +3,7 @@
 ghost use Rattle.std.specs.Prelude.{◌≡◌, ◌≢◌, IfOk, IfErr, IfSome};
 
 use crate::offering::baseline_of;
-use lang::{Language, NoMemory, Oracle, Pass, PassError};
+use lang_base::{Language, NoMemory, Oracle, Pass, PassError};
 use offers::{Offer, OfferError};
 use rand_pcg::Pcg32;
 use std::alloc::Global;

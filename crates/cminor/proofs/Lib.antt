@@ -1,2 +1,4 @@
-pub mod Pointwise
-pub mod Short
+pub mod Mains
+pub mod Bodies
+pub mod InRange
+pub mod Zeros

@@ -1,13 +1,13 @@
-//! Cminor, the first language of the pipeline: statements and expressions over variables and globals. Each
-//! function has one spelling, and a program's run has C's bound.
+//! The Cminor program of a checked C program (Leroy 2009, section 3.1), which keeps its meaning; and the language that
+//! it is written in.
 #![tactic(auto)]
 
-mod copying;
-mod equal;
-mod function;
-mod language;
-mod reading;
-mod same;
+mod functions;
+mod globals;
+mod keeping;
+mod programs;
 
-pub use function::Function;
-pub use language::Cminor;
+pub use cminor_language::{Cminor, Function};
+pub use cminor_syntax::{Expression, Statement};
+pub use keeping::lowered_keeps;
+pub use programs::lower;

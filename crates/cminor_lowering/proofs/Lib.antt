@@ -1,3 +1,10 @@
-pub mod Bodies
-pub mod InRange
-pub mod Zeros
+pub mod Sees
+pub mod InitialWords
+pub mod Follows
+pub mod Given
+pub mod Statements
+pub mod Functions
+pub mod Levels
+pub mod Globals
+pub mod Programs
+pub mod Rows

@@ -1,4 +1,4 @@
-pub use Rattle.lowering.specs.Programs
-pub use Rattle.c_lengths.specs.Short
-pub use Rattle.program_data.specs.Seen
-pub use Rattle.lang.specs.Keeps
+pub mod Terms
+pub mod Actions
+pub mod Programs
+pub mod Short

@@ -1,8 +1,11 @@
-//! The Cminor program of a checked C program (Leroy 2009, section 3.1).
+//! The lowering of checked C programs to Cminor, as a definition on trees, and that it keeps their meaning. Which
+//! functions have no sequence so long that its length, one statement more counted, is out of 32 bits: what is
+//! lowered from such a function is in range.
 #![tactic(auto)]
 
-mod functions;
-mod globals;
-mod programs;
+mod law;
+mod short;
+mod words;
 
-pub use programs::lower;
+pub use law::lowered_keeps;
+pub use short::is_short_function;

@@ -3,12 +3,12 @@ use Rattle.std.proofs.Common.{◌≡◌, ℕ, List, [], length, refl, sym, subst
 use Rattle.std.specs.Prelude.{replicate}
 use Rattle.std.proofs.lemmas.List.{length-replicate}
 use Rattle.std.proofs.lemmas.List.Elements.{All-replicate}
-use Rattle.rtl.specs.declared.instruction.Instruction.{Instruction}
-use Rattle.rtl.specs.Function.{FunctionData}
+use Rattle.rtl_language.specs.declared.instruction.Instruction.{Instruction}
+use Rattle.rtl_language.specs.Function.{FunctionData}
 use Rattle.rtl_passes.proofs.Verdicts.{none_at}
-use Rattle.constprop_sound.specs.declared.fact.Fact.{Fact}
-use Rattle.constprop_sound.specs.Known.{written_by, value_by}
-use Rattle.constprop_sound.specs.Rules.{IsInOrder, AreKnown, LeadsTo, IsPropagated}
+use Rattle.constprop_check_rules.specs.declared.fact.Fact.{Fact}
+use Rattle.constprop_check_rules.specs.Known.{written_by, value_by}
+use Rattle.constprop_check_rules.specs.Rules.{IsInOrder, AreKnown, LeadsTo, IsPropagated}
 
 abbrev none : ℕ → List (List Fact)
 none nodes = replicate nodes []

@@ -2,9 +2,9 @@
 use Rattle.std.proofs.Common.{◌≡◌, ◌≢◌, ℕ, zero, suc, ◌+◌, ◌<◌, ◌≤◌, List, [], ◌∷◌, length, get_or, Option, Some, None, false, cond, eqb, refl, sym, ap, ◌∙◌, subst, arith, inl, inr}
 use Rattle.std.proofs.lemmas.Bool.{cases_eq, ne_eqb}
 use Rattle.std.proofs.lemmas.List.{get_or_default}
-use Rattle.constprop_sound.specs.declared.fact.Fact.{Fact}
-use Rattle.constprop_sound.specs.Known.{fact_at, known_behind, names}
-use Rattle.constprop_sound.specs.Rules.{RiseFrom}
+use Rattle.constprop_check_rules.specs.declared.fact.Fact.{Fact}
+use Rattle.constprop_check_rules.specs.Known.{fact_at, known_behind, names}
+use Rattle.constprop_check_rules.specs.Rules.{RiseFrom}
 
 -- no fact speaks of a register below
 none_below : (facts : List Fact) (lower r : ℕ) → RiseFrom lower facts → r < lower → fact_at facts r ≡ None

@@ -1,13 +1,13 @@
 -- The bytes of the facts: for each node their number and the facts, each a register and a word.
 use Rattle.std.proofs.Common.{ℕ, ◌<◌, ◌≤◌, ◌^◌, List, ◌++◌, length, refl, arith}
 use Rattle.std.specs.Int.{w16, w32, to_be_bytes}
-use Rattle.lang.specs.Reading.{Reading, number, below, both, made}
-use Rattle.lang.proofs.Forms.{IsForm}
-use Rattle.lang.proofs.Parts.{number16_form, number32_form, below_form, both_form, made_form}
-use Rattle.rtl.specs.Function.{FunctionData}
+use Rattle.lang_base.specs.Reading.{Reading, number, below, both, made}
+use Rattle.lang_base.proofs.Forms.{IsForm}
+use Rattle.lang_base.proofs.Parts.{number16_form, number32_form, below_form, both_form, made_form}
+use Rattle.rtl_language.specs.Function.{FunctionData}
 use Rattle.rtl_passes.specs.ListForm.{ListsFit, lists_text, lists, lists_form}
-use Rattle.constprop_sound.specs.declared.fact.Fact.{Fact}
-use Rattle.constprop_sound.specs.Rules.{FactFits}
+use Rattle.constprop_check_rules.specs.declared.fact.Fact.{Fact}
+use Rattle.constprop_check_rules.specs.Rules.{FactFits}
 
 abbrev pub fact_text : Fact → List ℕ
 fact_text fact = to_be_bytes w16 fact.register ++ to_be_bytes w32 fact.word

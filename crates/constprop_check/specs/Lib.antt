@@ -1,5 +1,5 @@
 pub mod FactForm
 pub mod PassLaws
-pub use Rattle.constprop_sound.specs.Known
-pub use Rattle.constprop_sound.specs.Rules
+pub use Rattle.constprop_check_rules.specs.Known
+pub use Rattle.constprop_check_rules.specs.Rules
 pub use Rattle.rtl_passes.specs.Faults

@@ -1,16 +1,16 @@
 -- The laws that the pass owes as one of the pipeline.
 use Rattle.std.proofs.Common.{◌≡◌, ℕ, List, ◌++◌, length, arith}
 use Rattle.std.proofs.lemmas.List.Elements.{recursion_from_All}
-use Rattle.lang.specs.Keeps.{Keeps}
-use Rattle.lang.specs.Programs.{ProgramOf}
-use Rattle.lang.specs.Soundness.{AllFit, Accepted}
-use Rattle.lang.proofs.Forms.{one_text}
-use Rattle.rtl.specs.Function.{FunctionData, IsFunction}
-use Rattle.rtl.specs.Meaning.{run}
+use Rattle.lang_base.specs.Keeps.{Keeps}
+use Rattle.lang_base.specs.Programs.{ProgramOf}
+use Rattle.lang_base.specs.Soundness.{AllFit, Accepted}
+use Rattle.lang_base.proofs.Forms.{one_text}
+use Rattle.rtl_language.specs.Function.{FunctionData, IsFunction}
+use Rattle.rtl_language.specs.Meaning.{run}
 use Rattle.rtl_passes.specs.ListForm.{ListFits}
-use Rattle.constprop_sound.specs.declared.fact.Fact.{Fact}
-use Rattle.constprop_sound.specs.Rules.{FactFits, IsInOrder, IsPropagated}
-use Rattle.constprop_sound.proofs.Sound.{sound}
+use Rattle.constprop_check_rules.specs.declared.fact.Fact.{Fact}
+use Rattle.constprop_check_rules.specs.Rules.{FactFits, IsInOrder, IsPropagated}
+use Rattle.constprop_check_rules.proofs.Sound.{sound}
 use Rattle.constprop_check.specs.FactForm.{CertFits, cert_text, facts_form}
 
 -- every function has a baseline

@@ -1,10 +1,10 @@
 ghost use Rattle.std.specs.Prelude.{◌≡◌, [], length, replicate, IfOk};
-ghost use Rattle.constprop_sound.specs.Rules.{IsPropagated};
+ghost use Rattle.constprop_check_rules.specs.Rules.{IsPropagated};
 
 use crate::lists::FactLists;
 use crate::owned::beside;
-use lang::{Language, NoMemory};
-use rtl::{Function, Rtl};
+use lang_base::{Language, NoMemory};
+use rtl_language::{Function, Rtl};
 use rtl_passes::empty_lists;
 use std::alloc::Global;
 

@@ -2,10 +2,10 @@
 //! one walk along both tells.
 
 ghost use Rattle.std.specs.Prelude.{◌≡◌, ◌↔◌, ◌≤◌, ℕ, Some, All, IsTrue};
-ghost use Rattle.constprop_sound.specs.Known.{fact_at, known_behind};
-ghost use Rattle.constprop_sound.specs.Rules.{RiseFrom, AreKnown};
+ghost use Rattle.constprop_check_rules.specs.Known.{fact_at, known_behind};
+ghost use Rattle.constprop_check_rules.specs.Rules.{RiseFrom, AreKnown};
 
-use constprop_sound::Fact;
+use constprop_check_rules::Fact;
 use rtl_parts::Register;
 
 /// The facts from this register on.

@@ -2,13 +2,13 @@
 
 ghost use Rattle.std.specs.Prelude.{◌≡◌, ◌<◌, ◌^◌, [], All, length};
 ghost use Rattle.std.specs.List.{flat_map};
-ghost use Rattle.lang.specs.Reading.{IsRead, Reads, items_of, more};
-ghost use Rattle.lang.specs.Texts.{Appends};
+ghost use Rattle.lang_base.specs.Reading.{IsRead, Reads, items_of, more};
+ghost use Rattle.lang_base.specs.Texts.{Appends};
 ghost use Rattle.rtl_passes.specs.ListForm.{list, lists, list_text};
 ghost use Rattle.constprop_check.specs.FactForm.{fact, fact_text, cert_text, IsShort};
 
-use constprop_sound::Fact;
-use lang::{FormError, NoMemory, Row, push_u16, push_u32, read_u16, read_u16_below, read_u32};
+use constprop_check_rules::Fact;
+use lang_base::{FormError, NoMemory, Row, push_u16, push_u32, read_u16, read_u16_below, read_u32};
 use std::alloc::Global;
 
 /// A fact of one of so many registers.

@@ -12,7 +12,7 @@ mod owned;
 mod pass;
 mod verdict;
 
-pub use constprop_sound::Fact;
+pub use constprop_check_rules::Fact;
 pub use lists::{FactLists, facts_of};
 pub use pass::ConstProp;
 pub use rtl_passes::Fault;

@@ -1,11 +1,11 @@
 //! Whether facts are one list in order for each node.
 
 ghost use Rattle.std.specs.Prelude.{◌≡◌, ◌↔◌, ◌<◌, ◌^◌, All, IsTrue, length};
-ghost use Rattle.constprop_sound.specs.Rules.{RiseFrom, FactFits, IsInOrder, HasShape, facts_at};
+ghost use Rattle.constprop_check_rules.specs.Rules.{RiseFrom, FactFits, IsInOrder, HasShape, facts_at};
 
-use constprop_sound::Fact;
-use lang::Row;
-use rtl::Function;
+use constprop_check_rules::Fact;
+use lang_base::Row;
+use rtl_language::Function;
 use rtl_passes::has_same_shape;
 
 /// The certificate: for each node the facts that hold there. Anybody may propose one, so nothing is

@@ -2,14 +2,14 @@
 
 ghost use Rattle.std.specs.Prelude.{◌≡◌, ◌↔◌, ◌<◌, ◌≤◌, ◌^◌, [], length, Some, All, IsTrue};
 ghost use Rattle.rtl_passes.specs.Faults.{TellsLowest};
-ghost use Rattle.constprop_sound.specs.Known.{folded};
-ghost use Rattle.constprop_sound.specs.Rules.{RiseFrom, facts_at, LeadsTo, LeadsOn, MayBecome, IsRightAs, IsRightIn};
+ghost use Rattle.constprop_check_rules.specs.Known.{folded};
+ghost use Rattle.constprop_check_rules.specs.Rules.{RiseFrom, facts_at, LeadsTo, LeadsOn, MayBecome, IsRightAs, IsRightIn};
 
 use crate::edges::are_known;
 use crate::lists::facts_of;
-use constprop_sound::{Fact, decision, fold, value, written};
-use lang::Row;
-use rtl::Instruction;
+use constprop_check_rules::{Fact, decision, fold, value, written};
+use lang_base::Row;
+use rtl_language::Instruction;
 use rtl_passes::is_same;
 
 /// Finds the lowest node that breaks a rule.

@@ -2,8 +2,8 @@ use crate::base::baseline;
 use crate::form::{push_lists, read_lists};
 use crate::lists::FactLists;
 use crate::verdict::check;
-use lang::{FormError, NoMemory, Pass, PassError, Row};
-use rtl::{Function, Rtl};
+use lang_base::{FormError, NoMemory, Pass, PassError, Row};
+use rtl_language::{Function, Rtl};
 use std::alloc::Global;
 
 /// Pass 1: constants are carried along the graph of a function.
@@ -11,7 +11,7 @@ pub struct ConstProp;
 
 impl Pass for ConstProp {
     ghost use Rattle.std.specs.Prelude.{◌≡◌, ◌≢◌, ◌≤◌, ℕ, List, ◌++◌, length, take, IsTrue, ◌↔◌, OnOk, OnErr, IfOk, IfErr};
-    ghost use Rattle.constprop_sound.specs.Rules.{IsPropagated};
+    ghost use Rattle.constprop_check_rules.specs.Rules.{IsPropagated};
     ghost use Rattle.constprop_check.specs.FactForm.{CertFits, cert_text};
     ghost use Rattle.constprop_check.specs.PassLaws.{propagated_fits, one_cert, sound_law, never};
 

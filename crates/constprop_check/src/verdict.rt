@@ -2,12 +2,12 @@
 
 ghost use Rattle.std.specs.Prelude.{◌↔◌, IsTrue, IfOk, length};
 ghost use Rattle.rtl_passes.specs.Faults.{TellsFault};
-ghost use Rattle.constprop_sound.specs.Rules.{HasShape, IsRightAt, IsPropagated};
+ghost use Rattle.constprop_check_rules.specs.Rules.{HasShape, IsRightAt, IsPropagated};
 
 use crate::lists::{FactLists, has_shape};
 use crate::nodes::lowest_wrong;
-use lang::NoMemory;
-use rtl::Function;
+use lang_base::NoMemory;
+use rtl_language::Function;
 use rtl_passes::Fault;
 use std::alloc::Global;
 

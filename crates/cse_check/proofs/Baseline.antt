@@ -3,11 +3,11 @@ use Rattle.std.proofs.Common.{◌≡◌, ℕ, List, [], length, refl, sym, subst
 use Rattle.std.specs.Prelude.{replicate, All}
 use Rattle.std.proofs.lemmas.List.{length-replicate}
 use Rattle.std.proofs.lemmas.List.Elements.{All-replicate}
-use Rattle.rtl.specs.declared.instruction.Instruction.{Instruction}
-use Rattle.rtl.specs.Function.{FunctionData}
+use Rattle.rtl_language.specs.declared.instruction.Instruction.{Instruction}
+use Rattle.rtl_language.specs.Function.{FunctionData}
 use Rattle.rtl_passes.proofs.Verdicts.{none_at}
-use Rattle.cse_sound.specs.declared.equation.Equation.{Equation}
-use Rattle.cse_sound.specs.Rules.{IsInOrder, IsKnown, LeadsTo, IsEliminated}
+use Rattle.cse_check_rules.specs.declared.equation.Equation.{Equation}
+use Rattle.cse_check_rules.specs.Rules.{IsInOrder, IsKnown, LeadsTo, IsEliminated}
 
 abbrev none : ℕ → List (List Equation)
 none nodes = replicate nodes []

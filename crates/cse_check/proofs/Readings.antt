@@ -1,9 +1,9 @@
 -- What is read at a node tells of the node.
 use Rattle.std.proofs.Common.{◌≡◌, ℕ, List, Some, subst}
 use Rattle.std.specs.Prelude.{slice_get}
-use Rattle.rtl.specs.declared.instruction.Instruction.{Instruction}
-use Rattle.cse_sound.specs.declared.equation.Equation.{Equation}
-use Rattle.cse_sound.specs.Rules.{IsRightAs, IsRightIn}
+use Rattle.rtl_language.specs.declared.instruction.Instruction.{Instruction}
+use Rattle.cse_check_rules.specs.declared.equation.Equation.{Equation}
+use Rattle.cse_check_rules.specs.Rules.{IsRightAs, IsRightIn}
 
 module _ (first : ℕ) (inputs outputs : List Instruction) (lists : List (List Equation)) (n : ℕ) (i o : Instruction) (is_input : slice_get inputs n ≡ Some i) (is_output : slice_get outputs n ≡ Some o) where
   pub right_read : IsRightAs first lists n i o → IsRightIn first inputs outputs lists n

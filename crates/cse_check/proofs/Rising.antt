@@ -4,12 +4,12 @@ use Rattle.std.specs.Prelude.{◌↔◌, All, Contains}
 use Rattle.std.proofs.lemmas.Bool.{cases_eq}
 use Rattle.std.proofs.lemmas.List.{get_or_default}
 use Rattle.std.proofs.lemmas.List.Elements.{recursion_from_All}
-use Rattle.rtl.specs.declared.instruction.Instruction.{Instruction}
-use Rattle.cse_sound.specs.declared.equation.Equation.{Equation}
-use Rattle.cse_sound.specs.Order.{rank}
-use Rattle.cse_sound.specs.Rules.{EquationFits, IsInOrder, IsKnown}
-use Rattle.cse_form.specs.Ranks.{RiseFrom}
-use Rattle.cse_form.proofs.Order.{rise_ranks}
+use Rattle.rtl_language.specs.declared.instruction.Instruction.{Instruction}
+use Rattle.cse_check_rules.specs.declared.equation.Equation.{Equation}
+use Rattle.cse_check_rules.specs.Order.{rank}
+use Rattle.cse_check_rules.specs.Rules.{EquationFits, IsInOrder, IsKnown}
+use Rattle.cse_check_codec.specs.Ranks.{RiseFrom}
+use Rattle.cse_check_codec.proofs.Order.{rise_ranks}
 
 -- lists in order rise by their ranks
 pub in_order_rises : (registers : ℕ) → registers ≤ 2 ^ 16 → (equations : List Equation) → IsInOrder registers equations → RiseFrom 0 equations

@@ -1,18 +1,18 @@
 -- The laws that the pass owes as one of the pipeline.
 use Rattle.std.proofs.Common.{◌≡◌, ℕ, List, ◌++◌, length, arith}
 use Rattle.std.proofs.lemmas.List.Elements.{recursion_from_All}
-use Rattle.lang.specs.Keeps.{Keeps}
-use Rattle.lang.specs.Programs.{ProgramOf}
-use Rattle.lang.specs.Soundness.{AllFit, Accepted}
-use Rattle.lang.proofs.Forms.{one_text}
-use Rattle.rtl.specs.Function.{FunctionData, IsFunction}
-use Rattle.rtl.specs.Meaning.{run}
+use Rattle.lang_base.specs.Keeps.{Keeps}
+use Rattle.lang_base.specs.Programs.{ProgramOf}
+use Rattle.lang_base.specs.Soundness.{AllFit, Accepted}
+use Rattle.lang_base.proofs.Forms.{one_text}
+use Rattle.rtl_language.specs.Function.{FunctionData, IsFunction}
+use Rattle.rtl_language.specs.Meaning.{run}
 use Rattle.rtl_passes.specs.ListForm.{ListFits}
-use Rattle.cse_sound.specs.declared.equation.Equation.{Equation}
-use Rattle.cse_sound.specs.Rules.{EquationFits, IsInOrder, IsEliminated}
-use Rattle.cse_sound.proofs.Sound.{sound}
-use Rattle.cse_form.specs.Text.{CertFits, cert_text}
-use Rattle.cse_form.proofs.Forms.{equations_form}
+use Rattle.cse_check_rules.specs.declared.equation.Equation.{Equation}
+use Rattle.cse_check_rules.specs.Rules.{EquationFits, IsInOrder, IsEliminated}
+use Rattle.cse_check_rules.proofs.Sound.{sound}
+use Rattle.cse_check_codec.specs.Text.{CertFits, cert_text}
+use Rattle.cse_check_codec.proofs.Forms.{equations_form}
 
 -- every function has a baseline
 abbrev pub never : FunctionData → Type 0

@@ -2,10 +2,10 @@
 use Rattle.std.specs.Prelude.{◌≡◌, ℕ, List, Option, Some, None, Contains}
 use Rattle.rtl_parts.specs.declared.act.Act.{Act}
 use Rattle.rtl_parts.specs.declared.act.Act.TheVariants.{Move}
-use Rattle.rtl.specs.declared.instruction.Instruction.{Instruction}
-use Rattle.rtl.specs.declared.instruction.Instruction.TheVariants.{Do}
-use Rattle.cse_sound.specs.declared.equation.Equation.{Equation}
-use Rattle.cse_sound.specs.Equations.{shared}
+use Rattle.rtl_language.specs.declared.instruction.Instruction.{Instruction}
+use Rattle.rtl_language.specs.declared.instruction.Instruction.TheVariants.{Do}
+use Rattle.cse_check_rules.specs.declared.equation.Equation.{Equation}
+use Rattle.cse_check_rules.specs.Equations.{shared}
 
 -- the register that a move is from
 abbrev pub act_source_of : Act → Option ℕ

@@ -1,9 +1,9 @@
 ghost use Rattle.std.specs.Prelude.{◌≡◌, [], length, replicate, IfOk};
-ghost use Rattle.cse_sound.specs.Rules.{IsEliminated};
+ghost use Rattle.cse_check_rules.specs.Rules.{IsEliminated};
 
 use crate::lists::EquationLists;
-use lang::{Language, NoMemory};
-use rtl::{Function, Rtl};
+use lang_base::{Language, NoMemory};
+use rtl_language::{Function, Rtl};
 use rtl_passes::empty_lists;
 use std::alloc::Global;
 

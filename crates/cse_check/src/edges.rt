@@ -2,14 +2,14 @@
 //! so one walk along both tells.
 
 ghost use Rattle.std.specs.Prelude.{◌≡◌, ◌↔◌, Some, All, IsTrue};
-ghost use Rattle.cse_sound.specs.Equations.{equation_by};
-ghost use Rattle.cse_sound.specs.Order.{rank as rank_of};
-ghost use Rattle.cse_sound.specs.Rules.{IsKnown};
-ghost use Rattle.cse_form.specs.Ranks.{RiseFrom};
+ghost use Rattle.cse_check_rules.specs.Equations.{equation_by};
+ghost use Rattle.cse_check_rules.specs.Order.{rank as rank_of};
+ghost use Rattle.cse_check_rules.specs.Rules.{IsKnown};
+ghost use Rattle.cse_check_codec.specs.Ranks.{RiseFrom};
 
 use crate::walk::{begin_with, from_rank};
-use cse_sound::{Equation, is_same, kills, made, rank};
-use rtl::Instruction;
+use cse_check_rules::{Equation, is_same, kills, made, rank};
+use rtl_language::Instruction;
 
 fn is_made(instruction: &Instruction, equation: Equation) -> bool
     ensures { IsTrue result ↔ (equation_by instruction.now ≡ Some equation) }

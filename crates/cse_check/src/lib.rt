@@ -12,7 +12,7 @@ mod pass;
 mod verdict;
 mod walk;
 
-pub use cse_sound::{Equation, RightSide};
+pub use cse_check_rules::{Equation, RightSide};
 pub use lists::{EquationLists, equations_of};
 pub use pass::Cse;
 pub use rtl_passes::Fault;

@@ -2,12 +2,12 @@
 
 ghost use Rattle.std.specs.Prelude.{◌≡◌, ◌↔◌, ◌<◌, ◌^◌, All, IsTrue, length};
 ghost use Rattle.rtl_parts.specs.Fits.{ArgumentsFit};
-ghost use Rattle.cse_sound.specs.Rules.{RightFits, EquationFits, IsInOrder, HasShape, equations_at};
-ghost use Rattle.cse_form.specs.Ranks.{RiseFrom};
+ghost use Rattle.cse_check_rules.specs.Rules.{RightFits, EquationFits, IsInOrder, HasShape, equations_at};
+ghost use Rattle.cse_check_codec.specs.Ranks.{RiseFrom};
 
-use cse_sound::{Equation, RightSide, rank};
-use lang::Row;
-use rtl::Function;
+use cse_check_rules::{Equation, RightSide, rank};
+use lang_base::Row;
+use rtl_language::Function;
 use rtl_parts::Arguments;
 use rtl_passes::has_same_shape;
 

@@ -1,13 +1,13 @@
 //! Whether the output is a move that the equations allow.
 
 ghost use Rattle.std.specs.Prelude.{◌≡◌, ◌↔◌, IsTrue};
-ghost use Rattle.cse_sound.specs.Rules.{IsShared};
-ghost use Rattle.cse_form.specs.Ranks.{RiseFrom};
+ghost use Rattle.cse_check_rules.specs.Rules.{IsShared};
+ghost use Rattle.cse_check_codec.specs.Ranks.{RiseFrom};
 ghost use Rattle.cse_check.specs.Sources.{act_source_of, source_of, IsSharedFrom};
 
 use crate::walk::is_among;
-use cse_sound::{Equation, share};
-use rtl::Instruction;
+use cse_check_rules::{Equation, share};
+use rtl_language::Instruction;
 use rtl_parts::{Act, Register};
 use rtl_passes::is_same;
 

@@ -2,15 +2,15 @@
 
 ghost use Rattle.std.specs.Prelude.{◌≡◌, ◌↔◌, ◌<◌, ◌≤◌, ◌^◌, [], length, Some, All, IsTrue};
 ghost use Rattle.rtl_passes.specs.Faults.{TellsLowest};
-ghost use Rattle.cse_sound.specs.Rules.{equations_at, LeadsTo, LeadsOn, MayBecome, IsRightAs, IsRightIn};
-ghost use Rattle.cse_form.specs.Ranks.{RiseFrom};
+ghost use Rattle.cse_check_rules.specs.Rules.{equations_at, LeadsTo, LeadsOn, MayBecome, IsRightAs, IsRightIn};
+ghost use Rattle.cse_check_codec.specs.Ranks.{RiseFrom};
 
 use crate::edges::are_known;
 use crate::lists::equations_of;
 use crate::moves::is_shared;
-use cse_sound::Equation;
-use lang::Row;
-use rtl::Instruction;
+use cse_check_rules::Equation;
+use lang_base::Row;
+use rtl_language::Instruction;
 use rtl_passes::is_same;
 
 /// Finds the lowest node that breaks a rule.

@@ -1,9 +1,9 @@
 use crate::base::baseline;
 use crate::lists::EquationLists;
 use crate::verdict::check;
-use cse_form::{push_lists, read_lists};
-use lang::{FormError, NoMemory, Pass, PassError, Row};
-use rtl::{Function, Rtl};
+use cse_check_codec::{push_lists, read_lists};
+use lang_base::{FormError, NoMemory, Pass, PassError, Row};
+use rtl_language::{Function, Rtl};
 use std::alloc::Global;
 
 /// Pass 2: what a register holds already is not computed or loaded again.
@@ -11,8 +11,8 @@ pub struct Cse;
 
 impl Pass for Cse {
     ghost use Rattle.std.specs.Prelude.{◌≡◌, ◌≢◌, ◌≤◌, ℕ, List, ◌++◌, length, take, IsTrue, ◌↔◌, OnOk, OnErr, IfOk, IfErr};
-    ghost use Rattle.cse_sound.specs.Rules.{IsEliminated};
-    ghost use Rattle.cse_form.specs.Text.{CertFits, cert_text};
+    ghost use Rattle.cse_check_rules.specs.Rules.{IsEliminated};
+    ghost use Rattle.cse_check_codec.specs.Text.{CertFits, cert_text};
     ghost use Rattle.cse_check.specs.PassLaws.{eliminated_fits, one_cert, sound_law, never};
 
     type In = Rtl;

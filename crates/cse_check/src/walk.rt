@@ -1,11 +1,11 @@
 //! Whether an equation is among others that are in order.
 
 ghost use Rattle.std.specs.Prelude.{◌↔◌, ◌≤◌, IsTrue, Contains};
-ghost use Rattle.cse_sound.specs.declared.equation.Equation.{Equation};
-ghost use Rattle.cse_sound.specs.Order.{rank as rank_of};
-ghost use Rattle.cse_form.specs.Ranks.{RiseFrom};
+ghost use Rattle.cse_check_rules.specs.declared.equation.Equation.{Equation};
+ghost use Rattle.cse_check_rules.specs.Order.{rank as rank_of};
+ghost use Rattle.cse_check_codec.specs.Ranks.{RiseFrom};
 
-use cse_sound::{Equation, is_same, rank};
+use cse_check_rules::{Equation, is_same, rank};
 
 /// The equations from this rank on.
 pub(crate) fn from_rank(equations: &[Equation], least: u64) -> &[Equation]

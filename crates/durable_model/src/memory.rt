@@ -8,7 +8,7 @@ use crate::disk::Disk;
 use crate::error::{DiskError, failed};
 use crate::overwriting::overwrite;
 use crate::replaying::torn_image;
-use lang::NoMemory;
+use lang_base::NoMemory;
 use rand_pcg::Pcg32;
 use std::alloc::Global;
 

@@ -7,7 +7,7 @@ ghost use Rattle.durable_model.specs.declared.call.Call.{Call};
 use crate::call::Call;
 use crate::overwriting::overwrite;
 use crate::tearing::{garble, tear};
-use lang::NoMemory;
+use lang_base::NoMemory;
 use rand_pcg::Pcg32;
 use std::alloc::{AllocError, Global};
 

@@ -1,7 +1,5 @@
-pub mod Beginnings
-pub mod Composition
+pub mod NameTests
 pub mod Forms
-pub mod Parts
-pub mod Lists
-pub mod Loops
-pub mod Simulation
+pub mod NamedRows
+pub mod Texts
+pub mod Whole

@@ -1,8 +1,9 @@
-pub mod Numbers
-pub mod Behaviour
-pub mod Keeps
-pub mod Machine
-pub mod Programs
-pub mod Soundness
+pub mod Form
+pub mod Seen
+pub mod Fronts
+pub mod Shorts
 pub mod Reading
-pub mod Texts
+pub use Rattle.lang_base.specs.Programs
+pub use Rattle.lang_base.specs.Behaviour
+pub use Rattle.lang_base.specs.Keeps
+pub use Rattle.lang_base.specs.Soundness

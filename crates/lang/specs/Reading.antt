@@ -1,119 +1,44 @@
--- Reading a form from its first byte on: a value and the bytes behind it, or the first fault in the
--- order of the bytes. And the parts that forms are made of.
-use Rattle.std.specs.Prelude.{◌≡◌, ◌≢◌, ℕ, zero, suc, Bool, List, [], ◌∷◌, ◌++◌, length, take, drop, Option, Some, None, Result, Ok, Err, nat_lt, nat_le, ◌==◌, if◌then◌else◌}
-use Rattle.std.specs.Global.{Vec}
-use Rattle.std.specs.Option.{ok_or}
-use Rattle.std.specs.Int.{Width, byte_len, from_be_bytes}
-use Rattle.lang.specs.declared.errors.FormError.{FormError}
-use Rattle.lang.specs.declared.errors.FormError.TheVariants.{NoMemory, Short, BadTag, NotCanonical, TooLarge}
+-- How the parts of a program are read, up to its functions.
+use Rattle.std.specs.Prelude.{ℕ, ◌+◌, Bool, not, ◌&&◌, List, length, nat_eq, nat_le}
+use Rattle.std.specs.Int.{w16, w32}
+use Rattle.std.specs.List.{list_all}
+use Rattle.std.specs.Option.{is_none}
+use Rattle.lang_base.specs.declared.errors.FormError.TheVariants.{NotCanonical, TooLarge}
+use Rattle.lang_base.specs.Reading.{Reading, byte, number, made, tested, below, up_to, both, counted, tagged}
+use Rattle.lang_base.specs.Programs.{GlobalData}
+use Rattle.c_lexer_spellings.specs.Bytes.{is_word_byte, begins_with_digit}
+use Rattle.c_lexer_spellings.specs.Lookups.{keyword_of}
+use Rattle.lang.specs.Form.{global_limit, cell_limit, function_limit, ends_well, cells_of_all}
 
-abbrev pub Reading : Type 0 → Type 0
-Reading A = List ℕ → Result (A × List ℕ) FormError
+-- letters, digits and underscores, one or more
+abbrev pub is_word : List ℕ → Bool
+is_word bytes = not (nat_eq (length bytes) 0) && list_all is_word_byte bytes
 
-infixl 10 ◌>>=◌
-abbrev pub ◌>>=◌ : {A B : Type 0} → Result A FormError → (A → Result B FormError) → Result B FormError
-(Ok x) >>= f = f x
-(Err e) >>= f = Err e
+-- the test for a name: no digit first, and no keyword
+abbrev pub is_name : List ℕ → Bool
+is_name bytes = (is_word bytes && not (begins_with_digit bytes)) && is_none (keyword_of bytes)
 
--- What a reader returned, and the bytes that are left, are what was to be read.
-abbrev pub IsRead : {A : Type 0} → Result (A × List ℕ) FormError → Result A FormError → List ℕ → Type 0
-IsRead read (Ok x) rest = read ≡ Ok (x, rest)
-IsRead read (Err e) rest = read ≡ Err e
+unfoldable pub name : Reading (List ℕ)
+name bytes = tested is_name NotCanonical (counted byte (λ before. byte)) bytes
 
--- The same, unless memory ran out.
-abbrev pub Reads : {A : Type 0} → Result (A × List ℕ) FormError → Result A FormError → List ℕ → Type 0
-Reads read (Ok x) rest = read ≡ Ok (x, rest)
-Reads read (Err e) rest = e ≢ NoMemory → read ≡ Err e
+-- the number of a global's cells, behind globals of so many
+unfoldable pub cells : ℕ → Reading ℕ
+cells total bytes = tested (λ n. nat_le (total + n) cell_limit) TooLarge (tested (λ n. not (nat_eq n 0)) NotCanonical (number w32)) bytes
 
--- a vector, as the list of its items
-abbrev pub items_of : {A : Type 0} → Result (Vec A) FormError → Result (List A) FormError
-items_of (Ok v) = Ok v.items
-items_of (Err e) = Err e
+-- the listed words, no more than there are cells
+unfoldable pub words : ℕ → Reading (List ℕ)
+words cells bytes = tested ends_well NotCanonical (counted (below (cells + 1) (number w32)) (λ before. number w32)) bytes
 
--- a byte
-abbrev pub byte : Reading ℕ
-byte [] = Err Short
-byte (b ∷ rest) = Ok (b, rest)
+unfoldable pub global : ℕ → Reading GlobalData
+global total bytes = made (λ p. record { cells = p.0; first_words = p.1 }) (both (cells total) (λ n. words n)) bytes
 
--- a number of a width, its highest byte first
-abbrev pub number : Width → Reading ℕ
-number w bytes = if nat_lt (length bytes) (byte_len w) then Err Short else Ok (from_be_bytes w (take (byte_len w) bytes), drop (byte_len w) bytes)
+unfoldable pub globals : Reading (List GlobalData)
+globals bytes = counted (up_to global_limit (number w16)) (λ before. global (cells_of_all before)) bytes
 
--- a part, and what is made of it where it is not refused
-abbrev pub checked : {A B : Type 0} → (A → Result B FormError) → Reading A → Reading B
-checked check part bytes = do
-  x ← part bytes
-  y ← check x.0
-  Ok (y, x.1)
+-- the globals, and the number of functions
+unfoldable pub body : Reading (List GlobalData × ℕ)
+body bytes = both globals (λ gs. up_to function_limit byte) bytes
 
--- a part made into another value
-abbrev pub made : {A B : Type 0} → (A → B) → Reading A → Reading B
-made make part bytes = checked (λ x. Ok (make x)) part bytes
-
--- a part that passes a test; where it does not, this fault
-abbrev pub tested : {A : Type 0} → (A → Bool) → FormError → Reading A → Reading A
-tested test fault part bytes = checked (λ x. if test x then Ok x else Err fault) part bytes
-
--- a part that stands for another value, or for none
-abbrev pub decoded : {A B : Type 0} → (A → Option B) → Reading A → Reading B
-decoded decode part bytes = checked (λ x. ok_or (decode x) NotCanonical) part bytes
-
--- a number below a bound
-abbrev pub below : ℕ → Reading ℕ → Reading ℕ
-below bound part bytes = tested (λ n. nat_lt n bound) NotCanonical part bytes
-
--- a count up to a limit
-abbrev pub up_to : ℕ → Reading ℕ → Reading ℕ
-up_to limit part bytes = tested (λ n. nat_le n limit) TooLarge part bytes
-
--- one part, and behind it another that depends on it
-abbrev pub both : {A B : Type 0} → Reading A → (A → Reading B) → Reading (A × B)
-both first second bytes = do
-  x ← first bytes
-  y ← second x.0 x.1
-  Ok ((x.0, y.0), y.1)
-
--- Behind those before, so many more of a kind; each may depend on those that it stands behind.
-abbrev pub more : {A : Type 0} → (List A → Reading A) → List A → ℕ → Reading (List A)
-more part before zero bytes = Ok (before, bytes)
-more part before (suc n) bytes = do
-  x ← part before bytes
-  more part (before ++ x.0 ∷ []) n x.1
-
--- a count, and so many of a kind
-abbrev pub counted : {A : Type 0} → Reading ℕ → (List A → Reading A) → Reading (List A)
-counted count part bytes = do
-  n ← count bytes
-  more part [] n.0 n.1
-
--- what follows each code
-abbrev pub Table : Type 0 → Type 0
-Table A = List (ℕ × Reading A)
-
--- what follows a code: its row in the table, or what is read behind other codes
-abbrev pub follow : {A : Type 0} → Table A → (ℕ → Reading A) → ℕ → Reading A
-follow [] other code bytes = other code bytes
-follow (row ∷ rows) other code bytes = if row.0 == code then row.1 bytes else follow rows other code bytes
-
--- no other code is known
-abbrev pub unknown : {A : Type 0} → ℕ → Reading A
-unknown code bytes = Err NotCanonical
-
--- a code, and what follows it
-abbrev pub coded : {A : Type 0} → (ℕ → Reading A) → Reading A
-coded behind bytes = do
-  code ← byte bytes
-  behind code.0 code.1
-
--- nothing behind 0, or a part behind 1; another flag is no form
-abbrev pub nothing : {A : Type 0} → Reading (Option A)
-nothing bytes = Ok (None, bytes)
-
-abbrev pub optional : {A : Type 0} → Reading A → Reading (Option A)
-optional part bytes = coded (follow ((0, nothing) ∷ (1, made (λ x. Some x) part) ∷ []) unknown) bytes
-
--- the tag of a language, and a form behind it
-abbrev pub tagged : {A : Type 0} → ℕ → Reading A → Reading A
-tagged tag form bytes = do
-  b ← byte bytes
-  if b.0 == tag then form b.1 else Err BadTag
+-- `CFP1`, the language's tag, and what stands behind them
+unfoldable pub head : ℕ → Reading (List GlobalData × ℕ)
+head tag bytes = tagged 67 (tagged 70 (tagged 80 (tagged 49 (tagged tag body)))) bytes

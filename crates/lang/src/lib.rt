@@ -1,26 +1,20 @@
-//! What every language and every pass of the farm is stated in: programs and what their runs show,
-//! languages with one spelling for each function, passes whose checks are sound, and what it means
-//! that one program keeps the meaning of another.
+//! The written form of whole programs, over any language: the globals, and the functions by name.
+//! Each program has one spelling; reading and writing are exact.
 #![tactic(auto)]
 
-mod errors;
-mod keeping;
-mod language;
-mod oracle;
-mod pass;
-mod program;
-mod reading;
-mod row;
-mod shown;
+mod functions;
+mod globals;
+mod head;
+mod laws;
+mod names;
+mod programs;
 mod writing;
 
-pub use errors::{FormError, NoMemory, PassError};
-pub use keeping::{keeps_all, keeps_composes};
-pub use language::Language;
-pub use oracle::Oracle;
-pub use pass::Pass;
-pub use program::{Global, Named, Program};
-pub use reading::{read_byte, read_count, read_u16, read_u16_below, read_u32};
-pub use row::Row;
-pub use shown::Shown;
-pub use writing::{push_byte, push_u16, push_u32};
+pub use lang_base::{
+    FormError, Global, Language, Named, NoMemory, Oracle, Pass, PassError, Program, Row, Shown,
+    keeps_all, keeps_composes,
+};
+pub use lang_programs::RunError;
+pub use laws::one_program;
+pub use names::is_name;
+pub use programs::{read_program, write_program};

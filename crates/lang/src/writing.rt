@@ -1,31 +1,99 @@
-//! Writers of numbers, which every form's writer calls.
+//! Writers of the parts of a program: each appends the text.
 
-ghost use Rattle.std.specs.Prelude.{[], ◌∷◌};
-ghost use Rattle.std.specs.Int.{w16, w32, to_be_bytes};
-ghost use Rattle.lang.specs.Texts.{Appends};
+ghost use Rattle.std.specs.Prelude.{◌≤◌, length, All};
+ghost use Rattle.std.specs.List.{flat_map};
+ghost use Rattle.std.specs.Int.{w32, to_be_bytes};
+ghost use Rattle.lang_base.specs.Texts.{Appends};
+ghost use Rattle.lang.specs.Form.{name_text, named_text, global_text};
+ghost use Rattle.lang_programs.specs.Seen.{global_seen, named_seen};
+ghost use Rattle.lang.specs.Shorts.{IsShortNamed, IsShortGlobal, globals_written, head_written, functions_written};
 
-use crate::errors::NoMemory;
+use lang_base::{Language, Named, NoMemory, push_byte, push_u16, push_u32};
 
-/// Writes a byte.
-pub fn push_byte(out: &mut Vec<u8>, byte: u8) -> Result<(), NoMemory>
-    ensures { Appends result (byte ∷ []) out.old.items out.new.items }
+fn push_each_word(out: &mut Vec<u8>, words: &[u32]) -> Result<(), NoMemory>
+    ensures { Appends result (flat_map (to_be_bytes w32) words.now) out.old.items out.new.items }
 {
-    out.push(byte)?;
+    for word in words {
+        push_u32(out, *word)?;
+    }
     Ok(())
 }
 
-/// Writes a number in two bytes.
-pub fn push_u16(out: &mut Vec<u8>, number: u16) -> Result<(), NoMemory>
-    ensures { Appends result (to_be_bytes w16 number) out.old.items out.new.items }
+fn push_global(out: &mut Vec<u8>, global: &lang_base::Global) -> Result<(), NoMemory>
+    requires { IsShortGlobal global.now }
+    ensures { Appends result (global_text (global_seen global.now)) out.old.items out.new.items }
 {
-    out.extend_from_slice(&number.to_be_bytes())?;
+    push_u32(out, global.cells)?;
+    push_u32(out, global.first_words.len() as u32)?;
+    push_each_word(out, &global.first_words)
+}
+
+fn push_each_global(out: &mut Vec<u8>, globals: &[lang_base::Global]) -> Result<(), NoMemory>
+    requires { All IsShortGlobal globals.now }
+    ensures { Appends result (flat_map (λ g. global_text (global_seen g)) globals.now) out.old.items out.new.items }
+{
+    for global in globals {
+        push_global(out, global)?;
+    }
     Ok(())
 }
 
-/// Writes a number in four bytes.
-pub fn push_u32(out: &mut Vec<u8>, number: u32) -> Result<(), NoMemory>
-    ensures { Appends result (to_be_bytes w32 number) out.old.items out.new.items }
+fn push_globals(out: &mut Vec<u8>, globals: &[lang_base::Global]) -> Result<(), NoMemory>
+    requires few { length globals.now ≤ 1024 }
+    requires short { All IsShortGlobal globals.now }
+    ensures { Appends result (globals_written globals.now) out.old.items out.new.items }
 {
-    out.extend_from_slice(&number.to_be_bytes())?;
+    push_u16(out, globals.len() as u16)?;
+    push_each_global(out, globals)
+}
+
+/// What stands before the functions.
+pub fn push_head(
+    out: &mut Vec<u8>,
+    tag: u8,
+    globals: &[lang_base::Global],
+    count: u8,
+) -> Result<(), NoMemory>
+    requires few { length globals.now ≤ 1024 }
+    requires short { All IsShortGlobal globals.now }
+    ensures { Appends result (head_written tag globals.now count) out.old.items out.new.items }
+{
+    push_byte(out, b'C')?;
+    push_byte(out, b'F')?;
+    push_byte(out, b'P')?;
+    push_byte(out, b'1')?;
+    push_byte(out, tag)?;
+    push_globals(out, globals)?;
+    push_byte(out, count)
+}
+
+fn push_name(out: &mut Vec<u8>, name: &[u8]) -> Result<(), NoMemory>
+    requires { length name.now ≤ 255 }
+    ensures { Appends result (name_text name.now) out.old.items out.new.items }
+{
+    push_byte(out, name.len() as u8)?;
+    out.extend_from_slice(name)?;
+    Ok(())
+}
+
+fn push_named<L: Language>(out: &mut Vec<u8>, named: &Named<L::Fun>) -> Result<(), NoMemory>
+    requires { IsShortNamed named.now }
+    ensures { Appends result (named_text L.spelling (named_seen named.now)) out.old.items out.new.items }
+{
+    push_name(out, &named.name)?;
+    L::write(&named.function, out)
+}
+
+/// Functions and their names.
+pub fn push_functions<L: Language>(
+    out: &mut Vec<u8>,
+    functions: &[Named<L::Fun>],
+) -> Result<(), NoMemory>
+    requires { All IsShortNamed functions.now }
+    ensures { Appends result (functions_written L.spelling functions.now) out.old.items out.new.items }
+{
+    for function in functions {
+        push_named::<L>(out, function)?;
+    }
     Ok(())
 }

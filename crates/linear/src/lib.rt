@@ -1,16 +1,20 @@
-//! Linear, the last language of the pipeline: a list of instructions with labels. Each function has
-//! one spelling, and a program's run is counted in instructions, labels among them.
+//! The run of a program of Linear: exactly what the program shows at a bound, in instructions, labels among
+//! them, written byte by byte. Callers wait on the heap, so a deep recursion takes memory and no stack. Its
+//! speed is not promised.
 #![tactic(auto)]
 
-mod copying;
-mod equal;
-mod function;
-mod instruction;
-mod labels;
-mod language;
-mod reading;
-mod writing;
+mod calls;
+mod functions;
+mod leaving;
+mod pieces;
+mod preparing;
+mod returns;
+mod running;
+mod starting;
+mod state;
+mod turn;
 
-pub use function::Function;
-pub use instruction::Instruction;
-pub use language::Linear;
+pub use lang_programs::RunError;
+pub use linear_language::{Function, Instruction, Linear};
+pub use machine::{Act, Arguments, Location, Move, Register, Test};
+pub use running::run;

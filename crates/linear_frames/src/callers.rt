@@ -3,7 +3,7 @@
 ghost use Rattle.std.specs.Prelude.{◌≡◌, List, [], ◌∷◌, MatchOption, OnOk};
 ghost use Rattle.linear_frames.specs.Callers.{frame_of};
 
-use lang::NoMemory;
+use lang_base::NoMemory;
 use machine::Location;
 use std::alloc::Global;
 use std::marker::Model;

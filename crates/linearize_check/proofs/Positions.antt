@@ -3,10 +3,10 @@ use Rattle.std.proofs.Common.{◌≡◌, ℕ, zero, suc, ◌+◌, ◌<◌, ◌�
 use Rattle.std.specs.Prelude.{slice_get, slice_index}
 use Rattle.std.proofs.lemmas.List.{length-append, drop_more, drop-drop, drop_at, nil_from_length}
 use Rattle.ltl.specs.declared.block.Block.{Block}
-use Rattle.linear.specs.declared.instruction.Instruction.{Instruction}
-use Rattle.linearize_sound.specs.Layout.{stretch, order_code}
+use Rattle.linear_language.specs.declared.instruction.Instruction.{Instruction}
+use Rattle.linearize_check_proof.specs.Layout.{stretch, order_code}
 use Rattle.linearize_check.specs.Faults.{first_stretch, place_at, BeginsWith, StandsAt}
-use Rattle.linearize_layout.proofs.Stretches.{stretch-append}
+use Rattle.linearize_check_layout.proofs.Stretches.{stretch-append}
 
 pub first_stretch-drop : (blocks : List Block) (order : List ℕ) (i : ℕ) → i < length order → first_stretch blocks (drop i order) ≡ stretch (slice_index order i) (slice_get blocks (slice_index order i)) (drop (i + 1) order) []
 first_stretch-drop blocks order i below = ap (first_stretch blocks) (drop_more order i 0 below)

@@ -8,13 +8,13 @@ use Rattle.std.proofs.lemmas.List.Elements.{All-from_get_or, recursion_from_All,
 use Rattle.machine.specs.Fits.{AreDistinct}
 use Rattle.ltl.specs.declared.block.Block.{Block}
 use Rattle.ltl.specs.Function as ltl
-use Rattle.linear.specs.Function as linear
+use Rattle.linear_language.specs.Function as linear
 use Rattle.linearize_check.specs.declared.order.Fault.{Fault}
 use Rattle.linearize_check.specs.declared.order.Fault.TheVariants.{Shape, Node}
-use Rattle.linearize_sound.specs.Layout.{successors_of}
-use Rattle.linearize_sound.specs.Orders.{ListsNodes, IsOrder}
-use Rattle.linearize_sound.specs.Rules.{IsLaidOut, laid_out}
-use Rattle.linearize_sound.proofs.Places.{Contains-later}
+use Rattle.linearize_check_proof.specs.Layout.{successors_of}
+use Rattle.linearize_check_proof.specs.Orders.{ListsNodes, IsOrder}
+use Rattle.linearize_check_proof.specs.Rules.{IsLaidOut, laid_out}
+use Rattle.linearize_check_proof.proofs.Places.{Contains-later}
 use Rattle.linearize_check.specs.Faults.{HasShape, IsFreshAt, IsClosedAt, StandsAt, IsRightAt, TellsLowest, lesser, TellsFault}
 use Rattle.linearize_check.proofs.Lowest.{lowest-same, lowest-both}
 use Rattle.linearize_check.proofs.Positions.{code-from_stands, code-stands}

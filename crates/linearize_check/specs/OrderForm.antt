@@ -3,11 +3,11 @@ use Rattle.std.proofs.Common.{ℕ, ◌<◌, ◌≤◌, ◌^◌, List, [], length
 use Rattle.std.specs.Int.{w16, to_be_bytes}
 use Rattle.std.specs.List.{AllByRecursion}
 use Rattle.ltl.specs.Function as ltl
-use Rattle.lang.specs.Reading.{Reading, number, below, counted}
-use Rattle.lang.specs.Texts.{counted_text}
-use Rattle.lang.proofs.Forms.{IsForm}
-use Rattle.lang.proofs.Parts.{number16_form, below_form, fits_form}
-use Rattle.lang.proofs.Lists.{counted_form, each_fits, fits_each}
+use Rattle.lang_base.specs.Reading.{Reading, number, below, counted}
+use Rattle.lang_base.specs.Texts.{counted_text}
+use Rattle.lang_base.proofs.Forms.{IsForm}
+use Rattle.lang_base.proofs.Parts.{number16_form, below_form, fits_form}
+use Rattle.lang_base.proofs.Lists.{counted_form, each_fits, fits_each}
 
 -- an order that can be written: not too long, each number one of so many nodes
 pub record OrderFits (nodes : ℕ) (order : List ℕ) : Type 0 where

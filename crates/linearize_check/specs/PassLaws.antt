@@ -1,17 +1,17 @@
 -- The laws that the pass owes as one of the pipeline.
 use Rattle.std.proofs.Common.{◌≡◌, ℕ, ◌<◌, ◌≤◌, ◌^◌, List, ◌++◌, length, arith}
 use Rattle.std.proofs.lemmas.List.Elements.{recursion_from_All}
-use Rattle.lang.specs.Keeps.{Keeps}
-use Rattle.lang.specs.Programs.{ProgramOf}
-use Rattle.lang.specs.Soundness.{AllFit, Accepted}
-use Rattle.lang.proofs.Forms.{one_text}
+use Rattle.lang_base.specs.Keeps.{Keeps}
+use Rattle.lang_base.specs.Programs.{ProgramOf}
+use Rattle.lang_base.specs.Soundness.{AllFit, Accepted}
+use Rattle.lang_base.proofs.Forms.{one_text}
 use Rattle.ltl.specs.Function as ltl
 use Rattle.ltl.specs.Meaning as blocks
-use Rattle.linear.specs.Function as linear
-use Rattle.linear.specs.Meaning as code
-use Rattle.linearize_sound.specs.Rules.{IsLaidOut}
+use Rattle.linear_language.specs.Function as linear
+use Rattle.linear_language.specs.Meaning as code
+use Rattle.linearize_check_proof.specs.Rules.{IsLaidOut}
 use Rattle.linearize_check.specs.OrderForm.{CertFits, cert_text, order_form}
-use Rattle.linearize_sound.proofs.Sound.{sound}
+use Rattle.linearize_check_proof.proofs.Sound.{sound}
 
 -- every function has a baseline
 abbrev pub never : ltl.FunctionData → Type 0

@@ -3,11 +3,11 @@
 ghost use Rattle.std.specs.Prelude.{◌<◌, ◌^◌, [], length};
 ghost use Rattle.std.specs.Int.{w16, to_be_bytes};
 ghost use Rattle.std.specs.List.{flat_map};
-ghost use Rattle.lang.specs.Reading.{Reads, items_of, more, number, below};
-ghost use Rattle.lang.specs.Texts.{Appends};
+ghost use Rattle.lang_base.specs.Reading.{Reads, items_of, more, number, below};
+ghost use Rattle.lang_base.specs.Texts.{Appends};
 ghost use Rattle.linearize_check.specs.OrderForm.{order, order_text};
 
-use lang::{FormError, NoMemory, push_u16, read_u16, read_u16_below};
+use lang_base::{FormError, NoMemory, push_u16, read_u16, read_u16_below};
 use std::alloc::Global;
 
 /// The listed nodes, each of them one of so many.

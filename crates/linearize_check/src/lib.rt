@@ -11,7 +11,7 @@ mod proposals;
 mod verdict;
 mod walk;
 
-pub use linearize_layout::{lay_out, reachable, rising};
+pub use linearize_check_layout::{lay_out, reachable, rising};
 pub use order::{Fault, Order};
 pub use pass::Linearize;
 pub use proposals::arrange;

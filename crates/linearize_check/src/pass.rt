@@ -2,8 +2,8 @@ use crate::base::baseline;
 use crate::form::{push_order, read_order};
 use crate::order::Order;
 use crate::verdict::check;
-use lang::{FormError, NoMemory, Pass, PassError};
-use linear::Linear;
+use lang_base::{FormError, NoMemory, Pass, PassError};
+use linear_language::Linear;
 use ltl::Ltl;
 use std::alloc::Global;
 
@@ -12,7 +12,7 @@ pub struct Linearize;
 
 impl Pass for Linearize {
     ghost use Rattle.std.specs.Prelude.{◌≡◌, ◌≢◌, ◌≤◌, ℕ, List, ◌++◌, length, take, IsTrue, ◌↔◌, OnOk, OnErr, IfOk, IfErr};
-    ghost use Rattle.linearize_sound.specs.Rules.{IsLaidOut};
+    ghost use Rattle.linearize_check_proof.specs.Rules.{IsLaidOut};
     ghost use Rattle.linearize_check.specs.OrderForm.{CertFits, cert_text};
     ghost use Rattle.linearize_check.specs.PassLaws.{laid_out_fits, one_order, sound_law, never};
 
@@ -37,7 +37,7 @@ impl Pass for Linearize {
     fn check(
         alloc: Global,
         input: &ltl::Function,
-        output: &linear::Function,
+        output: &linear_language::Function,
         order: &Order,
     ) -> Result<bool, NoMemory> {
         check(alloc, input, output, order)
@@ -46,13 +46,13 @@ impl Pass for Linearize {
     fn baseline(
         alloc: Global,
         input: &ltl::Function,
-    ) -> Result<(linear::Function, Order), PassError> {
+    ) -> Result<(linear_language::Function, Order), PassError> {
         Ok(baseline(alloc, input)?)
     }
 
     fn write_cert(
         _input: &ltl::Function,
-        _output: &linear::Function,
+        _output: &linear_language::Function,
         order: &Order,
         out: &mut Vec<u8>,
     ) -> Result<(), NoMemory> {
@@ -67,7 +67,7 @@ impl Pass for Linearize {
     fn read_cert(
         alloc: Global,
         input: &ltl::Function,
-        _output: &linear::Function,
+        _output: &linear_language::Function,
         bytes: &[u8],
     ) -> Result<(Order, usize), FormError> {
         let nodes = input.blocks().len() as u32;

@@ -1,13 +1,13 @@
 //! Orders that anybody proposes, and the functions that are laid out by them.
 
 ghost use Rattle.std.specs.Prelude.{◌≡◌, ◌↔◌, ◌<◌, All, length, Some, slice_get, IsTrue, IfOk, IsSome, IfSome};
-ghost use Rattle.linearize_sound.specs.Rules.{IsLaidOut};
-ghost use Rattle.linearize_sound.specs.Orders.{ListsNodes, IsOrder};
+ghost use Rattle.linearize_check_proof.specs.Rules.{IsLaidOut};
+ghost use Rattle.linearize_check_proof.specs.Orders.{ListsNodes, IsOrder};
 
 use crate::faults::lowest_disordered;
 use crate::order::Order;
-use lang::NoMemory;
-use linearize_layout::lay_out_function;
+use lang_base::NoMemory;
+use linearize_check_layout::lay_out_function;
 use std::alloc::Global;
 
 /// The function laid out by the order that is proposed, with the order as its certificate, where
@@ -16,7 +16,7 @@ pub fn arrange(
     alloc: Global,
     input: &ltl::Function,
     nodes: Vec<u16>,
-) -> Result<Option<(linear::Function, Order)>, NoMemory>
+) -> Result<Option<(linear_language::Function, Order)>, NoMemory>
     ensures allowed { IfOk result (λ made. IsSome made ↔ IsOrder input.now nodes.items) }
     ensures laid_out { IfOk result (λ made. IfSome made (λ pair. IsLaidOut input.now pair.0 pair.1)) }
     ensures order { IfOk result (λ made. IfSome made (λ pair. pair.1 ≡ nodes.items)) }

@@ -1,14 +1,14 @@
 //! Whether an output is laid out by an order, and where it is not.
 
 ghost use Rattle.std.specs.Prelude.{◌≡◌, ◌↔◌, IsTrue, IfOk};
-ghost use Rattle.linearize_sound.specs.Rules.{HasFrame, IsLaidOut};
+ghost use Rattle.linearize_check_proof.specs.Rules.{HasFrame, IsLaidOut};
 ghost use Rattle.linearize_check.specs.Faults.{TellsFault};
 
 use crate::faults::{lesser, lowest_disordered};
 use crate::order::{Fault, Order};
 use crate::proposals::lists_nodes;
 use crate::walk::walk_along;
-use lang::NoMemory;
+use lang_base::NoMemory;
 use machine::Location;
 use std::alloc::Global;
 
@@ -16,7 +16,7 @@ use std::alloc::Global;
 pub fn why(
     alloc: Global,
     input: &ltl::Function,
-    output: &linear::Function,
+    output: &linear_language::Function,
     order: &Order,
 ) -> Result<Option<Fault>, NoMemory>
     ensures { IfOk result (TellsFault input.now output.now order.now) }
@@ -38,7 +38,7 @@ pub fn why(
 pub fn check(
     alloc: Global,
     input: &ltl::Function,
-    output: &linear::Function,
+    output: &linear_language::Function,
     order: &Order,
 ) -> Result<bool, NoMemory>
     ensures { IfOk result (λ yes. IsTrue yes ↔ IsLaidOut input.now output.now order.now) }
@@ -47,7 +47,7 @@ pub fn check(
 }
 
 /// Whether the parameters and the slots are the same.
-fn has_frame(input: &ltl::Function, output: &linear::Function) -> bool
+fn has_frame(input: &ltl::Function, output: &linear_language::Function) -> bool
     ensures { IsTrue result ↔ HasFrame input.now output.now }
 {
     are_same(

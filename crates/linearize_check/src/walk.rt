@@ -1,13 +1,13 @@
 //! A walk along the code that anybody proposes, one stretch after the other.
 
 ghost use Rattle.std.specs.Prelude.{◌≡◌, ◌<◌, ◌↔◌, length, drop, IsTrue, IfOk};
-ghost use Rattle.linearize_sound.specs.Layout.{order_code};
+ghost use Rattle.linearize_check_proof.specs.Layout.{order_code};
 ghost use Rattle.linearize_check.specs.Faults.{BeginsWith, StandsAt, TellsLowest};
 
 use crate::faults::lesser;
-use lang::NoMemory;
-use linear::Instruction;
-use linearize_layout::push_stretch;
+use lang_base::NoMemory;
+use linear_language::Instruction;
+use linearize_check_layout::push_stretch;
 use ltl::Block;
 use std::alloc::Global;
 

@@ -1,14 +1,14 @@
 -- What the refusal of a program of RTL says of the program of Cminor that it was translated from.
 use Rattle.std.proofs.Common.{◌≡◌, List, [], ◌∷◌, map, refl, sym, ap, ◌∙◌, subst}
-use Rattle.lang.specs.Programs.{NamedFunction, ProgramOf}
-use Rattle.cminor_tree.specs.Trees.{FunctionTree}
-use Rattle.generation.specs.Gen.{gen, gen_named}
+use Rattle.lang_base.specs.Programs.{NamedFunction, ProgramOf}
+use Rattle.cminor_syntax.specs.Trees.{FunctionTree}
+use Rattle.rtlgen_definition.specs.Gen.{gen, gen_named}
 use Rattle.offers.specs.declared.parts.Parts.{Parts}
-use Rattle.rtl.specs.Function.{FunctionData}
-use Rattle.linking.specs.declared.chain.Named.{Named}
-use Rattle.linking.specs.declared.errors.LinkError as chains
-use Rattle.linking.specs.declared.errors.LinkError.TheVariants as chain
-use Rattle.linking.specs.Chains.{names_of, Refusal}
+use Rattle.rtl_language.specs.Function.{FunctionData}
+use Rattle.linker_passes.specs.declared.chain.Named.{Named}
+use Rattle.linker_passes.specs.declared.errors.LinkError as chains
+use Rattle.linker_passes.specs.declared.errors.LinkError.TheVariants as chain
+use Rattle.linker_passes.specs.Chains.{names_of, Refusal}
 use Rattle.linker.specs.Numbers.{refusal_to_link}
 use Rattle.linker.specs.Refused.{IsRefused}
 

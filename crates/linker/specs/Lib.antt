@@ -1,7 +1,7 @@
 pub mod Numbers
 pub mod Refused
-pub use Rattle.generation.specs.Gen
-pub use Rattle.lowering.specs.Programs
-pub use Rattle.linking.specs.Chains
-pub use Rattle.program_data.specs.Seen
-pub use Rattle.lang.specs.Keeps
+pub use Rattle.rtlgen_definition.specs.Gen
+pub use Rattle.cminor_lowering.specs.Programs
+pub use Rattle.linker_passes.specs.Chains
+pub use Rattle.lang_programs.specs.Seen
+pub use Rattle.lang_base.specs.Keeps

@@ -2,8 +2,8 @@
 use Rattle.std.specs.Prelude.{ℕ, Option, Some, None}
 use Rattle.rtlgen.specs.declared.errors.GenError.{GenError}
 use Rattle.rtlgen.specs.declared.errors.GenError.TheVariants as gen
-use Rattle.linking.specs.declared.errors.LinkError as chains
-use Rattle.linking.specs.declared.errors.LinkError.TheVariants as chain
+use Rattle.linker_passes.specs.declared.errors.LinkError as chains
+use Rattle.linker_passes.specs.declared.errors.LinkError.TheVariants as chain
 use Rattle.linker.specs.declared.errors.LinkError.{LinkError}
 use Rattle.linker.specs.declared.errors.LinkError.TheVariants.{NoMemory, TooManyNodes, Missing, Unchained, Names}
 

@@ -1,13 +1,13 @@
 -- Why a program of Cminor is not linked: its names first, then its translation to RTL, then the chains.
 use Rattle.std.specs.Prelude.{◌≢◌, List}
-use Rattle.lang.specs.Programs.{ProgramOf}
-use Rattle.cminor_tree.specs.Trees.{FunctionTree}
-use Rattle.generation.specs.Gen.{gen}
+use Rattle.lang_base.specs.Programs.{ProgramOf}
+use Rattle.cminor_syntax.specs.Trees.{FunctionTree}
+use Rattle.rtlgen_definition.specs.Gen.{gen}
 use Rattle.offers.specs.declared.parts.Parts.{Parts}
-use Rattle.rtl.specs.Function.{FunctionData}
+use Rattle.rtl_language.specs.Function.{FunctionData}
 use Rattle.rtlgen.specs.Refused.{IsFirstTooLarge}
-use Rattle.linking.specs.declared.chain.Named.{Named}
-use Rattle.linking.specs.Chains.{names_beside, names_of, IsMissing, IsUnchained}
+use Rattle.linker_passes.specs.declared.chain.Named.{Named}
+use Rattle.linker_passes.specs.Chains.{names_beside, names_of, IsMissing, IsUnchained}
 use Rattle.linker.specs.declared.errors.LinkError.{LinkError}
 use Rattle.linker.specs.declared.errors.LinkError.TheVariants.{NoMemory, TooManyNodes, Missing, Unchained, Names}
 

@@ -1,7 +1,7 @@
 ghost use Rattle.std.specs.Prelude.{◌≡◌};
 ghost use Rattle.linker.specs.Numbers.{number_of_link_error, function_of_link_error};
 
-use lang::NoMemory;
+use lang_base::NoMemory;
 use rtlgen::GenError;
 use thiserror::Error;
 
@@ -78,18 +78,18 @@ impl From<GenError> for LinkError {
     }
 }
 
-impl From<linking::LinkError> for LinkError {
+impl From<linker_passes::LinkError> for LinkError {
     ghost use Rattle.std.specs.Prelude.{◌≡◌};
     ghost use Rattle.linker.specs.Numbers.{refusal_to_link};
 
     ghost from_gives = { λ fault e. e ≡ refusal_to_link fault };
 
-    fn from(fault: linking::LinkError) -> LinkError {
+    fn from(fault: linker_passes::LinkError) -> LinkError {
         match fault {
-            linking::LinkError::NoMemory => LinkError::NoMemory,
-            linking::LinkError::Missing(function) => LinkError::Missing(function),
-            linking::LinkError::Unchained(function) => LinkError::Unchained(function),
-            linking::LinkError::Names => LinkError::Names,
+            linker_passes::LinkError::NoMemory => LinkError::NoMemory,
+            linker_passes::LinkError::Missing(function) => LinkError::Missing(function),
+            linker_passes::LinkError::Unchained(function) => LinkError::Unchained(function),
+            linker_passes::LinkError::Names => LinkError::Names,
         }
     }
 }

@@ -1,26 +1,26 @@
 ghost use Rattle.std.specs.Prelude.{◌≡◌, ◌≢◌, ◌≤◌, All, IfOk, IfErr, IsErrAnd, OnOk};
-ghost use Rattle.lang.specs.Keeps.{Keeps};
-ghost use Rattle.c_behaviour.specs.Meaning.{crun};
-ghost use Rattle.c_checker.specs.Checked.{program_tree};
-ghost use Rattle.lowering.specs.Programs.{low};
-ghost use Rattle.generation.specs.Gen.{gen};
+ghost use Rattle.lang_base.specs.Keeps.{Keeps};
+ghost use Rattle.c_program.specs.Meaning.{crun};
+ghost use Rattle.c_checker_rules.specs.Checked.{program_tree};
+ghost use Rattle.cminor_lowering.specs.Programs.{low};
+ghost use Rattle.rtlgen_definition.specs.Gen.{gen};
 ghost use Rattle.rtlgen.specs.Refused.{HasFewNodes};
-ghost use Rattle.linear.specs.Meaning as linear;
-ghost use Rattle.linking.specs.Chains.{linked, names_beside, names_of, AllChained};
+ghost use Rattle.linear_language.specs.Meaning as linear;
+ghost use Rattle.linker_passes.specs.Chains.{linked, names_beside, names_of, AllChained};
 ghost use Rattle.linker.specs.Refused.{IsRefused, HasNoTranslation};
-ghost use Rattle.program_data.specs.Seen.{seen};
-ghost use Rattle.rtl.specs.Meaning as rtl;
+ghost use Rattle.lang_programs.specs.Seen.{seen};
+ghost use Rattle.rtl_language.specs.Meaning as rtl;
 
 use crate::errors::LinkError;
-use alloc_pass::Alloc;
-use c_checker::CProgram;
-use cminor_lowering::lower;
+use alloc_check::Alloc;
+use c_checker_rules::CProgram;
+use cminor::lower;
 use constprop_check::ConstProp;
 use cse_check::Cse;
-use lang::{Program, keeps_composes};
-use linear::Function;
+use lang_base::{Program, keeps_composes};
+use linear_language::Function;
 use linearize_check::Linearize;
-use linking::{ChainOf, NamedOf, are_names};
+use linker_passes::{ChainOf, NamedOf, are_names};
 use rtlgen::translate;
 use std::alloc::Global;
 
@@ -32,7 +32,10 @@ pub type Named<'a> = NamedOf<'a, ConstProp, Cse, Alloc, Linearize>;
 
 /// The RTL program of a checked C program, with which the chains begin; it keeps the C program's meaning.
 /// The time is linear in the program.
-pub fn translated(alloc: Global, program: &CProgram) -> Result<Program<rtl::Function>, LinkError>
+pub fn translated(
+    alloc: Global,
+    program: &CProgram,
+) -> Result<Program<rtl_language::Function>, LinkError>
     ensures same { IfOk result (λ made. seen made ≡ gen (low (program_tree program.now))) }
     ensures same_names { IfOk result (λ made. names_of (seen made).functions ≡ names_of (low (program_tree program.now)).functions) }
     ensures small { IfOk result (λ made. All (λ f. f.function.registers ≤ 2048) (seen made).functions) }
@@ -72,6 +75,6 @@ pub fn link(
         return Err(LinkError::Names);
     }
     let translated = translate(alloc, &lowered)?;
-    let made = linking::link::<ConstProp, Cse, Alloc, Linearize>(alloc, &translated, named)?;
+    let made = linker_passes::link::<ConstProp, Cse, Alloc, Linearize>(alloc, &translated, named)?;
     Ok(made)
 }

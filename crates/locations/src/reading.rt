@@ -3,12 +3,12 @@
 
 ghost use Rattle.std.specs.Prelude.{◌≡◌, [], ◌^◌, ◌&&◌};
 ghost use Rattle.std.specs.List.{list_all};
-ghost use Rattle.lang.specs.Reading.{IsRead, Reads, items_of, more};
+ghost use Rattle.lang_base.specs.Reading.{IsRead, Reads, items_of, more};
 ghost use Rattle.locations.specs.Reading.{register, value, location, is_slot, one_move, moves, function_number, target, arguments, call, parameter, parameters, lies_within, frame};
 
 use crate::location::{Location, Move};
 use crate::register::{REGISTER_COUNT, Register};
-use lang::{FormError, Row, read_byte, read_count, read_u16, read_u16_below};
+use lang_base::{FormError, Row, read_byte, read_count, read_u16, read_u16_below};
 use std::alloc::Global;
 
 /// A register.

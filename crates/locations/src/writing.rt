@@ -2,13 +2,13 @@
 
 ghost use Rattle.std.specs.Prelude.{◌≤◌, length};
 ghost use Rattle.std.specs.List.{flat_map};
-ghost use Rattle.lang.specs.Texts.{Appends};
+ghost use Rattle.lang_base.specs.Texts.{Appends};
 ghost use Rattle.locations.specs.Fits.{move_limit, argument_limit, parameter_limit};
 ghost use Rattle.locations.specs.Spelling.{location_text, locations_text, move_text, moves_text, value_text, target_text, call_text, frame_text};
 
 use crate::location::{Location, Move};
 use crate::register::Register;
-use lang::{NoMemory, push_byte, push_u16};
+use lang_base::{NoMemory, push_byte, push_u16};
 
 /// A register, or none.
 pub fn push_value(out: &mut Vec<u8>, value: Option<Register>) -> Result<(), NoMemory>

@@ -4,11 +4,11 @@ use Rattle.std.specs.Prelude.{nat_lt}
 use Rattle.std.specs.Int.{w16, to_be_bytes}
 use Rattle.std.specs.List.{AllByRecursion, flat_map}
 use Rattle.std.proofs.lemmas.Bool.{ltb-true, lt-ltb}
-use Rattle.lang.specs.declared.errors.FormError.TheVariants.{NotCanonical}
-use Rattle.lang.specs.Reading.{number, both, follow}
-use Rattle.lang.proofs.Forms.{IsForm}
-use Rattle.lang.proofs.Parts.{number16_form, made_takes, made_again, made_form, tested_form, fits_form, below_form, both_form}
-use Rattle.lang.proofs.Lists.{more_form, each_fits, fits_each, HasCode, TakesBehind, follow_form, coded_form, tagged_form}
+use Rattle.lang_base.specs.declared.errors.FormError.TheVariants.{NotCanonical}
+use Rattle.lang_base.specs.Reading.{number, both, follow}
+use Rattle.lang_base.proofs.Forms.{IsForm}
+use Rattle.lang_base.proofs.Parts.{number16_form, made_takes, made_again, made_form, tested_form, fits_form, below_form, both_form}
+use Rattle.lang_base.proofs.Lists.{more_form, each_fits, fits_each, HasCode, TakesBehind, follow_form, coded_form, tagged_form}
 use Rattle.locations.specs.declared.location.Location.{Location}
 use Rattle.locations.specs.declared.location.Move.{Move}
 use Rattle.machine.specs.declared.act.Act.{Act}

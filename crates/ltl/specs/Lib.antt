@@ -10,6 +10,6 @@ pub use Rattle.machine.specs.Acts
 pub use Rattle.machine.specs.Frames
 pub use Rattle.machine.specs.Calls
 pub use Rattle.machine.specs.Fits
-pub use Rattle.lang.specs.Behaviour
-pub use Rattle.lang.specs.Programs
-pub use Rattle.lang.specs.Machine
+pub use Rattle.lang_base.specs.Behaviour
+pub use Rattle.lang_base.specs.Programs
+pub use Rattle.lang_base.specs.Machine

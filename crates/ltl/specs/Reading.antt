@@ -1,8 +1,8 @@
 -- How a function of LTL is read.
 use Rattle.std.specs.Prelude.{ℕ, List, [], ◌∷◌, Some, None, nat_lt}
 use Rattle.std.specs.Int.{w16}
-use Rattle.lang.specs.declared.errors.FormError.TheVariants.{NotCanonical}
-use Rattle.lang.specs.Reading.{Reading, number, made, tested, below, both, more, Table, follow, coded, tagged}
+use Rattle.lang_base.specs.declared.errors.FormError.TheVariants.{NotCanonical}
+use Rattle.lang_base.specs.Reading.{Reading, number, made, tested, below, both, more, Table, follow, coded, tagged}
 use Rattle.locations.specs.declared.location.Location.{Location}
 use Rattle.locations.specs.declared.location.Move.{Move}
 use Rattle.machine.specs.Reading.{moves, call, asked, value, act, frame}

@@ -1,4 +1,4 @@
-use lang::Row;
+use lang_base::Row;
 use machine::{Act, Location, Move, Register, Test};
 
 /// A node of the graph: moves, and then what it does and where it goes on.

@@ -4,7 +4,7 @@ ghost use Rattle.std.specs.Prelude.{◌≡◌, IfOk};
 
 use crate::block::{Block, Body};
 use crate::function::Function;
-use lang::{NoMemory, Row};
+use lang_base::{NoMemory, Row};
 use std::alloc::Global;
 
 fn copy_body(alloc: Global, body: &Body) -> Result<Body, NoMemory>

@@ -1,5 +1,5 @@
 use crate::block::Block;
-use lang::Row;
+use lang_base::Row;
 use machine::Location;
 use std::marker::Model;
 

@@ -2,7 +2,7 @@ use crate::copying::copy_function;
 use crate::function::Function;
 use crate::reading::read_function;
 use crate::writing::push_function;
-use lang::{FormError, Language, NoMemory};
+use lang_base::{FormError, Language, NoMemory};
 use std::alloc::Global;
 
 /// LTL, the third language of the pipeline.
@@ -10,7 +10,7 @@ pub struct Ltl;
 
 impl Language for Ltl {
     ghost use Rattle.std.specs.Prelude.{◌≡◌, ◌≢◌, ◌≤◌, ℕ, List, ◌++◌, length, take, true, ◌↔◌, OnOk, OnErr, IfOk, IfErr};
-    ghost use Rattle.lang.proofs.Forms.{one_text};
+    ghost use Rattle.lang_base.proofs.Forms.{one_text};
     ghost use Rattle.machine.proofs.Equal.{tells_decides};
     ghost use Rattle.ltl.specs.Equal.{same_laws, function_tells};
     ghost use Rattle.ltl.specs.Forms.{function_form};

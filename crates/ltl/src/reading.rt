@@ -2,12 +2,12 @@
 //! bytes behind it, or the first fault.
 
 ghost use Rattle.std.specs.Prelude.{ℕ, ◌<◌, [], slice_index};
-ghost use Rattle.lang.specs.Reading.{IsRead, Reads, items_of, more};
+ghost use Rattle.lang_base.specs.Reading.{IsRead, Reads, items_of, more};
 ghost use Rattle.ltl.specs.Reading.{node, going, calling, branch, plain, body, block, ends, blocks, graph, parts, function};
 
 use crate::block::{Block, Body};
 use crate::function::Function;
-use lang::{FormError, Row, read_byte, read_u16, read_u16_below};
+use lang_base::{FormError, Row, read_byte, read_u16, read_u16_below};
 use machine::{Location, Move, read_act, read_call, read_frame, read_moves, read_test, read_value};
 use std::alloc::Global;
 

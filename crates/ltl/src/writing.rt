@@ -2,7 +2,7 @@
 
 ghost use Rattle.std.specs.Prelude.{◌≤◌, ◌∷◌, All, length};
 ghost use Rattle.std.specs.List.{flat_map};
-ghost use Rattle.lang.specs.Texts.{Appends};
+ghost use Rattle.lang_base.specs.Texts.{Appends};
 ghost use Rattle.machine.specs.Fits.{move_limit, argument_limit};
 ghost use Rattle.ltl.specs.declared.block.Body.TheVariants.{Branch};
 ghost use Rattle.ltl.specs.Function.{HasShortLists, after_of, arguments_of};
@@ -10,7 +10,7 @@ ghost use Rattle.ltl.specs.Spelling.{any_code, any_body, going_text, body_text, 
 
 use crate::block::{Block, Body};
 use crate::function::Function;
-use lang::{NoMemory, push_byte, push_u16};
+use lang_base::{NoMemory, push_byte, push_u16};
 use machine::{
     Act, Move, Test, push_act, push_call, push_frame, push_moves, push_test, push_value,
 };

@@ -2,10 +2,10 @@
 use Rattle.std.proofs.Common.{◌≡◌, ℕ, ◌<◌, ◌^◌, List, ◌++◌, Option, Ok, inl, inr, lit<, refl, sym, subst, arith}
 use Rattle.std.specs.Prelude.{◌⊎◌}
 use Rattle.std.specs.Int.{w16, w32, to_be_bytes}
-use Rattle.lang.specs.Reading.{byte, number, decoded, both, unknown}
-use Rattle.lang.proofs.Forms.{IsForm}
-use Rattle.lang.proofs.Parts.{byte_form, number16_form, number32_form, made_takes, made_again, made_form, decoded_form, below_form, both_form}
-use Rattle.lang.proofs.Lists.{HasCode, TakesBehind, unknown_takes, follow_form}
+use Rattle.lang_base.specs.Reading.{byte, number, decoded, both, unknown}
+use Rattle.lang_base.proofs.Forms.{IsForm}
+use Rattle.lang_base.proofs.Parts.{byte_form, number16_form, number32_form, made_takes, made_again, made_form, decoded_form, below_form, both_form}
+use Rattle.lang_base.proofs.Lists.{HasCode, TakesBehind, unknown_takes, follow_form}
 use Rattle.ints.specs.declared.operators.Op.{Op}
 use Rattle.ints.specs.declared.operators.Op.TheVariants.{NegS, NegU, Not, IsZero}
 use Rattle.ints.specs.declared.conditions.Cond.{Cond}

@@ -5,3 +5,4 @@ pub mod Calls
 pub mod Fits
 pub mod Spelling
 pub mod Reading
+pub mod Words

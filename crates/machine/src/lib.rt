@@ -1,15 +1,20 @@
-//! What the two lowest languages, LTL and Linear, share: plain instructions and tests, what each of
-//! them does to the words of a frame, and calls. Where the words lie is in the crate below.
+//! What the two lowest languages, LTL and Linear, share: plain instructions and tests, what each of them does to the words
+//! of a frame, and calls: which words a caller has when it goes on, and which a called function begins with. Where the
+//! words lie is in the crate below.
 #![tactic(auto)]
 
 mod act;
 mod arguments;
+mod callees;
+mod callers;
 mod reading;
 mod test;
 mod writing;
 
 pub use act::Act;
 pub use arguments::Arguments;
+pub use callees::callees_begin;
+pub use callers::callers_go_on;
 pub use locations::{
     Location, Move, REGISTER_COUNT, Register, push_call, push_frame, push_move, push_moves,
     push_value, read_call, read_frame, read_move, read_moves, read_value,

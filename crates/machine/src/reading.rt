@@ -1,14 +1,14 @@
 //! Readers of plain instructions and tests. Each is one function on lists, which says the value and
 //! the bytes behind it, or the first fault.
 
-ghost use Rattle.lang.specs.Reading.{IsRead};
+ghost use Rattle.lang_base.specs.Reading.{IsRead};
 ghost use Rattle.machine.specs.Reading.{global, arguments, asked, constant, operation, load, store, put, act};
 
 use crate::act::Act;
 use crate::arguments::Arguments;
 use crate::test::Test;
 use ints::{Cond, Op};
-use lang::{FormError, read_byte, read_u16_below, read_u32};
+use lang_base::{FormError, read_byte, read_u16_below, read_u32};
 use locations::{read_register, read_value};
 
 /// A global's number.

@@ -1,7 +1,7 @@
 -- The numbers that a user is shown beside the names of refusals, and the refusal that a fault of a form becomes.
 use Rattle.std.specs.Prelude.{ℕ}
-use Rattle.lang.specs.declared.errors.FormError.{FormError}
-use Rattle.lang.specs.declared.errors.FormError.TheVariants as form
+use Rattle.lang_base.specs.declared.errors.FormError.{FormError}
+use Rattle.lang_base.specs.declared.errors.FormError.TheVariants as form
 use Rattle.offers.specs.declared.errors.OfferError.{OfferError}
 use Rattle.offers.specs.declared.errors.OfferError.TheVariants as offer
 

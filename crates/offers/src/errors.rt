@@ -3,7 +3,7 @@
 ghost use Rattle.std.specs.Prelude.{◌≡◌};
 ghost use Rattle.offers.specs.Refusals.{number_of};
 
-use lang::{FormError, NoMemory};
+use lang_base::{FormError, NoMemory};
 use thiserror::Error;
 
 /// Why something is no offer.

@@ -6,7 +6,7 @@ ghost use Rattle.offers.specs.Text.{text_of, PartsFit};
 ghost use Rattle.offers.specs.Fronts.{IsOnlyFront, HasNoFront};
 
 use crate::parts::{Parts, PartsOf};
-use lang::{FormError, Language, Pass};
+use lang_base::{FormError, Language, Pass};
 use std::alloc::Global;
 
 /// The bytes behind a first byte that is the pass's number.

@@ -1,14 +1,14 @@
 //! What an offer is worth, as contracts of calls that do nothing else.
 
 ghost use Rattle.std.specs.Prelude.{◌≡◌, ℕ, List, ◌++◌};
-ghost use Rattle.lang.specs.Keeps.{Keeps};
-ghost use Rattle.lang.specs.Programs.{GlobalData};
+ghost use Rattle.lang_base.specs.Keeps.{Keeps};
+ghost use Rattle.lang_base.specs.Programs.{GlobalData};
 ghost use Rattle.offers.specs.declared.parts.Parts.{Parts};
 ghost use Rattle.offers.specs.OneFunction.{program_of_one};
 ghost use Rattle.offers.specs.Text.{text_of, PartsFit};
 
 use crate::offer::Offer;
-use lang::Pass;
+use lang_base::Pass;
 
 /// The program of an offer's output alone keeps the meaning of the program of its input, whatever
 /// the function's name and whatever globals stand beside it.

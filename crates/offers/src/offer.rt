@@ -1,13 +1,13 @@
 ghost use Rattle.std.specs.Prelude.{◌≡◌, ◌≢◌, ℕ, List, [], ◌∷◌, ◌++◌, OnOk, OnErr, IfOk, IfErr, IsErrAnd};
 ghost use Rattle.sha2.specs.Sha256.{sha256};
-ghost use Rattle.lang.specs.Behaviour.{IsBeginningOf};
+ghost use Rattle.lang_base.specs.Behaviour.{IsBeginningOf};
 ghost use Rattle.offers.specs.declared.parts.Parts.{Parts};
 ghost use Rattle.offers.specs.Text.{text_of, PartsFit};
 
 use crate::errors::OfferError;
 use crate::form::parts_at;
 use crate::parts::{Parts, PartsOf};
-use lang::{FormError, Language, NoMemory, Pass};
+use lang_base::{FormError, Language, NoMemory, Pass};
 use sha2::{Digest, Sha256};
 use std::alloc::Global;
 use std::marker::Model;

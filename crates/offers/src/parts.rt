@@ -1,4 +1,4 @@
-use lang::{Language, Pass};
+use lang_base::{Language, Pass};
 
 /// An input, an output, and a certificate that may show the output to be right.
 #[derive(Drop)]

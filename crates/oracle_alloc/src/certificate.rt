@@ -1,9 +1,9 @@
 //! The certificate: at each node, that each live register's word lies in the register's place.
 
 use crate::register_set::RegisterSet;
-use alloc_pass::{Equation, EquationLists};
-use lang::{NoMemory, Row};
-use placed_blocks::Places;
+use alloc_check::{Equation, EquationLists};
+use lang_base::{NoMemory, Row};
+use oracle_alloc_blocks::Places;
 use std::alloc::Global;
 
 fn equations_at(

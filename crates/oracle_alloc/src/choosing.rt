@@ -5,9 +5,9 @@ ghost use Rattle.std.specs.Prelude.{◌<◌, IfSome};
 
 use crate::interference::Interference;
 use crate::register_set::RegisterSet;
-use lang::NoMemory;
+use lang_base::NoMemory;
 use locations::{Location, REGISTER_COUNT, Register as Place};
-use placed_blocks::Places;
+use oracle_alloc_blocks::Places;
 use rand_core::utils::NextWord;
 use rand_pcg::Pcg32;
 use rtl_parts::Register;

@@ -3,8 +3,8 @@
 use crate::liveness::set_live_behind;
 use crate::parts::{copied_by, defined_by};
 use crate::register_set::RegisterSet;
-use lang::NoMemory;
-use rtl::{Function, Instruction};
+use lang_base::NoMemory;
+use rtl_language::{Function, Instruction};
 use rtl_parts::Register;
 use std::alloc::Global;
 

@@ -4,8 +4,8 @@
 use crate::order::order_of;
 use crate::parts::{Edges, add_uses, defined_by, edges_of};
 use crate::register_set::RegisterSet;
-use lang::NoMemory;
-use rtl::Instruction;
+use lang_base::NoMemory;
+use rtl_language::Instruction;
 use std::alloc::Global;
 
 /// What is live before each node so far, when that last grew, and when each node was last gone back

@@ -1,8 +1,8 @@
 //! An order of nodes in which each stands behind those that it leads to, but for loops.
 
 use crate::parts::edges_of;
-use lang::NoMemory;
-use rtl::Instruction;
+use lang_base::NoMemory;
+use rtl_language::Instruction;
 use std::alloc::Global;
 
 /// What is to be done at a node of the walk.

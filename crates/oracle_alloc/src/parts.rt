@@ -1,7 +1,7 @@
 //! What an instruction defines and uses, and where it goes on.
 
 use crate::register_set::RegisterSet;
-use rtl::Instruction;
+use rtl_language::Instruction;
 use rtl_parts::{Act, Arguments, Register};
 
 /// Where an instruction can go on: nowhere, to one node, or to two.

@@ -4,10 +4,10 @@ use crate::interference::interference_of;
 use crate::liveness::live_before;
 use crate::register_set::RegisterSet;
 use crate::worth::needless;
-use alloc_pass::{Alloc, EquationLists};
-use lang::{NoMemory, Oracle, Row};
+use alloc_check::{Alloc, EquationLists};
+use lang_base::{NoMemory, Oracle, Row};
 use ltl::Function;
-use placed_blocks::{Places, are_distinct, blocks_of, places_of};
+use oracle_alloc_blocks::{Places, are_distinct, blocks_of, places_of};
 use rand_pcg::Pcg32;
 use std::alloc::Global;
 
@@ -22,7 +22,7 @@ impl Oracle for AllocOracle {
     fn propose(
         &mut self,
         alloc: Global,
-        input: &rtl::Function,
+        input: &rtl_language::Function,
         words: &mut Pcg32,
     ) -> Result<Option<(Function, EquationLists)>, NoMemory> {
         allocate(alloc, input, words)
@@ -32,7 +32,7 @@ impl Oracle for AllocOracle {
 /// Blocks and equations for the input, with places for its registers that the words choose.
 fn allocate(
     alloc: Global,
-    input: &rtl::Function,
+    input: &rtl_language::Function,
     words: &mut Pcg32,
 ) -> Result<Option<(Function, EquationLists)>, NoMemory> {
     let live = live_before(alloc, input.registers(), input.nodes().as_slice())?;
@@ -46,7 +46,7 @@ fn allocate(
 /// Blocks and equations for registers that lie in these places; none where two parameters lie in one.
 fn in_places(
     alloc: Global,
-    input: &rtl::Function,
+    input: &rtl_language::Function,
     live: &[RegisterSet],
     places: &Places,
     words: &mut Pcg32,

@@ -1,4 +1,4 @@
-use lang::NoMemory;
+use lang_base::NoMemory;
 use rtl_parts::Register;
 use std::alloc::Global;
 

@@ -1,10 +1,10 @@
 //! Which instructions can be left out, since what they define is not used.
 
 use crate::register_set::RegisterSet;
-use lang::NoMemory;
+use lang_base::NoMemory;
 use rand_core::utils::NextWord;
 use rand_pcg::Pcg32;
-use rtl::Instruction;
+use rtl_language::Instruction;
 use rtl_parts::{Act, Register};
 use std::alloc::Global;
 

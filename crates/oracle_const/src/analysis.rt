@@ -2,9 +2,9 @@
 //! Zadeck 1991). A node that is not reached has no list yet; once it has one, facts only go away.
 
 use crate::lattice::{behind, meet};
-use constprop_sound::{Fact, decision, value, written};
-use lang::NoMemory;
-use rtl::Instruction;
+use constprop_check_rules::{Fact, decision, value, written};
+use lang_base::NoMemory;
+use rtl_language::Instruction;
 use std::alloc::Global;
 
 /// What is known at each node so far, and the nodes of which that is still to be said to the next.

@@ -1,7 +1,7 @@
 //! Constants at a node, as facts in order of their registers.
 
-use constprop_sound::Fact;
-use lang::NoMemory;
+use constprop_check_rules::Fact;
+use lang_base::NoMemory;
 use rtl_parts::Register;
 use std::alloc::Global;
 

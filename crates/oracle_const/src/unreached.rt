@@ -3,9 +3,9 @@
 
 use crate::analysis::{Analysis, edges_of};
 use crate::lattice::without;
-use constprop_sound::{Fact, written};
-use lang::NoMemory;
-use rtl::Instruction;
+use constprop_check_rules::{Fact, written};
+use lang_base::NoMemory;
+use rtl_language::Instruction;
 use std::alloc::Global;
 
 /// What is known where the instruction leads, but for the register that it writes.

@@ -1,8 +1,8 @@
 -- Each node of a function in range is in range.
 use Rattle.std.proofs.Common.{◌≡◌, ◌<◌, ℕ, List, length, get_or, sym, subst, ap, ◌∙◌}
 use Rattle.std.proofs.lemmas.List.Elements.{All-from_recursion}
-use Rattle.rtl.specs.declared.instruction.Instruction.{Instruction}
-use Rattle.rtl.specs.Function.{FunctionData, InstructionFits, IsFunction}
+use Rattle.rtl_language.specs.declared.instruction.Instruction.{Instruction}
+use Rattle.rtl_language.specs.Function.{FunctionData, InstructionFits, IsFunction}
 
 pub node_fits : (f : FunctionData) → IsFunction f → (nodes : List Instruction) → nodes ≡ f.nodes → (n : ℕ) (i : Instruction) → n < length nodes → i ≡ get_or nodes n i → InstructionFits f.registers (length f.nodes) i
 node_fits f fits nodes same n i below is =

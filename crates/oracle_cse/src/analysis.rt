@@ -4,9 +4,9 @@
 
 use crate::lattice::{behind, meet};
 use crate::numbering::Numbering;
-use cse_sound::Equation;
-use lang::NoMemory;
-use rtl::Instruction;
+use cse_check_rules::Equation;
+use lang_base::NoMemory;
+use rtl_language::Instruction;
 use std::alloc::Global;
 
 /// What is known at each node so far, and the nodes of which that is still to be said to the next.

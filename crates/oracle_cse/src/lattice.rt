@@ -1,9 +1,9 @@
 //! What is known at a node, as equations in order of their ranks.
 
 use crate::numbering::Numbering;
-use cse_sound::{Equation, kills, made, rank};
-use lang::NoMemory;
-use rtl::Instruction;
+use cse_check_rules::{Equation, kills, made, rank};
+use lang_base::NoMemory;
+use rtl_language::Instruction;
 use std::alloc::Global;
 
 /// At most so many equations are kept at a node, so that the work is linear in the nodes.

@@ -1,9 +1,9 @@
 //! Which equations are worth to be kept: those whose right side, or for a copy whose register, is
 //! looked for at some other node.
 
-use cse_sound::{Equation, RightSide, rank};
-use lang::NoMemory;
-use rtl::Instruction;
+use cse_check_rules::{Equation, RightSide, rank};
+use lang_base::NoMemory;
+use rtl_language::Instruction;
 use rtl_parts::{Act, Register};
 use std::alloc::Global;
 use std::collections::BTreeMap;

@@ -1,14 +1,14 @@
 ghost use Rattle.std.specs.Prelude.{◌≡◌, ℕ, All, length, IfOk, IfSome};
-ghost use Rattle.rtl.specs.Function.{InstructionFits};
+ghost use Rattle.rtl_language.specs.Function.{InstructionFits};
 
 use crate::analysis::Analysis;
 use crate::unreached::give_each;
 use cse_check::{Cse, EquationLists, equations_of};
-use cse_sound::{Equation, RightSide, share};
-use lang::{NoMemory, Oracle, Row};
+use cse_check_rules::{Equation, RightSide, share};
+use lang_base::{NoMemory, Oracle, Row};
 use rand_core::utils::NextWord;
 use rand_pcg::Pcg32;
-use rtl::{Function, Instruction, copy_instruction};
+use rtl_language::{Function, Instruction, copy_instruction};
 use rtl_parts::Register;
 use rtl_passes::with_nodes;
 use std::alloc::Global;

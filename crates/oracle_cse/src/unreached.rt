@@ -3,9 +3,9 @@
 
 use crate::analysis::{Analysis, edges_of};
 use crate::lattice::surviving;
-use cse_sound::Equation;
-use lang::NoMemory;
-use rtl::Instruction;
+use cse_check_rules::Equation;
+use lang_base::NoMemory;
+use rtl_language::Instruction;
 use std::alloc::Global;
 
 /// What is known where the instruction leads, but for what it kills.

@@ -1,4 +1,4 @@
-use lang::{NoMemory, Oracle};
+use lang_base::{NoMemory, Oracle};
 use linearize_check::{Linearize, Order, arrange, rising};
 use ltl::Function;
 use rand_core::utils::NextWord;
@@ -18,7 +18,7 @@ impl Oracle for OrderOracle {
         alloc: Global,
         input: &Function,
         words: &mut Pcg32,
-    ) -> Result<Option<(linear::Function, Order)>, NoMemory> {
+    ) -> Result<Option<(linear_language::Function, Order)>, NoMemory> {
         let reached = rising(alloc, input)?;
         let nodes = drawn(alloc, reached.as_slice(), words)?;
         arrange(alloc, input, nodes)

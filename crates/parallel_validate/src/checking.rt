@@ -7,7 +7,7 @@ use crate::gate::Gate;
 use crate::verdict::{Job, Verdict};
 use crate::working::work;
 use crossbeam_queue::ArrayQueue;
-use lang::{NoMemory, Pass};
+use lang_base::{NoMemory, Pass};
 use std::alloc::Global;
 use std::sync::Wait;
 use std::thread::{Threads, map_indices};

@@ -7,7 +7,7 @@ ghost use Rattle.parallel_validate.specs.Verdicts.{AreAnswers, IsKnown, IsRight}
 use crate::gate::Gate;
 use crate::verdict::{Job, Verdict};
 use crate::working::answer;
-use lang::{NoMemory, Pass};
+use lang_base::{NoMemory, Pass};
 use std::alloc::Global;
 
 /// Enters each verdict at the number of its job.

@@ -7,7 +7,7 @@ ghost use Rattle.parallel_validate.specs.Verdicts.{IsAnswerAt, IsRight};
 use crate::gate::Gate;
 use crate::verdict::{Job, Verdict};
 use crossbeam_queue::ArrayQueue;
-use lang::{NoMemory, Pass};
+use lang_base::{NoMemory, Pass};
 use std::alloc::Global;
 use std::sync::Wait;
 

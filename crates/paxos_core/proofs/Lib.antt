@@ -1,4 +1,3 @@
 pub mod CallLemmas
-pub mod LateLemmas
 pub mod QuorumLemmas
 pub mod ScheduleLemmas

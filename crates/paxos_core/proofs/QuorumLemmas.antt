@@ -2,21 +2,21 @@
 use Rattle.std.proofs.Common.{◌≡◌, ℕ, ◌<◌, ◌≤◌, ◌⊎◌, Bool, true, false, cond, ◌&&◌, ltb, List, [], ◌∷◌, ◌++◌, length, Option, Some, None, IsTrue, IsSome, refl, sym, ap, ◌∙◌, subst, inl, inr, arith}
 use Rattle.std.proofs.lemmas.Bool.{ltb-true, eq-eqb, and_parts, cases_eq}
 use Rattle.std.proofs.lemmas.List.{get_or-set_same}
-use Rattle.paxos_world.specs.KeptPart.{KeptPart, vote}
-use Rattle.paxos_world.specs.Quorum.{is_accept_quorum, IsAcceptQuorum}
-use Rattle.paxos_world.proofs.Quorums.{member_of, accept_quorum_grows}
-use Rattle.paxos_world.specs.declared.msg.Msg.{Msg}
-use Rattle.paxos_world.specs.declared.msg.Msg.TheVariants.{Prepare, Promise, Propose, Accepted}
-use Rattle.paxos_world.specs.declared.vote.Vote.{Vote}
-use Rattle.paxos_law.specs.Acceptor.{is_vote, promises, accepts}
+use Rattle.paxos_core_world.specs.KeptPart.{KeptPart, vote}
+use Rattle.paxos_core_world.specs.Quorum.{is_accept_quorum, IsAcceptQuorum}
+use Rattle.paxos_core_world.proofs.Quorums.{member_of, accept_quorum_grows}
+use Rattle.paxos_core_world.specs.declared.msg.Msg.{Msg}
+use Rattle.paxos_core_world.specs.declared.msg.Msg.TheVariants.{Prepare, Promise, Propose, Accepted}
+use Rattle.paxos_core_world.specs.declared.vote.Vote.{Vote}
+use Rattle.paxos_core_law.specs.Acceptor.{is_vote, promises, accepts}
 use Rattle.paxos_core.specs.Call.{Call, Offer, Start, Proposal, On, Restart, has_ballot, after_call, after_calls}
-use Rattle.paxos_law.specs.Learner.{is_at_most, notes_promise, notes_vote, votes_with, learned_with, voted}
+use Rattle.paxos_core_law.specs.Learner.{is_at_most, notes_promise, notes_vote, votes_with, learned_with, voted}
 use Rattle.paxos_core.specs.Quorums.{HasNoRestart, HasQuorum, WasQuorum, LearnsFromQuorum, QuorumIsLearned}
-use Rattle.paxos_law.specs.NodeState.{NodeState, node_with, nothing_noted}
-use Rattle.paxos_law.specs.Notes.{note_of, is_under, has_voted}
-use Rattle.paxos_law.specs.Proposer.{proposal, after_answer}
+use Rattle.paxos_core_law.specs.NodeState.{NodeState, node_with, nothing_noted}
+use Rattle.paxos_core_law.specs.Notes.{note_of, is_under, has_voted}
+use Rattle.paxos_core_law.specs.Proposer.{proposal, after_answer}
 use Rattle.paxos_core.proofs.CallLemmas.{IsNode, node_with-is, after_call-is}
-use Rattle.paxos_law.proofs.NoteLemmas.{note_of-set, note_of-nothing, voted_vote}
+use Rattle.paxos_core_law.proofs.NoteLemmas.{note_of-set, note_of-nothing, voted_vote}
 
 -- ---- what a call changes of votes and of what is learned
 

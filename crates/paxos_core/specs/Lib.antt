@@ -2,4 +2,4 @@ pub mod Call
 pub mod Schedule
 pub mod Play
 pub mod Quorums
-pub mod LateOffer
+pub use Rattle.paxos_core_late_offers.specs.LateOffer

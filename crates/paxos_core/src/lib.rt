@@ -11,10 +11,11 @@ mod theorem;
 
 pub use error::CoreError;
 pub use node::Node;
-pub use paxos_law::step::{Act, Step};
-pub use paxos_model::settled::settled;
-pub use paxos_world::ballot::owns;
-pub use paxos_world::kept::Kept;
-pub use paxos_world::msg::Msg;
-pub use paxos_world::vote::Vote;
-pub use theorem::{agreement, late_offers};
+pub use paxos_core_late_offers::late_offers;
+pub use paxos_core_law::step::{Act, Step};
+pub use paxos_core_model::settled::settled;
+pub use paxos_core_world::ballot::owns;
+pub use paxos_core_world::kept::Kept;
+pub use paxos_core_world::msg::Msg;
+pub use paxos_core_world::vote::Vote;
+pub use theorem::agreement;

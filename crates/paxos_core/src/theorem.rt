@@ -1,11 +1,10 @@
-ghost use Rattle.paxos_core.specs.LateOffer.{OffersMayBeLate, OthersLeaveIt};
 ghost use Rattle.paxos_core.specs.Play.{SchedulesShowAllLearned};
 ghost use Rattle.paxos_core.specs.Quorums.{LearnsFromQuorum, QuorumIsLearned};
 ghost use Rattle.paxos_core.specs.Schedule.{SchedulesAreRuns, SchedulesLearnOne};
-ghost use Rattle.paxos_model.specs.Agreement.{NothingIsSettled, ReopeningsGoOn, ReopeningsLearnAsBefore, RunsChooseOne, RunsLearnOne, RunsStaySettled};
-ghost use Rattle.paxos_model.specs.OneCode.{FarmReopeningsGoOn, FarmReopeningsLinkAsBefore, RunsChain, RunsLinkOne};
+ghost use Rattle.paxos_core_model.specs.Agreement.{NothingIsSettled, ReopeningsGoOn, ReopeningsLearnAsBefore, RunsChooseOne, RunsLearnOne, RunsStaySettled};
+ghost use Rattle.paxos_core_model.specs.OneCode.{FarmReopeningsGoOn, FarmReopeningsLinkAsBefore, RunsChain, RunsLinkOne};
 
-use paxos_model::promises::{one_code, one_code_again, one_value, one_value_again};
+use paxos_core_model::promises::{one_code, one_code_again, one_value, one_value_again};
 
 /// The theorem of agreement, over every list of steps and of calls; it does nothing.
 pub fn agreement()
@@ -37,12 +36,3 @@ pub fn agreement()
     one_code();
     one_code_again();
 }
-
-/// What holds of a node whose offer stands in a cell of its own, which the world does not show; it does nothing.
-pub fn late_offers()
-    // The run has the offer at the latest together with the proposal of the node's own number.
-    ensures calls { OffersMayBeLate }
-
-    // What other nodes do meanwhile leaves the node in its world.
-    ensures others { OthersLeaveIt }
-{}

@@ -2,14 +2,14 @@
 use Rattle.std.proofs.Common.{◌≡◌, ℕ, ◌<◌, ◌≤◌, ◌⊎◌, ◌↔◌, Bool, true, false, IsTrue, ◌&&◌, ltb, eqb, List, Option, Some, None, inl, inr, refl, sym, ap, ◌∙◌, subst, arith}
 use Rattle.std.proofs.lemmas.Bool.{ltb-true, lt-ltb, eqb-true, eq-eqb, leb-true, le-leb, and_parts, and_from}
 use Rattle.std.specs.List.{list_any}
-use Rattle.paxos_world.specs.KeptPart.{vote}
-use Rattle.paxos_world.specs.Quorum.{is_promise_quorum, is_accept_quorum, IsPromiseQuorum}
-use Rattle.paxos_world.proofs.Quorums.{promise_quorum_grows, accept_quorum_grows, member_of}
-use Rattle.paxos_world.specs.Step.{NamesNone, IsHighest, IsSafeChoice, IsChosen, HasOffered}
-use Rattle.paxos_world.specs.World.{World, Has}
-use Rattle.paxos_world.specs.declared.msg.Msg.{Msg}
-use Rattle.paxos_world.specs.declared.msg.Msg.TheVariants.{Prepare, Promise, Propose, Accepted}
-use Rattle.paxos_world.specs.declared.vote.Vote.{Vote}
+use Rattle.paxos_core_world.specs.KeptPart.{vote}
+use Rattle.paxos_core_world.specs.Quorum.{is_promise_quorum, is_accept_quorum, IsPromiseQuorum}
+use Rattle.paxos_core_world.proofs.Quorums.{promise_quorum_grows, accept_quorum_grows, member_of}
+use Rattle.paxos_core_world.specs.Step.{NamesNone, IsHighest, IsSafeChoice, IsChosen, HasOffered}
+use Rattle.paxos_core_world.specs.World.{World, Has}
+use Rattle.paxos_core_world.specs.declared.msg.Msg.{Msg}
+use Rattle.paxos_core_world.specs.declared.msg.Msg.TheVariants.{Prepare, Promise, Propose, Accepted}
+use Rattle.paxos_core_world.specs.declared.vote.Vote.{Vote}
 use Rattle.paxos_reference.specs.Tests.{is_accepted, is_within, is_promise, has_promised, has_voted, is_highest, is_tally, IsFree}
 use Rattle.paxos_reference.proofs.Found.{any_has, found}
 

@@ -1,9 +1,9 @@
 -- Ballots stay from 1 when a list has gained an item at its front, or has not.
 use Rattle.std.proofs.Common.{◌≡◌, ℕ, ◌≤◌, ◌⊎◌, List, ◌∷◌, Result, Ok, Err, OnOk, OnErr, inl, inr, sym, ◌∙◌, subst, ap}
 use Rattle.std.specs.List.{remove}
-use Rattle.paxos_world.specs.World.{Has}
-use Rattle.paxos_world.specs.declared.msg.Msg.{Msg}
-use Rattle.paxos_world.specs.declared.msg.Msg.TheVariants.{Propose}
+use Rattle.paxos_core_world.specs.World.{Has}
+use Rattle.paxos_core_world.specs.declared.msg.Msg.{Msg}
+use Rattle.paxos_core_world.specs.declared.msg.Msg.TheVariants.{Propose}
 
 -- each ballot of the list is from 1
 abbrev AreBallots : List ℕ → Type 0

@@ -1,10 +1,10 @@
 -- An opening shows no proposal.
 use Rattle.std.proofs.Common.{ℕ, zero, suc, ◌++◌, Option, Some, None, inl, inr}
-use Rattle.paxos_world.specs.KeptPart.{KeptPart}
-use Rattle.paxos_world.proofs.Sent.{has-append}
-use Rattle.paxos_world.specs.World.{Has, shown, shown_start, shown_vote}
-use Rattle.paxos_world.specs.declared.msg.Msg.TheVariants.{Propose}
-use Rattle.paxos_world.specs.declared.vote.Vote.{Vote}
+use Rattle.paxos_core_world.specs.KeptPart.{KeptPart}
+use Rattle.paxos_core_world.proofs.Sent.{has-append}
+use Rattle.paxos_core_world.specs.World.{Has, shown, shown_start, shown_vote}
+use Rattle.paxos_core_world.specs.declared.msg.Msg.TheVariants.{Propose}
+use Rattle.paxos_core_world.specs.declared.vote.Vote.{Vote}
 
 start_shows_none : (s b v : ℕ) → Has (Propose b v) (shown_start s) → ⊥
 start_shows_none zero b v h = h

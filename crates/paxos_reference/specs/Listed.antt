@@ -1,6 +1,6 @@
 -- The world and the step that the program's lists and label stand for.
-use Rattle.paxos_world.specs.Step.{Label, Offers, Starts, Promises, Proposes, Accepts, Learns, Restarts}
-use Rattle.paxos_world.specs.World.{World, nodes_of}
+use Rattle.paxos_core_world.specs.Step.{Label, Offers, Starts, Promises, Proposes, Accepts, Learns, Restarts}
+use Rattle.paxos_core_world.specs.World.{World, nodes_of}
 use Rattle.paxos_reference.specs.declared.label.Label.{Label as Told}
 use Rattle.paxos_reference.specs.declared.label.Label.TheVariants as told
 use Rattle.paxos_reference.specs.declared.world.World.{World as Listed}

@@ -1,12 +1,12 @@
 -- What is sought in the messages that were sent, one definition for each function that seeks it.
 use Rattle.std.specs.Prelude.{◌≡◌, ℕ, ◌==◌, nat_lt, nat_le, Bool, true, false, ◌&&◌, List, Option, Some, None}
 use Rattle.std.specs.List.{list_any}
-use Rattle.paxos_world.specs.Quorum.{is_promise_quorum, is_accept_quorum, IsPromiseQuorum}
-use Rattle.paxos_world.specs.Step.{HasOffered}
-use Rattle.paxos_world.specs.World.{World}
-use Rattle.paxos_world.specs.declared.msg.Msg.{Msg}
-use Rattle.paxos_world.specs.declared.msg.Msg.TheVariants.{Prepare, Promise, Propose, Accepted}
-use Rattle.paxos_world.specs.declared.vote.Vote.{Vote}
+use Rattle.paxos_core_world.specs.Quorum.{is_promise_quorum, is_accept_quorum, IsPromiseQuorum}
+use Rattle.paxos_core_world.specs.Step.{HasOffered}
+use Rattle.paxos_core_world.specs.World.{World}
+use Rattle.paxos_core_world.specs.declared.msg.Msg.{Msg}
+use Rattle.paxos_core_world.specs.declared.msg.Msg.TheVariants.{Prepare, Promise, Propose, Accepted}
+use Rattle.paxos_core_world.specs.declared.vote.Vote.{Vote}
 
 -- the message is Prepare(b)
 abbrev pub is_prepare : ℕ → Msg → Bool

@@ -1,7 +1,7 @@
 ghost use Rattle.std.specs.Prelude.{◌≡◌, ◌↔◌, ◌<◌, ◌≤◌, IsTrue, length};
-ghost use Rattle.paxos_world.specs.Ballot.{Owns};
-ghost use Rattle.paxos_world.specs.Step.{Accepts, Allowed, HasOffered, IsSafeChoice, Learns, Offers, Promises, Proposes, Starts};
-ghost use Rattle.paxos_world.specs.World.{Has, nodes_of};
+ghost use Rattle.paxos_core_world.specs.Ballot.{Owns};
+ghost use Rattle.paxos_core_world.specs.Step.{Accepts, Allowed, HasOffered, IsSafeChoice, Learns, Offers, Promises, Proposes, Starts};
+ghost use Rattle.paxos_core_world.specs.World.{Has, nodes_of};
 ghost use Rattle.paxos_reference.specs.Listed.{label_of, world_of};
 ghost use Rattle.paxos_reference.specs.Tests.{IsFree};
 

@@ -1,13 +1,13 @@
 ghost use Rattle.std.specs.Prelude.{◌≡◌, ℕ, ◌↔◌, ◌≤◌, IsTrue, length};
 ghost use Rattle.std.specs.List.{list_any};
-ghost use Rattle.paxos_world.specs.Quorum.{count_below, is_promise_quorum};
-ghost use Rattle.paxos_world.specs.World.{Has};
-ghost use Rattle.paxos_world.specs.declared.msg.Msg.TheVariants.{Prepare, Propose};
+ghost use Rattle.paxos_core_world.specs.Quorum.{count_below, is_promise_quorum};
+ghost use Rattle.paxos_core_world.specs.World.{Has};
+ghost use Rattle.paxos_core_world.specs.declared.msg.Msg.TheVariants.{Prepare, Propose};
 ghost use Rattle.paxos_reference.specs.Tests.{has_promised, has_voted, is_accepted, is_highest, is_prepare, is_promise, is_proposal, is_propose, is_tally, is_within};
 
-use paxos_world::msg::Msg;
-use paxos_world::quorum::{is_accept_quorum, is_promise_quorum};
-use paxos_world::vote::Vote;
+use paxos_core_world::msg::Msg;
+use paxos_core_world::quorum::{is_accept_quorum, is_promise_quorum};
+use paxos_core_world::vote::Vote;
 
 /// Whether `Prepare(ballot)` was sent.
 pub fn is_prepared(sent: &[Msg], ballot: u16) -> bool

@@ -1,9 +1,9 @@
 ghost use Rattle.std.specs.Prelude.{◌≡◌, ◌∷◌, ◌++◌, ◌<◌, ◌≤◌, IfOk, OnOk, OnErr, length};
-ghost use Rattle.paxos_world.specs.World.{nodes_of, shown, shown_start, shown_vote};
+ghost use Rattle.paxos_core_world.specs.World.{nodes_of, shown, shown_start, shown_vote};
 
-use paxos_world::kept::Kept;
-use paxos_world::msg::Msg;
-use paxos_world::vote::Vote;
+use paxos_core_world::kept::Kept;
+use paxos_core_world::msg::Msg;
+use paxos_core_world::vote::Vote;
 use std::alloc::{AllocError, Global};
 
 /// The messages that the parts show to have been sent, the last node's first.

@@ -1,12 +1,12 @@
 ghost use Rattle.std.specs.Prelude.{◌≡◌, OnErr, OnOk, length};
-ghost use Rattle.paxos_world.specs.Step.{Accepts, Allowed, Learns, Offers, Promises, Proposes, Starts, after};
+ghost use Rattle.paxos_core_world.specs.Step.{Accepts, Allowed, Learns, Offers, Promises, Proposes, Starts, after};
 ghost use Rattle.paxos_reference.specs.Listed.{label_of, world_of};
 
 use crate::label::Label;
 use crate::shown::push_front;
 use crate::world::World;
-use paxos_world::msg::Msg;
-use paxos_world::vote::Vote;
+use paxos_core_world::msg::Msg;
+use paxos_core_world::vote::Vote;
 use std::alloc::AllocError;
 
 impl World {

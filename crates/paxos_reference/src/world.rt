@@ -1,10 +1,10 @@
 ghost use Rattle.std.specs.Prelude.{◌≡◌, ℕ, ◌≤◌, IfOk, length};
-ghost use Rattle.paxos_world.specs.World.{Has};
-ghost use Rattle.paxos_world.specs.declared.msg.Msg.TheVariants.{Propose};
+ghost use Rattle.paxos_core_world.specs.World.{Has};
+ghost use Rattle.paxos_core_world.specs.declared.msg.Msg.TheVariants.{Propose};
 
 use crate::shown::shown;
-use paxos_world::kept::Kept;
-use paxos_world::msg::Msg;
+use paxos_core_world::kept::Kept;
+use paxos_core_world::msg::Msg;
 use std::alloc::{AllocError, Global};
 
 /// All that stands in a room, and has happened in it since it was opened. Lists have the newest first, and each ballot
@@ -24,7 +24,7 @@ pub struct World {
 }
 
 impl World {
-    ghost use Rattle.paxos_world.specs.World.{opening, nodes_of};
+    ghost use Rattle.paxos_core_world.specs.World.{opening, nodes_of};
     ghost use Rattle.paxos_reference.specs.Listed.{world_of};
 
     /// The world of a room as it is opened with these kept parts, in the order of their nodes, whose numbers are bytes.

@@ -5,17 +5,17 @@ use lib.ListN.{get_elem?}
 use Rattle.atomic_table.specs.Table.{State, Splits, Joins}
 use Rattle.atomic_table.specs.Table as table
 use Rattle.atomic_table.proofs.Lists.{at_set}
-use Rattle.paxos_world.specs.KeptPart.{KeptPart}
-use Rattle.paxos_world.specs.Run.{reached}
-use Rattle.paxos_world.specs.Settled.{Settled}
-use Rattle.paxos_world.specs.World.{World, opening, nodes_of, no_nodes, shown}
-use Rattle.paxos_world.specs.declared.msg.Msg.{Msg}
-use Rattle.paxos_model.proofs.Theorem.{nothing_settled}
-use Rattle.paxos_law.specs.NodeState.{node_with}
-use Rattle.paxos_law.proofs.BelongsLemmas.{belongs_with}
-use Rattle.paxos_core.specs.LateOffer.{BelongsButOffer}
-use Rattle.paxos_core.proofs.LateLemmas.{offers_may_be_late}
-use Rattle.rooms_words.specs.Words.{IsProposerWord, IsAcceptorWord}
+use Rattle.paxos_core_world.specs.KeptPart.{KeptPart}
+use Rattle.paxos_core_world.specs.Run.{reached}
+use Rattle.paxos_core_world.specs.Settled.{Settled}
+use Rattle.paxos_core_world.specs.World.{World, opening, nodes_of, no_nodes, shown}
+use Rattle.paxos_core_world.specs.declared.msg.Msg.{Msg}
+use Rattle.paxos_core_model.proofs.Theorem.{nothing_settled}
+use Rattle.paxos_core_law.specs.NodeState.{node_with}
+use Rattle.paxos_core_law.proofs.BelongsLemmas.{belongs_with}
+use Rattle.paxos_core_late_offers.specs.LateOffer.{BelongsButOffer}
+use Rattle.paxos_core_late_offers.proofs.LateLemmas.{offers_may_be_late}
+use Rattle.rooms_rule.specs.Words.{IsProposerWord, IsAcceptorWord}
 use Rattle.rooms_rule.specs.declared.event.Event.{Event}
 use Rattle.rooms_rule.specs.declared.view.Opening.{Opening}
 use Rattle.rooms_rule.specs.declared.view.View.{View}

@@ -1,16 +1,16 @@
 -- Two seats of one room that have told each other what they have seen have learned one value.
 use Rattle.std.proofs.Common.{◌≡◌, ℕ, zero, suc, ◌<◌, Bool, true, false, cond, List, [], ◌++◌, append_assoc, Option, Some, None, refl, sym, ap, ◌∙◌, subst, arith}
 use Rattle.atomic_table.specs.Seated.{TableId}
-use Rattle.paxos_world.specs.KeptPart.{KeptPart}
-use Rattle.paxos_world.specs.Step.{Label}
-use Rattle.paxos_world.specs.World.{World, Has, nodes_of}
-use Rattle.paxos_world.specs.declared.vote.Vote.{Vote}
-use Rattle.paxos_model.proofs.Theorem.{runs_learn_one}
-use Rattle.paxos_law.specs.Learner.{after_promise, notes_promise, notes_vote}
-use Rattle.paxos_law.specs.NodeState.{NodeState}
-use Rattle.paxos_law.proofs.WorldLemmas.{grows_by}
-use Rattle.rooms_words.specs.declared.acceptor.AcceptorWord.{AcceptorWord}
-use Rattle.rooms_words.specs.declared.proposer.ProposerWord.{ProposerWord}
+use Rattle.paxos_core_world.specs.KeptPart.{KeptPart}
+use Rattle.paxos_core_world.specs.Step.{Label}
+use Rattle.paxos_core_world.specs.World.{World, Has, nodes_of}
+use Rattle.paxos_core_world.specs.declared.vote.Vote.{Vote}
+use Rattle.paxos_core_model.proofs.Theorem.{runs_learn_one}
+use Rattle.paxos_core_law.specs.Learner.{after_promise, notes_promise, notes_vote}
+use Rattle.paxos_core_law.specs.NodeState.{NodeState}
+use Rattle.paxos_core_law.proofs.WorldLemmas.{grows_by}
+use Rattle.rooms_rule.specs.declared.acceptor.AcceptorWord.{AcceptorWord}
+use Rattle.rooms_rule.specs.declared.proposer.ProposerWord.{ProposerWord}
 use Rattle.rooms_rule.specs.declared.event.Event.{Event}
 use Rattle.rooms_rule.specs.declared.view.Opening.{Opening}
 use Rattle.rooms_rule.specs.declared.view.View.{View}

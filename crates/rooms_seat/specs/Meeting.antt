@@ -1,7 +1,7 @@
 -- What a seat knows of its room for certain, and what two seats of one room know once they have met.
 use Rattle.std.specs.Prelude.{◌≡◌, ℕ, Option, Some, None}
-use Rattle.paxos_world.specs.World.{Has}
-use Rattle.paxos_core.specs.LateOffer.{BelongsButOffer}
+use Rattle.paxos_core_world.specs.World.{Has}
+use Rattle.paxos_core_late_offers.specs.LateOffer.{BelongsButOffer}
 use Rattle.rooms_rule.specs.Views.{IsLegal, BeginsWith}
 use Rattle.rooms_state.specs.SeatState.{SeatState, seen_world}
 use Rattle.rooms_seat.specs.declared.meeting.Meeting.{Meeting}

@@ -1,5 +1,5 @@
 ghost use Rattle.std.specs.Prelude.{IfOk};
-ghost use Rattle.paxos_law.specs.NodeState.{IsRoomSize};
+ghost use Rattle.paxos_core_law.specs.NodeState.{IsRoomSize};
 ghost use Rattle.rooms_state.specs.SeatState.{AreFresh};
 
 use crate::seat::{Board, WordSeat};

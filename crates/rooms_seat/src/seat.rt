@@ -1,23 +1,23 @@
 ghost use Rattle.std.specs.Prelude.{◌≡◌, ◌*◌, ◌<◌, ◌↔◌, Some, None, IsErr, IsNone, OnErr, IfOk, IfSome};
-ghost use Rattle.paxos_law.specs.Proposer.{next_ballot, next_proposal};
-ghost use Rattle.paxos_law.specs.declared.step.Act.TheVariants as act;
+ghost use Rattle.paxos_core_law.specs.Proposer.{next_ballot, next_proposal};
+ghost use Rattle.paxos_core_law.specs.declared.step.Act.TheVariants as act;
 ghost use Rattle.rooms_state.specs.Did.{Did, LookedAtAcceptor, LookedAtProposer};
 ghost use Rattle.rooms_seat.specs.Meeting.{IsKnown};
 ghost use Rattle.rooms_state.specs.SeatState.{empty_opening, fresh_seat, promise_of, seen_world, vote_by, vote_of};
 ghost use Rattle.std.specs.Arc.{arc_value};
-ghost use Rattle.paxos_law.specs.NodeState.{IsRoomSize};
+ghost use Rattle.paxos_core_law.specs.NodeState.{IsRoomSize};
 ghost use Rattle.rooms_rule.specs.Deal.{dealt, informed};
 ghost use Rattle.rooms_rule.specs.Heard.{after_hearing};
-ghost use Rattle.paxos_world.specs.World.{Has};
+ghost use Rattle.paxos_core_world.specs.World.{Has};
 
 use atomic_table::{Seat as Token, Table};
 use paxos_core::{CoreError, Msg, Node, Vote};
+use rooms_rule::acceptor::AcceptorWord;
+use rooms_rule::proposer::ProposerWord;
 use rooms_rule::rule::{
     Accepts, LooksAtAcceptor, LooksAtProposer, Promises, Proposes, RoomLaw, Starts, Tells,
 };
 use rooms_rule::view::{Opening, View};
-use rooms_words::acceptor::AcceptorWord;
-use rooms_words::proposer::ProposerWord;
 use std::alloc::Global;
 use std::marker::Model;
 use std::sync::Arc;

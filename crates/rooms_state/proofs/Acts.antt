@@ -4,27 +4,27 @@ use Rattle.std.proofs.lemmas.Bool.{and_parts, ltb-true, le-leb, cond-true}
 use mathlib.Core.Option.{none}
 use Rattle.atomic_table.specs.Seated.{TableId}
 use Rattle.atomic_table.specs.Table.{Me, step, Allows}
-use Rattle.paxos_world.specs.KeptPart.{KeptPart, with_promise, with_vote, vote}
-use Rattle.paxos_world.specs.Run.{reached}
-use Rattle.paxos_world.specs.Settled.{is_given}
-use Rattle.paxos_world.specs.Step.{Label, Promises, Accepts}
-use Rattle.paxos_world.specs.World.{World, Has}
-use Rattle.paxos_world.specs.declared.msg.Msg.{Msg}
-use Rattle.paxos_world.specs.declared.msg.Msg.TheVariants.{Prepare, Propose}
-use Rattle.paxos_world.specs.declared.vote.Vote.{Vote}
-use Rattle.paxos_law.specs.Acceptor.{is_vote, promises, accepts, after_prepare, after_propose}
-use Rattle.paxos_law.specs.Message.{after_message}
-use Rattle.paxos_law.specs.NodeState.{NodeState, offered}
-use Rattle.paxos_law.specs.Proposer.{next_ballot, started, next_proposal, propose_message, after_answer, after_proposal}
-use Rattle.paxos_law.specs.Reached.{IsReached}
-use Rattle.paxos_law.specs.Would.{after_act, next_promise, next_vote}
-use Rattle.paxos_law.specs.declared.step.Act.{Act}
-use Rattle.paxos_law.specs.declared.step.Act.TheVariants as act
-use Rattle.paxos_core.specs.LateOffer.{taken_late_by_propose}
-use Rattle.paxos_core.proofs.LateLemmas.{offers_may_be_late}
-use Rattle.rooms_words.specs.Words.{proposed_in, IsProposerWord, IsAcceptorWord}
-use Rattle.rooms_words.specs.declared.acceptor.AcceptorWord.{AcceptorWord}
-use Rattle.rooms_words.specs.declared.proposer.ProposerWord.{ProposerWord}
+use Rattle.paxos_core_world.specs.KeptPart.{KeptPart, with_promise, with_vote, vote}
+use Rattle.paxos_core_world.specs.Run.{reached}
+use Rattle.paxos_core_world.specs.Settled.{is_given}
+use Rattle.paxos_core_world.specs.Step.{Label, Promises, Accepts}
+use Rattle.paxos_core_world.specs.World.{World, Has}
+use Rattle.paxos_core_world.specs.declared.msg.Msg.{Msg}
+use Rattle.paxos_core_world.specs.declared.msg.Msg.TheVariants.{Prepare, Propose}
+use Rattle.paxos_core_world.specs.declared.vote.Vote.{Vote}
+use Rattle.paxos_core_law.specs.Acceptor.{is_vote, promises, accepts, after_prepare, after_propose}
+use Rattle.paxos_core_law.specs.Message.{after_message}
+use Rattle.paxos_core_law.specs.NodeState.{NodeState, offered}
+use Rattle.paxos_core_law.specs.Proposer.{next_ballot, started, next_proposal, propose_message, after_answer, after_proposal}
+use Rattle.paxos_core_law.specs.Reached.{IsReached}
+use Rattle.paxos_core_law.specs.Would.{after_act, next_promise, next_vote}
+use Rattle.paxos_core_law.specs.declared.step.Act.{Act}
+use Rattle.paxos_core_law.specs.declared.step.Act.TheVariants as act
+use Rattle.paxos_core_late_offers.specs.LateOffer.{taken_late_by_propose}
+use Rattle.paxos_core_late_offers.proofs.LateLemmas.{offers_may_be_late}
+use Rattle.rooms_rule.specs.Words.{proposed_in, IsProposerWord, IsAcceptorWord}
+use Rattle.rooms_rule.specs.declared.acceptor.AcceptorWord.{AcceptorWord}
+use Rattle.rooms_rule.specs.declared.proposer.ProposerWord.{ProposerWord}
 use Rattle.rooms_rule.specs.declared.view.Opening.{Opening}
 use Rattle.rooms_rule.specs.declared.view.View.{View}
 use Rattle.rooms_rule.specs.Rule.{RoomRule}

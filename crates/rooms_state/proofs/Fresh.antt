@@ -1,19 +1,19 @@
 -- The seats of a room that has just been opened.
 use Rattle.std.proofs.Common.{◌≡◌, ℕ, zero, suc, ◌*◌, ◌<◌, ◌≤◌, [], get_or, take, length-take, replicate, refl, sym, ap, ◌∙◌, subst, inl, inr, arith}
 use Rattle.atomic_table.specs.Seated.{TableId}
-use Rattle.paxos_world.specs.KeptPart.{KeptPart, nothing_kept}
-use Rattle.paxos_world.specs.Settled.{Settled}
-use Rattle.paxos_world.specs.World.{opening, nodes_of, no_nodes}
-use Rattle.paxos_model.proofs.Theorem.{nothing_settled}
-use Rattle.paxos_law.specs.NodeState.{IsRoomSize, node_with, offered}
+use Rattle.paxos_core_world.specs.KeptPart.{KeptPart, nothing_kept}
+use Rattle.paxos_core_world.specs.Settled.{Settled}
+use Rattle.paxos_core_world.specs.World.{opening, nodes_of, no_nodes}
+use Rattle.paxos_core_model.proofs.Theorem.{nothing_settled}
+use Rattle.paxos_core_law.specs.NodeState.{IsRoomSize, node_with, offered}
 use Rattle.atomic_table.specs.Table as table
 use Rattle.rooms_rule.specs.Deal.{dealing}
 use Rattle.rooms_rule.specs.Rule.{RoomRule}
 use Rattle.rooms_rule.specs.Views.{world_after}
 use Rattle.rooms_rule.proofs.Deal.{opens_with, opens, zero_words}
 use Rattle.rooms_rule.specs.Sight.{ProposerSeen, AcceptorSeen}
-use Rattle.rooms_words.specs.declared.acceptor.AcceptorWord.{AcceptorWord}
-use Rattle.rooms_words.specs.declared.proposer.ProposerWord.{ProposerWord}
+use Rattle.rooms_rule.specs.declared.acceptor.AcceptorWord.{AcceptorWord}
+use Rattle.rooms_rule.specs.declared.proposer.ProposerWord.{ProposerWord}
 use Rattle.rooms_state.specs.SeatState.{empty_opening, fresh_seat, no_proposer, no_acceptor}
 use Rattle.rooms_state.specs.Sound.{IsSound}
 

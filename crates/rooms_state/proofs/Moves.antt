@@ -2,18 +2,18 @@
 use Rattle.std.proofs.Common.{◌≡◌, ℕ, ◌+◌, ◌*◌, ◌<◌, ◌≤◌, Bool, true, false, cond, List, [], ◌++◌, length, set, get_or, append_assoc, length-set, get_or-set_same, get_or-set_other, Option, Some, None, refl, sym, ap, ◌∙◌, subst, inl, inr, arith}
 use native.Mathlib.Decide.{ℕ_discrete}
 use Rattle.atomic_table.specs.Seated.{TableId}
-use Rattle.paxos_world.specs.KeptPart.{KeptPart, with_offer, without_offer}
-use Rattle.paxos_world.specs.Run.{IsRun, reached}
-use Rattle.paxos_world.specs.Step.{Label}
-use Rattle.paxos_world.specs.World.{World}
-use Rattle.paxos_world.specs.declared.vote.Vote.{Vote}
-use Rattle.paxos_law.specs.Learner.{after_promise, notes_promise, notes_vote}
-use Rattle.paxos_law.specs.NodeState.{NodeState, offered}
-use Rattle.paxos_law.specs.Reached.{IsReached}
-use Rattle.paxos_core.specs.LateOffer.{BelongsButOffer}
-use Rattle.rooms_words.specs.Words.{started_in, proposed_in, promised_in, accepted_in}
-use Rattle.rooms_words.specs.declared.acceptor.AcceptorWord.{AcceptorWord}
-use Rattle.rooms_words.specs.declared.proposer.ProposerWord.{ProposerWord}
+use Rattle.paxos_core_world.specs.KeptPart.{KeptPart, with_offer, without_offer}
+use Rattle.paxos_core_world.specs.Run.{IsRun, reached}
+use Rattle.paxos_core_world.specs.Step.{Label}
+use Rattle.paxos_core_world.specs.World.{World}
+use Rattle.paxos_core_world.specs.declared.vote.Vote.{Vote}
+use Rattle.paxos_core_law.specs.Learner.{after_promise, notes_promise, notes_vote}
+use Rattle.paxos_core_law.specs.NodeState.{NodeState, offered}
+use Rattle.paxos_core_law.specs.Reached.{IsReached}
+use Rattle.paxos_core_late_offers.specs.LateOffer.{BelongsButOffer}
+use Rattle.rooms_rule.specs.Words.{started_in, proposed_in, promised_in, accepted_in}
+use Rattle.rooms_rule.specs.declared.acceptor.AcceptorWord.{AcceptorWord}
+use Rattle.rooms_rule.specs.declared.proposer.ProposerWord.{ProposerWord}
 use Rattle.rooms_rule.specs.declared.event.Event.{Event}
 use Rattle.rooms_rule.specs.declared.view.View.{View}
 use Rattle.rooms_rule.specs.Events.{labels_of, events_of}

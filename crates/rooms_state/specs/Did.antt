@@ -1,9 +1,9 @@
 -- What a call of a seat does: one word step, and with it at most one step of the protocol and an offer.
 use Rattle.std.specs.Prelude.{◌≡◌, ℕ, [], Option, slice_set}
-use Rattle.paxos_law.specs.Would.{after_act}
-use Rattle.paxos_law.specs.declared.step.Act.{Act}
-use Rattle.rooms_words.specs.declared.acceptor.AcceptorWord.{AcceptorWord}
-use Rattle.rooms_words.specs.declared.proposer.ProposerWord.{ProposerWord}
+use Rattle.paxos_core_law.specs.Would.{after_act}
+use Rattle.paxos_core_law.specs.declared.step.Act.{Act}
+use Rattle.rooms_rule.specs.declared.acceptor.AcceptorWord.{AcceptorWord}
+use Rattle.rooms_rule.specs.declared.proposer.ProposerWord.{ProposerWord}
 use Rattle.rooms_rule.specs.Heard.{after_hearing, taken_by_hearing}
 use Rattle.rooms_rule.specs.NotBelow.{ProposerNotBelow, AcceptorNotBelow}
 use Rattle.rooms_rule.specs.Steps.{Advances, Took}

@@ -1,14 +1,14 @@
 -- A seat at one moment: what it knows of its room, its node, and what it has last seen of the words.
 use Rattle.std.specs.Prelude.{◌≡◌, ℕ, zero, suc, List, [], ◌∷◌, ◌++◌, replicate, if◌then◌else◌, Option, Some, None, slice_index_or}
 use Rattle.atomic_table.specs.Seated.{TableId}
-use Rattle.paxos_world.specs.KeptPart.{nothing_kept, vote}
-use Rattle.paxos_world.specs.Settled.{is_given}
-use Rattle.paxos_world.specs.World.{World}
-use Rattle.paxos_world.specs.declared.vote.Vote.{Vote}
-use Rattle.paxos_law.specs.NodeState.{NodeState, new_node}
-use Rattle.paxos_law.specs.Would.{next_promise, next_vote}
-use Rattle.rooms_words.specs.declared.acceptor.AcceptorWord.{AcceptorWord}
-use Rattle.rooms_words.specs.declared.proposer.ProposerWord.{ProposerWord}
+use Rattle.paxos_core_world.specs.KeptPart.{nothing_kept, vote}
+use Rattle.paxos_core_world.specs.Settled.{is_given}
+use Rattle.paxos_core_world.specs.World.{World}
+use Rattle.paxos_core_world.specs.declared.vote.Vote.{Vote}
+use Rattle.paxos_core_law.specs.NodeState.{NodeState, new_node}
+use Rattle.paxos_core_law.specs.Would.{next_promise, next_vote}
+use Rattle.rooms_rule.specs.declared.acceptor.AcceptorWord.{AcceptorWord}
+use Rattle.rooms_rule.specs.declared.proposer.ProposerWord.{ProposerWord}
 use Rattle.rooms_rule.specs.Deal.{dealt}
 use Rattle.rooms_rule.specs.declared.view.Opening.{Opening}
 use Rattle.rooms_rule.specs.declared.view.View.{View}

@@ -1,9 +1,9 @@
 -- What holds of every seat.
 use Rattle.std.specs.Prelude.{◌≡◌, ℕ, ◌*◌, ◌<◌, ◌≤◌, length}
 use Rattle.atomic_table.specs.Seated.{TableId}
-use Rattle.paxos_law.specs.NodeState.{offered}
-use Rattle.paxos_core.specs.LateOffer.{BelongsButOffer}
-use Rattle.rooms_words.specs.Words.{proposed_in}
+use Rattle.paxos_core_law.specs.NodeState.{offered}
+use Rattle.paxos_core_late_offers.specs.LateOffer.{BelongsButOffer}
+use Rattle.rooms_rule.specs.Words.{proposed_in}
 use Rattle.rooms_rule.specs.Sight.{ProposerSeen, AcceptorSeen}
 use Rattle.rooms_rule.specs.Views.{IsLegal, IsSeated}
 use Rattle.rooms_rule.specs.WordsOf.{IsProposerOf}

@@ -4,15 +4,15 @@ use Rattle.std.proofs.lemmas.List.{set-get_or}
 use mathlib.Core.Option.{none, some}
 use lib.ListN.{get_elem?}
 use Rattle.atomic_table.specs.Table.{State, Me, step, Allows}
-use Rattle.paxos_world.specs.Run.{reached}
-use Rattle.paxos_world.specs.Step.{Label, Learns}
-use Rattle.paxos_world.specs.World.{World}
-use Rattle.paxos_world.specs.declared.vote.Vote.{Vote}
-use Rattle.paxos_law.specs.Learner.{after_promise}
-use Rattle.paxos_law.specs.NodeState.{NodeState}
-use Rattle.paxos_law.specs.Taken.{learns_from}
-use Rattle.paxos_core.specs.LateOffer.{TakesLate}
-use Rattle.rooms_words.specs.Words.{promised_in, accepted_in}
+use Rattle.paxos_core_world.specs.Run.{reached}
+use Rattle.paxos_core_world.specs.Step.{Label, Learns}
+use Rattle.paxos_core_world.specs.World.{World}
+use Rattle.paxos_core_world.specs.declared.vote.Vote.{Vote}
+use Rattle.paxos_core_law.specs.Learner.{after_promise}
+use Rattle.paxos_core_law.specs.NodeState.{NodeState}
+use Rattle.paxos_core_law.specs.Taken.{learns_from}
+use Rattle.paxos_core_late_offers.specs.LateOffer.{TakesLate}
+use Rattle.rooms_rule.specs.Words.{promised_in, accepted_in}
 use Rattle.rooms_rule.specs.declared.view.Opening.{Opening}
 use Rattle.rooms_rule.specs.declared.view.View.{View}
 use Rattle.rooms_rule.specs.Events.{events_of}

@@ -2,17 +2,17 @@
 use Rattle.std.proofs.Common.{◌≡◌, ℕ, ◌<◌, ◌≤◌, ◌⊎◌, Bool, true, false, cond, eqb, List, [], ◌∷◌, Option, Some, IfSome, le_refl, lt_of_not-le, refl, sym, ap, ◌∙◌, subst, inl, inr, arith}
 use Rattle.std.proofs.lemmas.Bool.{eqb-true}
 use native.Mathlib.Decide.{dec_le}
-use Rattle.paxos_world.specs.KeptPart.{KeptPart, with_start, with_promise, with_vote, vote}
-use Rattle.paxos_world.specs.Run.{IsRun, reached}
-use Rattle.paxos_world.specs.Step.{Label, Offers, Starts, Promises, Proposes, Accepts, Learns, Restarts, Allowed, after}
-use Rattle.paxos_world.specs.World.{World, Has, put}
-use Rattle.paxos_world.specs.declared.msg.Msg.{Msg}
-use Rattle.paxos_world.specs.declared.msg.Msg.TheVariants.{Prepare, Promise, Propose, Accepted}
-use Rattle.paxos_world.specs.declared.vote.Vote.{Vote}
-use Rattle.paxos_law.proofs.WorldLemmas.{grows_by}
-use Rattle.paxos_law.specs.Reached.{IsReached}
-use Rattle.rooms_words.specs.declared.acceptor.AcceptorWord.{AcceptorWord}
-use Rattle.rooms_words.specs.declared.proposer.ProposerWord.{ProposerWord}
+use Rattle.paxos_core_world.specs.KeptPart.{KeptPart, with_start, with_promise, with_vote, vote}
+use Rattle.paxos_core_world.specs.Run.{IsRun, reached}
+use Rattle.paxos_core_world.specs.Step.{Label, Offers, Starts, Promises, Proposes, Accepts, Learns, Restarts, Allowed, after}
+use Rattle.paxos_core_world.specs.World.{World, Has, put}
+use Rattle.paxos_core_world.specs.declared.msg.Msg.{Msg}
+use Rattle.paxos_core_world.specs.declared.msg.Msg.TheVariants.{Prepare, Promise, Propose, Accepted}
+use Rattle.paxos_core_world.specs.declared.vote.Vote.{Vote}
+use Rattle.paxos_core_law.proofs.WorldLemmas.{grows_by}
+use Rattle.paxos_core_law.specs.Reached.{IsReached}
+use Rattle.rooms_rule.specs.declared.acceptor.AcceptorWord.{AcceptorWord}
+use Rattle.rooms_rule.specs.declared.proposer.ProposerWord.{ProposerWord}
 use Rattle.rooms_rule.specs.NotBelow.{StandsIn, ProposerNotBelow, VoteNotBelow, AcceptorNotBelow}
 use Rattle.rooms_rule.specs.Sight.{ProposerSeen, AcceptorSeen}
 use Rattle.rooms_rule.specs.WordsOf.{proposed_under, proposed_by}

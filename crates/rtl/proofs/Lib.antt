@@ -1,1 +1,5 @@
-pub mod Short
+pub mod Shows
+pub mod Fitting
+pub mod FirstWords
+pub mod UnderWay
+pub mod MadeReady

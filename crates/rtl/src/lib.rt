@@ -1,16 +1,22 @@
-//! RTL, the second language of the pipeline: a graph of nodes over pseudo-registers. Each function has
-//! one spelling, and a program's run is counted in nodes.
+//! The run of a program of RTL: exactly what the program shows at a bound, in nodes, written byte by
+//! byte. Callers wait on the heap, so a deep recursion takes memory and no stack. Its speed is not
+//! promised.
 #![tactic(auto)]
 
-mod copying;
-mod equal;
-mod function;
-mod instruction;
-mod language;
-mod reading;
-mod writing;
+mod callers;
+mod calls;
+mod functions;
+mod leaving;
+mod pieces;
+mod pool;
+mod preparing;
+mod returns;
+mod running;
+mod starting;
+mod state;
+mod turn;
 
-pub use copying::copy_instruction;
-pub use function::Function;
-pub use instruction::Instruction;
-pub use language::Rtl;
+pub use lang_programs::RunError;
+pub use rtl_language::{Function, Instruction, Rtl, copy_instruction};
+pub use rtl_parts::{Act, Arguments, Register, Test};
+pub use running::run;

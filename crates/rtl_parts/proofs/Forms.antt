@@ -4,12 +4,12 @@ use Rattle.std.specs.Prelude.{◌⊎◌, IfSome, not, nat_le, nat_eq}
 use Rattle.std.specs.Int.{w16, w32, to_be_bytes}
 use Rattle.std.specs.List.{AllByRecursion, list_any, list_all}
 use Rattle.std.proofs.lemmas.Bool.{eqb-true, eq-eqb, ltb-true, lt-ltb, leb-true, le-leb, and_parts, and_from, not-true, not_from_false}
-use Rattle.lang.specs.declared.errors.FormError.TheVariants.{NotCanonical, TooLarge}
-use Rattle.lang.specs.Reading.{byte, number, decoded, up_to, both, unknown}
-use Rattle.lang.specs.Texts.{EachFits}
-use Rattle.lang.proofs.Forms.{IsForm, Takes, ok_is}
-use Rattle.lang.proofs.Parts.{byte_form, number16_form, number32_form, made_takes, made_again, made_form, tested_form, decoded_form, fits_form, below_form, up_to_form, both_form}
-use Rattle.lang.proofs.Lists.{counted_form, fits_each, HasCode, TakesBehind, unknown_takes, follow_form, optional_form}
+use Rattle.lang_base.specs.declared.errors.FormError.TheVariants.{NotCanonical, TooLarge}
+use Rattle.lang_base.specs.Reading.{byte, number, decoded, up_to, both, unknown}
+use Rattle.lang_base.specs.Texts.{EachFits}
+use Rattle.lang_base.proofs.Forms.{IsForm, Takes, ok_is}
+use Rattle.lang_base.proofs.Parts.{byte_form, number16_form, number32_form, made_takes, made_again, made_form, tested_form, decoded_form, fits_form, below_form, up_to_form, both_form}
+use Rattle.lang_base.proofs.Lists.{counted_form, fits_each, HasCode, TakesBehind, unknown_takes, follow_form, optional_form}
 use Rattle.ints.specs.declared.operators.Op.{Op}
 use Rattle.ints.specs.declared.operators.Op.TheVariants.{NegS, NegU, Not, IsZero}
 use Rattle.ints.specs.declared.conditions.Cond.{Cond}

@@ -1,7 +1,7 @@
 -- The bytes of the parts of a function.
 use Rattle.std.specs.Prelude.{ℕ, List, [], ◌∷◌, ◌++◌, Option}
 use Rattle.std.specs.Int.{w16, w32, to_be_bytes}
-use Rattle.lang.specs.Texts.{optional_text, counted_text}
+use Rattle.lang_base.specs.Texts.{optional_text, counted_text}
 use Rattle.ints.specs.Codes.{code_of}
 use Rattle.ints.specs.Conditions.{cond_code_of}
 use Rattle.rtl_parts.specs.declared.arguments.Arguments.{Arguments}

@@ -3,7 +3,7 @@
 
 ghost use Rattle.std.specs.Prelude.{◌≡◌, []};
 ghost use Rattle.std.specs.List.{list_all};
-ghost use Rattle.lang.specs.Reading.{IsRead, Reads, items_of, more};
+ghost use Rattle.lang_base.specs.Reading.{IsRead, Reads, items_of, more};
 ghost use Rattle.rtl_parts.specs.Reading.{register, target, global, arguments, asked, constant, copying, operation, load, store, put, act, parameter, parameters, lies_within, frame};
 
 use crate::act::Act;
@@ -11,7 +11,7 @@ use crate::arguments::Arguments;
 use crate::register::Register;
 use crate::test::Test;
 use ints::{Cond, Op};
-use lang::{FormError, Row, read_byte, read_count, read_u16, read_u16_below, read_u32};
+use lang_base::{FormError, Row, read_byte, read_count, read_u16, read_u16_below, read_u32};
 use std::alloc::Global;
 
 /// One of so many registers.

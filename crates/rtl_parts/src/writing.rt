@@ -2,7 +2,7 @@
 
 ghost use Rattle.std.specs.Prelude.{◌≡◌, ◌≤◌, ◌∷◌, ◌++◌, length};
 ghost use Rattle.std.specs.List.{flat_map};
-ghost use Rattle.lang.specs.Texts.{Appends};
+ghost use Rattle.lang_base.specs.Texts.{Appends};
 ghost use Rattle.rtl_parts.specs.Fits.{parameter_limit, argument_limit};
 ghost use Rattle.rtl_parts.specs.Spelling.{register_text, registers_text, target_text, arguments_text, test_text, act_code, act_body, frame_text};
 
@@ -10,7 +10,7 @@ use crate::act::Act;
 use crate::arguments::Arguments;
 use crate::register::Register;
 use crate::test::Test;
-use lang::{NoMemory, push_byte, push_u16, push_u32};
+use lang_base::{NoMemory, push_byte, push_u16, push_u32};
 
 fn push_each_register(out: &mut Vec<u8>, registers: &[Register]) -> Result<(), NoMemory>
     ensures { Appends result (flat_map register_text registers.now) out.old.items out.new.items }

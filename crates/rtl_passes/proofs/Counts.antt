@@ -8,9 +8,9 @@ use Rattle.rtl_parts.specs.declared.act.Act.{Act}
 use Rattle.rtl_parts.specs.declared.act.Act.TheVariants.{Nop, Constant, Move, Operate, Load, Store, Put}
 use Rattle.rtl_parts.specs.Data.{Data, value_at}
 use Rattle.rtl_parts.specs.Acts.{words_of, given, with_result, word_in, changed, stored, printing, does, holds}
-use Rattle.rtl.specs.declared.instruction.Instruction.{Instruction}
-use Rattle.rtl.specs.declared.instruction.Instruction.TheVariants.{Do, Call, Branch, Return}
-use Rattle.rtl.specs.Frames.{with_arguments}
+use Rattle.rtl_language.specs.declared.instruction.Instruction.{Instruction}
+use Rattle.rtl_language.specs.declared.instruction.Instruction.TheVariants.{Do, Call, Branch, Return}
+use Rattle.rtl_language.specs.Frames.{with_arguments}
 use Rattle.rtl_passes.specs.Effects.{Effect, Onward, Calls, Back, Faults, onward, chooses, effect_of}
 
 -- as many registers as before, where there is data

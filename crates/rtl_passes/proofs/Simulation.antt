@@ -3,18 +3,18 @@ use Rattle.std.proofs.Common.{◌≡◌, ◌≢◌, ℕ, zero, suc, List, [], �
 use Rattle.std.specs.Prelude.{slice_get, ◌==◌, replicate}
 use Rattle.std.specs.List.{AllByRecursion}
 use Rattle.std.proofs.lemmas.List.{length-replicate}
-use Rattle.lang.specs.Machine.{Next, Goes, Ends, Fails, showing, shows, Leads, Matches}
-use Rattle.lang.specs.Programs.{NamedFunction}
-use Rattle.lang.specs.Soundness.{AcceptedInTurn}
-use Rattle.lang.specs.declared.shown.Shown.TheVariants as shown
-use Rattle.lang.proofs.Simulation.{leads-step}
+use Rattle.lang_base.specs.Machine.{Next, Goes, Ends, Fails, showing, shows, Leads, Matches}
+use Rattle.lang_base.specs.Programs.{NamedFunction}
+use Rattle.lang_base.specs.Soundness.{AcceptedInTurn}
+use Rattle.lang_base.specs.declared.shown.Shown.TheVariants as shown
+use Rattle.lang_base.proofs.Simulation.{leads-step}
 use Rattle.rtl_parts.specs.Data.{Data}
 use Rattle.rtl_parts.specs.Acts.{does, holds}
-use Rattle.rtl.specs.declared.instruction.Instruction.{Instruction}
-use Rattle.rtl.specs.declared.instruction.Instruction.TheVariants.{Do, Call, Branch, Return}
-use Rattle.rtl.specs.Function.{FunctionData}
-use Rattle.rtl.specs.Frames.{Frame, State, printed, goes_to, restored, resumed, comes_back, with_arguments}
-use Rattle.rtl.specs.Meaning.{branches, waiting, begun, calls, instruction_step, function_step, next}
+use Rattle.rtl_language.specs.declared.instruction.Instruction.{Instruction}
+use Rattle.rtl_language.specs.declared.instruction.Instruction.TheVariants.{Do, Call, Branch, Return}
+use Rattle.rtl_language.specs.Function.{FunctionData}
+use Rattle.rtl_language.specs.Frames.{Frame, State, printed, goes_to, restored, resumed, comes_back, with_arguments}
+use Rattle.rtl_language.specs.Meaning.{branches, waiting, begun, calls, instruction_step, function_step, next}
 use Rattle.rtl_passes.specs.Shape.{HasSameShape}
 use Rattle.rtl_passes.specs.Effects.{Effect, Onward, Calls, Back, Faults, onward, chooses, effect_of, HoldsAfter}
 use Rattle.rtl_passes.specs.Facts.{IsMatched, IsStepwise, Pair, WaitsWith, StandsWith, AreAlike}

@@ -3,17 +3,17 @@ use Rattle.std.proofs.Common.{◌≡◌, ℕ, suc, List, [], ◌∷◌, length, 
 use Rattle.std.specs.Prelude.{slice_get, ◌==◌, codes, replicate}
 use Rattle.std.specs.Str.{bytes_eq}
 use Rattle.std.proofs.lemmas.List.{length-replicate}
-use Rattle.lang.specs.Keeps.{Keeps}
-use Rattle.lang.specs.Machine.{showing, shows}
-use Rattle.lang.specs.Programs.{GlobalData, NamedFunction, ProgramOf}
-use Rattle.lang.specs.Soundness.{Accepted, AcceptedInTurn}
-use Rattle.lang.proofs.Simulation.{keeps-matches}
+use Rattle.lang_base.specs.Keeps.{Keeps}
+use Rattle.lang_base.specs.Machine.{showing, shows}
+use Rattle.lang_base.specs.Programs.{GlobalData, NamedFunction, ProgramOf}
+use Rattle.lang_base.specs.Soundness.{Accepted, AcceptedInTurn}
+use Rattle.lang_base.proofs.Simulation.{keeps-matches}
 use Rattle.machine.specs.Frames.{main_number}
 use Rattle.rtl_parts.specs.Data.{Data}
-use Rattle.rtl.specs.Function.{FunctionData}
-use Rattle.rtl.specs.Frames.{State, printed}
-use Rattle.rtl.specs.Meaning.{function_step, next, takes_none, begins, run}
-use Rattle.rtl.specs.Growth.{grows}
+use Rattle.rtl_language.specs.Function.{FunctionData}
+use Rattle.rtl_language.specs.Frames.{State, printed}
+use Rattle.rtl_language.specs.Meaning.{function_step, next, takes_none, begins, run}
+use Rattle.rtl_language.specs.Growth.{grows}
 use Rattle.rtl_passes.specs.Facts.{IsStepwise, Pair, AreAlike}
 use Rattle.rtl_passes.proofs.Simulation.{pair_of, matches}
 

@@ -2,9 +2,9 @@
 use Rattle.std.specs.Prelude.{◌≡◌, ℕ, List, Option, Some, None, Bool, map, if◌then◌else◌}
 use Rattle.rtl_parts.specs.Data.{Data, value_at}
 use Rattle.rtl_parts.specs.Acts.{does, holds, with_result}
-use Rattle.rtl.specs.declared.instruction.Instruction.{Instruction}
-use Rattle.rtl.specs.declared.instruction.Instruction.TheVariants.{Do, Call, Branch, Return}
-use Rattle.rtl.specs.Frames.{returned}
+use Rattle.rtl_language.specs.declared.instruction.Instruction.{Instruction}
+use Rattle.rtl_language.specs.declared.instruction.Instruction.TheVariants.{Do, Call, Branch, Return}
+use Rattle.rtl_language.specs.Frames.{returned}
 
 -- it goes on at a node with this data; it calls a function, whose result and successor are these; it returns; or it goes wrong
 pub data Effect : Type 0 where

@@ -2,12 +2,12 @@
 -- two programs then go side by side: in the same states (Leroy 2009, section 3.2, on dataflow analyses).
 use Rattle.std.specs.Prelude.{◌≡◌, ◌≢◌, ℕ, List, length, Option, Some, slice_get}
 use Rattle.std.specs.List.{AllByRecursion}
-use Rattle.lang.specs.Programs.{NamedFunction}
+use Rattle.lang_base.specs.Programs.{NamedFunction}
 use Rattle.rtl_parts.specs.Data.{Data}
 use Rattle.rtl_parts.specs.Acts.{with_result}
-use Rattle.rtl.specs.declared.instruction.Instruction.{Instruction}
-use Rattle.rtl.specs.Function.{FunctionData}
-use Rattle.rtl.specs.Frames.{Frame, State}
+use Rattle.rtl_language.specs.declared.instruction.Instruction.{Instruction}
+use Rattle.rtl_language.specs.Function.{FunctionData}
+use Rattle.rtl_language.specs.Frames.{Frame, State}
 use Rattle.rtl_passes.specs.Shape.{HasSameShape}
 use Rattle.rtl_passes.specs.Effects.{Effect, Faults, effect_of, HoldsAfter}
 

@@ -3,4 +3,4 @@ pub mod Effects
 pub mod Facts
 pub mod Faults
 pub mod ListForm
-pub use Rattle.rtl.specs.Function
+pub use Rattle.rtl_language.specs.Function

@@ -2,11 +2,11 @@
 use Rattle.std.proofs.Common.{◌≡◌, ℕ, ◌<◌, ◌^◌, List, [], length}
 use Rattle.std.specs.Int.{w16, to_be_bytes}
 use Rattle.std.specs.List.{AllByRecursion, flat_map}
-use Rattle.lang.specs.Reading.{Reading, number, more, counted}
-use Rattle.lang.specs.Texts.{counted_text}
-use Rattle.lang.proofs.Forms.{IsForm}
-use Rattle.lang.proofs.Parts.{number16_form, fits_form}
-use Rattle.lang.proofs.Lists.{counted_form, more_form, each_fits, fits_each}
+use Rattle.lang_base.specs.Reading.{Reading, number, more, counted}
+use Rattle.lang_base.specs.Texts.{counted_text}
+use Rattle.lang_base.proofs.Forms.{IsForm}
+use Rattle.lang_base.proofs.Parts.{number16_form, fits_form}
+use Rattle.lang_base.proofs.Lists.{counted_form, more_form, each_fits, fits_each}
 
 abbrev pub list_text : {A : Type 0} → (A → List ℕ) → List A → List ℕ
 list_text text xs = counted_text (to_be_bytes w16) text xs

@@ -1,6 +1,6 @@
 -- When two functions differ in their instructions alone.
 use Rattle.std.specs.Prelude.{◌≡◌, length}
-use Rattle.rtl.specs.Function.{FunctionData}
+use Rattle.rtl_language.specs.Function.{FunctionData}
 
 -- the same parameters, registers, entry and number of nodes
 pub record HasSameShape (input output : FunctionData) : Type 0 where

@@ -1,6 +1,6 @@
 ghost use Rattle.std.specs.Prelude.{◌≡◌, ◌↔◌, IsTrue};
 
-use rtl::Instruction;
+use rtl_language::Instruction;
 
 /// Whether two instructions are one.
 pub fn is_same(first: &Instruction, second: &Instruction) -> bool

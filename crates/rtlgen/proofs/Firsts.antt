@@ -4,9 +4,9 @@ use Rattle.std.proofs.lemmas.List.{map-append}
 use Rattle.std.proofs.Common.{◌+◌, ◌++◌, add-one, ◌≡◌, ◌≤◌, ◌<◌, ℕ, zero, suc, List, [], ◌∷◌, length, take, get_or, map, refl, sym, ap, subst, ◌∙◌, arith}
 use Rattle.std.specs.Prelude.{All}
 use Rattle.std.proofs.lemmas.List.Elements.{All-head, All-tail}
-use Rattle.lang.specs.Programs.{NamedFunction}
-use Rattle.cminor_tree.specs.Trees.{FunctionTree}
-use Rattle.generation.specs.Gen.{HasTooManyNodes}
+use Rattle.lang_base.specs.Programs.{NamedFunction}
+use Rattle.cminor_syntax.specs.Trees.{FunctionTree}
+use Rattle.rtlgen_definition.specs.Gen.{HasTooManyNodes}
 use Rattle.rtlgen.specs.Refused.{HasFewNodes, IsFirstTooLarge}
 
 pub whole : {A : Type 0} (xs : List A) (n : ℕ) → length xs ≤ n → take n xs ≡ xs

@@ -1,11 +1,11 @@
 -- What was made in an empty graph.
 use Rattle.std.proofs.Common.{◌≡◌, ◌≤◌, ℕ, zero, suc, ◌+◌, [], ◌∷◌, ◌++◌, length, ap, subst, ◌∙◌, arith}
 use Rattle.std.specs.Prelude.{false}
-use Rattle.rtl.specs.Function.{node_limit}
-use Rattle.generation.specs.Gen.{numbers_from}
-use Rattle.generation.specs.Pieces.{Piece}
-use Rattle.generated_expressions.specs.declared.graph.Graph.{Graph}
-use Rattle.generated_expressions.specs.Adding.{Adds}
+use Rattle.rtl_language.specs.Function.{node_limit}
+use Rattle.rtlgen_definition.specs.Gen.{numbers_from}
+use Rattle.rtlgen_definition.specs.Pieces.{Piece}
+use Rattle.rtlgen_code.specs.declared.graph.Graph.{Graph}
+use Rattle.rtlgen_code.specs.Adding.{Adds}
 
 pub made_nodes : {piece : Piece} {next begins : ℕ} {g h : Graph} → Adds piece next g h begins → g.nodes.items ≡ [] → h.is_full ≡ false → h.nodes.items ≡ (piece next 0).nodes
 made_nodes {piece} {next} {begins} {g} {h} a none room = subst (λ xs. h.nodes.items ≡ xs ++ (piece next (length xs)).nodes) none (a.nodes room)

@@ -2,10 +2,10 @@
 use Rattle.std.proofs.Common.{◌≤◌, List, map}
 use Rattle.std.specs.Prelude.{All}
 use Rattle.std.proofs.lemmas.List.Elements.{All-map, All-weaker}
-use Rattle.lang.specs.Programs.{NamedFunction}
-use Rattle.cminor_tree.specs.Fits.{IsFunction}
-use Rattle.cminor_tree.specs.Trees.{FunctionTree}
-use Rattle.generation.specs.Gen.{gen_function, gen_named}
+use Rattle.lang_base.specs.Programs.{NamedFunction}
+use Rattle.cminor_syntax.specs.Fits.{IsFunction}
+use Rattle.cminor_syntax.specs.Trees.{FunctionTree}
+use Rattle.rtlgen_definition.specs.Gen.{gen_function, gen_named}
 
 pub all_small : (fs : List (NamedFunction FunctionTree)) → ((f : FunctionTree) → IsFunction f → (gen_function f).registers ≤ 2048)
     → All (λ f. IsFunction f.function) fs → All (λ g. g.function.registers ≤ 2048) (map gen_named fs)

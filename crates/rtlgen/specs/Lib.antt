@@ -1,5 +1,5 @@
 pub mod Numbers
 pub mod Refused
-pub use Rattle.generation.specs.Gen
-pub use Rattle.program_data.specs.Seen
-pub use Rattle.lang.specs.Keeps
+pub use Rattle.rtlgen_definition.specs.Gen
+pub use Rattle.lang_programs.specs.Seen
+pub use Rattle.lang_base.specs.Keeps

@@ -1,9 +1,9 @@
 -- Programs that are refused: the function that is told is the first that needs too many nodes.
 use Rattle.std.specs.Prelude.{ℕ, zero, suc, ◌≤◌, List, [], ◌∷◌, length}
-use Rattle.lang.specs.Programs.{NamedFunction}
-use Rattle.rtl.specs.Function.{node_limit}
-use Rattle.cminor_tree.specs.Trees.{FunctionTree}
-use Rattle.generation.specs.Gen.{gen_function, HasTooManyNodes}
+use Rattle.lang_base.specs.Programs.{NamedFunction}
+use Rattle.rtl_language.specs.Function.{node_limit}
+use Rattle.cminor_syntax.specs.Trees.{FunctionTree}
+use Rattle.rtlgen_definition.specs.Gen.{gen_function, HasTooManyNodes}
 use Rattle.rtlgen.specs.declared.errors.GenError.{GenError}
 use Rattle.rtlgen.specs.declared.errors.GenError.TheVariants.{NoMemory, TooManyNodes}
 

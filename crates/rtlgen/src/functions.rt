@@ -1,19 +1,18 @@
 //! Functions.
 
 ghost use Rattle.std.specs.Prelude.{◌≡◌, ◌≤◌, [], length, IfOk, OnSome, MatchOption};
-ghost use Rattle.generated_expressions.specs.Adding.{Adds};
-ghost use Rattle.generation.specs.Gen.{statement, ends_with_value, numbers_from, ending, gen_function, gen_named, HasTooManyNodes};
-ghost use Rattle.generation.specs.Pieces.{both};
-ghost use Rattle.program_data.specs.Seen.{named_seen};
-ghost use Rattle.rtl.specs.Function.{node_limit};
+ghost use Rattle.rtlgen_code.specs.Adding.{Adds};
+ghost use Rattle.rtlgen_definition.specs.Gen.{statement, ends_with_value, numbers_from, ending, gen_function, gen_named, HasTooManyNodes};
+ghost use Rattle.rtlgen_definition.specs.Pieces.{both};
+ghost use Rattle.lang_programs.specs.Seen.{named_seen};
+ghost use Rattle.rtl_language.specs.Function.{node_limit};
 ghost use Rattle.rtlgen.specs.Refused.{HasFewNodes};
 
-use cminor::Function as CminorFunction;
-use generated_expressions::Graph;
-use generated_statements::{add_statement, ends_with_value, statement_needs};
-use generation_fits::{generated_fits, generated_is_small};
-use lang::{Named, NoMemory, Row};
-use rtl::{Function, Instruction};
+use crate::{generated_fits, generated_is_small};
+use cminor_language::Function as CminorFunction;
+use lang_base::{Named, NoMemory, Row};
+use rtl_language::{Function, Instruction};
+use rtlgen_code::{Graph, add_statement, ends_with_value, statement_needs};
 use std::alloc::Global;
 
 /// The first registers, which are the parameters.

@@ -1,22 +1,22 @@
 //! Whole programs.
 
 ghost use Rattle.std.specs.Prelude.{◌≡◌, ◌≤◌, All, IfOk, IfErr, OnOk, map};
-ghost use Rattle.lang.specs.Keeps.{Keeps};
-ghost use Rattle.cminor_tree.specs.Fits.{IsFunction};
-ghost use Rattle.cminor_tree.specs.Meaning as C;
-ghost use Rattle.generation.specs.Gen.{gen, gen_named};
-ghost use Rattle.program_data.specs.Seen.{named_seen, seen};
-ghost use Rattle.rtl.specs.Meaning as R;
+ghost use Rattle.lang_base.specs.Keeps.{Keeps};
+ghost use Rattle.cminor_syntax.specs.Fits.{IsFunction};
+ghost use Rattle.cminor_syntax.specs.Meaning as C;
+ghost use Rattle.rtlgen_definition.specs.Gen.{gen, gen_named};
+ghost use Rattle.lang_programs.specs.Seen.{named_seen, seen};
+ghost use Rattle.rtl_language.specs.Meaning as R;
 ghost use Rattle.rtlgen.specs.Refused.{HasFewNodes, IsRefused};
 
 use crate::errors::GenError;
 use crate::functions::translate_named;
+use crate::generated_is_small;
 use crate::globals::copy_globals;
-use cminor::Function as CminorFunction;
-use generation::generated_keeps;
-use generation_fits::generated_is_small;
-use lang::{Named, Program};
-use rtl::Function;
+use cminor_language::Function as CminorFunction;
+use lang_base::{Named, Program};
+use rtl_language::Function;
+use rtlgen_definition::generated_keeps;
 use std::alloc::Global;
 
 /// Each function is in range.

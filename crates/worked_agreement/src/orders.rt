@@ -1,7 +1,7 @@
 //! The orders in which the three nodes of `settle` list one graph.
 
-use commands::{depth_first, falling};
-use lang::Language;
+use cfarm_commands::{depth_first, falling};
+use lang_base::Language;
 use linearize_check::rising;
 use ltl::{Function, Ltl};
 use program_rows::bytes_of;

@@ -6,8 +6,8 @@ use crate::orders::orders_told;
 use crate::schedules::random_told;
 use crate::settle::{near, noise, refused, settled_on};
 use crate::steps::steps_told;
+use cfarm_commands::agree;
 use program_rows::{Answers, numbered};
-use pure_room::agree;
 use std::alloc::Global;
 
 /// Answers each of them.

@@ -1,6 +1,6 @@
 //! What `settle` prints on worked inputs, and on all that is near them.
 
-use commands::settle;
+use cfarm_commands::settle;
 use program_rows::{bytes_of, numbered, owned};
 use rand_core::utils::NextWord;
 use rand_pcg::Pcg32;

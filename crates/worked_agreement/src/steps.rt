@@ -1,9 +1,9 @@
 //! The steps of the protocol's slow reference.
 
 use crate::words::{message_told, node_of, numbers};
+use paxos_core_world::kept::Kept;
 use paxos_reference::label::Label;
 use paxos_reference::world::World;
-use paxos_world::kept::Kept;
 use program_rows::owned;
 use std::alloc::Global;
 

@@ -1,7 +1,7 @@
 //! Numbers, messages and answers as words.
 
-use paxos_world::msg::Msg;
-use paxos_world::vote::Vote;
+use paxos_core_world::msg::Msg;
+use paxos_core_world::vote::Vote;
 use program_rows::owned;
 use std::alloc::Global;
 

@@ -1,8 +1,8 @@
 //! What a language says of bytes.
 
-use lang::Language;
+use lang::{read_program, write_program};
+use lang_base::Language;
 use program_rows::{bytes_of, numbered, owned};
-use programs::{read_program, write_program};
 use std::alloc::Global;
 
 /// What is said of the function that the bytes begin with: what is read, and its copy, are written as just these.

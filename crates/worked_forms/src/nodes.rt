@@ -1,9 +1,9 @@
 //! The nodes of a function of RTL.
 
-use lang::Language;
+use lang_base::Language;
 use program_rows::bytes_of;
-use rtl::Rtl;
-use rtl_nodes::{make_ready, run_here};
+use rtl_decoded::{make_ready, run_here};
+use rtl_language::Rtl;
 use std::alloc::Global;
 
 /// Where the nodes stop that are done from the entry on, the node behind it, and what is left of the limit.

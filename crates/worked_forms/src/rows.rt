@@ -4,12 +4,12 @@ use crate::forms::{form_told, near, program_told, same};
 use crate::heights::{blocks, skips};
 use crate::nodes::nodes_told;
 use crate::runs::{full, run_told};
-use cminor::Cminor;
-use lang::Language;
-use linear::Linear;
+use cminor_language::Cminor;
+use lang_base::Language;
+use linear_language::Linear;
 use ltl::Ltl;
 use program_rows::{Answers, bytes_of};
-use rtl::Rtl;
+use rtl_language::Rtl;
 use std::alloc::Global;
 
 /// Any question.

@@ -1,11 +1,11 @@
 //! Runs of programs.
 
-use lang::Shown;
-use linear::Linear;
+use lang::read_program;
+use lang_base::Shown;
+use lang_programs::RunError;
+use linear_language::Linear;
 use program_rows::{bytes_of, numbered, owned};
-use programs::read_program;
-use rtl::Rtl;
-use run_output::RunError;
+use rtl_language::Rtl;
 use std::alloc::Global;
 use std::io::Write;
 
@@ -19,10 +19,10 @@ fn shown<W: Write>(
 ) -> Option<Result<Shown, RunError>> {
     if language == "rtl" {
         let (program, _length) = read_program::<Rtl>(alloc, bytes).ok()?;
-        return Some(rtl_run::run(alloc, &program, limit, out));
+        return Some(rtl::run(alloc, &program, limit, out));
     }
     let (program, _length) = read_program::<Linear>(alloc, bytes).ok()?;
-    Some(linear_run::run(alloc, &program, limit, out))
+    Some(linear::run(alloc, &program, limit, out))
 }
 
 /// The language, the limit and the program of a question.

@@ -2,7 +2,7 @@
 
 use acceptor_log::{Header, Log, Record};
 use durable_model::{Disk, MemoryDisk};
-use lang::Row;
+use lang_base::Row;
 use rand_pcg::Pcg32;
 use std::alloc::Global;
 

@@ -1,7 +1,7 @@
 //! What is near a written offer.
 
 use crate::judging::{is_written_again, refusal};
-use lang::Pass;
+use lang_base::Pass;
 use program_rows::owned;
 use std::alloc::Global;
 

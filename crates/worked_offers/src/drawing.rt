@@ -1,7 +1,7 @@
 //! Functions of RTL that words choose.
 
 use crate::proposing::output_of;
-use lang::Oracle;
+use lang_base::Oracle;
 use program_rows::owned;
 use rand_core::utils::NextWord;
 use rand_pcg::Pcg32;

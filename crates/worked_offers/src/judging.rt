@@ -1,9 +1,9 @@
 //! What is said of written offers.
 
-use alloc_pass::{Alloc, Fault};
+use alloc_check::{Alloc, Fault};
 use constprop_check::ConstProp;
 use cse_check::Cse;
-use lang::{FormError, NoMemory, Oracle, Pass};
+use lang_base::{FormError, NoMemory, Oracle, Pass};
 use linearize_check::Linearize;
 use offers::{Offer, PartsOf};
 use oracle_alloc::AllocOracle;
@@ -33,7 +33,7 @@ impl Explained for CseOracle {
 
 impl Explained for AllocOracle {
     fn fault_of(alloc: Global, parts: &PartsOf<Alloc>) -> Result<Option<Fault>, NoMemory> {
-        alloc_pass::why(alloc, &parts.input, &parts.output, &parts.certificate)
+        alloc_check::why(alloc, &parts.input, &parts.output, &parts.certificate)
     }
 }
 

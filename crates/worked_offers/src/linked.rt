@@ -1,8 +1,8 @@
 //! Linking: what is linked, and each refusal.
 
 use crate::proposing::{function_of, text_of};
-use lang::{Language, Pass, Program};
-use linking::{Chain, ChainOf, LinkError, Named, NamedOf, are_names, link};
+use lang_base::{Language, Pass, Program};
+use linker_passes::{Chain, ChainOf, LinkError, Named, NamedOf, are_names, link};
 use offers::Offer;
 use program_rows::{bytes_of, numbered};
 use std::alloc::Global;
@@ -23,7 +23,7 @@ fn program_of<L: Language>(alloc: Global, words: &[&str]) -> Option<Program<L::F
     let mut functions = Vec::new(alloc);
     for word in words {
         let (name, input, _beside, _offers) = parts_of(word)?;
-        let named = lang::Named {
+        let named = lang_base::Named {
             name: name.as_bytes().to_vec(alloc).ok()?,
             function: function_of::<L>(alloc, input)?,
         };

@@ -2,8 +2,8 @@
 
 use crate::judging::{Explained, parts_told};
 use crate::proposing::{function_of, proposed, text_of};
-use lang::Pass;
-use linear::Linear;
+use lang_base::Pass;
+use linear_language::Linear;
 use linearize_check::{Order, arrange, reachable, rising};
 use ltl::{Function, Ltl};
 use offers::Parts;

@@ -1,7 +1,7 @@
 //! What baselines and optimisers give for inputs.
 
 use crate::judging::written;
-use lang::{Language, Oracle, Pass};
+use lang_base::{Language, Oracle, Pass};
 use offers::Offer;
 use program_rows::{bytes_of, numbered, owned};
 use rand_pcg::Pcg32;

@@ -8,14 +8,14 @@ use crate::orders::order_answer;
 use crate::proposing::{baseline_of, both, proposed, varied};
 use crate::slots::slots_told;
 use constprop_check::ConstProp;
-use lang::Oracle;
+use lang_base::Oracle;
 use offers::Offer;
 use oracle_alloc::AllocOracle;
 use oracle_const::ConstOracle;
 use oracle_cse::CseOracle;
 use oracle_order::OrderOracle;
 use program_rows::{Answers, bytes_of};
-use rtl::Rtl;
+use rtl_language::Rtl;
 use std::alloc::Global;
 
 /// What the questions of a file are about: offers of a pass, slots, orders of nodes, or linking.

@@ -2,12 +2,12 @@
 
 use crate::drawing::{drawing_of, drawn_text};
 use crate::proposing::{function_of, proposed};
-use alloc_pass::baseline;
+use alloc_check::baseline;
 use ltl::{Block, Body, Function};
 use machine::{Location, Move};
 use oracle_alloc::AllocOracle;
 use program_rows::owned;
-use rtl::Rtl;
+use rtl_language::Rtl;
 use std::alloc::Global;
 
 fn is_slot(location: &Location) -> bool {
@@ -59,7 +59,7 @@ fn touching(function: &Function) -> u64 {
 }
 
 /// How many blocks of the baseline touch slots.
-fn touching_baseline(alloc: Global, input: &rtl::Function) -> Option<u64> {
+fn touching_baseline(alloc: Global, input: &rtl_language::Function) -> Option<u64> {
     let (output, _equations) = baseline(alloc, input).ok()?;
     Some(touching(&output))
 }

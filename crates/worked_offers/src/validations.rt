@@ -3,7 +3,7 @@
 use crate::judging::parts_of;
 use constprop_check::ConstProp;
 use cse_check::Cse;
-use lang::Pass;
+use lang_base::Pass;
 use linearize_check::Linearize;
 use parallel_validate::{Gate, Job, OpenGate, check_all};
 use program_rows::{agrees, bytes_of, owned, parts_of_row};

@@ -1,9 +1,9 @@
 //! What `exec` tells of the bytes of a linked program.
 
 use crate::told::Told;
-use program_commands::exec;
+use cfarm_commands::exec;
+use cfarm_texts::{Closing, status_of};
 use std::alloc::{AllocError, Global};
-use text_commands::{Closing, status_of};
 
 /// What `exec` wrote, its closing line and its status.
 pub fn executed(alloc: Global, bytes: &[u8], limit: u32) -> Result<Told, AllocError> {

@@ -1,18 +1,18 @@
 //! What the linked program of a C program does, compiled by the offers of a maker.
 
 use crate::told::Told;
-use c_checker::CProgram;
+use c_checker_rules::CProgram;
+use cfarm_texts::Closing;
 use chains::{Maker, compile};
-use lang::Program;
-use linear_run::run;
+use lang_base::Program;
+use linear::run;
 use std::alloc::{AllocError, Global};
-use text_commands::Closing;
 
 /// More instructions than any of the programs does.
 const LIMIT: u64 = 1_000_000_000;
 
 /// What a Linear program prints, and how its run stands.
-fn ran(alloc: Global, program: &Program<linear::Function>) -> Result<Told, AllocError> {
+fn ran(alloc: Global, program: &Program<linear_language::Function>) -> Result<Told, AllocError> {
     let mut output = Vec::new(alloc);
     let closing = match run(alloc, program, LIMIT, &mut output) {
         Ok(shown) => Closing(shown).to_string(alloc)?,

@@ -1,7 +1,7 @@
 //! What the commands tell of a text.
 
+use cfarm_texts::{Closing, check_text, interpret};
 use std::alloc::{AllocError, Global};
-use text_commands::{Closing, check_text, interpret};
 
 /// What a command wrote, and its last line.
 #[derive(Drop)]

@@ -1,12 +1,12 @@
 //! What the RTL program of a C program does.
 
 use crate::told::Told;
-use c_checker::CProgram;
-use cminor_lowering::lower;
-use rtl_run::run;
+use c_checker_rules::CProgram;
+use cfarm_texts::Closing;
+use cminor::lower;
+use rtl::run;
 use rtlgen::translate;
 use std::alloc::{AllocError, Global};
-use text_commands::Closing;
 
 /// More nodes than any of the programs does.
 const LIMIT: u64 = 100_000_000;

@@ -1,9 +1,9 @@
 //! Expressions. Braces in what is told show the tree.
 
-use c_expressions::expression;
 use c_lexer::lex;
-use c_reading::Fault;
-use c_tree::{BinaryOperator, Expression, UnaryOperator};
+use c_reader_expressions::expression;
+use c_reader_tokens::Fault;
+use c_syntax::{BinaryOperator, Expression, UnaryOperator};
 use program_rows::{numbered, owned};
 use std::alloc::{AllocError, Global};
 

@@ -1,20 +1,20 @@
 //! What texts are lowered and translated to.
 
-use c_checker::CProgram;
-use c_lengths::is_short_function;
-use c_text::accept;
-use cminor::Cminor;
-use cminor_lowering::lower;
-use lang::{Language, Named, Program};
-use lowering_ranges::lowered_fits;
-use program_ranges::lowered_program_fits;
+use c_checker_rules::CProgram;
+use cfarm_texts::accept;
+use cminor::lower;
+use cminor_language::Cminor;
+use cminor_lowering::is_short_function;
+use cminor_lowering_ranges::lowered_fits;
+use cminor_program_ranges::lowered_program_fits;
+use lang_base::{Language, Named, Program};
 use program_rows::{numbered, owned};
-use rtl::Rtl;
+use rtl_language::Rtl;
 use rtlgen::translate;
 use std::alloc::{AllocError, Global};
 
 /// The cells of a global, and the words that they begin with.
-fn push_global(out: &mut String, global: &lang::Global) -> Result<(), AllocError> {
+fn push_global(out: &mut String, global: &lang_base::Global) -> Result<(), AllocError> {
     let cells = global.cells;
     write!(out, " g{cells}")?;
     for word in global.first_words.as_slice() {
@@ -67,13 +67,13 @@ pub fn lowered(alloc: Global, text: &[u8]) -> Option<String> {
 }
 
 /// The RTL functions of a Cminor program.
-fn graphs_of(alloc: Global, program: &Program<cminor::Function>) -> Option<String> {
+fn graphs_of(alloc: Global, program: &Program<cminor_language::Function>) -> Option<String> {
     let made = translate(alloc, program).ok()?;
     forms_told::<Rtl>(alloc, &made)
 }
 
 /// How many RTL functions a Cminor program has, or the number of the fault.
-fn translated_of(alloc: Global, program: &Program<cminor::Function>) -> Option<String> {
+fn translated_of(alloc: Global, program: &Program<cminor_language::Function>) -> Option<String> {
     match translate(alloc, program) {
         Ok(made) => numbered(alloc, "functions ", made.functions.len() as u64),
         Err(fault) => format!(in alloc; "{} {fault:?}", fault.number()).ok(),
@@ -81,7 +81,7 @@ fn translated_of(alloc: Global, program: &Program<cminor::Function>) -> Option<S
 }
 
 /// The Cminor program of a text.
-fn program_of(alloc: Global, text: &[u8]) -> Option<Program<cminor::Function>> {
+fn program_of(alloc: Global, text: &[u8]) -> Option<Program<cminor_language::Function>> {
     let program = accept(alloc, text).ok()?;
     lower(alloc, &program).ok()
 }

@@ -2,7 +2,7 @@
 
 use c_lexer::{LexError, lex};
 use c_reader::{ReadError, read};
-use c_tokens::{Token, TokenKind};
+use c_syntax::{Token, TokenKind};
 use std::alloc::{AllocError, Global};
 
 fn push_token(out: &mut String, token: &Token) -> Result<(), AllocError> {

@@ -1,10 +1,9 @@
 //! What the readers give of small texts, and what they leave behind it.
 
-use c_declarations::read_declaration;
 use c_lexer::lex;
-use c_reader::read;
-use c_statements::read_block;
-use c_tree::{Declaration, Statement};
+use c_reader::{read, read_declaration};
+use c_reader_statements::read_block;
+use c_syntax::{Declaration, Statement};
 use program_rows::owned;
 use std::alloc::Global;
 

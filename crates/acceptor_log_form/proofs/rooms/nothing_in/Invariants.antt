@@ -1,6 +1,6 @@
 use Rattle.std.proofs.Common.{◌≡◌, length}
 use Rattle.std.specs.Prelude.{All}
-use Rattle.paxos_world.specs.KeptPart.{nothing_kept}
+use Rattle.paxos_core_world.specs.KeptPart.{nothing_kept}
 use Rattle.acceptor_log_form.proofs.rooms.nothing_in.Given as goal
 
 abbrev pub invariant-loop-room : goal.invariant-loop-room

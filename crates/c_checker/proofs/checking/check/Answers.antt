@@ -2,12 +2,12 @@ use Rattle.std.proofs.Common.{rules, ◌≡◌, [], map, Some}
 use Rattle.std.specs.Prelude.{codes}
 use Rattle.std.specs.Option.{option_map}
 use Rattle.std.specs.List.{AllByRecursion}
-use Rattle.c_scopes.specs.Bound.{found, binding_of}
-use Rattle.c_tree.specs.Heights.{IsLow}
-use Rattle.c_tree.specs.Views.{declaration_tree}
+use Rattle.c_checker_scopes.specs.Bound.{found, binding_of}
+use Rattle.c_syntax.specs.Heights.{IsLow}
+use Rattle.c_syntax.specs.Views.{declaration_tree}
 use Rattle.c_program.specs.Views.{function_tree}
-use Rattle.c_reader.specs.Units.{unit_tree}
-use Rattle.c_rules.specs.Units.{bodies_of, empty_file, declarations_faults, globals_from, functions_from}
+use Rattle.c_syntax.specs.Units.{unit_tree}
+use Rattle.c_checker_rules.specs.Units.{bodies_of, empty_file, declarations_faults, globals_from, functions_from}
 use Rattle.c_checker.proofs.Whole.{well_formed, stands_for}
 use Rattle.c_checker.proofs.checking.check.Goals as goal
 

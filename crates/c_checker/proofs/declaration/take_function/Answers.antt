@@ -1,9 +1,9 @@
 use Rattle.std.proofs.Common.{rules, ◌≡◌, [], Some, map, length, subst}
 use Rattle.std.proofs.lemmas.Result.{err_from_is_err_and}
-use Rattle.c_tree.specs.Views.{function_tree}
-use Rattle.c_rules.specs.Told.{Tells}
-use Rattle.c_rules.specs.Functions as F
-use Rattle.c_rules.proofs.Firsts.{tells_front, tells_behind}
+use Rattle.c_syntax.specs.Views.{function_tree}
+use Rattle.c_checker_rules.specs.Told.{Tells}
+use Rattle.c_checker_rules.specs.Functions as F
+use Rattle.c_checker_rules.proofs.Firsts.{tells_front, tells_behind}
 use Rattle.c_checker.proofs.Telling.{told_there}
 use Rattle.c_checker.proofs.declaration.take_function.Goals as goal
 

@@ -1,8 +1,8 @@
 use Rattle.std.proofs.Common.{rules, ◌≡◌, [], None, subst}
 use Rattle.std.proofs.lemmas.Result.{err_from_is_err_and}
-use Rattle.c_rules.specs.Told.{Tells}
-use Rattle.c_rules.specs.Functions as F
-use Rattle.c_rules.proofs.Firsts.{tells_front, tells_behind}
+use Rattle.c_checker_rules.specs.Told.{Tells}
+use Rattle.c_checker_rules.specs.Functions as F
+use Rattle.c_checker_rules.proofs.Firsts.{tells_front, tells_behind}
 use Rattle.c_checker.proofs.declaration.take_prototype.Goals as goal
 
 pub returns-in_err-declare-clause-err : goal.returns-in_err-declare-clause-err

@@ -1,5 +1,5 @@
 use Rattle.std.proofs.Common.{List, ◌++◌, ◌∷◌, [], ◌+◌, sym, subst, drop}
-use Rattle.c_tokens.specs.declared.token.Token.{Token}
+use Rattle.c_syntax.specs.declared.token.Token.{Token}
 use Rattle.c_lexer.specs.Texts.{ReadsTo}
 use Rattle.c_lexer.proofs.Lexed.{none_left}
 use Rattle.c_lexer.proofs.Sequences.{found_len, read_token, read_gap}

@@ -1,9 +1,9 @@
 use Rattle.std.proofs.Common.{◌≡◌, true, false, length, map, rules}
 use Rattle.std.proofs.lemmas.List.{map-append}
-use Rattle.c_tree.specs.Heights.{highest}
-use Rattle.c_tree.specs.Views.{declaration_tree}
-use Rattle.c_statements.proofs.Loops.{goes_on, stops, ends, is_done}
-use Rattle.c_declaration_laws.specs.Reading.{declaration, is_next_there, declarations}
+use Rattle.c_syntax.specs.Heights.{highest}
+use Rattle.c_syntax.specs.Views.{declaration_tree}
+use Rattle.c_reader_statements.proofs.Loops.{goes_on, stops, ends, is_done}
+use Rattle.c_reader_declaration_laws.specs.Reading.{declaration, is_next_there, declarations}
 use Rattle.c_reader.proofs.Telling.{tells_fault}
 use Rattle.c_reader.proofs.reading.read_declarations.Goals as goal
 use Rattle.c_reader.proofs.reading.read_declarations.Goals.{else-loop-test, then-loop-test+then-not-is_next_there}

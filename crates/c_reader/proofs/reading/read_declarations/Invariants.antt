@@ -1,8 +1,8 @@
 use Rattle.std.proofs.Common.{map, length}
-use Rattle.c_tree.specs.Heights.{highest}
-use Rattle.c_tree.specs.Views.{declaration_tree}
-use Rattle.c_statements.proofs.Loops.{IsUnderWay}
-use Rattle.c_declaration_laws.specs.Reading.{declaration, is_next_there, declarations}
+use Rattle.c_syntax.specs.Heights.{highest}
+use Rattle.c_syntax.specs.Views.{declaration_tree}
+use Rattle.c_reader_statements.proofs.Loops.{IsUnderWay}
+use Rattle.c_reader_declaration_laws.specs.Reading.{declaration, is_next_there, declarations}
 use Rattle.c_reader.proofs.reading.read_declarations.Given as goal
 
 abbrev pub invariant-loop : goal.invariant-loop

@@ -2,7 +2,7 @@
 use Rattle.std.proofs.Common.{◌<◌, sym, subst, arith}
 use native.Mathlib.Numerals.{unary_clauses}
 use Rattle.std.proofs.lemmas.Result.{err_from_is_err_and}
-use Rattle.alloc_rules.specs.Rules.{IsTooLarge}
+use Rattle.alloc_check_rules.specs.Rules.{IsTooLarge}
 use Rattle.chains.specs.Offered.{GoOnFrom}
 use Rattle.chains.proofs.GoingOn.{go_on_next}
 use Rattle.chains.proofs.Memory.{only_memory}

@@ -1,5 +1,5 @@
 use Rattle.std.proofs.Common.{map, take}
-use Rattle.program_data.specs.Seen.{named_seen}
+use Rattle.lang_programs.specs.Seen.{named_seen}
 use Rattle.chains.specs.Offered.{AllGoOn}
 use Rattle.chains.proofs.compiling.all_offers.Given as goal
 

@@ -2,9 +2,9 @@
 use Rattle.std.proofs.Common.{◌≤◌, map, sym, subst, ◌∙◌}
 use Rattle.std.specs.Prelude.{All}
 use Rattle.std.proofs.lemmas.Result.{err_from_is_err_and}
-use Rattle.c_checker.specs.Checked.{program_tree}
-use Rattle.lowering.specs.Programs.{low}
-use Rattle.program_data.specs.Seen.{named_seen}
+use Rattle.c_checker_rules.specs.Checked.{program_tree}
+use Rattle.cminor_lowering.specs.Programs.{low}
+use Rattle.lang_programs.specs.Seen.{named_seen}
 use Rattle.chains.specs.Offered.{AllGoOn}
 use Rattle.chains.specs.declared.errors.CompileError.TheVariants.{Link}
 use Rattle.chains.proofs.Memory.{memory_refused}

@@ -1,7 +1,7 @@
 -- What is linked, and what is refused, in the words of the offers.
 use Rattle.std.proofs.Common.{◌≡◌, map, length, sym, ap, subst, ◌∙◌, arith}
 use Rattle.std.proofs.lemmas.Result.{err_from_is_err_and}
-use Rattle.program_data.specs.Seen.{global_seen}
+use Rattle.lang_programs.specs.Seen.{global_seen}
 use Rattle.linker.specs.Numbers.{refusal_to_link}
 use Rattle.chains.specs.Lent.{AreBeside}
 use Rattle.chains.proofs.Beside.{names_are, chained, all_go_on, all_ends}

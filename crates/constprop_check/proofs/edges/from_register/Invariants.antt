@@ -1,6 +1,6 @@
 use Rattle.std.proofs.Common.{◌≡◌, ℕ, ◌≤◌, length}
-use Rattle.constprop_sound.specs.Known.{fact_at}
-use Rattle.constprop_sound.specs.Rules.{RiseFrom}
+use Rattle.constprop_check_rules.specs.Known.{fact_at}
+use Rattle.constprop_check_rules.specs.Rules.{RiseFrom}
 use Rattle.constprop_check.proofs.edges.from_register.Given as goal
 
 abbrev pub invariant-loop-left : goal.invariant-loop-left

@@ -1,6 +1,6 @@
 use Rattle.std.proofs.Common.{◌∙◌}
 use Rattle.std.proofs.lemmas.Result.{err_from_is_err_and}
-use Rattle.lang.proofs.Beginnings.{IsBeginningOf-front}
+use Rattle.lang_base.proofs.Beginnings.{IsBeginningOf-front}
 use Rattle.constprop_check.specs.FactForm.{fact_text}
 use Rattle.constprop_check.proofs.Written.{text_more, all_written}
 use Rattle.constprop_check.proofs.form.push_facts.Goals as goal

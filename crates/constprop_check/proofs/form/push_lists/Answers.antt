@@ -1,7 +1,7 @@
 use Rattle.std.proofs.Common.{◌++◌, take, ap, ◌∙◌}
 use Rattle.std.specs.List.{flat_map}
 use Rattle.std.proofs.lemmas.Result.{err_from_is_err_and}
-use Rattle.lang.proofs.Beginnings.{IsBeginningOf-front}
+use Rattle.lang_base.proofs.Beginnings.{IsBeginningOf-front}
 use Rattle.rtl_passes.specs.ListForm.{list_text}
 use Rattle.constprop_check.specs.FactForm.{fact_text}
 use Rattle.constprop_check.proofs.Written.{text_more, all_written}

@@ -1,6 +1,6 @@
 use Rattle.std.proofs.Common.{[]}
-use Rattle.lang.specs.Reading.{more}
-use Rattle.lang.proofs.Loops.{IsUnderWay}
+use Rattle.lang_base.specs.Reading.{more}
+use Rattle.lang_base.proofs.Loops.{IsUnderWay}
 use Rattle.rtl_passes.specs.ListForm.{list}
 use Rattle.constprop_check.specs.FactForm.{fact}
 use Rattle.constprop_check.proofs.form.read_each.Given as goal

@@ -1,5 +1,5 @@
 use Rattle.std.proofs.lemmas.Result.{err_from_is_err_and}
-use Rattle.lang.proofs.Loops.{goes_on, stops, is_done}
+use Rattle.lang_base.proofs.Loops.{goes_on, stops, is_done}
 use Rattle.constprop_check.specs.FactForm.{fact}
 use Rattle.constprop_check.proofs.form.read_so_many.Goals as goal
 

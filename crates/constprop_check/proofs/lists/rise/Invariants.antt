@@ -1,6 +1,6 @@
 use Rattle.std.proofs.Common.{drop}
 use Rattle.std.specs.Prelude.{◌↔◌}
-use Rattle.constprop_sound.specs.Rules.{RiseFrom}
+use Rattle.constprop_check_rules.specs.Rules.{RiseFrom}
 use Rattle.constprop_check.proofs.lists.rise.Given as goal
 
 abbrev pub invariant-loop-fact : goal.invariant-loop-fact

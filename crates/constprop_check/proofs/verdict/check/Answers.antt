@@ -1,6 +1,6 @@
 use Rattle.std.proofs.Common.{length}
 use Rattle.rtl_passes.proofs.Verdicts.{told-exact}
-use Rattle.constprop_sound.specs.Rules.{HasShape, IsRightAt}
+use Rattle.constprop_check_rules.specs.Rules.{HasShape, IsRightAt}
 use Rattle.constprop_check.proofs.verdict.check.Goals as goal
 
 pub returns : goal.returns

@@ -2,7 +2,7 @@ use Rattle.std.proofs.Common.{◌≡◌, length, rules}
 use Rattle.std.specs.Option.{option_map}
 use Rattle.rtl_passes.specs.declared.fault.Fault.TheVariants.{Node}
 use Rattle.rtl_passes.proofs.Verdicts.{tells-lowest}
-use Rattle.constprop_sound.specs.Rules.{HasShape, IsRightAt}
+use Rattle.constprop_check_rules.specs.Rules.{HasShape, IsRightAt}
 use Rattle.constprop_check.proofs.verdict.why.Goals as goal
 
 pub returns : goal.returns

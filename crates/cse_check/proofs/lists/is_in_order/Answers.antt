@@ -2,8 +2,8 @@ use Rattle.std.proofs.Common.{◌<◌, ◌^◌, length, sym, ◌∙◌, arith}
 use Rattle.std.specs.Prelude.{All}
 use Rattle.std.proofs.lemmas.Bool.{leb-true}
 use Rattle.std.proofs.lemmas.List.Elements.{recursion_from_All}
-use Rattle.cse_sound.specs.Rules.{EquationFits}
-use Rattle.cse_form.proofs.Order.{rise_ranks}
+use Rattle.cse_check_rules.specs.Rules.{EquationFits}
+use Rattle.cse_check_codec.proofs.Order.{rise_ranks}
 use Rattle.cse_check.proofs.lists.is_in_order.Goals.{then-equations-from, else-equations-from}
 use Rattle.cse_check.proofs.lists.is_in_order.Goals as goal
 

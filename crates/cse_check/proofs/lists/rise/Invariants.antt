@@ -1,6 +1,6 @@
 use Rattle.std.proofs.Common.{drop}
 use Rattle.std.specs.Prelude.{◌↔◌}
-use Rattle.cse_form.specs.Ranks.{RiseFrom}
+use Rattle.cse_check_codec.specs.Ranks.{RiseFrom}
 use Rattle.cse_check.proofs.lists.rise.Given as goal
 
 abbrev pub invariant-loop-equation : goal.invariant-loop-equation

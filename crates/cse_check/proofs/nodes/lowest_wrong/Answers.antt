@@ -1,7 +1,7 @@
 use Rattle.std.proofs.Common.{length, arith, inl, inr, refl, sym, subst}
 use Rattle.std.proofs.lemmas.Bool.{cases_eq, iff_false}
 use Rattle.std.proofs.lemmas.Option.{slice_get_read}
-use Rattle.cse_sound.specs.Rules.{IsRightIn}
+use Rattle.cse_check_rules.specs.Rules.{IsRightIn}
 use Rattle.cse_check.proofs.Readings.{right_read, wrong_read}
 use Rattle.cse_check.proofs.nodes.lowest_wrong.Goals as goal
 

@@ -1,5 +1,5 @@
 use Rattle.std.proofs.Common.{ℕ, ◌<◌}
-use Rattle.cse_sound.specs.Rules.{IsRightIn}
+use Rattle.cse_check_rules.specs.Rules.{IsRightIn}
 use Rattle.cse_check.proofs.nodes.lowest_wrong.Given as goal
 
 abbrev pub invariant-loop-n : goal.invariant-loop-n

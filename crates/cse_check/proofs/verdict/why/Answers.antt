@@ -2,7 +2,7 @@ use Rattle.std.proofs.Common.{◌≡◌, ◌≤◌, ◌^◌, length, arith, rule
 use Rattle.std.specs.Option.{option_map}
 use Rattle.rtl_passes.specs.declared.fault.Fault.TheVariants.{Node}
 use Rattle.rtl_passes.proofs.Verdicts.{tells-lowest}
-use Rattle.cse_sound.specs.Rules.{HasShape, IsRightAt}
+use Rattle.cse_check_rules.specs.Rules.{HasShape, IsRightAt}
 use Rattle.cse_check.proofs.Rising.{each_rises}
 use Rattle.cse_check.proofs.verdict.why.Goals as goal
 

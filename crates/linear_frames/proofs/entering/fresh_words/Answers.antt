@@ -1,7 +1,7 @@
 use Rattle.std.proofs.Common.{ap, ◌∙◌, ◌+◌}
 use Rattle.machine.specs.Calls.{values_of, with_arguments}
-use Rattle.rtl_nodes.specs.Seen.{data_of}
-use Rattle.linear_flat.specs.Words.{frame_data}
+use Rattle.rtl_decoded.specs.Seen.{data_of}
+use Rattle.linear_decoded.specs.Words.{frame_data}
 use Rattle.linear_frames.proofs.Begun.{fresh_data}
 use Rattle.linear_frames.proofs.entering.fresh_words.Goals as goal
 

@@ -1,8 +1,8 @@
 use Rattle.std.proofs.Common.{◌-◌, length, sym, ap, ◌∙◌}
 use Rattle.std.specs.Prelude.{slice_set}
-use Rattle.rtl_nodes.specs.Seen.{data_of}
-use Rattle.linear_flat.specs.Words.{frame_data}
-use Rattle.linear_flat.proofs.Words.{put_seen}
+use Rattle.rtl_decoded.specs.Seen.{data_of}
+use Rattle.linear_decoded.specs.Words.{frame_data}
+use Rattle.linear_decoded.proofs.Words.{put_seen}
 use Rattle.linear_frames.proofs.FrameWords.{there_fits}
 use Rattle.linear_frames.proofs.words.put_word.Goals as goal
 

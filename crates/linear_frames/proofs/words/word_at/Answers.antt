@@ -1,6 +1,6 @@
 use Rattle.std.proofs.Common.{◌-◌, length, get_or, None, sym, ap, ◌∙◌}
-use Rattle.rtl_nodes.specs.Seen.{data_of}
-use Rattle.linear_flat.proofs.Words.{value_seen}
+use Rattle.rtl_decoded.specs.Seen.{data_of}
+use Rattle.linear_decoded.proofs.Words.{value_seen}
 use Rattle.linear_frames.proofs.FrameWords.{there_fits}
 use Rattle.linear_frames.proofs.words.word_at.Goals as goal
 

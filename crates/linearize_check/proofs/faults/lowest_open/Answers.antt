@@ -2,7 +2,7 @@ use Rattle.std.proofs.Common.{◌≡◌, length, subst, arith}
 use Rattle.std.proofs.lemmas.Bool.{iff_false}
 use Rattle.linearize_check.specs.Faults.{IsClosedAt, TellsLowest}
 use Rattle.linearize_check.proofs.Lowest.{lowest-right, lowest-wrong}
-use Rattle.linearize_layout.proofs.Tables.{closed_from_marked, marked_from_closed}
+use Rattle.linearize_check_layout.proofs.Tables.{closed_from_marked, marked_from_closed}
 use Rattle.linearize_check.proofs.faults.lowest_open.Goals as goal
 use Rattle.linearize_check.proofs.faults.lowest_open.Goals.{then-not-goes_to_marked, else-not-goes_to_marked}
 

@@ -1,7 +1,7 @@
 use Rattle.std.proofs.Common.{◌≡◌, ◌<◌, length, get_or, subst, arith}
 use Rattle.linearize_check.specs.Faults.{IsFreshAt, TellsLowest}
 use Rattle.linearize_check.proofs.Lowest.{lowest-right, lowest-wrong}
-use Rattle.linearize_layout.proofs.Tables.{listed_from_read, new_from_read, marked-more}
+use Rattle.linearize_check_layout.proofs.Tables.{listed_from_read, new_from_read, marked-more}
 use Rattle.linearize_check.proofs.faults.lowest_repeated.Goals as goal
 use Rattle.linearize_check.proofs.faults.lowest_repeated.Goals.{then-listed-from, else-listed-from}
 

@@ -1,5 +1,5 @@
 use Rattle.std.proofs.lemmas.Result.{err_from_is_err_and}
-use Rattle.lang.proofs.Beginnings.{IsBeginningOf-front}
+use Rattle.lang_base.proofs.Beginnings.{IsBeginningOf-front}
 use Rattle.linearize_check.proofs.form.push_each.Goals as goal
 
 pub returns-in_err-push_u16 : goal.returns-in_err-push_u16

@@ -1,7 +1,7 @@
 use Rattle.std.specs.Int.{w16}
 use Rattle.std.proofs.lemmas.Result.{err_from_is_err_and}
-use Rattle.lang.specs.Reading.{below, number}
-use Rattle.lang.proofs.Loops.{goes_on, stops}
+use Rattle.lang_base.specs.Reading.{below, number}
+use Rattle.lang_base.proofs.Loops.{goes_on, stops}
 use Rattle.linearize_check.proofs.form.read_so_many.Goals as goal
 
 pub returns-in_err-node : goal.returns-in_err-node

@@ -1,7 +1,7 @@
 use Rattle.std.proofs.Common.{[]}
 use Rattle.std.specs.Int.{w16}
-use Rattle.lang.specs.Reading.{more, below, number}
-use Rattle.lang.proofs.Loops.{IsUnderWay}
+use Rattle.lang_base.specs.Reading.{more, below, number}
+use Rattle.lang_base.proofs.Loops.{IsUnderWay}
 use Rattle.linearize_check.proofs.form.read_so_many.Given as goal
 
 abbrev pub invariant-loop : goal.invariant-loop

@@ -1,11 +1,11 @@
 -- The steps one behind the other.
 use Rattle.std.proofs.Common.{ap, ◌∙◌}
 use Rattle.std.proofs.lemmas.Result.{err_from_is_err_and}
-use Rattle.c_checker.specs.Checked.{program_tree}
-use Rattle.lowering.specs.Programs.{low}
-use Rattle.generation.specs.Gen.{gen}
-use Rattle.linking.specs.Chains.{names_of}
-use Rattle.program_data.specs.Seen.{seen}
+use Rattle.c_checker_rules.specs.Checked.{program_tree}
+use Rattle.cminor_lowering.specs.Programs.{low}
+use Rattle.rtlgen_definition.specs.Gen.{gen}
+use Rattle.linker_passes.specs.Chains.{names_of}
+use Rattle.lang_programs.specs.Seen.{seen}
 use Rattle.linker.proofs.Steps.{names_translated, refused_along}
 use Rattle.linker.proofs.programs.link.Goals as goal
 

@@ -1,6 +1,6 @@
 use Rattle.std.proofs.Common.{[]}
-use Rattle.lang.specs.Reading.{more}
-use Rattle.lang.proofs.Loops.{IsUnderWay}
+use Rattle.lang_base.specs.Reading.{more}
+use Rattle.lang_base.proofs.Loops.{IsUnderWay}
 use Rattle.locations.specs.Reading.{one_move}
 use Rattle.locations.proofs.reading.read_so_many_moves.Given as goal
 

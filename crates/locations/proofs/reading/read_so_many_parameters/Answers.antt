@@ -1,5 +1,5 @@
 use Rattle.std.proofs.lemmas.Result.{err_from_is_err_and}
-use Rattle.lang.proofs.Loops.{goes_on, stops}
+use Rattle.lang_base.proofs.Loops.{goes_on, stops}
 use Rattle.locations.specs.Reading.{parameter}
 use Rattle.locations.proofs.reading.read_so_many_parameters.Goals as goal
 

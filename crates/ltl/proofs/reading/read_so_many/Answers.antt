@@ -1,5 +1,5 @@
 use Rattle.std.proofs.lemmas.Result.{err_from_is_err_and}
-use Rattle.lang.proofs.Loops.{goes_on, stops}
+use Rattle.lang_base.proofs.Loops.{goes_on, stops}
 use Rattle.ltl.specs.Reading.{block}
 use Rattle.ltl.proofs.reading.read_so_many.Goals as goal
 

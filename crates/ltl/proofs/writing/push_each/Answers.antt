@@ -1,6 +1,6 @@
 use Rattle.std.proofs.Common.{sym}
 use Rattle.std.proofs.lemmas.Result.{err_from_is_err_and}
-use Rattle.lang.proofs.Beginnings.{IsBeginningOf-trans}
+use Rattle.lang_base.proofs.Beginnings.{IsBeginningOf-trans}
 use Rattle.ltl.proofs.writing.push_each.Goals as goal
 
 pub returns-in_err-push_block : goal.returns-in_err-push_block

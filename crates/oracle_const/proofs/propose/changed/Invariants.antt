@@ -1,5 +1,5 @@
 use Rattle.std.proofs.Common.{◌≡◌, length, All}
-use Rattle.rtl.specs.Function.{InstructionFits}
+use Rattle.rtl_language.specs.Function.{InstructionFits}
 use Rattle.oracle_const.proofs.propose.changed.Given as goal
 
 abbrev pub invariant-loop-n : goal.invariant-loop-n

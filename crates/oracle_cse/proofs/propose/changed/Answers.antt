@@ -1,7 +1,7 @@
 use Rattle.std.proofs.Common.{◌≡◌, length, sym, subst, ◌∙◌, arith}
 use Rattle.std.proofs.lemmas.List.{length_push}
 use Rattle.std.proofs.lemmas.List.Elements.{All-push}
-use Rattle.rtl.specs.Function.{InstructionFits}
+use Rattle.rtl_language.specs.Function.{InstructionFits}
 use Rattle.oracle_cse.proofs.Fitting.{node_fits}
 use Rattle.oracle_cse.proofs.propose.changed.Goals as goal
 

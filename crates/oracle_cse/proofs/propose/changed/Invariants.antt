@@ -1,5 +1,5 @@
 use Rattle.std.proofs.Common.{◌≡◌, length, All}
-use Rattle.rtl.specs.Function.{InstructionFits}
+use Rattle.rtl_language.specs.Function.{InstructionFits}
 use Rattle.oracle_cse.proofs.propose.changed.Given as goal
 
 abbrev pub invariant-loop-n : goal.invariant-loop-n

@@ -1,5 +1,5 @@
 use Rattle.std.proofs.Common.{◌≡◌, ◌≤◌}
-use Rattle.paxos_world.specs.Quorum.{count_below}
+use Rattle.paxos_core_world.specs.Quorum.{count_below}
 use Rattle.paxos_reference.specs.Tests.{has_voted}
 use Rattle.paxos_reference.proofs.sent.count_voted.Given as goal
 

@@ -1,5 +1,5 @@
 use Rattle.std.proofs.Common.{◌≡◌}
-use Rattle.paxos_world.specs.World.{nodes_of, shown}
+use Rattle.paxos_core_world.specs.World.{nodes_of, shown}
 use Rattle.paxos_reference.proofs.shown.shown.Given as goal
 
 -- the messages of the nodes so far

@@ -1,7 +1,7 @@
 use Rattle.std.proofs.Common.{length, sym, subst, arith}
 use Rattle.std.specs.List.{AllByRecursion}
 use Rattle.std.proofs.lemmas.List.Elements.{recursion_from_All}
-use Rattle.rtl.specs.Function.{InstructionFits, IsFunction}
+use Rattle.rtl_language.specs.Function.{InstructionFits, IsFunction}
 use Rattle.rtl_passes.proofs.nodes.with_nodes.Goals as goal
 
 pub new-requires : goal.new-requires

@@ -1,5 +1,5 @@
 use Rattle.std.proofs.Common.{◌≡◌, take, map}
-use Rattle.program_data.specs.Seen.{global_seen}
+use Rattle.lang_programs.specs.Seen.{global_seen}
 use Rattle.rtlgen.proofs.globals.copy_globals.Given as goal
 
 abbrev pub invariant-loop-global : goal.invariant-loop-global

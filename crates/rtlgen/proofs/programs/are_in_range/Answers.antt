@@ -1,8 +1,8 @@
 use Rattle.std.proofs.Common.{subst}
 use Rattle.std.specs.Prelude.{All}
 use Rattle.std.proofs.lemmas.List.Elements.{All-map, All-more}
-use Rattle.cminor_tree.specs.Fits.{IsFunction}
-use Rattle.program_data.specs.Seen.{named_seen}
+use Rattle.cminor_syntax.specs.Fits.{IsFunction}
+use Rattle.lang_programs.specs.Seen.{named_seen}
 use Rattle.rtlgen.proofs.Firsts.{whole}
 use Rattle.rtlgen.proofs.programs.are_in_range.Goals as goal
 

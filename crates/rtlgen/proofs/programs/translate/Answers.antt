@@ -2,9 +2,9 @@
 use Rattle.std.proofs.Common.{◌≡◌, ◌≤◌, map, sym, subst}
 use Rattle.std.specs.Prelude.{All}
 use Rattle.std.proofs.lemmas.Result.{IfOk-weaker}
-use Rattle.cminor_tree.specs.Fits.{IsFunction}
-use Rattle.generation.specs.Gen.{gen}
-use Rattle.program_data.specs.Seen.{named_seen, seen}
+use Rattle.cminor_syntax.specs.Fits.{IsFunction}
+use Rattle.rtlgen_definition.specs.Gen.{gen}
+use Rattle.lang_programs.specs.Seen.{named_seen, seen}
 use Rattle.rtlgen.proofs.Small.{all_small}
 use Rattle.rtlgen.proofs.programs.translate.Goals as goal
 

@@ -1,8 +1,8 @@
 use Rattle.std.proofs.Common.{subst}
 use Rattle.std.specs.Prelude.{All}
 use Rattle.std.proofs.lemmas.List.Elements.{All-map, All-more}
-use Rattle.generation.specs.Gen.{gen_named}
-use Rattle.program_data.specs.Seen.{named_seen}
+use Rattle.rtlgen_definition.specs.Gen.{gen_named}
+use Rattle.lang_programs.specs.Seen.{named_seen}
 use Rattle.rtlgen.specs.Refused.{HasFewNodes}
 use Rattle.rtlgen.proofs.Firsts.{whole, first_is, one_more}
 use Rattle.rtlgen.proofs.programs.translate_functions.Goals as goal

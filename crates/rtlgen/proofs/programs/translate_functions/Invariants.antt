@@ -1,7 +1,7 @@
 use Rattle.std.proofs.Common.{◌≡◌, take, map}
 use Rattle.std.specs.Prelude.{All}
-use Rattle.generation.specs.Gen.{gen_named}
-use Rattle.program_data.specs.Seen.{named_seen}
+use Rattle.rtlgen_definition.specs.Gen.{gen_named}
+use Rattle.lang_programs.specs.Seen.{named_seen}
 use Rattle.rtlgen.specs.Refused.{HasFewNodes}
 use Rattle.rtlgen.proofs.programs.translate_functions.Given as goal
 

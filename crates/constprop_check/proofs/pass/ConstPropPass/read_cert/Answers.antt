@@ -1,8 +1,8 @@
 use Rattle.std.proofs.Common.{◌≡◌, ◌≤◌, ◌^◌, length, sym, ap, subst, ◌∙◌, arith}
 use Rattle.std.proofs.lemmas.Result.{err_from_is_err_and}
-use Rattle.lang.proofs.Forms.{front_is, no_text}
+use Rattle.lang_base.proofs.Forms.{front_is, no_text}
 use Rattle.rtl_passes.specs.ListForm.{ListsFit}
-use Rattle.constprop_sound.specs.Rules.{FactFits}
+use Rattle.constprop_check_rules.specs.Rules.{FactFits}
 use Rattle.constprop_check.specs.FactForm.{CertFits, facts_form}
 use Rattle.constprop_check.proofs.pass.ConstPropPass.read_cert.Goals as goal
 

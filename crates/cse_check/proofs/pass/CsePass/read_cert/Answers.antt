@@ -1,10 +1,10 @@
 use Rattle.std.proofs.Common.{◌≡◌, ◌≤◌, ◌^◌, length, sym, ap, subst, ◌∙◌, arith}
 use Rattle.std.proofs.lemmas.Result.{err_from_is_err_and}
-use Rattle.lang.proofs.Forms.{front_is, no_text}
+use Rattle.lang_base.proofs.Forms.{front_is, no_text}
 use Rattle.rtl_passes.specs.ListForm.{ListsFit}
-use Rattle.cse_sound.specs.Rules.{EquationFits}
-use Rattle.cse_form.specs.Text.{CertFits}
-use Rattle.cse_form.proofs.Forms.{equations_form}
+use Rattle.cse_check_rules.specs.Rules.{EquationFits}
+use Rattle.cse_check_codec.specs.Text.{CertFits}
+use Rattle.cse_check_codec.proofs.Forms.{equations_form}
 use Rattle.cse_check.proofs.pass.CsePass.read_cert.Goals as goal
 
 pub returns-in_err-lists-clause-refused : goal.returns-in_err-lists-clause-refused

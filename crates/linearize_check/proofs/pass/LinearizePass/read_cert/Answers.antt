@@ -1,6 +1,6 @@
 use Rattle.std.proofs.Common.{◌≡◌, ◌≤◌, ◌^◌, length, sym, ap, subst, ◌∙◌, arith}
 use Rattle.std.proofs.lemmas.Result.{err_from_is_err_and}
-use Rattle.lang.proofs.Forms.{front_is, no_text}
+use Rattle.lang_base.proofs.Forms.{front_is, no_text}
 use Rattle.linearize_check.specs.OrderForm.{OrderFits, CertFits, order_form}
 use Rattle.linearize_check.proofs.pass.LinearizePass.read_cert.Goals as goal
 

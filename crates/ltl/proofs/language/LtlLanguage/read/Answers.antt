@@ -1,6 +1,6 @@
 use Rattle.std.proofs.Common.{arith}
 use Rattle.std.proofs.lemmas.Result.{err_from_is_err_and}
-use Rattle.lang.proofs.Forms.{front_is, no_text}
+use Rattle.lang_base.proofs.Forms.{front_is, no_text}
 use Rattle.ltl.specs.Forms.{function_form}
 use Rattle.ltl.proofs.language.LtlLanguage.read.Goals as goal
 

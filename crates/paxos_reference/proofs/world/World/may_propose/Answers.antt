@@ -1,6 +1,6 @@
 use Rattle.std.proofs.Common.{ℕ, rules, IsTrue}
-use Rattle.paxos_world.specs.World.{Has}
-use Rattle.paxos_world.specs.declared.msg.Msg.TheVariants.{Propose}
+use Rattle.paxos_core_world.specs.World.{Has}
+use Rattle.paxos_core_world.specs.declared.msg.Msg.TheVariants.{Propose}
 use Rattle.paxos_reference.proofs.world.World.may_propose.Goals as goal
 
 pub returns-then-is_unproposed : goal.returns-then-is_unproposed

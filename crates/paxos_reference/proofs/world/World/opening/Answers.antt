@@ -1,6 +1,6 @@
 use Rattle.std.proofs.Common.{length, subst, rules}
-use Rattle.paxos_world.specs.World.{Has, nodes_of}
-use Rattle.paxos_world.specs.declared.msg.Msg.TheVariants.{Propose}
+use Rattle.paxos_core_world.specs.World.{Has, nodes_of}
+use Rattle.paxos_core_world.specs.declared.msg.Msg.TheVariants.{Propose}
 use Rattle.paxos_reference.proofs.OpeningLemmas.{none_shown}
 use Rattle.paxos_reference.proofs.world.World.opening.Goals as goal
 

@@ -1,7 +1,7 @@
 use Rattle.std.proofs.Common.{◌≡◌, ℕ, subst}
-use Rattle.paxos_world.specs.World.{Has}
-use Rattle.paxos_world.specs.declared.msg.Msg.{Msg}
-use Rattle.paxos_world.specs.declared.msg.Msg.TheVariants.{Propose}
+use Rattle.paxos_core_world.specs.World.{Has}
+use Rattle.paxos_core_world.specs.declared.msg.Msg.{Msg}
+use Rattle.paxos_core_world.specs.declared.msg.Msg.TheVariants.{Propose}
 use Rattle.paxos_reference.proofs.FromOne.{pushed_proposals}
 use Rattle.paxos_reference.proofs.world.World.propose.Goals as goal
 

@@ -1,6 +1,6 @@
 use Rattle.std.proofs.Common.{◌≡◌, ℕ, ◌<◌, Option, IfSome, sym, ap, ◌∙◌, subst}
-use Rattle.paxos_world.specs.declared.vote.Vote.{Vote}
-use Rattle.paxos_law.specs.declared.step.Act.TheVariants as act
+use Rattle.paxos_core_world.specs.declared.vote.Vote.{Vote}
+use Rattle.paxos_core_law.specs.declared.step.Act.TheVariants as act
 use Rattle.rooms_rule.specs.Steps.{StoresAcceptor}
 use Rattle.rooms_state.specs.SeatState.{SeatState}
 use Rattle.rooms_state.proofs.Acts.{vote_allowed, vote_sound}

@@ -1,0 +1,156 @@
+#!/usr/bin/env python3
+"""The floor plan of the crates, and whether the house keeps to it.
+
+    bench/floors.py             says what does not hold: an edge of crates.txt that no file of the crate names or that
+                                is missing, a crate on no floor or below one that it stands on, a crate over 1,500
+                                lines or 100 functions, and how many clauses are over 120 characters
+    bench/floors.py --write     writes crates.txt: the floors below, and for each crate exactly what its files name
+    bench/floors.py --clauses   prints each clause over 120 characters
+
+A crate names another where its code (`name::`), its definitions, its proofs (`Rattle.name.`) or its edits do."""
+import os
+import re
+import sys
+
+ROOT = os.path.dirname(os.path.dirname(os.path.realpath(__file__)))
+KIT = "/opt/rattle/rlibs"
+LINES, FUNCTIONS, CLAUSE = 1500, 100, 120
+TOLD = ("specs", "proofs", "src", "must-fail", "planted")
+
+# Each floor: its name, and its crates, lowest first.
+FLOORS = [
+    ("Base: machine words, languages, passes, programs", "ints lang_base lang_programs"),
+    ("C: tokens and trees, the reader, the checker, the meaning",
+     "c_syntax c_lexer_spellings c_lexer_parts c_lexer c_reader_tokens c_reader_expression_laws c_reader_expressions "
+     "c_reader_productions c_reader_statement_laws c_reader_statements c_reader_declaration_laws c_reader c_program "
+     "c_checker_scopes c_checker_rules c_checker_terms c_checker_bodies c_checker_declarations c_checker "
+     "c_meaning_machine c_meaning"),
+    ("Languages: whole programs of any, Cminor, RTL, LTL, Linear",
+     "lang locations machine cminor_syntax cminor_form cminor_codec cminor_language rtl_parts rtl_language rtl_decoded "
+     "rtl ltl linear_language linear_decoded linear_frames linear"),
+    ("Lowerings: C to Cminor, Cminor to RTL",
+     "cminor_lowering cminor_lowering_code cminor_lowering_ranges cminor_program_ranges cminor rtlgen_definition "
+     "rtlgen_code rtlgen"),
+    ("Passes: the rules of each, that they keep the meaning, the check",
+     "rtl_passes constprop_check_rules constprop_check cse_check_rules cse_check_codec cse_check alloc_check_rules "
+     "alloc_check_codec alloc_check_blocks alloc_check_verdict alloc_check_proof alloc_check linearize_check_proof "
+     "linearize_check_layout linearize_check"),
+    ("Optimisers: they propose, and nothing is claimed of them",
+     "oracle_const oracle_cse oracle_alloc_blocks oracle_alloc oracle_order"),
+    ("Offers, chains of them, and the linked program",
+     "offers parallel_validate linker_passes linker chains"),
+    ("Agreement: the protocol, rooms on shared words",
+     "paxos_core_world paxos_core_invariant paxos_core_model paxos_core_law paxos_core_late_offers paxos_core rooms_rule "
+     "rooms_steps rooms_state rooms_seat"),
+    ("Journals", "durable_model acceptor_log_form acceptor_log"),
+    ("The program", "cfarm_texts cfarm_commands cfarm"),
+    ("Tests", "program_rows paxos_reference worked_agreement worked_texts worked_forms worked_offers worked_rows worked_disk "
+     "worked_journals"),
+]
+ORDER = [crate for _, crates in FLOORS for crate in crates.split()]
+
+
+def files_of(crate):
+    for kind in TOLD:
+        for folder, _, files in os.walk(f"{ROOT}/crates/{crate}/{kind}"):
+            for file in sorted(files):
+                if file.endswith((".rt", ".antt", ".edit")):
+                    with open(f"{folder}/{file}", encoding="utf-8") as it:
+                        yield kind, f"{kind}/{os.path.relpath(f'{folder}/{file}', f'{ROOT}/crates/{crate}/{kind}')}", it.read()
+
+
+def without_comments(text):
+    return re.sub(r"^\s*(//|--).*$", "", text, flags=re.M)
+
+
+def named_by(crate, libraries):
+    """The libraries that the crate's files name."""
+    found = set()
+    for _, _, text in files_of(crate):
+        text = without_comments(text)
+        found.update(re.findall(r"\bRattle\.([a-z_0-9]+)\.", text))
+        found.update(re.findall(r"(?<![\w:.])([a-z_0-9]+)::", text))
+        found.update(re.findall(r"^\s*(?:pub )?use ([a-z_0-9]+);", text, flags=re.M))
+    return found & libraries - {crate, "std", "io"}
+
+
+def read_plan():
+    """What crates.txt says: the options of each crate, and what it stands on."""
+    plan = {}
+    with open(f"{ROOT}/crates.txt", encoding="utf-8") as lines:
+        for line in lines:
+            if line.strip() and not line.startswith("#"):
+                head, _, below = line.partition(":")
+                plan[head.split()[0]] = (head.split()[1:], below.split())
+    return plan
+
+
+def edges():
+    kit = set(os.path.splitext(it)[0] for it in os.listdir(KIT))
+    own_modules = {crate: {file.split(".")[0] for file in os.listdir(f"{ROOT}/crates/{crate}/src")} for crate in ORDER}
+    place = {crate: at for at, crate in enumerate(ORDER)}
+    found = {}
+    for crate in ORDER:
+        named = named_by(crate, kit | set(ORDER)) - own_modules[crate]
+        own = sorted((it for it in named if it in place), key=place.get, reverse=True)
+        found[crate] = own + sorted(it for it in named if it not in place)
+    return found
+
+
+def write():
+    plan, below = read_plan(), edges()
+    with open(f"{ROOT}/crates.txt", "w", encoding="utf-8") as out:
+        out.write("# The floors of the house, lowest first. A line: a crate, and exactly the crates that its files name\n"
+                  "# (bench/floors.py writes and checks it; docs/ARCHITECTURE.md says what each is).\n")
+        for name, crates in FLOORS:
+            out.write(f"\n# {name}\n")
+            for crate in crates.split():
+                head = " ".join([crate] + plan.get(crate, ([], []))[0])
+                out.write(f"{head}: {' '.join(below[crate])}".rstrip() + "\n")
+
+
+def clauses():
+    for crate in ORDER:
+        for kind, file, text in files_of(crate):
+            if kind == "src":
+                for at, line in enumerate(text.split("\n"), 1):
+                    it = line.strip()
+                    if re.match(r"(requires|ensures)\b", it) and len(it) > CLAUSE:
+                        yield crate, file, at, it
+
+
+def faults():
+    plan, below = read_plan(), edges()
+    place = {crate: at for at, crate in enumerate(ORDER)}
+    for crate in sorted(set(os.listdir(f"{ROOT}/crates")) ^ set(ORDER)):
+        yield f"{crate}: on no floor, or no crate"
+    for crate in ORDER:
+        listed = plan.get(crate, ([], []))[1]
+        for it in set(listed) - set(below[crate]):
+            yield f"{crate}: crates.txt lists {it}, which no file names"
+        for it in set(below[crate]) - set(listed):
+            yield f"{crate}: a file names {it}, which crates.txt does not list"
+        for it in below[crate]:
+            if place.get(it, -1) > place[crate]:
+                yield f"{crate}: stands below {it}, which it names"
+        code = [(kind, text) for kind, _, text in files_of(crate) if kind in ("src", "specs", "proofs")]
+        lines = sum(text.count("\n") for _, text in code)
+        functions = sum(len(re.findall(r"^\s*(?:pub(?:\(\w+\))? )?(?:const )?fn ", text, flags=re.M)) for kind, text in code if kind == "src")
+        if lines > LINES or functions > FUNCTIONS:
+            yield f"{crate}: {lines} lines, {functions} functions"
+
+
+def main():
+    if "--write" in sys.argv:
+        write()
+    long = list(clauses())
+    if "--clauses" in sys.argv:
+        for crate, file, at, it in long:
+            print(f"{crate}/{file}:{at}: {len(it)}: {it}")
+    wrong = list(faults())
+    print("\n".join(wrong + [f"{len(wrong)} faults, {len(long)} clauses over {CLAUSE} characters, {len(ORDER)} crates"]))
+    return 1 if wrong else 0
+
+
+if __name__ == "__main__":
+    sys.exit(main())

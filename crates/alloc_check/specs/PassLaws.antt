@@ -1,0 +1,39 @@
+-- The laws that the pass owes as one of the pipeline.
+use Rattle.std.proofs.Common.{◌≡◌, ℕ, List, ◌++◌, length, arith}
+use Rattle.std.proofs.lemmas.List.Elements.{recursion_from_All}
+use Rattle.lang_base.specs.Keeps.{Keeps}
+use Rattle.lang_base.specs.Programs.{ProgramOf}
+use Rattle.lang_base.specs.Soundness.{AllFit, Accepted}
+use Rattle.lang_base.proofs.Forms.{one_text}
+use Rattle.rtl_language.specs.Function as rtl
+use Rattle.rtl_language.specs.Meaning as rtl_meaning
+use Rattle.ltl.specs.Function as ltl
+use Rattle.ltl.specs.Meaning.{run}
+use Rattle.rtl_passes.specs.ListForm.{ListFits}
+use Rattle.alloc_check_rules.specs.declared.equation.Equation.{Equation}
+use Rattle.alloc_check_rules.specs.Rules.{EquationFits, IsInOrder, IsAllocated}
+use Rattle.alloc_check_proof.proofs.Sound.{sound}
+use Rattle.alloc_check_codec.specs.Text.{CertFits, cert_text}
+use Rattle.alloc_check_codec.proofs.Forms.{equations_form}
+
+-- what is accepted keeps the meaning
+pub sound_law : (p : ProgramOf rtl.FunctionData) (q : ProgramOf ltl.FunctionData) → AllFit rtl.IsFunction p → AllFit ltl.IsFunction q → Accepted IsAllocated p q → Keeps (rtl_meaning.run p) (run q)
+sound_law p q fits also accepted = sound p q fits also accepted
+
+list_fits : (registers slots : ℕ) (es : List Equation) → IsInOrder registers slots es → ListFits (EquationFits registers slots) es
+list_fits registers slots es in_order = record { few = in_order.few; each = recursion_from_All (EquationFits registers slots) es in_order.each }
+
+-- equations that are accepted can be written
+pub allocated_fits : (i : rtl.FunctionData) (o : ltl.FunctionData) (c : List (List Equation)) → rtl.IsFunction i → ltl.IsFunction o → IsAllocated i o c → CertFits i o c
+allocated_fits i o c fits also accepted = record {
+  registers = omega (arith, fits.registers);
+  slots = omega (arith, also.slots);
+  each = record {
+    counted = accepted.shape.count;
+    each = recursion_from_All (ListFits (EquationFits i.registers o.slots)) c (λ k d below. list_fits i.registers o.slots _ (accepted.shape.each k d below));
+  };
+}
+
+-- one certificate a spelling
+pub one_cert : (i : rtl.FunctionData) (o : ltl.FunctionData) (c d : List (List Equation)) (x y : List ℕ) → CertFits i o c → CertFits i o d → cert_text c ++ x ≡ cert_text d ++ y → (c ≡ d) × (x ≡ y)
+one_cert i o c d x y fits also e = one_text (equations_form i.registers o.slots (length i.nodes) fits.registers fits.slots) c d x y fits.each also.each e

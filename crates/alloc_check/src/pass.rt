@@ -1,0 +1,86 @@
+use crate::baseline;
+use alloc_check_codec::{push_lists, read_lists};
+use alloc_check_verdict::{EquationLists, check};
+use lang_base::{FormError, NoMemory, Pass, PassError, Row};
+use ltl::Ltl;
+use rtl_language::Rtl;
+use std::alloc::Global;
+
+/// Pass 3: pseudo-registers lie in registers and slots.
+pub struct Alloc;
+
+impl Pass for Alloc {
+    ghost use Rattle.std.specs.Prelude.{◌≡◌, ◌≢◌, ◌≤◌, ℕ, List, ◌++◌, length, take, IsTrue, ◌↔◌, OnOk, OnErr, IfOk, IfErr};
+    ghost use Rattle.alloc_check_rules.specs.Rules.{IsTooLarge, IsAllocated};
+    ghost use Rattle.alloc_check_codec.specs.Text.{CertFits, cert_text};
+    ghost use Rattle.alloc_check.specs.PassLaws.{allocated_fits, one_cert, sound_law};
+
+    type In = Rtl;
+
+    type Out = Ltl;
+
+    type Cert = EquationLists;
+
+    const NUMBER: u8 = 3;
+
+    ghost NUMBER = { 3 };
+
+    ghost accepts = { IsAllocated };
+
+    ghost cert_fits = { CertFits };
+
+    ghost cert_spelling = { λ i o c. cert_text c };
+
+    ghost too_large = { IsTooLarge };
+
+    fn check(
+        alloc: Global,
+        input: &rtl_language::Function,
+        output: &ltl::Function,
+        equations: &EquationLists,
+    ) -> Result<bool, NoMemory> {
+        check(alloc, input, output, equations)
+    }
+
+    fn baseline(
+        alloc: Global,
+        input: &rtl_language::Function,
+    ) -> Result<(ltl::Function, EquationLists), PassError> {
+        baseline(alloc, input)
+    }
+
+    fn write_cert(
+        _input: &rtl_language::Function,
+        _output: &ltl::Function,
+        equations: &EquationLists,
+        out: &mut Vec<u8>,
+    ) -> Result<(), NoMemory> {
+        let length = out.len();
+        let written = push_lists(out, equations.as_slice());
+        if written.is_err() {
+            out.truncate(length);
+        }
+        written
+    }
+
+    fn read_cert(
+        alloc: Global,
+        input: &rtl_language::Function,
+        output: &ltl::Function,
+        bytes: &[u8],
+    ) -> Result<(EquationLists, usize), FormError> {
+        let registers = u32::from(input.registers());
+        let slots = u32::from(output.slots());
+        let nodes = input.nodes().len() as u32;
+        let _blocks = output.blocks();
+        let mut rest = bytes;
+        let lists = read_lists(alloc, registers, slots, nodes, &mut rest)?;
+        Ok((Row::from_vec(lists), bytes.len() - rest.len()))
+    }
+
+    ghost sound = { sound_law };
+
+    ghost accepted_fits = { allocated_fits };
+
+    ghost one_cert = { one_cert };
+}

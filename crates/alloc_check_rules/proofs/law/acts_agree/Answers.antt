@@ -1,0 +1,5 @@
+use Rattle.alloc_check_rules.proofs.Acts.{act_done}
+use Rattle.alloc_check_rules.proofs.law.acts_agree.Goals as goal
+
+pub returns : goal.returns
+returns c = act_done

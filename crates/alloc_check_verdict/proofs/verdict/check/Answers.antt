@@ -1,0 +1,11 @@
+use Rattle.std.proofs.Common.{length}
+use Rattle.rtl_passes.proofs.Verdicts.{told-exact}
+use Rattle.alloc_check_rules.specs.Rules.{HasShape, IsRightAt}
+use Rattle.alloc_check_verdict.proofs.verdict.check.Goals as goal
+
+pub returns : goal.returns
+returns c =
+    let input = c.args.input.now in
+    let output = c.args.output.now in
+    let equations = c.args.equations.now in
+    told-exact (HasShape input output equations) (IsRightAt input output equations) (length input.nodes) c.in_ok-why.field-0 c.is_none.result c.is_none.ensures c.in_ok-why.ensures

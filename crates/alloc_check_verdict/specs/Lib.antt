@@ -1,0 +1,4 @@
+pub mod Ranks
+pub mod Given
+pub use Rattle.alloc_check_rules.specs.Rules
+pub use Rattle.rtl_passes.specs.Faults

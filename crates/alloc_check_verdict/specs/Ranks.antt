@@ -1,0 +1,19 @@
+-- Equations in order, by numbers.
+use Rattle.std.specs.Prelude.{ℕ, suc, ◌+◌, ◌*◌, ◌≤◌, List, [], ◌∷◌}
+use Rattle.locations.specs.declared.location.Location.{Location}
+use Rattle.locations.specs.declared.location.Location.TheVariants.{InRegister, InSlot}
+use Rattle.alloc_check_rules.specs.declared.equation.Equation.{Equation}
+
+-- registers are below slots
+abbrev pub place : Location → ℕ
+place (InRegister r) = r
+place (InSlot s) = s + 65536
+
+-- where an equation stands in the order
+abbrev pub rank : Equation → ℕ
+rank e = e.register * 131072 + place e.location
+
+-- each rank is above those before it, and none is lower than this
+abbrev pub RiseFrom : ℕ → List Equation → Type 0
+RiseFrom lower [] = Unit {0}
+RiseFrom lower (e ∷ es) = (lower ≤ rank e) × RiseFrom (suc (rank e)) es

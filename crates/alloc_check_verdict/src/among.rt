@@ -1,0 +1,65 @@
+//! Whether an equation is among others that are in order.
+
+ghost use Rattle.std.specs.Prelude.{◌≡◌, ◌↔◌, ◌<◌, ◌≤◌, ℕ, length, get_or, IsTrue, Contains};
+ghost use Rattle.alloc_check_rules.specs.declared.equation.Equation.{Equation};
+ghost use Rattle.alloc_check_verdict.specs.Ranks.{place, rank as rank_of, RiseFrom};
+
+use alloc_check_blocks::is_at;
+use alloc_check_rules::Equation;
+use locations::Location;
+
+fn place(location: &Location) -> u64
+    ensures place { result ≡ place location.now }
+    ensures small { result < 131072 }
+{
+    match location {
+        Location::InRegister(register) => u64::from(*register),
+        Location::InSlot(slot) => u64::from(*slot) + 65536,
+    }
+}
+
+/// Where an equation stands in the order.
+pub(crate) fn rank(equation: &Equation) -> u64
+    ensures rank { result ≡ rank_of equation.now }
+    ensures small { result < 8589934592 }
+{
+    u64::from(equation.register) * 131072 + place(&equation.location)
+}
+
+pub(crate) fn is_same(equation: &Equation, other: &Equation) -> bool
+    ensures { IsTrue result ↔ (equation.now ≡ other.now) }
+{
+    equation.register == other.register && is_at(&equation.location, &other.location)
+}
+
+/// How many equations have lower ranks.
+fn first_from(equations: &[Equation], least: u64) -> usize
+    requires { RiseFrom 0 equations.now }
+    ensures within { result ≤ length equations.now }
+    ensures lower { (k : ℕ) (d : Equation) → k < result → rank_of (get_or equations.now k d) < least }
+    ensures higher { (k : ℕ) (d : Equation) → result ≤ k → k < length equations.now → least ≤ rank_of (get_or equations.now k d) }
+{
+    let mut low = 0;
+    let mut high = equations.len();
+    while low < high {
+        let middle = low + (high - low) / 2;
+        if rank(&equations[middle]) < least {
+            low = middle + 1;
+        } else {
+            high = middle;
+        }
+    }
+    low
+}
+
+/// Whether the equation is among these.
+pub(crate) fn is_among(equations: &[Equation], equation: &Equation) -> bool
+    requires { RiseFrom 0 equations.now }
+    ensures { IsTrue result ↔ Contains equations.now equation.now }
+{
+    let first = first_from(equations, rank(equation));
+    if first == equations.len() {
+        return false;
+    }
+    is_same(&equations[first], equation)
+}

@@ -1,5 +1,0 @@
-use Rattle.alloc_rules.proofs.Acts.{act_done}
-use Rattle.alloc_rules.proofs.law.acts_agree.Goals as goal
-
-pub returns : goal.returns
-returns c = act_done

@@ -1,5 +1,0 @@
-use Rattle.alloc_rules.proofs.Changes.{over_call_holds}
-use Rattle.alloc_rules.proofs.law.calls_keep.Goals as goal
-
-pub returns : goal.returns
-returns c = over_call_holds

@@ -1,5 +1,0 @@
-use Rattle.alloc_rules.proofs.Changes.{through_holds}
-use Rattle.alloc_rules.proofs.law.demands_suffice.Goals as goal
-
-pub returns : goal.returns
-returns c = through_holds

@@ -1,5 +1,0 @@
-use Rattle.alloc_rules.proofs.Entries.{entry_holds}
-use Rattle.alloc_rules.proofs.law.entries_hold.Goals as goal
-
-pub returns : goal.returns
-returns c = entry_holds

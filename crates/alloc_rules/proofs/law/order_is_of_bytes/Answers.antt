@@ -1,5 +1,0 @@
-use Rattle.alloc_rules.proofs.Order.{before_is_of_bytes}
-use Rattle.alloc_rules.proofs.law.order_is_of_bytes.Goals as goal
-
-pub returns : goal.returns
-returns c = before_is_of_bytes

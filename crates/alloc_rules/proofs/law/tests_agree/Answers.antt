@@ -1,5 +1,0 @@
-use Rattle.alloc_rules.proofs.Acts.{test_covered}
-use Rattle.alloc_rules.proofs.law.tests_agree.Goals as goal
-
-pub returns : goal.returns
-returns c = test_covered

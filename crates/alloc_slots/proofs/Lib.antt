@@ -1,4 +1,0 @@
-pub mod Accepted
-pub mod Fits
-pub mod Mapped
-pub mod Owns

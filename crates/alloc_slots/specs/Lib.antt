@@ -1,2 +1,0 @@
-pub mod Slots
-pub use Rattle.alloc_rules.specs.Rules

@@ -1,5 +1,0 @@
-use Rattle.c_behaviour.specs.Growth.{runs_on}
-use Rattle.c_behaviour.proofs.law.c_runs_on.Goals as goal
-
-pub returns : goal.returns
-returns c = runs_on

@@ -1,0 +1,232 @@
+//! The checker of statements (C99 6.8). It calls itself no deeper than the tree is high.
+
+ghost use Rattle.std.specs.Prelude.{suc, ◌≡◌, ◌≤◌, ◌+◌, ◌-◌, [], length, drop, OnOk, IfOk, IfErr};
+ghost use Rattle.c_syntax.specs.Heights.{statement_height, statements_height};
+ghost use Rattle.c_syntax.specs.Views.{statement_tree, statements_tree, optional_tree, expression_tree, set_tree, start_tree};
+ghost use Rattle.c_program.specs.Trees as P;
+ghost use Rattle.c_program.specs.Views.{action_tree, actions_tree};
+ghost use Rattle.c_checker_rules.specs.Told.{Tells};
+ghost use Rattle.c_checker_rules.specs.Locals.{deeper, looping, left};
+ghost use Rattle.c_checker_rules.specs.Statements as S;
+ghost use Rattle.c_checker_rules.specs.Actions as A;
+ghost use Rattle.c_checker_bodies.specs.Loops.{for_faults, for_action};
+
+use crate::here::Here;
+use crate::loops::check_heads;
+use crate::owned::{beside, ok};
+use crate::parts::{
+    check_assignment, check_call_alone, check_declaration, check_return, check_store, in_loop,
+};
+use c_checker_rules::{CheckError, Place};
+use c_checker_terms::{Functions, check_expression};
+use c_program::Action;
+use c_syntax::{Expression, ForHead, ForStart, Set, Statement};
+use std::alloc::Global;
+
+/// In a block of this place.
+fn deeper(place: Place) -> Place
+    requires { place.depth ≤ 1000 }
+    ensures { result ≡ deeper place }
+{
+    Place {
+        depth: place.depth + 1,
+        ..place
+    }
+}
+
+/// In a loop of this place.
+fn looping(place: Place) -> Place
+    ensures { result ≡ looping place }
+{
+    Place {
+        in_loop: true,
+        ..place
+    }
+}
+
+/// At the end of a scope the names behind the mark are forgotten, and the locals keep their numbers.
+fn leave(here: &mut Here, mark: usize)
+    requires { mark ≤ length here.old.scope }
+    ensures { here.new ≡ record { scope = drop (length here.old.scope - mark) here.old.scope; locals = here.old.locals } }
+{
+    here.scope.shorten_to(mark);
+}
+
+/// Nothing to do, in a box.
+fn nothing(alloc: Global) -> Result<Box<Action>, CheckError>
+    ensures ok { IfOk result (λ b. action_tree b.value ≡ P.Nothing) }
+    ensures err { IfErr result (λ e. e ≡ CheckError.NoMemory) }
+{
+    Ok(Box::new(alloc, Action::Nothing)?)
+}
+
+/// The action that a statement stands for, or the first fault in it. What it declares is declared here.
+#[cycle(statements)]
+#[tactic(auto, using(c_checker_rules::proofs::Firsts::tells_front, c_checker_rules::proofs::Firsts::tells_behind, crate::proofs::Heights::if_low, crate::proofs::Heights::holds_low, crate::proofs::Heights::other_low, crate::proofs::Heights::for_low, crate::proofs::Blocks::view_block, c_program::proofs::Sequences::view_sequence))]
+fn check_statement(
+    alloc: Global,
+    functions: &Functions,
+    place: Place,
+    here: &mut Here,
+    statement: &Statement,
+) -> Result<Action, CheckError>
+    requires { place.depth + statement_height (statement_tree statement.now) ≤ 1000 }
+    ensures ok { OnOk result (S.statement_faults functions.now place here.old (statement_tree statement.now) ≡ []) }
+    ensures action { IfOk result (λ a. action_tree a ≡ A.action_of functions.now place.depth here.old (statement_tree statement.now)) }
+    ensures here { OnOk result (here.new ≡ S.after place.depth here.old (statement_tree statement.now)) }
+    ensures err { IfErr result (λ e. Tells e (S.statement_faults functions.now place here.old (statement_tree statement.now))) }
+{
+    match statement {
+        Statement::Empty => Ok(Action::Nothing),
+        Statement::Local(local) => { check_declaration(alloc, functions, place.depth, here, local) }
+        Statement::Block(all) => {
+            let all = ok!(check_block(alloc, functions, place, here, all.as_slice()));
+            Ok(Action::Sequence(all))
+        }
+        Statement::Call(call) => check_call_alone(alloc, functions, &here.scope, call),
+        Statement::Assign(name, value) => {
+            check_assignment(alloc, functions, &here.scope, name, value)
+        }
+        Statement::Store(name, index, value) => {
+            check_store(alloc, &here.scope, name, index, value)
+        }
+        Statement::If(condition, inner) => {
+            let condition = ok!(check_expression(alloc, &here.scope, condition));
+            let holds = check_inner(alloc, functions, place, here, inner);
+            let (condition, holds) = ok!(beside(condition.term, holds));
+            let (condition, other) = ok!(beside(condition, nothing(alloc)));
+            Ok(Action::If(condition, holds, other))
+        }
+        Statement::IfElse(condition, inner, other) => {
+            let condition = ok!(check_expression(alloc, &here.scope, condition));
+            let holds = check_inner(alloc, functions, place, here, inner);
+            let (condition, holds) = ok!(beside(condition.term, holds));
+            let other = check_inner(alloc, functions, place, here, other);
+            let (condition, other) = ok!(beside(condition, other));
+            Ok(Action::If(condition, holds, other))
+        }
+        Statement::While(condition, inner) => {
+            let condition = ok!(check_expression(alloc, &here.scope, condition));
+            let body = check_inner(alloc, functions, looping(place), here, inner);
+            let (condition, body) = ok!(beside(condition.term, body));
+            let (condition, behind) = ok!(beside(condition, nothing(alloc)));
+            Ok(Action::Loop(condition, body, behind))
+        }
+        Statement::For(head, inner) => {
+            let ForHead {
+                start,
+                condition,
+                step,
+            } = &**head;
+            check_for(
+                alloc,
+                functions,
+                deeper(place),
+                here,
+                start,
+                condition,
+                step,
+                inner,
+            )
+        }
+        Statement::Break(at) => in_loop(place.in_loop, *at, Action::Break),
+        Statement::Continue(at) => in_loop(place.in_loop, *at, Action::Continue),
+        Statement::Return(at, value) => {
+            check_return(alloc, functions, &here.scope, place.result, *at, value)
+        }
+    }
+}
+
+/// A statement within another: behind it its names are forgotten.
+#[cycle(statements)]
+#[tactic(auto, using(crate::proofs::Leaving::statement_longer, crate::proofs::Leaving::statement_shortened))]
+fn check_inner(
+    alloc: Global,
+    functions: &Functions,
+    place: Place,
+    here: &mut Here,
+    statement: &Statement,
+) -> Result<Box<Action>, CheckError>
+    requires { place.depth + statement_height (statement_tree statement.now) ≤ 1000 }
+    ensures ok { OnOk result (S.statement_faults functions.now place here.old (statement_tree statement.now) ≡ []) }
+    ensures action { IfOk result (λ a. action_tree a.value ≡ A.action_of functions.now place.depth here.old (statement_tree statement.now)) }
+    ensures here { OnOk result (here.new ≡ left here.old (S.after place.depth here.old (statement_tree statement.now))) }
+    ensures err { IfErr result (λ e. Tells e (S.statement_faults functions.now place here.old (statement_tree statement.now))) }
+{
+    let mark = here.scope.len();
+    let action = ok!(check_statement(alloc, functions, place, here, statement));
+    leave(here, mark);
+    Ok(Box::new(alloc, action)?)
+}
+
+/// The statements of a block at this place. Its scope is deeper, and its names are forgotten behind it.
+#[cycle(statements)]
+#[tactic(auto, using(crate::proofs::Heights::block_low, crate::proofs::Leaving::statements_longer, crate::proofs::Leaving::statements_shortened))]
+fn check_block(
+    alloc: Global,
+    functions: &Functions,
+    place: Place,
+    here: &mut Here,
+    all: &[Statement],
+) -> Result<Vec<Action>, CheckError>
+    requires { place.depth + suc (statements_height (statements_tree all.now)) ≤ 1000 }
+    ensures ok { OnOk result (S.statements_faults functions.now (deeper place) here.old (statements_tree all.now) ≡ []) }
+    ensures actions { IfOk result (λ a. actions_tree a.items ≡ A.actions_of functions.now (suc place.depth) here.old (statements_tree all.now)) }
+    ensures here { OnOk result (here.new ≡ left here.old (S.after_all (suc place.depth) here.old (statements_tree all.now))) }
+    ensures err { IfErr result (λ e. Tells e (S.statements_faults functions.now (deeper place) here.old (statements_tree all.now))) }
+{
+    let mark = here.scope.len();
+    let actions = ok!(check_statements(alloc, functions, deeper(place), here, all));
+    leave(here, mark);
+    Ok(actions)
+}
+
+/// A `for`, which has a scope of its own, at this place.
+#[cycle(statements)]
+#[tactic(auto, using(c_checker_rules::proofs::Firsts::tells_front, c_checker_rules::proofs::Firsts::tells_behind, crate::proofs::Leaving::for_longer, crate::proofs::Leaving::for_shortened, crate::proofs::Grouping::for_grouped))]
+fn check_for(
+    alloc: Global,
+    functions: &Functions,
+    place: Place,
+    here: &mut Here,
+    start: &ForStart,
+    condition: &Option<Expression>,
+    step: &Option<Set>,
+    inner: &Statement,
+) -> Result<Action, CheckError>
+    requires { place.depth + statement_height (statement_tree inner.now) ≤ 1000 }
+    ensures ok { OnOk result (for_faults functions.now place here.old (start_tree start.now) (optional_tree expression_tree condition.now) (optional_tree set_tree step.now) (statement_tree inner.now) ≡ []) }
+    ensures action { IfOk result (λ a. action_tree a ≡ for_action functions.now place.depth here.old (start_tree start.now) (optional_tree expression_tree condition.now) (optional_tree set_tree step.now) (statement_tree inner.now)) }
+    ensures here { OnOk result (here.new ≡ left here.old (S.after place.depth (S.with_start place.depth here.old (start_tree start.now)) (statement_tree inner.now))) }
+    ensures err { IfErr result (λ e. Tells e (for_faults functions.now place here.old (start_tree start.now) (optional_tree expression_tree condition.now) (optional_tree set_tree step.now) (statement_tree inner.now))) }
+{
+    let mark = here.scope.len();
+    let heads = ok!(check_heads(alloc, place.depth, here, start, condition, step));
+    let body = check_statement(alloc, functions, looping(place), here, inner);
+    let (heads, body) = ok!(beside(heads, body));
+    leave(here, mark);
+    Ok(heads.around(alloc, body)?)
+}
+
+/// Statements one behind the other.
+#[cycle(statements)]
+#[tactic(auto, using(c_checker_rules::proofs::Firsts::tells_front, c_checker_rules::proofs::Firsts::tells_behind))]
+pub fn check_statements(
+    alloc: Global,
+    functions: &Functions,
+    place: Place,
+    here: &mut Here,
+    all: &[Statement],
+) -> Result<Vec<Action>, CheckError>
+    requires { place.depth + statements_height (statements_tree all.now) ≤ 1000 }
+    ensures ok { OnOk result (S.statements_faults functions.now place here.old (statements_tree all.now) ≡ []) }
+    ensures actions { IfOk result (λ a. actions_tree a.items ≡ A.actions_of functions.now place.depth here.old (statements_tree all.now)) }
+    ensures here { OnOk result (here.new ≡ S.after_all place.depth here.old (statements_tree all.now)) }
+    ensures err { IfErr result (λ e. Tells e (S.statements_faults functions.now place here.old (statements_tree all.now))) }
+{
+    let mut actions = Vec::new(alloc);
+    for statement in all {
+        actions.push(check_statement(alloc, functions, place, here, statement)?)?;
+    }
+    Ok(actions)
+}

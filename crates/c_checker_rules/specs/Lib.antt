@@ -1,0 +1,14 @@
+pub mod Numbers
+pub mod Told
+pub mod Names
+pub mod Types
+pub mod Terms
+pub mod Expressions
+pub mod Calls
+pub mod Locals
+pub mod Statements
+pub mod Actions
+pub mod Globals
+pub mod Functions
+pub mod Units
+pub mod Checked

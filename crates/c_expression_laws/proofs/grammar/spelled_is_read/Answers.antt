@@ -1,5 +1,0 @@
-use Rattle.c_expression_laws.proofs.Laws.{expression_again}
-use Rattle.c_expression_laws.proofs.grammar.spelled_is_read.Goals as goal
-
-pub returns : goal.returns
-returns c = expression_again

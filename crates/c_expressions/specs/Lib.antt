@@ -1,3 +1,0 @@
-pub use Rattle.c_expression_laws.specs.Operators
-pub use Rattle.c_expression_laws.specs.Operands
-pub use Rattle.c_expression_laws.specs.Reading

@@ -1,4 +1,0 @@
-pub mod Endings
-pub mod Entering
-pub mod Meanings
-pub mod Naming

@@ -1,6 +1,0 @@
-use Rattle.std.proofs.Common.{drop}
-use Rattle.c_globals.proofs.Listed.{IsUnderWay}
-use Rattle.c_globals.proofs.initial.check_listed.Given as goal
-
-abbrev pub invariant-loop-initial : goal.invariant-loop-initial
-invariant-loop-initial l = IsUnderWay l.scope l.initials l.words.items (drop l.initial-index l.initials)

@@ -1,7 +1,0 @@
-use Rattle.std.proofs.Common.{◌≡◌, ◌++◌, None}
-use Rattle.std.specs.Prelude.{replicate}
-use Rattle.c_interpreter.proofs.calling.push_blank.Given as goal
-
--- so many stand there
-abbrev pub invariant-loop : goal.invariant-loop
-invariant-loop l = l.locals.items ≡ l.fn.locals.items ++ replicate l.counter None

@@ -1,7 +1,0 @@
-use Rattle.std.proofs.Common.{◌≡◌, map, take}
-use Rattle.c_behaviour.specs.Meaning.{cells_of}
-use Rattle.c_interpreter.proofs.starting.all_cells.Given as goal
-
--- so many globals are there
-abbrev pub invariant-loop-global : goal.invariant-loop-global
-invariant-loop-global l = l.all.items ≡ map cells_of (take l.global-index l.globals)

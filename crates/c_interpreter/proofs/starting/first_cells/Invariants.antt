@@ -1,7 +1,0 @@
-use Rattle.std.proofs.Common.{◌≡◌}
-use Rattle.c_behaviour.specs.Meaning.{filled}
-use Rattle.c_interpreter.proofs.starting.first_cells.Given as goal
-
--- so many cells are there
-abbrev pub invariant-loop-place : goal.invariant-loop-place
-invariant-loop-place l = l.words.items ≡ filled l.place l.first

@@ -1,2 +1,0 @@
-pub mod Arguments
-pub use Rattle.c_behaviour.specs.Meaning

@@ -1,0 +1,51 @@
+-- What is refused, and where.
+use Rattle.std.specs.Prelude.{◌≡◌, ◌≢◌, ℕ, List, ◌∷◌, ◌++◌, None, IsTrue, IsFalse, codes}
+use Rattle.c_lexer_parts.specs.declared.errors.LexError.{LexError}
+use Rattle.c_lexer_parts.specs.declared.errors.LexError.TheVariants.{NoMemory, BadByte, OpenComment, LiteralRange, BadChar}
+use Rattle.c_lexer_spellings.specs.Bytes.{is_white, begins_with_digit}
+use Rattle.c_lexer_spellings.specs.Characters.{IsCharacter}
+use Rattle.c_lexer_parts.specs.Lexemes.{IsWord, IsLexeme, IsLongest}
+use Rattle.c_lexer_spellings.specs.Numbers.{constant_of}
+
+-- a byte that begins nothing, and is no quote
+pub record IsBadByte (text : List ℕ) : Type 0 where
+  pub byte : ℕ
+  pub behind : List ℕ
+  pub first : text ≡ byte ∷ behind
+  pub no_white : IsFalse (is_white byte)
+  pub no_quote : byte ≢ 39
+  pub no_lexeme : (bytes rest : List ℕ) → IsLexeme bytes → text ≢ bytes ++ rest
+
+-- a comment that is not closed
+pub record IsOpenComment (text : List ℕ) : Type 0 where
+  pub body : List ℕ
+  pub opened : text ≡ codes "/*" ++ body
+  pub never_closed : (before behind : List ℕ) → body ≢ before ++ (codes "*/" ++ behind)
+
+-- a word that begins with a digit and spells no constant
+pub record IsRefused (word : List ℕ) : Type 0 where
+  pub digit_first : IsTrue (begins_with_digit word)
+  pub no_constant : constant_of word ≡ None
+
+-- such a word, the longest
+pub record IsBadNumber (text : List ℕ) : Type 0 where
+  pub word : List ℕ
+  pub rest : List ℕ
+  pub split : text ≡ word ++ rest
+  pub is_word : IsWord word
+  pub longest : IsLongest word rest
+  pub refused : IsRefused word
+
+-- a quote that begins no character constant
+pub record IsBadCharacter (text : List ℕ) : Type 0 where
+  pub behind : List ℕ
+  pub quote : text ≡ 39 ∷ behind
+  pub no_character : (bytes rest : List ℕ) (n : ℕ) → IsCharacter bytes n → text ≢ bytes ++ rest
+
+-- At this offset the text, from there on, is refused so.
+abbrev pub IsFaultAt : ℕ → List ℕ → LexError → Type 0
+IsFaultAt offset text NoMemory = ⊥
+IsFaultAt offset text (BadByte at) = (at ≡ offset) × IsBadByte text
+IsFaultAt offset text (OpenComment at) = (at ≡ offset) × IsOpenComment text
+IsFaultAt offset text (LiteralRange at) = (at ≡ offset) × IsBadNumber text
+IsFaultAt offset text (BadChar at) = (at ≡ offset) × IsBadCharacter text

@@ -1,6 +1,0 @@
-pub mod AtOnce
-pub mod Stacks
-pub mod Resume
-pub mod Costs
-pub mod Steps
-pub use Rattle.c_behaviour.specs.Meaning

@@ -1,0 +1,82 @@
+-- The words of arguments, one after the other.
+use Rattle.std.proofs.Common.{◌≡◌, ℕ, suc, ◌+◌, ◌<◌, Bool, true, false, List, [], ◌∷◌, ◌++◌, length, get_or, drop, map, Option, Some, None, refl, sym, ap, subst, ◌∙◌, append_assoc}
+use Rattle.std.proofs.lemmas.List.{drop_more, length-map}
+use Rattle.c_program.specs.declared.term.Term.{Term}
+use Rattle.c_program.specs.Trees.{TermTree}
+use Rattle.c_program.specs.Views.{term_tree}
+use Rattle.c_program.specs.State.{State, word, words, before}
+use Rattle.c_meaning.specs.Arguments.{IsPlaced}
+
+-- words, and those behind them
+abbrev pub joined : List ℕ → Option (List ℕ) → Option (List ℕ)
+joined ws None = None
+joined ws (Some vs) = Some (ws ++ vs)
+
+abbrev pub rest_words : List Term → ℕ → State → Option (List ℕ)
+rest_words arguments i s = words (map term_tree (drop i arguments)) s
+
+more : (arguments : List Term) (i : ℕ) (x : Term) (s : State) → i < length arguments → x ≡ get_or arguments i x → rest_words arguments i s ≡ before (word (term_tree x) s) (rest_words arguments (i + 1) s)
+more arguments i x s h e =
+    ap (λ l. words (map term_tree l) s) (drop_more arguments i x h ∙ ap (λ y. y ∷ drop (i + 1) arguments) (sym e))
+
+pub joined_none : (ws : List ℕ) (arguments : List Term) (i : ℕ) (x : Term) (s : State) → i < length arguments → x ≡ get_or arguments i x → None ≡ word (term_tree x) s → joined ws (rest_words arguments i s) ≡ None
+joined_none ws arguments i x s h e none =
+    ap (joined ws) (more arguments i x s h e ∙ ap (λ w. before w (rest_words arguments (i + 1) s)) (sym none))
+
+pushed : (ws : List ℕ) (w : ℕ) (rest : Option (List ℕ)) → joined ws (before (Some w) rest) ≡ joined (ws ++ w ∷ []) rest
+pushed ws w None = refl
+pushed ws w (Some vs) = ap Some (sym (append_assoc ws (w ∷ []) vs))
+
+pub joined_more : (ws : List ℕ) (arguments : List Term) (i : ℕ) (x : Term) (s : State) (w : ℕ) → i < length arguments → x ≡ get_or arguments i x → Some w ≡ word (term_tree x) s → joined ws (rest_words arguments i s) ≡ joined (ws ++ w ∷ []) (rest_words arguments (i + 1) s)
+joined_more ws arguments i x s w h e some =
+    ap (joined ws) (more arguments i x s h e ∙ ap (λ v. before v (rest_words arguments (i + 1) s)) (sym some))
+    ∙ pushed ws w (rest_words arguments (i + 1) s)
+
+-- what is printed does not matter to arguments
+pub words_output : (es : List TermTree) (s : State) (output : List ℕ) → words es (record s { output = output }) ≡ words es s
+words_output [] s output = refl
+words_output (e ∷ es) s output = ap (before (word e s)) (words_output es s output)
+
+before_length : (w : Option ℕ) (rest : Option (List ℕ)) (n : ℕ) (ws : List ℕ) → ((vs : List ℕ) → rest ≡ Some vs → length vs ≡ n) → before w rest ≡ Some ws → length ws ≡ suc n
+before_length None rest n ws h e = cc
+before_length (Some w) None n ws h e = cc
+before_length (Some w) (Some vs) n ws h e = let same : w ∷ vs ≡ ws = cc in ap length (sym same) ∙ ap suc (h vs refl)
+
+-- as many words as arguments
+pub words_length : (es : List TermTree) (s : State) (ws : List ℕ) → words es s ≡ Some ws → length ws ≡ length es
+words_length [] s ws e = let same : [] ≡ ws = cc in ap length (sym same)
+words_length (x ∷ es) s ws e = before_length (word x s) (words es s) (length es) ws (words_length es s) e
+
+-- what the answer says of the words
+pub placed_none : (o : Option (List ℕ)) (before' after : List (Option ℕ)) → IsPlaced false o before' after → o ≡ None
+placed_none None before' after h = refl
+placed_none (Some ws) before' after h = absurd h
+
+pub placed_some : (o : Option (List ℕ)) (before' after : List (Option ℕ)) → IsPlaced true o before' after → (ws : List ℕ) × ((o ≡ Some ws) × (after ≡ before' ++ map Some ws))
+placed_some None before' after h = absurd h
+placed_some (Some ws) before' after h = (ws, (refl, h))
+
+-- the arguments' words among these variables, whatever is printed
+same_words : (terms terms' : List Term) (locals : List (Option ℕ)) (globals globals' : List (List ℕ)) (output : List ℕ) → terms ≡ terms' → globals ≡ globals' →
+    words (map term_tree terms) (record { locals = locals; globals = globals; output = [] }) ≡ words (map term_tree terms') (record { locals = locals; globals = globals'; output = output })
+same_words terms terms' locals globals globals' output e g =
+    ap (λ l. words (map term_tree l) (record { locals = locals; globals = globals; output = [] })) e
+    ∙ ap (λ l. words (map term_tree terms') (record { locals = locals; globals = l; output = [] })) g
+    ∙ sym (words_output (map term_tree terms') (record { locals = locals; globals = globals'; output = [] }) output)
+
+pub arguments_fail : (terms terms' : List Term) (locals before' after : List (Option ℕ)) (globals globals' : List (List ℕ)) (output : List ℕ) (done : Bool) → terms ≡ terms' → globals ≡ globals' → done ≡ false →
+    IsPlaced done (words (map term_tree terms) (record { locals = locals; globals = globals; output = [] })) before' after →
+    words (map term_tree terms') (record { locals = locals; globals = globals'; output = output }) ≡ None
+arguments_fail terms terms' locals before' after globals globals' output done e g t placed =
+    let told = words (map term_tree terms) (record { locals = locals; globals = globals; output = [] }) in
+    sym (same_words terms terms' locals globals globals' output e g)
+    ∙ placed_none told before' after (subst (λ d. IsPlaced d told before' after) t placed)
+
+pub arguments_given : (terms terms' : List Term) (locals before' after : List (Option ℕ)) (globals globals' : List (List ℕ)) (output : List ℕ) (done : Bool) → terms ≡ terms' → globals ≡ globals' → done ≡ true →
+    IsPlaced done (words (map term_tree terms) (record { locals = locals; globals = globals; output = [] })) before' after →
+    (ws : List ℕ) × (words (map term_tree terms') (record { locals = locals; globals = globals'; output = output }) ≡ Some ws) × (after ≡ before' ++ map Some ws) × (length ws ≡ length terms)
+arguments_given terms terms' locals before' after globals globals' output done e g t placed =
+    let told = words (map term_tree terms) (record { locals = locals; globals = globals; output = [] }) in
+    let found = placed_some told before' after (subst (λ d. IsPlaced d told before' after) t placed) in
+    let count = words_length (map term_tree terms) (record { locals = locals; globals = globals; output = [] }) found.0 found.1.0 in
+    (found.0, sym (same_words terms terms' locals globals globals' output e g) ∙ found.1.0, found.1.1, count ∙ length-map terms term_tree)

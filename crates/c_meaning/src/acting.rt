@@ -1,0 +1,142 @@
+//! One step of a run.
+
+ghost use Rattle.std.specs.Prelude.{◌+◌, ◌<◌, ◌≤◌, IfOk};
+ghost use Rattle.c_program.specs.Views.{term_tree, given_tree, action_tree, actions_tree};
+ghost use Rattle.c_program.specs.State.{word};
+ghost use Rattle.c_program.specs.Meaning.{Falls, Turns, branches, stores, gives, exec, exec_all, level};
+ghost use Rattle.c_meaning_machine.specs.Costs.{cost, cost_all, given_cost, level_cost, later_cost};
+ghost use Rattle.c_meaning_machine.specs.Resume.{functions_of, here, later};
+ghost use Rattle.c_meaning_machine.specs.Steps.{Meets, next_cost};
+
+use crate::arriving::{arrive, store};
+use crate::calling::call;
+use crate::leaving::{breaks, continues, falls, returns};
+use crate::looping::{evaluate_here, listed, turn};
+use c_meaning_machine::{Cycle, Left, Machine, Next, set_local};
+use c_program::{Action, Target, Term, Value};
+use lang_base::{NoMemory, Shown};
+
+/// What gives a value is done, and the value goes to its target.
+#[tactic(auto, using(c_meaning_machine::proofs::Stops::resume_fails))]
+fn give<'a>(machine: &mut Machine<'a>, target: Target, value: &'a Value) -> Result<Next, NoMemory>
+    ensures meaning { IfOk result (λ next. Meets next machine.new (λ output. later machine.old (gives (level (functions_of machine.old) machine.old.bound) target (given_tree value.now) (here machine.old output)))) }
+    ensures cost { IfOk result (λ next. next_cost next machine.new < given_cost (level_cost (functions_of machine.old) machine.old.bound) (given_tree value.now) + later_cost machine.old) }
+{
+    match value {
+        Value::Term(term) => match evaluate_here(machine, term) {
+            Some(word) => Ok(arrive(machine, target, word)),
+            None => Ok(Next::Stops(Shown::Wrong)),
+        },
+        Value::Call(called) => call(machine, target, called),
+        Value::Put(term) => match evaluate_here(machine, term) {
+            Some(word) => Ok(Next::Prints((word % 256) as u8, target)),
+            None => Ok(Next::Stops(Shown::Wrong)),
+        },
+    }
+}
+
+/// A cell becomes what an expression gives.
+#[tactic(auto, using(c_meaning_machine::proofs::Stops::resume_fails))]
+fn store_value(machine: &mut Machine, global: usize, index: &Term, value: &Term) -> Next
+    ensures meaning { Meets result machine.new (λ output. later machine.old (stores global (here machine.old output) (word (term_tree index.now) (here machine.old output)) (word (term_tree value.now) (here machine.old output)))) }
+    ensures cost { next_cost result machine.new ≤ later_cost machine.old }
+{
+    let Some(index) = evaluate_here(machine, index) else {
+        return Next::Stops(Shown::Wrong);
+    };
+    let Some(word) = evaluate_here(machine, value) else {
+        return Next::Stops(Shown::Wrong);
+    };
+    store(machine, global, index, word)
+}
+
+/// One of two actions, by a condition.
+#[tactic(auto, using(c_meaning_machine::proofs::Stops::resume_fails))]
+fn choose<'a>(
+    machine: &mut Machine<'a>,
+    condition: &Term,
+    then: &'a Action,
+    other: &'a Action,
+) -> Result<Next, NoMemory>
+    ensures meaning { IfOk result (λ next. Meets next machine.new (λ output. later machine.old (branches (here machine.old output) (word (term_tree condition.now) (here machine.old output)) (exec (level (functions_of machine.old) machine.old.bound) (action_tree then.now) (here machine.old output)) (exec (level (functions_of machine.old) machine.old.bound) (action_tree other.now) (here machine.old output))))) }
+    ensures cost { IfOk result (λ next. next_cost next machine.new ≤ 1 + (cost (level_cost (functions_of machine.old) machine.old.bound) (action_tree then.now) + cost (level_cost (functions_of machine.old) machine.old.bound) (action_tree other.now)) + later_cost machine.old) }
+{
+    let Some(word) = evaluate_here(machine, condition) else {
+        return Ok(Next::Stops(Shown::Wrong));
+    };
+    machine
+        .left
+        .push(Left::Rest(machine.bound, machine.actions))?;
+    machine.actions = listed(if word == 0 { other } else { then });
+    Ok(Next::Goes)
+}
+
+/// The next action is done.
+#[tactic(auto, using(c_program::proofs::Sequences::view_sequence))]
+fn act<'a>(machine: &mut Machine<'a>, action: &'a Action) -> Result<Next, NoMemory>
+    ensures meaning { IfOk result (λ next. Meets next machine.new (λ output. later machine.old (exec (level (functions_of machine.old) machine.old.bound) (action_tree action.now) (here machine.old output)))) }
+    ensures cost { IfOk result (λ next. next_cost next machine.new < cost (level_cost (functions_of machine.old) machine.old.bound) (action_tree action.now) + later_cost machine.old) }
+{
+    match action {
+        Action::Nothing => Ok(Next::Goes),
+        Action::Declare(local) => {
+            set_local(&mut machine.locals, machine.base, *local, None);
+            Ok(Next::Goes)
+        }
+        Action::Sequence(all) => begin_sequence(machine, all.as_slice()),
+        Action::Give(target, value) => give(machine, *target, value),
+        Action::Store(global, index, value) => Ok(store_value(machine, *global, index, value)),
+        Action::If(condition, then, other) => choose(machine, condition, then, other),
+        Action::Loop(condition, body, behind) => begin_loop(machine, condition, body, behind),
+        Action::Break => Ok(breaks(machine)),
+        Action::Continue => continues(machine),
+        Action::Leave => Ok(returns(machine, None)),
+    }
+}
+
+/// A sequence begins.
+fn begin_sequence<'a>(machine: &mut Machine<'a>, all: &'a [Action]) -> Result<Next, NoMemory>
+    ensures meaning { IfOk result (λ next. Meets next machine.new (λ output. later machine.old (exec_all (level (functions_of machine.old) machine.old.bound) (actions_tree all.entry.now) (here machine.old output)))) }
+    ensures cost { IfOk result (λ next. next_cost next machine.new ≤ 1 + cost_all (level_cost (functions_of machine.old) machine.old.bound) (actions_tree all.entry.now) + later_cost machine.old) }
+{
+    machine
+        .left
+        .push(Left::Rest(machine.bound, machine.actions))?;
+    machine.actions = all;
+    Ok(Next::Goes)
+}
+
+/// A loop begins.
+fn begin_loop<'a>(
+    machine: &mut Machine<'a>,
+    condition: &'a Term,
+    body: &'a Action,
+    behind: &'a Action,
+) -> Result<Next, NoMemory>
+    ensures meaning { IfOk result (λ next. Meets next machine.new (λ output. later machine.old (level (functions_of machine.old) machine.old.bound (Turns (term_tree condition.now) (action_tree body.now) (action_tree behind.now)) (here machine.old output)))) }
+    ensures cost { IfOk result (λ next. next_cost next machine.new ≤ level_cost (functions_of machine.old) machine.old.bound (Turns (term_tree condition.now) (action_tree body.now) (action_tree behind.now)) + later_cost machine.old) }
+{
+    let bound = machine.bound;
+    machine.left.push(Left::Rest(bound, machine.actions))?;
+    let cycle = Cycle {
+        bound,
+        condition,
+        body,
+        behind,
+    };
+    turn(machine, cycle)
+}
+
+/// The next step: the next action, or where there is none, what waits.
+pub fn step(machine: &mut Machine) -> Result<Next, NoMemory>
+    ensures meaning { IfOk result (λ next. Meets next machine.new (λ output. later machine.old (Falls (here machine.old output)))) }
+    ensures cost { IfOk result (λ next. next_cost next machine.new < later_cost machine.old) }
+{
+    match machine.actions {
+        [] => falls(machine),
+        [first, rest @ ..] => {
+            machine.actions = rest;
+            act(machine, first)
+        }
+    }
+}

@@ -1,0 +1,54 @@
+//! Where a word goes.
+
+ghost use Rattle.std.specs.Prelude.{◌≡◌, ◌≤◌, MatchOption, IfSome, IfNone};
+ghost use Rattle.c_program.specs.Meaning.{arrives, stores};
+ghost use Rattle.c_meaning_machine.specs.Costs.{later_cost};
+ghost use Rattle.c_meaning_machine.specs.Resume.{here, later};
+ghost use Rattle.c_meaning_machine.specs.Steps.{Meets, next_cost};
+
+use crate::leaving::returns;
+use c_meaning_machine::{Machine, Next, set_local, store_cell};
+use c_program::Target;
+use lang_base::Shown;
+
+/// A word goes to a variable, or nowhere. One that goes to the caller is left to the caller of this.
+#[tactic(auto, using(c_meaning_machine::proofs::Stops::resume_fails))]
+pub fn settle(machine: &mut Machine, target: Target, word: u32) -> Option<Next>
+    ensures meaning { MatchOption result (target ≡ Target.Caller) (λ next. Meets next machine.new (λ output. later machine.old (arrives target word (here machine.old output)))) }
+    ensures cost { IfSome result (λ next. next_cost next machine.new ≤ later_cost machine.old) }
+    ensures same { IfNone result (machine.new ≡ machine.old) }
+{
+    match target {
+        Target::Nowhere => Some(Next::Goes),
+        Target::Local(number) => {
+            set_local(&mut machine.locals, machine.base, number, Some(word));
+            Some(Next::Goes)
+        }
+        Target::Global(number) => Some(store(machine, number, 0, word)),
+        Target::Caller => None,
+    }
+}
+
+/// A cell becomes a word.
+#[tactic(auto, using(c_meaning_machine::proofs::Stops::resume_fails))]
+pub fn store(machine: &mut Machine, global: usize, index: u32, word: u32) -> Next
+    ensures meaning { Meets result machine.new (λ output. later machine.old (stores global (here machine.old output) (Some index) (Some word))) }
+    ensures cost { next_cost result machine.new ≤ later_cost machine.old }
+{
+    if store_cell(&mut machine.globals, global, index, word) {
+        Next::Goes
+    } else {
+        Next::Stops(Shown::Wrong)
+    }
+}
+
+/// A word goes to its target.
+pub fn arrive(machine: &mut Machine, target: Target, word: u32) -> Next
+    ensures meaning { Meets result machine.new (λ output. later machine.old (arrives target word (here machine.old output))) }
+    ensures cost { next_cost result machine.new ≤ later_cost machine.old }
+{
+    match settle(machine, target, word) {
+        Some(next) => next,
+        None => returns(machine, Some(word)),
+    }
+}

@@ -1,0 +1,121 @@
+//! What is done where a statement leaves: the stack is searched for what goes on.
+
+ghost use Rattle.std.specs.Prelude.{◌≡◌, ◌+◌, ◌≤◌, ℕ, List, IfOk, IfSome, IfNone, MatchOption};
+ghost use Rattle.c_program.specs.Meaning.{Breaks, Continues, Returns, Falls, ends};
+ghost use Rattle.c_meaning_machine.specs.Costs.{rest_cost};
+ghost use Rattle.c_meaning_machine.specs.Resume.{here, rest_of, back_of};
+ghost use Rattle.c_meaning_machine.specs.Stacks.{waiting};
+ghost use Rattle.c_meaning_machine.specs.Steps.{Meets, next_cost};
+
+use crate::arriving::settle;
+use crate::looping::{after_body, turn};
+use c_meaning_machine::{Left, Machine, Next, Waiting};
+use c_program::{Ending, Target};
+use lang_base::{NoMemory, Shown};
+
+/// `break`: the nearest loop is left.
+#[tactic(auto, using(c_meaning_machine::proofs::Stops::resume_fails))]
+pub fn breaks(machine: &mut Machine) -> Next
+    ensures meaning { Meets result machine.new (λ output. rest_of machine.old (Breaks (here machine.old output))) }
+    ensures cost { next_cost result machine.new ≤ 1 + rest_cost machine.old }
+{
+    while let Some(left) = machine.left.pop() {
+        match left {
+            Left::Rest(_, _) => {}
+            Left::Body(_) => {
+                machine.actions = &[];
+                return Next::Goes;
+            }
+            Left::Behind(_) | Left::Back(_) => return Next::Stops(Shown::Wrong),
+        }
+    }
+    Next::Stops(Shown::Wrong)
+}
+
+/// `continue`: the rest of the nearest loop's body is left out.
+#[tactic(auto, using(c_meaning_machine::proofs::Stops::resume_fails))]
+pub fn continues(machine: &mut Machine) -> Result<Next, NoMemory>
+    ensures meaning { IfOk result (λ next. Meets next machine.new (λ output. rest_of machine.old (Continues (here machine.old output)))) }
+    ensures cost { IfOk result (λ next. next_cost next machine.new ≤ rest_cost machine.old) }
+{
+    while let Some(left) = machine.left.pop() {
+        match left {
+            Left::Rest(_, _) => {}
+            Left::Body(cycle) => return after_body(machine, cycle),
+            Left::Behind(_) | Left::Back(_) => return Ok(Next::Stops(Shown::Wrong)),
+        }
+    }
+    Ok(Next::Stops(Shown::Wrong))
+}
+
+/// A callee has returned to a caller that no more stands on the stack. Where the caller returns the same
+/// word, that is left to the caller of this.
+#[tactic(auto, using(c_meaning_machine::proofs::Stops::resume_fails))]
+fn come_back(machine: &mut Machine, caller: Waiting, word: Option<u32>) -> Option<Next>
+    ensures meaning { MatchOption result ((output : List ℕ) → back_of machine.old caller (Returns word (here machine.old output)) ≡ rest_of machine.new (Returns word (here machine.new output))) (λ next. Meets next machine.new (λ output. back_of machine.old caller (Returns word (here machine.old output)))) }
+    ensures cost { IfSome result (λ next. next_cost next machine.new ≤ 1 + rest_cost machine.old) }
+    ensures left { IfNone result (waiting machine.new.left ≡ waiting machine.old.left) }
+    ensures functions { IfNone result (machine.new.functions ≡ machine.old.functions) }
+{
+    machine.locals.truncate(machine.base);
+    machine.base = caller.base;
+    machine.actions = &[];
+    match word {
+        Some(word) => settle(machine, caller.target, word),
+        None if caller.target == Target::Nowhere => Some(Next::Goes),
+        None => Some(Next::Stops(Shown::Wrong)),
+    }
+}
+
+/// `return`, with a word or without: the nearest caller goes on.
+pub fn returns(machine: &mut Machine, word: Option<u32>) -> Next
+    ensures meaning { Meets result machine.new (λ output. rest_of machine.old (Returns word (here machine.old output))) }
+    ensures cost { next_cost result machine.new ≤ 1 + rest_cost machine.old }
+{
+    while let Some(left) = machine.left.pop() {
+        if let Left::Back(caller) = left {
+            if let Some(next) = come_back(machine, caller, word) {
+                return next;
+            }
+        }
+    }
+    match word {
+        Some(word) => Next::Stops(Shown::Ended(word)),
+        None => Next::Stops(Shown::Wrong),
+    }
+}
+
+/// The end of a function's body is reached.
+#[tactic(auto, using(c_meaning_machine::proofs::Stops::resume_fails))]
+fn reach_end(machine: &mut Machine, caller: Waiting) -> Next
+    ensures meaning { Meets result machine.new (λ output. back_of machine.old caller (ends caller.ending (Falls (here machine.old output)))) }
+    ensures cost { next_cost result machine.new ≤ 1 + rest_cost machine.old }
+{
+    let word = match caller.ending {
+        Ending::Returns => None,
+        Ending::ReturnsZero => Some(0),
+        Ending::GoesWrong => return Next::Stops(Shown::Wrong),
+    };
+    match come_back(machine, caller, word) {
+        Some(next) => next,
+        None => returns(machine, word),
+    }
+}
+
+/// What is done now has fallen through: what waits on top is done.
+pub fn falls(machine: &mut Machine) -> Result<Next, NoMemory>
+    ensures meaning { IfOk result (λ next. Meets next machine.new (λ output. rest_of machine.old (Falls (here machine.old output)))) }
+    ensures cost { IfOk result (λ next. next_cost next machine.new ≤ rest_cost machine.old) }
+{
+    match machine.left.pop() {
+        None => Ok(Next::Stops(Shown::Wrong)),
+        Some(Left::Rest(bound, actions)) => {
+            machine.bound = bound;
+            machine.actions = actions;
+            Ok(Next::Goes)
+        }
+        Some(Left::Body(cycle)) => after_body(machine, cycle),
+        Some(Left::Behind(cycle)) => turn(machine, cycle),
+        Some(Left::Back(caller)) => Ok(reach_end(machine, caller)),
+    }
+}

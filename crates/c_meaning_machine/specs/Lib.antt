@@ -1,0 +1,6 @@
+pub mod AtOnce
+pub mod Stacks
+pub mod Resume
+pub mod Costs
+pub mod Steps
+pub use Rattle.c_program.specs.Meaning

@@ -1,0 +1,3 @@
+pub use Rattle.c_reader_expression_laws.specs.Operators
+pub use Rattle.c_reader_expression_laws.specs.Operands
+pub use Rattle.c_reader_expression_laws.specs.Reading

@@ -1,0 +1,196 @@
+-- Parts of statements that are no statements: what is read is spelled so, and is no higher than the room.
+use Rattle.std.proofs.Common.{◌≡◌, ℕ, suc, ◌≤◌, List, [], ◌∷◌, ◌++◌, Option, Some, None, Ok, refl, sym, ap, subst, ◌∙◌, append_assoc, append-nil, arith}
+use Rattle.std.specs.Prelude.{max}
+use Rattle.c_syntax.specs.declared.keyword.Keyword.{Keyword}
+use Rattle.c_syntax.specs.declared.punctuator.Punctuator.{Punctuator}
+use Rattle.c_syntax.specs.declared.punctuator.Punctuator.TheVariants.{LeftParenthesis, RightParenthesis, LeftBracket, RightBracket, Semicolon, Assign, Comma}
+use Rattle.c_syntax.specs.declared.token.Token.{Token}
+use Rattle.c_syntax.specs.declared.token.TokenKind.TheVariants as Kind
+use Rattle.c_syntax.specs.declared.identifier.Identifier.{Identifier}
+use Rattle.c_syntax.specs.Trees.{ExpressionTree, CallTree, ValueTree, PlaceTree, SetTree, LocalTree, StartTree}
+use Rattle.c_syntax.specs.Trees as T
+use Rattle.c_syntax.specs.Parts.{OneAt, Sign, Word, IsName, IsType, ◌⨾◌, Perhaps, Commas}
+use Rattle.c_syntax.specs.Expressions.{IsExpression}
+use Rattle.c_syntax.specs.Statements.{IsCall, IsValue, IsPlace, IsSet, IsLocalValue, IsLocal, IsStart}
+use Rattle.c_syntax.specs.Heights.{expression_height, arguments_height, call_height, value_height, place_height, set_height, optional_height, local_height, start_height, IfThere}
+use Rattle.c_reader_tokens.specs.Reading.{Reading}
+use Rattle.c_reader_tokens.specs.Peeking.{is_sign_next, is_type_next, is_call_next}
+use Rattle.c_reader_tokens.specs.Tokens.{sign, word, placed_word, placed_name, integer_type}
+use Rattle.c_reader_tokens.proofs.Laws.{done, ok_is, bind_ok}
+use Rattle.c_reader_tokens.proofs.Tokens.{sign_takes, sign_again, word_takes, word_again, placed_word_takes, placed_name_takes, integer_type_takes}
+use Rattle.c_reader_expression_laws.specs.Reading.{expression_at}
+use Rattle.c_reader_expression_laws.proofs.Laws.{expression_takes}
+use Rattle.c_reader_productions.specs.Combining.{◌▷◌, ◌◁◌, ◌&◌, made, either, commas}
+use Rattle.c_reader_productions.specs.Parts.{under, name, arguments, call, value, is_cell_next, cell, place, set, local_value, local, start_local, start_set, start_nothing, start}
+use Rattle.c_reader_productions.proofs.Laws.{IsMark, IsTaken, IsSound, Any, Whatever, after, before, both, made_takes, either_takes, only, under_takes, Each, AllFit, each_sound}
+
+pub sign_mark : (p : Punctuator) → IsMark (sign p) (Sign p)
+sign_mark p = record { takes = sign_takes p; again = sign_again p }
+
+pub word_mark : (k : Keyword) → IsMark (word k) (Word k)
+word_mark k = record { takes = word_takes k; again = word_again k }
+
+-- what fits and is spelled in one way is so in another
+pub sound_as : {A : Type 0} {part : Reading A} {F : A → Type 0} {P L : A → List Token → Type 0} → IsSound part F P L → (G : A → Type 0) (Q : A → List Token → Type 0) → ((x : A) → F x → G x) → ((x : A) (xs : List Token) → P x xs → Q x xs) → IsSound part G Q Any
+sound_as p G Q fits spells = record {
+  takes = λ ts x rest e.
+      let t = p.takes ts x rest e in
+      record { fits = fits x t.fits; leaves = tt; front = t.front; spelled = spells x t.front t.spelled; parts = t.parts };
+}
+
+pub placed_word_sound : (k : Keyword) → IsSound (placed_word k) Whatever (λ at. OneAt (Kind.Keyword k) at) Any
+placed_word_sound k = record {
+  takes = λ ts x rest e. let t = placed_word_takes k ts x rest e in record { fits = tt; leaves = tt; front = t.front; spelled = t.spelled; parts = t.parts };
+}
+
+placed_name_sound : IsSound placed_name Whatever IsName Any
+placed_name_sound = record {
+  takes = λ ts x rest e. let t = placed_name_takes ts x rest e in record { fits = tt; leaves = tt; front = t.front; spelled = t.spelled; parts = t.parts };
+}
+
+pub type_sound : IsSound integer_type Whatever IsType Any
+type_sound = record {
+  takes = λ ts x rest e. let t = integer_type_takes ts x rest e in record { fits = tt; leaves = tt; front = t.front; spelled = t.spelled; parts = t.parts };
+}
+
+pub expression_sound : (room : ℕ) → IsSound (expression_at room 0) (λ e. expression_height e ≤ room) IsExpression Any
+expression_sound room = record {
+  takes = λ ts x rest e. let t = expression_takes room 0 ts x rest e in record { fits = t.low; leaves = tt; front = t.takes.front; spelled = t.takes.spelled; parts = t.takes.parts };
+}
+
+pub name_sound : (room : ℕ) → IsSound (name room) (λ x. 1 ≤ room) IsName Any
+unfolding name
+name_sound room = record { takes = under_takes (λ r (x : Identifier). 1 ≤ r) (λ r. placed_name_sound) (λ r x f. omega arith) room }
+
+-- ---- arguments and calls
+
+together : {A : Type 0} (P : A → List Token → Type 0) (x : A) (ys : List A) (xs : List Token) → (P x ⨾ Each (λ y. Sign Comma ⨾ P y) ys) xs → Commas P (x ∷ ys) xs
+together P x [] xs d = subst (P x) (sym (d.4 ∙ ap (λ l. d.0 ++ l) d.3 ∙ append-nil d.0)) d.2
+together P x (y ∷ ys) xs d =
+    let next = d.3 in
+    let one = next.2 in (
+      d.0,
+      one.0 ++ (one.1 ++ next.1),
+      d.2,
+      (one.0, one.1 ++ next.1, one.2, together P y ys (one.1 ++ next.1) (one.1, next.1, one.3, next.3, refl), refl),
+      d.4 ∙ ap (λ l. d.0 ++ l) (next.4 ∙ ap (λ l. l ++ next.1) one.4 ∙ append_assoc one.0 one.1 next.1),
+    )
+
+pub commas_sound : {A : Type 0} {part : Reading A} {F : A → Type 0} {P L : A → List Token → Type 0} → IsSound part F P L → IsSound (commas part) (AllFit F) (Commas P) Any
+unfolding commas
+commas_sound {A} {part} {F} {P} p = record {
+  takes = made_takes (λ v. v.0 ∷ v.1) (both p (each_sound (is_sign_next Comma) (after (sign_mark Comma) p))) (AllFit F) (Commas P) Any (λ v f. f) (λ v xs d. together P v.0 v.1 xs d) (λ v r l. tt);
+}
+
+pub arguments_sound : (room : ℕ) → IsSound (arguments room) (AllFit (λ e. expression_height e ≤ room)) (Commas IsExpression) Any
+unfolding arguments
+arguments_sound room = record {
+  takes = either_takes (is_sign_next RightParenthesis) (λ l. Ok ([], l)) (commas (expression_at room 0))
+      (λ ts x rest h e. subst (λ (z : List ExpressionTree × List Token). IsTaken (AllFit (λ e. expression_height e ≤ room)) (Commas IsExpression) Any ts z.0 z.1) (ok_is ([], ts) (x, rest) e) (record { fits = tt; leaves = tt; front = []; spelled = refl; parts = refl }))
+      (λ ts x rest h. (commas_sound (expression_sound room)).takes ts x rest);
+}
+
+arguments_low : (room : ℕ) (es : List ExpressionTree) → 1 ≤ room → AllFit (λ e. expression_height e ≤ room) es → arguments_height es ≤ room
+arguments_low room [] le f = le
+arguments_low room (e ∷ es) le f =
+    let one = f.0 in
+    let more = arguments_low room es le f.1 in
+    omega arith
+
+pub call_sound : (room : ℕ) → IsSound (call room) (λ c. call_height c ≤ room) IsCall Any
+unfolding call
+call_sound room = record {
+  takes = under_takes (λ r c. call_height c ≤ r) (λ r. record {
+    takes = made_takes (λ v. record { callee = v.0; arguments = v.1 }) (both (name_sound r) (after (sign_mark LeftParenthesis) (before (arguments_sound r) (sign_mark RightParenthesis)))) (λ c. call_height c ≤ suc r) IsCall Any
+        (λ v f. let low = arguments_low r v.1 f.0 f.1 in omega arith) (λ v xs d. d) (λ v rest l. tt);
+  }) (λ r x f. f) room;
+}
+
+pub value_sound : (room : ℕ) → IsSound (value room) (λ v. value_height v ≤ room) IsValue Any
+unfolding value
+value_sound room = record {
+  takes = either_takes is_call_next (made (λ c. T.Called c) (call room)) (made (λ e. T.Plain e) (expression_at room 0))
+      (λ ts x rest h. made_takes (λ c. T.Called c) (call_sound room) (λ v. value_height v ≤ room) IsValue Any (λ v f. f) (λ v xs d. d) (λ v r l. tt) ts x rest)
+      (λ ts x rest h. made_takes (λ e. T.Plain e) (expression_sound room) (λ v. value_height v ≤ room) IsValue Any (λ v f. f) (λ v xs d. d) (λ v r l. tt) ts x rest);
+}
+
+-- ---- what a `for` sets
+
+cell_sound : (room : ℕ) → IsSound (cell room) (λ p. place_height p ≤ room) IsPlace Any
+unfolding cell
+cell_sound room = record {
+  takes = under_takes (λ r p. place_height p ≤ r) (λ r. record {
+    takes = made_takes (λ v. T.Cell v.0 v.1) (both (name_sound r) (after (sign_mark LeftBracket) (before (expression_sound r) (sign_mark RightBracket)))) (λ p. place_height p ≤ suc r) IsPlace Any
+        (λ v f. let one = f.0 in let low = f.1 in omega arith) (λ v xs d. d) (λ v rest l. tt);
+  }) (λ r x f. f) room;
+}
+
+pub place_sound : (room : ℕ) → IsSound (place room) (λ p. place_height p ≤ room) IsPlace Any
+unfolding place
+place_sound room = record {
+  takes = either_takes is_cell_next (cell room) (made (λ x. T.Name x) (name room))
+      (λ ts x rest h. (cell_sound room).takes ts x rest)
+      (λ ts x rest h. made_takes (λ x. T.Name x) (name_sound room) (λ p. place_height p ≤ room) IsPlace Any (λ v f. f) (λ v xs d. d) (λ v r l. tt) ts x rest);
+}
+
+pub set_sound : (room : ℕ) → IsSound (set room) (λ s. set_height s ≤ room) IsSet Any
+unfolding set
+set_sound room = record {
+  takes = under_takes (λ r s. set_height s ≤ r) (λ r. record {
+    takes = made_takes (λ v. record { place = v.0; value = v.1 }) (both (place_sound r) (after (sign_mark Assign) (expression_sound r))) (λ s. set_height s ≤ suc r) IsSet Any
+        (λ v f. let one = f.0 in let low = f.1 in omega arith) (λ v xs d. d) (λ v rest l. tt);
+  }) (λ r x f. f) room;
+}
+
+-- ---- locals
+
+pub option_low : {A : Type 0} (height : A → ℕ) (room : ℕ) (o : Option A) → IfThere (λ x. height x ≤ room) o → optional_height height o ≤ room
+option_low height room None f = omega arith
+option_low height room (Some x) f = f
+
+local_value_spelled : (o : Option ValueTree) (xs : List Token) → Perhaps (λ v. Sign Assign ⨾ IsValue v) o xs → IsLocalValue o xs
+local_value_spelled None xs d = d
+local_value_spelled (Some v) xs d = d
+
+local_value_sound : (room : ℕ) → IsSound (local_value room) (λ o. optional_height value_height o ≤ room) IsLocalValue Any
+unfolding local_value
+local_value_sound room = sound_as (only (is_sign_next Assign) (after (sign_mark Assign) (value_sound room))) (λ o. optional_height value_height o ≤ room) IsLocalValue (λ o f. option_low value_height room o f) local_value_spelled
+
+pub local_sound : (room : ℕ) → IsSound (local room) (λ l. local_height l ≤ suc room) IsLocal Any
+unfolding local
+local_sound room = record {
+  takes = made_takes (λ v. record { kind = v.0; name = v.1.0; value = v.1.1 }) (both type_sound (both (name_sound room) (before (local_value_sound room) (sign_mark Semicolon)))) (λ l. local_height l ≤ suc room) IsLocal Any
+      (λ v f. let one = f.1.0 in let low = f.1.1 in omega arith) (λ v xs d. d) (λ v rest l. tt);
+}
+
+-- ---- how a `for` begins
+
+start_local_sound : (room : ℕ) → IsSound (start_local room) (λ s. start_height s ≤ room) IsStart Any
+unfolding start_local
+start_local_sound room =
+    let behind : IsSound (under (λ r. name r & sign Assign ▷ expression_at r 0 ◁ sign Semicolon) room) (λ v. suc (max 1 (expression_height v.1)) ≤ room) (λ v. IsName v.0 ⨾ (Sign Assign ⨾ (IsExpression v.1 ⨾ Sign Semicolon))) Any = record {
+      takes = under_takes (λ r v. suc (max 1 (expression_height v.1)) ≤ r) (λ r. both (name_sound r) (after (sign_mark Assign) (before (expression_sound r) (sign_mark Semicolon)))) (λ r v f. let one = f.0 in let low = f.1 in omega arith) room;
+    } in
+    record { takes = made_takes (λ v. T.StartLocal v.0 v.1.0 v.1.1) (both type_sound behind) (λ s. start_height s ≤ room) IsStart Any (λ v f. f.1) (λ v xs d. d) (λ v rest l. tt) }
+
+start_set_sound : (room : ℕ) → IsSound (start_set room) (λ s. start_height s ≤ room) IsStart Any
+unfolding start_set
+start_set_sound room = record {
+  takes = made_takes (λ s. T.StartSet s) (before (set_sound room) (sign_mark Semicolon)) (λ s. start_height s ≤ room) IsStart Any (λ v f. f) (λ v xs d. d) (λ v rest l. tt);
+}
+
+-- one mark that stands for a value
+pub marked_takes : {A : Type 0} (p : Punctuator) (value : A) (F : A → Type 0) (P L : A → List Token → Type 0) → F value → ((xs : List Token) → Sign p xs → P value xs) → ((rest : List Token) → L value rest) → (ts : List Token) (x : A) (rest : List Token) → (sign p ▷ (λ r. Ok (value, r))) ts ≡ Ok (x, rest) → IsTaken F P L ts x rest
+marked_takes {A} p value F P L fits spells leaves ts x rest e =
+    let b = bind_ok (sign p ts) (λ r. done (value, r)) (x, rest) e in
+    let t = sign_takes p ts b.0 b.1 in
+    subst (λ (z : A × List Token). IsTaken F P L ts z.0 z.1) (ok_is (value, b.0) (x, rest) b.2)
+    (record { fits = fits; leaves = leaves b.0; front = t.front; spelled = spells t.front t.spelled; parts = t.parts })
+
+pub start_sound : (room : ℕ) → IsSound (start room) (λ s. start_height s ≤ room) IsStart Any
+unfolding start start_nothing
+start_sound room = record {
+  takes = either_takes (is_sign_next Semicolon) start_nothing (either is_type_next (start_local room) (start_set room))
+      (λ ts x rest h. marked_takes Semicolon T.StartNothing (λ s. start_height s ≤ room) IsStart Any (omega arith) (λ xs d. d) (λ r. tt) ts x rest)
+      (λ ts x rest h. either_takes is_type_next (start_local room) (start_set room) (λ ts x rest h. (start_local_sound room).takes ts x rest) (λ ts x rest h. (start_set_sound room).takes ts x rest) ts x rest);
+}

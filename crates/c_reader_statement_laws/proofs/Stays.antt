@@ -1,0 +1,188 @@
+-- With more room the same is read, unless there was too little.
+use Rattle.std.proofs.Common.{ℕ, zero, suc, ◌≤◌, Bool, true, false, List, [], ◌∷◌, length, Some, Ok, inl, inr, refl, arith}
+use Rattle.c_syntax.specs.declared.keyword.Keyword.TheVariants as K
+use Rattle.c_syntax.specs.declared.punctuator.Punctuator.TheVariants.{LeftParenthesis, RightParenthesis, LeftBracket, RightBracket, LeftBrace, RightBrace, Semicolon, Assign, Comma}
+use Rattle.c_syntax.specs.declared.token.Token.{Token}
+use Rattle.c_syntax.specs.Trees as T
+use Rattle.c_reader_tokens.specs.Reading.{Reading}
+use Rattle.c_reader_tokens.specs.Peeking.{is_sign_next, is_word_next, is_type_next, is_call_next}
+use Rattle.c_reader_tokens.specs.Tokens.{sign, word, placed_word, placed_name, integer_type}
+use Rattle.c_reader_expression_laws.specs.Reading.{expression_at}
+use Rattle.c_reader_expression_laws.proofs.Laws.{expression_stays}
+use Rattle.c_reader_statement_laws.specs.declared.first.First.{First}
+use Rattle.c_reader_statement_laws.specs.declared.first.First.TheVariants as F
+use Rattle.c_reader_productions.specs.Combining.{◌▷◌, ◌◁◌, ◌&◌, made, missing, there, repeated, each, commas}
+use Rattle.c_reader_productions.specs.Parts.{less, name, arguments, call, value, is_cell_next, cell, place, set, local_value, local, start_local, start_set, start_nothing, start}
+use Rattle.c_reader_statement_laws.specs.Reading.{first_of, call_statement, assign, store, return_statement, branched, statements_of, Below, goes_on, items_in, block_in, branches_in, if_in, while_in, for_in, by_first, too_high, statement_at}
+use Rattle.c_reader_productions.proofs.Laws.{Keeps, keeps_same, keeps_after, keeps_before, keeps_both, keeps_made, keeps_either, keeps_under}
+
+pub repeated_keeps : {A : Type 0} (goes : List Token → Bool) {part more : Reading A} → Keeps part more → (limit : ℕ) → Keeps (repeated goes part limit) (repeated goes more limit)
+unfolding repeated
+repeated_keeps goes k zero ts = inr refl
+repeated_keeps goes k (suc limit) ts = keeps_either goes (keeps_made (λ v. v.0 ∷ v.1) (keeps_both k (repeated_keeps goes k limit))) (keeps_same (λ rest. Ok ([], rest))) ts
+
+pub each_keeps : {A : Type 0} (goes : List Token → Bool) {part more : Reading A} → Keeps part more → Keeps (each goes part) (each goes more)
+each_keeps goes k ts = repeated_keeps goes k (length ts) ts
+
+pub commas_keeps : {A : Type 0} {part more : Reading A} → Keeps part more → Keeps (commas part) (commas more)
+unfolding commas
+commas_keeps k ts = keeps_made (λ v. v.0 ∷ v.1) (keeps_both k (each_keeps (is_sign_next Comma) (keeps_after (sign Comma) k))) ts
+
+there_keeps : {A : Type 0} {part more : Reading A} → Keeps part more → Keeps (there part) (there more)
+there_keeps k ts = keeps_made (λ x. Some x) k ts
+
+expression_keeps : (room more : ℕ) → room ≤ more → Keeps (expression_at room 0) (expression_at more 0)
+expression_keeps room more le ts = expression_stays room more 0 ts le
+
+name_keeps : (room more : ℕ) → room ≤ more → Keeps (name room) (name more)
+unfolding name
+name_keeps room more le ts = keeps_under (λ r. placed_name) (λ r s l. keeps_same placed_name) room more le ts
+
+arguments_keeps : (room more : ℕ) → room ≤ more → Keeps (arguments room) (arguments more)
+unfolding arguments
+arguments_keeps room more le ts = keeps_either (is_sign_next RightParenthesis) (keeps_same (λ l. Ok ([], l))) (commas_keeps (expression_keeps room more le)) ts
+
+call_keeps : (room more : ℕ) → room ≤ more → Keeps (call room) (call more)
+unfolding call
+call_keeps room more le ts =
+    keeps_under (λ r. made (λ v. record { callee = v.0; arguments = v.1 }) (name r & sign LeftParenthesis ▷ arguments r ◁ sign RightParenthesis))
+    (λ r s l. keeps_made (λ v. record { callee = v.0; arguments = v.1 }) (keeps_both (name_keeps r s l) (keeps_after (sign LeftParenthesis) (keeps_before (sign RightParenthesis) (arguments_keeps r s l))))) room more le ts
+
+value_keeps : (room more : ℕ) → room ≤ more → Keeps (value room) (value more)
+unfolding value
+value_keeps room more le ts = keeps_either is_call_next (keeps_made (λ c. T.Called c) (call_keeps room more le)) (keeps_made (λ e. T.Plain e) (expression_keeps room more le)) ts
+
+cell_keeps : (room more : ℕ) → room ≤ more → Keeps (cell room) (cell more)
+unfolding cell
+cell_keeps room more le ts =
+    keeps_under (λ r. made (λ v. T.Cell v.0 v.1) (name r & sign LeftBracket ▷ expression_at r 0 ◁ sign RightBracket))
+    (λ r s l. keeps_made (λ v. T.Cell v.0 v.1) (keeps_both (name_keeps r s l) (keeps_after (sign LeftBracket) (keeps_before (sign RightBracket) (expression_keeps r s l))))) room more le ts
+
+place_keeps : (room more : ℕ) → room ≤ more → Keeps (place room) (place more)
+unfolding place
+place_keeps room more le ts = keeps_either is_cell_next (cell_keeps room more le) (keeps_made (λ x. T.Name x) (name_keeps room more le)) ts
+
+set_keeps : (room more : ℕ) → room ≤ more → Keeps (set room) (set more)
+unfolding set
+set_keeps room more le ts =
+    keeps_under (λ r. made (λ v. record { place = v.0; value = v.1 }) (place r & sign Assign ▷ expression_at r 0))
+    (λ r s l. keeps_made (λ v. record { place = v.0; value = v.1 }) (keeps_both (place_keeps r s l) (keeps_after (sign Assign) (expression_keeps r s l)))) room more le ts
+
+local_value_keeps : (room more : ℕ) → room ≤ more → Keeps (local_value room) (local_value more)
+unfolding local_value
+local_value_keeps room more le ts = keeps_either (is_sign_next Assign) (there_keeps (keeps_after (sign Assign) (value_keeps room more le))) (keeps_same missing) ts
+
+local_keeps : (room more : ℕ) → room ≤ more → Keeps (local room) (local more)
+unfolding local
+local_keeps room more le ts =
+    keeps_made (λ v. record { kind = v.0; name = v.1.0; value = v.1.1 })
+    (keeps_both (keeps_same integer_type) (keeps_both (name_keeps room more le) (keeps_before (sign Semicolon) (local_value_keeps room more le)))) ts
+
+start_local_keeps : (room more : ℕ) → room ≤ more → Keeps (start_local room) (start_local more)
+unfolding start_local
+start_local_keeps room more le ts =
+    keeps_made (λ v. T.StartLocal v.0 v.1.0 v.1.1)
+    (keeps_both (keeps_same integer_type) (keeps_under (λ r. name r & sign Assign ▷ expression_at r 0 ◁ sign Semicolon)
+    (λ r s l. keeps_both (name_keeps r s l) (keeps_after (sign Assign) (keeps_before (sign Semicolon) (expression_keeps r s l)))) room more le)) ts
+
+start_set_keeps : (room more : ℕ) → room ≤ more → Keeps (start_set room) (start_set more)
+unfolding start_set
+start_set_keeps room more le ts = keeps_made (λ s. T.StartSet s) (keeps_before (sign Semicolon) (set_keeps room more le)) ts
+
+start_keeps : (room more : ℕ) → room ≤ more → Keeps (start room) (start more)
+unfolding start
+start_keeps room more le ts =
+    keeps_either (is_sign_next Semicolon) (keeps_same start_nothing) (keeps_either is_type_next (start_local_keeps room more le) (start_set_keeps room more le)) ts
+
+call_statement_keeps : (room more : ℕ) → room ≤ more → Keeps (call_statement room) (call_statement more)
+unfolding call_statement
+call_statement_keeps room more le ts = keeps_made (λ c. T.Call c) (keeps_before (sign Semicolon) (call_keeps room more le)) ts
+
+assign_keeps : (room more : ℕ) → room ≤ more → Keeps (assign room) (assign more)
+unfolding assign
+assign_keeps room more le ts =
+    keeps_made (λ v. T.Assign v.0 v.1) (keeps_both (name_keeps room more le) (keeps_after (sign Assign) (keeps_before (sign Semicolon) (value_keeps room more le)))) ts
+
+-- The index has one less room than the value: each of the two has more.
+store_keeps : (room more : ℕ) → room ≤ more → Keeps (store room) (store more)
+unfolding store less
+store_keeps zero zero le ts = inr refl
+store_keeps zero (suc s) le ts = inl refl
+store_keeps (suc r) zero le ts = absurd (omega arith)
+store_keeps (suc r) (suc s) le ts =
+    keeps_made (λ v. T.Store v.0 v.1.0 v.1.1)
+    (keeps_both (name_keeps r s (omega arith)) (keeps_after (sign LeftBracket) (keeps_both (expression_keeps r s (omega arith)) (keeps_after (sign RightBracket) (keeps_after (sign Assign) (keeps_before (sign Semicolon) (expression_keeps (suc r) (suc s) le))))))) ts
+
+return_keeps : (room more : ℕ) → room ≤ more → Keeps (return_statement room) (return_statement more)
+unfolding return_statement
+return_keeps room more le ts =
+    keeps_made (λ v. T.Return v.0 v.1) (keeps_both (keeps_same (placed_word K.Return)) (keeps_before (sign Semicolon) (keeps_either (is_sign_next Semicolon) (keeps_same missing) (there_keeps (value_keeps room more le))))) ts
+
+-- Statements with parts that are statements, over two readings of these.
+module _ (below above : Below) (room more : ℕ) (le : room ≤ more) (keeps : (block : Bool) → Keeps (below block) (above block)) where
+  pub block_keeps : Keeps (block_in below) (block_in above)
+  unfolding block_in items_in
+  block_keeps ts = keeps_made statements_of (keeps_after (sign LeftBrace) (keeps_before (sign RightBrace) (each_keeps goes_on (keeps true)))) ts
+
+  branches_keeps : Keeps (branches_in below) (branches_in above)
+  unfolding branches_in
+  branches_keeps ts = keeps_both (keeps false) (keeps_either (is_word_next K.Else) (there_keeps (keeps_after (word K.Else) (keeps false))) (keeps_same missing)) ts
+
+  if_keeps : Keeps (if_in below room) (if_in above more)
+  unfolding if_in
+  if_keeps ts =
+      keeps_made (λ v. branched v.0 v.1.0 v.1.1)
+      (keeps_after (word K.If) (keeps_after (sign LeftParenthesis) (keeps_both (expression_keeps room more le) (keeps_after (sign RightParenthesis) branches_keeps)))) ts
+
+  while_keeps : Keeps (while_in below room) (while_in above more)
+  unfolding while_in
+  while_keeps ts =
+      keeps_made (λ v. T.While v.0 v.1)
+      (keeps_after (word K.While) (keeps_after (sign LeftParenthesis) (keeps_both (expression_keeps room more le) (keeps_after (sign RightParenthesis) (keeps false))))) ts
+
+  for_keeps : Keeps (for_in below room) (for_in above more)
+  unfolding for_in
+  for_keeps ts =
+      keeps_made (λ v. T.For v.0 v.1.0 v.1.1.0 v.1.1.1)
+      (keeps_after (word K.For) (keeps_after (sign LeftParenthesis) (keeps_both (start_keeps room more le)
+      (keeps_both (keeps_either (is_sign_next Semicolon) (keeps_same missing) (there_keeps (expression_keeps room more le)))
+      (keeps_after (sign Semicolon) (keeps_both (keeps_either (is_sign_next RightParenthesis) (keeps_same missing) (there_keeps (set_keeps room more le)))
+      (keeps_after (sign RightParenthesis) (keeps false)))))))) ts
+
+  by_first_keeps : (first : First) → Keeps (by_first below room first) (by_first above more first)
+  by_first_keeps F.Empty ts = inr refl
+  by_first_keeps F.Local ts = keeps_made (λ l. T.Local l) (local_keeps room more le) ts
+  by_first_keeps F.Block ts = keeps_made (λ s. T.Block s) block_keeps ts
+  by_first_keeps F.Call ts = call_statement_keeps room more le ts
+  by_first_keeps F.Assign ts = assign_keeps room more le ts
+  by_first_keeps F.Store ts = store_keeps room more le ts
+  by_first_keeps F.If ts = if_keeps ts
+  by_first_keeps F.While ts = while_keeps ts
+  by_first_keeps F.For ts = for_keeps ts
+  by_first_keeps F.Break ts = inr refl
+  by_first_keeps F.Continue ts = inr refl
+  by_first_keeps F.Return ts = return_keeps room more le ts
+  by_first_keeps F.Other ts = inr refl
+
+too_high_keeps : (below : Below) (room : ℕ) (first : First) → Keeps (too_high first) (by_first below room first)
+too_high_keeps below room F.Other ts = inr refl
+too_high_keeps below room F.Empty ts = inl refl
+too_high_keeps below room F.Local ts = inl refl
+too_high_keeps below room F.Block ts = inl refl
+too_high_keeps below room F.Call ts = inl refl
+too_high_keeps below room F.Assign ts = inl refl
+too_high_keeps below room F.Store ts = inl refl
+too_high_keeps below room F.If ts = inl refl
+too_high_keeps below room F.While ts = inl refl
+too_high_keeps below room F.For ts = inl refl
+too_high_keeps below room F.Break ts = inl refl
+too_high_keeps below room F.Continue ts = inl refl
+too_high_keeps below room F.Return ts = inl refl
+
+pub statement_keeps : (room more : ℕ) → room ≤ more → (block : Bool) → Keeps (statement_at room block) (statement_at more block)
+unfolding statement_at
+statement_keeps zero zero le block ts = inr refl
+statement_keeps zero (suc more) le block ts = too_high_keeps (statement_at more) more (first_of block ts) ts
+statement_keeps (suc room) zero le block ts = absurd (omega arith)
+statement_keeps (suc room) (suc more) le block ts =
+    by_first_keeps (statement_at room) (statement_at more) room more (omega arith) (statement_keeps room more (omega arith)) (first_of block ts) ts

@@ -1,0 +1,3 @@
+pub mod Reading
+pub use Rattle.c_reader_productions.specs.Combining
+pub use Rattle.c_reader_productions.specs.Parts

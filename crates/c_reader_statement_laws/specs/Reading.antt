@@ -1,0 +1,148 @@
+-- How statements are read. The number is the room: a tree that is higher is not read.
+use Rattle.std.specs.Prelude.{ℕ, zero, suc, Bool, true, false, not, ◌&&◌, List, [], ◌∷◌, Option, Some, None, Ok, Err, if◌then◌else◌}
+use Rattle.c_syntax.specs.declared.keyword.Keyword.TheVariants as K
+use Rattle.c_syntax.specs.declared.punctuator.Punctuator.TheVariants.{LeftParenthesis, RightParenthesis, LeftBracket, RightBracket, LeftBrace, RightBrace, Semicolon, Assign}
+use Rattle.c_syntax.specs.declared.token.Token.{Token}
+use Rattle.c_syntax.specs.Trees.{ExpressionTree, ValueTree, SetTree, StatementTree, StatementsTree}
+use Rattle.c_syntax.specs.Trees as T
+use Rattle.c_reader_tokens.specs.declared.fault.Fault.TheVariants.{TooDeep}
+use Rattle.c_reader_tokens.specs.Reading.{Reading, misfit}
+use Rattle.c_reader_tokens.specs.Peeking.{is_sign_next, is_word_next, is_name_next, is_type_next, is_call_next}
+use Rattle.c_reader_tokens.specs.Tokens.{sign, word, placed_word}
+use Rattle.c_reader_expression_laws.specs.Reading.{expression_at}
+use Rattle.c_reader_statement_laws.specs.declared.first.First.{First}
+use Rattle.c_reader_statement_laws.specs.declared.first.First.TheVariants as F
+use Rattle.c_reader_productions.specs.Combining.{◌▷◌, ◌◁◌, ◌&◌, made, either, missing, there, each}
+use Rattle.c_reader_productions.specs.Parts.{under, name, call, value, is_cell_next, set, local, start}
+
+-- what begins, by the next two tokens; a local begins in a block alone
+abbrev pub first_word : List Token → First
+first_word ts =
+    if is_word_next K.If ts then F.If
+    else if is_word_next K.While ts then F.While
+    else if is_word_next K.For ts then F.For
+    else if is_word_next K.Break ts then F.Break
+    else if is_word_next K.Continue ts then F.Continue
+    else if is_word_next K.Return ts then F.Return
+    else F.Other
+
+unfoldable pub first_of : (block : Bool) → List Token → First
+first_of block ts =
+    if is_sign_next Semicolon ts then F.Empty
+    else if is_sign_next LeftBrace ts then F.Block
+    else if block && is_type_next ts then F.Local
+    else if is_call_next ts then F.Call
+    else if is_cell_next ts then F.Store
+    else if is_name_next ts then F.Assign
+    else first_word ts
+
+unfoldable pub empty : Reading StatementTree
+empty ts = (sign Semicolon ▷ (λ rest. Ok (T.Empty, rest))) ts
+
+unfoldable pub call_statement : ℕ → Reading StatementTree
+call_statement room ts = made (λ c. T.Call c) (call room ◁ sign Semicolon) ts
+
+unfoldable pub assign : ℕ → Reading StatementTree
+assign room ts = made (λ v. T.Assign v.0 v.1) (name room & sign Assign ▷ value room ◁ sign Semicolon) ts
+
+unfoldable pub store : ℕ → Reading StatementTree
+store room ts = made (λ v. T.Store v.0 v.1.0 v.1.1)
+    (under (λ r. name r & sign LeftBracket ▷ expression_at r 0 & sign RightBracket ▷ sign Assign ▷ expression_at room 0 ◁ sign Semicolon) room) ts
+
+unfoldable pub break_statement : Reading StatementTree
+break_statement ts = made (λ at. T.Break at) (placed_word K.Break ◁ sign Semicolon) ts
+
+unfoldable pub continue_statement : Reading StatementTree
+continue_statement ts = made (λ at. T.Continue at) (placed_word K.Continue ◁ sign Semicolon) ts
+
+-- what is returned
+abbrev pub returned : ℕ → Reading (Option ValueTree)
+returned room ts = either (is_sign_next Semicolon) missing (there (value room)) ts
+
+unfoldable pub return_statement : ℕ → Reading StatementTree
+return_statement room ts = made (λ v. T.Return v.0 v.1) (placed_word K.Return & returned room ◁ sign Semicolon) ts
+
+-- what an `if` makes of its condition, its statement, and what stands behind `else`
+abbrev pub branched : ExpressionTree → StatementTree → Option StatementTree → StatementTree
+branched e s None = T.If e s
+branched e s (Some t) = T.IfElse e s t
+
+-- statements one behind another
+abbrev pub statements_of : List StatementTree → StatementsTree
+statements_of [] = T.Done
+statements_of (s ∷ rest) = T.First s (statements_of rest)
+
+-- Statements with parts that are statements: these are read by another reading, which has less room.
+abbrev pub Below : Type 0
+Below = Bool → Reading StatementTree
+
+-- a block goes on up to `}`
+abbrev pub goes_on : List Token → Bool
+goes_on ts = not (is_sign_next RightBrace ts)
+
+unfoldable pub items_in : Below → Reading (List StatementTree)
+items_in below ts = each goes_on (below true) ts
+
+unfoldable pub block_in : Below → Reading StatementsTree
+block_in below ts = made statements_of (sign LeftBrace ▷ items_in below ◁ sign RightBrace) ts
+
+-- An `else` that is next belongs to the nearest `if`.
+abbrev pub else_in : Below → Reading (Option StatementTree)
+else_in below ts = either (is_word_next K.Else) (there (word K.Else ▷ below false)) missing ts
+
+unfoldable pub branches_in : Below → Reading (StatementTree × Option StatementTree)
+branches_in below ts = (below false & else_in below) ts
+
+unfoldable pub if_in : Below → ℕ → Reading StatementTree
+if_in below room ts = made (λ v. branched v.0 v.1.0 v.1.1)
+    (word K.If ▷ sign LeftParenthesis ▷ expression_at room 0 & sign RightParenthesis ▷ branches_in below) ts
+
+unfoldable pub while_in : Below → ℕ → Reading StatementTree
+while_in below room ts = made (λ v. T.While v.0 v.1)
+    (word K.While ▷ sign LeftParenthesis ▷ expression_at room 0 & sign RightParenthesis ▷ below false) ts
+
+-- the condition of a `for`, and what it sets behind each turn
+abbrev pub condition : ℕ → Reading (Option ExpressionTree)
+condition room ts = either (is_sign_next Semicolon) missing (there (expression_at room 0)) ts
+
+abbrev pub step : ℕ → Reading (Option SetTree)
+step room ts = either (is_sign_next RightParenthesis) missing (there (set room)) ts
+
+unfoldable pub for_in : Below → ℕ → Reading StatementTree
+for_in below room ts = made (λ v. T.For v.0 v.1.0 v.1.1.0 v.1.1.1)
+    (word K.For ▷ sign LeftParenthesis ▷ start room & condition room & sign Semicolon ▷ step room & sign RightParenthesis ▷ below false) ts
+
+abbrev pub by_first : Below → ℕ → First → Reading StatementTree
+by_first below room F.Empty ts = empty ts
+by_first below room F.Local ts = made (λ l. T.Local l) (local room) ts
+by_first below room F.Block ts = made (λ s. T.Block s) (block_in below) ts
+by_first below room F.Call ts = call_statement room ts
+by_first below room F.Assign ts = assign room ts
+by_first below room F.Store ts = store room ts
+by_first below room F.If ts = if_in below room ts
+by_first below room F.While ts = while_in below room ts
+by_first below room F.For ts = for_in below room ts
+by_first below room F.Break ts = break_statement ts
+by_first below room F.Continue ts = continue_statement ts
+by_first below room F.Return ts = return_statement room ts
+by_first below room F.Other ts = misfit ts
+
+-- No room is left: what could begin here would be too high.
+abbrev pub too_high : First → Reading StatementTree
+too_high F.Other ts = misfit ts
+too_high F.Empty ts = Err TooDeep
+too_high F.Local ts = Err TooDeep
+too_high F.Block ts = Err TooDeep
+too_high F.Call ts = Err TooDeep
+too_high F.Assign ts = Err TooDeep
+too_high F.Store ts = Err TooDeep
+too_high F.If ts = Err TooDeep
+too_high F.While ts = Err TooDeep
+too_high F.For ts = Err TooDeep
+too_high F.Break ts = Err TooDeep
+too_high F.Continue ts = Err TooDeep
+too_high F.Return ts = Err TooDeep
+
+unfoldable pub statement_at : (room : ℕ) (block : Bool) → Reading StatementTree
+statement_at zero block ts = too_high (first_of block ts) ts
+statement_at (suc room) block ts = by_first (statement_at room) room (first_of block ts) ts

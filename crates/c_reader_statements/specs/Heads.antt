@@ -1,0 +1,37 @@
+-- What stands behind the head of a statement: its statements, which another reading reads.
+use Rattle.std.specs.Prelude.{false, Ok}
+use Rattle.c_syntax.specs.declared.punctuator.Punctuator.TheVariants.{RightBrace}
+use Rattle.c_syntax.specs.Trees.{ExpressionTree, StatementTree}
+use Rattle.c_syntax.specs.Trees as T
+use Rattle.c_syntax.specs.Views.{statement_tree, expression_tree, optional_tree, set_tree, start_tree}
+use Rattle.c_reader_tokens.specs.Reading.{Reading}
+use Rattle.c_reader_tokens.specs.Tokens.{sign}
+use Rattle.c_reader_productions.specs.Combining.{◌◁◌, ◌&◌, made}
+use Rattle.c_reader_statement_laws.specs.Reading.{Below, statements_of, branched, items_in, branches_in}
+use Rattle.c_reader_statements.specs.declared.heads.Head.{Head}
+use Rattle.c_reader_statements.specs.declared.heads.Head.TheVariants as H
+use Rattle.c_reader_statements.specs.declared.heads.Loop.{Loop}
+use Rattle.c_reader_statements.specs.declared.heads.Loop.TheVariants as L
+
+-- what was read before
+abbrev pub have : {A : Type 0} → A → Reading A
+have x ts = Ok (x, ts)
+
+-- what a loop makes of its body
+abbrev pub looped : Loop → StatementTree → StatementTree
+looped (L.While e) s = T.While (expression_tree e) s
+looped (L.For head) s = T.For (start_tree head.value.start) (optional_tree expression_tree head.value.condition) (optional_tree set_tree head.value.step) s
+
+abbrev pub behind_if : Below → ExpressionTree → Reading StatementTree
+behind_if below e ts = made (λ v. branched v.0 v.1.0 v.1.1) (have e & branches_in below) ts
+
+abbrev pub behind_loop : Below → Loop → Reading StatementTree
+behind_loop below (L.While e) ts = made (λ v. T.While v.0 v.1) (have (expression_tree e) & below false) ts
+behind_loop below (L.For head) ts = made (λ v. T.For v.0 v.1.0 v.1.1.0 v.1.1.1)
+    (have (start_tree head.value.start) & have (optional_tree expression_tree head.value.condition) & have (optional_tree set_tree head.value.step) & below false) ts
+
+abbrev pub behind_head : Below → Head → Reading StatementTree
+behind_head below (H.Whole s) ts = have (statement_tree s) ts
+behind_head below H.Block ts = made (λ s. T.Block s) (made statements_of (items_in below ◁ sign RightBrace)) ts
+behind_head below (H.If e) ts = behind_if below (expression_tree e) ts
+behind_head below (H.Loop head) ts = behind_loop below head ts

@@ -1,0 +1,4 @@
+pub mod Heads
+pub use Rattle.c_reader_productions.specs.Combining
+pub use Rattle.c_reader_productions.specs.Parts
+pub use Rattle.c_reader_statement_laws.specs.Reading

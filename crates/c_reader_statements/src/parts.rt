@@ -1,0 +1,260 @@
+//! Readers of the parts of statements that are no statements.
+
+ghost use Rattle.std.specs.Prelude.{◌≡◌, ◌≢◌, ◌<◌, suc, IfOk, IfErr, Ok, Err, map, length};
+ghost use Rattle.c_syntax.specs.Views.{expression_tree, call_tree, value_tree, place_tree, set_tree, local_tree, start_tree, optional_tree};
+ghost use Rattle.c_reader_tokens.specs.Tokens.{sign};
+ghost use Rattle.c_reader_expression_laws.specs.Reading.{expression_at};
+ghost use Rattle.c_reader_productions.specs.Combining.{commas};
+ghost use Rattle.c_reader_productions.specs.Parts.{less, name, arguments, call, value, is_cell_next, cell, place, set, local_value, local, start_local, start_set, start};
+
+use crate::beside::{beside, ok};
+use c_reader_expressions::expression;
+use c_reader_tokens::{
+    Fault, is_call_next, is_name_next, is_sign_next, is_type_next, read_name, read_sign, read_type,
+};
+use c_syntax::{
+    Call, Expression, ForStart, Identifier, Local, Place, Punctuator, Set, Token, Value,
+};
+use lang_base::Row;
+use std::alloc::Global;
+
+/// One less room, for the parts of something.
+#[tactic(auto, unfolding(c_reader_productions::specs::Parts::less))]
+pub(crate) fn one_less(room: u8) -> Result<u8, Fault>
+    ensures ok { IfOk result (λ r. less room ≡ Ok r) }
+    ensures err { IfErr result (λ e. less room ≡ Err e) }
+{
+    if room == 0 {
+        return Err(Fault::TooDeep);
+    }
+    Ok(room - 1)
+}
+
+#[tactic(auto, unfolding(c_reader_productions::specs::Parts::name))]
+pub(crate) fn read_name_in(
+    alloc: Global,
+    room: u8,
+    tokens: &[Token],
+) -> Result<(Identifier, &[Token]), Fault>
+    ensures ok { IfOk result (λ r. name room tokens.now ≡ Ok (r.0, r.1.now)) }
+    ensures err { IfErr result (λ e. e ≢ Fault.NoMemory → name room tokens.now ≡ Err e) }
+{
+    let _below = ok!(one_less(room));
+    read_name(alloc, tokens)
+}
+
+/// Expressions with a comma between each two.
+#[tactic(auto, unfolding(c_reader_productions::specs::Combining::commas))]
+fn read_expressions(
+    alloc: Global,
+    room: u8,
+    tokens: &[Token],
+) -> Result<(Vec<Expression>, &[Token]), Fault>
+    ensures ok { IfOk result (λ r. commas (expression_at room 0) tokens.now ≡ Ok (map expression_tree r.0.items, r.1.now)) }
+    ensures err { IfErr result (λ e. e ≢ Fault.NoMemory → commas (expression_at room 0) tokens.now ≡ Err e) }
+{
+    let (first, mut rest) = expression(alloc, room, 0, tokens)?;
+    let mut expressions = Vec::new(alloc);
+    expressions.push(first)?;
+    for _ in 0..rest.len() {
+        if !is_sign_next(Punctuator::Comma, rest) {
+            break;
+        }
+        let behind = read_sign(Punctuator::Comma, rest)?;
+        let (next, behind) = expression(alloc, room, 0, behind)?;
+        expressions.push(next)?;
+        rest = behind;
+    }
+    Ok((expressions, rest))
+}
+
+#[tactic(auto, unfolding(c_reader_productions::specs::Parts::arguments))]
+fn read_arguments(
+    alloc: Global,
+    room: u8,
+    tokens: &[Token],
+) -> Result<(Row<Expression>, &[Token]), Fault>
+    ensures ok { IfOk result (λ r. arguments room tokens.now ≡ Ok (map expression_tree r.0, r.1.now)) }
+    ensures err { IfErr result (λ e. e ≢ Fault.NoMemory → arguments room tokens.now ≡ Err e) }
+{
+    if is_sign_next(Punctuator::RightParenthesis, tokens) {
+        return Ok((Row::from_vec(Vec::new(alloc)), tokens));
+    }
+    let (expressions, rest) = ok!(read_expressions(alloc, room, tokens));
+    Ok((Row::from_vec(expressions), rest))
+}
+
+/// A call (C99 6.5.2.2).
+#[tactic(auto, unfolding(c_reader_productions::specs::Parts::call))]
+pub(crate) fn read_call(
+    alloc: Global,
+    room: u8,
+    tokens: &[Token],
+) -> Result<(Call, &[Token]), Fault>
+    ensures ok { IfOk result (λ r. call room tokens.now ≡ Ok (call_tree r.0, r.1.now)) }
+    ensures err { IfErr result (λ e. e ≢ Fault.NoMemory → call room tokens.now ≡ Err e) }
+{
+    let below = ok!(one_less(room));
+    let (callee, rest) = ok!(read_name_in(alloc, below, tokens));
+    let (callee, rest) = ok!(beside(callee, read_sign(Punctuator::LeftParenthesis, rest)));
+    let (callee, (arguments, rest)) = ok!(beside(callee, read_arguments(alloc, below, rest)));
+    let (parts, rest) = ok!(beside(
+        (callee, arguments),
+        read_sign(Punctuator::RightParenthesis, rest),
+    ));
+    let (callee, arguments) = parts;
+    Ok((Call { callee, arguments }, rest))
+}
+
+/// The right side of an assignment and the like: a call or an expression.
+#[tactic(auto, unfolding(c_reader_productions::specs::Parts::value))]
+pub(crate) fn read_value(
+    alloc: Global,
+    room: u8,
+    tokens: &[Token],
+) -> Result<(Value, &[Token]), Fault>
+    ensures ok { IfOk result (λ r. value room tokens.now ≡ Ok (value_tree r.0, r.1.now)) }
+    ensures err { IfErr result (λ e. e ≢ Fault.NoMemory → value room tokens.now ≡ Err e) }
+{
+    if is_call_next(tokens) {
+        let (call, rest) = ok!(read_call(alloc, room, tokens));
+        return Ok((Value::Call(call), rest));
+    }
+    let (value, rest) = ok!(expression(alloc, room, 0, tokens));
+    Ok((Value::Expression(value), rest))
+}
+
+/// Whether a cell is next: a name and `[`.
+pub(crate) fn is_cell_next(tokens: &[Token]) -> bool
+    ensures { result ≡ is_cell_next tokens.now }
+{
+    match tokens {
+        [] => false,
+        [_token, rest @ ..] => {
+            is_name_next(tokens) && is_sign_next(Punctuator::LeftBracket, rest)
+        }
+    }
+}
+
+#[tactic(auto, unfolding(c_reader_productions::specs::Parts::cell))]
+fn read_cell(alloc: Global, room: u8, tokens: &[Token]) -> Result<(Place, &[Token]), Fault>
+    ensures ok { IfOk result (λ r. cell room tokens.now ≡ Ok (place_tree r.0, r.1.now)) }
+    ensures err { IfErr result (λ e. e ≢ Fault.NoMemory → cell room tokens.now ≡ Err e) }
+{
+    let below = ok!(one_less(room));
+    let (array, rest) = ok!(read_name_in(alloc, below, tokens));
+    let (array, rest) = ok!(beside(array, read_sign(Punctuator::LeftBracket, rest)));
+    let (array, (index, rest)) = ok!(beside(array, expression(alloc, below, 0, rest)));
+    let (cell, rest) = ok!(beside((array, index), read_sign(Punctuator::RightBracket, rest)));
+    let (array, index) = cell;
+    Ok((Place::Element(array, index), rest))
+}
+
+#[tactic(auto, unfolding(c_reader_productions::specs::Parts::place))]
+fn read_place(alloc: Global, room: u8, tokens: &[Token]) -> Result<(Place, &[Token]), Fault>
+    ensures ok { IfOk result (λ r. place room tokens.now ≡ Ok (place_tree r.0, r.1.now)) }
+    ensures err { IfErr result (λ e. e ≢ Fault.NoMemory → place room tokens.now ≡ Err e) }
+{
+    if is_cell_next(tokens) {
+        return read_cell(alloc, room, tokens);
+    }
+    let (variable, rest) = ok!(read_name_in(alloc, room, tokens));
+    Ok((Place::Variable(variable), rest))
+}
+
+/// What a `for` sets.
+#[tactic(auto, unfolding(c_reader_productions::specs::Parts::set))]
+pub(crate) fn read_set(alloc: Global, room: u8, tokens: &[Token]) -> Result<(Set, &[Token]), Fault>
+    ensures ok { IfOk result (λ r. set room tokens.now ≡ Ok (set_tree r.0, r.1.now)) }
+    ensures err { IfErr result (λ e. e ≢ Fault.NoMemory → set room tokens.now ≡ Err e) }
+{
+    let below = ok!(one_less(room));
+    let (place, rest) = ok!(read_place(alloc, below, tokens));
+    let (place, rest) = ok!(beside(place, read_sign(Punctuator::Assign, rest)));
+    let (place, (value, rest)) = ok!(beside(place, expression(alloc, below, 0, rest)));
+    Ok((Set { place, value }, rest))
+}
+
+#[tactic(auto, unfolding(c_reader_productions::specs::Parts::local_value))]
+fn read_local_value(
+    alloc: Global,
+    room: u8,
+    tokens: &[Token],
+) -> Result<(Option<Value>, &[Token]), Fault>
+    ensures ok { IfOk result (λ r. local_value room tokens.now ≡ Ok (optional_tree value_tree r.0, r.1.now)) }
+    ensures err { IfErr result (λ e. e ≢ Fault.NoMemory → local_value room tokens.now ≡ Err e) }
+{
+    if !is_sign_next(Punctuator::Assign, tokens) {
+        return Ok((None, tokens));
+    }
+    let rest = ok!(read_sign(Punctuator::Assign, tokens));
+    let (value, rest) = ok!(read_value(alloc, room, rest));
+    Ok((Some(value), rest))
+}
+
+/// The declaration of a local (C99 6.7), whose parts have this room.
+#[tactic(auto, unfolding(c_reader_productions::specs::Parts::local))]
+pub(crate) fn read_local(
+    alloc: Global,
+    room: u8,
+    tokens: &[Token],
+) -> Result<(Local, &[Token]), Fault>
+    ensures ok { IfOk result (λ r. local room tokens.now ≡ Ok (local_tree r.0, r.1.now)) }
+    ensures err { IfErr result (λ e. e ≢ Fault.NoMemory → local room tokens.now ≡ Err e) }
+{
+    let (kind, rest) = ok!(read_type(tokens));
+    let (name, rest) = ok!(read_name_in(alloc, room, rest));
+    let (name, (value, rest)) = ok!(beside(name, read_local_value(alloc, room, rest)));
+    let (parts, rest) = ok!(beside((name, value), read_sign(Punctuator::Semicolon, rest)));
+    let (name, value) = parts;
+    Ok((Local { kind, name, value }, rest))
+}
+
+#[tactic(auto, unfolding(c_reader_productions::specs::Parts::start_local))]
+fn read_start_local(
+    alloc: Global,
+    room: u8,
+    tokens: &[Token],
+) -> Result<(ForStart, &[Token]), Fault>
+    ensures ok { IfOk result (λ r. start_local room tokens.now ≡ Ok (start_tree r.0, r.1.now)) }
+    ensures err { IfErr result (λ e. e ≢ Fault.NoMemory → start_local room tokens.now ≡ Err e) }
+{
+    let (kind, rest) = ok!(read_type(tokens));
+    let below = ok!(one_less(room));
+    let (name, rest) = ok!(read_name_in(alloc, below, rest));
+    let (name, rest) = ok!(beside(name, read_sign(Punctuator::Assign, rest)));
+    let (name, (value, rest)) = ok!(beside(name, expression(alloc, below, 0, rest)));
+    let (parts, rest) = ok!(beside((name, value), read_sign(Punctuator::Semicolon, rest)));
+    let (name, value) = parts;
+    Ok((ForStart::Local(kind, name, value), rest))
+}
+
+#[tactic(auto, unfolding(c_reader_productions::specs::Parts::start_set))]
+fn read_start_set(alloc: Global, room: u8, tokens: &[Token]) -> Result<(ForStart, &[Token]), Fault>
+    ensures ok { IfOk result (λ r. start_set room tokens.now ≡ Ok (start_tree r.0, r.1.now)) }
+    ensures err { IfErr result (λ e. e ≢ Fault.NoMemory → start_set room tokens.now ≡ Err e) }
+{
+    let (set, rest) = ok!(read_set(alloc, room, tokens));
+    let (set, rest) = ok!(beside(set, read_sign(Punctuator::Semicolon, rest)));
+    Ok((ForStart::Set(set), rest))
+}
+
+/// How a `for` begins, with the `;` behind it (C99 6.8.5.3).
+#[tactic(auto, unfolding(c_reader_productions::specs::Parts::start, c_reader_productions::specs::Parts::start_nothing))]
+pub(crate) fn read_start(
+    alloc: Global,
+    room: u8,
+    tokens: &[Token],
+) -> Result<(ForStart, &[Token]), Fault>
+    ensures ok { IfOk result (λ r. start room tokens.now ≡ Ok (start_tree r.0, r.1.now)) }
+    ensures err { IfErr result (λ e. e ≢ Fault.NoMemory → start room tokens.now ≡ Err e) }
+{
+    if is_sign_next(Punctuator::Semicolon, tokens) {
+        let rest = ok!(read_sign(Punctuator::Semicolon, tokens));
+        return Ok((ForStart::Nothing, rest));
+    }
+    if is_type_next(tokens) {
+        return read_start_local(alloc, room, tokens);
+    }
+    read_start_set(alloc, room, tokens)
+}

@@ -1,0 +1,217 @@
+//! Readers of statements (C99 6.8). Those that call each other read no more than the statements inside a
+//! statement, and put it together.
+
+ghost use Rattle.std.specs.Prelude.{◌≡◌, ◌≢◌, IfOk, IfErr, Ok, Err, map};
+ghost use Rattle.c_syntax.specs.Views.{statement_tree, statements_tree, optional_tree, expression_tree};
+ghost use Rattle.c_syntax.specs.Trees as T;
+ghost use Rattle.c_syntax.specs.declared.keyword.Keyword.TheVariants as K;
+ghost use Rattle.c_reader_tokens.specs.Peeking.{is_word_next};
+ghost use Rattle.c_reader_statement_laws.specs.Reading.{branched, items_in, block_in, else_in, branches_in, statement_at};
+ghost use Rattle.c_reader_statements.specs.Heads.{behind_head, looped};
+
+use crate::beside::{beside, ok};
+use crate::first::{first_of, too_high};
+use crate::heads::{Head, Loop, read_head};
+use c_reader_tokens::{Fault, is_sign_next, is_word_next, read_sign, read_word};
+use c_syntax::{Expression, Keyword, Punctuator, Statement, Token};
+use std::alloc::Global;
+
+/// A statement in a box.
+fn boxed(alloc: Global, statement: Statement) -> Result<Box<Statement>, Fault>
+    ensures ok { IfOk result (λ b. b.value ≡ statement) }
+    ensures err { IfErr result (λ e. e ≡ Fault.NoMemory) }
+{
+    Ok(Box::new(alloc, statement)?)
+}
+
+/// An `if` with `else`.
+fn branched_twice(
+    alloc: Global,
+    condition: Expression,
+    then: Box<Statement>,
+    other: Statement,
+) -> Result<Statement, Fault>
+    ensures ok { IfOk result (λ s. statement_tree s ≡ T.IfElse (expression_tree condition) (statement_tree then.value) (statement_tree other)) }
+    ensures err { IfErr result (λ e. e ≡ Fault.NoMemory) }
+{
+    let ((condition, then), other) = ok!(beside((condition, then), boxed(alloc, other)));
+    Ok(Statement::IfElse(condition, then, other))
+}
+
+/// What an `if` makes of its condition, its statement, and what stands behind `else`.
+fn branched(
+    alloc: Global,
+    condition: Expression,
+    branches: (Statement, Option<Statement>),
+) -> Result<Statement, Fault>
+    ensures ok { IfOk result (λ s. statement_tree s ≡ branched (expression_tree condition) (statement_tree branches.0) (optional_tree statement_tree branches.1)) }
+    ensures err { IfErr result (λ e. e ≡ Fault.NoMemory) }
+{
+    let (then, other) = branches;
+    let ((condition, other), then) = ok!(beside((condition, other), boxed(alloc, then)));
+    match other {
+        None => Ok(Statement::If(condition, then)),
+        Some(other) => branched_twice(alloc, condition, then, other),
+    }
+}
+
+/// What a loop makes of its body.
+fn looped(alloc: Global, head: Loop, body: Statement) -> Result<Statement, Fault>
+    ensures ok { IfOk result (λ s. statement_tree s ≡ looped head (statement_tree body)) }
+    ensures err { IfErr result (λ e. e ≡ Fault.NoMemory) }
+{
+    let (head, body) = ok!(beside(head, boxed(alloc, body)));
+    match head {
+        Loop::While(condition) => Ok(Statement::While(condition, body)),
+        Loop::For(head) => Ok(Statement::For(head, body)),
+    }
+}
+
+/// The same statements, with no room for more: most blocks hold few, and a statement is large.
+fn fitted(statements: Vec<Statement>) -> Vec<Statement>
+    ensures { result.items ≡ statements.items }
+{
+    let mut statements = statements;
+    statements.shrink_to_fit();
+    statements
+}
+
+/// A block as a statement.
+fn block_of(statements: Vec<Statement>) -> Statement
+    ensures { statement_tree result ≡ T.Block (statements_tree statements.items) }
+{
+    Statement::Block(fitted(statements))
+}
+
+/// Whether an `else` is next: it belongs to the `if` whose statement was just read, the nearest
+/// (C99 6.8.4.1 paragraph 3).
+fn is_else_next(tokens: &[Token]) -> bool
+    ensures { result ≡ is_word_next K.Else tokens.now }
+{
+    is_word_next(Keyword::Else, tokens)
+}
+
+/// The statements of a block, up to `}`.
+#[cycle(statements)]
+fn read_items(
+    alloc: Global,
+    room: u8,
+    tokens: &[Token],
+) -> Result<(Vec<Statement>, &[Token]), Fault>
+    ensures ok { IfOk result (λ r. items_in (statement_at room) tokens.now ≡ Ok (map statement_tree r.0.items, r.1.now)) }
+    ensures err { IfErr result (λ e. e ≢ Fault.NoMemory → items_in (statement_at room) tokens.now ≡ Err e) }
+{
+    let mut statements = Vec::new(alloc);
+    let mut rest = tokens;
+    for _ in 0..tokens.len() {
+        if is_sign_next(Punctuator::RightBrace, rest) {
+            break;
+        }
+        let (statement, behind) = read_statement(alloc, room, true, rest)?;
+        statements.push(statement)?;
+        rest = behind;
+    }
+    Ok((statements, rest))
+}
+
+/// The statement behind `else`, if that is next.
+#[cycle(statements)]
+fn read_other(
+    alloc: Global,
+    room: u8,
+    tokens: &[Token],
+) -> Result<(Option<Statement>, &[Token]), Fault>
+    ensures ok { IfOk result (λ r. else_in (statement_at room) tokens.now ≡ Ok (optional_tree statement_tree r.0, r.1.now)) }
+    ensures err { IfErr result (λ e. e ≢ Fault.NoMemory → else_in (statement_at room) tokens.now ≡ Err e) }
+{
+    if !is_else_next(tokens) {
+        return Ok((None, tokens));
+    }
+    let rest = ok!(read_word(Keyword::Else, tokens));
+    let (other, rest) = ok!(read_statement(alloc, room, false, rest));
+    Ok((Some(other), rest))
+}
+
+/// The statement of an `if`, and the one behind `else` (C99 6.8.4.1).
+#[cycle(statements)]
+#[tactic(auto, unfolding(c_reader_statement_laws::specs::Reading::branches_in))]
+fn read_branches(
+    alloc: Global,
+    room: u8,
+    tokens: &[Token],
+) -> Result<((Statement, Option<Statement>), &[Token]), Fault>
+    ensures ok { IfOk result (λ r. branches_in (statement_at room) tokens.now ≡ Ok ((statement_tree r.0.0, optional_tree statement_tree r.0.1), r.1.now)) }
+    ensures err { IfErr result (λ e. e ≢ Fault.NoMemory → branches_in (statement_at room) tokens.now ≡ Err e) }
+{
+    let (then, rest) = ok!(read_statement(alloc, room, false, tokens));
+    let (then, (other, rest)) = ok!(beside(then, read_other(alloc, room, rest)));
+    Ok(((then, other), rest))
+}
+
+/// What stands behind a head, whose statements have this room.
+#[cycle(statements)]
+#[tactic(auto, using(crate::proofs::Trees::statements_named))]
+fn read_behind(
+    alloc: Global,
+    room: u8,
+    head: Head,
+    tokens: &[Token],
+) -> Result<(Statement, &[Token]), Fault>
+    ensures ok { IfOk result (λ r. behind_head (statement_at room) head tokens.now ≡ Ok (statement_tree r.0, r.1.now)) }
+    ensures err { IfErr result (λ e. e ≢ Fault.NoMemory → behind_head (statement_at room) head tokens.now ≡ Err e) }
+{
+    match head {
+        Head::Whole(statement) => Ok((statement, tokens)),
+        Head::Block => {
+            let (statements, rest) = ok!(read_items(alloc, room, tokens));
+            let rest = ok!(read_sign(Punctuator::RightBrace, rest));
+            Ok((block_of(statements), rest))
+        }
+        Head::If(condition) => {
+            let branches = read_branches(alloc, room, tokens);
+            let (condition, (branches, rest)) = ok!(beside(condition, branches));
+            Ok((ok!(branched(alloc, condition, branches)), rest))
+        }
+        Head::Loop(head) => {
+            let body = read_statement(alloc, room, false, tokens);
+            let (head, (body, rest)) = ok!(beside(head, body));
+            Ok((ok!(looped(alloc, head, body)), rest))
+        }
+    }
+}
+
+/// A statement, or in a block a local, which is at most as high as the room.
+#[cycle(statements)]
+#[tactic(auto, using(crate::proofs::Trees::with_room, crate::proofs::Trees::without_room))]
+fn read_statement(
+    alloc: Global,
+    room: u8,
+    block: bool,
+    tokens: &[Token],
+) -> Result<(Statement, &[Token]), Fault>
+    ensures ok { IfOk result (λ r. statement_at room block tokens.now ≡ Ok (statement_tree r.0, r.1.now)) }
+    ensures err { IfErr result (λ e. e ≢ Fault.NoMemory → statement_at room block tokens.now ≡ Err e) }
+{
+    let first = first_of(block, tokens);
+    if room == 0 {
+        return Err(too_high(first, tokens));
+    }
+    let (head, rest) = ok!(read_head(alloc, room - 1, first, tokens));
+    read_behind(alloc, room - 1, head, rest)
+}
+
+/// A block whose statements have this room (C99 6.8.2).
+#[tactic(auto, using(crate::proofs::Trees::statements_named), unfolding(c_reader_statement_laws::specs::Reading::block_in))]
+pub fn read_block(
+    alloc: Global,
+    room: u8,
+    tokens: &[Token],
+) -> Result<(Vec<Statement>, &[Token]), Fault>
+    ensures ok { IfOk result (λ r. block_in (statement_at room) tokens.now ≡ Ok (statements_tree r.0.items, r.1.now)) }
+    ensures err { IfErr result (λ e. e ≢ Fault.NoMemory → block_in (statement_at room) tokens.now ≡ Err e) }
+{
+    let rest = ok!(read_sign(Punctuator::LeftBrace, tokens));
+    let (statements, rest) = ok!(read_items(alloc, room, rest));
+    let rest = ok!(read_sign(Punctuator::RightBrace, rest));
+    Ok((fitted(statements), rest))
+}

@@ -1,0 +1,137 @@
+//! Readers of statements that have none inside them (C99 6.8.3 and 6.8.6).
+
+ghost use Rattle.std.specs.Prelude.{◌≡◌, ◌≢◌, IfOk, IfErr, Ok, Err};
+ghost use Rattle.c_syntax.specs.Views.{statement_tree, optional_tree, value_tree};
+ghost use Rattle.c_syntax.specs.Trees as T;
+ghost use Rattle.c_reader_productions.specs.Combining.{made};
+ghost use Rattle.c_reader_productions.specs.Parts.{local};
+ghost use Rattle.c_reader_statement_laws.specs.Reading.{empty, call_statement, assign, store, break_statement, continue_statement, returned, return_statement};
+
+use crate::beside::{beside, ok};
+use crate::parts::{one_less, read_call, read_local, read_name_in, read_value};
+use c_reader_expressions::expression;
+use c_reader_tokens::{Fault, is_sign_next, read_placed_word, read_sign};
+use c_syntax::{Keyword, Punctuator, Statement, Token, Value};
+use std::alloc::Global;
+
+#[tactic(auto, unfolding(c_reader_statement_laws::specs::Reading::empty))]
+pub(crate) fn read_empty(tokens: &[Token]) -> Result<(Statement, &[Token]), Fault>
+    ensures ok { IfOk result (λ r. empty tokens.now ≡ Ok (statement_tree r.0, r.1.now)) }
+    ensures err { IfErr result (λ e. empty tokens.now ≡ Err e) }
+{
+    let rest = ok!(read_sign(Punctuator::Semicolon, tokens));
+    Ok((Statement::Empty, rest))
+}
+
+pub(crate) fn read_local_statement(
+    alloc: Global,
+    room: u8,
+    tokens: &[Token],
+) -> Result<(Statement, &[Token]), Fault>
+    ensures ok { IfOk result (λ r. made (λ l. T.Local l) (local room) tokens.now ≡ Ok (statement_tree r.0, r.1.now)) }
+    ensures err { IfErr result (λ e. e ≢ Fault.NoMemory → made (λ l. T.Local l) (local room) tokens.now ≡ Err e) }
+{
+    let (local, rest) = ok!(read_local(alloc, room, tokens));
+    Ok((Statement::Local(local), rest))
+}
+
+#[tactic(auto, unfolding(c_reader_statement_laws::specs::Reading::call_statement))]
+pub(crate) fn read_call_statement(
+    alloc: Global,
+    room: u8,
+    tokens: &[Token],
+) -> Result<(Statement, &[Token]), Fault>
+    ensures ok { IfOk result (λ r. call_statement room tokens.now ≡ Ok (statement_tree r.0, r.1.now)) }
+    ensures err { IfErr result (λ e. e ≢ Fault.NoMemory → call_statement room tokens.now ≡ Err e) }
+{
+    let (call, rest) = ok!(read_call(alloc, room, tokens));
+    let (call, rest) = ok!(beside(call, read_sign(Punctuator::Semicolon, rest)));
+    Ok((Statement::Call(call), rest))
+}
+
+#[tactic(auto, unfolding(c_reader_statement_laws::specs::Reading::assign))]
+pub(crate) fn read_assign(
+    alloc: Global,
+    room: u8,
+    tokens: &[Token],
+) -> Result<(Statement, &[Token]), Fault>
+    ensures ok { IfOk result (λ r. assign room tokens.now ≡ Ok (statement_tree r.0, r.1.now)) }
+    ensures err { IfErr result (λ e. e ≢ Fault.NoMemory → assign room tokens.now ≡ Err e) }
+{
+    let (name, rest) = ok!(read_name_in(alloc, room, tokens));
+    let (name, rest) = ok!(beside(name, read_sign(Punctuator::Assign, rest)));
+    let (name, (value, rest)) = ok!(beside(name, read_value(alloc, room, rest)));
+    let ((name, value), rest) = ok!(beside((name, value), read_sign(Punctuator::Semicolon, rest)));
+    Ok((Statement::Assign(name, value), rest))
+}
+
+#[tactic(auto, unfolding(c_reader_statement_laws::specs::Reading::store))]
+pub(crate) fn read_store(
+    alloc: Global,
+    room: u8,
+    tokens: &[Token],
+) -> Result<(Statement, &[Token]), Fault>
+    ensures ok { IfOk result (λ r. store room tokens.now ≡ Ok (statement_tree r.0, r.1.now)) }
+    ensures err { IfErr result (λ e. e ≢ Fault.NoMemory → store room tokens.now ≡ Err e) }
+{
+    let below = ok!(one_less(room));
+    let (array, rest) = ok!(read_name_in(alloc, below, tokens));
+    let (array, rest) = ok!(beside(array, read_sign(Punctuator::LeftBracket, rest)));
+    let (array, (index, rest)) = ok!(beside(array, expression(alloc, below, 0, rest)));
+    let (cell, rest) = ok!(beside((array, index), read_sign(Punctuator::RightBracket, rest)));
+    let (cell, rest) = ok!(beside(cell, read_sign(Punctuator::Assign, rest)));
+    let (cell, (value, rest)) = ok!(beside(cell, expression(alloc, room, 0, rest)));
+    let (parts, rest) = ok!(beside((cell, value), read_sign(Punctuator::Semicolon, rest)));
+    let ((array, index), value) = parts;
+    Ok((Statement::Store(array, index, value), rest))
+}
+
+#[tactic(auto, unfolding(c_reader_statement_laws::specs::Reading::break_statement))]
+pub(crate) fn read_break(tokens: &[Token]) -> Result<(Statement, &[Token]), Fault>
+    ensures ok { IfOk result (λ r. break_statement tokens.now ≡ Ok (statement_tree r.0, r.1.now)) }
+    ensures err { IfErr result (λ e. break_statement tokens.now ≡ Err e) }
+{
+    let (at, rest) = ok!(read_placed_word(Keyword::Break, tokens));
+    let rest = ok!(read_sign(Punctuator::Semicolon, rest));
+    Ok((Statement::Break(at), rest))
+}
+
+#[tactic(auto, unfolding(c_reader_statement_laws::specs::Reading::continue_statement))]
+pub(crate) fn read_continue(tokens: &[Token]) -> Result<(Statement, &[Token]), Fault>
+    ensures ok { IfOk result (λ r. continue_statement tokens.now ≡ Ok (statement_tree r.0, r.1.now)) }
+    ensures err { IfErr result (λ e. continue_statement tokens.now ≡ Err e) }
+{
+    let (at, rest) = ok!(read_placed_word(Keyword::Continue, tokens));
+    let rest = ok!(read_sign(Punctuator::Semicolon, rest));
+    Ok((Statement::Continue(at), rest))
+}
+
+fn read_returned(
+    alloc: Global,
+    room: u8,
+    tokens: &[Token],
+) -> Result<(Option<Value>, &[Token]), Fault>
+    ensures ok { IfOk result (λ r. returned room tokens.now ≡ Ok (optional_tree value_tree r.0, r.1.now)) }
+    ensures err { IfErr result (λ e. e ≢ Fault.NoMemory → returned room tokens.now ≡ Err e) }
+{
+    if is_sign_next(Punctuator::Semicolon, tokens) {
+        return Ok((None, tokens));
+    }
+    let (value, rest) = ok!(read_value(alloc, room, tokens));
+    Ok((Some(value), rest))
+}
+
+#[tactic(auto, unfolding(c_reader_statement_laws::specs::Reading::return_statement))]
+pub(crate) fn read_return(
+    alloc: Global,
+    room: u8,
+    tokens: &[Token],
+) -> Result<(Statement, &[Token]), Fault>
+    ensures ok { IfOk result (λ r. return_statement room tokens.now ≡ Ok (statement_tree r.0, r.1.now)) }
+    ensures err { IfErr result (λ e. e ≢ Fault.NoMemory → return_statement room tokens.now ≡ Err e) }
+{
+    let (at, rest) = ok!(read_placed_word(Keyword::Return, tokens));
+    let (value, rest) = ok!(read_returned(alloc, room, rest));
+    let (value, rest) = ok!(beside(value, read_sign(Punctuator::Semicolon, rest)));
+    Ok((Statement::Return(at, value), rest))
+}

@@ -1,4 +1,0 @@
-pub mod Accepted
-pub mod Refusals
-pub use Rattle.c_rules.specs.Units
-pub use Rattle.c_program.specs.Trees

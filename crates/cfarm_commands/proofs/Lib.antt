@@ -1,0 +1,5 @@
+pub mod HandOn
+pub mod Rooms
+mod FallingLemmas
+mod ListingLemmas
+mod ReadingLemmas

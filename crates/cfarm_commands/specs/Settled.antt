@@ -1,0 +1,48 @@
+-- What `settle` prints, and what it refuses.
+use Rattle.std.specs.Prelude.{◌≡◌, ℕ, List, [], ◌∷◌, ◌++◌}
+use Rattle.hex.specs.Hex.{encode_lower}
+use Rattle.lang_base.specs.Keeps.{Keeps}
+use Rattle.lang_base.specs.Programs.{GlobalData}
+use Rattle.offers.specs.OneFunction.{program_of_one}
+use Rattle.ltl.specs.Function as ltl
+use Rattle.ltl.specs.Meaning as ltl_meaning
+use Rattle.ltl.specs.Spelling as ltl_spelling
+use Rattle.linear_language.specs.Function as linear
+use Rattle.linear_language.specs.Meaning as linear_meaning
+use Rattle.linear_language.specs.Spelling as linear_spelling
+use Rattle.linearize_check.specs.Rules.{IsLaidOut}
+use Rattle.cfarm_commands.specs.Played.{IsLearnedByAll}
+use Rattle.cfarm_commands.specs.NodeOrders.{IsOrderOf}
+use Rattle.cfarm_commands.specs.declared.error.SettleError.{SettleError}
+use Rattle.cfarm_commands.specs.declared.error.SettleError.TheVariants.{NoMemory, Form, Undecided, Write}
+
+-- an end of line, "agreed 3", and an end of line
+abbrev pub ending : List ℕ
+ending = 10 ∷ 97 ∷ 103 ∷ 114 ∷ 101 ∷ 101 ∷ 100 ∷ 32 ∷ 51 ∷ 10 ∷ []
+
+-- The bytes spell an LTL function. What is printed is the Linear function that it is laid out as, in lower case hex, in
+-- the order of the one node whose offer all three nodes have learned in the run that was made; a program of it alone keeps
+-- the meaning of the LTL function's.
+pub record IsSettled (bytes printed : List ℕ) : Type 0 where
+  pub input : ltl.FunctionData
+  pub output : linear.FunctionData
+  pub order : List ℕ
+  pub node : ℕ
+  pub read : bytes ≡ ltl_spelling.spelling input
+  pub laid_out : IsLaidOut input output order
+  pub ordered : IsOrderOf node input order
+  pub learned : IsLearnedByAll node
+  pub keeps : (globals : List GlobalData) (name : List ℕ) →
+      Keeps (ltl_meaning.run (program_of_one globals name input)) (linear_meaning.run (program_of_one globals name output))
+  pub prints : printed ≡ encode_lower (linear_spelling.spelling output) ++ ending
+
+-- The bytes are not those of one LTL function.
+abbrev pub IsNoFunction : List ℕ → Type 0
+IsNoFunction bytes = (f : ltl.FunctionData) → ltl.IsFunction f → bytes ≡ ltl_spelling.spelling f → ⊥
+
+-- what each refusal says of the bytes; in a room whose messages all arrive, nothing stays undecided
+abbrev pub IsRefused : List ℕ → SettleError → Type 0
+IsRefused bytes NoMemory = Unit {0}
+IsRefused bytes (Form fault) = IsNoFunction bytes
+IsRefused bytes Undecided = ⊥
+IsRefused bytes Write = Unit {0}

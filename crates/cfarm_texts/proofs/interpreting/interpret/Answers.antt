@@ -1,0 +1,16 @@
+use Rattle.std.proofs.Common.{◌≡◌, Ok, Err, subst}
+use Rattle.std.proofs.lemmas.Result.{err_from_is_err_and}
+use Rattle.lang_programs.specs.Written.{Wrote}
+use Rattle.c_program.specs.Meaning.{crun}
+use Rattle.cfarm_texts.proofs.interpreting.interpret.Goals as goal
+
+pub returns-in_err-shown-clause-beginning : goal.returns-in_err-shown-clause-beginning
+returns-in_err-shown-clause-beginning g c =
+    let p = err_from_is_err_and c.from_residual-in_err-shown.result c.from_residual-in_err-shown.ensures.1 in
+    let a = c.in_ok-program.ensures.accepted in
+    rw (p.1, p.2) (a.0, a.1, subst (λ q. Wrote (crun q c.args.depth) (Err c.in_err-shown.field-0.0) (g.W.Write.contents c.args.out.now) (g.W.Write.contents c.run.new.out)) a.2 c.in_err-shown.ensures)
+
+pub returns-clause-ran : goal.returns-clause-ran
+returns-clause-ran g c =
+    let a = c.in_ok-program.ensures.accepted in
+    (a.0, a.1, subst (λ q. Wrote (crun q c.args.depth) (Ok c.in_ok-shown.shown) (g.W.Write.contents c.args.out.now) (g.W.Write.contents c.run.new.out)) a.2 c.in_ok-shown.ensures)

@@ -1,0 +1,17 @@
+-- When a text is a program of the farm's language (C99 6.4 to 6.9, cut to this project's profile).
+use Rattle.std.specs.Prelude.{ℕ, List}
+use Rattle.std.specs.List.{AllByRecursion}
+use Rattle.c_syntax.specs.declared.token.Token.{Token}
+use Rattle.c_syntax.specs.Trees.{UnitTree}
+use Rattle.c_syntax.specs.Heights.{IsLow}
+use Rattle.c_syntax.specs.Declarations.{IsUnit}
+use Rattle.c_lexer.specs.Texts.{HasTokens}
+use Rattle.c_checker_rules.specs.Units.{IsWellFormed}
+
+-- the text has tokens, they spell this tree, no part of the tree is too high, and the tree is well formed
+pub record IsAccepted (text : List ℕ) (u : UnitTree) : Type 0 where
+  pub tokens : List Token
+  pub cut : HasTokens text tokens
+  pub spelled : IsUnit u tokens
+  pub low : AllByRecursion IsLow u.declarations
+  pub well_formed : IsWellFormed u

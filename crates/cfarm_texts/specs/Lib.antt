@@ -1,0 +1,10 @@
+pub mod Accepted
+pub mod Refusals
+pub mod Statuses
+pub mod Counts
+pub mod Closings
+pub mod Told
+pub use Rattle.c_checker_rules.specs.Units
+pub use Rattle.c_program.specs.Trees
+pub use Rattle.lang_programs.specs.Written
+pub use Rattle.c_program.specs.Meaning

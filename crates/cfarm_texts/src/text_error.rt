@@ -1,0 +1,91 @@
+ghost use Rattle.std.specs.Prelude.{◌≡◌};
+ghost use Rattle.cfarm_texts.specs.Refusals.{number_of, offset_of};
+
+use c_checker_rules::CheckError;
+use c_lexer_parts::LexError;
+use c_reader::ReadError;
+use std::fmt;
+
+/// Why a text is no program, or that there was no memory to tell. Its text is the line that a user is shown.
+#[derive(Clone, Copy, Debug, PartialEq, Eq)]
+pub enum TextError {
+    /// The text has no tokens, or a constant is refused.
+    Lex(LexError),
+    /// The tokens spell no tree, or only one that is too high.
+    Read(ReadError),
+    /// The tree is not well formed.
+    Check(CheckError),
+}
+
+impl TextError {
+    /// The number that a user is shown.
+    pub fn number(self) -> u16
+        ensures { result ≡ number_of self }
+    {
+        match self {
+            TextError::Lex(fault) => fault.number(),
+            TextError::Read(fault) => fault.number(),
+            TextError::Check(fault) => fault.number(),
+        }
+    }
+
+    /// The byte offset that it is about; none where memory was refused.
+    pub fn offset(self) -> Option<usize>
+        ensures { result ≡ offset_of self }
+    {
+        match self {
+            TextError::Lex(fault) => fault.offset(),
+            TextError::Read(fault) => fault.offset(),
+            TextError::Check(fault) => fault.offset(),
+        }
+    }
+}
+
+impl fmt::Display for TextError {
+    fn fmt<W: fmt::Write>(&self, f: &mut fmt::Formatter<W>) -> fmt::Result {
+        let number = self.number();
+        let Some(at) = self.offset() else {
+            return write!(f, "memory");
+        };
+        match self {
+            TextError::Lex(fault) => write!(f, "refused {number} {fault} at {at}"),
+            TextError::Read(fault) => write!(f, "refused {number} {fault} at {at}"),
+            TextError::Check(fault) => write!(f, "refused {number} {fault} at {at}"),
+        }
+    }
+}
+
+impl std::error::Error for TextError {}
+
+impl From<LexError> for TextError {
+    ghost use Rattle.std.specs.Prelude.{◌≡◌};
+    ghost use Rattle.cfarm_texts.specs.declared.text_error.TextError.TheVariants.{Lex};
+
+    ghost from_gives = { λ fault e. e ≡ Lex fault };
+
+    fn from(fault: LexError) -> TextError {
+        TextError::Lex(fault)
+    }
+}
+
+impl From<ReadError> for TextError {
+    ghost use Rattle.std.specs.Prelude.{◌≡◌};
+    ghost use Rattle.cfarm_texts.specs.declared.text_error.TextError.TheVariants.{Read};
+
+    ghost from_gives = { λ fault e. e ≡ Read fault };
+
+    fn from(fault: ReadError) -> TextError {
+        TextError::Read(fault)
+    }
+}
+
+impl From<CheckError> for TextError {
+    ghost use Rattle.std.specs.Prelude.{◌≡◌};
+    ghost use Rattle.cfarm_texts.specs.declared.text_error.TextError.TheVariants.{Check};
+
+    ghost from_gives = { λ fault e. e ≡ Check fault };
+
+    fn from(fault: CheckError) -> TextError {
+        TextError::Check(fault)
+    }
+}

@@ -1,6 +1,0 @@
-use Rattle.std.proofs.Common.{◌≡◌, take, map}
-use Rattle.cminor_tree.specs.Views.{statement_tree}
-use Rattle.cminor.proofs.copying.+copying.Given as goal
-
-abbrev pub invariant-copy_each-loop-statement : goal.invariant-copy_each-loop-statement
-invariant-copy_each-loop-statement l = map statement_tree l.copied.items ≡ map statement_tree (take l.statement-index l.statements)

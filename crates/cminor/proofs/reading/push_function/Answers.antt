@@ -1,7 +1,0 @@
-use Rattle.std.proofs.Common.{sym, subst}
-use Rattle.cminor_bytes.specs.Short.{HasShortLists}
-use Rattle.cminor.proofs.Short.{short}
-use Rattle.cminor.proofs.reading.push_function.Goals as goal
-
-pub push_statement-requires : goal.push_statement-requires
-push_statement-requires c = subst HasShortLists (sym c.body.ensures.tree) (short c.args.function.now.variables c.args.function.now.body c.body.ensures.in_range.body)

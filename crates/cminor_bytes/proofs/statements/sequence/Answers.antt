@@ -1,5 +1,0 @@
-use Rattle.cminor_bytes.proofs.Rows.{view_sequence}
-use Rattle.cminor_bytes.proofs.statements.sequence.Goals as goal
-
-pub returns : goal.returns
-returns c = view_sequence c.args.statements

@@ -1,8 +1,0 @@
-use Rattle.std.proofs.Common.{◌≡◌, ◌++◌, take}
-use Rattle.std.specs.List.{flat_map}
-use Rattle.cminor_tree.specs.Views.{statement_tree}
-use Rattle.cminor_forms.specs.Spelling.{statement_text}
-use Rattle.cminor_bytes.proofs.writing.+writing.Given as goal
-
-abbrev pub invariant-push_each-loop-statement : goal.invariant-push_each-loop-statement
-invariant-push_each-loop-statement l = l.out.items ≡ l.fn.out.items ++ flat_map (λ s. statement_text (statement_tree s)) (take l.statement-index l.statements)

@@ -1,5 +1,0 @@
-use Rattle.cminor_bytes.proofs.Texts.{each_short}
-use Rattle.cminor_bytes.proofs.writing.are_short.Goals as goal
-
-pub returns-clause-each : goal.returns-clause-each
-returns-clause-each c = each_short c.args.statements.now c.requires.1

@@ -1,0 +1,2 @@
+pub mod Pointwise
+pub mod Short

@@ -1,0 +1,61 @@
+use crate::copying::copy_function;
+use crate::function::Function;
+use crate::reading::{push_function, read_function};
+use lang_base::{FormError, Language, NoMemory};
+use std::alloc::Global;
+
+/// Cminor, the first language of the pipeline.
+pub struct Cminor;
+
+impl Language for Cminor {
+    ghost use Rattle.std.specs.Prelude.{◌≡◌, ◌≢◌, ◌≤◌, ℕ, List, ◌++◌, length, take, true, ◌↔◌, OnOk, OnErr, IfOk, IfErr};
+    ghost use Rattle.lang_base.proofs.Forms.{one_text};
+    ghost use Rattle.machine.proofs.Equal.{tells_decides};
+    ghost use Rattle.cminor_syntax.specs.Fits.{IsFunction};
+    ghost use Rattle.cminor_syntax.specs.Growth.{runs_on};
+    ghost use Rattle.cminor_syntax.specs.Meaning.{run};
+    ghost use Rattle.cminor_form.specs.Spelling.{spelling};
+    ghost use Rattle.cminor_form.proofs.StatementForms.{function_form};
+    ghost use Rattle.cminor_language.specs.Same.{same_laws, function_decides};
+
+    type Fun = Function;
+
+    const TAG: u8 = 1;
+
+    ghost TAG = { 1 };
+
+    ghost fits = { IsFunction };
+
+    ghost spelling = { spelling };
+
+    ghost run = { run };
+
+    fn known(function: &Function) {
+        let _body = function.body();
+    }
+
+    fn copy(alloc: Global, function: &Function) -> Result<Function, NoMemory> {
+        copy_function(alloc, function)
+    }
+
+    fn write(function: &Function, out: &mut Vec<u8>) -> Result<(), NoMemory> {
+        let length = out.len();
+        let written = push_function(out, function);
+        if written.is_err() {
+            out.truncate(length);
+        }
+        written
+    }
+
+    fn read(alloc: Global, bytes: &[u8]) -> Result<(Function, usize), FormError> {
+        let mut rest = bytes;
+        let function = read_function(alloc, &mut rest)?;
+        Ok((function, bytes.len() - rest.len()))
+    }
+
+    ghost one_spelling = { λ f g x y fits also e. one_text function_form f g x y fits also e };
+
+    ghost runs_on = { runs_on };
+
+    ghost eq_decides = { tells_decides same_laws function_decides.tells };
+}

@@ -1,8 +1,0 @@
-use Rattle.std.proofs.Common.{◌≡◌, take, map}
-use Rattle.c_program.specs.Views.{function_tree}
-use Rattle.lowering.specs.Programs.{low_named}
-use Rattle.program_data.specs.Seen.{named_seen}
-use Rattle.cminor_lowering.proofs.functions.lower_functions.Given as goal
-
-abbrev pub invariant-loop-function : goal.invariant-loop-function
-invariant-loop-function l = map named_seen l.lowered.items ≡ map low_named (map function_tree (take l.function-index l.functions))

@@ -1,7 +1,0 @@
-use Rattle.std.proofs.Common.{◌≡◌, take, map}
-use Rattle.lowering.specs.Programs.{low_global}
-use Rattle.program_data.specs.Seen.{global_seen}
-use Rattle.cminor_lowering.proofs.globals.lower_globals.Given as goal
-
-abbrev pub invariant-loop-global : goal.invariant-loop-global
-invariant-loop-global l = map global_seen l.lowered.items ≡ map low_global (take l.global-index l.globals)

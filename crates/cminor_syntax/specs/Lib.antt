@@ -1,0 +1,10 @@
+pub mod Trees
+pub mod Views
+pub mod Codes
+pub mod State
+pub mod Evaluation
+pub mod Meaning
+pub mod Growth
+pub mod Fits
+pub use Rattle.lang_base.specs.Behaviour
+pub use Rattle.lang_base.specs.Programs

@@ -1,3 +1,0 @@
-mod FallingLemmas
-mod ListingLemmas
-mod ReadingLemmas

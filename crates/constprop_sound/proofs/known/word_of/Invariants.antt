@@ -1,6 +1,0 @@
-use Rattle.std.proofs.Common.{◌≡◌, drop}
-use Rattle.constprop_sound.specs.Known.{fact_at}
-use Rattle.constprop_sound.proofs.known.word_of.Given as goal
-
-abbrev pub invariant-loop-fact : goal.invariant-loop-fact
-invariant-loop-fact l = fact_at (drop l.fact-index l.facts) l.register ≡ fact_at l.facts l.register

@@ -1,7 +1,0 @@
-use Rattle.machine.proofs.Equal.{tells_decides}
-use Rattle.cse_sound.specs.contracts.equation.EquationEq.TheImpl.Laws as equation_laws
-use Rattle.cse_sound.proofs.Equal.{equation_tells}
-use Rattle.cse_sound.proofs.same.is_same.Goals as goal
-
-pub returns : goal.returns
-returns c = rw c.eq.ensures (tells_decides equation_laws.laws-law equation_tells c.args.first c.args.second)

@@ -1,6 +1,0 @@
-use Rattle.cminor_tree.specs.Views.{expression_tree}
-use Rattle.generated_statements.proofs.Arms.{put_added}
-use Rattle.generated_statements.proofs.plain.add_put.Goals as goal
-
-pub returns : goal.returns
-returns c = put_added c.args.temporary c.add_operand.new.graph c.args.target (expression_tree c.args.word.now) c.add_operand.result c.place.ensures c.in_ok-last.ensures c.add_operand.ensures

@@ -1,5 +1,0 @@
-use Rattle.generated_statements.proofs.Rows.{each_needs_few}
-use Rattle.generated_statements.proofs.temporaries.each_has_few.Goals as goal
-
-pub returns : goal.returns
-returns c = each_needs_few c.args.statements.now c.requires

@@ -1,4 +1,0 @@
-pub mod Needs
-pub mod Nodes
-pub mod Functions
-pub mod Examples

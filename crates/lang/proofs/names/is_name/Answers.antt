@@ -1,0 +1,5 @@
+use Rattle.lang.proofs.NameTests.{name_test}
+use Rattle.lang.proofs.names.is_name.Goals as goal
+
+pub returns : goal.returns
+returns c = name_test c.args.bytes.now c.passes.result c.passes.ensures

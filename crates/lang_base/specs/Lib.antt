@@ -1,0 +1,8 @@
+pub mod Numbers
+pub mod Behaviour
+pub mod Keeps
+pub mod Machine
+pub mod Programs
+pub mod Soundness
+pub mod Reading
+pub mod Texts

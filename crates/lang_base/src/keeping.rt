@@ -1,0 +1,20 @@
+//! The laws of keeping a meaning, as contracts of calls that do nothing else.
+
+ghost use Rattle.std.specs.Prelude.{◌≡◌, ℕ};
+ghost use Rattle.lang_base.specs.Behaviour.{Behaviour};
+ghost use Rattle.lang_base.specs.Keeps.{Keeps};
+ghost use Rattle.lang_base.specs.Programs.{ProgramOf};
+ghost use Rattle.lang_base.specs.Soundness.{AllFit, Accepted};
+
+use crate::language::Language;
+use crate::pass::Pass;
+
+/// What keeps the meaning of what keeps a meaning keeps it too.
+pub fn keeps_composes()
+    ensures { (a b c : Behaviour) → Keeps a b → Keeps b c → Keeps a c }
+{}
+
+/// What a pass accepts for a whole program keeps its meaning.
+pub fn keeps_all<P: Pass>()
+    ensures { (p : ProgramOf P.In.Fun) (q : ProgramOf P.Out.Fun) → AllFit P.In.fits p → AllFit P.Out.fits q → Accepted P.accepts p q → Keeps (P.In.run p) (P.Out.run q) }
+{}

@@ -1,0 +1,4 @@
+pub mod Seen
+pub mod Numbers
+pub mod Written
+pub use Rattle.lang_base.specs.Behaviour

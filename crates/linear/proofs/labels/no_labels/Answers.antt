@@ -1,6 +1,0 @@
-use Rattle.std.proofs.Common.{refl}
-use Rattle.linear.proofs.Noted.{none_stand}
-use Rattle.linear.proofs.labels.no_labels.Goals as goal
-
-pub returns : goal.returns
-returns c = none_stand 65536 _ refl (c.in_ok-vec.ensures.items_if_clones_equal (λ y same. same))

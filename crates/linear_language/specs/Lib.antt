@@ -1,0 +1,17 @@
+pub mod Function
+pub mod Labels
+pub mod Meaning
+pub mod Spelling
+pub mod Reading
+pub mod Flags
+pub mod Forms
+pub mod Equal
+pub mod Growth
+pub use Rattle.machine.specs.Data
+pub use Rattle.machine.specs.Acts
+pub use Rattle.machine.specs.Frames
+pub use Rattle.machine.specs.Calls
+pub use Rattle.machine.specs.Fits
+pub use Rattle.lang_base.specs.Behaviour
+pub use Rattle.lang_base.specs.Programs
+pub use Rattle.lang_base.specs.Machine

@@ -1,0 +1,24 @@
+//! Two functions are equal where their parameters, slots and code are.
+
+use crate::function::Function;
+
+impl PartialEq for Function {
+    ghost use Rattle.std.specs.Cmp.{partial_equiv_from_equiv};
+    ghost use Rattle.linear_language.specs.Equal.{same_function, same_laws};
+
+    ghost eq = { same_function };
+
+    ghost laws = { partial_equiv_from_equiv same_laws };
+
+    fn eq(&self, other: &Function) -> bool {
+        self.parameters() == other.parameters()
+            && self.slots() == other.slots()
+            && self.code() == other.code()
+    }
+}
+
+impl Eq for Function {
+    ghost use Rattle.linear_language.specs.Equal.{same_laws};
+
+    ghost laws = { same_laws };
+}

@@ -1,0 +1,62 @@
+use crate::copying::copy_function;
+use crate::function::Function;
+use crate::reading::read_function;
+use crate::writing::push_function;
+use lang_base::{FormError, Language, NoMemory};
+use std::alloc::Global;
+
+/// Linear, the last language of the pipeline.
+pub struct Linear;
+
+impl Language for Linear {
+    ghost use Rattle.std.specs.Prelude.{◌≡◌, ◌≢◌, ◌≤◌, ℕ, List, ◌++◌, length, take, true, ◌↔◌, OnOk, OnErr, IfOk, IfErr};
+    ghost use Rattle.lang_base.proofs.Forms.{one_text};
+    ghost use Rattle.machine.proofs.Equal.{tells_decides};
+    ghost use Rattle.linear_language.specs.Equal.{same_laws, function_tells};
+    ghost use Rattle.linear_language.specs.Forms.{function_form};
+    ghost use Rattle.linear_language.specs.Function.{IsFunction};
+    ghost use Rattle.linear_language.specs.Growth.{runs_on};
+    ghost use Rattle.linear_language.specs.Meaning.{run};
+    ghost use Rattle.linear_language.specs.Spelling.{spelling};
+
+    type Fun = Function;
+
+    const TAG: u8 = 4;
+
+    ghost TAG = { 4 };
+
+    ghost fits = { IsFunction };
+
+    ghost spelling = { spelling };
+
+    ghost run = { run };
+
+    fn known(function: &Function) {
+        let _code = function.code();
+    }
+
+    fn copy(alloc: Global, function: &Function) -> Result<Function, NoMemory> {
+        copy_function(alloc, function)
+    }
+
+    fn write(function: &Function, out: &mut Vec<u8>) -> Result<(), NoMemory> {
+        let length = out.len();
+        let written = push_function(out, function);
+        if written.is_err() {
+            out.truncate(length);
+        }
+        written
+    }
+
+    fn read(alloc: Global, bytes: &[u8]) -> Result<(Function, usize), FormError> {
+        let mut rest = bytes;
+        let function = read_function(alloc, &mut rest)?;
+        Ok((function, bytes.len() - rest.len()))
+    }
+
+    ghost one_spelling = { λ f g x y fits also e. one_text function_form f g x y fits also e };
+
+    ghost runs_on = { runs_on };
+
+    ghost eq_decides = { tells_decides same_laws function_tells };
+}

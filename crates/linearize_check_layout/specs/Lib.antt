@@ -1,0 +1,5 @@
+pub mod Reach
+pub mod Marks
+pub use Rattle.linearize_check_proof.specs.Layout
+pub use Rattle.linearize_check_proof.specs.Orders
+pub use Rattle.linearize_check_proof.specs.Rules

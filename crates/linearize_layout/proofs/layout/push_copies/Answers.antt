@@ -1,5 +1,0 @@
-use Rattle.linearize_layout.proofs.Stretches.{copies_more}
-use Rattle.linearize_layout.proofs.layout.push_copies.Goals as goal
-
-pub loop-step-preserved : goal.loop-step-preserved
-loop-step-preserved c = copies_more _ _ _ _ _ _ c.in_ok-push.ensures.items c.loop-step.invariant c.loop-step-test.true

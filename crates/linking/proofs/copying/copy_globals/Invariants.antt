@@ -1,7 +1,0 @@
-use Rattle.std.proofs.Common.{◌≡◌, map, take}
-use Rattle.program_data.specs.Seen.{global_seen}
-use Rattle.linking.proofs.copying.copy_globals.Given as goal
-
--- the first globals are copied
-abbrev pub invariant-loop-number : goal.invariant-loop-number
-invariant-loop-number l = map global_seen l.copied.items ≡ map global_seen (take l.number l.globals)

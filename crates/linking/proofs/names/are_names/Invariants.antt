@@ -1,8 +1,0 @@
-use Rattle.std.proofs.Common.{◌≡◌, length, map, take}
-use Rattle.linking.specs.Chains.{names_beside, names_of}
-use Rattle.program_data.specs.Seen.{named_seen}
-use Rattle.linking.proofs.names.are_names.Given as goal
-
--- as many names, and the first ones are the same
-abbrev pub invariant-loop-number : goal.invariant-loop-number
-invariant-loop-number g l = (length l.functions ≡ length l.named) × (names_beside (take l.number l.named) ≡ names_of (map named_seen (take l.number l.functions)))

@@ -1,9 +1,0 @@
-pub mod Sees
-pub mod Words
-pub mod Follows
-pub mod Given
-pub mod Statements
-pub mod Functions
-pub mod Levels
-pub mod Globals
-pub mod Programs

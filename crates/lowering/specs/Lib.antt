@@ -1,3 +1,0 @@
-pub mod Terms
-pub mod Actions
-pub mod Programs

@@ -1,0 +1,11 @@
+use Rattle.oracle_alloc_blocks.proofs.reaching.from_slot.Goals as goal
+
+pub returns : goal.returns
+returns c = λ slots target source.
+    let to = c.put_away-to.ensures slots target in
+    record {
+      first = record { target = to.place; source = source; through = tt };
+      second = to.step;
+      act = tt;
+      after = tt;
+    }

@@ -1,0 +1,25 @@
+-- Plans of blocks that are in range: moves and an act, before they are written as lists.
+use Rattle.std.specs.Prelude.{ℕ, IfSome}
+use Rattle.machine.specs.Fits.{RegisterFits, MoveFits, ArgumentsFit}
+use Rattle.ltl.specs.Function.{MaybeActFits}
+use Rattle.oracle_alloc_blocks.specs.declared.plan.Reached.{Reached}
+use Rattle.oracle_alloc_blocks.specs.declared.plan.Operands.{Operands}
+use Rattle.oracle_alloc_blocks.specs.declared.plan.Plan.{Plan}
+
+-- a register of the machine, and the move between it and a place, if one is needed
+pub record ReachedFits (slots : ℕ) (r : Reached) : Type 0 where
+  pub place : RegisterFits r.place
+  pub step : IfSome r.step (MoveFits slots)
+
+-- so many arguments, and the moves that bring them to where they are taken
+pub record OperandsFit (slots count : ℕ) (o : Operands) : Type 0 where
+  pub arguments : ArgumentsFit count o.arguments
+  pub first : IfSome o.first (MoveFits slots)
+  pub second : IfSome o.second (MoveFits slots)
+
+-- moves, an act, and a move behind it
+pub record PlanFits (slots : ℕ) (p : Plan) : Type 0 where
+  pub first : IfSome p.first (MoveFits slots)
+  pub second : IfSome p.second (MoveFits slots)
+  pub act : MaybeActFits p.act
+  pub after : IfSome p.after (MoveFits slots)

@@ -1,0 +1,204 @@
+//! Blocks that do with places what instructions do with registers.
+
+ghost use Rattle.std.specs.Prelude.{◌≡◌, ◌<◌, ℕ, length, All, IfOk, IfSome};
+ghost use Rattle.locations.specs.Fits.{MoveFits, MovesFit};
+ghost use Rattle.rtl_parts.specs.Fits as rtl_fits;
+ghost use Rattle.rtl_language.specs.Function as rtl_function;
+ghost use Rattle.ltl.specs.Function.{BlockFits};
+ghost use Rattle.oracle_alloc_blocks.specs.Plans.{PlanFits};
+
+use crate::parameters::places_of;
+use crate::places::Places;
+use crate::plan::Plan;
+use crate::plans::plan_of;
+use crate::reaching::{operands, source_of};
+use lang_base::{NoMemory, Row};
+use locations::Move;
+use ltl::{Block, Body};
+use rtl_language::Instruction;
+use rtl_parts::{Act, Register, Test};
+use std::alloc::Global;
+
+/// At most two moves, as a list.
+fn moves_of(alloc: Global, first: Option<Move>, second: Option<Move>) -> Result<Row<Move>, NoMemory>
+    ensures { (slots : ℕ) → IfSome first (MoveFits slots) → IfSome second (MoveFits slots) → IfOk result (MovesFit slots) }
+{
+    match first {
+        None => at_most_one(alloc, second),
+        Some(first) => match second {
+            None => at_most_one(alloc, Some(first)),
+            Some(second) => Ok(Row::from_vec(Vec::from_slice(alloc, &[first, second])?)),
+        },
+    }
+}
+
+fn at_most_one(alloc: Global, step: Option<Move>) -> Result<Row<Move>, NoMemory>
+    ensures { (slots : ℕ) → IfSome step (MoveFits slots) → IfOk result (MovesFit slots) }
+{
+    match step {
+        None => Ok(Row::from_vec(Vec::new(alloc))),
+        Some(step) => Ok(Row::from_vec(Vec::from_slice(alloc, &[step])?)),
+    }
+}
+
+/// A block that does what is planned, and goes on.
+fn going(alloc: Global, plan: Plan, successor: u16) -> Result<Block, NoMemory>
+    ensures { (slots nodes : ℕ) → PlanFits slots plan → successor < nodes → IfOk result (BlockFits slots nodes) }
+{
+    let before = moves_of(alloc, plan.first, plan.second)?;
+    let after = at_most_one(alloc, plan.after)?;
+    Ok(Block {
+        before,
+        body: Body::Go {
+            act: plan.act,
+            after,
+            successor,
+        },
+    })
+}
+
+/// A block for an act: it does nothing where the act is needless.
+fn doing(
+    alloc: Global,
+    places: &Places,
+    act: &Act,
+    successor: u16,
+    is_needless: bool,
+) -> Result<Block, NoMemory>
+    ensures { (registers nodes : ℕ) → rtl_fits.ActFits registers act.now → successor < nodes → IfOk result (BlockFits places.now.slots nodes) }
+{
+    if is_needless {
+        return going(alloc, Plan::NOTHING, successor);
+    }
+    going(alloc, plan_of(places, act), successor)
+}
+
+fn calling(
+    alloc: Global,
+    places: &Places,
+    function: u8,
+    arguments: &[Register],
+    target: Option<Register>,
+    successor: u16,
+) -> Result<Block, NoMemory>
+    ensures { (registers nodes : ℕ) → rtl_function.CallFits registers function arguments.now target → successor < nodes → IfOk result (BlockFits places.now.slots nodes) }
+{
+    let arguments = places_of(alloc, places, arguments)?;
+    let before = at_most_one(alloc, None)?;
+    let after = at_most_one(alloc, None)?;
+    Ok(Block {
+        before,
+        body: Body::Call {
+            function,
+            arguments: Row::from_vec(arguments),
+            target: places.place_of_any(target),
+            after,
+            successor,
+        },
+    })
+}
+
+fn branching(
+    alloc: Global,
+    places: &Places,
+    test: &Test,
+    taken: u16,
+    other: u16,
+) -> Result<Block, NoMemory>
+    ensures { (registers nodes : ℕ) → rtl_fits.TestFits registers test.now → taken < nodes → other < nodes → IfOk result (BlockFits places.now.slots nodes) }
+{
+    let asked = operands(places, &test.arguments);
+    let before = moves_of(alloc, asked.first, asked.second)?;
+    Ok(Block {
+        before,
+        body: Body::Branch {
+            test: machine::Test {
+                condition: test.condition,
+                arguments: asked.arguments,
+            },
+            taken,
+            other,
+        },
+    })
+}
+
+fn returning(alloc: Global, places: &Places, value: Option<Register>) -> Result<Block, NoMemory>
+    ensures { (nodes : ℕ) → IfOk result (BlockFits places.now.slots nodes) }
+{
+    match value {
+        None => returning_none(alloc),
+        Some(register) => returning_one(alloc, places, register),
+    }
+}
+
+fn returning_none(alloc: Global) -> Result<Block, NoMemory>
+    ensures { (slots nodes : ℕ) → IfOk result (BlockFits slots nodes) }
+{
+    let before = at_most_one(alloc, None)?;
+    Ok(Block {
+        before,
+        body: Body::Return { value: None },
+    })
+}
+
+fn returning_one(alloc: Global, places: &Places, register: Register) -> Result<Block, NoMemory>
+    ensures { (nodes : ℕ) → IfOk result (BlockFits places.now.slots nodes) }
+{
+    let from = source_of(places, register, 0);
+    let before = at_most_one(alloc, from.step)?;
+    Ok(Block {
+        before,
+        body: Body::Return {
+            value: Some(from.place),
+        },
+    })
+}
+
+/// A block for an instruction.
+fn block_of(
+    alloc: Global,
+    places: &Places,
+    instruction: &Instruction,
+    is_needless: bool,
+) -> Result<Block, NoMemory>
+    ensures { (registers nodes : ℕ) → rtl_function.InstructionFits registers nodes instruction.now → IfOk result (BlockFits places.now.slots nodes) }
+{
+    match instruction {
+        Instruction::Do { act, successor } => { doing(alloc, places, act, *successor, is_needless) }
+        Instruction::Call {
+            function,
+            arguments,
+            target,
+            successor,
+        } => calling(
+            alloc,
+            places,
+            *function,
+            arguments.as_slice(),
+            *target,
+            *successor,
+        ),
+        Instruction::Branch { test, taken, other } => {
+            branching(alloc, places, test, *taken, *other)
+        }
+        Instruction::Return { value } => returning(alloc, places, *value),
+    }
+}
+
+/// A block for each node; those nodes that are needless do nothing.
+pub fn blocks_of(
+    alloc: Global,
+    input: &rtl_language::Function,
+    places: &Places,
+    needless: &[bool],
+) -> Result<Vec<Block>, NoMemory>
+    ensures count { IfOk result (λ made. length made.items ≡ length input.now.nodes) }
+    ensures fit { IfOk result (λ made. All (BlockFits places.now.slots (length input.now.nodes)) made.items) }
+{
+    let mut made = Vec::new(alloc);
+    for (n, instruction) in input.nodes().as_slice().iter().enumerate() {
+        let is_left_out = needless.get(n).copied().unwrap_or(false);
+        made.push(block_of(alloc, places, instruction, is_left_out)?)?;
+    }
+    Ok(made)
+}

@@ -1,0 +1,7 @@
+//! A node whose offer stands in a cell of its own, which no world of the protocol shows: what its steps are then,
+//! and that the run has the offer in time.
+#![tactic(auto)]
+
+mod theorem;
+
+pub use theorem::late_offers;

@@ -1,7 +1,0 @@
-use Rattle.std.proofs.Common.{ℕ, ◌<◌, length}
-use Rattle.paxos_world.specs.World.{nodes_of}
-use Rattle.paxos_model.specs.Tests.{NodeSettled}
-use Rattle.paxos_model.proofs.settled.settled.Given as goal
-
-abbrev pub invariant-loop-node : goal.invariant-loop-node
-invariant-loop-node l = (i : ℕ) → i < l.node → NodeSettled (length l.parts) (nodes_of l.parts) i

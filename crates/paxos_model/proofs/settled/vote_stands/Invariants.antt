@@ -1,8 +1,0 @@
-use Rattle.std.proofs.Common.{ℕ, ◌<◌, IfSome, length}
-use Rattle.paxos_world.specs.Settled.{PairSettled}
-use Rattle.paxos_world.specs.World.{nodes_of}
-use Rattle.paxos_model.proofs.settled.vote_stands.Given as goal
-
-abbrev pub invariant-loop-other : goal.invariant-loop-other
-invariant-loop-other l =
-    (j : ℕ) → j < l.other-index → IfSome (nodes_of l.parts j).accepted (PairSettled (length l.parts) (nodes_of l.parts) l.vote)

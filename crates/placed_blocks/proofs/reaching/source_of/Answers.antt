@@ -1,4 +1,0 @@
-use Rattle.placed_blocks.proofs.reaching.source_of.Goals as goal
-
-pub returns : goal.returns
-returns c = c.brought.ensures _ c.place_of.ensures

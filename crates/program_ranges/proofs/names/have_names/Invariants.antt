@@ -1,7 +1,0 @@
-use Rattle.std.proofs.Common.{ℕ, ◌<◌, slice_index_or}
-use Rattle.c_parts.specs.Lexemes.{IsName}
-use Rattle.c_program.specs.declared.function.Function.{Function}
-use Rattle.program_ranges.proofs.names.have_names.Given as goal
-
-abbrev pub invariant-loop-function : goal.invariant-loop-function
-invariant-loop-function l = (k : ℕ) (d : Function) → k < l.function-index → IsName (slice_index_or l.functions k d).name

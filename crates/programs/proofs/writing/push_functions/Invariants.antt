@@ -1,8 +1,0 @@
-use Rattle.std.proofs.Common.{◌≡◌, ◌++◌, take}
-use Rattle.std.specs.List.{flat_map}
-use Rattle.programs.specs.Form.{named_text}
-use Rattle.program_data.specs.Seen.{named_seen}
-use Rattle.programs.proofs.writing.push_functions.Given as goal
-
-abbrev pub invariant-loop-function : goal.invariant-loop-function
-invariant-loop-function g l = l.out.items ≡ l.fn.out.items ++ flat_map (λ f. named_text g.L.Language.spelling (named_seen f)) (take l.function-index l.functions)

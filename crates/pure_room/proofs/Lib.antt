@@ -1,2 +1,0 @@
-pub mod HandOn
-pub mod Rooms

@@ -1,3 +1,0 @@
-pub mod HandedOn
-pub mod Played
-pub use Rattle.paxos_core.specs.Schedule

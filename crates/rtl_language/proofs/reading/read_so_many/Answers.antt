@@ -1,0 +1,12 @@
+use Rattle.std.proofs.lemmas.Result.{err_from_is_err_and}
+use Rattle.lang_base.proofs.Loops.{goes_on, stops}
+use Rattle.rtl_language.specs.Reading.{instruction}
+use Rattle.rtl_language.proofs.reading.read_so_many.Goals as goal
+
+pub returns-in_err-node : goal.returns-in_err-node
+returns-in_err-node c =
+    let p = err_from_is_err_and c.from_residual.result c.from_residual.ensures.1 in
+    rw (p.1, p.2) (λ memory. stops (λ before. instruction c.args.registers c.args.count) c.args.count _ c.in_err-node.field-0.0 c.loop.nodes.items c.loop.counter c.loop.bytes.now c.loop-test.true c.loop.invariant (c.in_err-node.ensures memory))
+
+pub loop-preserved : goal.loop-preserved
+loop-preserved c = rw c.in_ok-push.ensures.items (goes_on (λ before. instruction c.args.registers c.args.count) c.args.count _ c.loop.nodes.items c.loop.counter c.loop.bytes.now _ c.read_instruction.new.bytes.now c.loop-test.true c.loop.invariant c.in_ok-node.ensures)

@@ -1,0 +1,14 @@
+pub mod Function
+pub mod Frames
+pub mod Meaning
+pub mod Growth
+pub mod Spelling
+pub mod Reading
+pub mod Forms
+pub mod Equal
+pub use Rattle.rtl_parts.specs.Data
+pub use Rattle.rtl_parts.specs.Acts
+pub use Rattle.rtl_parts.specs.Fits
+pub use Rattle.lang_base.specs.Behaviour
+pub use Rattle.lang_base.specs.Programs
+pub use Rattle.lang_base.specs.Machine

@@ -1,0 +1,61 @@
+//! Copies of functions and their parts, equal to what they were made from.
+
+ghost use Rattle.std.specs.Prelude.{◌≡◌, IfOk};
+
+use crate::function::Function;
+use crate::instruction::Instruction;
+use lang_base::{NoMemory, Row};
+use std::alloc::Global;
+
+/// An equal instruction.
+pub fn copy_instruction(alloc: Global, instruction: &Instruction) -> Result<Instruction, NoMemory>
+    ensures { IfOk result (λ copied. copied ≡ instruction.now) }
+{
+    match instruction {
+        Instruction::Do { act, successor } => Ok(Instruction::Do {
+            act: *act,
+            successor: *successor,
+        }),
+        Instruction::Call {
+            function,
+            arguments,
+            target,
+            successor,
+        } => Ok(Instruction::Call {
+            function: *function,
+            arguments: arguments.copied(alloc)?,
+            target: *target,
+            successor: *successor,
+        }),
+        Instruction::Branch { test, taken, other } => Ok(Instruction::Branch {
+            test: *test,
+            taken: *taken,
+            other: *other,
+        }),
+        Instruction::Return { value } => Ok(Instruction::Return { value: *value }),
+    }
+}
+
+fn copy_nodes(alloc: Global, nodes: &[Instruction]) -> Result<Vec<Instruction>, NoMemory>
+    ensures { IfOk result (λ copied. copied.items ≡ nodes.now) }
+{
+    let mut copied = Vec::new(alloc);
+    for node in nodes {
+        copied.push(copy_instruction(alloc, node)?)?;
+    }
+    Ok(copied)
+}
+
+/// An equal function.
+pub fn copy_function(alloc: Global, function: &Function) -> Result<Function, NoMemory>
+    ensures { IfOk result (λ copied. copied ≡ function.now) }
+{
+    let parameters = function.parameters().copied(alloc)?;
+    let nodes = copy_nodes(alloc, function.nodes().as_slice())?;
+    Ok(Function::new(
+        parameters,
+        function.registers(),
+        function.entry(),
+        Row::from_vec(nodes),
+    ))
+}

@@ -1,0 +1,218 @@
+//! Readers of the parts of a function. Each is one function on lists, which says the value and the
+//! bytes behind it, or the first fault.
+
+ghost use Rattle.std.specs.Prelude.{ℕ, ◌<◌, [], slice_index};
+ghost use Rattle.lang_base.specs.Reading.{IsRead, Reads, items_of, more};
+ghost use Rattle.rtl_parts.specs.Reading.{register};
+ghost use Rattle.rtl_language.specs.Reading.{node, function_number, call_arguments, call, branch, plain, instruction, ends, nodes, graph, parts, function};
+
+use crate::function::Function;
+use crate::instruction::Instruction;
+use lang_base::{FormError, Row, read_byte, read_u16, read_u16_below};
+use rtl_parts::{Register, read_act, read_frame, read_register, read_target, read_test};
+use std::alloc::Global;
+
+/// One of so many nodes.
+#[tactic(auto, unfolding(crate::specs::Reading::node))]
+fn read_node(nodes: u32, bytes: &mut &[u8]) -> Result<u16, FormError>
+    ensures { IsRead (node nodes bytes.old.now) result bytes.new.now }
+{
+    read_u16_below(nodes, bytes)
+}
+
+/// A function's number.
+#[tactic(auto, unfolding(crate::specs::Reading::function_number))]
+fn read_function_number(bytes: &mut &[u8]) -> Result<u8, FormError>
+    ensures { IsRead (function_number bytes.old.now) result bytes.new.now }
+{
+    let number = read_byte(bytes)?;
+    if number < 64 {
+        Ok(number)
+    } else {
+        Err(FormError::NotCanonical)
+    }
+}
+
+fn read_so_many_arguments(
+    alloc: Global,
+    count: u8,
+    registers: u32,
+    bytes: &mut &[u8],
+) -> Result<Vec<Register>, FormError>
+    ensures { Reads (more (λ before. register registers) [] count bytes.old.now) (items_of result) bytes.new.now }
+{
+    let mut arguments = Vec::new(alloc);
+    for _ in 0..count {
+        let argument = read_register(registers, bytes)?;
+        arguments.push(argument)?;
+    }
+    Ok(arguments)
+}
+
+/// The number of a call's arguments, and the arguments.
+#[tactic(auto, unfolding(crate::specs::Reading::call_arguments))]
+fn read_call_arguments(
+    alloc: Global,
+    registers: u32,
+    bytes: &mut &[u8],
+) -> Result<Row<Register>, FormError>
+    ensures { Reads (call_arguments registers bytes.old.now) result bytes.new.now }
+{
+    let count = read_byte(bytes)?;
+    let arguments = read_so_many_arguments(alloc, count, registers, bytes)?;
+    Ok(Row::from_vec(arguments))
+}
+
+#[tactic(auto, unfolding(crate::specs::Reading::call))]
+fn read_call(
+    alloc: Global,
+    registers: u32,
+    nodes: u32,
+    bytes: &mut &[u8],
+) -> Result<Instruction, FormError>
+    ensures { Reads (call registers nodes bytes.old.now) result bytes.new.now }
+{
+    let function = read_function_number(bytes)?;
+    let arguments = read_call_arguments(alloc, registers, bytes)?;
+    let target = read_target(registers, bytes)?;
+    let successor = read_node(nodes, bytes)?;
+    Ok(Instruction::Call {
+        function,
+        arguments,
+        target,
+        successor,
+    })
+}
+
+#[tactic(auto, unfolding(crate::specs::Reading::branch))]
+fn read_branch(registers: u32, nodes: u32, bytes: &mut &[u8]) -> Result<Instruction, FormError>
+    ensures { IsRead (branch registers nodes bytes.old.now) result bytes.new.now }
+{
+    let test = read_test(registers, bytes)?;
+    let taken = read_node(nodes, bytes)?;
+    let other = read_node(nodes, bytes)?;
+    Ok(Instruction::Branch { test, taken, other })
+}
+
+/// What follows the code of a plain instruction; no other code is one.
+#[tactic(auto, unfolding(crate::specs::Reading::plain))]
+fn read_plain(
+    registers: u32,
+    nodes: u32,
+    code: u8,
+    bytes: &mut &[u8],
+) -> Result<Instruction, FormError>
+    ensures { IsRead (plain registers nodes code bytes.old.now) result bytes.new.now }
+{
+    let act = read_act(registers, code, bytes)?;
+    let successor = read_node(nodes, bytes)?;
+    Ok(Instruction::Do { act, successor })
+}
+
+/// An instruction among so many registers and nodes.
+#[tactic(auto, unfolding(crate::specs::Reading::instruction))]
+fn read_instruction(
+    alloc: Global,
+    registers: u32,
+    nodes: u32,
+    bytes: &mut &[u8],
+) -> Result<Instruction, FormError>
+    ensures { Reads (instruction registers nodes bytes.old.now) result bytes.new.now }
+{
+    match read_byte(bytes)? {
+        6 => read_call(alloc, registers, nodes, bytes),
+        8 => read_branch(registers, nodes, bytes),
+        9 => Ok(Instruction::Return {
+            value: read_target(registers, bytes)?,
+        }),
+        code => read_plain(registers, nodes, code, bytes),
+    }
+}
+
+/// The entry and the number of nodes, of which it is one.
+#[tactic(auto, unfolding(crate::specs::Reading::ends))]
+fn read_ends(bytes: &mut &[u8]) -> Result<(u16, u16), FormError>
+    ensures { IsRead (ends bytes.old.now) result bytes.new.now }
+{
+    let entry = read_u16(bytes)?;
+    let nodes = read_u16(bytes)?;
+    if entry < nodes {
+        Ok((entry, nodes))
+    } else {
+        Err(FormError::NotCanonical)
+    }
+}
+
+/// As many instructions as there are nodes.
+#[tactic(auto, unfolding(crate::specs::Reading::nodes))]
+fn read_nodes(
+    alloc: Global,
+    registers: u32,
+    count: u32,
+    bytes: &mut &[u8],
+) -> Result<Vec<Instruction>, FormError>
+    ensures { Reads (nodes registers count bytes.old.now) (items_of result) bytes.new.now }
+{
+    read_so_many(alloc, registers, count, bytes)
+}
+
+fn read_so_many(
+    alloc: Global,
+    registers: u32,
+    count: u32,
+    bytes: &mut &[u8],
+) -> Result<Vec<Instruction>, FormError>
+    ensures { Reads (more (λ before. instruction registers count) [] count bytes.old.now) (items_of result) bytes.new.now }
+{
+    let mut nodes = Vec::new(alloc);
+    for _ in 0..count {
+        let node = read_instruction(alloc, registers, count, bytes)?;
+        nodes.push(node)?;
+    }
+    Ok(nodes)
+}
+
+/// The entry and the nodes.
+#[tactic(auto, unfolding(crate::specs::Reading::graph))]
+fn read_graph(
+    alloc: Global,
+    registers: u16,
+    bytes: &mut &[u8],
+) -> Result<(u16, Row<Instruction>), FormError>
+    ensures { Reads (graph registers bytes.old.now) result bytes.new.now }
+{
+    let (entry, count) = read_ends(bytes)?;
+    let nodes = read_nodes(alloc, u32::from(registers), u32::from(count), bytes)?;
+    Ok((entry, Row::from_vec(nodes)))
+}
+
+/// The parameters, the number of registers, and the graph.
+#[tactic(auto, unfolding(crate::specs::Reading::parts))]
+fn read_parts(
+    alloc: Global,
+    bytes: &mut &[u8],
+) -> Result<((Row<Register>, u16), (u16, Row<Instruction>)), FormError>
+    ensures { Reads (parts bytes.old.now) result bytes.new.now }
+{
+    let frame = read_frame(alloc, bytes)?;
+    let graph = read_graph(alloc, frame.1, bytes)?;
+    Ok((frame, graph))
+}
+
+/// Each number of a slice of bytes is a byte.
+fn are_bytes(bytes: &[u8])
+    ensures { (i : ℕ) → slice_index bytes.now i < 256 }
+{}
+
+/// A function, its tag first.
+#[tactic(auto, unfolding(crate::specs::Reading::function))]
+pub fn read_function(alloc: Global, bytes: &mut &[u8]) -> Result<Function, FormError>
+    ensures { Reads (function bytes.old.now) result bytes.new.now }
+{
+    are_bytes(bytes);
+    if read_byte(bytes)? != 2 {
+        return Err(FormError::BadTag);
+    }
+    let ((parameters, registers), (entry, nodes)) = read_parts(alloc, bytes)?;
+    Ok(Function::new(parameters, registers, entry, nodes))
+}

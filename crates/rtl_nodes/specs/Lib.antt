@@ -1,5 +1,0 @@
-pub mod Seen
-pub mod Events
-pub mod Runs
-pub mod Ready
-pub use Rattle.rtl.specs.Meaning

@@ -1,9 +1,0 @@
-use Rattle.std.proofs.Common.{◌≡◌, ◌+◌, drop, map}
-use Rattle.machine.specs.Frames.{main_number}
-use Rattle.rtl.specs.Meaning.{takes_none}
-use Rattle.program_data.specs.Seen.{named_seen}
-use Rattle.rtl_run.proofs.starting.find_main.Given as goal
-
-abbrev pub invariant-loop-number : goal.invariant-loop-number
-invariant-loop-number l =
-    l.number + main_number takes_none (map named_seen (drop l.number l.functions)) ≡ main_number takes_none (map named_seen l.functions)

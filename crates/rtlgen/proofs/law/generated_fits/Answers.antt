@@ -1,0 +1,5 @@
+use Rattle.rtlgen.proofs.FunctionsFit.{generated_fits}
+use Rattle.rtlgen.proofs.law.generated_fits.Goals as goal
+
+pub returns : goal.returns
+returns c = generated_fits

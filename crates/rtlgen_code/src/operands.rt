@@ -1,0 +1,59 @@
+//! Arguments, whose values go to their places, one temporary behind the other.
+
+ghost use Rattle.std.specs.Prelude.{◌≡◌, ◌+◌, ◌<◌, ◌++◌, IfOk, OnOk, map};
+ghost use Rattle.cminor_syntax.specs.Views.{expression_tree};
+ghost use Rattle.rtlgen_definition.specs.Gen.{operands, operands_need, places};
+ghost use Rattle.rtlgen_code.specs.Adding.{Adds};
+
+use crate::expressions::{add_operand, place};
+use crate::graph::Graph;
+use cminor_syntax::Expression;
+use lang_base::NoMemory;
+use std::alloc::Global;
+
+/// The registers where arguments stand, from this temporary on. It calls itself once for each argument.
+fn push_places(
+    registers: &mut Vec<u16>,
+    arguments: &[Expression],
+    temporary: u16,
+) -> Result<(), NoMemory>
+    requires { temporary + operands_need (map expression_tree arguments.now) < 65536 }
+    ensures { OnOk result (registers.new.items ≡ registers.old.items ++ places (map expression_tree arguments.now) temporary) }
+{
+    match arguments {
+        [] => Ok(()),
+        [first, rest @ ..] => {
+            registers.push(place(first, temporary))?;
+            push_places(registers, rest, temporary + 1)
+        }
+    }
+}
+
+/// The registers where arguments stand, from this temporary on.
+pub fn places(alloc: Global, arguments: &[Expression], temporary: u16) -> Result<Vec<u16>, NoMemory>
+    requires { temporary + operands_need (map expression_tree arguments.now) < 65536 }
+    ensures { IfOk result (λ registers. registers.items ≡ places (map expression_tree arguments.now) temporary) }
+{
+    let mut registers = Vec::new(alloc);
+    push_places(&mut registers, arguments, temporary)?;
+    Ok(registers)
+}
+
+/// The operands, of which the last is added first. It calls itself once for each argument.
+pub fn add_operands(
+    graph: &mut Graph,
+    arguments: &[Expression],
+    temporary: u16,
+    next: u16,
+) -> Result<u16, NoMemory>
+    requires { temporary + operands_need (map expression_tree arguments.now) < 65536 }
+    ensures { IfOk result (λ entry. Adds (operands (map expression_tree arguments.now) temporary) next graph.old graph.new entry) }
+{
+    match arguments {
+        [] => Ok(next),
+        [first, rest @ ..] => {
+            let behind = add_operands(graph, rest, temporary + 1, next)?;
+            add_operand(graph, first, temporary, behind)
+        }
+    }
+}

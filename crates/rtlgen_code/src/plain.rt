@@ -1,0 +1,105 @@
+//! Statements that hold no statement.
+
+ghost use Rattle.std.specs.Prelude.{◌≡◌, ◌+◌, ◌<◌, [], IfOk, map};
+ghost use Rattle.cminor_syntax.specs.Trees as T;
+ghost use Rattle.cminor_syntax.specs.Views.{expression_tree, optional_tree};
+ghost use Rattle.rtlgen_definition.specs.Gen.{statement, statement_needs};
+ghost use Rattle.rtlgen_code.specs.Adding.{Adds};
+
+use crate::{Graph, add_act, add_operand, add_operands, place, places};
+use cminor_syntax::Expression;
+use lang_base::{NoMemory, Row};
+use rtl_language::Instruction;
+use rtl_parts::Act;
+use std::alloc::Global;
+
+/// A word that a cell of a global becomes.
+pub(crate) fn add_store(
+    graph: &mut Graph,
+    global: u16,
+    index: &Expression,
+    word: &Expression,
+    temporary: u16,
+    next: u16,
+) -> Result<u16, NoMemory>
+    requires { temporary + statement_needs (T.Store global (expression_tree index.now) (expression_tree word.now)) < 65536 }
+    ensures { IfOk result (λ entry. Adds (statement (T.Store global (expression_tree index.now) (expression_tree word.now)) temporary []) next graph.old graph.new entry) }
+{
+    let last = add_act(
+        graph,
+        Act::Store {
+            global,
+            index: place(index, temporary),
+            source: place(word, temporary + 1),
+        },
+        next,
+    )?;
+    let second = add_operand(graph, word, temporary + 1, last)?;
+    add_operand(graph, index, temporary, second)
+}
+
+/// A call on arguments, which gives its word to a variable, if one is named.
+pub(crate) fn add_call(
+    alloc: Global,
+    graph: &mut Graph,
+    function: u8,
+    target: Option<u16>,
+    arguments: &[Expression],
+    temporary: u16,
+    next: u16,
+) -> Result<u16, NoMemory>
+    requires { temporary + statement_needs (T.Call function target (map expression_tree arguments.now)) < 65536 }
+    ensures { IfOk result (λ entry. Adds (statement (T.Call function target (map expression_tree arguments.now)) temporary []) next graph.old graph.new entry) }
+{
+    let registers = places(alloc, arguments, temporary)?;
+    let last = graph.add(Instruction::Call {
+        function,
+        arguments: Row::from_vec(registers),
+        target,
+        successor: next,
+    })?;
+    add_operands(graph, arguments, temporary, last)
+}
+
+/// The printing of a word's low eight bits, which a variable gets, if one is named.
+pub(crate) fn add_put(
+    graph: &mut Graph,
+    target: Option<u16>,
+    word: &Expression,
+    temporary: u16,
+    next: u16,
+) -> Result<u16, NoMemory>
+    requires { temporary + statement_needs (T.Put target (expression_tree word.now)) < 65536 }
+    ensures { IfOk result (λ entry. Adds (statement (T.Put target (expression_tree word.now)) temporary []) next graph.old graph.new entry) }
+{
+    let last = add_act(
+        graph,
+        Act::Put {
+            source: place(word, temporary),
+            target,
+        },
+        next,
+    )?;
+    add_operand(graph, word, temporary, last)
+}
+
+/// The end of a function, with a word where there is one.
+pub(crate) fn add_return(
+    graph: &mut Graph,
+    value: &Option<Expression>,
+    temporary: u16,
+    next: u16,
+) -> Result<u16, NoMemory>
+    requires { temporary + statement_needs (T.Return (optional_tree expression_tree value.now)) < 65536 }
+    ensures { IfOk result (λ entry. Adds (statement (T.Return (optional_tree expression_tree value.now)) temporary []) next graph.old graph.new entry) }
+{
+    match value {
+        None => graph.add(Instruction::Return { value: None }),
+        Some(value) => {
+            let last = graph.add(Instruction::Return {
+                value: Some(place(value, temporary)),
+            })?;
+            add_operand(graph, value, temporary, last)
+        }
+    }
+}

@@ -1,3 +1,0 @@
-pub mod Numbers
-pub mod Written
-pub use Rattle.lang.specs.Behaviour
