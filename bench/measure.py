@@ -14,9 +14,9 @@ ROOT = os.path.dirname(os.path.dirname(os.path.realpath(__file__)))
 PLAN = os.path.join(ROOT, "crates.txt")
 PATCH = os.path.join(ROOT, "bench", "measure.patch")
 LINE = (
-    "measure may_wait=5: chains c_checker cminor_lowering rtlgen c_reader c_lexer cminor rtl rtl_run run_output programs"
-    " linear linear_run oracle_const constprop_check oracle_cse oracle_alloc oracle_order offers parallel_validate lang"
-    " anyhow rand_pcg rand_core\n"
+    "measure may_wait=5: chains c_checker cminor rtlgen c_reader c_lexer cminor_language rtl_language rtl lang_programs"
+    " lang linear_language linear oracle_const constprop_check oracle_cse oracle_alloc oracle_order offers"
+    " parallel_validate lang_base anyhow rand_pcg rand_core\n"
 )
 
 
