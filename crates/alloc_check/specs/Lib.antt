@@ -1,5 +1,5 @@
 pub mod Slots
 pub mod PassLaws
 pub use Rattle.alloc_check_rules.specs.Rules
-pub use Rattle.alloc_check_codec.specs.Text
+pub use Rattle.alloc_check_laws.specs.Text
 pub use Rattle.rtl_passes.specs.Faults

@@ -12,9 +12,9 @@ use Rattle.ltl.specs.Meaning.{run}
 use Rattle.rtl_passes.specs.ListForm.{ListFits}
 use Rattle.alloc_check_rules.specs.declared.equation.Equation.{Equation}
 use Rattle.alloc_check_rules.specs.Rules.{EquationFits, IsInOrder, IsAllocated}
-use Rattle.alloc_check_proof.proofs.Sound.{sound}
-use Rattle.alloc_check_codec.specs.Text.{CertFits, cert_text}
-use Rattle.alloc_check_codec.proofs.Forms.{equations_form}
+use Rattle.alloc_check_laws.proofs.Sound.{sound}
+use Rattle.alloc_check_laws.specs.Text.{CertFits, cert_text}
+use Rattle.alloc_check_laws.proofs.Forms.{equations_form}
 
 -- what is accepted keeps the meaning
 pub sound_law : (p : ProgramOf rtl.FunctionData) (q : ProgramOf ltl.FunctionData) → AllFit rtl.IsFunction p → AllFit ltl.IsFunction q → Accepted IsAllocated p q → Keeps (rtl_meaning.run p) (run q)

@@ -5,9 +5,9 @@ ghost use Rattle.alloc_check.specs.Slots.{function_in};
 use crate::every::everywhere;
 use crate::function::function_in;
 use crate::live::live_lists;
-use crate::owned::beside;
 use alloc_check_verdict::{EquationLists, check};
 use lang_base::{NoMemory, PassError};
+use owned::beside;
 use std::alloc::Global;
 
 /// The equations of the registers that are live; were these not accepted, those of every register.

@@ -9,7 +9,6 @@ mod every;
 mod function;
 mod live;
 mod nodes;
-mod owned;
 mod pass;
 
 pub use alloc_check_verdict::{Equation, EquationLists, Fault, check, equations_of, why};

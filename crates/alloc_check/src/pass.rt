@@ -1,5 +1,5 @@
 use crate::baseline;
-use alloc_check_codec::{push_lists, read_lists};
+use alloc_check_laws::{push_lists, read_lists};
 use alloc_check_verdict::{EquationLists, check};
 use lang_base::{FormError, NoMemory, Pass, PassError, Row};
 use ltl::Ltl;
@@ -12,7 +12,7 @@ pub struct Alloc;
 impl Pass for Alloc {
     ghost use Rattle.std.specs.Prelude.{◌≡◌, ◌≢◌, ◌≤◌, ℕ, List, ◌++◌, length, take, IsTrue, ◌↔◌, OnOk, OnErr, IfOk, IfErr};
     ghost use Rattle.alloc_check_rules.specs.Rules.{IsTooLarge, IsAllocated};
-    ghost use Rattle.alloc_check_codec.specs.Text.{CertFits, cert_text};
+    ghost use Rattle.alloc_check_laws.specs.Text.{CertFits, cert_text};
     ghost use Rattle.alloc_check.specs.PassLaws.{allocated_fits, one_cert, sound_law};
 
     type In = Rtl;

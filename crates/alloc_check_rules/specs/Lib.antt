@@ -3,4 +3,5 @@ pub mod Pairs
 pub mod Rules
 pub mod Holding
 pub mod Steps
+pub mod Laws
 pub use Rattle.rtl_passes.specs.Faults

@@ -5,7 +5,6 @@
 mod here;
 mod locals;
 mod loops;
-mod owned;
 mod parts;
 mod statements;
 

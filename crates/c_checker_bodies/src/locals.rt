@@ -5,10 +5,10 @@ ghost use Rattle.c_checker_rules.specs.Told.{Tells};
 ghost use Rattle.c_checker_rules.specs.Locals as L;
 
 use crate::here::Here;
-use crate::owned::ok;
 use c_checker_rules::{CheckError, Meaning};
 use c_checker_terms::{is_new, is_short};
 use c_syntax::{Identifier, IntegerType};
+use owned::ok;
 
 /// The most locals of a function, parameters among them.
 const MOST_LOCALS: usize = 256;

@@ -10,13 +10,13 @@ ghost use Rattle.c_checker_rules.specs.Actions as A;
 ghost use Rattle.c_checker_bodies.specs.Loops.{turns_faults, heads_faults};
 
 use crate::here::Here;
-use crate::owned::{beside, boxes, ok};
 use crate::parts::{check_condition, check_start, check_step, two};
 use c_checker_rules::{CheckError, Meaning};
 use c_checker_scopes::Scopes;
 use c_program::{Action, Term};
 use c_syntax::{Expression, ForStart, Set};
 use lang_base::NoMemory;
+use owned::{beside, boxes, ok};
 use std::alloc::Global;
 
 /// What stands in a `for` before its body: how it begins, its condition, and what is done behind each turn.

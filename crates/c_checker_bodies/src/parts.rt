@@ -17,7 +17,6 @@ ghost use Rattle.c_program.specs.declared.action.Target.TheVariants.{Nowhere};
 
 use crate::here::Here;
 use crate::locals::declare_local;
-use crate::owned::{beside, ok, pair};
 use c_checker_rules::{CheckError, Meaning};
 use c_checker_scopes::Scopes;
 use c_checker_terms::{
@@ -26,6 +25,7 @@ use c_checker_terms::{
 use c_program::{Action, Target, Term, Value};
 use c_syntax::{Call, Expression, ForStart, Identifier, Local, Place, ReturnType, Set};
 use lang_base::NoMemory;
+use owned::{beside, ok, pair};
 use std::alloc::Global;
 
 /// One action and then another.

@@ -13,7 +13,6 @@ ghost use Rattle.c_checker_bodies.specs.Loops.{for_faults, for_action};
 
 use crate::here::Here;
 use crate::loops::check_heads;
-use crate::owned::{beside, ok};
 use crate::parts::{
     check_assignment, check_call_alone, check_declaration, check_return, check_store, in_loop,
 };
@@ -21,6 +20,7 @@ use c_checker_rules::{CheckError, Place};
 use c_checker_terms::{Functions, check_expression};
 use c_program::Action;
 use c_syntax::{Expression, ForHead, ForStart, Set, Statement};
+use owned::{beside, ok};
 use std::alloc::Global;
 
 /// In a block of this place.

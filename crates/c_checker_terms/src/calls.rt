@@ -14,12 +14,12 @@ ghost use Rattle.c_checker_rules.specs.Calls as C;
 use crate::expressions::check_expression;
 use crate::functions::Functions;
 use crate::names::meaning_of;
-use crate::owned::ok;
 use c_checker_rules::{CheckError, Meaning};
 use c_checker_scopes::Scopes;
 use c_program::{Called, Term, Value};
 use c_syntax::{Call, Expression, Identifier, ReturnType};
 use lang_base::Row;
+use owned::ok;
 use std::alloc::Global;
 
 /// Whether a name is `putchar` (C99 7.19.7.9).

@@ -7,7 +7,6 @@ mod constants;
 mod expressions;
 mod functions;
 mod names;
-mod owned;
 mod parts;
 mod typed;
 

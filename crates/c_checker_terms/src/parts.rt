@@ -4,12 +4,12 @@
 ghost use Rattle.c_checker_terms.specs.Checked.{ChecksElement, ChecksCast, ChecksUnary, ChecksBinary, ChecksConditional};
 
 use crate::names::array;
-use crate::owned::{both, ok};
 use crate::typed::{Typed, binary, conditional, unary};
 use c_checker_rules::{CheckError, Meaning};
 use c_checker_scopes::Scopes;
 use c_program::Term;
 use c_syntax::{BinaryOperator, Identifier, IntegerType, UnaryOperator};
+use owned::{both, ok};
 use std::alloc::Global;
 
 /// A cell of an array. A fault of the name comes before one of the index.

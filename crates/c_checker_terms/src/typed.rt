@@ -6,11 +6,11 @@ ghost use Rattle.c_program.specs.Views.{term_tree};
 ghost use Rattle.c_checker_rules.specs.Types.{common, unary_type, binary_type};
 ghost use Rattle.c_checker_rules.specs.Terms.{by_type, unary_term, binary_term};
 
-use crate::owned::{beside, boxes, ok};
 use c_program::Term;
 use c_syntax::{BinaryOperator, IntegerType, UnaryOperator};
 use ints::Op;
 use lang_base::NoMemory;
+use owned::{beside, boxes, ok};
 use std::alloc::Global;
 
 /// A term, and the type of the expression that it stands for.

@@ -10,7 +10,8 @@ use Rattle.c_reader_tokens.specs.declared.fault.Fault.TheVariants as F
 use Rattle.c_reader_statement_laws.specs.Reading.{block_in, statement_at}
 use Rattle.c_reader_statement_laws.proofs.Body.{block_takes, block_again, block_stays}
 use Rattle.c_reader_declaration_laws.specs.Reading.{declarations}
-use Rattle.c_reader_productions.proofs.Combining.{IsReader, Any, Keeps}
+use Rattle.c_reader_productions.proofs.Combining.{IsReader}
+use Rattle.c_reader_productions.proofs.Laws.{Any, Keeps}
 use Rattle.c_reader_declaration_laws.proofs.Declaring.{IsBody, FitsBlock}
 use Rattle.c_reader_declaration_laws.proofs.Laws.{declarations_takes, declarations_again, declarations_low, low_declarations}
 use Rattle.c_reader_declaration_laws.proofs.Refusing.{low_refused, all_refused}
@@ -19,16 +20,16 @@ use Rattle.c_reader.specs.declared.errors.ReadError.TheVariants as E
 use Rattle.c_reader.specs.Telling.{Tells}
 use Rattle.c_reader.specs.Refusing.{Refuses}
 
-block_law : (room : ℕ) → IsReader (block_in (statement_at room)) (FitsBlock room) IsBody Any Any
-block_law room = record {
+block_law : (fuel : ℕ) → IsReader (block_in (statement_at fuel)) (FitsBlock fuel) IsBody Any Any
+block_law fuel = record {
   takes = λ ts s rest e.
-      let t = block_takes room ts s rest e in
+      let t = block_takes fuel ts s rest e in
       record { fits = t.fits; leaves = tt; front = t.front; spelled = t.spelled; parts = t.parts };
-  again = λ s xs rest fits p end. block_again room s xs rest fits p;
+  again = λ s xs rest fits p end. block_again fuel s xs rest fits p;
 }
 
-block_keeps : (room more : ℕ) → room ≤ more → Keeps (block_in (statement_at room)) (block_in (statement_at more))
-block_keeps room more le ts = block_stays room more ts le
+block_keeps : (fuel more : ℕ) → fuel ≤ more → Keeps (block_in (statement_at fuel)) (block_in (statement_at more))
+block_keeps fuel more le ts = block_stays fuel more ts le
 
 pub spelled_read : (ts : List Token) (ds : List DeclarationTree) (rest : List Token) → declarations highest ts ≡ Ok (ds, rest) → AreDeclarations ds ts
 spelled_read ts ds rest e = (declarations_takes block_law highest ts ds rest e).0

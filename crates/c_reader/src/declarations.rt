@@ -8,7 +8,6 @@ ghost use Rattle.c_reader_declaration_laws.specs.Reading.{body, function, headed
 
 use crate::globals::{HIGHEST, read_global};
 use crate::misread::Misread;
-use crate::owned::{beside, ok};
 use crate::parameters::{all_named, read_heading};
 use c_reader_statements::read_block;
 use c_reader_tokens::{
@@ -16,6 +15,7 @@ use c_reader_tokens::{
 };
 use c_syntax::{Declaration, Function, Keyword, Prototype, Punctuator, Statement, Token};
 use lang_base::Row;
+use owned::{beside, ok};
 use std::alloc::Global;
 
 /// A body is as high as the block that it is.

@@ -6,7 +6,6 @@ mod declarations;
 mod errors;
 mod globals;
 mod misread;
-mod owned;
 mod parameters;
 mod reading;
 

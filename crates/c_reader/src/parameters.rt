@@ -8,7 +8,6 @@ ghost use Rattle.c_reader_declaration_laws.specs.Parameters.{named, all_named};
 ghost use Rattle.c_reader_declaration_laws.specs.Reading.{open_parameter, open_parameters, return_type, heading};
 
 use crate::globals::read_here;
-use crate::owned::{beside, ok};
 use c_reader_tokens::{
     Fault, is_name_next, is_sign_next, is_word_next, read_name, read_sign, read_type, read_word,
 };
@@ -16,6 +15,7 @@ use c_syntax::{
     Identifier, Keyword, OpenParameter, Parameter, Prototype, Punctuator, ReturnType, Token,
 };
 use lang_base::Row;
+use owned::{beside, ok};
 use std::alloc::Global;
 
 fn read_open_name(alloc: Global, tokens: &[Token]) -> Result<(Option<Identifier>, &[Token]), Fault>

@@ -1,4 +1,4 @@
--- What declarations are read from, and whatever spells some is read; and what more room changes.
+-- What declarations are read from, and whatever spells some is read; and what more fuel changes.
 use Rattle.std.proofs.Common.{◌≡◌, ℕ, suc, ◌≤◌, true, false, List, [], ◌∷◌, ◌++◌, map, Option, Some, None, Ok, refl, sym, ap, subst, ◌∙◌, append_assoc, arith}
 use Rattle.c_syntax.specs.declared.keyword.Keyword.TheVariants as K
 use Rattle.c_syntax.specs.declared.punctuator.Punctuator.TheVariants.{LeftParenthesis, RightParenthesis, LeftBrace, RightBrace, LeftBracket, Semicolon, Assign}
@@ -19,7 +19,9 @@ use Rattle.c_reader_tokens.specs.Tokens.{sign, integer_type}
 use Rattle.c_reader_tokens.proofs.Tokens.{is_sign_next-again, is_word_next-again, integer_type_again}
 use Rattle.c_reader_productions.specs.Combining.{◌▷◌, made}
 use Rattle.c_reader_statement_laws.specs.Reading.{block_in, statement_at}
-use Rattle.c_reader_productions.proofs.Combining.{IsReader, IsTaken, Any, after, made_takes, made_again, either_takes, either_first, either_second, bind_ok, bind_is, under_law}
+use Rattle.c_reader_productions.proofs.Combining.{IsReader, after, made_takes, made_again, under_law}
+use Rattle.c_reader_tokens.proofs.Laws.{bind_ok}
+use Rattle.c_reader_productions.proofs.Laws.{IsTaken, Any, either_takes, either_first, either_second, bind_is}
 use Rattle.c_reader_declaration_laws.specs.Parameters.{all_named}
 use Rattle.c_reader_declaration_laws.specs.Reading.{heading, body, function, headed, callable, is_callable_next, global, declaration}
 use Rattle.c_reader_productions.proofs.Readers.{sign_mark, begun, other_sign, name_no_word, type_no_void}
@@ -45,15 +47,15 @@ abbrev pub IsBody : StatementsTree → List Token → Type 0
 IsBody s = Sign LeftBrace ⨾ AreStatements s ⨾ Sign RightBrace
 
 abbrev pub FitsBody : ℕ → StatementsTree → Type 0
-FitsBody room s = suc (statements_height s) ≤ room
+FitsBody fuel s = suc (statements_height s) ≤ fuel
 
 abbrev pub FitsBlock : ℕ → StatementsTree → Type 0
-FitsBlock room s = statements_height s ≤ room
+FitsBlock fuel s = statements_height s ≤ fuel
 
 abbrev pub FitsDeclaration : ℕ → DeclarationTree → Type 0
-FitsDeclaration room (T.Global g) = FitsGlobal room g
-FitsDeclaration room (T.Function f) = FitsBody room f.body
-FitsDeclaration room (T.Prototype' p) = Unit {0}
+FitsDeclaration fuel (T.Global g) = FitsGlobal fuel g
+FitsDeclaration fuel (T.Function f) = FitsBody fuel f.body
+FitsDeclaration fuel (T.Prototype' p) = Unit {0}
 
 -- what stands behind a heading
 abbrev pub IsBehind : Prototype → DeclarationTree → List Token → Type 0
@@ -70,32 +72,32 @@ open_prototype p = sign Semicolon ▷ (λ rest. Ok (T.Prototype' p, rest))
 
 -- what may follow a block is not asked where only what was read counts
 module _ {E : StatementsTree → List Token → Type 0} (block_law : (r : ℕ) → IsReader (block_in (statement_at r)) (FitsBlock r) IsBody Any E) where
-  pub body_law : (room : ℕ) → IsReader (body room) (FitsBody room) IsBody Any E
+  pub body_law : (fuel : ℕ) → IsReader (body fuel) (FitsBody fuel) IsBody Any E
   unfolding body
-  body_law room = under_law FitsBody block_law (λ r s f. omega arith) (λ r s f. omega arith) (λ s f. omega arith) room
+  body_law fuel = under_law FitsBody block_law (λ r s f. omega arith) (λ r s f. omega arith) (λ s f. omega arith) fuel
 
-  function_takes : (room : ℕ) (p : Prototype) (o : Option (List Parameter)) → all_named p.parameters ≡ o → (ts : List Token) (d : DeclarationTree) (rest : List Token) → function room p o ts ≡ Ok (d, rest) → IsTaken (FitsDeclaration room) (IsBehind p) Any ts d rest
-  function_takes room p None n ts d rest e = absurd (no_value ts d rest e)
-  function_takes room p (Some named) n ts d rest e =
-      made_takes (λ s. T.Function (record { result = p.result; name = p.name; parameters = named; body = s })) (body_law room) {G = FitsDeclaration room} {Q = IsBehind p} {M = Any} (λ s f. f) (λ s xs b. (refl, refl, n, b)) (λ s rest l. tt) ts d rest e
+  function_takes : (fuel : ℕ) (p : Prototype) (o : Option (List Parameter)) → all_named p.parameters ≡ o → (ts : List Token) (d : DeclarationTree) (rest : List Token) → function fuel p o ts ≡ Ok (d, rest) → IsTaken (FitsDeclaration fuel) (IsBehind p) Any ts d rest
+  function_takes fuel p None n ts d rest e = absurd (no_value ts d rest e)
+  function_takes fuel p (Some named) n ts d rest e =
+      made_takes (λ s. T.Function (record { result = p.result; name = p.name; parameters = named; body = s })) (body_law fuel) {G = FitsDeclaration fuel} {Q = IsBehind p} {M = Any} (λ s f. f) (λ s xs b. (refl, refl, n, b)) (λ s rest l. tt) ts d rest e
 
   behind_prototype : (p : Prototype) (d : DeclarationTree) (xs : List Token) → d ≡ T.Prototype' p → (Sign Semicolon ⨾ Nothing) xs → IsBehind p d xs
   behind_prototype p d xs e s = subst (λ z. IsBehind p z xs) (sym e) (refl, alone xs s)
 
-  fits_prototype : (room : ℕ) (p : Prototype) (d : DeclarationTree) → d ≡ T.Prototype' p → FitsDeclaration room d
-  fits_prototype room p d e = subst (λ z. FitsDeclaration room z) (sym e) tt
+  fits_prototype : (fuel : ℕ) (p : Prototype) (d : DeclarationTree) → d ≡ T.Prototype' p → FitsDeclaration fuel d
+  fits_prototype fuel p d e = subst (λ z. FitsDeclaration fuel z) (sym e) tt
 
-  prototype_takes : (room : ℕ) (p : Prototype) (ts : List Token) (d : DeclarationTree) (rest : List Token) → open_prototype p ts ≡ Ok (d, rest) → IsTaken (FitsDeclaration room) (IsBehind p) Any ts d rest
-  prototype_takes room p ts d rest e =
+  prototype_takes : (fuel : ℕ) (p : Prototype) (ts : List Token) (d : DeclarationTree) (rest : List Token) → open_prototype p ts ≡ Ok (d, rest) → IsTaken (FitsDeclaration fuel) (IsBehind p) Any ts d rest
+  prototype_takes fuel p ts d rest e =
       let t = (after (sign_mark Semicolon) (nothing_law (T.Prototype' p))).takes ts d rest e in
-      record { fits = fits_prototype room p d t.fits; leaves = tt; front = t.front; spelled = behind_prototype p d t.front t.fits t.spelled; parts = t.parts }
+      record { fits = fits_prototype fuel p d t.fits; leaves = tt; front = t.front; spelled = behind_prototype p d t.front t.fits t.spelled; parts = t.parts }
 
-  headed_takes : (room : ℕ) (p : Prototype) (ts : List Token) (d : DeclarationTree) (rest : List Token) → headed room p ts ≡ Ok (d, rest) → IsTaken (FitsDeclaration room) (IsBehind p) Any ts d rest
+  headed_takes : (fuel : ℕ) (p : Prototype) (ts : List Token) (d : DeclarationTree) (rest : List Token) → headed fuel p ts ≡ Ok (d, rest) → IsTaken (FitsDeclaration fuel) (IsBehind p) Any ts d rest
   unfolding headed
-  headed_takes room p =
-      either_takes (is_sign_next LeftBrace) (function room p (all_named p.parameters)) (open_prototype p)
-      (λ ts d rest h e. function_takes room p (all_named p.parameters) refl ts d rest e)
-      (λ ts d rest h e. prototype_takes room p ts d rest e)
+  headed_takes fuel p =
+      either_takes (is_sign_next LeftBrace) (function fuel p (all_named p.parameters)) (open_prototype p)
+      (λ ts d rest h e. function_takes fuel p (all_named p.parameters) refl ts d rest e)
+      (λ ts d rest h e. prototype_takes fuel p ts d rest e)
 
   -- a heading and what stands behind it
   whole : (p : Prototype) (d : DeclarationTree) (us vs : List Token) → IsHeading p us → IsBehind p d vs → IsDeclaration d (us ++ vs)
@@ -108,12 +110,12 @@ module _ {E : StatementsTree → List Token → Type 0} (block_law : (r : ℕ) �
       subst (λ (z : Prototype). IsDeclaration (T.Prototype' z) (us ++ vs)) b.0
       (extend vs (extend vs (extend vs (extend vs (λ zs e. (zs, vs, e, b.1, refl))))) us h)
 
-  callable_takes : (room : ℕ) (ts : List Token) (d : DeclarationTree) (rest : List Token) → callable room ts ≡ Ok (d, rest) → IsTaken (FitsDeclaration room) IsDeclaration Any ts d rest
+  callable_takes : (fuel : ℕ) (ts : List Token) (d : DeclarationTree) (rest : List Token) → callable fuel ts ≡ Ok (d, rest) → IsTaken (FitsDeclaration fuel) IsDeclaration Any ts d rest
   unfolding callable
-  callable_takes room ts d rest e =
-      let b = bind_ok (heading ts) (λ h. headed room h.0 h.1) (d, rest) e in
+  callable_takes fuel ts d rest e =
+      let b = bind_ok (heading ts) (λ h. headed fuel h.0 h.1) (d, rest) e in
       let t = heading_law.takes ts b.0.0 b.0.1 b.1 in
-      let u = headed_takes room b.0.0 b.0.1 d rest b.2 in
+      let u = headed_takes fuel b.0.0 b.0.1 d rest b.2 in
       record {
         fits = u.fits;
         leaves = tt;
@@ -122,41 +124,41 @@ module _ {E : StatementsTree → List Token → Type 0} (block_law : (r : ℕ) �
         parts = t.parts ∙ ap (λ (l : List Token). t.front ++ l) u.parts ∙ sym (append_assoc t.front u.front rest);
       }
 
-  pub declaration_takes : (room : ℕ) (ts : List Token) (d : DeclarationTree) (rest : List Token) → declaration room ts ≡ Ok (d, rest) → IsTaken (FitsDeclaration room) IsDeclaration Any ts d rest
+  pub declaration_takes : (fuel : ℕ) (ts : List Token) (d : DeclarationTree) (rest : List Token) → declaration fuel ts ≡ Ok (d, rest) → IsTaken (FitsDeclaration fuel) IsDeclaration Any ts d rest
   unfolding declaration
-  declaration_takes room =
-      either_takes is_callable_next (callable room) (made (λ g. T.Global g) (global room))
-      (λ ts d rest h e. callable_takes room ts d rest e)
-      (λ ts d rest h e. made_takes (λ g. T.Global g) (global_law room) {G = FitsDeclaration room} {Q = IsDeclaration} {M = Any} (λ g f. f) (λ g xs s. s) (λ g rest l. tt) ts d rest e)
+  declaration_takes fuel =
+      either_takes is_callable_next (callable fuel) (made (λ g. T.Global g) (global fuel))
+      (λ ts d rest h e. callable_takes fuel ts d rest e)
+      (λ ts d rest h e. made_takes (λ g. T.Global g) (global_law fuel) {G = FitsDeclaration fuel} {Q = IsDeclaration} {M = Any} (λ g f. f) (λ g xs s. s) (λ g rest l. tt) ts d rest e)
 
 -- ---- whatever is spelled is read
 
 module _ (block_law : (r : ℕ) → IsReader (block_in (statement_at r)) (FitsBlock r) IsBody Any Any) where
-  function_again : (room : ℕ) (p : Prototype) (f : FunctionTree) (xs rest : List Token) → FitsBody room f.body → IsBehind p (T.Function f) xs → function room p (all_named p.parameters) (xs ++ rest) ≡ Ok (T.Function f, rest)
-  function_again room p f xs rest fits b =
-      ap (λ o. function room p o (xs ++ rest)) b.2
-      ∙ made_again (λ s. T.Function (record { result = p.result; name = p.name; parameters = f.parameters; body = s })) (body_law block_law room) f.body xs rest fits b.3 tt
+  function_again : (fuel : ℕ) (p : Prototype) (f : FunctionTree) (xs rest : List Token) → FitsBody fuel f.body → IsBehind p (T.Function f) xs → function fuel p (all_named p.parameters) (xs ++ rest) ≡ Ok (T.Function f, rest)
+  function_again fuel p f xs rest fits b =
+      ap (λ o. function fuel p o (xs ++ rest)) b.2
+      ∙ made_again (λ s. T.Function (record { result = p.result; name = p.name; parameters = f.parameters; body = s })) (body_law block_law fuel) f.body xs rest fits b.3 tt
       ∙ ap (λ r. Ok (T.Function (record { result = r; name = p.name; parameters = f.parameters; body = f.body }), rest)) b.0
       ∙ ap (λ x. Ok (T.Function (record { result = f.result; name = x; parameters = f.parameters; body = f.body }), rest)) b.1
 
-  headed_again : (room : ℕ) (p : Prototype) (d : DeclarationTree) (xs rest : List Token) → FitsDeclaration room d → IsBehind p d xs → headed room p (xs ++ rest) ≡ Ok (d, rest)
+  headed_again : (fuel : ℕ) (p : Prototype) (d : DeclarationTree) (xs rest : List Token) → FitsDeclaration fuel d → IsBehind p d xs → headed fuel p (xs ++ rest) ≡ Ok (d, rest)
   unfolding headed
-  headed_again room p (T.Global g) xs rest fits b = absurd b
-  headed_again room p (T.Function f) xs rest fits b =
-      either_first (is_sign_next LeftBrace) (function room p (all_named p.parameters)) (open_prototype p) (xs ++ rest) (begun (λ l. is_sign_next LeftBrace l ≡ true) (is_sign_next-again LeftBrace) xs rest b.3)
-      ∙ function_again room p f xs rest fits b
-  headed_again room p (T.Prototype' q) xs rest fits b =
-      either_second (is_sign_next LeftBrace) (function room p (all_named p.parameters)) (open_prototype p) (xs ++ rest) (other_sign Semicolon LeftBrace refl xs rest b.1)
+  headed_again fuel p (T.Global g) xs rest fits b = absurd b
+  headed_again fuel p (T.Function f) xs rest fits b =
+      either_first (is_sign_next LeftBrace) (function fuel p (all_named p.parameters)) (open_prototype p) (xs ++ rest) (begun (λ l. is_sign_next LeftBrace l ≡ true) (is_sign_next-again LeftBrace) xs rest b.3)
+      ∙ function_again fuel p f xs rest fits b
+  headed_again fuel p (T.Prototype' q) xs rest fits b =
+      either_second (is_sign_next LeftBrace) (function fuel p (all_named p.parameters)) (open_prototype p) (xs ++ rest) (other_sign Semicolon LeftBrace refl xs rest b.1)
       ∙ (after (sign_mark Semicolon) (nothing_law (T.Prototype' p))).again (T.Prototype' p) xs rest refl (with_nothing xs b.1) tt
       ∙ ap (λ z. Ok (T.Prototype' z, rest)) b.0
 
-  pub split_again : (room : ℕ) (p : Prototype) (d : DeclarationTree) (xs rest : List Token) → FitsDeclaration room d → (IsHeading p ⨾ IsBehind p d) xs → callable room (xs ++ rest) ≡ Ok (d, rest)
+  pub split_again : (fuel : ℕ) (p : Prototype) (d : DeclarationTree) (xs rest : List Token) → FitsDeclaration fuel d → (IsHeading p ⨾ IsBehind p d) xs → callable fuel (xs ++ rest) ≡ Ok (d, rest)
   unfolding callable
-  split_again room p d xs rest fits s =
+  split_again fuel p d xs rest fits s =
       let e : xs ++ rest ≡ s.0 ++ (s.1 ++ rest) = ap (λ (l : List Token). l ++ rest) s.4 ∙ append_assoc s.0 s.1 rest in
-      ap (callable room) e
-      ∙ bind_is (heading (s.0 ++ (s.1 ++ rest))) (λ h. headed room h.0 h.1) (p, s.1 ++ rest) (heading_law.again p s.0 (s.1 ++ rest) tt s.2 tt)
-      ∙ headed_again room p d s.1 rest fits s.3
+      ap (callable fuel) e
+      ∙ bind_is (heading (s.0 ++ (s.1 ++ rest))) (λ h. headed fuel h.0 h.1) (p, s.1 ++ rest) (heading_law.again p s.0 (s.1 ++ rest) tt s.2 tt)
+      ∙ headed_again fuel p d s.1 rest fits s.3
 
 -- the heading of a function, with names that it could do without
 abbrev pub function_heading : FunctionTree → Prototype

@@ -19,7 +19,9 @@ use Rattle.c_reader_tokens.specs.Peeking.{is_sign_next, is_word_next, is_name_ne
 use Rattle.c_reader_tokens.specs.Tokens.{word, integer_type, placed_name}
 use Rattle.c_reader_tokens.proofs.Tokens.{is_word_next-again}
 use Rattle.c_reader_productions.specs.Combining.{◌▷◌, ◌&◌, made, either, missing, there, commas}
-use Rattle.c_reader_productions.proofs.Combining.{IsReader, IsTaken, Any, Whatever, after, before, both, made_takes, made_again, either_takes, either_first, either_second, only, ok_is}
+use Rattle.c_reader_productions.proofs.Combining.{IsReader, after, before, both, made_takes, made_again, only}
+use Rattle.c_reader_tokens.proofs.Laws.{ok_is}
+use Rattle.c_reader_productions.proofs.Laws.{IsTaken, Any, Whatever, either_takes, either_first, either_second}
 use Rattle.c_reader_declaration_laws.specs.Parameters.{named_by, named, joined, all_named}
 use Rattle.c_reader_declaration_laws.specs.Reading.{open_parameter, open_parameters, return_type, heading}
 use Rattle.c_reader_declaration_laws.proofs.Repeating.{placed}

@@ -1,4 +1,4 @@
--- Declarations up to the end: what is read is spelled so, what is spelled so is read, and more room changes
+-- Declarations up to the end: what is read is spelled so, what is spelled so is read, and more fuel changes
 -- nothing but what was too high. The laws of blocks are taken as given here.
 use Rattle.std.proofs.Common.{◌≡◌, ℕ, ◌≤◌, true, List, [], ◌∷◌, ◌++◌, length, Option, Some, None, Ok, inr, refl, sym, ap, subst, ◌∙◌, append_assoc, append-nil, arith}
 use Rattle.std.specs.List.{AllByRecursion}
@@ -17,7 +17,8 @@ use Rattle.c_reader_tokens.specs.Reading.{Stays}
 use Rattle.c_reader_tokens.specs.Peeking.{is_sign_next}
 use Rattle.c_reader_productions.specs.Combining.{made, repeated}
 use Rattle.c_reader_statement_laws.specs.Reading.{block_in, statement_at}
-use Rattle.c_reader_productions.proofs.Combining.{IsReader, Any, made_again, either_first, either_second, Keeps, keeps_same, keeps_made, keeps_either, keeps_under, stays_bind}
+use Rattle.c_reader_productions.proofs.Combining.{IsReader, made_again}
+use Rattle.c_reader_productions.proofs.Laws.{Any, either_first, either_second, Keeps, keeps_same, keeps_made, keeps_either, keeps_under, stays_bind}
 use Rattle.c_reader_declaration_laws.specs.Reading.{heading, body, function, headed, callable, is_callable_next, global, declaration, is_next_there, declarations}
 use Rattle.c_reader_declaration_laws.specs.Parameters.{all_named}
 use Rattle.c_reader_declaration_laws.proofs.Repeating.{Many, Repeats, repeated_takes, repeated_again, keeps_each, repeated_whole}
@@ -54,39 +55,39 @@ abbrev pub Never : {A : Type 0} → A → List Token → Type 0
 Never x rest = ⊥
 
 module _ {E : StatementsTree → List Token → Type 0} (block_law : (r : ℕ) → IsReader (block_in (statement_at r)) (FitsBlock r) IsBody Any E) where
-  declaration_sound : (room : ℕ) → IsReader (declaration room) (FitsDeclaration room) IsDeclaration Any Never
-  declaration_sound room = record { takes = declaration_takes block_law room; again = λ d xs rest fits s end. absurd end }
+  declaration_sound : (fuel : ℕ) → IsReader (declaration fuel) (FitsDeclaration fuel) IsDeclaration Any Never
+  declaration_sound fuel = record { takes = declaration_takes block_law fuel; again = λ d xs rest fits s end. absurd end }
 
-  -- What is read is spelled so, up to the end, and fits the room.
-  pub declarations_takes : (room : ℕ) (ts : List Token) (ds : List DeclarationTree) (rest : List Token) → declarations room ts ≡ Ok (ds, rest) → AreDeclarations ds ts × AllByRecursion (FitsDeclaration room) ds × (rest ≡ [])
+  -- What is read is spelled so, up to the end, and fits the fuel.
+  pub declarations_takes : (fuel : ℕ) (ts : List Token) (ds : List DeclarationTree) (rest : List Token) → declarations fuel ts ≡ Ok (ds, rest) → AreDeclarations ds ts × AllByRecursion (FitsDeclaration fuel) ds × (rest ≡ [])
   unfolding declarations
-  declarations_takes room ts ds rest e =
-      let t = repeated_takes is_next_there (declaration_sound room) (length ts) ts ds rest e in
-      let end = repeated_whole (declaration_sound room) declaration_filled (length ts) ts ds rest (omega arith) e in
+  declarations_takes fuel ts ds rest e =
+      let t = repeated_takes is_next_there (declaration_sound fuel) (length ts) ts ds rest e in
+      let end = repeated_whole (declaration_sound fuel) declaration_filled (length ts) ts ds rest (omega arith) e in
       let same : ts ≡ t.front = t.parts ∙ ap (λ (l : List Token). t.front ++ l) end ∙ append-nil t.front in
       (subst (λ (l : List Token). AreDeclarations ds l) (sym same) (from_many ds t.front t.spelled), t.fits, end)
 
 module _ (block_law : (r : ℕ) → IsReader (block_in (statement_at r)) (FitsBlock r) IsBody Any Any) where
-  callable_again : (room : ℕ) (p : Prototype) (d : DeclarationTree) (xs rest : List Token) → FitsDeclaration room d → (IsHeading p ⨾ IsBehind p d) xs → declaration room (xs ++ rest) ≡ Ok (d, rest)
+  callable_again : (fuel : ℕ) (p : Prototype) (d : DeclarationTree) (xs rest : List Token) → FitsDeclaration fuel d → (IsHeading p ⨾ IsBehind p d) xs → declaration fuel (xs ++ rest) ≡ Ok (d, rest)
   unfolding declaration
-  callable_again room p d xs rest fits s =
+  callable_again fuel p d xs rest fits s =
       let e : xs ++ rest ≡ s.0 ++ (s.1 ++ rest) = ap (λ (l : List Token). l ++ rest) s.4 ∙ append_assoc s.0 s.1 rest in
-      either_first is_callable_next (callable room) (made (λ g. T.Global g) (global room)) (xs ++ rest) (ap is_callable_next e ∙ heading_next p p.result s.0 (s.1 ++ rest) refl s.2)
-      ∙ split_again block_law room p d xs rest fits s
+      either_first is_callable_next (callable fuel) (made (λ g. T.Global g) (global fuel)) (xs ++ rest) (ap is_callable_next e ∙ heading_next p p.result s.0 (s.1 ++ rest) refl s.2)
+      ∙ split_again block_law fuel p d xs rest fits s
 
-  declaration_again : (room : ℕ) (d : DeclarationTree) (xs rest : List Token) → FitsDeclaration room d → IsDeclaration d xs → declaration room (xs ++ rest) ≡ Ok (d, rest)
+  declaration_again : (fuel : ℕ) (d : DeclarationTree) (xs rest : List Token) → FitsDeclaration fuel d → IsDeclaration d xs → declaration fuel (xs ++ rest) ≡ Ok (d, rest)
   unfolding declaration
-  declaration_again room (T.Global g) xs rest fits s =
-      either_second is_callable_next (callable room) (made (λ g. T.Global g) (global room)) (xs ++ rest) (global_next g xs rest s)
-      ∙ made_again (λ g. T.Global g) (global_law room) g xs rest fits s tt
-  declaration_again room (T.Function f) xs rest fits s = callable_again room (function_heading f) (T.Function f) xs rest fits (function_split f xs s)
-  declaration_again room (T.Prototype' p) xs rest fits s = callable_again room p (T.Prototype' p) xs rest fits (prototype_split p xs s)
+  declaration_again fuel (T.Global g) xs rest fits s =
+      either_second is_callable_next (callable fuel) (made (λ g. T.Global g) (global fuel)) (xs ++ rest) (global_next g xs rest s)
+      ∙ made_again (λ g. T.Global g) (global_law fuel) g xs rest fits s tt
+  declaration_again fuel (T.Function f) xs rest fits s = callable_again fuel (function_heading f) (T.Function f) xs rest fits (function_split f xs s)
+  declaration_again fuel (T.Prototype' p) xs rest fits s = callable_again fuel p (T.Prototype' p) xs rest fits (prototype_split p xs s)
 
-  pub declaration_law : (room : ℕ) → IsReader (declaration room) (FitsDeclaration room) IsDeclaration Any Any
-  declaration_law room = record { takes = declaration_takes block_law room; again = λ d xs rest fits s end. declaration_again room d xs rest fits s }
+  pub declaration_law : (fuel : ℕ) → IsReader (declaration fuel) (FitsDeclaration fuel) IsDeclaration Any Any
+  declaration_law fuel = record { takes = declaration_takes block_law fuel; again = λ d xs rest fits s end. declaration_again fuel d xs rest fits s }
 
-  declarations_repeat : (room : ℕ) → Repeats is_next_there (declaration_law room) AtEnd
-  declarations_repeat room = record {
+  declarations_repeat : (fuel : ℕ) → Repeats is_next_there (declaration_law fuel) AtEnd
+  declarations_repeat fuel = record {
     filled = declaration_filled;
     begins = some_there;
     follows = λ x y ys rest s. tt;
@@ -94,42 +95,42 @@ module _ (block_law : (r : ℕ) → IsReader (block_in (statement_at r)) (FitsBl
     stops = λ rest end. ap is_next_there end;
   }
 
-  -- What is spelled so, and fits the room, is read.
-  pub declarations_again : (room : ℕ) (ts : List Token) (ds : List DeclarationTree) → AreDeclarations ds ts → AllByRecursion (FitsDeclaration room) ds → declarations room ts ≡ Ok (ds, [])
+  -- What is spelled so, and fits the fuel, is read.
+  pub declarations_again : (fuel : ℕ) (ts : List Token) (ds : List DeclarationTree) → AreDeclarations ds ts → AllByRecursion (FitsDeclaration fuel) ds → declarations fuel ts ≡ Ok (ds, [])
   unfolding declarations
-  declarations_again room ts ds s fits =
-      let r = repeated_again is_next_there (declaration_law room) (declarations_repeat room) (length ts) ds ts [] fits (to_many ds ts s) (omega arith) refl in
-      ap (λ (l : List Token). repeated is_next_there (declaration room) (length ts) l) (sym (append-nil ts)) ∙ r
+  declarations_again fuel ts ds s fits =
+      let r = repeated_again is_next_there (declaration_law fuel) (declarations_repeat fuel) (length ts) ds ts [] fits (to_many ds ts s) (omega arith) refl in
+      ap (λ (l : List Token). repeated is_next_there (declaration fuel) (length ts) l) (sym (append-nil ts)) ∙ r
 
 module _ (block_keeps : (r s : ℕ) → r ≤ s → Keeps (block_in (statement_at r)) (block_in (statement_at s))) where
-  body_keeps : (room more : ℕ) → room ≤ more → Keeps (body room) (body more)
+  body_keeps : (fuel more : ℕ) → fuel ≤ more → Keeps (body fuel) (body more)
   unfolding body
-  body_keeps room more le ts = keeps_under (λ r. block_in (statement_at r)) block_keeps room more le ts
+  body_keeps fuel more le ts = keeps_under (λ r. block_in (statement_at r)) block_keeps fuel more le ts
 
-  function_keeps : (room more : ℕ) → room ≤ more → (p : Prototype) (o : Option _) → Keeps (function room p o) (function more p o)
-  function_keeps room more le p None ts = inr refl
-  function_keeps room more le p (Some named) ts =
-      keeps_made (λ s. T.Function (record { result = p.result; name = p.name; parameters = named; body = s })) (body_keeps room more le) ts
+  function_keeps : (fuel more : ℕ) → fuel ≤ more → (p : Prototype) (o : Option _) → Keeps (function fuel p o) (function more p o)
+  function_keeps fuel more le p None ts = inr refl
+  function_keeps fuel more le p (Some named) ts =
+      keeps_made (λ s. T.Function (record { result = p.result; name = p.name; parameters = named; body = s })) (body_keeps fuel more le) ts
 
-  headed_keeps : (room more : ℕ) → room ≤ more → (p : Prototype) → Keeps (headed room p) (headed more p)
+  headed_keeps : (fuel more : ℕ) → fuel ≤ more → (p : Prototype) → Keeps (headed fuel p) (headed more p)
   unfolding headed
-  headed_keeps room more le p ts =
-      keeps_either (is_sign_next LeftBrace) (function_keeps room more le p (all_named p.parameters)) (keeps_same (open_prototype p)) ts
+  headed_keeps fuel more le p ts =
+      keeps_either (is_sign_next LeftBrace) (function_keeps fuel more le p (all_named p.parameters)) (keeps_same (open_prototype p)) ts
 
-  callable_keeps : (room more : ℕ) → room ≤ more → Keeps (callable room) (callable more)
+  callable_keeps : (fuel more : ℕ) → fuel ≤ more → Keeps (callable fuel) (callable more)
   unfolding callable
-  callable_keeps room more le ts =
-      stays_bind (heading ts) (heading ts) (λ h. headed room h.0 h.1) (λ h. headed more h.0 h.1) (inr refl) (λ h. headed_keeps room more le h.0 h.1)
+  callable_keeps fuel more le ts =
+      stays_bind (heading ts) (heading ts) (λ h. headed fuel h.0 h.1) (λ h. headed more h.0 h.1) (inr refl) (λ h. headed_keeps fuel more le h.0 h.1)
 
-  declaration_keeps : (room more : ℕ) → room ≤ more → Keeps (declaration room) (declaration more)
+  declaration_keeps : (fuel more : ℕ) → fuel ≤ more → Keeps (declaration fuel) (declaration more)
   unfolding declaration
-  declaration_keeps room more le ts =
-      keeps_either is_callable_next (callable_keeps room more le) (keeps_made (λ g. T.Global g) (global_keeps room more le)) ts
+  declaration_keeps fuel more le ts =
+      keeps_either is_callable_next (callable_keeps fuel more le) (keeps_made (λ g. T.Global g) (global_keeps fuel more le)) ts
 
-  -- With more room the same is read, unless there was too little.
-  pub declarations_stays : (room more : ℕ) (ts : List Token) → room ≤ more → Stays (declarations room ts) (declarations more ts)
+  -- With more fuel the same is read, unless there was too little.
+  pub declarations_stays : (fuel more : ℕ) (ts : List Token) → fuel ≤ more → Stays (declarations fuel ts) (declarations more ts)
   unfolding declarations
-  declarations_stays room more ts le = keeps_each is_next_there (declaration_keeps room more le) ts
+  declarations_stays fuel more ts le = keeps_each is_next_there (declaration_keeps fuel more le) ts
 
 -- ---- what is low
 

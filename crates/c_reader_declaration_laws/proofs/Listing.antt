@@ -10,7 +10,9 @@ use Rattle.c_reader_tokens.specs.Peeking.{is_sign_next}
 use Rattle.c_reader_tokens.specs.Tokens.{sign}
 use Rattle.c_reader_tokens.proofs.Tokens.{sign_takes, sign_again, is_sign_next-again}
 use Rattle.c_reader_productions.specs.Combining.{◌▷◌, ◌&◌, repeated, each, commas}
-use Rattle.c_reader_productions.proofs.Combining.{IsMark, IsReader, IsTaken, Any, ok_is, bind_ok, after, Keeps, keeps_made, keeps_both, keeps_after}
+use Rattle.c_reader_productions.proofs.Combining.{IsReader, after}
+use Rattle.c_reader_tokens.proofs.Laws.{ok_is, bind_ok}
+use Rattle.c_reader_productions.proofs.Laws.{IsMark, IsTaken, Any, Keeps, keeps_made, keeps_both, keeps_after}
 use Rattle.c_reader_declaration_laws.proofs.Repeating.{Many, Repeats, repeated_takes, repeated_again, keeps_each}
 
 -- at least one, and commas

@@ -11,55 +11,56 @@ use Rattle.c_reader_tokens.specs.declared.fault.Fault.{Fault}
 use Rattle.c_reader_tokens.specs.declared.fault.Fault.TheVariants.{Syntax}
 use Rattle.c_reader_tokens.specs.Reading.{Stays}
 use Rattle.c_reader_statement_laws.specs.Reading.{block_in, statement_at}
-use Rattle.c_reader_productions.proofs.Combining.{IsReader, Any, Keeps}
+use Rattle.c_reader_productions.proofs.Combining.{IsReader}
+use Rattle.c_reader_productions.proofs.Laws.{Any, Keeps}
 use Rattle.c_reader_declaration_laws.specs.Reading.{declarations}
 use Rattle.c_reader_declaration_laws.proofs.OfGlobals.{FitsInitial, FitsInitializer}
 use Rattle.c_reader_declaration_laws.proofs.Declaring.{IsBody, FitsBlock, FitsDeclaration}
 use Rattle.c_reader_declaration_laws.proofs.Laws.{declarations_again, declarations_stays, low_declarations}
 
--- ---- each tree fits some room
+-- ---- each tree fits some fuel
 
-initials_more : (is : List InitialTree) (room more : ℕ) → room ≤ more → AllByRecursion (FitsInitial room) is → AllByRecursion (FitsInitial more) is
-initials_more [] room more le f = tt
-initials_more (i ∷ is) room more le f = (let h = f.0 in omega arith, initials_more is room more le f.1)
+initials_more : (is : List InitialTree) (fuel more : ℕ) → fuel ≤ more → AllByRecursion (FitsInitial fuel) is → AllByRecursion (FitsInitial more) is
+initials_more [] fuel more le f = tt
+initials_more (i ∷ is) fuel more le f = (let h = f.0 in omega arith, initials_more is fuel more le f.1)
 
-initializer_more : (i : InitializerTree) (room more : ℕ) → room ≤ more → FitsInitializer room i → FitsInitializer more i
-initializer_more (T.Single i) room more le f = omega arith
-initializer_more (T.Braced is) room more le f = initials_more is room more le f
+initializer_more : (i : InitializerTree) (fuel more : ℕ) → fuel ≤ more → FitsInitializer fuel i → FitsInitializer more i
+initializer_more (T.Single i) fuel more le f = omega arith
+initializer_more (T.Braced is) fuel more le f = initials_more is fuel more le f
 
-beginning_more : (i : Option InitializerTree) (room more : ℕ) → room ≤ more → IfThere (FitsInitializer room) i → IfThere (FitsInitializer more) i
-beginning_more None room more le f = tt
-beginning_more (Some i) room more le f = initializer_more i room more le f
+beginning_more : (i : Option InitializerTree) (fuel more : ℕ) → fuel ≤ more → IfThere (FitsInitializer fuel) i → IfThere (FitsInitializer more) i
+beginning_more None fuel more le f = tt
+beginning_more (Some i) fuel more le f = initializer_more i fuel more le f
 
-declaration_more : (d : DeclarationTree) (room more : ℕ) → room ≤ more → FitsDeclaration room d → FitsDeclaration more d
-declaration_more (T.Global g) room more le f = beginning_more g.initializer room more le f
-declaration_more (T.Function f) room more le h = omega arith
-declaration_more (T.Prototype' p) room more le f = tt
+declaration_more : (d : DeclarationTree) (fuel more : ℕ) → fuel ≤ more → FitsDeclaration fuel d → FitsDeclaration more d
+declaration_more (T.Global g) fuel more le f = beginning_more g.initializer fuel more le f
+declaration_more (T.Function f) fuel more le h = omega arith
+declaration_more (T.Prototype' p) fuel more le f = tt
 
-declarations_more : (ds : List DeclarationTree) (room more : ℕ) → room ≤ more → AllByRecursion (FitsDeclaration room) ds → AllByRecursion (FitsDeclaration more) ds
-declarations_more [] room more le f = tt
-declarations_more (d ∷ ds) room more le f = (declaration_more d room more le f.0, declarations_more ds room more le f.1)
+declarations_more : (ds : List DeclarationTree) (fuel more : ℕ) → fuel ≤ more → AllByRecursion (FitsDeclaration fuel) ds → AllByRecursion (FitsDeclaration more) ds
+declarations_more [] fuel more le f = tt
+declarations_more (d ∷ ds) fuel more le f = (declaration_more d fuel more le f.0, declarations_more ds fuel more le f.1)
 
-initials_fit : (is : List InitialTree) → (room : ℕ) × AllByRecursion (FitsInitial room) is
+initials_fit : (is : List InitialTree) → (fuel : ℕ) × AllByRecursion (FitsInitial fuel) is
 initials_fit [] = (0, tt)
 initials_fit (i ∷ is) =
     let r = initials_fit is in
     (expression_height i.value + r.0, (omega arith, initials_more is r.0 (expression_height i.value + r.0) (omega arith) r.1))
 
-initializer_fits : (i : InitializerTree) → (room : ℕ) × FitsInitializer room i
+initializer_fits : (i : InitializerTree) → (fuel : ℕ) × FitsInitializer fuel i
 initializer_fits (T.Single i) = (expression_height i.value, omega arith)
 initializer_fits (T.Braced is) = initials_fit is
 
-beginning_fits : (i : Option InitializerTree) → (room : ℕ) × IfThere (FitsInitializer room) i
+beginning_fits : (i : Option InitializerTree) → (fuel : ℕ) × IfThere (FitsInitializer fuel) i
 beginning_fits None = (0, tt)
 beginning_fits (Some i) = initializer_fits i
 
-declaration_fits : (d : DeclarationTree) → (room : ℕ) × FitsDeclaration room d
+declaration_fits : (d : DeclarationTree) → (fuel : ℕ) × FitsDeclaration fuel d
 declaration_fits (T.Global g) = beginning_fits g.initializer
 declaration_fits (T.Function f) = (suc (statements_height f.body), omega arith)
 declaration_fits (T.Prototype' p) = (0, tt)
 
-declarations_fit : (ds : List DeclarationTree) → (room : ℕ) × AllByRecursion (FitsDeclaration room) ds
+declarations_fit : (ds : List DeclarationTree) → (fuel : ℕ) × AllByRecursion (FitsDeclaration fuel) ds
 declarations_fit [] = (0, tt)
 declarations_fit (d ∷ ds) =
     let h = declaration_fits d in

@@ -6,7 +6,9 @@ use Rattle.c_syntax.specs.declared.token.Token.{Token}
 use Rattle.c_syntax.specs.Parts.{◌⨾◌, Nothing, PlacedAt}
 use Rattle.c_reader_tokens.specs.Reading.{Reading, ◌>>=◌}
 use Rattle.c_reader_productions.specs.Combining.{◌&◌, made, repeated, each}
-use Rattle.c_reader_productions.proofs.Combining.{IsReader, IsTaken, Any, done, ok_is, bind_ok, bind_is, chosen, Keeps, keeps_same, keeps_either, keeps_made, keeps_both}
+use Rattle.c_reader_productions.proofs.Combining.{IsReader}
+use Rattle.c_reader_tokens.proofs.Laws.{done, ok_is, bind_ok}
+use Rattle.c_reader_productions.proofs.Laws.{IsTaken, Any, bind_is, chosen, Keeps, keeps_same, keeps_either, keeps_made, keeps_both}
 use Rattle.c_reader_declaration_laws.specs.Reading.{here, is_next_there}
 
 -- Some part that is spelled has a token.
@@ -130,7 +132,7 @@ module _ {A : Type 0} {part : Reading A} {F : A → Type 0} {P L E : A → List 
       let same = ap (λ (z : (A × List A) × List Token). z.1) (ok_is ((b.0.0, c.0.0), c.0.1) a.0 c.2) ∙ ap (λ (z : List A × List Token). z.1) (ok_is (a.0.0.0 ∷ a.0.0.1, a.0.1) (xs, rest) a.2) in
       sym same ∙ end
 
--- What reads the same with more room does so again and again.
+-- What reads the same with more fuel does so again and again.
 pub keeps_repeated : {A : Type 0} (goes : List Token → Bool) {part more : Reading A} → Keeps part more → (limit : ℕ) → Keeps (repeated goes part limit) (repeated goes more limit)
 unfolding repeated
 keeps_repeated goes {part} {more} k zero ts = inr refl

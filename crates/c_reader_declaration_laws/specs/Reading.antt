@@ -1,4 +1,4 @@
--- How declarations are read. The number is the room: an initial expression or a function that is higher is not read.
+-- How declarations are read. The number is the fuel: an initial expression or a function that is higher is not read.
 use Rattle.std.specs.Prelude.{ℕ, Bool, true, false, List, [], ◌∷◌, Option, Some, None, Result, Ok, Err, ◌||◌}
 use Rattle.c_syntax.specs.declared.constant.Constant.{Constant}
 use Rattle.c_syntax.specs.declared.constant.IntegerType.{IntegerType}
@@ -28,23 +28,23 @@ here [] = misfit []
 here (t ∷ ts) = Ok (t.start, t ∷ ts)
 
 unfoldable pub initial : ℕ → Reading InitialTree
-initial room ts = made (λ v. record { value = v.1; offset = v.0 }) (here & expression_at room 0) ts
+initial fuel ts = made (λ v. record { value = v.1; offset = v.0 }) (here & expression_at fuel 0) ts
 
 unfoldable pub initializer : ℕ → Reading InitializerTree
-initializer room ts = either (is_sign_next LeftBrace)
-    (made (λ is. T.Braced is) (sign LeftBrace ▷ commas (initial room) ◁ sign RightBrace))
-    (made (λ i. T.Single i) (initial room)) ts
+initializer fuel ts = either (is_sign_next LeftBrace)
+    (made (λ is. T.Braced is) (sign LeftBrace ▷ commas (initial fuel) ◁ sign RightBrace))
+    (made (λ i. T.Single i) (initial fuel)) ts
 
 unfoldable pub size : Reading (Option Constant)
 size ts = either (is_sign_next LeftBracket) (there (sign LeftBracket ▷ constant ◁ sign RightBracket)) missing ts
 
 -- what a global begins with
 unfoldable pub beginning : ℕ → Reading (Option InitializerTree)
-beginning room ts = either (is_sign_next Assign) (there (sign Assign ▷ initializer room)) missing ts
+beginning fuel ts = either (is_sign_next Assign) (there (sign Assign ▷ initializer fuel)) missing ts
 
 unfoldable pub global : ℕ → Reading GlobalTree
-global room ts = made (λ v. record { kind = v.0; name = v.1.0; size = v.1.1.0; initializer = v.1.1.1 })
-    (integer_type & placed_name & size & beginning room ◁ sign Semicolon) ts
+global fuel ts = made (λ v. record { kind = v.0; name = v.1.0; size = v.1.1.0; initializer = v.1.1.1 })
+    (integer_type & placed_name & size & beginning fuel ◁ sign Semicolon) ts
 
 unfoldable pub open_parameter : Reading OpenParameter
 open_parameter ts = made (λ v. record { kind = v.1.0; name = v.1.1; offset = v.0 })
@@ -64,23 +64,23 @@ heading ts = made (λ v. record { result = v.0; name = v.1.0; parameters = v.1.1
 
 -- A body is as high as the block that it is.
 unfoldable pub body : ℕ → Reading StatementsTree
-body room ts = under (λ r. block_in (statement_at r)) room ts
+body fuel ts = under (λ r. block_in (statement_at r)) fuel ts
 
 -- A function's parameters have names: behind others no body fits.
 abbrev pub function : ℕ → Prototype → Option (List Parameter) → Reading DeclarationTree
-function room p None ts = misfit ts
-function room p (Some named) ts =
-    made (λ s. T.Function (record { result = p.result; name = p.name; parameters = named; body = s })) (body room) ts
+function fuel p None ts = misfit ts
+function fuel p (Some named) ts =
+    made (λ s. T.Function (record { result = p.result; name = p.name; parameters = named; body = s })) (body fuel) ts
 
 -- a function where a body is next, else a prototype
 unfoldable pub headed : ℕ → Prototype → Reading DeclarationTree
-headed room p ts = either (is_sign_next LeftBrace) (function room p (all_named p.parameters))
+headed fuel p ts = either (is_sign_next LeftBrace) (function fuel p (all_named p.parameters))
     (sign Semicolon ▷ (λ rest. Ok (T.Prototype' p, rest))) ts
 
 unfoldable pub callable : ℕ → Reading DeclarationTree
-callable room ts = do
+callable fuel ts = do
   h ← heading ts
-  headed room h.0 h.1
+  headed fuel h.0 h.1
 
 -- `(` behind a type and a name
 abbrev pub is_call_behind : Result (IntegerType × List Token) Fault → Bool
@@ -92,7 +92,7 @@ unfoldable pub is_callable_next : List Token → Bool
 is_callable_next ts = is_word_next K.Void ts || is_call_behind (integer_type ts)
 
 unfoldable pub declaration : ℕ → Reading DeclarationTree
-declaration room ts = either is_callable_next (callable room) (made (λ g. T.Global g) (global room)) ts
+declaration fuel ts = either is_callable_next (callable fuel) (made (λ g. T.Global g) (global fuel)) ts
 
 abbrev pub is_next_there : List Token → Bool
 is_next_there [] = false
@@ -100,4 +100,4 @@ is_next_there (t ∷ ts) = true
 
 -- declarations up to the end
 unfoldable pub declarations : ℕ → Reading (List DeclarationTree)
-declarations room ts = each is_next_there (declaration room) ts
+declarations fuel ts = each is_next_there (declaration fuel) ts

@@ -1,4 +1,4 @@
--- What is read is spelled so, what is spelled so is read, and more room changes nothing but what was too high.
+-- What is read is spelled so, what is spelled so is read, and more fuel changes nothing but what was too high.
 use Rattle.std.proofs.Common.{◌≡◌, ℕ, zero, suc, ◌+◌, ◌≤◌, Bool, true, false, cond, List, [], ◌∷◌, ◌++◌, Option, Ok, Err, inl, inr, sym, ap, ◌∙◌, arith}
 use Rattle.std.specs.Prelude.{max}
 use Rattle.c_syntax.specs.declared.token.Token.{Token}
@@ -18,9 +18,9 @@ use Rattle.c_reader_expression_laws.proofs.Again.{level_again}
 use Rattle.c_reader_expression_laws.proofs.Staying.{deep_stays, operand_stays, chain_stays}
 
 -- what is read is spelled at its level, is low, and does not go on
-pub record TakesExpression (room level : ℕ) (ts : List Token) (t : ExpressionTree) (rest : List Token) : Type 0 where
+pub record TakesExpression (fuel level : ℕ) (ts : List Token) (t : ExpressionTree) (rest : List Token) : Type 0 where
   pub takes : Takes (IsExpressionAt level t) ts rest
-  pub low : expression_height t ≤ room
+  pub low : expression_height t ≤ fuel
   pub stops : Stops level rest
 
 deep_gives_none : (b : Bool) (t : Token) (ts : List Token) (r : Found) → cond b (Err TooDeep) (misfit (t ∷ ts)) ≡ Ok r → ⊥
@@ -32,55 +32,55 @@ deep_takes [] r e = cc
 deep_takes (t ∷ ts) r e = deep_gives_none (begins_operand t.kind) t ts r e
 
 -- the same, of both at once
-pub reads : (room level : ℕ) (ts : List Token) (r : Found) → expression_at room level ts ≡ Ok r → Reads room level ts r
+pub reads : (fuel level : ℕ) (ts : List Token) (r : Found) → expression_at fuel level ts ≡ Ok r → Reads fuel level ts r
 unfolding expression_at
 reads zero level ts r e = absurd (deep_takes ts r e)
-reads (suc room) level ts r e =
-    let p = bind_ok (operand (expression_at room) ts) (λ left. chain (expression_at room) room level room left.0 left.1) r e in
-    let first = operand_takes (expression_at room) room (reads room) ts p.0 p.1 in
+reads (suc fuel) level ts r e =
+    let p = bind_ok (operand (expression_at fuel) ts) (λ left. chain (expression_at fuel) fuel level fuel left.0 left.1) r e in
+    let first = operand_takes (expression_at fuel) fuel (reads fuel) ts p.0 p.1 in
     let strong = level + operand_level in
-    chain_takes (expression_at room) room (reads room) level room strong ts p.0.0 p.0.1 r (omega arith) (record {
+    chain_takes (expression_at fuel) fuel (reads fuel) level fuel strong ts p.0.0 p.0.1 r (omega arith) (record {
       takes = record { front = first.front; spelled = first.spelled strong; parts = first.parts };
       above = omega arith;
       stops = stops_operand (suc strong) p.0.1 (omega arith);
       low = first.low;
     }) p.2
 
-pub expression_takes : (room level : ℕ) (ts : List Token) (t : ExpressionTree) (rest : List Token) → expression_at room level ts ≡ Ok (t, rest) → TakesExpression room level ts t rest
-expression_takes room level ts t rest e =
-    let r = reads room level ts (t, rest) e in
+pub expression_takes : (fuel level : ℕ) (ts : List Token) (t : ExpressionTree) (rest : List Token) → expression_at fuel level ts ≡ Ok (t, rest) → TakesExpression fuel level ts t rest
+expression_takes fuel level ts t rest e =
+    let r = reads fuel level ts (t, rest) e in
     record { takes = r.takes; low = r.low; stops = r.stops }
 
-pub expression_again : (room level : ℕ) (t : ExpressionTree) (xs rest : List Token) → IsExpressionAt level t xs → expression_height t ≤ room → Ends level rest → expression_at room level (xs ++ rest) ≡ Ok (t, rest)
+pub expression_again : (fuel level : ℕ) (t : ExpressionTree) (xs rest : List Token) → IsExpressionAt level t xs → expression_height t ≤ fuel → Ends level rest → expression_at fuel level (xs ++ rest) ≡ Ok (t, rest)
 unfolding expression_at
 expression_again zero level t xs rest s low ends = absurd (let high = height-positive t in omega arith)
-expression_again (suc room) level t xs rest s low ends = level_again (expression_at room) room (expression_again room) level t xs rest s low ends
+expression_again (suc fuel) level t xs rest s low ends = level_again (expression_at fuel) fuel (expression_again fuel) level t xs rest s low ends
 
-pub expression_stays : (room more level : ℕ) (ts : List Token) → room ≤ more → Stays (expression_at room level ts) (expression_at more level ts)
+pub expression_stays : (fuel more level : ℕ) (ts : List Token) → fuel ≤ more → Stays (expression_at fuel level ts) (expression_at more level ts)
 unfolding expression_at
 expression_stays zero zero level ts le = stays_refl (deep begins_operand ts)
 expression_stays zero (suc more) level ts le = deep_stays (expression_at more) (λ left. chain (expression_at more) more level more left.0 left.1) ts
-expression_stays (suc room) zero level ts le = absurd (omega arith)
-expression_stays (suc room) (suc more) level ts le =
-    let below = λ (level : ℕ) (ts : List Token). expression_stays room more level ts (omega arith) in
-    stays_bind (operand (expression_at room) ts) (operand (expression_at more) ts) (λ left. chain (expression_at room) room level room left.0 left.1) (λ left. chain (expression_at more) more level more left.0 left.1)
-    (operand_stays (expression_at room) (expression_at more) below ts)
-    (λ left _. chain_stays (expression_at room) (expression_at more) below room more (omega arith) level room more left.0 left.1 (omega arith))
+expression_stays (suc fuel) zero level ts le = absurd (omega arith)
+expression_stays (suc fuel) (suc more) level ts le =
+    let below = λ (level : ℕ) (ts : List Token). expression_stays fuel more level ts (omega arith) in
+    stays_bind (operand (expression_at fuel) ts) (operand (expression_at more) ts) (λ left. chain (expression_at fuel) fuel level fuel left.0 left.1) (λ left. chain (expression_at more) more level more left.0 left.1)
+    (operand_stays (expression_at fuel) (expression_at more) below ts)
+    (λ left _. chain_stays (expression_at fuel) (expression_at more) below fuel more (omega arith) level fuel more left.0 left.1 (omega arith))
 
--- No two trees are spelled by the same tokens: with room for both, the reader gives one.
+-- No two trees are spelled by the same tokens: with fuel for both, the reader gives one.
 pub one_tree : (t u : ExpressionTree) (ts : List Token) → IsExpressionAt 0 t ts → IsExpressionAt 0 u ts → t ≡ u
 one_tree t u ts s s' =
-    let room = max (expression_height t) (expression_height u) in
-    let one = expression_again room 0 t ts [] s (omega arith) (ends_nothing 0) in
-    let other = expression_again room 0 u ts [] s' (omega arith) (ends_nothing 0) in
+    let fuel = max (expression_height t) (expression_height u) in
+    let one = expression_again fuel 0 t ts [] s (omega arith) (ends_nothing 0) in
+    let other = expression_again fuel 0 u ts [] s' (omega arith) (ends_nothing 0) in
     ap (λ (r : Found). r.0) (ok_is (t, []) (u, []) (sym one ∙ other))
 
--- A fault of syntax stays with more room, where each spelled expression would be read.
-pub expression_refused : (room level : ℕ) (ts : List Token) (place : Option ℕ) → expression_at room level ts ≡ Err (Syntax place) → (t : ExpressionTree) (front rest : List Token) → IsExpressionAt level t front → Ends level rest → ts ≡ front ++ rest → ⊥
-expression_refused room level ts place e t front rest s ends parts =
-    let more = max room (expression_height t) in
+-- A fault of syntax stays with more fuel, where each spelled expression would be read.
+pub expression_refused : (fuel level : ℕ) (ts : List Token) (place : Option ℕ) → expression_at fuel level ts ≡ Err (Syntax place) → (t : ExpressionTree) (front rest : List Token) → IsExpressionAt level t front → Ends level rest → ts ≡ front ++ rest → ⊥
+expression_refused fuel level ts place e t front rest s ends parts =
+    let more = max fuel (expression_height t) in
     let read = expression_again more level t front rest s (omega arith) ends in
-    elim (expression_stays room more level ts (omega arith)) [
+    elim (expression_stays fuel more level ts (omega arith)) [
       | inl deep ↦ absurd cc
       | inr same ↦ let again = sym e ∙ same ∙ ap (expression_at more level) parts ∙ read in absurd cc
     ]

@@ -1,4 +1,4 @@
--- With more room the same is read, unless there was too little.
+-- With more fuel the same is read, unless there was too little.
 use Rattle.std.proofs.Common.{◌≡◌, ℕ, zero, suc, ◌≤◌, Bool, true, false, cond, leb, List, [], ◌∷◌, Option, Some, None, Result, Ok, Err, inl, inr, refl, arith}
 use Rattle.std.specs.Prelude.{◌||◌, is_some}
 use Rattle.std.proofs.lemmas.Bool.{leb-true, le-leb}
@@ -22,14 +22,14 @@ use Rattle.c_reader_expression_laws.specs.declared.next.Next.{Next}
 use Rattle.c_reader_expression_laws.specs.declared.next.Next.TheVariants.{Operator, Choice, Stop}
 use Rattle.c_reader_expression_laws.specs.Operators.{unary_of, next, begins_operand}
 use Rattle.c_reader_expression_laws.specs.Operands.{Levels, number, indexed, variable, cast, enclosed, parenthesized, signed, perhaps_signed, operand_at, operand}
-use Rattle.c_reader_expression_laws.specs.Reading.{operated, chosen, if_room, by_next, chain}
+use Rattle.c_reader_expression_laws.specs.Reading.{operated, chosen, if_fuel, by_next, chain}
 use Rattle.c_reader_expression_laws.proofs.Taking.{Found}
 
 stays_if : (b : Bool) (x y u v : Result Found Fault) → Stays x u → Stays y v → Stays (cond b x y) (cond b u v)
 stays_if true x y u v first second = first
 stays_if false x y u v first second = second
 
--- where no room is left, the next token alone tells a fault
+-- where no fuel is left, the next token alone tells a fault
 perhaps_deep : (below : Levels) (f : Found → Result Found Fault) (found : Option UnaryOperator) (t : Token) (ts : List Token) → Stays (cond (is_some found) (Err TooDeep) (misfit (t ∷ ts))) (perhaps_signed below found (t ∷ ts) >>= f)
 perhaps_deep below f None t ts = inr refl
 perhaps_deep below f (Some o) t ts = inl refl
@@ -126,35 +126,35 @@ module _ (less more : Levels) (below_stays : (level : ℕ) (ts : List Token) →
       (stays_refl (sign P.Colon a.1))
       (λ other _. stays_bind (less 0 other) (more 0 other) (λ b. done (Conditional c a.0 b.0, b.1)) (λ b. done (Conditional c a.0 b.0, b.1)) (below_stays 0 other) (λ b _. stays_refl _))))
 
-  module _ (room wide : ℕ) (le : room ≤ wide) where
-    if_room_by : (left : ExpressionTree) (x y : Result Found Fault) (b : Bool) → leb (expression_height left) room ≡ b → Stays x y → Stays (cond b x (Err TooDeep)) (if_room wide left y)
-    if_room_by left x y true e stays =
-        let low = leb-true (expression_height left) room e in
+  module _ (fuel wide : ℕ) (le : fuel ≤ wide) where
+    if_fuel_by : (left : ExpressionTree) (x y : Result Found Fault) (b : Bool) → leb (expression_height left) fuel ≡ b → Stays x y → Stays (cond b x (Err TooDeep)) (if_fuel wide left y)
+    if_fuel_by left x y true e stays =
+        let low = leb-true (expression_height left) fuel e in
         rw (le-leb (expression_height left) wide (omega arith)) stays
-    if_room_by left x y false e stays = inl refl
+    if_fuel_by left x y false e stays = inl refl
 
-    if_room_stays : (left : ExpressionTree) (x y : Result Found Fault) → Stays x y → Stays (if_room room left x) (if_room wide left y)
-    if_room_stays left x y stays = if_room_by left x y (leb (expression_height left) room) refl stays
+    if_fuel_stays : (left : ExpressionTree) (x y : Result Found Fault) → Stays x y → Stays (if_fuel fuel left x) (if_fuel wide left y)
+    if_fuel_stays left x y stays = if_fuel_by left x y (leb (expression_height left) fuel) refl stays
 
     by_next_stays : (n : Next) (f g : BinaryOperator → Result Found Fault) (x y : Result Found Fault) (stop : Found) → ((o : BinaryOperator) → Stays (f o) (g o)) → Stays x y → Stays (by_next n f x (Ok stop)) (by_next n g y (Ok stop))
     by_next_stays (Operator o) f g x y stop operator choice = operator o
     by_next_stays Choice f g x y stop operator choice = choice
     by_next_stays Stop f g x y stop operator choice = inr refl
 
-    pub chain_stays : (level few many : ℕ) (left : ExpressionTree) (ts : List Token) → few ≤ many → Stays (chain less room level few left ts) (chain more wide level many left ts)
+    pub chain_stays : (level few many : ℕ) (left : ExpressionTree) (ts : List Token) → few ≤ many → Stays (chain less fuel level few left ts) (chain more wide level many left ts)
     unfolding chain
     chain_stays level zero zero left ts many = by_next_stays (next level ts) (λ o. Err TooDeep) (λ o. Err TooDeep) (Err TooDeep) (Err TooDeep) (left, ts) (λ o. inl refl) (inl refl)
     chain_stays level zero (suc count) left ts many =
-        by_next_stays (next level ts) (λ o. Err TooDeep) (λ o. if_room wide left (operated more o left ts) >>= (λ whole. chain more wide level count whole.0 whole.1)) (Err TooDeep) (if_room wide left (chosen more left ts)) (left, ts) (λ o. inl refl) (inl refl)
+        by_next_stays (next level ts) (λ o. Err TooDeep) (λ o. if_fuel wide left (operated more o left ts) >>= (λ whole. chain more wide level count whole.0 whole.1)) (Err TooDeep) (if_fuel wide left (chosen more left ts)) (left, ts) (λ o. inl refl) (inl refl)
     chain_stays level (suc few) zero left ts many = absurd (omega arith)
     chain_stays level (suc few) (suc count) left ts many =
         by_next_stays (next level ts)
-        (λ o. if_room room left (operated less o left ts) >>= (λ whole. chain less room level few whole.0 whole.1))
-        (λ o. if_room wide left (operated more o left ts) >>= (λ whole. chain more wide level count whole.0 whole.1))
-        (if_room room left (chosen less left ts))
-        (if_room wide left (chosen more left ts))
+        (λ o. if_fuel fuel left (operated less o left ts) >>= (λ whole. chain less fuel level few whole.0 whole.1))
+        (λ o. if_fuel wide left (operated more o left ts) >>= (λ whole. chain more wide level count whole.0 whole.1))
+        (if_fuel fuel left (chosen less left ts))
+        (if_fuel wide left (chosen more left ts))
         (left, ts)
-        (λ o. stays_bind (if_room room left (operated less o left ts)) (if_room wide left (operated more o left ts)) (λ whole. chain less room level few whole.0 whole.1) (λ whole. chain more wide level count whole.0 whole.1)
-        (if_room_stays left (operated less o left ts) (operated more o left ts) (operated_stays o left ts))
+        (λ o. stays_bind (if_fuel fuel left (operated less o left ts)) (if_fuel wide left (operated more o left ts)) (λ whole. chain less fuel level few whole.0 whole.1) (λ whole. chain more wide level count whole.0 whole.1)
+        (if_fuel_stays left (operated less o left ts) (operated more o left ts) (operated_stays o left ts))
         (λ whole _. chain_stays level few count whole.0 whole.1 (omega arith)))
-        (if_room_stays left (chosen less left ts) (chosen more left ts) (chosen_stays left ts))
+        (if_fuel_stays left (chosen less left ts) (chosen more left ts) (chosen_stays left ts))

@@ -1,3 +1,4 @@
 pub mod Operators
 pub mod Operands
 pub mod Reading
+pub mod Exactness

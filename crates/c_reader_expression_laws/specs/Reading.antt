@@ -1,5 +1,5 @@
 -- How expressions are read, by precedence climbing: an operand, and behind it operators as long as they bind
--- at least as strongly as the level (C99 6.5.5 to 6.5.15). A room bounds the height of what is read.
+-- at least as strongly as the level (C99 6.5.5 to 6.5.15). Fuel bounds the height of what is read.
 use Rattle.std.specs.Prelude.{ℕ, zero, suc, nat_le, Result, Ok, Err, if◌then◌else◌}
 use Rattle.c_syntax.specs.declared.punctuator.Punctuator.TheVariants.{Question, Colon}
 use Rattle.c_syntax.specs.declared.expression.BinaryOperator.{BinaryOperator}
@@ -31,27 +31,27 @@ chosen below condition ts = do
   b ← below 0 other
   Ok (Conditional condition a.0 b.0, b.1)
 
--- what becomes a part of something higher leaves room for that
-abbrev pub if_room : {A : Type 0} → ℕ → ExpressionTree → Result A Fault → Result A Fault
-if_room room part next = if nat_le (expression_height part) room then next else Err TooDeep
+-- what becomes a part of something higher leaves fuel for that
+abbrev pub if_fuel : {A : Type 0} → ℕ → ExpressionTree → Result A Fault → Result A Fault
+if_fuel fuel part next = if nat_le (expression_height part) fuel then next else Err TooDeep
 
 abbrev pub by_next : {A : Type 0} → Next → (BinaryOperator → A) → A → A → A
 by_next (Operator o) operator choice stop = operator o
 by_next Choice operator choice stop = choice
 by_next Stop operator choice stop = stop
 
--- Behind a left operand, so many operators at most: each makes the whole higher, so there is no room for more.
-unfoldable pub chain : Levels → (room level count : ℕ) → ExpressionTree → Reading ExpressionTree
-chain below room level zero left ts = by_next (next level ts) (λ o. Err TooDeep) (Err TooDeep) (Ok (left, ts))
-chain below room level (suc count) left ts =
+-- Behind a left operand, so many operators at most: each makes the whole higher, so there is no fuel for more.
+unfoldable pub chain : Levels → (fuel level count : ℕ) → ExpressionTree → Reading ExpressionTree
+chain below fuel level zero left ts = by_next (next level ts) (λ o. Err TooDeep) (Err TooDeep) (Ok (left, ts))
+chain below fuel level (suc count) left ts =
     by_next (next level ts)
-    (λ o. if_room room left (operated below o left ts) >>= (λ whole. chain below room level count whole.0 whole.1))
-    (if_room room left (chosen below left ts))
+    (λ o. if_fuel fuel left (operated below o left ts) >>= (λ whole. chain below fuel level count whole.0 whole.1))
+    (if_fuel fuel left (chosen below left ts))
     (Ok (left, ts))
 
--- an expression of a level that is at most as high as the room
-unfoldable pub expression_at : (room level : ℕ) → Reading ExpressionTree
+-- an expression of a level that is at most as high as the fuel
+unfoldable pub expression_at : (fuel level : ℕ) → Reading ExpressionTree
 expression_at zero level ts = deep begins_operand ts
-expression_at (suc room) level ts = do
-  left ← operand (expression_at room) ts
-  chain (expression_at room) room level room left.0 left.1
+expression_at (suc fuel) level ts = do
+  left ← operand (expression_at fuel) ts
+  chain (expression_at fuel) fuel level fuel left.0 left.1

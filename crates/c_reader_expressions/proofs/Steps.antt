@@ -8,27 +8,27 @@ use Rattle.c_reader_tokens.specs.Reading.{◌>>=◌}
 use Rattle.c_reader_expression_laws.specs.declared.next.Next.TheVariants.{Operator}
 use Rattle.c_reader_expression_laws.specs.Operators.{next}
 use Rattle.c_reader_expression_laws.specs.Operands.{Levels, operand}
-use Rattle.c_reader_expression_laws.specs.Reading.{operated, if_room, chain, expression_at}
+use Rattle.c_reader_expression_laws.specs.Reading.{operated, if_fuel, chain, expression_at}
 
 -- behind the first operand of an expression
-pub behind_operand : (room level : ℕ) (ts : List Token) (left : ExpressionTree) (rest : List Token) → 0 < room → operand (expression_at (room - 1)) ts ≡ Ok (left, rest) → expression_at room level ts ≡ chain (expression_at (room - 1)) (room - 1) level (room - 1) left rest
+pub behind_operand : (fuel level : ℕ) (ts : List Token) (left : ExpressionTree) (rest : List Token) → 0 < fuel → operand (expression_at (fuel - 1)) ts ≡ Ok (left, rest) → expression_at fuel level ts ≡ chain (expression_at (fuel - 1)) (fuel - 1) level (fuel - 1) left rest
 unfolding expression_at
 behind_operand zero level ts left rest lt e = absurd (omega arith)
-behind_operand (suc room) level ts left rest lt e =
-    let one : suc room - 1 ≡ room = omega arith in
+behind_operand (suc fuel) level ts left rest lt e =
+    let one : suc fuel - 1 ≡ fuel = omega arith in
     let read = rw one at e in
     rw (one, read) refl
 
 -- behind an operator and its right operand
-pub goes_on : (below : Levels) (room level count n : ℕ) (left : ExpressionTree) (ts : List Token) (o : BinaryOperator) (whole : ExpressionTree) (rest : List Token) → n < count → Operator o ≡ next level ts → if_room room left (operated below o left ts) ≡ Ok (whole, rest) → chain below room level (count - n) left ts ≡ chain below room level (count - (n + 1)) whole rest
+pub goes_on : (below : Levels) (fuel level count n : ℕ) (left : ExpressionTree) (ts : List Token) (o : BinaryOperator) (whole : ExpressionTree) (rest : List Token) → n < count → Operator o ≡ next level ts → if_fuel fuel left (operated below o left ts) ≡ Ok (whole, rest) → chain below fuel level (count - n) left ts ≡ chain below fuel level (count - (n + 1)) whole rest
 unfolding chain
-goes_on below room level count n left ts o whole rest lt is read =
+goes_on below fuel level count n left ts o whole rest lt is read =
     let one : count - n ≡ suc (count - (n + 1)) = omega arith in
     rw (one, ← is, read) refl
 
 -- an operator that is refused, or whose right operand is
-pub is_refused : (below : Levels) (room level count n : ℕ) (left : ExpressionTree) (ts : List Token) (o : BinaryOperator) (fault : Fault) → n < count → Operator o ≡ next level ts → if_room room left (operated below o left ts) ≡ Err fault → chain below room level (count - n) left ts ≡ Err fault
+pub is_refused : (below : Levels) (fuel level count n : ℕ) (left : ExpressionTree) (ts : List Token) (o : BinaryOperator) (fault : Fault) → n < count → Operator o ≡ next level ts → if_fuel fuel left (operated below o left ts) ≡ Err fault → chain below fuel level (count - n) left ts ≡ Err fault
 unfolding chain
-is_refused below room level count n left ts o fault lt is read =
+is_refused below fuel level count n left ts o fault lt is read =
     let one : count - n ≡ suc (count - (n + 1)) = omega arith in
     rw (one, ← is, read) refl

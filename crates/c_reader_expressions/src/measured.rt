@@ -5,9 +5,10 @@ ghost use Rattle.c_syntax.specs.Trees.{Number, Variable, Element, Parenthesis, C
 ghost use Rattle.c_syntax.specs.Views.{expression_tree};
 ghost use Rattle.c_syntax.specs.Heights.{expression_height};
 
-use crate::owned::{beside, boxes};
+use crate::boxing::boxes;
 use c_reader_tokens::Fault;
 use c_syntax::{BinaryOperator, Constant, Expression, Identifier, IntegerType, UnaryOperator};
+use owned::beside;
 use std::alloc::Global;
 
 /// An expression and its height.

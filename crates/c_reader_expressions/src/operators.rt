@@ -137,7 +137,7 @@ pub fn next(level: u8, tokens: &[Token]) -> Next
     }
 }
 
-/// The fault where no room is left: too deep where the next token could begin an operand.
+/// The fault where no fuel is left: too deep where the next token could begin an operand.
 pub fn deep(tokens: &[Token]) -> Fault
     ensures { deep {A = ExpressionTree} begins_operand tokens.now ≡ Err result }
 {

@@ -1,13 +1,12 @@
-//! The reader: precedence climbing. What calls itself does so with less room.
+//! The reader: precedence climbing. What calls itself does so with less fuel.
 
 ghost use Rattle.std.specs.Prelude.{◌≡◌, ◌≢◌, ◌<◌, ◌≤◌, ◌+◌, IfOk, IfErr, Ok, Err};
 ghost use Rattle.c_syntax.specs.Views.{expression_tree};
 ghost use Rattle.c_reader_expression_laws.specs.Operands.{number, indexed, variable, cast, enclosed, parenthesized, signed, perhaps_signed, operand};
-ghost use Rattle.c_reader_expression_laws.specs.Reading.{operated, chosen, if_room, chain, expression_at};
+ghost use Rattle.c_reader_expression_laws.specs.Reading.{operated, chosen, if_fuel, chain, expression_at};
 
 use crate::measured::Measured;
 use crate::operators::{binary_sign, binding, deep, next, unary_operator, unary_sign};
-use crate::owned::beside;
 use c_reader_expression_laws::Next;
 use c_reader_tokens::{
     Fault, is_sign_next, is_type_next, misfit, read_constant, read_name, read_sign, read_type,
@@ -15,48 +14,49 @@ use c_reader_tokens::{
 use c_syntax::{
     BinaryOperator, Expression, Identifier, Punctuator, Token, TokenKind, UnaryOperator,
 };
+use owned::beside;
 use std::alloc::Global;
 
 /// The level of an operand, above that of each operator.
 const OPERAND_LEVEL: u8 = 11;
 
 /// An expression at a level of the grammar, 0 for a whole one, and the tokens behind it. It is at most
-/// as high as the room; one that would be higher is `Fault::TooDeep`.
+/// as high as the fuel; one that would be higher is `Fault::TooDeep`.
 pub fn expression(
     alloc: Global,
-    room: u8,
+    fuel: u8,
     level: u8,
     tokens: &[Token],
 ) -> Result<(Expression, &[Token]), Fault>
-    ensures ok { IfOk result (λ r. expression_at room level tokens.now ≡ Ok (expression_tree r.0, r.1.now)) }
-    ensures err { IfErr result (λ e. e ≢ Fault.NoMemory → expression_at room level tokens.now ≡ Err e) }
+    ensures ok { IfOk result (λ r. expression_at fuel level tokens.now ≡ Ok (expression_tree r.0, r.1.now)) }
+    ensures err { IfErr result (λ e. e ≢ Fault.NoMemory → expression_at fuel level tokens.now ≡ Err e) }
 {
-    let (read, rest) = read_at(alloc, room, level, tokens)?;
+    let (read, rest) = read_at(alloc, fuel, level, tokens)?;
     let Measured { expression, .. } = read;
     Ok((expression, rest))
 }
 
-/// An expression with its height, which is at most the room.
+/// An expression with its height, which is at most the fuel.
 #[cycle(expressions)]
 #[tactic(auto, unfolding(c_reader_expression_laws::specs::Reading::expression_at))]
 fn read_at(
     alloc: Global,
-    room: u8,
+    fuel: u8,
     level: u8,
     tokens: &[Token],
 ) -> Result<(Measured, &[Token]), Fault>
-    ensures ok { IfOk result (λ r. expression_at room level tokens.now ≡ Ok (expression_tree r.0.expression, r.1.now)) }
-    ensures low { IfOk result (λ r. r.0.height ≤ room) }
-    ensures err { IfErr result (λ e. e ≢ Fault.NoMemory → expression_at room level tokens.now ≡ Err e) }
+    ensures ok { IfOk result (λ r. expression_at fuel level tokens.now ≡ Ok (expression_tree r.0.expression, r.1.now)) }
+    ensures low { IfOk result (λ r. r.0.height ≤ fuel) }
+    ensures err { IfErr result (λ e. e ≢ Fault.NoMemory → expression_at fuel level tokens.now ≡ Err e) }
 {
-    if room == 0 {
+    if fuel == 0 {
         return Err(deep(tokens));
     }
-    let (left, rest) = operand(alloc, room - 1, tokens)?;
-    chain(alloc, room - 1, level, left, rest)
+    let (left, rest) = operand(alloc, fuel - 1, tokens)?;
+    chain(alloc, fuel - 1, level, left, rest)
 }
 
-/// An operand, by its first token. Its parts have so much room.
+/// An operand, by its first token. Its parts have so much fuel.
 #[cycle(expressions)]
 #[tactic(auto, unfolding(c_reader_expression_laws::specs::Operands::operand))]
 fn operand(alloc: Global, below: u8, tokens: &[Token]) -> Result<(Measured, &[Token]), Fault>
@@ -214,7 +214,7 @@ fn chain(
     }
 }
 
-/// A left operand, which leaves room for an operator above it; the operator, and the right operand.
+/// A left operand, which leaves fuel for an operator above it; the operator, and the right operand.
 #[cycle(expressions)]
 #[tactic(auto, unfolding(c_reader_expression_laws::specs::Reading::operated))]
 fn operated(
@@ -224,8 +224,8 @@ fn operated(
     left: Measured,
     tokens: &[Token],
 ) -> Result<(Measured, &[Token]), Fault>
-    ensures ok { IfOk result (λ r. if_room below (expression_tree left.expression) (operated (expression_at below) operator (expression_tree left.expression) tokens.now) ≡ Ok (expression_tree r.0.expression, r.1.now)) }
-    ensures err { IfErr result (λ e. e ≢ Fault.NoMemory → if_room below (expression_tree left.expression) (operated (expression_at below) operator (expression_tree left.expression) tokens.now) ≡ Err e) }
+    ensures ok { IfOk result (λ r. if_fuel below (expression_tree left.expression) (operated (expression_at below) operator (expression_tree left.expression) tokens.now) ≡ Ok (expression_tree r.0.expression, r.1.now)) }
+    ensures err { IfErr result (λ e. e ≢ Fault.NoMemory → if_fuel below (expression_tree left.expression) (operated (expression_at below) operator (expression_tree left.expression) tokens.now) ≡ Err e) }
 {
     if left.height > u16::from(below) {
         return Err(Fault::TooDeep);
@@ -236,7 +236,7 @@ fn operated(
     Ok((Measured::binary(alloc, operator, left, right)?, rest))
 }
 
-/// A condition, which leaves room for a choice above it; `?`, a value, `:` and a value.
+/// A condition, which leaves fuel for a choice above it; `?`, a value, `:` and a value.
 #[cycle(expressions)]
 #[tactic(auto, unfolding(c_reader_expression_laws::specs::Reading::chosen))]
 fn chosen(
@@ -245,8 +245,8 @@ fn chosen(
     condition: Measured,
     tokens: &[Token],
 ) -> Result<(Measured, &[Token]), Fault>
-    ensures ok { IfOk result (λ r. if_room below (expression_tree condition.expression) (chosen (expression_at below) (expression_tree condition.expression) tokens.now) ≡ Ok (expression_tree r.0.expression, r.1.now)) }
-    ensures err { IfErr result (λ e. e ≢ Fault.NoMemory → if_room below (expression_tree condition.expression) (chosen (expression_at below) (expression_tree condition.expression) tokens.now) ≡ Err e) }
+    ensures ok { IfOk result (λ r. if_fuel below (expression_tree condition.expression) (chosen (expression_at below) (expression_tree condition.expression) tokens.now) ≡ Ok (expression_tree r.0.expression, r.1.now)) }
+    ensures err { IfErr result (λ e. e ≢ Fault.NoMemory → if_fuel below (expression_tree condition.expression) (chosen (expression_at below) (expression_tree condition.expression) tokens.now) ≡ Err e) }
 {
     if condition.height > u16::from(below) {
         return Err(Fault::TooDeep);

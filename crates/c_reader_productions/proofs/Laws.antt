@@ -1,4 +1,4 @@
--- What is read is spelled so, what is spelled so is read, and more room reads the same: of readings that are
+-- What is read is spelled so, what is spelled so is read, and more fuel reads the same: of readings that are
 -- put together.
 use Rattle.std.proofs.Common.{◌≡◌, ℕ, zero, suc, ◌≤◌, Bool, true, false, cond, List, [], ◌∷◌, ◌++◌, length, Option, Some, None, Result, Ok, Err, inl, inr, refl, sym, ap, subst, ◌∙◌, append_assoc, arith}
 use Rattle.std.specs.Prelude.{◌⊎◌}
@@ -203,14 +203,14 @@ module _ {A : Type 0} (passes : List Token → Bool) {part : Reading A} {F : A �
 
 -- what is one higher than its parts
 module _ {A : Type 0} {parts : ℕ → Reading A} {F : ℕ → A → Type 0} (G : ℕ → A → Type 0) {P L : A → List Token → Type 0} (p : (r : ℕ) → IsSound (parts r) (F r) P L) (up : (r : ℕ) (x : A) → F r x → G (suc r) x) where
-  pub under_takes : (room : ℕ) (ts : List Token) (x : A) (rest : List Token) → under parts room ts ≡ Ok (x, rest) → IsTaken (G room) P L ts x rest
+  pub under_takes : (fuel : ℕ) (ts : List Token) (x : A) (rest : List Token) → under parts fuel ts ≡ Ok (x, rest) → IsTaken (G fuel) P L ts x rest
   unfolding less
   under_takes zero ts x rest e = absurd cc
   under_takes (suc r) ts x rest e =
       let t = (p r).takes ts x rest e in record { fits = up r x t.fits; leaves = t.leaves; front = t.front; spelled = t.spelled; parts = t.parts }
 
 module _ {A : Type 0} {parts : ℕ → Reading A} {F : ℕ → A → Type 0} (G : ℕ → A → Type 0) {P E : A → List Token → Type 0} (p : (r : ℕ) → IsWhole (parts r) (F r) P E) (down : (r : ℕ) (x : A) → G (suc r) x → F r x) (none : (x : A) → G zero x → ⊥) where
-  pub under_again : (room : ℕ) (x : A) (xs rest : List Token) → G room x → P x xs → E x rest → under parts room (xs ++ rest) ≡ Ok (x, rest)
+  pub under_again : (fuel : ℕ) (x : A) (xs rest : List Token) → G fuel x → P x xs → E x rest → under parts fuel (xs ++ rest) ≡ Ok (x, rest)
   unfolding less
   under_again zero x xs rest fits d end = absurd (none x fits)
   under_again (suc r) x xs rest fits d end = (p r).again x xs rest (down r x fits) d end
@@ -242,7 +242,7 @@ module _ {A : Type 0} (goes : List Token → Bool) {part : Reading A} {F : A →
   pub each_sound : IsSound (each goes part) (AllFit F) (Each P) Any
   each_sound = record { takes = λ ts all rest e. repeated_takes (length ts) ts all rest e }
 
--- With more room the same is read.
+-- With more fuel the same is read.
 abbrev pub Keeps : {A : Type 0} → Reading A → Reading A → Type 0
 Keeps reading more = (ts : List Token) → Stays (reading ts) (more ts)
 
@@ -282,7 +282,7 @@ stays_cond false k h = h
 pub keeps_either : {A : Type 0} (passes : List Token → Bool) {part part' other other' : Reading A} → Keeps part part' → Keeps other other' → Keeps (either passes part other) (either passes part' other')
 keeps_either passes k h ts = stays_cond (passes ts) (k ts) (h ts)
 
-pub keeps_under : {A : Type 0} (parts : ℕ → Reading A) → ((r s : ℕ) → r ≤ s → Keeps (parts r) (parts s)) → (room more : ℕ) → room ≤ more → Keeps (under parts room) (under parts more)
+pub keeps_under : {A : Type 0} (parts : ℕ → Reading A) → ((r s : ℕ) → r ≤ s → Keeps (parts r) (parts s)) → (fuel more : ℕ) → fuel ≤ more → Keeps (under parts fuel) (under parts more)
 unfolding less
 keeps_under parts k zero more le ts = inl refl
 keeps_under parts k (suc r) zero le ts = absurd (omega arith)

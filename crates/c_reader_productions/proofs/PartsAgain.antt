@@ -1,4 +1,4 @@
--- Parts of statements that are no statements: what is spelled so and is no higher than the room is read.
+-- Parts of statements that are no statements: what is spelled so and is no higher than the fuel is read.
 use Rattle.std.proofs.Common.{◌≡◌, ℕ, zero, suc, ◌+◌, ◌≤◌, Bool, true, false, List, [], ◌∷◌, ◌++◌, length, Option, Some, None, Ok, refl, sym, ap, subst, ◌∙◌, append_assoc, append-nil, arith}
 use Rattle.std.proofs.lemmas.List.{length-append}
 use Rattle.c_syntax.specs.declared.keyword.Keyword.{Keyword}
@@ -39,12 +39,12 @@ placed_word_whole k = record { again = λ x xs rest f d e. placed_word_again k x
 pub type_whole : IsWhole integer_type Whatever IsType (λ t rest. is_word_next K.Int rest ≡ false)
 type_whole = record { again = λ t xs rest f d e. integer_type_again t xs rest d e }
 
-pub expression_whole : (room : ℕ) → IsWhole (expression_at room 0) (λ e. expression_height e ≤ room) IsExpression (λ e rest. Ends 0 rest)
-expression_whole room = record { again = λ e xs rest low d ends. expression_again room 0 e xs rest d low ends }
+pub expression_whole : (fuel : ℕ) → IsWhole (expression_at fuel 0) (λ e. expression_height e ≤ fuel) IsExpression (λ e rest. Ends 0 rest)
+expression_whole fuel = record { again = λ e xs rest low d ends. expression_again fuel 0 e xs rest d low ends }
 
-pub name_whole : (room : ℕ) → IsWhole (name room) (λ x. 1 ≤ room) IsName Any
+pub name_whole : (fuel : ℕ) → IsWhole (name fuel) (λ x. 1 ≤ fuel) IsName Any
 unfolding name
-name_whole room = record { again = under_again (λ r (x : Identifier). 1 ≤ r) (λ r. placed_name_whole) (λ r x f. tt) (λ x f. absurd (omega arith)) room }
+name_whole fuel = record { again = under_again (λ r (x : Identifier). 1 ≤ r) (λ r. placed_name_whole) (λ r x f. tt) (λ x f. absurd (omega arith)) fuel }
 
 -- ---- parts one behind another
 
@@ -136,29 +136,29 @@ pub record Behind (rest : List Token) : Type 0 where
   pub closed : Closed rest
   pub next : is_sign_next RightParenthesis rest ≡ true
 
-expressions_whole : (room : ℕ) → IsWhole (commas (expression_at room 0)) (SomeFit (λ e. expression_height e ≤ room)) (Commas IsExpression) (λ es rest. Closed rest)
-expressions_whole room = commas_whole (expression_whole room) (λ e ys rest s. ends_behind Comma refl refl refl 0 ys rest s) (λ e rest c. c.ends)
+expressions_whole : (fuel : ℕ) → IsWhole (commas (expression_at fuel 0)) (SomeFit (λ e. expression_height e ≤ fuel)) (Commas IsExpression) (λ es rest. Closed rest)
+expressions_whole fuel = commas_whole (expression_whole fuel) (λ e ys rest s. ends_behind Comma refl refl refl 0 ys rest s) (λ e rest c. c.ends)
 
 commas_begin : (e : ExpressionTree) (es : List ExpressionTree) (xs rest : List Token) → Commas IsExpression (e ∷ es) xs → is_sign_next RightParenthesis (xs ++ rest) ≡ false
 commas_begin e [] xs rest d = not_sign RightParenthesis refl xs rest (expression_begins 0 e xs d)
 commas_begin e (f ∷ es) xs rest d =
     subst (λ l. is_sign_next RightParenthesis l ≡ false) (sym (parts_behind xs d.0 d.1 rest d.4)) (not_sign RightParenthesis refl d.0 (d.1 ++ rest) (expression_begins 0 e d.0 d.2))
 
-arguments_again : (room : ℕ) (es : List ExpressionTree) (xs rest : List Token) → AllFit (λ e. expression_height e ≤ room) es → Commas IsExpression es xs → Behind rest → arguments room (xs ++ rest) ≡ Ok (es, rest)
+arguments_again : (fuel : ℕ) (es : List ExpressionTree) (xs rest : List Token) → AllFit (λ e. expression_height e ≤ fuel) es → Commas IsExpression es xs → Behind rest → arguments fuel (xs ++ rest) ≡ Ok (es, rest)
 unfolding arguments
-arguments_again room [] xs rest f d b =
-    ap (λ (l : List Token). arguments room (l ++ rest)) d ∙ either_first (is_sign_next RightParenthesis) (λ l. Ok ([], l)) (commas (expression_at room 0)) rest b.next
-arguments_again room (e ∷ es) xs rest f d b =
-    either_second (is_sign_next RightParenthesis) (λ l. Ok ([], l)) (commas (expression_at room 0)) (xs ++ rest) (commas_begin e es xs rest d)
-    ∙ (expressions_whole room).again (e ∷ es) xs rest f d b.closed
+arguments_again fuel [] xs rest f d b =
+    ap (λ (l : List Token). arguments fuel (l ++ rest)) d ∙ either_first (is_sign_next RightParenthesis) (λ l. Ok ([], l)) (commas (expression_at fuel 0)) rest b.next
+arguments_again fuel (e ∷ es) xs rest f d b =
+    either_second (is_sign_next RightParenthesis) (λ l. Ok ([], l)) (commas (expression_at fuel 0)) (xs ++ rest) (commas_begin e es xs rest d)
+    ∙ (expressions_whole fuel).again (e ∷ es) xs rest f d b.closed
 
-arguments_whole : (room : ℕ) → IsWhole (arguments room) (AllFit (λ e. expression_height e ≤ room)) (Commas IsExpression) (λ es rest. Behind rest)
-arguments_whole room = record { again = arguments_again room }
+arguments_whole : (fuel : ℕ) → IsWhole (arguments fuel) (AllFit (λ e. expression_height e ≤ fuel)) (Commas IsExpression) (λ es rest. Behind rest)
+arguments_whole fuel = record { again = arguments_again fuel }
 
-arguments_fit : (room : ℕ) (es : List ExpressionTree) → arguments_height es ≤ room → (1 ≤ room) × AllFit (λ e. expression_height e ≤ room) es
-arguments_fit room [] le = (le, tt)
-arguments_fit room (e ∷ es) le =
-    let more = arguments_fit room es (omega arith) in
+arguments_fit : (fuel : ℕ) (es : List ExpressionTree) → arguments_height es ≤ fuel → (1 ≤ fuel) × AllFit (λ e. expression_height e ≤ fuel) es
+arguments_fit fuel [] le = (le, tt)
+arguments_fit fuel (e ∷ es) le =
+    let more = arguments_fit fuel es (omega arith) in
     (more.0, (omega arith, more.1))
 
 behind_arguments : (xs rest : List Token) → Sign RightParenthesis xs → Behind (xs ++ rest)
@@ -167,15 +167,15 @@ behind_arguments xs rest s = record {
   next = is_sign_next-again RightParenthesis xs rest s;
 }
 
-pub call_again : (room : ℕ) (c : CallTree) (xs rest : List Token) → call_height c ≤ room → IsCall c xs → call room (xs ++ rest) ≡ Ok (c, rest)
+pub call_again : (fuel : ℕ) (c : CallTree) (xs rest : List Token) → call_height c ≤ fuel → IsCall c xs → call fuel (xs ++ rest) ≡ Ok (c, rest)
 unfolding call
-call_again room c xs rest low d =
+call_again fuel c xs rest low d =
     let parts : (r : ℕ) → IsWhole (made (λ v. record { callee = v.0; arguments = v.1 }) (name r & sign LeftParenthesis ▷ arguments r ◁ sign RightParenthesis)) (λ (c : CallTree). (1 ≤ r) × AllFit (λ e. expression_height e ≤ r) c.arguments) IsCall Any = λ r. record {
       again = λ c xs rest f d e. made_again (λ v. record { callee = v.0; arguments = v.1 })
           (both' (name_whole r) (after' (sign_mark LeftParenthesis) (before' (arguments_whole r) (sign_mark RightParenthesis) (λ es ys rest s. behind_arguments ys rest s)))
           (λ x es ys rest d e. tt)) (c.callee, c.arguments) xs rest f d tt;
     } in
-    under_again (λ r (c : CallTree). call_height c ≤ r) parts (λ r c f. arguments_fit r c.arguments (omega arith)) (λ c f. absurd (omega arith)) room c xs rest low d tt
+    under_again (λ r (c : CallTree). call_height c ≤ r) parts (λ r c f. arguments_fit r c.arguments (omega arith)) (λ c f. absurd (omega arith)) fuel c xs rest low d tt
 
 called : (c : CallTree) (xs rest : List Token) → IsCall c xs → is_call_next (xs ++ rest) ≡ true
 called c xs rest d =
@@ -186,17 +186,17 @@ called c xs rest d =
     subst (λ l. is_sign_next LeftParenthesis l ≡ true) (sym (parts_behind d.1 q.0 q.1 rest q.4)) (is_sign_next-again LeftParenthesis q.0 (q.1 ++ rest) s) in
     subst (λ l. is_call_next l ≡ true) (sym (parts_behind xs d.0 d.1 rest d.4)) (rw (n.3, n.1, next) refl)
 
-value_again : (room : ℕ) (v : ValueTree) (xs rest : List Token) → value_height v ≤ room → IsValue v xs → Closed rest → value room (xs ++ rest) ≡ Ok (v, rest)
+value_again : (fuel : ℕ) (v : ValueTree) (xs rest : List Token) → value_height v ≤ fuel → IsValue v xs → Closed rest → value fuel (xs ++ rest) ≡ Ok (v, rest)
 unfolding value
-value_again room (T.Plain e) xs rest low d c =
-    either_second is_call_next (made (λ c. T.Called c) (call room)) (made (λ e. T.Plain e) (expression_at room 0)) (xs ++ rest) (expression_no_call 0 e xs rest d c.no_call)
-    ∙ made_again (λ e. T.Plain e) (expression_whole room) e xs rest low d c.ends
-value_again room (T.Called k) xs rest low d c =
-    either_first is_call_next (made (λ c. T.Called c) (call room)) (made (λ e. T.Plain e) (expression_at room 0)) (xs ++ rest) (called k xs rest d)
-    ∙ ap (λ r. r >>= λ (y : CallTree × List Token). done (T.Called y.0, y.1)) (call_again room k xs rest low d)
+value_again fuel (T.Plain e) xs rest low d c =
+    either_second is_call_next (made (λ c. T.Called c) (call fuel)) (made (λ e. T.Plain e) (expression_at fuel 0)) (xs ++ rest) (expression_no_call 0 e xs rest d c.no_call)
+    ∙ made_again (λ e. T.Plain e) (expression_whole fuel) e xs rest low d c.ends
+value_again fuel (T.Called k) xs rest low d c =
+    either_first is_call_next (made (λ c. T.Called c) (call fuel)) (made (λ e. T.Plain e) (expression_at fuel 0)) (xs ++ rest) (called k xs rest d)
+    ∙ ap (λ r. r >>= λ (y : CallTree × List Token). done (T.Called y.0, y.1)) (call_again fuel k xs rest low d)
 
-pub value_whole : (room : ℕ) → IsWhole (value room) (λ v. value_height v ≤ room) IsValue (λ v rest. Closed rest)
-value_whole room = record { again = value_again room }
+pub value_whole : (fuel : ℕ) → IsWhole (value fuel) (λ v. value_height v ≤ fuel) IsValue (λ v rest. Closed rest)
+value_whole fuel = record { again = value_again fuel }
 
 -- ---- what a `for` sets
 
@@ -229,29 +229,29 @@ passes_is passes kind b e xs rest s = rw (s.parts, s.is) e
 pub starts_name : (x : Identifier) (xs : List Token) → IsName x xs → Starts (Kind.Name x.name) xs
 starts_name x xs d = starts_placed (Kind.Name x.name) x.offset xs d
 
-cell_again : (room : ℕ) (a : Identifier) (e : ExpressionTree) (xs rest : List Token) → place_height (T.Cell a e) ≤ room → IsPlace (T.Cell a e) xs → cell room (xs ++ rest) ≡ Ok (T.Cell a e, rest)
+cell_again : (fuel : ℕ) (a : Identifier) (e : ExpressionTree) (xs rest : List Token) → place_height (T.Cell a e) ≤ fuel → IsPlace (T.Cell a e) xs → cell fuel (xs ++ rest) ≡ Ok (T.Cell a e, rest)
 unfolding cell less
 cell_again zero a e xs rest low d = absurd (omega arith)
 cell_again (suc r) a e xs rest low d =
     made_again (λ v. T.Cell v.0 v.1) (both' (name_whole r) (after' (sign_mark LeftBracket) (before' (expression_whole r) (sign_mark RightBracket) (λ e ys rest s. ends_behind RightBracket refl refl refl 0 ys rest s))) (λ x e ys rest d k. tt)) (a, e) xs rest (omega arith, omega arith) d tt
 
-place_again : (room : ℕ) (p : PlaceTree) (xs rest : List Token) → place_height p ≤ room → IsPlace p xs → is_sign_next LeftBracket rest ≡ false → place room (xs ++ rest) ≡ Ok (p, rest)
+place_again : (fuel : ℕ) (p : PlaceTree) (xs rest : List Token) → place_height p ≤ fuel → IsPlace p xs → is_sign_next LeftBracket rest ≡ false → place fuel (xs ++ rest) ≡ Ok (p, rest)
 unfolding place
-place_again room (T.Name x) xs rest low d free =
+place_again fuel (T.Name x) xs rest low d free =
     let other : is_cell_next (xs ++ rest) ≡ false = rw (d.3, d.1, free) refl in
-    either_second is_cell_next (cell room) (made (λ x. T.Name x) (name room)) (xs ++ rest) other ∙ made_again (λ x. T.Name x) (name_whole room) x xs rest low d tt
-place_again room (T.Cell a e) xs rest low d free =
+    either_second is_cell_next (cell fuel) (made (λ x. T.Name x) (name fuel)) (xs ++ rest) other ∙ made_again (λ x. T.Name x) (name_whole fuel) x xs rest low d tt
+place_again fuel (T.Cell a e) xs rest low d free =
     let n = d.2 in
     let q = d.3 in
     let behind : is_sign_next LeftBracket (d.1 ++ rest) ≡ true =
     subst (λ l. is_sign_next LeftBracket l ≡ true) (sym (parts_behind d.1 q.0 q.1 rest q.4)) (is_sign_next-again LeftBracket q.0 (q.1 ++ rest) q.2) in
     let next : is_cell_next (xs ++ rest) ≡ true = subst (λ l. is_cell_next l ≡ true) (sym (parts_behind xs d.0 d.1 rest d.4)) (rw (n.3, n.1, behind) refl) in
-    either_first is_cell_next (cell room) (made (λ x. T.Name x) (name room)) (xs ++ rest) next ∙ cell_again room a e xs rest low d
+    either_first is_cell_next (cell fuel) (made (λ x. T.Name x) (name fuel)) (xs ++ rest) next ∙ cell_again fuel a e xs rest low d
 
-place_whole : (room : ℕ) → IsWhole (place room) (λ p. place_height p ≤ room) IsPlace (λ p rest. is_sign_next LeftBracket rest ≡ false)
-place_whole room = record { again = place_again room }
+place_whole : (fuel : ℕ) → IsWhole (place fuel) (λ p. place_height p ≤ fuel) IsPlace (λ p rest. is_sign_next LeftBracket rest ≡ false)
+place_whole fuel = record { again = place_again fuel }
 
-set_again : (room : ℕ) (s : SetTree) (xs rest : List Token) → set_height s ≤ room → IsSet s xs → Ends 0 rest → set room (xs ++ rest) ≡ Ok (s, rest)
+set_again : (fuel : ℕ) (s : SetTree) (xs rest : List Token) → set_height s ≤ fuel → IsSet s xs → Ends 0 rest → set fuel (xs ++ rest) ≡ Ok (s, rest)
 unfolding set less
 set_again zero s xs rest low d e = absurd (omega arith)
 set_again (suc r) s xs rest low d e =
@@ -260,34 +260,34 @@ set_again (suc r) s xs rest low d e =
     passes_is (is_sign LeftBracket) (Kind.Punctuator Assign) false refl ys rest (starts_then (Kind.Punctuator Assign) ys d (starts_sign Assign d.0 d.2))))
     (s.place, s.value) xs rest (omega arith, omega arith) d e
 
-pub set_whole : (room : ℕ) → IsWhole (set room) (λ s. set_height s ≤ room) IsSet (λ s rest. Ends 0 rest)
-set_whole room = record { again = set_again room }
+pub set_whole : (fuel : ℕ) → IsWhole (set fuel) (λ s. set_height s ≤ fuel) IsSet (λ s rest. Ends 0 rest)
+set_whole fuel = record { again = set_again fuel }
 
 -- ---- locals
 
-pub option_fits : {A : Type 0} (height : A → ℕ) (room : ℕ) (o : Option A) → optional_height height o ≤ room → IfThere (λ x. height x ≤ room) o
-option_fits height room None le = tt
-option_fits height room (Some x) le = le
+pub option_fits : {A : Type 0} (height : A → ℕ) (fuel : ℕ) (o : Option A) → optional_height height o ≤ fuel → IfThere (λ x. height x ≤ fuel) o
+option_fits height fuel None le = tt
+option_fits height fuel (Some x) le = le
 
 begins_assign : (v : ValueTree) (xs rest : List Token) → (Sign Assign ⨾ IsValue v) xs → is_sign_next Assign (xs ++ rest) ≡ true
 begins_assign v xs rest d = passes_is (is_sign Assign) (Kind.Punctuator Assign) true refl xs rest (starts_then (Kind.Punctuator Assign) xs d (starts_sign Assign d.0 d.2))
 
-local_value_again : (room : ℕ) (o : Option ValueTree) (xs rest : List Token) → optional_height value_height o ≤ room → IsLocalValue o xs → Starts (Kind.Punctuator Semicolon) rest → Closed rest → local_value room (xs ++ rest) ≡ Ok (o, rest)
+local_value_again : (fuel : ℕ) (o : Option ValueTree) (xs rest : List Token) → optional_height value_height o ≤ fuel → IsLocalValue o xs → Starts (Kind.Punctuator Semicolon) rest → Closed rest → local_value fuel (xs ++ rest) ≡ Ok (o, rest)
 unfolding local_value
-local_value_again room None xs rest low d s c =
-    (only' (is_sign_next Assign) (after' (sign_mark Assign) (value_whole room)) (λ v ys r e. begins_assign v ys r e)).again None xs rest tt d (rw (s.parts, s.is) refl)
-local_value_again room (Some v) xs rest low d s c =
-    (only' (is_sign_next Assign) (after' (sign_mark Assign) (value_whole room)) (λ v ys r e. begins_assign v ys r e)).again (Some v) xs rest low d c
+local_value_again fuel None xs rest low d s c =
+    (only' (is_sign_next Assign) (after' (sign_mark Assign) (value_whole fuel)) (λ v ys r e. begins_assign v ys r e)).again None xs rest tt d (rw (s.parts, s.is) refl)
+local_value_again fuel (Some v) xs rest low d s c =
+    (only' (is_sign_next Assign) (after' (sign_mark Assign) (value_whole fuel)) (λ v ys r e. begins_assign v ys r e)).again (Some v) xs rest low d c
 
 pub name_no_int : (x : Identifier) (xs rest : List Token) → Starts (Kind.Name x.name) xs → is_word_next K.Int (xs ++ rest) ≡ false
 name_no_int x xs rest s = rw (s.parts, s.is) refl
 
-pub local_again : (room : ℕ) (l : LocalTree) (xs rest : List Token) → local_height l ≤ suc room → IsLocal l xs → local room (xs ++ rest) ≡ Ok (l, rest)
+pub local_again : (fuel : ℕ) (l : LocalTree) (xs rest : List Token) → local_height l ≤ suc fuel → IsLocal l xs → local fuel (xs ++ rest) ≡ Ok (l, rest)
 unfolding local
-local_again room l xs rest low d =
+local_again fuel l xs rest low d =
     made_again (λ v. record { kind = v.0; name = v.1.0; value = v.1.1 })
-    (both' type_whole (both' (name_whole room) (before' value (sign_mark Semicolon) (λ o ys r s. (record { token = s.0; more = r; is = s.1; parts = ap (λ l. l ++ r) s.2 }, closed_semicolon ys r s))) (λ x y ys r e k. tt))
+    (both' type_whole (both' (name_whole fuel) (before' value (sign_mark Semicolon) (λ o ys r s. (record { token = s.0; more = r; is = s.1; parts = ap (λ l. l ++ r) s.2 }, closed_semicolon ys r s))) (λ x y ys r e k. tt))
     (λ t v ys r e k. name_no_int v.0 ys r (starts_then (Kind.Name v.0.name) ys e (starts_name v.0 e.0 e.2))))
     (l.kind, (l.name, l.value)) xs rest (tt, (omega arith, omega arith)) d tt where
-      value : IsWhole (local_value room) (λ o. optional_height value_height o ≤ room) IsLocalValue (λ o r. Starts (Kind.Punctuator Semicolon) r × Closed r)
-      value = record { again = λ o ys r f e k. local_value_again room o ys r f e k.0 k.1 }
+      value : IsWhole (local_value fuel) (λ o. optional_height value_height o ≤ fuel) IsLocalValue (λ o r. Starts (Kind.Punctuator Semicolon) r × Closed r)
+      value = record { again = λ o ys r f e k. local_value_again fuel o ys r f e k.0 k.1 }

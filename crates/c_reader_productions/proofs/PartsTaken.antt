@@ -1,4 +1,4 @@
--- Parts of statements that are no statements: what is read is spelled so, and is no higher than the room.
+-- Parts of statements that are no statements: what is read is spelled so, and is no higher than the fuel.
 use Rattle.std.proofs.Common.{◌≡◌, ℕ, suc, ◌≤◌, List, [], ◌∷◌, ◌++◌, Option, Some, None, Ok, refl, sym, ap, subst, ◌∙◌, append_assoc, append-nil, arith}
 use Rattle.std.specs.Prelude.{max}
 use Rattle.c_syntax.specs.declared.keyword.Keyword.{Keyword}
@@ -53,14 +53,14 @@ type_sound = record {
   takes = λ ts x rest e. let t = integer_type_takes ts x rest e in record { fits = tt; leaves = tt; front = t.front; spelled = t.spelled; parts = t.parts };
 }
 
-pub expression_sound : (room : ℕ) → IsSound (expression_at room 0) (λ e. expression_height e ≤ room) IsExpression Any
-expression_sound room = record {
-  takes = λ ts x rest e. let t = expression_takes room 0 ts x rest e in record { fits = t.low; leaves = tt; front = t.takes.front; spelled = t.takes.spelled; parts = t.takes.parts };
+pub expression_sound : (fuel : ℕ) → IsSound (expression_at fuel 0) (λ e. expression_height e ≤ fuel) IsExpression Any
+expression_sound fuel = record {
+  takes = λ ts x rest e. let t = expression_takes fuel 0 ts x rest e in record { fits = t.low; leaves = tt; front = t.takes.front; spelled = t.takes.spelled; parts = t.takes.parts };
 }
 
-pub name_sound : (room : ℕ) → IsSound (name room) (λ x. 1 ≤ room) IsName Any
+pub name_sound : (fuel : ℕ) → IsSound (name fuel) (λ x. 1 ≤ fuel) IsName Any
 unfolding name
-name_sound room = record { takes = under_takes (λ r (x : Identifier). 1 ≤ r) (λ r. placed_name_sound) (λ r x f. omega arith) room }
+name_sound fuel = record { takes = under_takes (λ r (x : Identifier). 1 ≤ r) (λ r. placed_name_sound) (λ r x f. omega arith) fuel }
 
 -- ---- arguments and calls
 
@@ -82,101 +82,101 @@ commas_sound {A} {part} {F} {P} p = record {
   takes = made_takes (λ v. v.0 ∷ v.1) (both p (each_sound (is_sign_next Comma) (after (sign_mark Comma) p))) (AllFit F) (Commas P) Any (λ v f. f) (λ v xs d. together P v.0 v.1 xs d) (λ v r l. tt);
 }
 
-pub arguments_sound : (room : ℕ) → IsSound (arguments room) (AllFit (λ e. expression_height e ≤ room)) (Commas IsExpression) Any
+pub arguments_sound : (fuel : ℕ) → IsSound (arguments fuel) (AllFit (λ e. expression_height e ≤ fuel)) (Commas IsExpression) Any
 unfolding arguments
-arguments_sound room = record {
-  takes = either_takes (is_sign_next RightParenthesis) (λ l. Ok ([], l)) (commas (expression_at room 0))
-      (λ ts x rest h e. subst (λ (z : List ExpressionTree × List Token). IsTaken (AllFit (λ e. expression_height e ≤ room)) (Commas IsExpression) Any ts z.0 z.1) (ok_is ([], ts) (x, rest) e) (record { fits = tt; leaves = tt; front = []; spelled = refl; parts = refl }))
-      (λ ts x rest h. (commas_sound (expression_sound room)).takes ts x rest);
+arguments_sound fuel = record {
+  takes = either_takes (is_sign_next RightParenthesis) (λ l. Ok ([], l)) (commas (expression_at fuel 0))
+      (λ ts x rest h e. subst (λ (z : List ExpressionTree × List Token). IsTaken (AllFit (λ e. expression_height e ≤ fuel)) (Commas IsExpression) Any ts z.0 z.1) (ok_is ([], ts) (x, rest) e) (record { fits = tt; leaves = tt; front = []; spelled = refl; parts = refl }))
+      (λ ts x rest h. (commas_sound (expression_sound fuel)).takes ts x rest);
 }
 
-arguments_low : (room : ℕ) (es : List ExpressionTree) → 1 ≤ room → AllFit (λ e. expression_height e ≤ room) es → arguments_height es ≤ room
-arguments_low room [] le f = le
-arguments_low room (e ∷ es) le f =
+arguments_low : (fuel : ℕ) (es : List ExpressionTree) → 1 ≤ fuel → AllFit (λ e. expression_height e ≤ fuel) es → arguments_height es ≤ fuel
+arguments_low fuel [] le f = le
+arguments_low fuel (e ∷ es) le f =
     let one = f.0 in
-    let more = arguments_low room es le f.1 in
+    let more = arguments_low fuel es le f.1 in
     omega arith
 
-pub call_sound : (room : ℕ) → IsSound (call room) (λ c. call_height c ≤ room) IsCall Any
+pub call_sound : (fuel : ℕ) → IsSound (call fuel) (λ c. call_height c ≤ fuel) IsCall Any
 unfolding call
-call_sound room = record {
+call_sound fuel = record {
   takes = under_takes (λ r c. call_height c ≤ r) (λ r. record {
     takes = made_takes (λ v. record { callee = v.0; arguments = v.1 }) (both (name_sound r) (after (sign_mark LeftParenthesis) (before (arguments_sound r) (sign_mark RightParenthesis)))) (λ c. call_height c ≤ suc r) IsCall Any
         (λ v f. let low = arguments_low r v.1 f.0 f.1 in omega arith) (λ v xs d. d) (λ v rest l. tt);
-  }) (λ r x f. f) room;
+  }) (λ r x f. f) fuel;
 }
 
-pub value_sound : (room : ℕ) → IsSound (value room) (λ v. value_height v ≤ room) IsValue Any
+pub value_sound : (fuel : ℕ) → IsSound (value fuel) (λ v. value_height v ≤ fuel) IsValue Any
 unfolding value
-value_sound room = record {
-  takes = either_takes is_call_next (made (λ c. T.Called c) (call room)) (made (λ e. T.Plain e) (expression_at room 0))
-      (λ ts x rest h. made_takes (λ c. T.Called c) (call_sound room) (λ v. value_height v ≤ room) IsValue Any (λ v f. f) (λ v xs d. d) (λ v r l. tt) ts x rest)
-      (λ ts x rest h. made_takes (λ e. T.Plain e) (expression_sound room) (λ v. value_height v ≤ room) IsValue Any (λ v f. f) (λ v xs d. d) (λ v r l. tt) ts x rest);
+value_sound fuel = record {
+  takes = either_takes is_call_next (made (λ c. T.Called c) (call fuel)) (made (λ e. T.Plain e) (expression_at fuel 0))
+      (λ ts x rest h. made_takes (λ c. T.Called c) (call_sound fuel) (λ v. value_height v ≤ fuel) IsValue Any (λ v f. f) (λ v xs d. d) (λ v r l. tt) ts x rest)
+      (λ ts x rest h. made_takes (λ e. T.Plain e) (expression_sound fuel) (λ v. value_height v ≤ fuel) IsValue Any (λ v f. f) (λ v xs d. d) (λ v r l. tt) ts x rest);
 }
 
 -- ---- what a `for` sets
 
-cell_sound : (room : ℕ) → IsSound (cell room) (λ p. place_height p ≤ room) IsPlace Any
+cell_sound : (fuel : ℕ) → IsSound (cell fuel) (λ p. place_height p ≤ fuel) IsPlace Any
 unfolding cell
-cell_sound room = record {
+cell_sound fuel = record {
   takes = under_takes (λ r p. place_height p ≤ r) (λ r. record {
     takes = made_takes (λ v. T.Cell v.0 v.1) (both (name_sound r) (after (sign_mark LeftBracket) (before (expression_sound r) (sign_mark RightBracket)))) (λ p. place_height p ≤ suc r) IsPlace Any
         (λ v f. let one = f.0 in let low = f.1 in omega arith) (λ v xs d. d) (λ v rest l. tt);
-  }) (λ r x f. f) room;
+  }) (λ r x f. f) fuel;
 }
 
-pub place_sound : (room : ℕ) → IsSound (place room) (λ p. place_height p ≤ room) IsPlace Any
+pub place_sound : (fuel : ℕ) → IsSound (place fuel) (λ p. place_height p ≤ fuel) IsPlace Any
 unfolding place
-place_sound room = record {
-  takes = either_takes is_cell_next (cell room) (made (λ x. T.Name x) (name room))
-      (λ ts x rest h. (cell_sound room).takes ts x rest)
-      (λ ts x rest h. made_takes (λ x. T.Name x) (name_sound room) (λ p. place_height p ≤ room) IsPlace Any (λ v f. f) (λ v xs d. d) (λ v r l. tt) ts x rest);
+place_sound fuel = record {
+  takes = either_takes is_cell_next (cell fuel) (made (λ x. T.Name x) (name fuel))
+      (λ ts x rest h. (cell_sound fuel).takes ts x rest)
+      (λ ts x rest h. made_takes (λ x. T.Name x) (name_sound fuel) (λ p. place_height p ≤ fuel) IsPlace Any (λ v f. f) (λ v xs d. d) (λ v r l. tt) ts x rest);
 }
 
-pub set_sound : (room : ℕ) → IsSound (set room) (λ s. set_height s ≤ room) IsSet Any
+pub set_sound : (fuel : ℕ) → IsSound (set fuel) (λ s. set_height s ≤ fuel) IsSet Any
 unfolding set
-set_sound room = record {
+set_sound fuel = record {
   takes = under_takes (λ r s. set_height s ≤ r) (λ r. record {
     takes = made_takes (λ v. record { place = v.0; value = v.1 }) (both (place_sound r) (after (sign_mark Assign) (expression_sound r))) (λ s. set_height s ≤ suc r) IsSet Any
         (λ v f. let one = f.0 in let low = f.1 in omega arith) (λ v xs d. d) (λ v rest l. tt);
-  }) (λ r x f. f) room;
+  }) (λ r x f. f) fuel;
 }
 
 -- ---- locals
 
-pub option_low : {A : Type 0} (height : A → ℕ) (room : ℕ) (o : Option A) → IfThere (λ x. height x ≤ room) o → optional_height height o ≤ room
-option_low height room None f = omega arith
-option_low height room (Some x) f = f
+pub option_low : {A : Type 0} (height : A → ℕ) (fuel : ℕ) (o : Option A) → IfThere (λ x. height x ≤ fuel) o → optional_height height o ≤ fuel
+option_low height fuel None f = omega arith
+option_low height fuel (Some x) f = f
 
 local_value_spelled : (o : Option ValueTree) (xs : List Token) → Perhaps (λ v. Sign Assign ⨾ IsValue v) o xs → IsLocalValue o xs
 local_value_spelled None xs d = d
 local_value_spelled (Some v) xs d = d
 
-local_value_sound : (room : ℕ) → IsSound (local_value room) (λ o. optional_height value_height o ≤ room) IsLocalValue Any
+local_value_sound : (fuel : ℕ) → IsSound (local_value fuel) (λ o. optional_height value_height o ≤ fuel) IsLocalValue Any
 unfolding local_value
-local_value_sound room = sound_as (only (is_sign_next Assign) (after (sign_mark Assign) (value_sound room))) (λ o. optional_height value_height o ≤ room) IsLocalValue (λ o f. option_low value_height room o f) local_value_spelled
+local_value_sound fuel = sound_as (only (is_sign_next Assign) (after (sign_mark Assign) (value_sound fuel))) (λ o. optional_height value_height o ≤ fuel) IsLocalValue (λ o f. option_low value_height fuel o f) local_value_spelled
 
-pub local_sound : (room : ℕ) → IsSound (local room) (λ l. local_height l ≤ suc room) IsLocal Any
+pub local_sound : (fuel : ℕ) → IsSound (local fuel) (λ l. local_height l ≤ suc fuel) IsLocal Any
 unfolding local
-local_sound room = record {
-  takes = made_takes (λ v. record { kind = v.0; name = v.1.0; value = v.1.1 }) (both type_sound (both (name_sound room) (before (local_value_sound room) (sign_mark Semicolon)))) (λ l. local_height l ≤ suc room) IsLocal Any
+local_sound fuel = record {
+  takes = made_takes (λ v. record { kind = v.0; name = v.1.0; value = v.1.1 }) (both type_sound (both (name_sound fuel) (before (local_value_sound fuel) (sign_mark Semicolon)))) (λ l. local_height l ≤ suc fuel) IsLocal Any
       (λ v f. let one = f.1.0 in let low = f.1.1 in omega arith) (λ v xs d. d) (λ v rest l. tt);
 }
 
 -- ---- how a `for` begins
 
-start_local_sound : (room : ℕ) → IsSound (start_local room) (λ s. start_height s ≤ room) IsStart Any
+start_local_sound : (fuel : ℕ) → IsSound (start_local fuel) (λ s. start_height s ≤ fuel) IsStart Any
 unfolding start_local
-start_local_sound room =
-    let behind : IsSound (under (λ r. name r & sign Assign ▷ expression_at r 0 ◁ sign Semicolon) room) (λ v. suc (max 1 (expression_height v.1)) ≤ room) (λ v. IsName v.0 ⨾ (Sign Assign ⨾ (IsExpression v.1 ⨾ Sign Semicolon))) Any = record {
-      takes = under_takes (λ r v. suc (max 1 (expression_height v.1)) ≤ r) (λ r. both (name_sound r) (after (sign_mark Assign) (before (expression_sound r) (sign_mark Semicolon)))) (λ r v f. let one = f.0 in let low = f.1 in omega arith) room;
+start_local_sound fuel =
+    let behind : IsSound (under (λ r. name r & sign Assign ▷ expression_at r 0 ◁ sign Semicolon) fuel) (λ v. suc (max 1 (expression_height v.1)) ≤ fuel) (λ v. IsName v.0 ⨾ (Sign Assign ⨾ (IsExpression v.1 ⨾ Sign Semicolon))) Any = record {
+      takes = under_takes (λ r v. suc (max 1 (expression_height v.1)) ≤ r) (λ r. both (name_sound r) (after (sign_mark Assign) (before (expression_sound r) (sign_mark Semicolon)))) (λ r v f. let one = f.0 in let low = f.1 in omega arith) fuel;
     } in
-    record { takes = made_takes (λ v. T.StartLocal v.0 v.1.0 v.1.1) (both type_sound behind) (λ s. start_height s ≤ room) IsStart Any (λ v f. f.1) (λ v xs d. d) (λ v rest l. tt) }
+    record { takes = made_takes (λ v. T.StartLocal v.0 v.1.0 v.1.1) (both type_sound behind) (λ s. start_height s ≤ fuel) IsStart Any (λ v f. f.1) (λ v xs d. d) (λ v rest l. tt) }
 
-start_set_sound : (room : ℕ) → IsSound (start_set room) (λ s. start_height s ≤ room) IsStart Any
+start_set_sound : (fuel : ℕ) → IsSound (start_set fuel) (λ s. start_height s ≤ fuel) IsStart Any
 unfolding start_set
-start_set_sound room = record {
-  takes = made_takes (λ s. T.StartSet s) (before (set_sound room) (sign_mark Semicolon)) (λ s. start_height s ≤ room) IsStart Any (λ v f. f) (λ v xs d. d) (λ v rest l. tt);
+start_set_sound fuel = record {
+  takes = made_takes (λ s. T.StartSet s) (before (set_sound fuel) (sign_mark Semicolon)) (λ s. start_height s ≤ fuel) IsStart Any (λ v f. f) (λ v xs d. d) (λ v rest l. tt);
 }
 
 -- one mark that stands for a value
@@ -187,10 +187,10 @@ marked_takes {A} p value F P L fits spells leaves ts x rest e =
     subst (λ (z : A × List Token). IsTaken F P L ts z.0 z.1) (ok_is (value, b.0) (x, rest) b.2)
     (record { fits = fits; leaves = leaves b.0; front = t.front; spelled = spells t.front t.spelled; parts = t.parts })
 
-pub start_sound : (room : ℕ) → IsSound (start room) (λ s. start_height s ≤ room) IsStart Any
+pub start_sound : (fuel : ℕ) → IsSound (start fuel) (λ s. start_height s ≤ fuel) IsStart Any
 unfolding start start_nothing
-start_sound room = record {
-  takes = either_takes (is_sign_next Semicolon) start_nothing (either is_type_next (start_local room) (start_set room))
-      (λ ts x rest h. marked_takes Semicolon T.StartNothing (λ s. start_height s ≤ room) IsStart Any (omega arith) (λ xs d. d) (λ r. tt) ts x rest)
-      (λ ts x rest h. either_takes is_type_next (start_local room) (start_set room) (λ ts x rest h. (start_local_sound room).takes ts x rest) (λ ts x rest h. (start_set_sound room).takes ts x rest) ts x rest);
+start_sound fuel = record {
+  takes = either_takes (is_sign_next Semicolon) start_nothing (either is_type_next (start_local fuel) (start_set fuel))
+      (λ ts x rest h. marked_takes Semicolon T.StartNothing (λ s. start_height s ≤ fuel) IsStart Any (omega arith) (λ xs d. d) (λ r. tt) ts x rest)
+      (λ ts x rest h. either_takes is_type_next (start_local fuel) (start_set fuel) (λ ts x rest h. (start_local_sound fuel).takes ts x rest) (λ ts x rest h. (start_set_sound fuel).takes ts x rest) ts x rest);
 }

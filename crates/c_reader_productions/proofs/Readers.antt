@@ -26,7 +26,8 @@ use Rattle.c_reader_tokens.proofs.Tokens.{sign_takes, sign_again, word_takes, wo
 use Rattle.c_reader_expression_laws.specs.Operators.{Ends}
 use Rattle.c_reader_expression_laws.specs.Reading.{expression_at}
 use Rattle.c_reader_expression_laws.proofs.Laws.{expression_takes, expression_again}
-use Rattle.c_reader_productions.proofs.Combining.{IsMark, IsReader, IsTaken, Any, Whatever}
+use Rattle.c_reader_productions.proofs.Combining.{IsReader}
+use Rattle.c_reader_productions.proofs.Laws.{IsMark, IsTaken, Any, Whatever}
 
 pub sign_mark : (p : Punctuator) → IsMark (sign p) (Sign p)
 sign_mark p = record { takes = sign_takes p; again = sign_again p }
@@ -46,13 +47,13 @@ name_law = record { takes = λ ts x rest e. taken ts x rest (placed_name_takes t
 pub type_law : IsReader integer_type Whatever IsType Any (λ t rest. is_word_next K.Int rest ≡ false)
 type_law = record { takes = λ ts t rest e. taken ts t rest (integer_type_takes ts t rest e); again = λ t xs rest fits s end. integer_type_again t xs rest s end }
 
-pub expression_law : (room : ℕ) → IsReader (expression_at room 0) (λ t. expression_height t ≤ room) IsExpression Any (λ t rest. Ends 0 rest)
-expression_law room = record {
+pub expression_law : (fuel : ℕ) → IsReader (expression_at fuel 0) (λ t. expression_height t ≤ fuel) IsExpression Any (λ t rest. Ends 0 rest)
+expression_law fuel = record {
   takes = λ ts t rest e.
-      let r = expression_takes room 0 ts t rest e in
+      let r = expression_takes fuel 0 ts t rest e in
       let k = r.takes in
       record { fits = r.low; leaves = tt; front = k.front; spelled = k.spelled; parts = k.parts };
-  again = λ t xs rest fits s end. expression_again room 0 t xs rest s fits end;
+  again = λ t xs rest fits s end. expression_again fuel 0 t xs rest s fits end;
 }
 
 -- ---- how something begins

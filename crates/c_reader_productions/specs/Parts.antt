@@ -1,5 +1,5 @@
 -- How the parts of statements are read that are no statements: calls, values, places and the like. The number is
--- the room: a tree that is higher is not read.
+-- the fuel: a tree that is higher is not read.
 use Rattle.std.specs.Prelude.{ℕ, zero, suc, Bool, false, List, [], ◌∷◌, Option, Result, Ok, Err, ◌&&◌, if◌then◌else◌}
 use Rattle.c_syntax.specs.declared.punctuator.Punctuator.TheVariants.{LeftParenthesis, RightParenthesis, LeftBracket, RightBracket, Semicolon, Assign}
 use Rattle.c_syntax.specs.declared.token.Token.{Token}
@@ -14,29 +14,29 @@ use Rattle.c_reader_tokens.specs.Tokens.{sign, placed_name, integer_type}
 use Rattle.c_reader_expression_laws.specs.Reading.{expression_at}
 use Rattle.c_reader_productions.specs.Combining.{◌▷◌, ◌◁◌, ◌&◌, made, either, missing, there, commas}
 
--- one less room, for the parts of something
+-- one less fuel, for the parts of something
 unfoldable pub less : ℕ → Result ℕ Fault
 less zero = Err TooDeep
-less (suc room) = Ok room
+less (suc fuel) = Ok fuel
 
 -- what is one higher than its parts
 abbrev pub under : {A : Type 0} → (ℕ → Reading A) → ℕ → Reading A
-under parts room ts = do
-  r ← less room
+under parts fuel ts = do
+  r ← less fuel
   parts r ts
 
 unfoldable pub name : ℕ → Reading Identifier
-name room ts = under (λ r. placed_name) room ts
+name fuel ts = under (λ r. placed_name) fuel ts
 
 unfoldable pub arguments : ℕ → Reading (List ExpressionTree)
-arguments room ts = if is_sign_next RightParenthesis ts then Ok ([], ts) else commas (expression_at room 0) ts
+arguments fuel ts = if is_sign_next RightParenthesis ts then Ok ([], ts) else commas (expression_at fuel 0) ts
 
 unfoldable pub call : ℕ → Reading CallTree
-call room ts = under (λ r. made (λ v. record { callee = v.0; arguments = v.1 })
-    (name r & sign LeftParenthesis ▷ arguments r ◁ sign RightParenthesis)) room ts
+call fuel ts = under (λ r. made (λ v. record { callee = v.0; arguments = v.1 })
+    (name r & sign LeftParenthesis ▷ arguments r ◁ sign RightParenthesis)) fuel ts
 
 unfoldable pub value : ℕ → Reading ValueTree
-value room ts = either is_call_next (made (λ c. T.Called c) (call room)) (made (λ e. T.Plain e) (expression_at room 0)) ts
+value fuel ts = either is_call_next (made (λ c. T.Called c) (call fuel)) (made (λ e. T.Plain e) (expression_at fuel 0)) ts
 
 -- a cell begins with a name and `[`
 abbrev pub is_cell_next : List Token → Bool
@@ -44,31 +44,31 @@ is_cell_next [] = false
 is_cell_next (t ∷ ts) = is_name t.kind && is_sign_next LeftBracket ts
 
 unfoldable pub cell : ℕ → Reading PlaceTree
-cell room ts = under (λ r. made (λ v. T.Cell v.0 v.1) (name r & sign LeftBracket ▷ expression_at r 0 ◁ sign RightBracket)) room ts
+cell fuel ts = under (λ r. made (λ v. T.Cell v.0 v.1) (name r & sign LeftBracket ▷ expression_at r 0 ◁ sign RightBracket)) fuel ts
 
 unfoldable pub place : ℕ → Reading PlaceTree
-place room ts = either is_cell_next (cell room) (made (λ x. T.Name x) (name room)) ts
+place fuel ts = either is_cell_next (cell fuel) (made (λ x. T.Name x) (name fuel)) ts
 
 unfoldable pub set : ℕ → Reading SetTree
-set room ts = under (λ r. made (λ v. record { place = v.0; value = v.1 }) (place r & sign Assign ▷ expression_at r 0)) room ts
+set fuel ts = under (λ r. made (λ v. record { place = v.0; value = v.1 }) (place r & sign Assign ▷ expression_at r 0)) fuel ts
 
 unfoldable pub local_value : ℕ → Reading (Option ValueTree)
-local_value room ts = either (is_sign_next Assign) (there (sign Assign ▷ value room)) missing ts
+local_value fuel ts = either (is_sign_next Assign) (there (sign Assign ▷ value fuel)) missing ts
 
--- The room is that of its parts.
+-- The fuel is that of its parts.
 unfoldable pub local : ℕ → Reading LocalTree
-local room ts = made (λ v. record { kind = v.0; name = v.1.0; value = v.1.1 })
-    (integer_type & name room & local_value room ◁ sign Semicolon) ts
+local fuel ts = made (λ v. record { kind = v.0; name = v.1.0; value = v.1.1 })
+    (integer_type & name fuel & local_value fuel ◁ sign Semicolon) ts
 
 unfoldable pub start_local : ℕ → Reading StartTree
-start_local room ts = made (λ v. T.StartLocal v.0 v.1.0 v.1.1)
-    (integer_type & under (λ r. name r & sign Assign ▷ expression_at r 0 ◁ sign Semicolon) room) ts
+start_local fuel ts = made (λ v. T.StartLocal v.0 v.1.0 v.1.1)
+    (integer_type & under (λ r. name r & sign Assign ▷ expression_at r 0 ◁ sign Semicolon) fuel) ts
 
 unfoldable pub start_set : ℕ → Reading StartTree
-start_set room ts = made (λ s. T.StartSet s) (set room ◁ sign Semicolon) ts
+start_set fuel ts = made (λ s. T.StartSet s) (set fuel ◁ sign Semicolon) ts
 
 unfoldable pub start_nothing : Reading StartTree
 start_nothing ts = (sign Semicolon ▷ (λ rest. Ok (T.StartNothing, rest))) ts
 
 unfoldable pub start : ℕ → Reading StartTree
-start room ts = either (is_sign_next Semicolon) start_nothing (either is_type_next (start_local room) (start_set room)) ts
+start fuel ts = either (is_sign_next Semicolon) start_nothing (either is_type_next (start_local fuel) (start_set fuel)) ts

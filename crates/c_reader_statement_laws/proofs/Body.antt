@@ -1,4 +1,4 @@
--- A block whose statements have some room: what is read is spelled so, what is spelled so is read, and more room
+-- A block whose statements have some fuel: what is read is spelled so, what is spelled so is read, and more fuel
 -- reads the same.
 use Rattle.std.proofs.Common.{◌≡◌, ℕ, ◌≤◌, List, ◌++◌, Ok}
 use Rattle.c_syntax.specs.declared.punctuator.Punctuator.TheVariants.{LeftBrace, RightBrace}
@@ -18,11 +18,11 @@ use Rattle.c_reader_statement_laws.proofs.Stays.{block_keeps, statement_keeps}
 abbrev pub IsBlock : StatementsTree → List Token → Type 0
 IsBlock ss = Sign LeftBrace ⨾ (AreStatements ss ⨾ Sign RightBrace)
 
-pub block_takes : (room : ℕ) (ts : List Token) (ss : StatementsTree) (rest : List Token) → block_in (statement_at room) ts ≡ Ok (ss, rest) → IsTaken (λ ss. statements_height ss ≤ room) IsBlock Any ts ss rest
-block_takes room ts ss rest e = (block_sound (statement_at room) room (statement_sound room)).takes ts ss rest e
+pub block_takes : (fuel : ℕ) (ts : List Token) (ss : StatementsTree) (rest : List Token) → block_in (statement_at fuel) ts ≡ Ok (ss, rest) → IsTaken (λ ss. statements_height ss ≤ fuel) IsBlock Any ts ss rest
+block_takes fuel ts ss rest e = (block_sound (statement_at fuel) fuel (statement_sound fuel)).takes ts ss rest e
 
-pub block_again : (room : ℕ) (ss : StatementsTree) (xs rest : List Token) → statements_height ss ≤ room → IsBlock ss xs → block_in (statement_at room) (xs ++ rest) ≡ Ok (ss, rest)
-block_again room ss xs rest low d = again.block_again (statement_at room) room (statement_whole room) ss xs rest low d
+pub block_again : (fuel : ℕ) (ss : StatementsTree) (xs rest : List Token) → statements_height ss ≤ fuel → IsBlock ss xs → block_in (statement_at fuel) (xs ++ rest) ≡ Ok (ss, rest)
+block_again fuel ss xs rest low d = again.block_again (statement_at fuel) fuel (statement_whole fuel) ss xs rest low d
 
-pub block_stays : (room more : ℕ) (ts : List Token) → room ≤ more → Stays (block_in (statement_at room) ts) (block_in (statement_at more) ts)
-block_stays room more ts le = block_keeps (statement_at room) (statement_at more) room more le (statement_keeps room more le) ts
+pub block_stays : (fuel more : ℕ) (ts : List Token) → fuel ≤ more → Stays (block_in (statement_at fuel) ts) (block_in (statement_at more) ts)
+block_stays fuel more ts le = block_keeps (statement_at fuel) (statement_at more) fuel more le (statement_keeps fuel more le) ts

@@ -1,4 +1,4 @@
--- Statements: what is spelled so and is no higher than the room is read, where no `else` follows an open `if`.
+-- Statements: what is spelled so and is no higher than the fuel is read, where no `else` follows an open `if`.
 use Rattle.std.proofs.Common.{◌≡◌, ℕ, zero, suc, ◌≤◌, Bool, true, false, cond, IsTrue, List, [], ◌∷◌, ◌++◌, length, Option, Some, None, Ok, inl, inr, refl, sym, ap, subst, ◌∙◌, arith}
 use Rattle.std.specs.Prelude.{max, not}
 use Rattle.c_syntax.specs.declared.constant.IntegerType.{IntegerType}
@@ -66,57 +66,57 @@ type_no_sign p Unsigned xs rest (inr d) = let s = d.2 in rw (parts_behind xs d.0
 
 -- ---- how a `for` begins, and what may be missing
 
-start_local_again : (room : ℕ) (t : IntegerType) (x : Identifier) (e : ExpressionTree) (xs rest : List Token) → start_height (T.StartLocal t x e) ≤ room → IsStart (T.StartLocal t x e) xs → start_local room (xs ++ rest) ≡ Ok (T.StartLocal t x e, rest)
+start_local_again : (fuel : ℕ) (t : IntegerType) (x : Identifier) (e : ExpressionTree) (xs rest : List Token) → start_height (T.StartLocal t x e) ≤ fuel → IsStart (T.StartLocal t x e) xs → start_local fuel (xs ++ rest) ≡ Ok (T.StartLocal t x e, rest)
 unfolding start_local
-start_local_again room t x e xs rest low d =
+start_local_again fuel t x e xs rest low d =
     let parts : (r : ℕ) → IsWhole (name r & sign Assign ▷ expression_at r 0 ◁ sign Semicolon) (λ v. (1 ≤ r) × (expression_height v.1 ≤ r)) (λ v. IsName v.0 ⨾ (Sign Assign ⨾ (IsExpression v.1 ⨾ Sign Semicolon))) Any =
     λ r. both' (name_whole r) (after' (sign_mark Assign) (before' (expression_whole r) (sign_mark Semicolon) (λ e ys r s. ends_behind Semicolon refl refl refl 0 ys r s))) (λ x e ys r d k. tt) in
-    let behind : IsWhole (under (λ r. name r & sign Assign ▷ expression_at r 0 ◁ sign Semicolon) room) (λ v. suc (max 1 (expression_height v.1)) ≤ room) (λ v. IsName v.0 ⨾ (Sign Assign ⨾ (IsExpression v.1 ⨾ Sign Semicolon))) Any = record {
-      again = under_again (λ r v. suc (max 1 (expression_height v.1)) ≤ r) parts (λ r v f. (omega arith, omega arith)) (λ v f. absurd (omega arith)) room;
+    let behind : IsWhole (under (λ r. name r & sign Assign ▷ expression_at r 0 ◁ sign Semicolon) fuel) (λ v. suc (max 1 (expression_height v.1)) ≤ fuel) (λ v. IsName v.0 ⨾ (Sign Assign ⨾ (IsExpression v.1 ⨾ Sign Semicolon))) Any = record {
+      again = under_again (λ r v. suc (max 1 (expression_height v.1)) ≤ r) parts (λ r v f. (omega arith, omega arith)) (λ v f. absurd (omega arith)) fuel;
     } in
     made_again (λ v. T.StartLocal v.0 v.1.0 v.1.1) (both' type_whole behind (λ t v ys r e k. name_no_int v.0 ys r (starts_then (Kind.Name v.0.name) ys e (starts_name v.0 e.0 e.2)))) (t, (x, e)) xs rest (tt, low) d tt
 
-start_again : (room : ℕ) (s : StartTree) (xs rest : List Token) → start_height s ≤ room → IsStart s xs → start room (xs ++ rest) ≡ Ok (s, rest)
+start_again : (fuel : ℕ) (s : StartTree) (xs rest : List Token) → start_height s ≤ fuel → IsStart s xs → start fuel (xs ++ rest) ≡ Ok (s, rest)
 unfolding start start_nothing start_set
-start_again room T.StartNothing xs rest low d =
-    either_first (is_sign_next Semicolon) start_nothing (either is_type_next (start_local room) (start_set room)) (xs ++ rest) (is_sign_next-again Semicolon xs rest d)
+start_again fuel T.StartNothing xs rest low d =
+    either_first (is_sign_next Semicolon) start_nothing (either is_type_next (start_local fuel) (start_set fuel)) (xs ++ rest) (is_sign_next-again Semicolon xs rest d)
     ∙ bind_is (sign Semicolon (xs ++ rest)) (λ r. done (T.StartNothing, r)) rest (sign_again Semicolon xs rest d)
-start_again room (T.StartSet s) xs rest low d =
+start_again fuel (T.StartSet s) xs rest low d =
     let n = starts_then (Kind.Name (set_name s.place).name) xs d (set_starts s d.0 d.2) in
     let no_type : is_type_next (xs ++ rest) ≡ false = rw (n.parts, n.is) refl in
-    either_second (is_sign_next Semicolon) start_nothing (either is_type_next (start_local room) (start_set room)) (xs ++ rest) (passes_is (is_sign Semicolon) (Kind.Name (set_name s.place).name) false refl xs rest n)
-    ∙ either_second is_type_next (start_local room) (start_set room) (xs ++ rest) no_type
-    ∙ made_again (λ s. T.StartSet s) (before' (set_whole room) (sign_mark Semicolon) (λ s ys r k. ends_behind Semicolon refl refl refl 0 ys r k)) s xs rest low d tt
-start_again room (T.StartLocal t x e) xs rest low d =
+    either_second (is_sign_next Semicolon) start_nothing (either is_type_next (start_local fuel) (start_set fuel)) (xs ++ rest) (passes_is (is_sign Semicolon) (Kind.Name (set_name s.place).name) false refl xs rest n)
+    ∙ either_second is_type_next (start_local fuel) (start_set fuel) (xs ++ rest) no_type
+    ∙ made_again (λ s. T.StartSet s) (before' (set_whole fuel) (sign_mark Semicolon) (λ s ys r k. ends_behind Semicolon refl refl refl 0 ys r k)) s xs rest low d tt
+start_again fuel (T.StartLocal t x e) xs rest low d =
     let here = parts_behind xs d.0 d.1 rest d.4 in
     let no_sign : is_sign_next Semicolon (xs ++ rest) ≡ false = subst (λ l. is_sign_next Semicolon l ≡ false) (sym here) (type_no_sign Semicolon t d.0 (d.1 ++ rest) d.2) in
     let next : is_type_next (xs ++ rest) ≡ true = subst (λ l. is_type_next l ≡ true) (sym here) (type_next t d.0 (d.1 ++ rest) d.2) in
-    either_second (is_sign_next Semicolon) start_nothing (either is_type_next (start_local room) (start_set room)) (xs ++ rest) no_sign
-    ∙ either_first is_type_next (start_local room) (start_set room) (xs ++ rest) next
-    ∙ start_local_again room t x e xs rest low d
+    either_second (is_sign_next Semicolon) start_nothing (either is_type_next (start_local fuel) (start_set fuel)) (xs ++ rest) no_sign
+    ∙ either_first is_type_next (start_local fuel) (start_set fuel) (xs ++ rest) next
+    ∙ start_local_again fuel t x e xs rest low d
 
-pub start_whole : (room : ℕ) → IsWhole (start room) (λ s. start_height s ≤ room) IsStart Any
-start_whole room = record { again = λ s xs rest f d e. start_again room s xs rest f d }
+pub start_whole : (fuel : ℕ) → IsWhole (start fuel) (λ s. start_height s ≤ fuel) IsStart Any
+start_whole fuel = record { again = λ s xs rest f d e. start_again fuel s xs rest f d }
 
-condition_whole : (room : ℕ) → IsWhole (condition room) (λ o. optional_height expression_height o ≤ room) (Perhaps IsExpression) (λ o rest. (is_sign_next Semicolon rest ≡ true) × Ends 0 rest)
-condition_whole room = record {
-  again = λ o xs rest f d e. (unless' (is_sign_next Semicolon) (expression_whole room) (λ x ys r k. not_sign Semicolon refl ys r (expression_begins 0 x ys k))).again o xs rest (option_fits expression_height room o f) d (option_ends o rest e);
+condition_whole : (fuel : ℕ) → IsWhole (condition fuel) (λ o. optional_height expression_height o ≤ fuel) (Perhaps IsExpression) (λ o rest. (is_sign_next Semicolon rest ≡ true) × Ends 0 rest)
+condition_whole fuel = record {
+  again = λ o xs rest f d e. (unless' (is_sign_next Semicolon) (expression_whole fuel) (λ x ys r k. not_sign Semicolon refl ys r (expression_begins 0 x ys k))).again o xs rest (option_fits expression_height fuel o f) d (option_ends o rest e);
 } where
   option_ends : (o : Option ExpressionTree) (rest : List Token) → (is_sign_next Semicolon rest ≡ true) × Ends 0 rest → EndsOption (Passes (is_sign_next Semicolon) true) (λ e r. Ends 0 r) o rest
   option_ends None rest e = e.0
   option_ends (Some x) rest e = e.1
 
-step_whole : (room : ℕ) → IsWhole (step room) (λ o. optional_height set_height o ≤ room) (Perhaps IsSet) (λ o rest. (is_sign_next RightParenthesis rest ≡ true) × Ends 0 rest)
-step_whole room = record {
-  again = λ o xs rest f d e. (unless' (is_sign_next RightParenthesis) (set_whole room) (λ s ys r k. passes_is (is_sign RightParenthesis) (Kind.Name (set_name s.place).name) false refl ys r (set_starts s ys k))).again o xs rest (option_fits set_height room o f) d (option_ends o rest e);
+step_whole : (fuel : ℕ) → IsWhole (step fuel) (λ o. optional_height set_height o ≤ fuel) (Perhaps IsSet) (λ o rest. (is_sign_next RightParenthesis rest ≡ true) × Ends 0 rest)
+step_whole fuel = record {
+  again = λ o xs rest f d e. (unless' (is_sign_next RightParenthesis) (set_whole fuel) (λ s ys r k. passes_is (is_sign RightParenthesis) (Kind.Name (set_name s.place).name) false refl ys r (set_starts s ys k))).again o xs rest (option_fits set_height fuel o f) d (option_ends o rest e);
 } where
   option_ends : (o : Option SetTree) (rest : List Token) → (is_sign_next RightParenthesis rest ≡ true) × Ends 0 rest → EndsOption (Passes (is_sign_next RightParenthesis) true) (λ e r. Ends 0 r) o rest
   option_ends None rest e = e.0
   option_ends (Some x) rest e = e.1
 
-returned_whole : (room : ℕ) → IsWhole (returned room) (λ o. optional_height value_height o ≤ room) (Perhaps IsValue) (λ o rest. (is_sign_next Semicolon rest ≡ true) × Closed rest)
-returned_whole room = record {
-  again = λ o xs rest f d e. (unless' (is_sign_next Semicolon) (value_whole room) value_no_semicolon).again o xs rest (option_fits value_height room o f) d (option_ends o rest e);
+returned_whole : (fuel : ℕ) → IsWhole (returned fuel) (λ o. optional_height value_height o ≤ fuel) (Perhaps IsValue) (λ o rest. (is_sign_next Semicolon rest ≡ true) × Closed rest)
+returned_whole fuel = record {
+  again = λ o xs rest f d e. (unless' (is_sign_next Semicolon) (value_whole fuel) value_no_semicolon).again o xs rest (option_fits value_height fuel o f) d (option_ends o rest e);
 } where
   option_ends : (o : Option ValueTree) (rest : List Token) → (is_sign_next Semicolon rest ≡ true) × Closed rest → EndsOption (Passes (is_sign_next Semicolon) true) (λ v r. Closed r) o rest
   option_ends None rest e = e.0
@@ -257,9 +257,9 @@ listed : (ss : StatementsTree) (xs : List Token) → AreStatements ss xs → Eac
 listed T.Done xs d = d
 listed (T.First s rest) xs d = (d.0, d.1, d.2, listed rest d.1 d.3, d.4)
 
-all_low : (room : ℕ) (ss : StatementsTree) → statements_height ss ≤ room → AllFit (Low room) (list_of ss)
-all_low room T.Done le = tt
-all_low room (T.First s rest) le = (omega arith, all_low room rest (omega arith))
+all_low : (fuel : ℕ) (ss : StatementsTree) → statements_height ss ≤ fuel → AllFit (Low fuel) (list_of ss)
+all_low fuel T.Done le = tt
+all_low fuel (T.First s rest) le = (omega arith, all_low fuel rest (omega arith))
 
 -- what stands behind an expression, and more behind that
 ends_then : (p : Punctuator) → binary_of p ≡ None → is_sign Question (Kind.Punctuator p) ≡ false → is_sign LeftBracket (Kind.Punctuator p) ≡ false → {Q : List Token → Type 0} (xs rest : List Token) → (Sign p ⨾ Q) xs → Ends 0 (xs ++ rest)
@@ -269,27 +269,27 @@ next_then : (p : Punctuator) → is_sign p (Kind.Punctuator p) ≡ true → {Q :
 next_then p e xs rest d = passes_is (is_sign p) (Kind.Punctuator p) true e xs rest (starts_then (Kind.Punctuator p) xs d (starts_sign p d.0 d.2))
 
 -- Statements with parts that are statements, over a reading of these that is whole.
-module _ (below : Below) (room : ℕ) (whole : (block : Bool) → IsWhole (below block) (Low room) (IsStatementIn block) Leaves) where
+module _ (below : Below) (fuel : ℕ) (whole : (block : Bool) → IsWhole (below block) (Low fuel) (IsStatementIn block) Leaves) where
   leaves_more : (s : StatementTree) (more : List StatementTree) (ys rest : List Token) → Each (IsStatementIn true) more ys → is_sign_next RightBrace rest ≡ true → Leaves s (ys ++ rest)
   leaves_more s [] ys rest d e = λ open'. subst (λ (l : List Token). is_word_next K.Else (l ++ rest) ≡ false) (sym d) (brace_no_else rest e)
   leaves_more s (t ∷ more) ys rest d e = λ open'. starts_no_else ys rest (begins_then ys d (statement_starts true t d.0 d.2))
 
-  items_whole : IsWhole (each goes_on (below true)) (AllFit (Low room)) (Each (IsStatementIn true)) (λ ss rest. is_sign_next RightBrace rest ≡ true)
+  items_whole : IsWhole (each goes_on (below true)) (AllFit (Low fuel)) (Each (IsStatementIn true)) (λ ss rest. is_sign_next RightBrace rest ≡ true)
   items_whole = each_whole goes_on (whole true) (λ s xs rest d. ap not (starts_no_brace xs rest (statement_starts true s xs d))) (λ s xs d. starts_some (statement_starts true s xs d))
       (λ rest. is_sign_next RightBrace rest ≡ true) (λ rest e. ap not e) leaves_more
 
-  pub block_again : (ss : StatementsTree) (xs rest : List Token) → statements_height ss ≤ room → (Sign LeftBrace ⨾ (AreStatements ss ⨾ Sign RightBrace)) xs → block_in below (xs ++ rest) ≡ Ok (ss, rest)
+  pub block_again : (ss : StatementsTree) (xs rest : List Token) → statements_height ss ≤ fuel → (Sign LeftBrace ⨾ (AreStatements ss ⨾ Sign RightBrace)) xs → block_in below (xs ++ rest) ≡ Ok (ss, rest)
   unfolding block_in items_in
   block_again ss xs rest low d =
       let q = d.3 in
-      made_again statements_of (after' (sign_mark LeftBrace) (before' items_whole (sign_mark RightBrace) (λ l ys r s. is_sign_next-again RightBrace ys r s))) (list_of ss) xs rest (all_low room ss low) (d.0, d.1, d.2, (q.0, q.1, listed ss q.0 q.2, q.3, q.4), d.4) tt
+      made_again statements_of (after' (sign_mark LeftBrace) (before' items_whole (sign_mark RightBrace) (λ l ys r s. is_sign_next-again RightBrace ys r s))) (list_of ss) xs rest (all_low fuel ss low) (d.0, d.1, d.2, (q.0, q.1, listed ss q.0 q.2, q.3, q.4), d.4) tt
       ∙ ap (λ s. done (s, rest)) (statements_same ss)
 
-  at : (block : Bool) (first : First) (ts : List Token) (r : _) → first_of block ts ≡ first → by_first below room first ts ≡ r → by_first below room (first_of block ts) ts ≡ r
-  at block first ts r e h = ap (λ f. by_first below room f ts) e ∙ h
+  at : (block : Bool) (first : First) (ts : List Token) (r : _) → first_of block ts ≡ first → by_first below fuel first ts ≡ r → by_first below fuel (first_of block ts) ts ≡ r
+  at block first ts r e h = ap (λ f. by_first below fuel f ts) e ∙ h
 
   -- an `if`'s statement, and what stands behind `else`
-  branches_again : (s : StatementTree) (o : Option StatementTree) (xs rest : List Token) → Low room s → IfThere (Low room) o → SpellsBranches s o xs → LeavesBranches o rest → branches_in below (xs ++ rest) ≡ Ok ((s, o), rest)
+  branches_again : (s : StatementTree) (o : Option StatementTree) (xs rest : List Token) → Low fuel s → IfThere (Low fuel) o → SpellsBranches s o xs → LeavesBranches o rest → branches_in below (xs ++ rest) ≡ Ok ((s, o), rest)
   unfolding branches_in
   branches_again s None xs rest low f d e =
       bind_is (below false (xs ++ rest)) (λ x. else_in below x.1 >>= λ y. Ok ((x.0, y.0), y.1)) (s, rest) ((whole false).again s xs rest low d (λ h. e))
@@ -304,89 +304,89 @@ module _ (below : Below) (room : ℕ) (whole : (block : Bool) → IsWhole (below
       ∙ bind_is (below false (q.0 ++ (q.1 ++ rest))) (λ x. else_in below x.1 >>= λ y. Ok ((x.0, y.0), y.1)) (s, q.1 ++ rest) ((whole false).again s q.0 (q.1 ++ rest) low q.2 (λ h. absurd (let closed = d.0 in cc)))
       ∙ bind_is (else_in below (q.1 ++ rest)) (λ y. Ok ((s, y.0), y.1)) (Some t, rest) otherwise
 
-  if_again : (block : Bool) (e : ExpressionTree) (s : StatementTree) (o : Option StatementTree) (xs rest : List Token) → expression_height e ≤ room → Low room s → IfThere (Low room) o → (Word K.If ⨾ (Sign LeftParenthesis ⨾ (IsExpression e ⨾ (Sign RightParenthesis ⨾ SpellsBranches s o)))) xs → LeavesBranches o rest → if_in below room (xs ++ rest) ≡ Ok (branched e s o, rest)
+  if_again : (block : Bool) (e : ExpressionTree) (s : StatementTree) (o : Option StatementTree) (xs rest : List Token) → expression_height e ≤ fuel → Low fuel s → IfThere (Low fuel) o → (Word K.If ⨾ (Sign LeftParenthesis ⨾ (IsExpression e ⨾ (Sign RightParenthesis ⨾ SpellsBranches s o)))) xs → LeavesBranches o rest → if_in below fuel (xs ++ rest) ≡ Ok (branched e s o, rest)
   unfolding if_in
   if_again block e s o xs rest low f g d l =
-      let branches : IsWhole (branches_in below) (λ v. Low room v.0 × IfThere (Low room) v.1) (λ v. SpellsBranches v.0 v.1) (λ v. LeavesBranches v.1) = record {
+      let branches : IsWhole (branches_in below) (λ v. Low fuel v.0 × IfThere (Low fuel) v.1) (λ v. SpellsBranches v.0 v.1) (λ v. LeavesBranches v.1) = record {
         again = λ v ys r k d l. branches_again v.0 v.1 ys r k.0 k.1 d l;
       } in
-      made_again (λ v. branched v.0 v.1.0 v.1.1) (after' (word_mark K.If) (after' (sign_mark LeftParenthesis) (both' (expression_whole room) (after' (sign_mark RightParenthesis) branches)
+      made_again (λ v. branched v.0 v.1.0 v.1.1) (after' (word_mark K.If) (after' (sign_mark LeftParenthesis) (both' (expression_whole fuel) (after' (sign_mark RightParenthesis) branches)
       (λ e v ys r d l. ends_then RightParenthesis refl refl refl ys r d)))) (e, (s, o)) xs rest (low, (f, g)) d l
 
-  while_again : (block : Bool) (e : ExpressionTree) (s : StatementTree) (xs rest : List Token) → Low (suc room) (T.While e s) → IsStatementIn block (T.While e s) xs → Leaves (T.While e s) rest → while_in below room (xs ++ rest) ≡ Ok (T.While e s, rest)
+  while_again : (block : Bool) (e : ExpressionTree) (s : StatementTree) (xs rest : List Token) → Low (suc fuel) (T.While e s) → IsStatementIn block (T.While e s) xs → Leaves (T.While e s) rest → while_in below fuel (xs ++ rest) ≡ Ok (T.While e s, rest)
   unfolding while_in
   while_again block e s xs rest low d l =
-      made_again (λ v. T.While v.0 v.1) (after' (word_mark K.While) (after' (sign_mark LeftParenthesis) (both' (expression_whole room) (after' (sign_mark RightParenthesis) (whole false))
+      made_again (λ v. T.While v.0 v.1) (after' (word_mark K.While) (after' (sign_mark LeftParenthesis) (both' (expression_whole fuel) (after' (sign_mark RightParenthesis) (whole false))
       (λ e v ys r d l. ends_then RightParenthesis refl refl refl ys r d)))) (e, s) xs rest (omega arith, omega arith) d l
 
-  for_again : (block : Bool) (start : StartTree) (e : Option ExpressionTree) (step : Option SetTree) (s : StatementTree) (xs rest : List Token) → Low (suc room) (T.For start e step s) → IsStatementIn block (T.For start e step s) xs → Leaves (T.For start e step s) rest → for_in below room (xs ++ rest) ≡ Ok (T.For start e step s, rest)
+  for_again : (block : Bool) (start : StartTree) (e : Option ExpressionTree) (step : Option SetTree) (s : StatementTree) (xs rest : List Token) → Low (suc fuel) (T.For start e step s) → IsStatementIn block (T.For start e step s) xs → Leaves (T.For start e step s) rest → for_in below fuel (xs ++ rest) ≡ Ok (T.For start e step s, rest)
   unfolding for_in
   for_again block start e step s xs rest low d l =
       made_again (λ v. T.For v.0 v.1.0 v.1.1.0 v.1.1.1)
-      (after' (word_mark K.For) (after' (sign_mark LeftParenthesis) (both' (start_whole room)
-      (both' (condition_whole room) (after' (sign_mark Semicolon)
-      (both' (step_whole room) (after' (sign_mark RightParenthesis) (whole false))
+      (after' (word_mark K.For) (after' (sign_mark LeftParenthesis) (both' (start_whole fuel)
+      (both' (condition_whole fuel) (after' (sign_mark Semicolon)
+      (both' (step_whole fuel) (after' (sign_mark RightParenthesis) (whole false))
       (λ o v ys r d l. (next_then RightParenthesis refl ys r d, ends_then RightParenthesis refl refl refl ys r d))))
       (λ o v ys r d l. (next_then Semicolon refl ys r d, ends_then Semicolon refl refl refl ys r d)))
       (λ o v ys r d l. tt))))
       (start, (e, (step, s))) xs rest (omega arith, (omega arith, (omega arith, omega arith))) d l
 
-  local_case : (block : Bool) (l : LocalTree) (xs rest : List Token) → Low (suc room) (T.Local l) → IsTrue block → IsLocal l xs → by_first below room (first_of block (xs ++ rest)) (xs ++ rest) ≡ Ok (T.Local l, rest)
+  local_case : (block : Bool) (l : LocalTree) (xs rest : List Token) → Low (suc fuel) (T.Local l) → IsTrue block → IsLocal l xs → by_first below fuel (first_of block (xs ++ rest)) (xs ++ rest) ≡ Ok (T.Local l, rest)
   local_case true l xs rest low h d =
       let first : first_of true (xs ++ rest) ≡ F.Local = subst (λ ts. first_of true ts ≡ F.Local) (sym (parts_behind xs d.0 d.1 rest d.4)) (first_local l.kind d.0 (d.1 ++ rest) d.2) in
-      at true F.Local (xs ++ rest) _ first (bind_is (local room (xs ++ rest)) (λ y. done (T.Local y.0, y.1)) (l, rest) (local_again room l xs rest low d))
+      at true F.Local (xs ++ rest) _ first (bind_is (local fuel (xs ++ rest)) (λ y. done (T.Local y.0, y.1)) (l, rest) (local_again fuel l xs rest low d))
   local_case false l xs rest low h d = absurd cc
 
-  call_case : (block : Bool) (c : CallTree) (xs rest : List Token) → Low (suc room) (T.Call c) → (IsCall c ⨾ Sign Semicolon) xs → by_first below room (first_of block (xs ++ rest)) (xs ++ rest) ≡ Ok (T.Call c, rest)
+  call_case : (block : Bool) (c : CallTree) (xs rest : List Token) → Low (suc fuel) (T.Call c) → (IsCall c ⨾ Sign Semicolon) xs → by_first below fuel (first_of block (xs ++ rest)) (xs ++ rest) ≡ Ok (T.Call c, rest)
   unfolding call_statement
   call_case block c xs rest low d =
-      let calls : IsWhole (call room) (λ c. call_height c ≤ room) IsCall Any = record { again = λ c ys r f d e. call_again room c ys r f d } in
+      let calls : IsWhole (call fuel) (λ c. call_height c ≤ fuel) IsCall Any = record { again = λ c ys r f d e. call_again fuel c ys r f d } in
       let first : first_of block (xs ++ rest) ≡ F.Call = subst (λ ts. first_of block ts ≡ F.Call) (sym (parts_behind xs d.0 d.1 rest d.4)) (first_behind_name block c.callee LeftParenthesis _ d.0 (d.1 ++ rest) d.2) in
       at block F.Call (xs ++ rest) _ first (made_again (λ c. T.Call c) (before' calls (sign_mark Semicolon) (λ c ys r s. tt)) c xs rest (omega arith) d tt)
 
-  assign_case : (block : Bool) (x : Identifier) (v : ValueTree) (xs rest : List Token) → Low (suc room) (T.Assign x v) → IsStatementIn block (T.Assign x v) xs → by_first below room (first_of block (xs ++ rest)) (xs ++ rest) ≡ Ok (T.Assign x v, rest)
+  assign_case : (block : Bool) (x : Identifier) (v : ValueTree) (xs rest : List Token) → Low (suc fuel) (T.Assign x v) → IsStatementIn block (T.Assign x v) xs → by_first below fuel (first_of block (xs ++ rest)) (xs ++ rest) ≡ Ok (T.Assign x v, rest)
   unfolding assign
   assign_case block x v xs rest low d =
       at block F.Assign (xs ++ rest) _ (first_behind_name block x Assign _ xs rest d)
-      (made_again (λ v. T.Assign v.0 v.1) (both' (name_whole room) (after' (sign_mark Assign) (before' (value_whole room) (sign_mark Semicolon) (λ v ys r s. closed_semicolon ys r s))) (λ x v ys r d e. tt)) (x, v) xs rest (omega arith, omega arith) d tt)
+      (made_again (λ v. T.Assign v.0 v.1) (both' (name_whole fuel) (after' (sign_mark Assign) (before' (value_whole fuel) (sign_mark Semicolon) (λ v ys r s. closed_semicolon ys r s))) (λ x v ys r d e. tt)) (x, v) xs rest (omega arith, omega arith) d tt)
 
-  store_case : (block : Bool) (a : Identifier) (i e : ExpressionTree) (xs rest : List Token) → Low (suc room) (T.Store a i e) → IsStatementIn block (T.Store a i e) xs → by_first below room (first_of block (xs ++ rest)) (xs ++ rest) ≡ Ok (T.Store a i e, rest)
+  store_case : (block : Bool) (a : Identifier) (i e : ExpressionTree) (xs rest : List Token) → Low (suc fuel) (T.Store a i e) → IsStatementIn block (T.Store a i e) xs → by_first below fuel (first_of block (xs ++ rest)) (xs ++ rest) ≡ Ok (T.Store a i e, rest)
   unfolding store
   store_case block a i e xs rest low d =
-      let parts : (r : ℕ) → IsWhole (name r & sign LeftBracket ▷ expression_at r 0 & sign RightBracket ▷ sign Assign ▷ expression_at room 0 ◁ sign Semicolon)
-      (λ v. (1 ≤ r) × ((expression_height v.1.0 ≤ r) × (expression_height v.1.1 ≤ room)))
+      let parts : (r : ℕ) → IsWhole (name r & sign LeftBracket ▷ expression_at r 0 & sign RightBracket ▷ sign Assign ▷ expression_at fuel 0 ◁ sign Semicolon)
+      (λ v. (1 ≤ r) × ((expression_height v.1.0 ≤ r) × (expression_height v.1.1 ≤ fuel)))
       (λ v. IsName v.0 ⨾ (Sign LeftBracket ⨾ (IsExpression v.1.0 ⨾ (Sign RightBracket ⨾ (Sign Assign ⨾ (IsExpression v.1.1 ⨾ Sign Semicolon)))))) Any =
-      λ r. both' (name_whole r) (after' (sign_mark LeftBracket) (both' (expression_whole r) (after' (sign_mark RightBracket) (after' (sign_mark Assign) (before' (expression_whole room) (sign_mark Semicolon) (λ e ys r s. ends_behind Semicolon refl refl refl 0 ys r s))))
+      λ r. both' (name_whole r) (after' (sign_mark LeftBracket) (both' (expression_whole r) (after' (sign_mark RightBracket) (after' (sign_mark Assign) (before' (expression_whole fuel) (sign_mark Semicolon) (λ e ys r s. ends_behind Semicolon refl refl refl 0 ys r s))))
       (λ e v ys r d l. ends_then RightBracket refl refl refl ys r d))) (λ x v ys r d e. tt) in
-      let whole_parts : IsWhole (under (λ r. name r & sign LeftBracket ▷ expression_at r 0 & sign RightBracket ▷ sign Assign ▷ expression_at room 0 ◁ sign Semicolon) room)
-      (λ v. (suc (max 1 (expression_height v.1.0)) ≤ room) × (expression_height v.1.1 ≤ room))
+      let whole_parts : IsWhole (under (λ r. name r & sign LeftBracket ▷ expression_at r 0 & sign RightBracket ▷ sign Assign ▷ expression_at fuel 0 ◁ sign Semicolon) fuel)
+      (λ v. (suc (max 1 (expression_height v.1.0)) ≤ fuel) × (expression_height v.1.1 ≤ fuel))
       (λ v. IsName v.0 ⨾ (Sign LeftBracket ⨾ (IsExpression v.1.0 ⨾ (Sign RightBracket ⨾ (Sign Assign ⨾ (IsExpression v.1.1 ⨾ Sign Semicolon)))))) Any = record {
-        again = under_again (λ r v. (suc (max 1 (expression_height v.1.0)) ≤ r) × (expression_height v.1.1 ≤ room)) parts
-            (λ r v f. let one = f.0 in (omega arith, (omega arith, f.1))) (λ v f. absurd (let one = f.0 in omega arith)) room;
+        again = under_again (λ r v. (suc (max 1 (expression_height v.1.0)) ≤ r) × (expression_height v.1.1 ≤ fuel)) parts
+            (λ r v f. let one = f.0 in (omega arith, (omega arith, f.1))) (λ v f. absurd (let one = f.0 in omega arith)) fuel;
       } in
       at block F.Store (xs ++ rest) _ (first_behind_name block a LeftBracket _ xs rest d)
       (made_again (λ v. T.Store v.0 v.1.0 v.1.1) whole_parts (a, (i, e)) xs rest (omega arith, omega arith) d tt)
 
-  word_case : (k : Keyword) (first : First) (make : ℕ → StatementTree) (block : Bool) (n : ℕ) (xs rest : List Token) → ((ts : List Token) → by_first below room first ts ≡ made make (placed_word k ◁ sign Semicolon) ts) → ((ys r : List Token) → Starts (Kind.Keyword k) ys → first_of block (ys ++ r) ≡ first) → (OneAt (Kind.Keyword k) n ⨾ Sign Semicolon) xs → by_first below room (first_of block (xs ++ rest)) (xs ++ rest) ≡ Ok (make n, rest)
+  word_case : (k : Keyword) (first : First) (make : ℕ → StatementTree) (block : Bool) (n : ℕ) (xs rest : List Token) → ((ts : List Token) → by_first below fuel first ts ≡ made make (placed_word k ◁ sign Semicolon) ts) → ((ys r : List Token) → Starts (Kind.Keyword k) ys → first_of block (ys ++ r) ≡ first) → (OneAt (Kind.Keyword k) n ⨾ Sign Semicolon) xs → by_first below fuel (first_of block (xs ++ rest)) (xs ++ rest) ≡ Ok (make n, rest)
   word_case k first make block n xs rest same is d =
       at block first (xs ++ rest) _ (is xs rest (starts_then (Kind.Keyword k) xs d (starts_placed (Kind.Keyword k) n d.0 d.2)))
       (same (xs ++ rest) ∙ made_again make (before' (placed_word_whole k) (sign_mark Semicolon) (λ x ys r s. tt)) n xs rest tt d tt)
 
-  break_same : (ts : List Token) → by_first below room F.Break ts ≡ made (λ n. T.Break n) (placed_word K.Break ◁ sign Semicolon) ts
+  break_same : (ts : List Token) → by_first below fuel F.Break ts ≡ made (λ n. T.Break n) (placed_word K.Break ◁ sign Semicolon) ts
   unfolding break_statement
   break_same ts = refl
 
-  continue_same : (ts : List Token) → by_first below room F.Continue ts ≡ made (λ n. T.Continue n) (placed_word K.Continue ◁ sign Semicolon) ts
+  continue_same : (ts : List Token) → by_first below fuel F.Continue ts ≡ made (λ n. T.Continue n) (placed_word K.Continue ◁ sign Semicolon) ts
   unfolding continue_statement
   continue_same ts = refl
 
-  return_case : (block : Bool) (n : ℕ) (v : Option ValueTree) (xs rest : List Token) → Low (suc room) (T.Return n v) → IsStatementIn block (T.Return n v) xs → by_first below room (first_of block (xs ++ rest)) (xs ++ rest) ≡ Ok (T.Return n v, rest)
+  return_case : (block : Bool) (n : ℕ) (v : Option ValueTree) (xs rest : List Token) → Low (suc fuel) (T.Return n v) → IsStatementIn block (T.Return n v) xs → by_first below fuel (first_of block (xs ++ rest)) (xs ++ rest) ≡ Ok (T.Return n v, rest)
   unfolding return_statement
   return_case block n v xs rest low d =
       at block F.Return (xs ++ rest) _ (first_return block xs rest (starts_then (Kind.Keyword K.Return) xs d (starts_placed (Kind.Keyword K.Return) n d.0 d.2)))
-      (made_again (λ v. T.Return v.0 v.1) (both' (placed_word_whole K.Return) (before' (returned_whole room) (sign_mark Semicolon) (λ o ys r s. (is_sign_next-again Semicolon ys r s, closed_semicolon ys r s))) (λ x v ys r d e. tt)) (n, v) xs rest (tt, omega arith) d tt)
+      (made_again (λ v. T.Return v.0 v.1) (both' (placed_word_whole K.Return) (before' (returned_whole fuel) (sign_mark Semicolon) (λ o ys r s. (is_sign_next-again Semicolon ys r s, closed_semicolon ys r s))) (λ x v ys r d e. tt)) (n, v) xs rest (tt, omega arith) d tt)
 
-  pub by_first_again : (block : Bool) (s : StatementTree) (xs rest : List Token) → Low (suc room) s → IsStatementIn block s xs → Leaves s rest → by_first below room (first_of block (xs ++ rest)) (xs ++ rest) ≡ Ok (s, rest)
+  pub by_first_again : (block : Bool) (s : StatementTree) (xs rest : List Token) → Low (suc fuel) s → IsStatementIn block s xs → Leaves s rest → by_first below fuel (first_of block (xs ++ rest)) (xs ++ rest) ≡ Ok (s, rest)
   unfolding empty
   by_first_again block T.Empty xs rest low d l = at block F.Empty (xs ++ rest) _ (first_empty block xs rest (starts_sign Semicolon xs d)) (bind_is (sign Semicolon (xs ++ rest)) (λ r. done (T.Empty, r)) rest (sign_again Semicolon xs rest d))
   by_first_again block (T.Local k) xs rest low d l = local_case block k xs rest low d.0 d.1
@@ -428,11 +428,11 @@ statement_high (T.Break at) = omega arith
 statement_high (T.Continue at) = omega arith
 statement_high (T.Return at v) = omega arith
 
-pub statement_again : (room : ℕ) (block : Bool) (s : StatementTree) (xs rest : List Token) → Low room s → IsStatementIn block s xs → Leaves s rest → statement_at room block (xs ++ rest) ≡ Ok (s, rest)
+pub statement_again : (fuel : ℕ) (block : Bool) (s : StatementTree) (xs rest : List Token) → Low fuel s → IsStatementIn block s xs → Leaves s rest → statement_at fuel block (xs ++ rest) ≡ Ok (s, rest)
 unfolding statement_at
 statement_again zero block s xs rest low d l = absurd (let high = statement_high s in omega arith)
-statement_again (suc room) block s xs rest low d l =
-    by_first_again (statement_at room) room (λ b. record { again = statement_again room b }) block s xs rest low d l
+statement_again (suc fuel) block s xs rest low d l =
+    by_first_again (statement_at fuel) fuel (λ b. record { again = statement_again fuel b }) block s xs rest low d l
 
-pub statement_whole : (room : ℕ) (block : Bool) → IsWhole (statement_at room block) (Low room) (IsStatementIn block) Leaves
-statement_whole room block = record { again = statement_again room block }
+pub statement_whole : (fuel : ℕ) (block : Bool) → IsWhole (statement_at fuel block) (Low fuel) (IsStatementIn block) Leaves
+statement_whole fuel block = record { again = statement_again fuel block }

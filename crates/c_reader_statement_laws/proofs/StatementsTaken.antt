@@ -1,4 +1,4 @@
--- Statements: what is read is spelled so, is no higher than the room, and takes an `else` that is next.
+-- Statements: what is read is spelled so, is no higher than the fuel, and takes an `else` that is next.
 use Rattle.std.proofs.Common.{◌≡◌, ℕ, zero, suc, ◌≤◌, Bool, true, false, cond, List, [], ◌∷◌, ◌++◌, Option, Some, None, Ok, inl, inr, refl, sym, ap, subst, ◌∙◌, append_assoc, arith}
 use Rattle.std.specs.Prelude.{max}
 use Rattle.c_syntax.specs.declared.keyword.Keyword.TheVariants as K
@@ -28,61 +28,61 @@ abbrev pub Leaves : StatementTree → List Token → Type 0
 Leaves s rest = ends_open s ≡ true → is_word_next K.Else rest ≡ false
 
 abbrev pub Low : ℕ → StatementTree → Type 0
-Low room s = statement_height s ≤ room
+Low fuel s = statement_height s ≤ fuel
 
 -- Nothing is said of the rest where a statement does not end open.
 closed : (rest : List Token) → false ≡ true → is_word_next K.Else rest ≡ false
 closed rest e = absurd cc
 
-call_statement_sound : (room : ℕ) (block : Bool) → IsSound (call_statement room) (Low (suc room)) (IsStatementIn block) Leaves
+call_statement_sound : (fuel : ℕ) (block : Bool) → IsSound (call_statement fuel) (Low (suc fuel)) (IsStatementIn block) Leaves
 unfolding call_statement
-call_statement_sound room block = record {
-  takes = made_takes (λ c. T.Call c) (before (call_sound room) (sign_mark Semicolon)) (Low (suc room)) (IsStatementIn block) Leaves (λ v f. omega arith) (λ v xs d. d) (λ v rest l. closed rest);
+call_statement_sound fuel block = record {
+  takes = made_takes (λ c. T.Call c) (before (call_sound fuel) (sign_mark Semicolon)) (Low (suc fuel)) (IsStatementIn block) Leaves (λ v f. omega arith) (λ v xs d. d) (λ v rest l. closed rest);
 }
 
-assign_sound : (room : ℕ) (block : Bool) → IsSound (assign room) (Low (suc room)) (IsStatementIn block) Leaves
+assign_sound : (fuel : ℕ) (block : Bool) → IsSound (assign fuel) (Low (suc fuel)) (IsStatementIn block) Leaves
 unfolding assign
-assign_sound room block = record {
-  takes = made_takes (λ v. T.Assign v.0 v.1) (both (name_sound room) (after (sign_mark Assign) (before (value_sound room) (sign_mark Semicolon)))) (Low (suc room)) (IsStatementIn block) Leaves
+assign_sound fuel block = record {
+  takes = made_takes (λ v. T.Assign v.0 v.1) (both (name_sound fuel) (after (sign_mark Assign) (before (value_sound fuel) (sign_mark Semicolon)))) (Low (suc fuel)) (IsStatementIn block) Leaves
       (λ v f. let one = f.0 in let low = f.1 in omega arith) (λ v xs d. d) (λ v rest l. closed rest);
 }
 
-store_sound : (room : ℕ) (block : Bool) → IsSound (store room) (Low (suc room)) (IsStatementIn block) Leaves
+store_sound : (fuel : ℕ) (block : Bool) → IsSound (store fuel) (Low (suc fuel)) (IsStatementIn block) Leaves
 unfolding store
-store_sound room block =
-    let parts : IsSound (under (λ r. name r & sign LeftBracket ▷ expression_at r 0 & sign RightBracket ▷ sign Assign ▷ expression_at room 0 ◁ sign Semicolon) room)
-    (λ v. (suc (max 1 (expression_height v.1.0)) ≤ room) × (expression_height v.1.1 ≤ room))
+store_sound fuel block =
+    let parts : IsSound (under (λ r. name r & sign LeftBracket ▷ expression_at r 0 & sign RightBracket ▷ sign Assign ▷ expression_at fuel 0 ◁ sign Semicolon) fuel)
+    (λ v. (suc (max 1 (expression_height v.1.0)) ≤ fuel) × (expression_height v.1.1 ≤ fuel))
     (λ v. IsName v.0 ⨾ (Sign LeftBracket ⨾ (IsExpression v.1.0 ⨾ (Sign RightBracket ⨾ (Sign Assign ⨾ (IsExpression v.1.1 ⨾ Sign Semicolon)))))) Any = record {
-      takes = under_takes (λ r v. (suc (max 1 (expression_height v.1.0)) ≤ r) × (expression_height v.1.1 ≤ room))
-          (λ r. both (name_sound r) (after (sign_mark LeftBracket) (both (expression_sound r) (after (sign_mark RightBracket) (after (sign_mark Assign) (before (expression_sound room) (sign_mark Semicolon)))))))
-          (λ r v f. (let one = f.0 in let low = f.1.0 in omega arith, f.1.1)) room;
+      takes = under_takes (λ r v. (suc (max 1 (expression_height v.1.0)) ≤ r) × (expression_height v.1.1 ≤ fuel))
+          (λ r. both (name_sound r) (after (sign_mark LeftBracket) (both (expression_sound r) (after (sign_mark RightBracket) (after (sign_mark Assign) (before (expression_sound fuel) (sign_mark Semicolon)))))))
+          (λ r v f. (let one = f.0 in let low = f.1.0 in omega arith, f.1.1)) fuel;
     } in
     record {
-      takes = made_takes (λ v. T.Store v.0 v.1.0 v.1.1) parts (Low (suc room)) (IsStatementIn block) Leaves (λ v f. let one = f.0 in let low = f.1 in omega arith) (λ v xs d. d) (λ v rest l. closed rest);
+      takes = made_takes (λ v. T.Store v.0 v.1.0 v.1.1) parts (Low (suc fuel)) (IsStatementIn block) Leaves (λ v f. let one = f.0 in let low = f.1 in omega arith) (λ v xs d. d) (λ v rest l. closed rest);
     }
 
-break_sound : (room : ℕ) (block : Bool) → IsSound break_statement (Low (suc room)) (IsStatementIn block) Leaves
+break_sound : (fuel : ℕ) (block : Bool) → IsSound break_statement (Low (suc fuel)) (IsStatementIn block) Leaves
 unfolding break_statement
-break_sound room block = record {
-  takes = made_takes (λ at. T.Break at) (before (placed_word_sound K.Break) (sign_mark Semicolon)) (Low (suc room)) (IsStatementIn block) Leaves (λ v f. omega arith) (λ v xs d. d) (λ v rest l. closed rest);
+break_sound fuel block = record {
+  takes = made_takes (λ at. T.Break at) (before (placed_word_sound K.Break) (sign_mark Semicolon)) (Low (suc fuel)) (IsStatementIn block) Leaves (λ v f. omega arith) (λ v xs d. d) (λ v rest l. closed rest);
 }
 
-continue_sound : (room : ℕ) (block : Bool) → IsSound continue_statement (Low (suc room)) (IsStatementIn block) Leaves
+continue_sound : (fuel : ℕ) (block : Bool) → IsSound continue_statement (Low (suc fuel)) (IsStatementIn block) Leaves
 unfolding continue_statement
-continue_sound room block = record {
-  takes = made_takes (λ at. T.Continue at) (before (placed_word_sound K.Continue) (sign_mark Semicolon)) (Low (suc room)) (IsStatementIn block) Leaves (λ v f. omega arith) (λ v xs d. d) (λ v rest l. closed rest);
+continue_sound fuel block = record {
+  takes = made_takes (λ at. T.Continue at) (before (placed_word_sound K.Continue) (sign_mark Semicolon)) (Low (suc fuel)) (IsStatementIn block) Leaves (λ v f. omega arith) (λ v xs d. d) (λ v rest l. closed rest);
 }
 
-return_sound : (room : ℕ) (block : Bool) → IsSound (return_statement room) (Low (suc room)) (IsStatementIn block) Leaves
+return_sound : (fuel : ℕ) (block : Bool) → IsSound (return_statement fuel) (Low (suc fuel)) (IsStatementIn block) Leaves
 unfolding return_statement
-return_sound room block = record {
-  takes = made_takes (λ v. T.Return v.0 v.1) (both (placed_word_sound K.Return) (before (unless (is_sign_next Semicolon) (value_sound room)) (sign_mark Semicolon))) (Low (suc room)) (IsStatementIn block) Leaves
-      (λ v f. let low = option_low value_height room v.1 f.1 in omega arith) (λ v xs d. d) (λ v rest l. closed rest);
+return_sound fuel block = record {
+  takes = made_takes (λ v. T.Return v.0 v.1) (both (placed_word_sound K.Return) (before (unless (is_sign_next Semicolon) (value_sound fuel)) (sign_mark Semicolon))) (Low (suc fuel)) (IsStatementIn block) Leaves
+      (λ v f. let low = option_low value_height fuel v.1 f.1 in omega arith) (λ v xs d. d) (λ v rest l. closed rest);
 }
 
-local_statement_sound : (room : ℕ) → IsSound (made (λ l. T.Local l) (local room)) (Low (suc room)) (IsStatementIn true) Leaves
-local_statement_sound room = record {
-  takes = made_takes (λ l. T.Local l) (local_sound room) (Low (suc room)) (IsStatementIn true) Leaves (λ v f. f) (λ v xs d. (refl, d)) (λ v rest l. closed rest);
+local_statement_sound : (fuel : ℕ) → IsSound (made (λ l. T.Local l) (local fuel)) (Low (suc fuel)) (IsStatementIn true) Leaves
+local_statement_sound fuel = record {
+  takes = made_takes (λ l. T.Local l) (local_sound fuel) (Low (suc fuel)) (IsStatementIn true) Leaves (λ v f. f) (λ v xs d. (refl, d)) (λ v rest l. closed rest);
 }
 
 -- an `if`'s statement, and what stands behind `else`, if that is there
@@ -95,56 +95,56 @@ LeavesBranches None rest = is_word_next K.Else rest ≡ false
 LeavesBranches (Some t) rest = Leaves t rest
 
 -- Statements with parts that are statements, over a reading of these that is sound.
-module _ (below : Below) (room : ℕ) (sound : (block : Bool) → IsSound (below block) (Low room) (IsStatementIn block) Leaves) where
+module _ (below : Below) (fuel : ℕ) (sound : (block : Bool) → IsSound (below block) (Low fuel) (IsStatementIn block) Leaves) where
   statements_spelled : (ss : List StatementTree) (xs : List Token) → Each (IsStatementIn true) ss xs → AreStatements (statements_of ss) xs
   statements_spelled [] xs d = d
   statements_spelled (s ∷ ss) xs d = (d.0, d.1, d.2, statements_spelled ss d.1 d.3, d.4)
 
-  statements_low : (ss : List StatementTree) → AllFit (Low room) ss → statements_height (statements_of ss) ≤ room
+  statements_low : (ss : List StatementTree) → AllFit (Low fuel) ss → statements_height (statements_of ss) ≤ fuel
   statements_low [] f = omega arith
   statements_low (s ∷ ss) f =
       let one = f.0 in
       let more = statements_low ss f.1 in
       omega arith
 
-  pub block_sound : IsSound (block_in below) (λ ss. statements_height ss ≤ room) (λ ss. Sign LeftBrace ⨾ (AreStatements ss ⨾ Sign RightBrace)) Any
+  pub block_sound : IsSound (block_in below) (λ ss. statements_height ss ≤ fuel) (λ ss. Sign LeftBrace ⨾ (AreStatements ss ⨾ Sign RightBrace)) Any
   unfolding block_in items_in
   block_sound = record {
-    takes = made_takes statements_of (after (sign_mark LeftBrace) (before (sound_as (each_sound goes_on (sound true)) (AllFit (Low room)) (λ ss. AreStatements (statements_of ss)) (λ ss f. f) statements_spelled) (sign_mark RightBrace)))
-        (λ ss. statements_height ss ≤ room) (λ ss. Sign LeftBrace ⨾ (AreStatements ss ⨾ Sign RightBrace)) Any statements_low (λ ss xs d. d) (λ v rest l. tt);
+    takes = made_takes statements_of (after (sign_mark LeftBrace) (before (sound_as (each_sound goes_on (sound true)) (AllFit (Low fuel)) (λ ss. AreStatements (statements_of ss)) (λ ss f. f) statements_spelled) (sign_mark RightBrace)))
+        (λ ss. statements_height ss ≤ fuel) (λ ss. Sign LeftBrace ⨾ (AreStatements ss ⨾ Sign RightBrace)) Any statements_low (λ ss xs d. d) (λ v rest l. tt);
   }
 
-  block_statement_sound : (block : Bool) → IsSound (made (λ s. T.Block s) (block_in below)) (Low (suc room)) (IsStatementIn block) Leaves
+  block_statement_sound : (block : Bool) → IsSound (made (λ s. T.Block s) (block_in below)) (Low (suc fuel)) (IsStatementIn block) Leaves
   block_statement_sound block = record {
-    takes = made_takes (λ s. T.Block s) block_sound (Low (suc room)) (IsStatementIn block) Leaves (λ v f. omega arith) (λ v xs d. d) (λ v rest l. closed rest);
+    takes = made_takes (λ s. T.Block s) block_sound (Low (suc fuel)) (IsStatementIn block) Leaves (λ v f. omega arith) (λ v xs d. d) (λ v rest l. closed rest);
   }
 
-  while_sound : (block : Bool) → IsSound (while_in below room) (Low (suc room)) (IsStatementIn block) Leaves
+  while_sound : (block : Bool) → IsSound (while_in below fuel) (Low (suc fuel)) (IsStatementIn block) Leaves
   unfolding while_in
   while_sound block = record {
-    takes = made_takes (λ v. T.While v.0 v.1) (after (word_mark K.While) (after (sign_mark LeftParenthesis) (both (expression_sound room) (after (sign_mark RightParenthesis) (sound false))))) (Low (suc room)) (IsStatementIn block) Leaves
+    takes = made_takes (λ v. T.While v.0 v.1) (after (word_mark K.While) (after (sign_mark LeftParenthesis) (both (expression_sound fuel) (after (sign_mark RightParenthesis) (sound false))))) (Low (suc fuel)) (IsStatementIn block) Leaves
         (λ v f. let one = f.0 in let low = f.1 in omega arith) (λ v xs d. d) (λ v rest l. l);
   }
 
-  for_low : (start : StartTree) (e : Option ExpressionTree) (s : Option SetTree) (body : StatementTree) → start_height start ≤ room → IfThere (λ x. expression_height x ≤ room) e → IfThere (λ x. set_height x ≤ room) s → Low room body → Low (suc room) (T.For start e s body)
+  for_low : (start : StartTree) (e : Option ExpressionTree) (s : Option SetTree) (body : StatementTree) → start_height start ≤ fuel → IfThere (λ x. expression_height x ≤ fuel) e → IfThere (λ x. set_height x ≤ fuel) s → Low fuel body → Low (suc fuel) (T.For start e s body)
   for_low start e s body f g h k =
-      let one = option_low expression_height room e g in
-      let two = option_low set_height room s h in
+      let one = option_low expression_height fuel e g in
+      let two = option_low set_height fuel s h in
       omega arith
 
-  for_sound : (block : Bool) → IsSound (for_in below room) (Low (suc room)) (IsStatementIn block) Leaves
+  for_sound : (block : Bool) → IsSound (for_in below fuel) (Low (suc fuel)) (IsStatementIn block) Leaves
   unfolding for_in
   for_sound block = record {
     takes = made_takes (λ v. T.For v.0 v.1.0 v.1.1.0 v.1.1.1)
-        (after (word_mark K.For) (after (sign_mark LeftParenthesis) (both (start_sound room) (both (unless (is_sign_next Semicolon) (expression_sound room))
-        (after (sign_mark Semicolon) (both (unless (is_sign_next RightParenthesis) (set_sound room)) (after (sign_mark RightParenthesis) (sound false))))))))
-        (Low (suc room)) (IsStatementIn block) Leaves
+        (after (word_mark K.For) (after (sign_mark LeftParenthesis) (both (start_sound fuel) (both (unless (is_sign_next Semicolon) (expression_sound fuel))
+        (after (sign_mark Semicolon) (both (unless (is_sign_next RightParenthesis) (set_sound fuel)) (after (sign_mark RightParenthesis) (sound false))))))))
+        (Low (suc fuel)) (IsStatementIn block) Leaves
         (λ v f. for_low v.0 v.1.0 v.1.1.0 v.1.1.1 f.0 f.1.0 f.1.1.0 f.1.1.1) (λ v xs d. d) (λ v rest l. l);
   }
 
   -- what an `if` does and what it does otherwise
   abbrev pub LowBranches : StatementTree × Option StatementTree → Type 0
-  LowBranches v = Low room v.0 × IfThere (Low room) v.1
+  LowBranches v = Low fuel v.0 × IfThere (Low fuel) v.1
 
   not_open : (b : Bool) (rest : List Token) → (b ≡ true → is_word_next K.Else rest ≡ false) → is_word_next K.Else rest ≡ true → b ≡ false
   not_open true rest h e = absurd (let f = h refl in cc)
@@ -153,7 +153,7 @@ module _ (below : Below) (room : ℕ) (sound : (block : Bool) → IsSound (below
   abbrev BranchesTaken : List Token → StatementTree × Option StatementTree → List Token → Type 0
   BranchesTaken ts v rest = IsTaken LowBranches (λ w. SpellsBranches w.0 w.1) (λ w. LeavesBranches w.1) ts v rest
 
-  with_else : (ts : List Token) (s : StatementTree) (mid : List Token) (first : IsTaken (Low room) (IsStatementIn false) Leaves ts s mid) → is_word_next K.Else mid ≡ true → (o : Option StatementTree) (rest : List Token) → there (word K.Else ▷ below false) mid ≡ Ok (o, rest) → BranchesTaken ts (s, o) rest
+  with_else : (ts : List Token) (s : StatementTree) (mid : List Token) (first : IsTaken (Low fuel) (IsStatementIn false) Leaves ts s mid) → is_word_next K.Else mid ≡ true → (o : Option StatementTree) (rest : List Token) → there (word K.Else ▷ below false) mid ≡ Ok (o, rest) → BranchesTaken ts (s, o) rest
   with_else ts s mid first next o rest e =
       let b = bind_ok ((word K.Else ▷ below false) mid) (λ x. done (Some x.0, x.1)) (o, rest) e in
       let t = (after (word_mark K.Else) (sound false)).takes mid b.0.0 b.0.1 b.1 in
@@ -166,7 +166,7 @@ module _ (below : Below) (room : ℕ) (sound : (block : Bool) → IsSound (below
         parts = first.parts ∙ ap (λ (l : List Token). first.front ++ l) t.parts ∙ sym (append_assoc first.front t.front b.0.1);
       })
 
-  without_else : (ts : List Token) (s : StatementTree) (mid : List Token) (first : IsTaken (Low room) (IsStatementIn false) Leaves ts s mid) → is_word_next K.Else mid ≡ false → (o : Option StatementTree) (rest : List Token) → missing mid ≡ Ok (o, rest) → BranchesTaken ts (s, o) rest
+  without_else : (ts : List Token) (s : StatementTree) (mid : List Token) (first : IsTaken (Low fuel) (IsStatementIn false) Leaves ts s mid) → is_word_next K.Else mid ≡ false → (o : Option StatementTree) (rest : List Token) → missing mid ≡ Ok (o, rest) → BranchesTaken ts (s, o) rest
   without_else ts s mid first next o rest e =
       subst (λ (z : Option StatementTree × List Token). BranchesTaken ts (s, z.0) z.1) (ok_is (None, mid) (o, rest) e)
       (record { fits = (first.fits, tt); leaves = next; front = first.front; spelled = first.spelled; parts = first.parts })
@@ -184,7 +184,7 @@ module _ (below : Below) (room : ℕ) (sound : (block : Bool) → IsSound (below
         | inr h ↦ without_else ts b.0.0 b.0.1 first h.0 c.0.0 c.0.1 h.1
       ])
 
-  branched_low : (e : ExpressionTree) (s : StatementTree) (o : Option StatementTree) → expression_height e ≤ room → LowBranches (s, o) → Low (suc room) (branched e s o)
+  branched_low : (e : ExpressionTree) (s : StatementTree) (o : Option StatementTree) → expression_height e ≤ fuel → LowBranches (s, o) → Low (suc fuel) (branched e s o)
   branched_low e s None f g = let low = g.0 in omega arith
   branched_low e s (Some t) f g = let low = g.0 in let other = g.1 in omega arith
 
@@ -200,36 +200,36 @@ module _ (below : Below) (room : ℕ) (sound : (block : Bool) → IsSound (below
   branched_leaves e s None rest l = λ ends. l
   branched_leaves e s (Some t) rest l = l
 
-  if_sound : (block : Bool) → IsSound (if_in below room) (Low (suc room)) (IsStatementIn block) Leaves
+  if_sound : (block : Bool) → IsSound (if_in below fuel) (Low (suc fuel)) (IsStatementIn block) Leaves
   unfolding if_in
   if_sound block =
       let branches : IsSound (branches_in below) LowBranches (λ w. SpellsBranches w.0 w.1) (λ w. LeavesBranches w.1) = record { takes = branches_taken } in
       record {
-        takes = made_takes (λ v. branched v.0 v.1.0 v.1.1) (after (word_mark K.If) (after (sign_mark LeftParenthesis) (both (expression_sound room) (after (sign_mark RightParenthesis) branches)))) (Low (suc room)) (IsStatementIn block) Leaves
+        takes = made_takes (λ v. branched v.0 v.1.0 v.1.1) (after (word_mark K.If) (after (sign_mark LeftParenthesis) (both (expression_sound fuel) (after (sign_mark RightParenthesis) branches)))) (Low (suc fuel)) (IsStatementIn block) Leaves
             (λ v f. branched_low v.0 v.1.0 v.1.1 f.0 f.1) (λ v xs d. branched_spelled block v.0 v.1.0 v.1.1 xs d) (λ v rest l. branched_leaves v.0 v.1.0 v.1.1 rest l);
       }
 
   abbrev Taken : Bool → List Token → StatementTree → List Token → Type 0
-  Taken block ts s rest = IsTaken (Low (suc room)) (IsStatementIn block) Leaves ts s rest
+  Taken block ts s rest = IsTaken (Low (suc fuel)) (IsStatementIn block) Leaves ts s rest
 
   misfit_none : {A : Type 0} (ts : List Token) (x : A) → misfit ts ≡ done x → ⊥
   misfit_none [] x e = cc
   misfit_none (t ∷ ts) x e = cc
 
-  pub by_first_taken : (block : Bool) (first : First) → (first ≡ F.Local → block ≡ true) → (ts : List Token) (s : StatementTree) (rest : List Token) → by_first below room first ts ≡ Ok (s, rest) → Taken block ts s rest
+  pub by_first_taken : (block : Bool) (first : First) → (first ≡ F.Local → block ≡ true) → (ts : List Token) (s : StatementTree) (rest : List Token) → by_first below fuel first ts ≡ Ok (s, rest) → Taken block ts s rest
   unfolding empty
-  by_first_taken block F.Empty ok ts s rest e = marked_takes Semicolon T.Empty (Low (suc room)) (IsStatementIn block) Leaves (omega arith) (λ xs d. d) closed ts s rest e
-  by_first_taken block F.Local ok ts s rest e = subst (λ b. Taken b ts s rest) (sym (ok refl)) ((local_statement_sound room).takes ts s rest e)
+  by_first_taken block F.Empty ok ts s rest e = marked_takes Semicolon T.Empty (Low (suc fuel)) (IsStatementIn block) Leaves (omega arith) (λ xs d. d) closed ts s rest e
+  by_first_taken block F.Local ok ts s rest e = subst (λ b. Taken b ts s rest) (sym (ok refl)) ((local_statement_sound fuel).takes ts s rest e)
   by_first_taken block F.Block ok ts s rest e = (block_statement_sound block).takes ts s rest e
-  by_first_taken block F.Call ok ts s rest e = (call_statement_sound room block).takes ts s rest e
-  by_first_taken block F.Assign ok ts s rest e = (assign_sound room block).takes ts s rest e
-  by_first_taken block F.Store ok ts s rest e = (store_sound room block).takes ts s rest e
+  by_first_taken block F.Call ok ts s rest e = (call_statement_sound fuel block).takes ts s rest e
+  by_first_taken block F.Assign ok ts s rest e = (assign_sound fuel block).takes ts s rest e
+  by_first_taken block F.Store ok ts s rest e = (store_sound fuel block).takes ts s rest e
   by_first_taken block F.If ok ts s rest e = (if_sound block).takes ts s rest e
   by_first_taken block F.While ok ts s rest e = (while_sound block).takes ts s rest e
   by_first_taken block F.For ok ts s rest e = (for_sound block).takes ts s rest e
-  by_first_taken block F.Break ok ts s rest e = (break_sound room block).takes ts s rest e
-  by_first_taken block F.Continue ok ts s rest e = (continue_sound room block).takes ts s rest e
-  by_first_taken block F.Return ok ts s rest e = (return_sound room block).takes ts s rest e
+  by_first_taken block F.Break ok ts s rest e = (break_sound fuel block).takes ts s rest e
+  by_first_taken block F.Continue ok ts s rest e = (continue_sound fuel block).takes ts s rest e
+  by_first_taken block F.Return ok ts s rest e = (return_sound fuel block).takes ts s rest e
   by_first_taken block F.Other ok ts s rest e = absurd (misfit_none ts (s, rest) e)
 
 -- ---- a local begins in a block alone
@@ -274,11 +274,11 @@ too_high_none F.Break ts x e = cc
 too_high_none F.Continue ts x e = cc
 too_high_none F.Return ts x e = cc
 
-pub statement_taken : (room : ℕ) (block : Bool) (ts : List Token) (s : StatementTree) (rest : List Token) → statement_at room block ts ≡ Ok (s, rest) → IsTaken (Low room) (IsStatementIn block) Leaves ts s rest
+pub statement_taken : (fuel : ℕ) (block : Bool) (ts : List Token) (s : StatementTree) (rest : List Token) → statement_at fuel block ts ≡ Ok (s, rest) → IsTaken (Low fuel) (IsStatementIn block) Leaves ts s rest
 unfolding statement_at
 statement_taken zero block ts s rest e = absurd (too_high_none (first_of block ts) ts (s, rest) e)
-statement_taken (suc room) block ts s rest e =
-    by_first_taken (statement_at room) room (λ b. record { takes = statement_taken room b }) block (first_of block ts) (local_in_block block ts) ts s rest e
+statement_taken (suc fuel) block ts s rest e =
+    by_first_taken (statement_at fuel) fuel (λ b. record { takes = statement_taken fuel b }) block (first_of block ts) (local_in_block block ts) ts s rest e
 
-pub statement_sound : (room : ℕ) (block : Bool) → IsSound (statement_at room block) (Low room) (IsStatementIn block) Leaves
-statement_sound room block = record { takes = statement_taken room block }
+pub statement_sound : (fuel : ℕ) (block : Bool) → IsSound (statement_at fuel block) (Low fuel) (IsStatementIn block) Leaves
+statement_sound fuel block = record { takes = statement_taken fuel block }

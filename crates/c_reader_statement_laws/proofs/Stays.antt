@@ -1,4 +1,4 @@
--- With more room the same is read, unless there was too little.
+-- With more fuel the same is read, unless there was too little.
 use Rattle.std.proofs.Common.{ℕ, zero, suc, ◌≤◌, Bool, true, false, List, [], ◌∷◌, length, Some, Ok, inl, inr, refl, arith}
 use Rattle.c_syntax.specs.declared.keyword.Keyword.TheVariants as K
 use Rattle.c_syntax.specs.declared.punctuator.Punctuator.TheVariants.{LeftParenthesis, RightParenthesis, LeftBracket, RightBracket, LeftBrace, RightBrace, Semicolon, Assign, Comma}
@@ -31,80 +31,80 @@ commas_keeps k ts = keeps_made (λ v. v.0 ∷ v.1) (keeps_both k (each_keeps (is
 there_keeps : {A : Type 0} {part more : Reading A} → Keeps part more → Keeps (there part) (there more)
 there_keeps k ts = keeps_made (λ x. Some x) k ts
 
-expression_keeps : (room more : ℕ) → room ≤ more → Keeps (expression_at room 0) (expression_at more 0)
-expression_keeps room more le ts = expression_stays room more 0 ts le
+expression_keeps : (fuel more : ℕ) → fuel ≤ more → Keeps (expression_at fuel 0) (expression_at more 0)
+expression_keeps fuel more le ts = expression_stays fuel more 0 ts le
 
-name_keeps : (room more : ℕ) → room ≤ more → Keeps (name room) (name more)
+name_keeps : (fuel more : ℕ) → fuel ≤ more → Keeps (name fuel) (name more)
 unfolding name
-name_keeps room more le ts = keeps_under (λ r. placed_name) (λ r s l. keeps_same placed_name) room more le ts
+name_keeps fuel more le ts = keeps_under (λ r. placed_name) (λ r s l. keeps_same placed_name) fuel more le ts
 
-arguments_keeps : (room more : ℕ) → room ≤ more → Keeps (arguments room) (arguments more)
+arguments_keeps : (fuel more : ℕ) → fuel ≤ more → Keeps (arguments fuel) (arguments more)
 unfolding arguments
-arguments_keeps room more le ts = keeps_either (is_sign_next RightParenthesis) (keeps_same (λ l. Ok ([], l))) (commas_keeps (expression_keeps room more le)) ts
+arguments_keeps fuel more le ts = keeps_either (is_sign_next RightParenthesis) (keeps_same (λ l. Ok ([], l))) (commas_keeps (expression_keeps fuel more le)) ts
 
-call_keeps : (room more : ℕ) → room ≤ more → Keeps (call room) (call more)
+call_keeps : (fuel more : ℕ) → fuel ≤ more → Keeps (call fuel) (call more)
 unfolding call
-call_keeps room more le ts =
+call_keeps fuel more le ts =
     keeps_under (λ r. made (λ v. record { callee = v.0; arguments = v.1 }) (name r & sign LeftParenthesis ▷ arguments r ◁ sign RightParenthesis))
-    (λ r s l. keeps_made (λ v. record { callee = v.0; arguments = v.1 }) (keeps_both (name_keeps r s l) (keeps_after (sign LeftParenthesis) (keeps_before (sign RightParenthesis) (arguments_keeps r s l))))) room more le ts
+    (λ r s l. keeps_made (λ v. record { callee = v.0; arguments = v.1 }) (keeps_both (name_keeps r s l) (keeps_after (sign LeftParenthesis) (keeps_before (sign RightParenthesis) (arguments_keeps r s l))))) fuel more le ts
 
-value_keeps : (room more : ℕ) → room ≤ more → Keeps (value room) (value more)
+value_keeps : (fuel more : ℕ) → fuel ≤ more → Keeps (value fuel) (value more)
 unfolding value
-value_keeps room more le ts = keeps_either is_call_next (keeps_made (λ c. T.Called c) (call_keeps room more le)) (keeps_made (λ e. T.Plain e) (expression_keeps room more le)) ts
+value_keeps fuel more le ts = keeps_either is_call_next (keeps_made (λ c. T.Called c) (call_keeps fuel more le)) (keeps_made (λ e. T.Plain e) (expression_keeps fuel more le)) ts
 
-cell_keeps : (room more : ℕ) → room ≤ more → Keeps (cell room) (cell more)
+cell_keeps : (fuel more : ℕ) → fuel ≤ more → Keeps (cell fuel) (cell more)
 unfolding cell
-cell_keeps room more le ts =
+cell_keeps fuel more le ts =
     keeps_under (λ r. made (λ v. T.Cell v.0 v.1) (name r & sign LeftBracket ▷ expression_at r 0 ◁ sign RightBracket))
-    (λ r s l. keeps_made (λ v. T.Cell v.0 v.1) (keeps_both (name_keeps r s l) (keeps_after (sign LeftBracket) (keeps_before (sign RightBracket) (expression_keeps r s l))))) room more le ts
+    (λ r s l. keeps_made (λ v. T.Cell v.0 v.1) (keeps_both (name_keeps r s l) (keeps_after (sign LeftBracket) (keeps_before (sign RightBracket) (expression_keeps r s l))))) fuel more le ts
 
-place_keeps : (room more : ℕ) → room ≤ more → Keeps (place room) (place more)
+place_keeps : (fuel more : ℕ) → fuel ≤ more → Keeps (place fuel) (place more)
 unfolding place
-place_keeps room more le ts = keeps_either is_cell_next (cell_keeps room more le) (keeps_made (λ x. T.Name x) (name_keeps room more le)) ts
+place_keeps fuel more le ts = keeps_either is_cell_next (cell_keeps fuel more le) (keeps_made (λ x. T.Name x) (name_keeps fuel more le)) ts
 
-set_keeps : (room more : ℕ) → room ≤ more → Keeps (set room) (set more)
+set_keeps : (fuel more : ℕ) → fuel ≤ more → Keeps (set fuel) (set more)
 unfolding set
-set_keeps room more le ts =
+set_keeps fuel more le ts =
     keeps_under (λ r. made (λ v. record { place = v.0; value = v.1 }) (place r & sign Assign ▷ expression_at r 0))
-    (λ r s l. keeps_made (λ v. record { place = v.0; value = v.1 }) (keeps_both (place_keeps r s l) (keeps_after (sign Assign) (expression_keeps r s l)))) room more le ts
+    (λ r s l. keeps_made (λ v. record { place = v.0; value = v.1 }) (keeps_both (place_keeps r s l) (keeps_after (sign Assign) (expression_keeps r s l)))) fuel more le ts
 
-local_value_keeps : (room more : ℕ) → room ≤ more → Keeps (local_value room) (local_value more)
+local_value_keeps : (fuel more : ℕ) → fuel ≤ more → Keeps (local_value fuel) (local_value more)
 unfolding local_value
-local_value_keeps room more le ts = keeps_either (is_sign_next Assign) (there_keeps (keeps_after (sign Assign) (value_keeps room more le))) (keeps_same missing) ts
+local_value_keeps fuel more le ts = keeps_either (is_sign_next Assign) (there_keeps (keeps_after (sign Assign) (value_keeps fuel more le))) (keeps_same missing) ts
 
-local_keeps : (room more : ℕ) → room ≤ more → Keeps (local room) (local more)
+local_keeps : (fuel more : ℕ) → fuel ≤ more → Keeps (local fuel) (local more)
 unfolding local
-local_keeps room more le ts =
+local_keeps fuel more le ts =
     keeps_made (λ v. record { kind = v.0; name = v.1.0; value = v.1.1 })
-    (keeps_both (keeps_same integer_type) (keeps_both (name_keeps room more le) (keeps_before (sign Semicolon) (local_value_keeps room more le)))) ts
+    (keeps_both (keeps_same integer_type) (keeps_both (name_keeps fuel more le) (keeps_before (sign Semicolon) (local_value_keeps fuel more le)))) ts
 
-start_local_keeps : (room more : ℕ) → room ≤ more → Keeps (start_local room) (start_local more)
+start_local_keeps : (fuel more : ℕ) → fuel ≤ more → Keeps (start_local fuel) (start_local more)
 unfolding start_local
-start_local_keeps room more le ts =
+start_local_keeps fuel more le ts =
     keeps_made (λ v. T.StartLocal v.0 v.1.0 v.1.1)
     (keeps_both (keeps_same integer_type) (keeps_under (λ r. name r & sign Assign ▷ expression_at r 0 ◁ sign Semicolon)
-    (λ r s l. keeps_both (name_keeps r s l) (keeps_after (sign Assign) (keeps_before (sign Semicolon) (expression_keeps r s l)))) room more le)) ts
+    (λ r s l. keeps_both (name_keeps r s l) (keeps_after (sign Assign) (keeps_before (sign Semicolon) (expression_keeps r s l)))) fuel more le)) ts
 
-start_set_keeps : (room more : ℕ) → room ≤ more → Keeps (start_set room) (start_set more)
+start_set_keeps : (fuel more : ℕ) → fuel ≤ more → Keeps (start_set fuel) (start_set more)
 unfolding start_set
-start_set_keeps room more le ts = keeps_made (λ s. T.StartSet s) (keeps_before (sign Semicolon) (set_keeps room more le)) ts
+start_set_keeps fuel more le ts = keeps_made (λ s. T.StartSet s) (keeps_before (sign Semicolon) (set_keeps fuel more le)) ts
 
-start_keeps : (room more : ℕ) → room ≤ more → Keeps (start room) (start more)
+start_keeps : (fuel more : ℕ) → fuel ≤ more → Keeps (start fuel) (start more)
 unfolding start
-start_keeps room more le ts =
-    keeps_either (is_sign_next Semicolon) (keeps_same start_nothing) (keeps_either is_type_next (start_local_keeps room more le) (start_set_keeps room more le)) ts
+start_keeps fuel more le ts =
+    keeps_either (is_sign_next Semicolon) (keeps_same start_nothing) (keeps_either is_type_next (start_local_keeps fuel more le) (start_set_keeps fuel more le)) ts
 
-call_statement_keeps : (room more : ℕ) → room ≤ more → Keeps (call_statement room) (call_statement more)
+call_statement_keeps : (fuel more : ℕ) → fuel ≤ more → Keeps (call_statement fuel) (call_statement more)
 unfolding call_statement
-call_statement_keeps room more le ts = keeps_made (λ c. T.Call c) (keeps_before (sign Semicolon) (call_keeps room more le)) ts
+call_statement_keeps fuel more le ts = keeps_made (λ c. T.Call c) (keeps_before (sign Semicolon) (call_keeps fuel more le)) ts
 
-assign_keeps : (room more : ℕ) → room ≤ more → Keeps (assign room) (assign more)
+assign_keeps : (fuel more : ℕ) → fuel ≤ more → Keeps (assign fuel) (assign more)
 unfolding assign
-assign_keeps room more le ts =
-    keeps_made (λ v. T.Assign v.0 v.1) (keeps_both (name_keeps room more le) (keeps_after (sign Assign) (keeps_before (sign Semicolon) (value_keeps room more le)))) ts
+assign_keeps fuel more le ts =
+    keeps_made (λ v. T.Assign v.0 v.1) (keeps_both (name_keeps fuel more le) (keeps_after (sign Assign) (keeps_before (sign Semicolon) (value_keeps fuel more le)))) ts
 
--- The index has one less room than the value: each of the two has more.
-store_keeps : (room more : ℕ) → room ≤ more → Keeps (store room) (store more)
+-- The index has one less fuel than the value: each of the two has more.
+store_keeps : (fuel more : ℕ) → fuel ≤ more → Keeps (store fuel) (store more)
 unfolding store less
 store_keeps zero zero le ts = inr refl
 store_keeps zero (suc s) le ts = inl refl
@@ -113,13 +113,13 @@ store_keeps (suc r) (suc s) le ts =
     keeps_made (λ v. T.Store v.0 v.1.0 v.1.1)
     (keeps_both (name_keeps r s (omega arith)) (keeps_after (sign LeftBracket) (keeps_both (expression_keeps r s (omega arith)) (keeps_after (sign RightBracket) (keeps_after (sign Assign) (keeps_before (sign Semicolon) (expression_keeps (suc r) (suc s) le))))))) ts
 
-return_keeps : (room more : ℕ) → room ≤ more → Keeps (return_statement room) (return_statement more)
+return_keeps : (fuel more : ℕ) → fuel ≤ more → Keeps (return_statement fuel) (return_statement more)
 unfolding return_statement
-return_keeps room more le ts =
-    keeps_made (λ v. T.Return v.0 v.1) (keeps_both (keeps_same (placed_word K.Return)) (keeps_before (sign Semicolon) (keeps_either (is_sign_next Semicolon) (keeps_same missing) (there_keeps (value_keeps room more le))))) ts
+return_keeps fuel more le ts =
+    keeps_made (λ v. T.Return v.0 v.1) (keeps_both (keeps_same (placed_word K.Return)) (keeps_before (sign Semicolon) (keeps_either (is_sign_next Semicolon) (keeps_same missing) (there_keeps (value_keeps fuel more le))))) ts
 
 -- Statements with parts that are statements, over two readings of these.
-module _ (below above : Below) (room more : ℕ) (le : room ≤ more) (keeps : (block : Bool) → Keeps (below block) (above block)) where
+module _ (below above : Below) (fuel more : ℕ) (le : fuel ≤ more) (keeps : (block : Bool) → Keeps (below block) (above block)) where
   pub block_keeps : Keeps (block_in below) (block_in above)
   unfolding block_in items_in
   block_keeps ts = keeps_made statements_of (keeps_after (sign LeftBrace) (keeps_before (sign RightBrace) (each_keeps goes_on (keeps true)))) ts
@@ -128,61 +128,61 @@ module _ (below above : Below) (room more : ℕ) (le : room ≤ more) (keeps : (
   unfolding branches_in
   branches_keeps ts = keeps_both (keeps false) (keeps_either (is_word_next K.Else) (there_keeps (keeps_after (word K.Else) (keeps false))) (keeps_same missing)) ts
 
-  if_keeps : Keeps (if_in below room) (if_in above more)
+  if_keeps : Keeps (if_in below fuel) (if_in above more)
   unfolding if_in
   if_keeps ts =
       keeps_made (λ v. branched v.0 v.1.0 v.1.1)
-      (keeps_after (word K.If) (keeps_after (sign LeftParenthesis) (keeps_both (expression_keeps room more le) (keeps_after (sign RightParenthesis) branches_keeps)))) ts
+      (keeps_after (word K.If) (keeps_after (sign LeftParenthesis) (keeps_both (expression_keeps fuel more le) (keeps_after (sign RightParenthesis) branches_keeps)))) ts
 
-  while_keeps : Keeps (while_in below room) (while_in above more)
+  while_keeps : Keeps (while_in below fuel) (while_in above more)
   unfolding while_in
   while_keeps ts =
       keeps_made (λ v. T.While v.0 v.1)
-      (keeps_after (word K.While) (keeps_after (sign LeftParenthesis) (keeps_both (expression_keeps room more le) (keeps_after (sign RightParenthesis) (keeps false))))) ts
+      (keeps_after (word K.While) (keeps_after (sign LeftParenthesis) (keeps_both (expression_keeps fuel more le) (keeps_after (sign RightParenthesis) (keeps false))))) ts
 
-  for_keeps : Keeps (for_in below room) (for_in above more)
+  for_keeps : Keeps (for_in below fuel) (for_in above more)
   unfolding for_in
   for_keeps ts =
       keeps_made (λ v. T.For v.0 v.1.0 v.1.1.0 v.1.1.1)
-      (keeps_after (word K.For) (keeps_after (sign LeftParenthesis) (keeps_both (start_keeps room more le)
-      (keeps_both (keeps_either (is_sign_next Semicolon) (keeps_same missing) (there_keeps (expression_keeps room more le)))
-      (keeps_after (sign Semicolon) (keeps_both (keeps_either (is_sign_next RightParenthesis) (keeps_same missing) (there_keeps (set_keeps room more le)))
+      (keeps_after (word K.For) (keeps_after (sign LeftParenthesis) (keeps_both (start_keeps fuel more le)
+      (keeps_both (keeps_either (is_sign_next Semicolon) (keeps_same missing) (there_keeps (expression_keeps fuel more le)))
+      (keeps_after (sign Semicolon) (keeps_both (keeps_either (is_sign_next RightParenthesis) (keeps_same missing) (there_keeps (set_keeps fuel more le)))
       (keeps_after (sign RightParenthesis) (keeps false)))))))) ts
 
-  by_first_keeps : (first : First) → Keeps (by_first below room first) (by_first above more first)
+  by_first_keeps : (first : First) → Keeps (by_first below fuel first) (by_first above more first)
   by_first_keeps F.Empty ts = inr refl
-  by_first_keeps F.Local ts = keeps_made (λ l. T.Local l) (local_keeps room more le) ts
+  by_first_keeps F.Local ts = keeps_made (λ l. T.Local l) (local_keeps fuel more le) ts
   by_first_keeps F.Block ts = keeps_made (λ s. T.Block s) block_keeps ts
-  by_first_keeps F.Call ts = call_statement_keeps room more le ts
-  by_first_keeps F.Assign ts = assign_keeps room more le ts
-  by_first_keeps F.Store ts = store_keeps room more le ts
+  by_first_keeps F.Call ts = call_statement_keeps fuel more le ts
+  by_first_keeps F.Assign ts = assign_keeps fuel more le ts
+  by_first_keeps F.Store ts = store_keeps fuel more le ts
   by_first_keeps F.If ts = if_keeps ts
   by_first_keeps F.While ts = while_keeps ts
   by_first_keeps F.For ts = for_keeps ts
   by_first_keeps F.Break ts = inr refl
   by_first_keeps F.Continue ts = inr refl
-  by_first_keeps F.Return ts = return_keeps room more le ts
+  by_first_keeps F.Return ts = return_keeps fuel more le ts
   by_first_keeps F.Other ts = inr refl
 
-too_high_keeps : (below : Below) (room : ℕ) (first : First) → Keeps (too_high first) (by_first below room first)
-too_high_keeps below room F.Other ts = inr refl
-too_high_keeps below room F.Empty ts = inl refl
-too_high_keeps below room F.Local ts = inl refl
-too_high_keeps below room F.Block ts = inl refl
-too_high_keeps below room F.Call ts = inl refl
-too_high_keeps below room F.Assign ts = inl refl
-too_high_keeps below room F.Store ts = inl refl
-too_high_keeps below room F.If ts = inl refl
-too_high_keeps below room F.While ts = inl refl
-too_high_keeps below room F.For ts = inl refl
-too_high_keeps below room F.Break ts = inl refl
-too_high_keeps below room F.Continue ts = inl refl
-too_high_keeps below room F.Return ts = inl refl
+too_high_keeps : (below : Below) (fuel : ℕ) (first : First) → Keeps (too_high first) (by_first below fuel first)
+too_high_keeps below fuel F.Other ts = inr refl
+too_high_keeps below fuel F.Empty ts = inl refl
+too_high_keeps below fuel F.Local ts = inl refl
+too_high_keeps below fuel F.Block ts = inl refl
+too_high_keeps below fuel F.Call ts = inl refl
+too_high_keeps below fuel F.Assign ts = inl refl
+too_high_keeps below fuel F.Store ts = inl refl
+too_high_keeps below fuel F.If ts = inl refl
+too_high_keeps below fuel F.While ts = inl refl
+too_high_keeps below fuel F.For ts = inl refl
+too_high_keeps below fuel F.Break ts = inl refl
+too_high_keeps below fuel F.Continue ts = inl refl
+too_high_keeps below fuel F.Return ts = inl refl
 
-pub statement_keeps : (room more : ℕ) → room ≤ more → (block : Bool) → Keeps (statement_at room block) (statement_at more block)
+pub statement_keeps : (fuel more : ℕ) → fuel ≤ more → (block : Bool) → Keeps (statement_at fuel block) (statement_at more block)
 unfolding statement_at
 statement_keeps zero zero le block ts = inr refl
 statement_keeps zero (suc more) le block ts = too_high_keeps (statement_at more) more (first_of block ts) ts
-statement_keeps (suc room) zero le block ts = absurd (omega arith)
-statement_keeps (suc room) (suc more) le block ts =
-    by_first_keeps (statement_at room) (statement_at more) room more (omega arith) (statement_keeps room more (omega arith)) (first_of block ts) ts
+statement_keeps (suc fuel) zero le block ts = absurd (omega arith)
+statement_keeps (suc fuel) (suc more) le block ts =
+    by_first_keeps (statement_at fuel) (statement_at more) fuel more (omega arith) (statement_keeps fuel more (omega arith)) (first_of block ts) ts

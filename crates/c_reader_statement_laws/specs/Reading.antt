@@ -1,4 +1,4 @@
--- How statements are read. The number is the room: a tree that is higher is not read.
+-- How statements are read. The number is the fuel: a tree that is higher is not read.
 use Rattle.std.specs.Prelude.{ℕ, zero, suc, Bool, true, false, not, ◌&&◌, List, [], ◌∷◌, Option, Some, None, Ok, Err, if◌then◌else◌}
 use Rattle.c_syntax.specs.declared.keyword.Keyword.TheVariants as K
 use Rattle.c_syntax.specs.declared.punctuator.Punctuator.TheVariants.{LeftParenthesis, RightParenthesis, LeftBracket, RightBracket, LeftBrace, RightBrace, Semicolon, Assign}
@@ -40,14 +40,14 @@ unfoldable pub empty : Reading StatementTree
 empty ts = (sign Semicolon ▷ (λ rest. Ok (T.Empty, rest))) ts
 
 unfoldable pub call_statement : ℕ → Reading StatementTree
-call_statement room ts = made (λ c. T.Call c) (call room ◁ sign Semicolon) ts
+call_statement fuel ts = made (λ c. T.Call c) (call fuel ◁ sign Semicolon) ts
 
 unfoldable pub assign : ℕ → Reading StatementTree
-assign room ts = made (λ v. T.Assign v.0 v.1) (name room & sign Assign ▷ value room ◁ sign Semicolon) ts
+assign fuel ts = made (λ v. T.Assign v.0 v.1) (name fuel & sign Assign ▷ value fuel ◁ sign Semicolon) ts
 
 unfoldable pub store : ℕ → Reading StatementTree
-store room ts = made (λ v. T.Store v.0 v.1.0 v.1.1)
-    (under (λ r. name r & sign LeftBracket ▷ expression_at r 0 & sign RightBracket ▷ sign Assign ▷ expression_at room 0 ◁ sign Semicolon) room) ts
+store fuel ts = made (λ v. T.Store v.0 v.1.0 v.1.1)
+    (under (λ r. name r & sign LeftBracket ▷ expression_at r 0 & sign RightBracket ▷ sign Assign ▷ expression_at fuel 0 ◁ sign Semicolon) fuel) ts
 
 unfoldable pub break_statement : Reading StatementTree
 break_statement ts = made (λ at. T.Break at) (placed_word K.Break ◁ sign Semicolon) ts
@@ -57,10 +57,10 @@ continue_statement ts = made (λ at. T.Continue at) (placed_word K.Continue ◁ 
 
 -- what is returned
 abbrev pub returned : ℕ → Reading (Option ValueTree)
-returned room ts = either (is_sign_next Semicolon) missing (there (value room)) ts
+returned fuel ts = either (is_sign_next Semicolon) missing (there (value fuel)) ts
 
 unfoldable pub return_statement : ℕ → Reading StatementTree
-return_statement room ts = made (λ v. T.Return v.0 v.1) (placed_word K.Return & returned room ◁ sign Semicolon) ts
+return_statement fuel ts = made (λ v. T.Return v.0 v.1) (placed_word K.Return & returned fuel ◁ sign Semicolon) ts
 
 -- what an `if` makes of its condition, its statement, and what stands behind `else`
 abbrev pub branched : ExpressionTree → StatementTree → Option StatementTree → StatementTree
@@ -72,7 +72,7 @@ abbrev pub statements_of : List StatementTree → StatementsTree
 statements_of [] = T.Done
 statements_of (s ∷ rest) = T.First s (statements_of rest)
 
--- Statements with parts that are statements: these are read by another reading, which has less room.
+-- Statements with parts that are statements: these are read by another reading, which has less fuel.
 abbrev pub Below : Type 0
 Below = Bool → Reading StatementTree
 
@@ -94,40 +94,40 @@ unfoldable pub branches_in : Below → Reading (StatementTree × Option Statemen
 branches_in below ts = (below false & else_in below) ts
 
 unfoldable pub if_in : Below → ℕ → Reading StatementTree
-if_in below room ts = made (λ v. branched v.0 v.1.0 v.1.1)
-    (word K.If ▷ sign LeftParenthesis ▷ expression_at room 0 & sign RightParenthesis ▷ branches_in below) ts
+if_in below fuel ts = made (λ v. branched v.0 v.1.0 v.1.1)
+    (word K.If ▷ sign LeftParenthesis ▷ expression_at fuel 0 & sign RightParenthesis ▷ branches_in below) ts
 
 unfoldable pub while_in : Below → ℕ → Reading StatementTree
-while_in below room ts = made (λ v. T.While v.0 v.1)
-    (word K.While ▷ sign LeftParenthesis ▷ expression_at room 0 & sign RightParenthesis ▷ below false) ts
+while_in below fuel ts = made (λ v. T.While v.0 v.1)
+    (word K.While ▷ sign LeftParenthesis ▷ expression_at fuel 0 & sign RightParenthesis ▷ below false) ts
 
 -- the condition of a `for`, and what it sets behind each turn
 abbrev pub condition : ℕ → Reading (Option ExpressionTree)
-condition room ts = either (is_sign_next Semicolon) missing (there (expression_at room 0)) ts
+condition fuel ts = either (is_sign_next Semicolon) missing (there (expression_at fuel 0)) ts
 
 abbrev pub step : ℕ → Reading (Option SetTree)
-step room ts = either (is_sign_next RightParenthesis) missing (there (set room)) ts
+step fuel ts = either (is_sign_next RightParenthesis) missing (there (set fuel)) ts
 
 unfoldable pub for_in : Below → ℕ → Reading StatementTree
-for_in below room ts = made (λ v. T.For v.0 v.1.0 v.1.1.0 v.1.1.1)
-    (word K.For ▷ sign LeftParenthesis ▷ start room & condition room & sign Semicolon ▷ step room & sign RightParenthesis ▷ below false) ts
+for_in below fuel ts = made (λ v. T.For v.0 v.1.0 v.1.1.0 v.1.1.1)
+    (word K.For ▷ sign LeftParenthesis ▷ start fuel & condition fuel & sign Semicolon ▷ step fuel & sign RightParenthesis ▷ below false) ts
 
 abbrev pub by_first : Below → ℕ → First → Reading StatementTree
-by_first below room F.Empty ts = empty ts
-by_first below room F.Local ts = made (λ l. T.Local l) (local room) ts
-by_first below room F.Block ts = made (λ s. T.Block s) (block_in below) ts
-by_first below room F.Call ts = call_statement room ts
-by_first below room F.Assign ts = assign room ts
-by_first below room F.Store ts = store room ts
-by_first below room F.If ts = if_in below room ts
-by_first below room F.While ts = while_in below room ts
-by_first below room F.For ts = for_in below room ts
-by_first below room F.Break ts = break_statement ts
-by_first below room F.Continue ts = continue_statement ts
-by_first below room F.Return ts = return_statement room ts
-by_first below room F.Other ts = misfit ts
+by_first below fuel F.Empty ts = empty ts
+by_first below fuel F.Local ts = made (λ l. T.Local l) (local fuel) ts
+by_first below fuel F.Block ts = made (λ s. T.Block s) (block_in below) ts
+by_first below fuel F.Call ts = call_statement fuel ts
+by_first below fuel F.Assign ts = assign fuel ts
+by_first below fuel F.Store ts = store fuel ts
+by_first below fuel F.If ts = if_in below fuel ts
+by_first below fuel F.While ts = while_in below fuel ts
+by_first below fuel F.For ts = for_in below fuel ts
+by_first below fuel F.Break ts = break_statement ts
+by_first below fuel F.Continue ts = continue_statement ts
+by_first below fuel F.Return ts = return_statement fuel ts
+by_first below fuel F.Other ts = misfit ts
 
--- No room is left: what could begin here would be too high.
+-- No fuel is left: what could begin here would be too high.
 abbrev pub too_high : First → Reading StatementTree
 too_high F.Other ts = misfit ts
 too_high F.Empty ts = Err TooDeep
@@ -143,6 +143,6 @@ too_high F.Break ts = Err TooDeep
 too_high F.Continue ts = Err TooDeep
 too_high F.Return ts = Err TooDeep
 
-unfoldable pub statement_at : (room : ℕ) (block : Bool) → Reading StatementTree
+unfoldable pub statement_at : (fuel : ℕ) (block : Bool) → Reading StatementTree
 statement_at zero block ts = too_high (first_of block ts) ts
-statement_at (suc room) block ts = by_first (statement_at room) room (first_of block ts) ts
+statement_at (suc fuel) block ts = by_first (statement_at fuel) fuel (first_of block ts) ts

@@ -1,4 +1,4 @@
--- What values of the code stand for, and how a reading with room is made of one with less.
+-- What values of the code stand for, and how a reading with fuel is made of one with less.
 use Rattle.std.proofs.Common.{◌≡◌, ℕ, zero, suc, ◌-◌, ◌<◌, Bool, true, false, not, List, [], ◌∷◌, map, Result, Ok, Err, refl, ap, ◌∙◌, arith}
 use Rattle.c_syntax.specs.declared.token.Token.{Token}
 use Rattle.c_syntax.specs.Trees as T
@@ -15,15 +15,15 @@ pub statements_named : (xs : List Statement) → statements_of (map statement_tr
 statements_named [] = refl
 statements_named (x ∷ xs) = ap (λ s. T.First (statement_tree x) s) (statements_named xs)
 
-pub without_room : (room : ℕ) (block : Bool) (ts : List Token) → room ≡ 0 → statement_at room block ts ≡ too_high (first_of block ts) ts
+pub without_fuel : (fuel : ℕ) (block : Bool) (ts : List Token) → fuel ≡ 0 → statement_at fuel block ts ≡ too_high (first_of block ts) ts
 unfolding statement_at
-without_room room block ts e = rw e refl
+without_fuel fuel block ts e = rw e refl
 
-pub with_room : (room : ℕ) (block : Bool) (ts : List Token) → 0 < room → statement_at room block ts ≡ by_first (statement_at (room - 1)) (room - 1) (first_of block ts) ts
+pub with_fuel : (fuel : ℕ) (block : Bool) (ts : List Token) → 0 < fuel → statement_at fuel block ts ≡ by_first (statement_at (fuel - 1)) (fuel - 1) (first_of block ts) ts
 unfolding statement_at
-with_room zero block ts lt = absurd (omega arith)
-with_room (suc room) block ts lt =
-    let e : suc room - 1 ≡ room = omega arith in
+with_fuel zero block ts lt = absurd (omega arith)
+with_fuel (suc fuel) block ts lt =
+    let e : suc fuel - 1 ≡ fuel = omega arith in
     rw e refl
 
 -- a mark that is not there, and what stands behind one that is

@@ -53,7 +53,7 @@ pub(crate) fn first_of(block: bool, tokens: &[Token]) -> First
     }
 }
 
-/// Why nothing is read where no room is left.
+/// Why nothing is read where no fuel is left.
 pub(crate) fn too_high(first: First, tokens: &[Token]) -> Fault
     ensures { too_high first tokens.now ≡ Err result }
 {

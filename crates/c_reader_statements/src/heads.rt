@@ -5,7 +5,6 @@ ghost use Rattle.c_syntax.specs.Views.{optional_tree, expression_tree, set_tree}
 ghost use Rattle.c_reader_statement_laws.specs.Reading.{Below, condition, step, by_first, if_in, while_in, for_in};
 ghost use Rattle.c_reader_statements.specs.Heads.{behind_if, behind_loop, behind_head};
 
-use crate::beside::{beside, ok};
 use crate::parts::{read_set, read_start};
 use crate::simple::{
     read_assign, read_break, read_call_statement, read_continue, read_empty, read_local_statement,
@@ -15,6 +14,7 @@ use c_reader_expressions::expression;
 use c_reader_statement_laws::First;
 use c_reader_tokens::{Fault, is_sign_next, misfit, read_sign, read_word};
 use c_syntax::{Expression, ForHead, ForStart, Keyword, Punctuator, Set, Statement, Token};
+use owned::{beside, ok};
 use std::alloc::Global;
 
 /// How a loop begins, up to its body.
@@ -38,25 +38,25 @@ pub(crate) enum Head {
 
 /// `if` and its condition (C99 6.8.4.1).
 #[tactic(auto, unfolding(c_reader_statement_laws::specs::Reading::if_in))]
-fn read_if_head(alloc: Global, room: u8, tokens: &[Token]) -> Result<(Expression, &[Token]), Fault>
-    ensures ok { IfOk result (λ r. (below : Below) → if_in below room tokens.now ≡ behind_if below (expression_tree r.0) r.1.now) }
-    ensures err { IfErr result (λ e. e ≢ Fault.NoMemory → (below : Below) → if_in below room tokens.now ≡ Err e) }
+fn read_if_head(alloc: Global, fuel: u8, tokens: &[Token]) -> Result<(Expression, &[Token]), Fault>
+    ensures ok { IfOk result (λ r. (below : Below) → if_in below fuel tokens.now ≡ behind_if below (expression_tree r.0) r.1.now) }
+    ensures err { IfErr result (λ e. e ≢ Fault.NoMemory → (below : Below) → if_in below fuel tokens.now ≡ Err e) }
 {
     let rest = ok!(read_word(Keyword::If, tokens));
     let rest = ok!(read_sign(Punctuator::LeftParenthesis, rest));
-    let (condition, rest) = ok!(expression(alloc, room, 0, rest));
+    let (condition, rest) = ok!(expression(alloc, fuel, 0, rest));
     let (condition, rest) = ok!(beside(condition, read_sign(Punctuator::RightParenthesis, rest)));
     Ok((condition, rest))
 }
 
 #[tactic(auto, unfolding(c_reader_statement_laws::specs::Reading::while_in))]
-fn read_while_head(alloc: Global, room: u8, tokens: &[Token]) -> Result<(Loop, &[Token]), Fault>
-    ensures ok { IfOk result (λ r. (below : Below) → while_in below room tokens.now ≡ behind_loop below r.0 r.1.now) }
-    ensures err { IfErr result (λ e. e ≢ Fault.NoMemory → (below : Below) → while_in below room tokens.now ≡ Err e) }
+fn read_while_head(alloc: Global, fuel: u8, tokens: &[Token]) -> Result<(Loop, &[Token]), Fault>
+    ensures ok { IfOk result (λ r. (below : Below) → while_in below fuel tokens.now ≡ behind_loop below r.0 r.1.now) }
+    ensures err { IfErr result (λ e. e ≢ Fault.NoMemory → (below : Below) → while_in below fuel tokens.now ≡ Err e) }
 {
     let rest = ok!(read_word(Keyword::While, tokens));
     let rest = ok!(read_sign(Punctuator::LeftParenthesis, rest));
-    let (condition, rest) = ok!(expression(alloc, room, 0, rest));
+    let (condition, rest) = ok!(expression(alloc, fuel, 0, rest));
     let (condition, rest) = ok!(beside(condition, read_sign(Punctuator::RightParenthesis, rest)));
     Ok((Loop::While(condition), rest))
 }
@@ -64,28 +64,28 @@ fn read_while_head(alloc: Global, room: u8, tokens: &[Token]) -> Result<(Loop, &
 /// The condition of a `for`.
 fn read_condition(
     alloc: Global,
-    room: u8,
+    fuel: u8,
     tokens: &[Token],
 ) -> Result<(Option<Expression>, &[Token]), Fault>
-    ensures ok { IfOk result (λ r. condition room tokens.now ≡ Ok (optional_tree expression_tree r.0, r.1.now)) }
-    ensures err { IfErr result (λ e. e ≢ Fault.NoMemory → condition room tokens.now ≡ Err e) }
+    ensures ok { IfOk result (λ r. condition fuel tokens.now ≡ Ok (optional_tree expression_tree r.0, r.1.now)) }
+    ensures err { IfErr result (λ e. e ≢ Fault.NoMemory → condition fuel tokens.now ≡ Err e) }
 {
     if is_sign_next(Punctuator::Semicolon, tokens) {
         return Ok((None, tokens));
     }
-    let (condition, rest) = ok!(expression(alloc, room, 0, tokens));
+    let (condition, rest) = ok!(expression(alloc, fuel, 0, tokens));
     Ok((Some(condition), rest))
 }
 
 /// What a `for` sets behind each turn.
-fn read_step(alloc: Global, room: u8, tokens: &[Token]) -> Result<(Option<Set>, &[Token]), Fault>
-    ensures ok { IfOk result (λ r. step room tokens.now ≡ Ok (optional_tree set_tree r.0, r.1.now)) }
-    ensures err { IfErr result (λ e. e ≢ Fault.NoMemory → step room tokens.now ≡ Err e) }
+fn read_step(alloc: Global, fuel: u8, tokens: &[Token]) -> Result<(Option<Set>, &[Token]), Fault>
+    ensures ok { IfOk result (λ r. step fuel tokens.now ≡ Ok (optional_tree set_tree r.0, r.1.now)) }
+    ensures err { IfErr result (λ e. e ≢ Fault.NoMemory → step fuel tokens.now ≡ Err e) }
 {
     if is_sign_next(Punctuator::RightParenthesis, tokens) {
         return Ok((None, tokens));
     }
-    let (step, rest) = ok!(read_set(alloc, room, tokens));
+    let (step, rest) = ok!(read_set(alloc, fuel, tokens));
     Ok((Some(step), rest))
 }
 
@@ -110,31 +110,31 @@ fn boxed(
 }
 
 #[tactic(auto, unfolding(c_reader_statement_laws::specs::Reading::for_in))]
-fn read_for_head(alloc: Global, room: u8, tokens: &[Token]) -> Result<(Loop, &[Token]), Fault>
-    ensures ok { IfOk result (λ r. (below : Below) → for_in below room tokens.now ≡ behind_loop below r.0 r.1.now) }
-    ensures err { IfErr result (λ e. e ≢ Fault.NoMemory → (below : Below) → for_in below room tokens.now ≡ Err e) }
+fn read_for_head(alloc: Global, fuel: u8, tokens: &[Token]) -> Result<(Loop, &[Token]), Fault>
+    ensures ok { IfOk result (λ r. (below : Below) → for_in below fuel tokens.now ≡ behind_loop below r.0 r.1.now) }
+    ensures err { IfErr result (λ e. e ≢ Fault.NoMemory → (below : Below) → for_in below fuel tokens.now ≡ Err e) }
 {
     let rest = ok!(read_word(Keyword::For, tokens));
     let rest = ok!(read_sign(Punctuator::LeftParenthesis, rest));
-    let (start, rest) = ok!(read_start(alloc, room, rest));
-    let (start, (condition, rest)) = ok!(beside(start, read_condition(alloc, room, rest)));
+    let (start, rest) = ok!(read_start(alloc, fuel, rest));
+    let (start, (condition, rest)) = ok!(beside(start, read_condition(alloc, fuel, rest)));
     let (parts, rest) = ok!(beside((start, condition), read_sign(Punctuator::Semicolon, rest)));
-    let (parts, (step, rest)) = ok!(beside(parts, read_step(alloc, room, rest)));
+    let (parts, (step, rest)) = ok!(beside(parts, read_step(alloc, fuel, rest)));
     let (parts, rest) = ok!(beside((parts, step), read_sign(Punctuator::RightParenthesis, rest)));
     let ((start, condition), step) = parts;
     Ok((Loop::For(ok!(boxed(alloc, start, condition, step))), rest))
 }
 
-/// What begins so, up to a statement inside it; its parts have this room.
+/// What begins so, up to a statement inside it; its parts have this fuel.
 #[tactic(auto, unfolding(c_reader_statement_laws::specs::Reading::block_in))]
 pub(crate) fn read_head(
     alloc: Global,
-    room: u8,
+    fuel: u8,
     first: First,
     tokens: &[Token],
 ) -> Result<(Head, &[Token]), Fault>
-    ensures ok { IfOk result (λ r. (below : Below) → by_first below room first tokens.now ≡ behind_head below r.0 r.1.now) }
-    ensures err { IfErr result (λ e. e ≢ Fault.NoMemory → (below : Below) → by_first below room first tokens.now ≡ Err e) }
+    ensures ok { IfOk result (λ r. (below : Below) → by_first below fuel first tokens.now ≡ behind_head below r.0 r.1.now) }
+    ensures err { IfErr result (λ e. e ≢ Fault.NoMemory → (below : Below) → by_first below fuel first tokens.now ≡ Err e) }
 {
     let (statement, rest) = match first {
         First::Block => {
@@ -142,25 +142,25 @@ pub(crate) fn read_head(
             return Ok((Head::Block, rest));
         }
         First::If => {
-            let (condition, rest) = ok!(read_if_head(alloc, room, tokens));
+            let (condition, rest) = ok!(read_if_head(alloc, fuel, tokens));
             return Ok((Head::If(condition), rest));
         }
         First::While => {
-            let (head, rest) = ok!(read_while_head(alloc, room, tokens));
+            let (head, rest) = ok!(read_while_head(alloc, fuel, tokens));
             return Ok((Head::Loop(head), rest));
         }
         First::For => {
-            let (head, rest) = ok!(read_for_head(alloc, room, tokens));
+            let (head, rest) = ok!(read_for_head(alloc, fuel, tokens));
             return Ok((Head::Loop(head), rest));
         }
         First::Empty => ok!(read_empty(tokens)),
-        First::Local => ok!(read_local_statement(alloc, room, tokens)),
-        First::Call => ok!(read_call_statement(alloc, room, tokens)),
-        First::Assign => ok!(read_assign(alloc, room, tokens)),
-        First::Store => ok!(read_store(alloc, room, tokens)),
+        First::Local => ok!(read_local_statement(alloc, fuel, tokens)),
+        First::Call => ok!(read_call_statement(alloc, fuel, tokens)),
+        First::Assign => ok!(read_assign(alloc, fuel, tokens)),
+        First::Store => ok!(read_store(alloc, fuel, tokens)),
         First::Break => ok!(read_break(tokens)),
         First::Continue => ok!(read_continue(tokens)),
-        First::Return => ok!(read_return(alloc, room, tokens)),
+        First::Return => ok!(read_return(alloc, fuel, tokens)),
         First::Other => return Err(misfit(tokens)),
     };
     Ok((Head::Whole(statement), rest))

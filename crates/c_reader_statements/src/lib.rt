@@ -1,8 +1,7 @@
 //! Reading statements (C99 6.8): each reader gives what it read and the tokens behind it, or the first
-//! fault from the front. A room bounds the height of what is read.
+//! fault from the front. Fuel bounds the height of what is read.
 #![tactic(auto)]
 
-mod beside;
 mod first;
 mod heads;
 mod parts;

@@ -7,7 +7,6 @@ ghost use Rattle.c_reader_expression_laws.specs.Reading.{expression_at};
 ghost use Rattle.c_reader_productions.specs.Combining.{commas};
 ghost use Rattle.c_reader_productions.specs.Parts.{less, name, arguments, call, value, is_cell_next, cell, place, set, local_value, local, start_local, start_set, start};
 
-use crate::beside::{beside, ok};
 use c_reader_expressions::expression;
 use c_reader_tokens::{
     Fault, is_call_next, is_name_next, is_sign_next, is_type_next, read_name, read_sign, read_type,
@@ -16,30 +15,31 @@ use c_syntax::{
     Call, Expression, ForStart, Identifier, Local, Place, Punctuator, Set, Token, Value,
 };
 use lang_base::Row;
+use owned::{beside, ok};
 use std::alloc::Global;
 
-/// One less room, for the parts of something.
+/// One less fuel, for the parts of something.
 #[tactic(auto, unfolding(c_reader_productions::specs::Parts::less))]
-pub(crate) fn one_less(room: u8) -> Result<u8, Fault>
-    ensures ok { IfOk result (λ r. less room ≡ Ok r) }
-    ensures err { IfErr result (λ e. less room ≡ Err e) }
+pub(crate) fn one_less(fuel: u8) -> Result<u8, Fault>
+    ensures ok { IfOk result (λ r. less fuel ≡ Ok r) }
+    ensures err { IfErr result (λ e. less fuel ≡ Err e) }
 {
-    if room == 0 {
+    if fuel == 0 {
         return Err(Fault::TooDeep);
     }
-    Ok(room - 1)
+    Ok(fuel - 1)
 }
 
 #[tactic(auto, unfolding(c_reader_productions::specs::Parts::name))]
 pub(crate) fn read_name_in(
     alloc: Global,
-    room: u8,
+    fuel: u8,
     tokens: &[Token],
 ) -> Result<(Identifier, &[Token]), Fault>
-    ensures ok { IfOk result (λ r. name room tokens.now ≡ Ok (r.0, r.1.now)) }
-    ensures err { IfErr result (λ e. e ≢ Fault.NoMemory → name room tokens.now ≡ Err e) }
+    ensures ok { IfOk result (λ r. name fuel tokens.now ≡ Ok (r.0, r.1.now)) }
+    ensures err { IfErr result (λ e. e ≢ Fault.NoMemory → name fuel tokens.now ≡ Err e) }
 {
-    let _below = ok!(one_less(room));
+    let _below = ok!(one_less(fuel));
     read_name(alloc, tokens)
 }
 
@@ -47,13 +47,13 @@ pub(crate) fn read_name_in(
 #[tactic(auto, unfolding(c_reader_productions::specs::Combining::commas))]
 fn read_expressions(
     alloc: Global,
-    room: u8,
+    fuel: u8,
     tokens: &[Token],
 ) -> Result<(Vec<Expression>, &[Token]), Fault>
-    ensures ok { IfOk result (λ r. commas (expression_at room 0) tokens.now ≡ Ok (map expression_tree r.0.items, r.1.now)) }
-    ensures err { IfErr result (λ e. e ≢ Fault.NoMemory → commas (expression_at room 0) tokens.now ≡ Err e) }
+    ensures ok { IfOk result (λ r. commas (expression_at fuel 0) tokens.now ≡ Ok (map expression_tree r.0.items, r.1.now)) }
+    ensures err { IfErr result (λ e. e ≢ Fault.NoMemory → commas (expression_at fuel 0) tokens.now ≡ Err e) }
 {
-    let (first, mut rest) = expression(alloc, room, 0, tokens)?;
+    let (first, mut rest) = expression(alloc, fuel, 0, tokens)?;
     let mut expressions = Vec::new(alloc);
     expressions.push(first)?;
     for _ in 0..rest.len() {
@@ -61,7 +61,7 @@ fn read_expressions(
             break;
         }
         let behind = read_sign(Punctuator::Comma, rest)?;
-        let (next, behind) = expression(alloc, room, 0, behind)?;
+        let (next, behind) = expression(alloc, fuel, 0, behind)?;
         expressions.push(next)?;
         rest = behind;
     }
@@ -71,16 +71,16 @@ fn read_expressions(
 #[tactic(auto, unfolding(c_reader_productions::specs::Parts::arguments))]
 fn read_arguments(
     alloc: Global,
-    room: u8,
+    fuel: u8,
     tokens: &[Token],
 ) -> Result<(Row<Expression>, &[Token]), Fault>
-    ensures ok { IfOk result (λ r. arguments room tokens.now ≡ Ok (map expression_tree r.0, r.1.now)) }
-    ensures err { IfErr result (λ e. e ≢ Fault.NoMemory → arguments room tokens.now ≡ Err e) }
+    ensures ok { IfOk result (λ r. arguments fuel tokens.now ≡ Ok (map expression_tree r.0, r.1.now)) }
+    ensures err { IfErr result (λ e. e ≢ Fault.NoMemory → arguments fuel tokens.now ≡ Err e) }
 {
     if is_sign_next(Punctuator::RightParenthesis, tokens) {
         return Ok((Row::from_vec(Vec::new(alloc)), tokens));
     }
-    let (expressions, rest) = ok!(read_expressions(alloc, room, tokens));
+    let (expressions, rest) = ok!(read_expressions(alloc, fuel, tokens));
     Ok((Row::from_vec(expressions), rest))
 }
 
@@ -88,13 +88,13 @@ fn read_arguments(
 #[tactic(auto, unfolding(c_reader_productions::specs::Parts::call))]
 pub(crate) fn read_call(
     alloc: Global,
-    room: u8,
+    fuel: u8,
     tokens: &[Token],
 ) -> Result<(Call, &[Token]), Fault>
-    ensures ok { IfOk result (λ r. call room tokens.now ≡ Ok (call_tree r.0, r.1.now)) }
-    ensures err { IfErr result (λ e. e ≢ Fault.NoMemory → call room tokens.now ≡ Err e) }
+    ensures ok { IfOk result (λ r. call fuel tokens.now ≡ Ok (call_tree r.0, r.1.now)) }
+    ensures err { IfErr result (λ e. e ≢ Fault.NoMemory → call fuel tokens.now ≡ Err e) }
 {
-    let below = ok!(one_less(room));
+    let below = ok!(one_less(fuel));
     let (callee, rest) = ok!(read_name_in(alloc, below, tokens));
     let (callee, rest) = ok!(beside(callee, read_sign(Punctuator::LeftParenthesis, rest)));
     let (callee, (arguments, rest)) = ok!(beside(callee, read_arguments(alloc, below, rest)));
@@ -110,17 +110,17 @@ pub(crate) fn read_call(
 #[tactic(auto, unfolding(c_reader_productions::specs::Parts::value))]
 pub(crate) fn read_value(
     alloc: Global,
-    room: u8,
+    fuel: u8,
     tokens: &[Token],
 ) -> Result<(Value, &[Token]), Fault>
-    ensures ok { IfOk result (λ r. value room tokens.now ≡ Ok (value_tree r.0, r.1.now)) }
-    ensures err { IfErr result (λ e. e ≢ Fault.NoMemory → value room tokens.now ≡ Err e) }
+    ensures ok { IfOk result (λ r. value fuel tokens.now ≡ Ok (value_tree r.0, r.1.now)) }
+    ensures err { IfErr result (λ e. e ≢ Fault.NoMemory → value fuel tokens.now ≡ Err e) }
 {
     if is_call_next(tokens) {
-        let (call, rest) = ok!(read_call(alloc, room, tokens));
+        let (call, rest) = ok!(read_call(alloc, fuel, tokens));
         return Ok((Value::Call(call), rest));
     }
-    let (value, rest) = ok!(expression(alloc, room, 0, tokens));
+    let (value, rest) = ok!(expression(alloc, fuel, 0, tokens));
     Ok((Value::Expression(value), rest))
 }
 
@@ -137,11 +137,11 @@ pub(crate) fn is_cell_next(tokens: &[Token]) -> bool
 }
 
 #[tactic(auto, unfolding(c_reader_productions::specs::Parts::cell))]
-fn read_cell(alloc: Global, room: u8, tokens: &[Token]) -> Result<(Place, &[Token]), Fault>
-    ensures ok { IfOk result (λ r. cell room tokens.now ≡ Ok (place_tree r.0, r.1.now)) }
-    ensures err { IfErr result (λ e. e ≢ Fault.NoMemory → cell room tokens.now ≡ Err e) }
+fn read_cell(alloc: Global, fuel: u8, tokens: &[Token]) -> Result<(Place, &[Token]), Fault>
+    ensures ok { IfOk result (λ r. cell fuel tokens.now ≡ Ok (place_tree r.0, r.1.now)) }
+    ensures err { IfErr result (λ e. e ≢ Fault.NoMemory → cell fuel tokens.now ≡ Err e) }
 {
-    let below = ok!(one_less(room));
+    let below = ok!(one_less(fuel));
     let (array, rest) = ok!(read_name_in(alloc, below, tokens));
     let (array, rest) = ok!(beside(array, read_sign(Punctuator::LeftBracket, rest)));
     let (array, (index, rest)) = ok!(beside(array, expression(alloc, below, 0, rest)));
@@ -151,24 +151,24 @@ fn read_cell(alloc: Global, room: u8, tokens: &[Token]) -> Result<(Place, &[Toke
 }
 
 #[tactic(auto, unfolding(c_reader_productions::specs::Parts::place))]
-fn read_place(alloc: Global, room: u8, tokens: &[Token]) -> Result<(Place, &[Token]), Fault>
-    ensures ok { IfOk result (λ r. place room tokens.now ≡ Ok (place_tree r.0, r.1.now)) }
-    ensures err { IfErr result (λ e. e ≢ Fault.NoMemory → place room tokens.now ≡ Err e) }
+fn read_place(alloc: Global, fuel: u8, tokens: &[Token]) -> Result<(Place, &[Token]), Fault>
+    ensures ok { IfOk result (λ r. place fuel tokens.now ≡ Ok (place_tree r.0, r.1.now)) }
+    ensures err { IfErr result (λ e. e ≢ Fault.NoMemory → place fuel tokens.now ≡ Err e) }
 {
     if is_cell_next(tokens) {
-        return read_cell(alloc, room, tokens);
+        return read_cell(alloc, fuel, tokens);
     }
-    let (variable, rest) = ok!(read_name_in(alloc, room, tokens));
+    let (variable, rest) = ok!(read_name_in(alloc, fuel, tokens));
     Ok((Place::Variable(variable), rest))
 }
 
 /// What a `for` sets.
 #[tactic(auto, unfolding(c_reader_productions::specs::Parts::set))]
-pub(crate) fn read_set(alloc: Global, room: u8, tokens: &[Token]) -> Result<(Set, &[Token]), Fault>
-    ensures ok { IfOk result (λ r. set room tokens.now ≡ Ok (set_tree r.0, r.1.now)) }
-    ensures err { IfErr result (λ e. e ≢ Fault.NoMemory → set room tokens.now ≡ Err e) }
+pub(crate) fn read_set(alloc: Global, fuel: u8, tokens: &[Token]) -> Result<(Set, &[Token]), Fault>
+    ensures ok { IfOk result (λ r. set fuel tokens.now ≡ Ok (set_tree r.0, r.1.now)) }
+    ensures err { IfErr result (λ e. e ≢ Fault.NoMemory → set fuel tokens.now ≡ Err e) }
 {
-    let below = ok!(one_less(room));
+    let below = ok!(one_less(fuel));
     let (place, rest) = ok!(read_place(alloc, below, tokens));
     let (place, rest) = ok!(beside(place, read_sign(Punctuator::Assign, rest)));
     let (place, (value, rest)) = ok!(beside(place, expression(alloc, below, 0, rest)));
@@ -178,33 +178,33 @@ pub(crate) fn read_set(alloc: Global, room: u8, tokens: &[Token]) -> Result<(Set
 #[tactic(auto, unfolding(c_reader_productions::specs::Parts::local_value))]
 fn read_local_value(
     alloc: Global,
-    room: u8,
+    fuel: u8,
     tokens: &[Token],
 ) -> Result<(Option<Value>, &[Token]), Fault>
-    ensures ok { IfOk result (λ r. local_value room tokens.now ≡ Ok (optional_tree value_tree r.0, r.1.now)) }
-    ensures err { IfErr result (λ e. e ≢ Fault.NoMemory → local_value room tokens.now ≡ Err e) }
+    ensures ok { IfOk result (λ r. local_value fuel tokens.now ≡ Ok (optional_tree value_tree r.0, r.1.now)) }
+    ensures err { IfErr result (λ e. e ≢ Fault.NoMemory → local_value fuel tokens.now ≡ Err e) }
 {
     if !is_sign_next(Punctuator::Assign, tokens) {
         return Ok((None, tokens));
     }
     let rest = ok!(read_sign(Punctuator::Assign, tokens));
-    let (value, rest) = ok!(read_value(alloc, room, rest));
+    let (value, rest) = ok!(read_value(alloc, fuel, rest));
     Ok((Some(value), rest))
 }
 
-/// The declaration of a local (C99 6.7), whose parts have this room.
+/// The declaration of a local (C99 6.7), whose parts have this fuel.
 #[tactic(auto, unfolding(c_reader_productions::specs::Parts::local))]
 pub(crate) fn read_local(
     alloc: Global,
-    room: u8,
+    fuel: u8,
     tokens: &[Token],
 ) -> Result<(Local, &[Token]), Fault>
-    ensures ok { IfOk result (λ r. local room tokens.now ≡ Ok (local_tree r.0, r.1.now)) }
-    ensures err { IfErr result (λ e. e ≢ Fault.NoMemory → local room tokens.now ≡ Err e) }
+    ensures ok { IfOk result (λ r. local fuel tokens.now ≡ Ok (local_tree r.0, r.1.now)) }
+    ensures err { IfErr result (λ e. e ≢ Fault.NoMemory → local fuel tokens.now ≡ Err e) }
 {
     let (kind, rest) = ok!(read_type(tokens));
-    let (name, rest) = ok!(read_name_in(alloc, room, rest));
-    let (name, (value, rest)) = ok!(beside(name, read_local_value(alloc, room, rest)));
+    let (name, rest) = ok!(read_name_in(alloc, fuel, rest));
+    let (name, (value, rest)) = ok!(beside(name, read_local_value(alloc, fuel, rest)));
     let (parts, rest) = ok!(beside((name, value), read_sign(Punctuator::Semicolon, rest)));
     let (name, value) = parts;
     Ok((Local { kind, name, value }, rest))
@@ -213,14 +213,14 @@ pub(crate) fn read_local(
 #[tactic(auto, unfolding(c_reader_productions::specs::Parts::start_local))]
 fn read_start_local(
     alloc: Global,
-    room: u8,
+    fuel: u8,
     tokens: &[Token],
 ) -> Result<(ForStart, &[Token]), Fault>
-    ensures ok { IfOk result (λ r. start_local room tokens.now ≡ Ok (start_tree r.0, r.1.now)) }
-    ensures err { IfErr result (λ e. e ≢ Fault.NoMemory → start_local room tokens.now ≡ Err e) }
+    ensures ok { IfOk result (λ r. start_local fuel tokens.now ≡ Ok (start_tree r.0, r.1.now)) }
+    ensures err { IfErr result (λ e. e ≢ Fault.NoMemory → start_local fuel tokens.now ≡ Err e) }
 {
     let (kind, rest) = ok!(read_type(tokens));
-    let below = ok!(one_less(room));
+    let below = ok!(one_less(fuel));
     let (name, rest) = ok!(read_name_in(alloc, below, rest));
     let (name, rest) = ok!(beside(name, read_sign(Punctuator::Assign, rest)));
     let (name, (value, rest)) = ok!(beside(name, expression(alloc, below, 0, rest)));
@@ -230,11 +230,11 @@ fn read_start_local(
 }
 
 #[tactic(auto, unfolding(c_reader_productions::specs::Parts::start_set))]
-fn read_start_set(alloc: Global, room: u8, tokens: &[Token]) -> Result<(ForStart, &[Token]), Fault>
-    ensures ok { IfOk result (λ r. start_set room tokens.now ≡ Ok (start_tree r.0, r.1.now)) }
-    ensures err { IfErr result (λ e. e ≢ Fault.NoMemory → start_set room tokens.now ≡ Err e) }
+fn read_start_set(alloc: Global, fuel: u8, tokens: &[Token]) -> Result<(ForStart, &[Token]), Fault>
+    ensures ok { IfOk result (λ r. start_set fuel tokens.now ≡ Ok (start_tree r.0, r.1.now)) }
+    ensures err { IfErr result (λ e. e ≢ Fault.NoMemory → start_set fuel tokens.now ≡ Err e) }
 {
-    let (set, rest) = ok!(read_set(alloc, room, tokens));
+    let (set, rest) = ok!(read_set(alloc, fuel, tokens));
     let (set, rest) = ok!(beside(set, read_sign(Punctuator::Semicolon, rest)));
     Ok((ForStart::Set(set), rest))
 }
@@ -243,18 +243,18 @@ fn read_start_set(alloc: Global, room: u8, tokens: &[Token]) -> Result<(ForStart
 #[tactic(auto, unfolding(c_reader_productions::specs::Parts::start, c_reader_productions::specs::Parts::start_nothing))]
 pub(crate) fn read_start(
     alloc: Global,
-    room: u8,
+    fuel: u8,
     tokens: &[Token],
 ) -> Result<(ForStart, &[Token]), Fault>
-    ensures ok { IfOk result (λ r. start room tokens.now ≡ Ok (start_tree r.0, r.1.now)) }
-    ensures err { IfErr result (λ e. e ≢ Fault.NoMemory → start room tokens.now ≡ Err e) }
+    ensures ok { IfOk result (λ r. start fuel tokens.now ≡ Ok (start_tree r.0, r.1.now)) }
+    ensures err { IfErr result (λ e. e ≢ Fault.NoMemory → start fuel tokens.now ≡ Err e) }
 {
     if is_sign_next(Punctuator::Semicolon, tokens) {
         let rest = ok!(read_sign(Punctuator::Semicolon, tokens));
         return Ok((ForStart::Nothing, rest));
     }
     if is_type_next(tokens) {
-        return read_start_local(alloc, room, tokens);
+        return read_start_local(alloc, fuel, tokens);
     }
-    read_start_set(alloc, room, tokens)
+    read_start_set(alloc, fuel, tokens)
 }

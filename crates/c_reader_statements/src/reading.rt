@@ -9,11 +9,11 @@ ghost use Rattle.c_reader_tokens.specs.Peeking.{is_word_next};
 ghost use Rattle.c_reader_statement_laws.specs.Reading.{branched, items_in, block_in, else_in, branches_in, statement_at};
 ghost use Rattle.c_reader_statements.specs.Heads.{behind_head, looped};
 
-use crate::beside::{beside, ok};
 use crate::first::{first_of, too_high};
 use crate::heads::{Head, Loop, read_head};
 use c_reader_tokens::{Fault, is_sign_next, is_word_next, read_sign, read_word};
 use c_syntax::{Expression, Keyword, Punctuator, Statement, Token};
+use owned::{beside, ok};
 use std::alloc::Global;
 
 /// A statement in a box.
@@ -95,11 +95,11 @@ fn is_else_next(tokens: &[Token]) -> bool
 #[cycle(statements)]
 fn read_items(
     alloc: Global,
-    room: u8,
+    fuel: u8,
     tokens: &[Token],
 ) -> Result<(Vec<Statement>, &[Token]), Fault>
-    ensures ok { IfOk result (λ r. items_in (statement_at room) tokens.now ≡ Ok (map statement_tree r.0.items, r.1.now)) }
-    ensures err { IfErr result (λ e. e ≢ Fault.NoMemory → items_in (statement_at room) tokens.now ≡ Err e) }
+    ensures ok { IfOk result (λ r. items_in (statement_at fuel) tokens.now ≡ Ok (map statement_tree r.0.items, r.1.now)) }
+    ensures err { IfErr result (λ e. e ≢ Fault.NoMemory → items_in (statement_at fuel) tokens.now ≡ Err e) }
 {
     let mut statements = Vec::new(alloc);
     let mut rest = tokens;
@@ -107,7 +107,7 @@ fn read_items(
         if is_sign_next(Punctuator::RightBrace, rest) {
             break;
         }
-        let (statement, behind) = read_statement(alloc, room, true, rest)?;
+        let (statement, behind) = read_statement(alloc, fuel, true, rest)?;
         statements.push(statement)?;
         rest = behind;
     }
@@ -118,17 +118,17 @@ fn read_items(
 #[cycle(statements)]
 fn read_other(
     alloc: Global,
-    room: u8,
+    fuel: u8,
     tokens: &[Token],
 ) -> Result<(Option<Statement>, &[Token]), Fault>
-    ensures ok { IfOk result (λ r. else_in (statement_at room) tokens.now ≡ Ok (optional_tree statement_tree r.0, r.1.now)) }
-    ensures err { IfErr result (λ e. e ≢ Fault.NoMemory → else_in (statement_at room) tokens.now ≡ Err e) }
+    ensures ok { IfOk result (λ r. else_in (statement_at fuel) tokens.now ≡ Ok (optional_tree statement_tree r.0, r.1.now)) }
+    ensures err { IfErr result (λ e. e ≢ Fault.NoMemory → else_in (statement_at fuel) tokens.now ≡ Err e) }
 {
     if !is_else_next(tokens) {
         return Ok((None, tokens));
     }
     let rest = ok!(read_word(Keyword::Else, tokens));
-    let (other, rest) = ok!(read_statement(alloc, room, false, rest));
+    let (other, rest) = ok!(read_statement(alloc, fuel, false, rest));
     Ok((Some(other), rest))
 }
 
@@ -137,81 +137,81 @@ fn read_other(
 #[tactic(auto, unfolding(c_reader_statement_laws::specs::Reading::branches_in))]
 fn read_branches(
     alloc: Global,
-    room: u8,
+    fuel: u8,
     tokens: &[Token],
 ) -> Result<((Statement, Option<Statement>), &[Token]), Fault>
-    ensures ok { IfOk result (λ r. branches_in (statement_at room) tokens.now ≡ Ok ((statement_tree r.0.0, optional_tree statement_tree r.0.1), r.1.now)) }
-    ensures err { IfErr result (λ e. e ≢ Fault.NoMemory → branches_in (statement_at room) tokens.now ≡ Err e) }
+    ensures ok { IfOk result (λ r. branches_in (statement_at fuel) tokens.now ≡ Ok ((statement_tree r.0.0, optional_tree statement_tree r.0.1), r.1.now)) }
+    ensures err { IfErr result (λ e. e ≢ Fault.NoMemory → branches_in (statement_at fuel) tokens.now ≡ Err e) }
 {
-    let (then, rest) = ok!(read_statement(alloc, room, false, tokens));
-    let (then, (other, rest)) = ok!(beside(then, read_other(alloc, room, rest)));
+    let (then, rest) = ok!(read_statement(alloc, fuel, false, tokens));
+    let (then, (other, rest)) = ok!(beside(then, read_other(alloc, fuel, rest)));
     Ok(((then, other), rest))
 }
 
-/// What stands behind a head, whose statements have this room.
+/// What stands behind a head, whose statements have this fuel.
 #[cycle(statements)]
 #[tactic(auto, using(crate::proofs::Trees::statements_named))]
 fn read_behind(
     alloc: Global,
-    room: u8,
+    fuel: u8,
     head: Head,
     tokens: &[Token],
 ) -> Result<(Statement, &[Token]), Fault>
-    ensures ok { IfOk result (λ r. behind_head (statement_at room) head tokens.now ≡ Ok (statement_tree r.0, r.1.now)) }
-    ensures err { IfErr result (λ e. e ≢ Fault.NoMemory → behind_head (statement_at room) head tokens.now ≡ Err e) }
+    ensures ok { IfOk result (λ r. behind_head (statement_at fuel) head tokens.now ≡ Ok (statement_tree r.0, r.1.now)) }
+    ensures err { IfErr result (λ e. e ≢ Fault.NoMemory → behind_head (statement_at fuel) head tokens.now ≡ Err e) }
 {
     match head {
         Head::Whole(statement) => Ok((statement, tokens)),
         Head::Block => {
-            let (statements, rest) = ok!(read_items(alloc, room, tokens));
+            let (statements, rest) = ok!(read_items(alloc, fuel, tokens));
             let rest = ok!(read_sign(Punctuator::RightBrace, rest));
             Ok((block_of(statements), rest))
         }
         Head::If(condition) => {
-            let branches = read_branches(alloc, room, tokens);
+            let branches = read_branches(alloc, fuel, tokens);
             let (condition, (branches, rest)) = ok!(beside(condition, branches));
             Ok((ok!(branched(alloc, condition, branches)), rest))
         }
         Head::Loop(head) => {
-            let body = read_statement(alloc, room, false, tokens);
+            let body = read_statement(alloc, fuel, false, tokens);
             let (head, (body, rest)) = ok!(beside(head, body));
             Ok((ok!(looped(alloc, head, body)), rest))
         }
     }
 }
 
-/// A statement, or in a block a local, which is at most as high as the room.
+/// A statement, or in a block a local, which is at most as high as the fuel.
 #[cycle(statements)]
-#[tactic(auto, using(crate::proofs::Trees::with_room, crate::proofs::Trees::without_room))]
+#[tactic(auto, using(crate::proofs::Trees::with_fuel, crate::proofs::Trees::without_fuel))]
 fn read_statement(
     alloc: Global,
-    room: u8,
+    fuel: u8,
     block: bool,
     tokens: &[Token],
 ) -> Result<(Statement, &[Token]), Fault>
-    ensures ok { IfOk result (λ r. statement_at room block tokens.now ≡ Ok (statement_tree r.0, r.1.now)) }
-    ensures err { IfErr result (λ e. e ≢ Fault.NoMemory → statement_at room block tokens.now ≡ Err e) }
+    ensures ok { IfOk result (λ r. statement_at fuel block tokens.now ≡ Ok (statement_tree r.0, r.1.now)) }
+    ensures err { IfErr result (λ e. e ≢ Fault.NoMemory → statement_at fuel block tokens.now ≡ Err e) }
 {
     let first = first_of(block, tokens);
-    if room == 0 {
+    if fuel == 0 {
         return Err(too_high(first, tokens));
     }
-    let (head, rest) = ok!(read_head(alloc, room - 1, first, tokens));
-    read_behind(alloc, room - 1, head, rest)
+    let (head, rest) = ok!(read_head(alloc, fuel - 1, first, tokens));
+    read_behind(alloc, fuel - 1, head, rest)
 }
 
-/// A block whose statements have this room (C99 6.8.2).
+/// A block whose statements have this fuel (C99 6.8.2).
 #[tactic(auto, using(crate::proofs::Trees::statements_named), unfolding(c_reader_statement_laws::specs::Reading::block_in))]
 pub fn read_block(
     alloc: Global,
-    room: u8,
+    fuel: u8,
     tokens: &[Token],
 ) -> Result<(Vec<Statement>, &[Token]), Fault>
-    ensures ok { IfOk result (λ r. block_in (statement_at room) tokens.now ≡ Ok (statements_tree r.0.items, r.1.now)) }
-    ensures err { IfErr result (λ e. e ≢ Fault.NoMemory → block_in (statement_at room) tokens.now ≡ Err e) }
+    ensures ok { IfOk result (λ r. block_in (statement_at fuel) tokens.now ≡ Ok (statements_tree r.0.items, r.1.now)) }
+    ensures err { IfErr result (λ e. e ≢ Fault.NoMemory → block_in (statement_at fuel) tokens.now ≡ Err e) }
 {
     let rest = ok!(read_sign(Punctuator::LeftBrace, tokens));
-    let (statements, rest) = ok!(read_items(alloc, room, rest));
+    let (statements, rest) = ok!(read_items(alloc, fuel, rest));
     let rest = ok!(read_sign(Punctuator::RightBrace, rest));
     Ok((fitted(statements), rest))
 }

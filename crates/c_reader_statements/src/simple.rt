@@ -7,11 +7,11 @@ ghost use Rattle.c_reader_productions.specs.Combining.{made};
 ghost use Rattle.c_reader_productions.specs.Parts.{local};
 ghost use Rattle.c_reader_statement_laws.specs.Reading.{empty, call_statement, assign, store, break_statement, continue_statement, returned, return_statement};
 
-use crate::beside::{beside, ok};
 use crate::parts::{one_less, read_call, read_local, read_name_in, read_value};
 use c_reader_expressions::expression;
 use c_reader_tokens::{Fault, is_sign_next, read_placed_word, read_sign};
 use c_syntax::{Keyword, Punctuator, Statement, Token, Value};
+use owned::{beside, ok};
 use std::alloc::Global;
 
 #[tactic(auto, unfolding(c_reader_statement_laws::specs::Reading::empty))]
@@ -25,26 +25,26 @@ pub(crate) fn read_empty(tokens: &[Token]) -> Result<(Statement, &[Token]), Faul
 
 pub(crate) fn read_local_statement(
     alloc: Global,
-    room: u8,
+    fuel: u8,
     tokens: &[Token],
 ) -> Result<(Statement, &[Token]), Fault>
-    ensures ok { IfOk result (λ r. made (λ l. T.Local l) (local room) tokens.now ≡ Ok (statement_tree r.0, r.1.now)) }
-    ensures err { IfErr result (λ e. e ≢ Fault.NoMemory → made (λ l. T.Local l) (local room) tokens.now ≡ Err e) }
+    ensures ok { IfOk result (λ r. made (λ l. T.Local l) (local fuel) tokens.now ≡ Ok (statement_tree r.0, r.1.now)) }
+    ensures err { IfErr result (λ e. e ≢ Fault.NoMemory → made (λ l. T.Local l) (local fuel) tokens.now ≡ Err e) }
 {
-    let (local, rest) = ok!(read_local(alloc, room, tokens));
+    let (local, rest) = ok!(read_local(alloc, fuel, tokens));
     Ok((Statement::Local(local), rest))
 }
 
 #[tactic(auto, unfolding(c_reader_statement_laws::specs::Reading::call_statement))]
 pub(crate) fn read_call_statement(
     alloc: Global,
-    room: u8,
+    fuel: u8,
     tokens: &[Token],
 ) -> Result<(Statement, &[Token]), Fault>
-    ensures ok { IfOk result (λ r. call_statement room tokens.now ≡ Ok (statement_tree r.0, r.1.now)) }
-    ensures err { IfErr result (λ e. e ≢ Fault.NoMemory → call_statement room tokens.now ≡ Err e) }
+    ensures ok { IfOk result (λ r. call_statement fuel tokens.now ≡ Ok (statement_tree r.0, r.1.now)) }
+    ensures err { IfErr result (λ e. e ≢ Fault.NoMemory → call_statement fuel tokens.now ≡ Err e) }
 {
-    let (call, rest) = ok!(read_call(alloc, room, tokens));
+    let (call, rest) = ok!(read_call(alloc, fuel, tokens));
     let (call, rest) = ok!(beside(call, read_sign(Punctuator::Semicolon, rest)));
     Ok((Statement::Call(call), rest))
 }
@@ -52,15 +52,15 @@ pub(crate) fn read_call_statement(
 #[tactic(auto, unfolding(c_reader_statement_laws::specs::Reading::assign))]
 pub(crate) fn read_assign(
     alloc: Global,
-    room: u8,
+    fuel: u8,
     tokens: &[Token],
 ) -> Result<(Statement, &[Token]), Fault>
-    ensures ok { IfOk result (λ r. assign room tokens.now ≡ Ok (statement_tree r.0, r.1.now)) }
-    ensures err { IfErr result (λ e. e ≢ Fault.NoMemory → assign room tokens.now ≡ Err e) }
+    ensures ok { IfOk result (λ r. assign fuel tokens.now ≡ Ok (statement_tree r.0, r.1.now)) }
+    ensures err { IfErr result (λ e. e ≢ Fault.NoMemory → assign fuel tokens.now ≡ Err e) }
 {
-    let (name, rest) = ok!(read_name_in(alloc, room, tokens));
+    let (name, rest) = ok!(read_name_in(alloc, fuel, tokens));
     let (name, rest) = ok!(beside(name, read_sign(Punctuator::Assign, rest)));
-    let (name, (value, rest)) = ok!(beside(name, read_value(alloc, room, rest)));
+    let (name, (value, rest)) = ok!(beside(name, read_value(alloc, fuel, rest)));
     let ((name, value), rest) = ok!(beside((name, value), read_sign(Punctuator::Semicolon, rest)));
     Ok((Statement::Assign(name, value), rest))
 }
@@ -68,19 +68,19 @@ pub(crate) fn read_assign(
 #[tactic(auto, unfolding(c_reader_statement_laws::specs::Reading::store))]
 pub(crate) fn read_store(
     alloc: Global,
-    room: u8,
+    fuel: u8,
     tokens: &[Token],
 ) -> Result<(Statement, &[Token]), Fault>
-    ensures ok { IfOk result (λ r. store room tokens.now ≡ Ok (statement_tree r.0, r.1.now)) }
-    ensures err { IfErr result (λ e. e ≢ Fault.NoMemory → store room tokens.now ≡ Err e) }
+    ensures ok { IfOk result (λ r. store fuel tokens.now ≡ Ok (statement_tree r.0, r.1.now)) }
+    ensures err { IfErr result (λ e. e ≢ Fault.NoMemory → store fuel tokens.now ≡ Err e) }
 {
-    let below = ok!(one_less(room));
+    let below = ok!(one_less(fuel));
     let (array, rest) = ok!(read_name_in(alloc, below, tokens));
     let (array, rest) = ok!(beside(array, read_sign(Punctuator::LeftBracket, rest)));
     let (array, (index, rest)) = ok!(beside(array, expression(alloc, below, 0, rest)));
     let (cell, rest) = ok!(beside((array, index), read_sign(Punctuator::RightBracket, rest)));
     let (cell, rest) = ok!(beside(cell, read_sign(Punctuator::Assign, rest)));
-    let (cell, (value, rest)) = ok!(beside(cell, expression(alloc, room, 0, rest)));
+    let (cell, (value, rest)) = ok!(beside(cell, expression(alloc, fuel, 0, rest)));
     let (parts, rest) = ok!(beside((cell, value), read_sign(Punctuator::Semicolon, rest)));
     let ((array, index), value) = parts;
     Ok((Statement::Store(array, index, value), rest))
@@ -108,30 +108,30 @@ pub(crate) fn read_continue(tokens: &[Token]) -> Result<(Statement, &[Token]), F
 
 fn read_returned(
     alloc: Global,
-    room: u8,
+    fuel: u8,
     tokens: &[Token],
 ) -> Result<(Option<Value>, &[Token]), Fault>
-    ensures ok { IfOk result (λ r. returned room tokens.now ≡ Ok (optional_tree value_tree r.0, r.1.now)) }
-    ensures err { IfErr result (λ e. e ≢ Fault.NoMemory → returned room tokens.now ≡ Err e) }
+    ensures ok { IfOk result (λ r. returned fuel tokens.now ≡ Ok (optional_tree value_tree r.0, r.1.now)) }
+    ensures err { IfErr result (λ e. e ≢ Fault.NoMemory → returned fuel tokens.now ≡ Err e) }
 {
     if is_sign_next(Punctuator::Semicolon, tokens) {
         return Ok((None, tokens));
     }
-    let (value, rest) = ok!(read_value(alloc, room, tokens));
+    let (value, rest) = ok!(read_value(alloc, fuel, tokens));
     Ok((Some(value), rest))
 }
 
 #[tactic(auto, unfolding(c_reader_statement_laws::specs::Reading::return_statement))]
 pub(crate) fn read_return(
     alloc: Global,
-    room: u8,
+    fuel: u8,
     tokens: &[Token],
 ) -> Result<(Statement, &[Token]), Fault>
-    ensures ok { IfOk result (λ r. return_statement room tokens.now ≡ Ok (statement_tree r.0, r.1.now)) }
-    ensures err { IfErr result (λ e. e ≢ Fault.NoMemory → return_statement room tokens.now ≡ Err e) }
+    ensures ok { IfOk result (λ r. return_statement fuel tokens.now ≡ Ok (statement_tree r.0, r.1.now)) }
+    ensures err { IfErr result (λ e. e ≢ Fault.NoMemory → return_statement fuel tokens.now ≡ Err e) }
 {
     let (at, rest) = ok!(read_placed_word(Keyword::Return, tokens));
-    let (value, rest) = ok!(read_returned(alloc, room, rest));
+    let (value, rest) = ok!(read_returned(alloc, fuel, rest));
     let (value, rest) = ok!(beside(value, read_sign(Punctuator::Semicolon, rest)));
     Ok((Statement::Return(at, value), rest))
 }

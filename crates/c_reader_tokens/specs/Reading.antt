@@ -18,7 +18,7 @@ abbrev pub misfit : {A : Type 0} → List Token → Result A Fault
 misfit [] = Err (Syntax None)
 misfit (t ∷ ts) = Err (Syntax (Some t.start))
 
--- No room is left: where the next token could begin what is to be read, that would be too high.
+-- No fuel is left: where the next token could begin what is to be read, that would be too high.
 abbrev pub deep : {A : Type 0} → (TokenKind → Bool) → Reading A
 deep begins [] = misfit []
 deep begins (t ∷ ts) = if begins t.kind then Err TooDeep else misfit (t ∷ ts)
@@ -29,6 +29,6 @@ pub record Takes (IsSpelled : List Token → Type 0) (ts rest : List Token) : Ty
   pub spelled : IsSpelled front
   pub parts : ts ≡ front ++ rest
 
--- With more room the same is read, unless there was too little.
+-- With more fuel the same is read, unless there was too little.
 abbrev pub Stays : {A : Type 0} → Result A Fault → Result A Fault → Type 0
 Stays less more = (less ≡ Err TooDeep) ⊎ (less ≡ more)

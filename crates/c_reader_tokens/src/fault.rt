@@ -11,7 +11,7 @@ pub enum Fault {
     /// The byte offset of the first token that does not fit; none where the tokens end too early.
     #[error("Syntax")]
     Syntax(Option<usize>),
-    /// What is read would be higher than there is room.
+    /// What is read would be higher than the fuel allows.
     #[error("TooDeep")]
     TooDeep,
 }

@@ -1,4 +1,6 @@
 pub mod Mains
+pub mod Fitting
+pub mod Listed
 pub mod Bodies
 pub mod InRange
 pub mod Zeros

@@ -1,3 +1,4 @@
+pub mod Room
 pub use Rattle.cminor_lowering.specs.Programs
 pub use Rattle.cminor_lowering.specs.Short
 pub use Rattle.lang_programs.specs.Seen

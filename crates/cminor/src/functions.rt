@@ -9,10 +9,10 @@ ghost use Rattle.cminor_lowering.specs.Actions.{low_action, low_actions};
 ghost use Rattle.cminor_lowering.specs.Programs.{ends_with_return, followed_by, is_return, low_ending, low_function, low_named};
 ghost use Rattle.lang_programs.specs.Seen.{named_seen};
 
+use crate::lower_actions;
 use c_program::{Action, Ending, Function as CFunction, Target};
 use cminor_codec::sequence;
 use cminor_language::Function;
-use cminor_lowering_code::lower_actions;
 use cminor_syntax::{Expression, Statement};
 use lang_base::{Named, NoMemory};
 use std::alloc::Global;

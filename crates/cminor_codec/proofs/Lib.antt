@@ -1,3 +1,3 @@
-pub mod Room
+pub mod Fuel
 pub mod Rows
 pub mod Texts

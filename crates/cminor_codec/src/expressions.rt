@@ -1,16 +1,17 @@
-//! Readers of expressions. What calls itself does so with less room.
+//! Readers of expressions. What calls itself does so with less fuel.
 
 ghost use Rattle.lang_base.specs.Reading.{Reads, made};
 ghost use Rattle.ints.specs.Codes.{argument_count_of};
 ghost use Rattle.cminor_form.specs.Reading.{expression_of, too_high, load, operands, applied, operation, choice, expression_by_code, expression};
 
-use crate::parts::{beside, boxed, read_global, read_variable};
+use crate::parts::{boxed, read_global, read_variable};
 use cminor_syntax::Expression;
 use ints::Op;
 use lang_base::{FormError, read_byte, read_u32};
+use owned::beside;
 use std::alloc::Global;
 
-/// A node for which no room is left.
+/// A node for which no fuel is left.
 #[tactic(auto, unfolding(cminor_form::specs::Reading::too_high))]
 fn refuse_height(bytes: &mut &[u8]) -> Result<Expression, FormError>
     ensures { Reads (too_high bytes.old.now) (expression_of result) bytes.new.now }
@@ -19,24 +20,24 @@ fn refuse_height(bytes: &mut &[u8]) -> Result<Expression, FormError>
     Err(FormError::TooLarge)
 }
 
-/// An expression that is at most as high as the room.
+/// An expression that is at most as high as the fuel.
 #[cycle(expressions)]
-#[tactic(auto, using(crate::proofs::Room::expression_without, crate::proofs::Room::expression_with))]
+#[tactic(auto, using(crate::proofs::Fuel::expression_without, crate::proofs::Fuel::expression_with))]
 pub fn read_expression(
     alloc: Global,
-    room: u16,
+    fuel: u16,
     variables: u16,
     bytes: &mut &[u8],
 ) -> Result<Expression, FormError>
-    ensures { Reads (expression room variables bytes.old.now) (expression_of result) bytes.new.now }
+    ensures { Reads (expression fuel variables bytes.old.now) (expression_of result) bytes.new.now }
 {
-    if room == 0 {
+    if fuel == 0 {
         return refuse_height(bytes);
     }
-    read_by_code(alloc, room - 1, variables, bytes)
+    read_by_code(alloc, fuel - 1, variables, bytes)
 }
 
-/// An expression whose parts have so much room.
+/// An expression whose parts have so much fuel.
 #[cycle(expressions)]
 #[tactic(auto, unfolding(cminor_form::specs::Reading::expression_by_code))]
 fn read_by_code(

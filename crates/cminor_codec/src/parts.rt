@@ -7,18 +7,6 @@ ghost use Rattle.cminor_form.specs.Reading.{variable, global, function_number, t
 use lang_base::{FormError, read_byte, read_count, read_u16, read_u16_below};
 use std::alloc::Global;
 
-/// What was read before, beside what is read behind it.
-pub(crate) fn beside<A: Drop, B>(
-    before: A,
-    behind: Result<B, FormError>,
-) -> Result<(A, B), FormError>
-    ensures ok { IfOk result (λ r. (r.0 ≡ before) × (behind ≡ Ok r.1)) }
-    ensures err { IfErr result (λ e. behind ≡ Err e) }
-{
-    let behind = behind?;
-    Ok((before, behind))
-}
-
 /// What was read, in a box.
 pub(crate) fn boxed<A: Drop>(alloc: Global, read: Result<A, FormError>) -> Result<Box<A>, FormError>
     ensures ok { IfOk result (λ b. read ≡ Ok b.value) }

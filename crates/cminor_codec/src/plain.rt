@@ -6,23 +6,24 @@ ghost use Rattle.cminor_form.specs.Reading.{expression_of, statement_of, express
 ghost use Rattle.cminor_codec.specs.Results.{expressions_of, row_of, maybe_of};
 
 use crate::expressions::read_expression;
-use crate::parts::{beside, read_function_number, read_global, read_target, read_variable};
+use crate::parts::{read_function_number, read_global, read_target, read_variable};
 use cminor_syntax::{Expression, Statement};
 use lang_base::{FormError, Row, read_byte, read_u16};
+use owned::beside;
 use std::alloc::Global;
 
 /// A variable, and the value that it becomes.
 #[tactic(auto, unfolding(cminor_form::specs::Reading::assign))]
 fn read_assign(
     alloc: Global,
-    room: u16,
+    fuel: u16,
     variables: u16,
     bytes: &mut &[u8],
 ) -> Result<Statement, FormError>
-    ensures { Reads (assign variables (expression room variables) bytes.old.now) (statement_of result) bytes.new.now }
+    ensures { Reads (assign variables (expression fuel variables) bytes.old.now) (statement_of result) bytes.new.now }
 {
     let variable = read_variable(variables, bytes)?;
-    let value = read_expression(alloc, room, variables, bytes)?;
+    let value = read_expression(alloc, fuel, variables, bytes)?;
     Ok(Statement::Assign(variable, value))
 }
 
@@ -30,30 +31,30 @@ fn read_assign(
 #[tactic(auto, unfolding(cminor_form::specs::Reading::store))]
 fn read_store(
     alloc: Global,
-    room: u16,
+    fuel: u16,
     variables: u16,
     bytes: &mut &[u8],
 ) -> Result<Statement, FormError>
-    ensures { Reads (store (expression room variables) bytes.old.now) (statement_of result) bytes.new.now }
+    ensures { Reads (store (expression fuel variables) bytes.old.now) (statement_of result) bytes.new.now }
 {
     let global = read_global(bytes)?;
-    let index = read_expression(alloc, room, variables, bytes)?;
-    let (index, value) = beside(index, read_expression(alloc, room, variables, bytes))?;
+    let index = read_expression(alloc, fuel, variables, bytes)?;
+    let (index, value) = beside(index, read_expression(alloc, fuel, variables, bytes))?;
     Ok(Statement::Store(global, index, value))
 }
 
 fn read_so_many(
     alloc: Global,
     count: u8,
-    room: u16,
+    fuel: u16,
     variables: u16,
     bytes: &mut &[u8],
 ) -> Result<Vec<Expression>, FormError>
-    ensures { Reads (more (λ before. expression room variables) [] count bytes.old.now) (expressions_of result) bytes.new.now }
+    ensures { Reads (more (λ before. expression fuel variables) [] count bytes.old.now) (expressions_of result) bytes.new.now }
 {
     let mut expressions = Vec::new(alloc);
     for _ in 0..count {
-        let expression = read_expression(alloc, room, variables, bytes)?;
+        let expression = read_expression(alloc, fuel, variables, bytes)?;
         expressions.push(expression)?;
     }
     Ok(expressions)
@@ -63,14 +64,14 @@ fn read_so_many(
 #[tactic(auto, unfolding(cminor_form::specs::Reading::arguments))]
 fn read_arguments(
     alloc: Global,
-    room: u16,
+    fuel: u16,
     variables: u16,
     bytes: &mut &[u8],
 ) -> Result<Row<Expression>, FormError>
-    ensures { Reads (arguments (expression room variables) bytes.old.now) (row_of result) bytes.new.now }
+    ensures { Reads (arguments (expression fuel variables) bytes.old.now) (row_of result) bytes.new.now }
 {
     let count = read_byte(bytes)?;
-    let arguments = read_so_many(alloc, count, room, variables, bytes)?;
+    let arguments = read_so_many(alloc, count, fuel, variables, bytes)?;
     Ok(Row::from_vec(arguments))
 }
 
@@ -78,15 +79,15 @@ fn read_arguments(
 #[tactic(auto, unfolding(cminor_form::specs::Reading::call))]
 fn read_call(
     alloc: Global,
-    room: u16,
+    fuel: u16,
     variables: u16,
     bytes: &mut &[u8],
 ) -> Result<Statement, FormError>
-    ensures { Reads (call variables (expression room variables) bytes.old.now) (statement_of result) bytes.new.now }
+    ensures { Reads (call variables (expression fuel variables) bytes.old.now) (statement_of result) bytes.new.now }
 {
     let callee = read_function_number(bytes)?;
     let target = read_target(variables, bytes)?;
-    let arguments = read_arguments(alloc, room, variables, bytes)?;
+    let arguments = read_arguments(alloc, fuel, variables, bytes)?;
     Ok(Statement::Call(callee, target, arguments))
 }
 
@@ -94,14 +95,14 @@ fn read_call(
 #[tactic(auto, unfolding(cminor_form::specs::Reading::put))]
 fn read_put(
     alloc: Global,
-    room: u16,
+    fuel: u16,
     variables: u16,
     bytes: &mut &[u8],
 ) -> Result<Statement, FormError>
-    ensures { Reads (put variables (expression room variables) bytes.old.now) (statement_of result) bytes.new.now }
+    ensures { Reads (put variables (expression fuel variables) bytes.old.now) (statement_of result) bytes.new.now }
 {
     let target = read_target(variables, bytes)?;
-    let word = read_expression(alloc, room, variables, bytes)?;
+    let word = read_expression(alloc, fuel, variables, bytes)?;
     Ok(Statement::Put(target, word))
 }
 
@@ -109,15 +110,15 @@ fn read_put(
 #[tactic(auto, unfolding(cminor_form::specs::Reading::returned))]
 fn read_returned(
     alloc: Global,
-    room: u16,
+    fuel: u16,
     variables: u16,
     bytes: &mut &[u8],
 ) -> Result<Option<Expression>, FormError>
-    ensures { Reads (returned (expression room variables) bytes.old.now) (maybe_of result) bytes.new.now }
+    ensures { Reads (returned (expression fuel variables) bytes.old.now) (maybe_of result) bytes.new.now }
 {
     match read_byte(bytes)? {
         0 => Ok(None),
-        1 => Ok(Some(read_expression(alloc, room, variables, bytes)?)),
+        1 => Ok(Some(read_expression(alloc, fuel, variables, bytes)?)),
         _ => Err(FormError::NotCanonical),
     }
 }
@@ -126,21 +127,21 @@ fn read_returned(
 #[tactic(auto, unfolding(cminor_form::specs::Reading::plain_statement))]
 pub fn read_plain(
     alloc: Global,
-    room: u16,
+    fuel: u16,
     variables: u16,
     code: u8,
     bytes: &mut &[u8],
 ) -> Result<Statement, FormError>
-    ensures { Reads (plain_statement variables (expression room variables) code bytes.old.now) (statement_of result) bytes.new.now }
+    ensures { Reads (plain_statement variables (expression fuel variables) code bytes.old.now) (statement_of result) bytes.new.now }
 {
     match code {
         0 => Ok(Statement::Skip),
-        1 => read_assign(alloc, room, variables, bytes),
-        2 => read_store(alloc, room, variables, bytes),
-        3 => read_call(alloc, room, variables, bytes),
-        4 => read_put(alloc, room, variables, bytes),
+        1 => read_assign(alloc, fuel, variables, bytes),
+        2 => read_store(alloc, fuel, variables, bytes),
+        3 => read_call(alloc, fuel, variables, bytes),
+        4 => read_put(alloc, fuel, variables, bytes),
         9 => Ok(Statement::Exit(read_u16(bytes)?)),
-        10 => Ok(Statement::Return(read_returned(alloc, room, variables, bytes)?)),
+        10 => Ok(Statement::Return(read_returned(alloc, fuel, variables, bytes)?)),
         _ => Err(FormError::NotCanonical),
     }
 }

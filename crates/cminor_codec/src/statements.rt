@@ -1,4 +1,4 @@
-//! Readers of statements. What calls itself does so with less room.
+//! Readers of statements. What calls itself does so with less fuel.
 
 ghost use Rattle.std.specs.Prelude.{◌≡◌, []};
 ghost use Rattle.lang_base.specs.Reading.{Reads, more};
@@ -9,10 +9,11 @@ ghost use Rattle.cminor_form.specs.Reading.{statement_of, too_high, expression, 
 ghost use Rattle.cminor_codec.specs.Results.{statements_of};
 
 use crate::expressions::read_expression;
-use crate::parts::{beside, boxed};
+use crate::parts::boxed;
 use crate::plain::read_plain;
 use cminor_syntax::Statement;
 use lang_base::{FormError, read_byte, read_u32};
+use owned::beside;
 use std::alloc::Global;
 
 /// No statement is higher.
@@ -25,7 +26,7 @@ pub fn read_body(alloc: Global, variables: u16, bytes: &mut &[u8]) -> Result<Sta
     read_statement(alloc, HEIGHT_LIMIT, variables, bytes)
 }
 
-/// A node for which no room is left.
+/// A node for which no fuel is left.
 #[tactic(auto, unfolding(cminor_form::specs::Reading::too_high))]
 fn refuse_height(bytes: &mut &[u8]) -> Result<Statement, FormError>
     ensures { Reads (too_high bytes.old.now) (statement_of result) bytes.new.now }
@@ -41,24 +42,24 @@ pub fn sequence(statements: Vec<Statement>) -> Statement
     Statement::Sequence(statements)
 }
 
-/// A statement that is at most as high as the room.
+/// A statement that is at most as high as the fuel.
 #[cycle(statements)]
-#[tactic(auto, using(crate::proofs::Room::statement_without, crate::proofs::Room::statement_with))]
+#[tactic(auto, using(crate::proofs::Fuel::statement_without, crate::proofs::Fuel::statement_with))]
 fn read_statement(
     alloc: Global,
-    room: u16,
+    fuel: u16,
     variables: u16,
     bytes: &mut &[u8],
 ) -> Result<Statement, FormError>
-    ensures { Reads (statement room variables bytes.old.now) (statement_of result) bytes.new.now }
+    ensures { Reads (statement fuel variables bytes.old.now) (statement_of result) bytes.new.now }
 {
-    if room == 0 {
+    if fuel == 0 {
         return refuse_height(bytes);
     }
-    read_by_code(alloc, room - 1, variables, bytes)
+    read_by_code(alloc, fuel - 1, variables, bytes)
 }
 
-/// A statement whose parts have so much room.
+/// A statement whose parts have so much fuel.
 #[cycle(statements)]
 #[tactic(auto, unfolding(cminor_form::specs::Reading::statement_by_code))]
 fn read_by_code(

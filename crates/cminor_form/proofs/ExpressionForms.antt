@@ -25,15 +25,15 @@ text_form {part = part} form same = record {
   again = λ x rest fits. ap (λ (l : List ℕ). part (l ++ rest)) (sym (same x)) ∙ form.again x rest fits;
 }
 
--- nothing is read without room
-pub no_room : {A : Type 0} (bytes : List ℕ) (x : A) (rest : List ℕ) → too_high bytes ≡ Ok (x, rest) → ⊥
+-- nothing is read without fuel
+pub no_fuel : {A : Type 0} (bytes : List ℕ) (x : A) (rest : List ℕ) → too_high bytes ≡ Ok (x, rest) → ⊥
 unfolding too_high
-no_room [] x rest e = absurd cc
-no_room (b ∷ bytes) x rest e = absurd cc
+no_fuel [] x rest e = absurd cc
+no_fuel (b ∷ bytes) x rest e = absurd cc
 
-pub no_room_form : {A : Type 0} (text : A → List ℕ) (Fits : A → Type 0) → ((x : A) → Fits x → ⊥) → IsForm too_high text Fits
-no_room_form text Fits none = record {
-  takes = λ bytes x rest are e. absurd (no_room bytes x rest e);
+pub no_fuel_form : {A : Type 0} (text : A → List ℕ) (Fits : A → Type 0) → ((x : A) → Fits x → ⊥) → IsForm too_high text Fits
+no_fuel_form text Fits none = record {
+  takes = λ bytes x rest are e. absurd (no_fuel bytes x rest e);
   again = λ x rest fits. absurd (none x fits);
 }
 
@@ -195,7 +195,7 @@ module _ (variables : ℕ) (few : variables ≤ 2 ^ 16) (part : Reading Expressi
 
 -- in range, and at most so high
 abbrev pub ExpressionFitsAt : ℕ → ℕ → ExpressionTree → Type 0
-ExpressionFitsAt variables room e = ExpressionFits variables e × (expression_height e ≤ room)
+ExpressionFitsAt variables fuel e = ExpressionFits variables e × (expression_height e ≤ fuel)
 
 never_so_low : (variables : ℕ) (e : ExpressionTree) → ExpressionFitsAt variables 0 e → ⊥
 never_so_low variables (Number w) fits = absurd (omega (arith, fits.1))
@@ -205,24 +205,24 @@ never_so_low variables (Unary o e) fits = absurd (omega (arith, fits.1))
 never_so_low variables (Binary o a b) fits = absurd (omega (arith, fits.1))
 never_so_low variables (Choice c a b) fits = absurd (omega (arith, fits.1))
 
-higher : (variables room : ℕ) (e : ExpressionTree) → PartsFitIn variables (ExpressionFitsAt variables room) e → ExpressionFitsAt variables (suc room) e
-higher variables room (Number w) fits = (fits, omega arith)
-higher variables room (Variable v) fits = (fits, omega arith)
-higher variables room (Load g i) fits = ((fits.0, fits.1.0), omega (arith, fits.1.1))
-higher variables room (Unary o e) fits = ((fits.0, fits.1.0), omega (arith, fits.1.1))
-higher variables room (Binary o a b) fits = ((fits.0, (fits.1.0.0, fits.1.1.0)), omega (arith, fits.1.0.1, fits.1.1.1))
-higher variables room (Choice c a b) fits = ((fits.0.0, (fits.1.0.0, fits.1.1.0)), omega (arith, fits.0.1, fits.1.0.1, fits.1.1.1))
+higher : (variables fuel : ℕ) (e : ExpressionTree) → PartsFitIn variables (ExpressionFitsAt variables fuel) e → ExpressionFitsAt variables (suc fuel) e
+higher variables fuel (Number w) fits = (fits, omega arith)
+higher variables fuel (Variable v) fits = (fits, omega arith)
+higher variables fuel (Load g i) fits = ((fits.0, fits.1.0), omega (arith, fits.1.1))
+higher variables fuel (Unary o e) fits = ((fits.0, fits.1.0), omega (arith, fits.1.1))
+higher variables fuel (Binary o a b) fits = ((fits.0, (fits.1.0.0, fits.1.1.0)), omega (arith, fits.1.0.1, fits.1.1.1))
+higher variables fuel (Choice c a b) fits = ((fits.0.0, (fits.1.0.0, fits.1.1.0)), omega (arith, fits.0.1, fits.1.0.1, fits.1.1.1))
 
-lower : (variables room : ℕ) (e : ExpressionTree) → ExpressionFitsAt variables (suc room) e → PartsFitIn variables (ExpressionFitsAt variables room) e
-lower variables room (Number w) fits = fits.0
-lower variables room (Variable v) fits = fits.0
-lower variables room (Load g i) fits = (fits.0.0, (fits.0.1, omega (arith, fits.1)))
-lower variables room (Unary o e) fits = (fits.0.0, (fits.0.1, omega (arith, fits.1)))
-lower variables room (Binary o a b) fits = (fits.0.0, ((fits.0.1.0, omega (arith, fits.1)), (fits.0.1.1, omega (arith, fits.1))))
-lower variables room (Choice c a b) fits = ((fits.0.0, omega (arith, fits.1)), ((fits.0.1.0, omega (arith, fits.1)), (fits.0.1.1, omega (arith, fits.1))))
+lower : (variables fuel : ℕ) (e : ExpressionTree) → ExpressionFitsAt variables (suc fuel) e → PartsFitIn variables (ExpressionFitsAt variables fuel) e
+lower variables fuel (Number w) fits = fits.0
+lower variables fuel (Variable v) fits = fits.0
+lower variables fuel (Load g i) fits = (fits.0.0, (fits.0.1, omega (arith, fits.1)))
+lower variables fuel (Unary o e) fits = (fits.0.0, (fits.0.1, omega (arith, fits.1)))
+lower variables fuel (Binary o a b) fits = (fits.0.0, ((fits.0.1.0, omega (arith, fits.1)), (fits.0.1.1, omega (arith, fits.1))))
+lower variables fuel (Choice c a b) fits = ((fits.0.0, omega (arith, fits.1)), ((fits.0.1.0, omega (arith, fits.1)), (fits.0.1.1, omega (arith, fits.1))))
 
-pub expression_form : (room variables : ℕ) → variables ≤ 2 ^ 16 → IsForm (expression room variables) expression_text (ExpressionFitsAt variables room)
+pub expression_form : (fuel variables : ℕ) → variables ≤ 2 ^ 16 → IsForm (expression fuel variables) expression_text (ExpressionFitsAt variables fuel)
 unfolding expression
-expression_form zero variables few = no_room_form expression_text (ExpressionFitsAt variables 0) (never_so_low variables)
-expression_form (suc room) variables few =
-    fits_form (by_code_form variables few (expression room variables) (ExpressionFitsAt variables room) (expression_form room variables few)) (higher variables room) (lower variables room)
+expression_form zero variables few = no_fuel_form expression_text (ExpressionFitsAt variables 0) (never_so_low variables)
+expression_form (suc fuel) variables few =
+    fits_form (by_code_form variables few (expression fuel variables) (ExpressionFitsAt variables fuel) (expression_form fuel variables few)) (higher variables fuel) (lower variables fuel)

@@ -16,7 +16,7 @@ use Rattle.cminor_syntax.specs.Trees.{ExpressionTree, StatementTree, StatementsT
 use Rattle.cminor_syntax.specs.Fits.{ExpressionFits, MaybeFits, TargetFits, statement_count, StatementFits, StatementsFit, expression_height, arguments_height, maybe_height, statement_height, statements_height, global_limit, function_limit, variable_limit, height_limit, IsFunction}
 use Rattle.cminor_form.specs.Spelling.{expression_text, target_text, arguments_text, statement_text, statements_text, frame_text, spelling}
 use Rattle.cminor_form.specs.Reading.{variable, global, function_number, target, skip, assign, store, arguments, call, put, returned, plain_statements, plain_statement, sequence_of, sequence, branch, statements, statement_by_code, expression, statement, frame, parts, function}
-use Rattle.cminor_form.proofs.ExpressionForms.{text_form, no_room_form, variable_form, global_form, function_number_form, ExpressionFitsAt, expression_form}
+use Rattle.cminor_form.proofs.ExpressionForms.{text_form, no_fuel_form, variable_form, global_form, function_number_form, ExpressionFitsAt, expression_form}
 
 -- ---- what follows a code in a table
 
@@ -299,7 +299,7 @@ module _ (variables : ℕ) (few : variables ≤ 2 ^ 16) (part : Reading Expressi
 
 -- in range, and at most so high
 abbrev pub StatementFitsAt : ℕ → ℕ → StatementTree → Type 0
-StatementFitsAt variables room s = StatementFits variables s × (statement_height s ≤ room)
+StatementFitsAt variables fuel s = StatementFits variables s × (statement_height s ≤ fuel)
 
 never_so_low : (variables : ℕ) (s : StatementTree) → StatementFitsAt variables 0 s → ⊥
 never_so_low variables Skip fits = absurd (omega (arith, fits.1))
@@ -314,76 +314,76 @@ never_so_low variables (Block s) fits = absurd (omega (arith, fits.1))
 never_so_low variables (Exit n) fits = absurd (omega (arith, fits.1))
 never_so_low variables (Return e) fits = absurd (omega (arith, fits.1))
 
-arguments_higher : (variables room : ℕ) (es : List ExpressionTree) → AllByRecursion (ExpressionFitsAt variables room) es → AllByRecursion (ExpressionFits variables) es × (arguments_height es ≤ room)
-arguments_higher variables room [] fits = (tt, omega arith)
-arguments_higher variables room (e ∷ es) fits =
-    let rest = arguments_higher variables room es fits.1 in
+arguments_higher : (variables fuel : ℕ) (es : List ExpressionTree) → AllByRecursion (ExpressionFitsAt variables fuel) es → AllByRecursion (ExpressionFits variables) es × (arguments_height es ≤ fuel)
+arguments_higher variables fuel [] fits = (tt, omega arith)
+arguments_higher variables fuel (e ∷ es) fits =
+    let rest = arguments_higher variables fuel es fits.1 in
     ((fits.0.0, rest.0), omega (arith, fits.0.1, rest.1))
 
-arguments_lower : (variables room : ℕ) (es : List ExpressionTree) → AllByRecursion (ExpressionFits variables) es → arguments_height es ≤ room → AllByRecursion (ExpressionFitsAt variables room) es
-arguments_lower variables room [] fits low = tt
-arguments_lower variables room (e ∷ es) fits low = ((fits.0, omega arith), arguments_lower variables room es fits.1 (omega arith))
+arguments_lower : (variables fuel : ℕ) (es : List ExpressionTree) → AllByRecursion (ExpressionFits variables) es → arguments_height es ≤ fuel → AllByRecursion (ExpressionFitsAt variables fuel) es
+arguments_lower variables fuel [] fits low = tt
+arguments_lower variables fuel (e ∷ es) fits low = ((fits.0, omega arith), arguments_lower variables fuel es fits.1 (omega arith))
 
-statements_higher : (variables room : ℕ) (ss : StatementsTree) → EachOf (StatementFitsAt variables room) ss → StatementsFit variables ss × (statements_height ss ≤ room)
-statements_higher variables room Done fits = (tt, omega arith)
-statements_higher variables room (First s rest) fits =
-    let more = statements_higher variables room rest fits.1 in
+statements_higher : (variables fuel : ℕ) (ss : StatementsTree) → EachOf (StatementFitsAt variables fuel) ss → StatementsFit variables ss × (statements_height ss ≤ fuel)
+statements_higher variables fuel Done fits = (tt, omega arith)
+statements_higher variables fuel (First s rest) fits =
+    let more = statements_higher variables fuel rest fits.1 in
     ((fits.0.0, more.0), omega (arith, fits.0.1, more.1))
 
-statements_lower : (variables room : ℕ) (ss : StatementsTree) → StatementsFit variables ss → statements_height ss ≤ room → EachOf (StatementFitsAt variables room) ss
-statements_lower variables room Done fits low = tt
-statements_lower variables room (First s rest) fits low = ((fits.0, omega arith), statements_lower variables room rest fits.1 (omega arith))
+statements_lower : (variables fuel : ℕ) (ss : StatementsTree) → StatementsFit variables ss → statements_height ss ≤ fuel → EachOf (StatementFitsAt variables fuel) ss
+statements_lower variables fuel Done fits low = tt
+statements_lower variables fuel (First s rest) fits low = ((fits.0, omega arith), statements_lower variables fuel rest fits.1 (omega arith))
 
-maybe_higher : (variables room : ℕ) (e : Option ExpressionTree) → MaybeFits (ExpressionFitsAt variables room) e → MaybeFits (ExpressionFits variables) e × (maybe_height e ≤ room)
-maybe_higher variables room None fits = (tt, omega arith)
-maybe_higher variables room (Some e) fits = fits
+maybe_higher : (variables fuel : ℕ) (e : Option ExpressionTree) → MaybeFits (ExpressionFitsAt variables fuel) e → MaybeFits (ExpressionFits variables) e × (maybe_height e ≤ fuel)
+maybe_higher variables fuel None fits = (tt, omega arith)
+maybe_higher variables fuel (Some e) fits = fits
 
-maybe_lower : (variables room : ℕ) (e : Option ExpressionTree) → MaybeFits (ExpressionFits variables) e → maybe_height e ≤ room → MaybeFits (ExpressionFitsAt variables room) e
-maybe_lower variables room None fits low = tt
-maybe_lower variables room (Some e) fits low = (fits, low)
+maybe_lower : (variables fuel : ℕ) (e : Option ExpressionTree) → MaybeFits (ExpressionFits variables) e → maybe_height e ≤ fuel → MaybeFits (ExpressionFitsAt variables fuel) e
+maybe_lower variables fuel None fits low = tt
+maybe_lower variables fuel (Some e) fits low = (fits, low)
 
 abbrev FitsBelow : ℕ → ℕ → StatementTree → Type 0
-FitsBelow variables room = PartsFitIn variables (ExpressionFitsAt variables room) (StatementFitsAt variables room)
+FitsBelow variables fuel = PartsFitIn variables (ExpressionFitsAt variables fuel) (StatementFitsAt variables fuel)
 
-higher : (variables room : ℕ) (s : StatementTree) → FitsBelow variables room s → StatementFitsAt variables (suc room) s
-higher variables room Skip fits = (tt, omega arith)
-higher variables room (Assign v e) fits = ((fits.0, fits.1.0), omega (arith, fits.1.1))
-higher variables room (Store g i e) fits = ((fits.0, (fits.1.0.0, fits.1.1.0)), omega (arith, fits.1.0.1, fits.1.1.1))
-higher variables room (Call f t es) fits =
-    let each = arguments_higher variables room es fits.1.1.1 in
+higher : (variables fuel : ℕ) (s : StatementTree) → FitsBelow variables fuel s → StatementFitsAt variables (suc fuel) s
+higher variables fuel Skip fits = (tt, omega arith)
+higher variables fuel (Assign v e) fits = ((fits.0, fits.1.0), omega (arith, fits.1.1))
+higher variables fuel (Store g i e) fits = ((fits.0, (fits.1.0.0, fits.1.1.0)), omega (arith, fits.1.0.1, fits.1.1.1))
+higher variables fuel (Call f t es) fits =
+    let each = arguments_higher variables fuel es fits.1.1.1 in
     ((fits.0, (fits.1.0, (fits.1.1.0, each.0))), omega (arith, each.1))
-higher variables room (Put t e) fits = ((fits.0, fits.1.0), omega (arith, fits.1.1))
-higher variables room (Sequence ss) fits =
-    let each = statements_higher variables room ss fits.1 in
+higher variables fuel (Put t e) fits = ((fits.0, fits.1.0), omega (arith, fits.1.1))
+higher variables fuel (Sequence ss) fits =
+    let each = statements_higher variables fuel ss fits.1 in
     ((fits.0, each.0), omega (arith, each.1))
-higher variables room (If e s t) fits = ((fits.0.0, (fits.1.0.0, fits.1.1.0)), omega (arith, fits.0.1, fits.1.0.1, fits.1.1.1))
-higher variables room (Loop s) fits = (fits.0, omega (arith, fits.1))
-higher variables room (Block s) fits = (fits.0, omega (arith, fits.1))
-higher variables room (Exit n) fits = (fits, omega arith)
-higher variables room (Return e) fits =
-    let one = maybe_higher variables room e fits in
+higher variables fuel (If e s t) fits = ((fits.0.0, (fits.1.0.0, fits.1.1.0)), omega (arith, fits.0.1, fits.1.0.1, fits.1.1.1))
+higher variables fuel (Loop s) fits = (fits.0, omega (arith, fits.1))
+higher variables fuel (Block s) fits = (fits.0, omega (arith, fits.1))
+higher variables fuel (Exit n) fits = (fits, omega arith)
+higher variables fuel (Return e) fits =
+    let one = maybe_higher variables fuel e fits in
     (one.0, omega (arith, one.1))
 
-lower : (variables room : ℕ) (s : StatementTree) → StatementFitsAt variables (suc room) s → FitsBelow variables room s
-lower variables room Skip fits = tt
-lower variables room (Assign v e) fits = (fits.0.0, (fits.0.1, omega (arith, fits.1)))
-lower variables room (Store g i e) fits = (fits.0.0, ((fits.0.1.0, omega (arith, fits.1)), (fits.0.1.1, omega (arith, fits.1))))
-lower variables room (Call f t es) fits = (fits.0.0, (fits.0.1.0, (fits.0.1.1.0, arguments_lower variables room es fits.0.1.1.1 (omega (arith, fits.1)))))
-lower variables room (Put t e) fits = (fits.0.0, (fits.0.1, omega (arith, fits.1)))
-lower variables room (Sequence ss) fits = (fits.0.0, statements_lower variables room ss fits.0.1 (omega (arith, fits.1)))
-lower variables room (If e s t) fits = ((fits.0.0, omega (arith, fits.1)), ((fits.0.1.0, omega (arith, fits.1)), (fits.0.1.1, omega (arith, fits.1))))
-lower variables room (Loop s) fits = (fits.0, omega (arith, fits.1))
-lower variables room (Block s) fits = (fits.0, omega (arith, fits.1))
-lower variables room (Exit n) fits = fits.0
-lower variables room (Return e) fits = maybe_lower variables room e fits.0 (omega (arith, fits.1))
+lower : (variables fuel : ℕ) (s : StatementTree) → StatementFitsAt variables (suc fuel) s → FitsBelow variables fuel s
+lower variables fuel Skip fits = tt
+lower variables fuel (Assign v e) fits = (fits.0.0, (fits.0.1, omega (arith, fits.1)))
+lower variables fuel (Store g i e) fits = (fits.0.0, ((fits.0.1.0, omega (arith, fits.1)), (fits.0.1.1, omega (arith, fits.1))))
+lower variables fuel (Call f t es) fits = (fits.0.0, (fits.0.1.0, (fits.0.1.1.0, arguments_lower variables fuel es fits.0.1.1.1 (omega (arith, fits.1)))))
+lower variables fuel (Put t e) fits = (fits.0.0, (fits.0.1, omega (arith, fits.1)))
+lower variables fuel (Sequence ss) fits = (fits.0.0, statements_lower variables fuel ss fits.0.1 (omega (arith, fits.1)))
+lower variables fuel (If e s t) fits = ((fits.0.0, omega (arith, fits.1)), ((fits.0.1.0, omega (arith, fits.1)), (fits.0.1.1, omega (arith, fits.1))))
+lower variables fuel (Loop s) fits = (fits.0, omega (arith, fits.1))
+lower variables fuel (Block s) fits = (fits.0, omega (arith, fits.1))
+lower variables fuel (Exit n) fits = fits.0
+lower variables fuel (Return e) fits = maybe_lower variables fuel e fits.0 (omega (arith, fits.1))
 
-pub statement_form : (room variables : ℕ) → variables ≤ 2 ^ 16 → IsForm (statement room variables) statement_text (StatementFitsAt variables room)
+pub statement_form : (fuel variables : ℕ) → variables ≤ 2 ^ 16 → IsForm (statement fuel variables) statement_text (StatementFitsAt variables fuel)
 unfolding statement
-statement_form zero variables few = no_room_form statement_text (StatementFitsAt variables 0) (never_so_low variables)
-statement_form (suc room) variables few =
+statement_form zero variables few = no_fuel_form statement_text (StatementFitsAt variables 0) (never_so_low variables)
+statement_form (suc fuel) variables few =
     fits_form
-    (by_code_form variables few (expression room variables) (ExpressionFitsAt variables room) (expression_form room variables few) (statement room variables) (StatementFitsAt variables room) (statement_form room variables few))
-    (higher variables room) (lower variables room)
+    (by_code_form variables few (expression fuel variables) (ExpressionFitsAt variables fuel) (expression_form fuel variables few) (statement fuel variables) (StatementFitsAt variables fuel) (statement_form fuel variables few))
+    (higher variables fuel) (lower variables fuel)
 
 -- ---- the function
 

@@ -1,4 +1,4 @@
--- How a function of Cminor is read. A reading with some room reads trees that are at most so high.
+-- How a function of Cminor is read. A reading with some fuel reads trees that are at most so high.
 use Rattle.std.specs.Prelude.{ℕ, zero, suc, List, [], ◌∷◌, Option, Result, Ok, Err, nat_le, ◌==◌, if◌then◌else◌}
 use Rattle.std.specs.Int.{w16, w32}
 use Rattle.lang_base.specs.declared.errors.FormError.{FormError}
@@ -74,9 +74,9 @@ expressions variables part =
 unfoldable pub expression_by_code : ℕ → Reading ExpressionTree → Reading ExpressionTree
 expression_by_code variables part bytes = coded (follow (expressions variables part) unknown) bytes
 
-unfoldable pub expression : (room variables : ℕ) → Reading ExpressionTree
+unfoldable pub expression : (fuel variables : ℕ) → Reading ExpressionTree
 expression zero variables bytes = too_high bytes
-expression (suc room) variables bytes = expression_by_code variables (expression room variables) bytes
+expression (suc fuel) variables bytes = expression_by_code variables (expression fuel variables) bytes
 
 -- ---- statements without statements in them, where `part` reads their expressions
 
@@ -136,9 +136,9 @@ statements part inner =
 unfoldable pub statement_by_code : ℕ → Reading ExpressionTree → Reading StatementTree → Reading StatementTree
 statement_by_code variables part inner bytes = coded (follow (statements part inner) (plain_statement variables part)) bytes
 
-unfoldable pub statement : (room variables : ℕ) → Reading StatementTree
+unfoldable pub statement : (fuel variables : ℕ) → Reading StatementTree
 statement zero variables bytes = too_high bytes
-statement (suc room) variables bytes = statement_by_code variables (expression room variables) (statement room variables) bytes
+statement (suc fuel) variables bytes = statement_by_code variables (expression fuel variables) (statement fuel variables) bytes
 
 -- ---- the function
 

@@ -1,21 +1,14 @@
 //! Copies of trees and functions, equal to what they were made from.
 
-ghost use Rattle.std.specs.Prelude.{◌≡◌, IfOk, Ok, map};
+ghost use Rattle.std.specs.Prelude.{◌≡◌, IfOk, map};
 ghost use Rattle.cminor_syntax.specs.Views.{expression_tree, statement_tree, statements_tree, optional_tree};
 
 use crate::function::Function;
 use cminor_codec::sequence;
 use cminor_syntax::{Expression, Statement};
 use lang_base::{NoMemory, Row};
+use owned::beside;
 use std::alloc::Global;
-
-/// What was copied before, beside what is copied behind it.
-fn beside<A: Drop, B>(before: A, behind: Result<B, NoMemory>) -> Result<(A, B), NoMemory>
-    ensures { IfOk result (λ r. (r.0 ≡ before) × (behind ≡ Ok r.1)) }
-{
-    let behind = behind?;
-    Ok((before, behind))
-}
 
 #[cycle(expressions)]
 fn copy_expression(alloc: Global, expression: &Expression) -> Result<Expression, NoMemory>

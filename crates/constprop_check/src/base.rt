@@ -2,8 +2,8 @@ ghost use Rattle.std.specs.Prelude.{◌≡◌, [], length, replicate, IfOk};
 ghost use Rattle.constprop_check_rules.specs.Rules.{IsPropagated};
 
 use crate::lists::FactLists;
-use crate::owned::beside;
 use lang_base::{Language, NoMemory};
+use owned::beside;
 use rtl_language::{Function, Rtl};
 use rtl_passes::empty_lists;
 use std::alloc::Global;

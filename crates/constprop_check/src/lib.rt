@@ -8,7 +8,6 @@ mod edges;
 mod form;
 mod lists;
 mod nodes;
-mod owned;
 mod pass;
 mod verdict;
 

@@ -6,4 +6,3 @@ pub mod Reading
 pub use Rattle.lang_base.specs.Programs
 pub use Rattle.lang_base.specs.Behaviour
 pub use Rattle.lang_base.specs.Keeps
-pub use Rattle.lang_base.specs.Soundness

@@ -12,9 +12,7 @@ mod writing;
 
 pub use lang_base::{
     FormError, Global, Language, Named, NoMemory, Oracle, Pass, PassError, Program, Row, Shown,
-    keeps_all, keeps_composes,
 };
-pub use lang_programs::RunError;
 pub use laws::one_program;
 pub use names::is_name;
 pub use programs::{read_program, write_program};

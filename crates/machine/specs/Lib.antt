@@ -6,3 +6,5 @@ pub mod Fits
 pub mod Spelling
 pub mod Reading
 pub mod Words
+pub mod AfterCalls
+pub mod AtEntry

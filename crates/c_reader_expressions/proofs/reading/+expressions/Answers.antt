@@ -17,18 +17,18 @@ chain-loop-preserved t c =
 
 pub read_at-returns-clause-ok : goal.read_at-returns-clause-ok
 read_at-returns-clause-ok t c =
-    let e = behind_operand c.args.room c.args.level c.args.tokens.now (expression_tree c.in_ok-left.left.expression) c.in_ok-left.rest.now (omega arith) c.in_ok-left.ensures.ok in
+    let e = behind_operand c.args.fuel c.args.level c.args.tokens.now (expression_tree c.in_ok-left.left.expression) c.in_ok-left.rest.now (omega arith) c.in_ok-left.ensures.ok in
     IfOk-weaker c.chain.result _ _ (λ r h. e ∙ h) c.chain.ensures.ok
 
 pub read_at-returns-clause-low : goal.read_at-returns-clause-low
 read_at-returns-clause-low t c =
-    let e = behind_operand c.args.room c.args.level c.args.tokens.now (expression_tree c.in_ok-left.left.expression) c.in_ok-left.rest.now (omega arith) c.in_ok-left.ensures.ok in
+    let e = behind_operand c.args.fuel c.args.level c.args.tokens.now (expression_tree c.in_ok-left.left.expression) c.in_ok-left.rest.now (omega arith) c.in_ok-left.ensures.ok in
     IfOk-weaker c.chain.result _ _ (λ r h.
-    let low = (reads c.args.room c.args.level c.args.tokens.now (expression_tree r.0.expression, r.1.now) (e ∙ h)).low in
+    let low = (reads c.args.fuel c.args.level c.args.tokens.now (expression_tree r.0.expression, r.1.now) (e ∙ h)).low in
     let measured = r.0.measured in
     omega arith) c.chain.ensures.ok
 
 pub read_at-returns-clause-err : goal.read_at-returns-clause-err
 read_at-returns-clause-err t c =
-    let e = behind_operand c.args.room c.args.level c.args.tokens.now (expression_tree c.in_ok-left.left.expression) c.in_ok-left.rest.now (omega arith) c.in_ok-left.ensures.ok in
+    let e = behind_operand c.args.fuel c.args.level c.args.tokens.now (expression_tree c.in_ok-left.left.expression) c.in_ok-left.rest.now (omega arith) c.in_ok-left.ensures.ok in
     IfErr-weaker c.chain.result _ _ (λ fault h memory. e ∙ h memory) c.chain.ensures.err

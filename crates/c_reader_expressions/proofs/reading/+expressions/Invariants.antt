@@ -4,7 +4,7 @@ use Rattle.c_reader_expression_laws.specs.Reading.{chain, expression_at}
 use Rattle.c_reader_expressions.proofs.reading.+expressions.Given as goal
 
 abbrev pub decreases-read_at : goal.decreases-read_at
-decreases-read_at l = 4 * l.room
+decreases-read_at l = 4 * l.fuel
 
 abbrev pub decreases-operand : goal.decreases-operand
 decreases-operand l = 4 * l.below + 3

@@ -15,33 +15,33 @@ use Rattle.c_reader_statements.proofs.parts.read_expressions.Goals.{else-loop-te
 pub returns-in_err-behind-clause-err : goal.returns-in_err-behind-clause-err
 returns-in_err-behind-clause-err c =
     let p = err_from_is_err_and c.from_residual-in_err-behind.result c.from_residual-in_err-behind.ensures.1 in
-    let part = sign Comma ▷ expression_at c.args.room 0 in
+    let part = sign Comma ▷ expression_at c.args.fuel 0 in
     let next : is_sign_next Comma c.loop.rest.now ≡ true = search rules in
-    rw (p.1, p.2) (λ memory. stops (is_sign_next Comma) part (length c.in_ok-first.rest.now) (commas (expression_at c.args.room 0) c.args.tokens.now) c.in_err-behind.field-0.0 (map expression_tree c.loop.expressions.items) c.loop.counter c.loop.rest.now c.loop-test.true c.loop.invariant next
-    (mark_fails (sign Comma) (expression_at c.args.room 0) c.loop.rest.now c.in_err-behind.field-0.0 c.in_err-behind.ensures.err))
+    rw (p.1, p.2) (λ memory. stops (is_sign_next Comma) part (length c.in_ok-first.rest.now) (commas (expression_at c.args.fuel 0) c.args.tokens.now) c.in_err-behind.field-0.0 (map expression_tree c.loop.expressions.items) c.loop.counter c.loop.rest.now c.loop-test.true c.loop.invariant next
+    (mark_fails (sign Comma) (expression_at c.args.fuel 0) c.loop.rest.now c.in_err-behind.field-0.0 c.in_err-behind.ensures.err))
 
 pub returns-in_err-next-clause-err : goal.returns-in_err-next-clause-err
 returns-in_err-next-clause-err c =
     let p = err_from_is_err_and c.from_residual-in_err-next.result c.from_residual-in_err-next.ensures.1 in
-    let part = sign Comma ▷ expression_at c.args.room 0 in
+    let part = sign Comma ▷ expression_at c.args.fuel 0 in
     let next : is_sign_next Comma c.loop.rest.now ≡ true = search rules in
-    rw (p.1, p.2) (λ memory. stops (is_sign_next Comma) part (length c.in_ok-first.rest.now) (commas (expression_at c.args.room 0) c.args.tokens.now) c.in_err-next.field-0.0 (map expression_tree c.loop.expressions.items) c.loop.counter c.loop.rest.now c.loop-test.true c.loop.invariant next
-    (behind_mark (sign Comma) (expression_at c.args.room 0) c.loop.rest.now c.in_ok-behind.behind.now _ c.in_ok-behind.ensures.ok (c.in_err-next.ensures.err memory)))
+    rw (p.1, p.2) (λ memory. stops (is_sign_next Comma) part (length c.in_ok-first.rest.now) (commas (expression_at c.args.fuel 0) c.args.tokens.now) c.in_err-next.field-0.0 (map expression_tree c.loop.expressions.items) c.loop.counter c.loop.rest.now c.loop-test.true c.loop.invariant next
+    (behind_mark (sign Comma) (expression_at c.args.fuel 0) c.loop.rest.now c.in_ok-behind.behind.now _ c.in_ok-behind.ensures.ok (c.in_err-next.ensures.err memory)))
 
 pub loop-preserved : goal.loop-preserved
 loop-preserved c =
-    let part = sign Comma ▷ expression_at c.args.room 0 in
+    let part = sign Comma ▷ expression_at c.args.fuel 0 in
     let next : is_sign_next Comma c.loop.rest.now ≡ true = search rules in
     rw (c.in_ok-push-2.ensures.items, map-append)
-    (goes_on (is_sign_next Comma) part (length c.in_ok-first.rest.now) (commas (expression_at c.args.room 0) c.args.tokens.now) (map expression_tree c.loop.expressions.items) c.loop.counter c.loop.rest.now (expression_tree c.in_ok-next.next) c.in_ok-next.behind.now c.loop-test.true c.loop.invariant next
-    (behind_mark (sign Comma) (expression_at c.args.room 0) c.loop.rest.now c.in_ok-behind.behind.now _ c.in_ok-behind.ensures.ok c.in_ok-next.ensures.ok))
+    (goes_on (is_sign_next Comma) part (length c.in_ok-first.rest.now) (commas (expression_at c.args.fuel 0) c.args.tokens.now) (map expression_tree c.loop.expressions.items) c.loop.counter c.loop.rest.now (expression_tree c.in_ok-next.next) c.in_ok-next.behind.now c.loop-test.true c.loop.invariant next
+    (behind_mark (sign Comma) (expression_at c.args.fuel 0) c.loop.rest.now c.in_ok-behind.behind.now _ c.in_ok-behind.ensures.ok c.in_ok-next.ensures.ok))
 
 pub returns-clause-ok : goal.returns-clause-ok
 returns-clause-ok c =
-    let part = sign Comma ▷ expression_at c.args.room 0 in
+    let part = sign Comma ▷ expression_at c.args.fuel 0 in
     elim c.loop-test.branch [
-      | else-loop-test w ↦ is_done (is_sign_next Comma) part (length c.in_ok-first.rest.now) (commas (expression_at c.args.room 0) c.args.tokens.now) (map expression_tree c.loop.expressions.items) c.loop.counter c.loop.rest.now w.loop-test.false c.loop.invariant
+      | else-loop-test w ↦ is_done (is_sign_next Comma) part (length c.in_ok-first.rest.now) (commas (expression_at c.args.fuel 0) c.args.tokens.now) (map expression_tree c.loop.expressions.items) c.loop.counter c.loop.rest.now w.loop-test.false c.loop.invariant
       | then-loop-test+then-not-is_sign_next w ↦
           let next : is_sign_next Comma c.loop.rest.now ≡ false = search rules in
-          ends (is_sign_next Comma) part (length c.in_ok-first.rest.now) (commas (expression_at c.args.room 0) c.args.tokens.now) (map expression_tree c.loop.expressions.items) c.loop.counter c.loop.rest.now w.loop-test.true c.loop.invariant next
+          ends (is_sign_next Comma) part (length c.in_ok-first.rest.now) (commas (expression_at c.args.fuel 0) c.args.tokens.now) (map expression_tree c.loop.expressions.items) c.loop.counter c.loop.rest.now w.loop-test.true c.loop.invariant next
     ]

@@ -9,4 +9,4 @@ use Rattle.c_reader_statements.proofs.Loops.{IsUnderWay}
 use Rattle.c_reader_statements.proofs.parts.read_expressions.Given as goal
 
 abbrev pub invariant-loop : goal.invariant-loop
-invariant-loop l = IsUnderWay (is_sign_next Comma) (sign Comma ▷ expression_at l.room 0) (length l.initial.rest) (commas (expression_at l.room 0) l.tokens) (map expression_tree l.expressions.items) l.counter l.rest
+invariant-loop l = IsUnderWay (is_sign_next Comma) (sign Comma ▷ expression_at l.fuel 0) (length l.initial.rest) (commas (expression_at l.fuel 0) l.tokens) (map expression_tree l.expressions.items) l.counter l.rest

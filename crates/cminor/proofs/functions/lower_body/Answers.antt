@@ -3,7 +3,7 @@ use Rattle.c_program.specs.Views.{action_tree, actions_tree}
 use Rattle.cminor_syntax.specs.Views.{statements_tree}
 use Rattle.cminor_lowering.specs.Actions.{low_action, low_actions}
 use Rattle.cminor_lowering.specs.Programs.{low_ending, ends_with_return}
-use Rattle.cminor_lowering_code.proofs.Listed.{listed}
+use Rattle.cminor.proofs.Listed.{listed}
 use Rattle.cminor.proofs.Bodies.{ends_here, ends_behind}
 use Rattle.cminor.proofs.functions.lower_body.Goals as goal
 use Rattle.cminor.proofs.functions.lower_body.Goals.{then-returns_zero+in_ok-push, else-returns_zero}

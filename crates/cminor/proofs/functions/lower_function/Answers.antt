@@ -4,7 +4,7 @@ use Rattle.c_program.specs.Views.{action_tree, actions_tree}
 use Rattle.cminor_syntax.specs.Fits.{StatementFits}
 use Rattle.cminor_lowering.specs.Actions.{low_action, low_actions}
 use Rattle.cminor_lowering.specs.Programs.{low_ending, ends_with_return}
-use Rattle.cminor_lowering_code.proofs.Fitting.{actions_fit}
+use Rattle.cminor.proofs.Fitting.{actions_fit}
 use Rattle.cminor.proofs.Bodies.{front_fits, wider_statements}
 use Rattle.cminor.proofs.functions.lower_function.Goals as goal
 

@@ -2,7 +2,7 @@ use Rattle.std.proofs.Common.{◌+◌, ◌*◌}
 use Rattle.cminor_codec.proofs.expressions.+expressions.Given as goal
 
 abbrev pub decreases-read_expression : goal.decreases-read_expression
-decreases-read_expression l = 4 * l.room
+decreases-read_expression l = 4 * l.fuel
 
 abbrev pub decreases-read_by_code : goal.decreases-read_by_code
 decreases-read_by_code l = 4 * l.below + 3

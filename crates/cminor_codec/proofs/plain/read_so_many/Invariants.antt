@@ -6,4 +6,4 @@ use Rattle.cminor_form.specs.Reading.{expression}
 use Rattle.cminor_codec.proofs.plain.read_so_many.Given as goal
 
 abbrev pub invariant-loop : goal.invariant-loop
-invariant-loop l = IsUnderWay (λ before. expression l.room l.variables) l.count (more (λ before. expression l.room l.variables) [] l.count l.fn.bytes.now) (map expression_tree l.expressions.items) l.counter l.bytes.now
+invariant-loop l = IsUnderWay (λ before. expression l.fuel l.variables) l.count (more (λ before. expression l.fuel l.variables) [] l.count l.fn.bytes.now) (map expression_tree l.expressions.items) l.counter l.bytes.now

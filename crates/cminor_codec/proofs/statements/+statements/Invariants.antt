@@ -6,7 +6,7 @@ use Rattle.cminor_form.specs.Reading.{statement}
 use Rattle.cminor_codec.proofs.statements.+statements.Given as goal
 
 abbrev pub decreases-read_statement : goal.decreases-read_statement
-decreases-read_statement l = 4 * l.room
+decreases-read_statement l = 4 * l.fuel
 
 abbrev pub decreases-read_by_code : goal.decreases-read_by_code
 decreases-read_by_code l = 4 * l.below + 3

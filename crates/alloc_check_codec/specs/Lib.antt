@@ -1,4 +1,0 @@
-pub mod Text
-pub mod Reading
-pub use Rattle.alloc_check_rules.specs.Rules
-pub use Rattle.rtl_passes.specs.ListForm

@@ -1,0 +1,4 @@
+pub mod Forms
+pub mod Written
+pub mod Steps
+pub mod Sound

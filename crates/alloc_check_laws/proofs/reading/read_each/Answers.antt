@@ -1,0 +1,16 @@
+use Rattle.std.proofs.lemmas.Result.{err_from_is_err_and}
+use Rattle.lang_base.proofs.Loops.{goes_on, stops, is_done}
+use Rattle.rtl_passes.specs.ListForm.{list}
+use Rattle.alloc_check_laws.specs.Reading.{equation}
+use Rattle.alloc_check_laws.proofs.reading.read_each.Goals as goal
+
+pub returns-in_err-equations : goal.returns-in_err-equations
+returns-in_err-equations c =
+    let p = err_from_is_err_and c.from_residual.result c.from_residual.ensures.1 in
+    rw (p.1, p.2) (λ memory. stops (λ before. list (equation c.args.registers c.args.slots)) c.args.nodes _ c.in_err-equations.field-0.0 c.loop.read.items c.loop.counter c.loop.bytes.now c.loop-test.true c.loop.invariant (c.in_err-equations.ensures memory))
+
+pub loop-preserved : goal.loop-preserved
+loop-preserved c = rw c.in_ok-push.ensures.items (goes_on (λ before. list (equation c.args.registers c.args.slots)) c.args.nodes _ c.loop.read.items c.loop.counter c.loop.bytes.now _ c.read_list.new.bytes.now c.loop-test.true c.loop.invariant c.in_ok-equations.ensures)
+
+pub returns : goal.returns
+returns c = is_done (λ before. list (equation c.args.registers c.args.slots)) c.args.nodes _ c.loop.read.items c.loop.counter c.loop.bytes.now c.loop-test.false c.loop.invariant

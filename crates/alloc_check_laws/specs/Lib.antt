@@ -1,0 +1,7 @@
+pub mod Text
+pub mod Reading
+pub mod Related
+pub mod Theorem
+pub use Rattle.alloc_check_rules.specs.Rules
+pub use Rattle.rtl_passes.specs.ListForm
+pub use Rattle.alloc_check_rules.specs.Holding

@@ -1,0 +1,23 @@
+use Rattle.std.proofs.Common.{◌≡◌, sym, ap, subst, ◌∙◌}
+use Rattle.cminor_syntax.specs.Fits.{StatementFits}
+use Rattle.cminor_syntax.specs.Trees as T
+use Rattle.c_program.specs.Trees as P
+use Rattle.c_program.specs.Views.{action_tree, actions_tree}
+use Rattle.c_program.proofs.Sequences.{view_sequence}
+use Rattle.cminor_lowering.specs.Actions.{low_action}
+use Rattle.cminor.proofs.Listed.{listed}
+use Rattle.cminor.proofs.actions.+lowering.Goals as goal
+
+pub lower_action-are_in_range-requires : goal.lower_action-are_in_range-requires
+lower_action-are_in_range-requires t c =
+    let all = c.as_slice-all.result.now in
+    let same : action_tree c.args.action.now ≡ P.Sequence (actions_tree all) =
+    ap action_tree c.in-Sequence.is ∙ view_sequence c.in-Sequence.all ∙ ap (λ xs. P.Sequence (actions_tree xs)) (sym c.as_slice-all.ensures.value) in
+    subst (λ a. StatementFits 65536 (low_action c.args.spare a)) same c.requires
+
+pub lower_action-returns-in_ok-lowered-in-Sequence : goal.lower_action-returns-in_ok-lowered-in-Sequence
+lower_action-returns-in_ok-lowered-in-Sequence t c =
+    let all = c.as_slice-all.result.now in
+    let same : action_tree c.args.action.now ≡ P.Sequence (actions_tree all) =
+    ap action_tree c.in-Sequence.is ∙ view_sequence c.in-Sequence.all ∙ ap (λ xs. P.Sequence (actions_tree xs)) (sym c.as_slice-all.ensures.value) in
+    c.sequence.ensures ∙ ap (λ ss. T.Sequence ss) (listed c.args.spare c.in_ok-lowered-in-Sequence.lowered.items all c.in_ok-lowered-in-Sequence.ensures) ∙ sym (ap (low_action c.args.spare) same)

@@ -1,0 +1,84 @@
+//! Statements put together from their parts.
+
+ghost use Rattle.std.specs.Prelude.{◌≡◌, IfOk};
+ghost use Rattle.cminor_syntax.specs.Trees as T;
+ghost use Rattle.cminor_syntax.specs.Views.{expression_tree, statement_tree};
+ghost use Rattle.cminor_lowering.specs.Actions.{two, turn};
+
+use cminor_codec::sequence;
+use cminor_syntax::{Expression, Statement};
+use lang_base::NoMemory;
+use owned::beside;
+use std::alloc::Global;
+
+/// A statement in a box.
+pub(crate) fn boxed(alloc: Global, inner: Statement) -> Result<Box<Statement>, NoMemory>
+    ensures { IfOk result (λ b. statement_tree b.value ≡ statement_tree inner) }
+{
+    Ok(Box::new(alloc, inner)?)
+}
+
+/// One statement and then another.
+pub(crate) fn two(alloc: Global, first: Statement, second: Statement) -> Result<Statement, NoMemory>
+    ensures { IfOk result (λ s. statement_tree s ≡ two (statement_tree first) (statement_tree second)) }
+{
+    Ok(sequence(vec![in alloc; first, second]?))
+}
+
+/// Three statements, one after the other.
+fn three(
+    alloc: Global,
+    first: Statement,
+    second: Statement,
+    third: Statement,
+) -> Result<Statement, NoMemory>
+    ensures { IfOk result (λ s. statement_tree s ≡ T.Sequence (T.First (statement_tree first) (T.First (statement_tree second) (T.First (statement_tree third) T.Done)))) }
+{
+    Ok(sequence(vec![in alloc; first, second, third]?))
+}
+
+/// The head of a loop's turn: where the condition gives 0, the block around is left.
+fn head(alloc: Global, condition: Expression) -> Result<Statement, NoMemory>
+    ensures { IfOk result (λ s. statement_tree s ≡ T.If (expression_tree condition) T.Skip (T.Exit 0)) }
+{
+    let (condition, goes_on) = beside(condition, boxed(alloc, Statement::Skip))?;
+    let (parts, leaves) = beside((condition, goes_on), boxed(alloc, Statement::Exit(0)))?;
+    let (condition, goes_on) = parts;
+    Ok(Statement::If(condition, goes_on, leaves))
+}
+
+/// A block round a statement.
+fn block(alloc: Global, inner: Statement) -> Result<Statement, NoMemory>
+    ensures { IfOk result (λ s. statement_tree s ≡ T.Block (statement_tree inner)) }
+{
+    Ok(Statement::Block(Box::new(alloc, inner)?))
+}
+
+/// A turn of a loop: its condition, its body, and what stands behind that.
+fn turn(
+    alloc: Global,
+    condition: Expression,
+    body: Statement,
+    behind: Statement,
+) -> Result<Statement, NoMemory>
+    ensures { IfOk result (λ s. statement_tree s ≡ turn (expression_tree condition) (statement_tree body) (statement_tree behind)) }
+{
+    let (parts, head) = beside((body, behind), head(alloc, condition))?;
+    let (body, behind) = parts;
+    let (parts, body) = beside((head, behind), block(alloc, body))?;
+    let (head, behind) = parts;
+    three(alloc, head, body, behind)
+}
+
+/// The loop of such turns, in the block that it leaves.
+pub(crate) fn turns(
+    alloc: Global,
+    condition: Expression,
+    body: Statement,
+    behind: Statement,
+) -> Result<Statement, NoMemory>
+    ensures { IfOk result (λ s. statement_tree s ≡ T.Block (T.Loop (turn (expression_tree condition) (statement_tree body) (statement_tree behind)))) }
+{
+    let turn = turn(alloc, condition, body, behind)?;
+    block(alloc, Statement::Loop(Box::new(alloc, turn)?))
+}
