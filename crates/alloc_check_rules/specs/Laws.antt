@@ -1,5 +1,5 @@
 -- What each part of the rules is enough for.
-use Rattle.std.specs.Prelude.{◌≡◌, ℕ, List, length, Option, Some, Bool, true, All, replicate, ◌≤◌, ◌^◌, ◌++◌, ◌↔◌}
+use Rattle.std.specs.Prelude.{◌≡◌, ℕ, List, length, Option, Some, None, Bool, true, All, replicate, ◌≤◌, ◌^◌, ◌++◌, ◌↔◌}
 use Rattle.std.specs.declared.cmp.Ordering.TheVariants.{Less}
 use Rattle.std.specs.Ordering.{nat_cmp}
 use Rattle.std.specs.Cmp.Lexicographic.{slice_cmp}
