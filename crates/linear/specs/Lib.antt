@@ -1,7 +1,6 @@
 pub mod Functions
 pub mod Machines
 pub mod Prepared
-pub mod Turns
 pub use Rattle.lang_programs.specs.Written
 pub use Rattle.linear_language.specs.Meaning
 pub use Rattle.lang_programs.specs.Seen

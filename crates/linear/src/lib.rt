@@ -12,7 +12,6 @@ mod returns;
 mod running;
 mod starting;
 mod state;
-mod turn;
 
 pub use lang_programs::RunError;
 pub use linear_language::{Function, Instruction, Linear};

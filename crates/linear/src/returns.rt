@@ -5,13 +5,13 @@ ghost use Rattle.lang_base.specs.Programs.{NamedFunction};
 ghost use Rattle.locations.specs.Fits.{ValueFits};
 ghost use Rattle.machine.specs.Frames.{returned, comes_back};
 ghost use Rattle.linear_language.specs.Function.{FunctionData};
-ghost use Rattle.linear.specs.Turns.{turned};
-ghost use Rattle.linear.specs.Machines.{machine_state, CallersStand, CallersFit, MachineFits, WhereGone};
+ghost use Rattle.rtl_decoded.specs.Turns.{WhereGone, turned};
+ghost use Rattle.linear.specs.Machines.{machine_state, CallersStand, CallersFit, MachineFits};
 
 use crate::state::Machine;
-use crate::turn::Turn;
 use linear_frames::{give_result, lose_registers, word_at};
 use machine::{Location, Register};
+use rtl_decoded::Turn;
 use std::mem;
 
 /// Goes back to the nearest caller with a value or none; where nobody waits the value is the result of

@@ -1,5 +1,5 @@
-use linear_frames::{Callers, Pool};
-use rtl_decoded::Cells;
+use linear_frames::Callers;
+use rtl_decoded::{Cells, Pool};
 
 /// Where a run stands: the running function's number, the place in it, its words, the globals, and the
 /// callers; and words of functions that have returned, to be used again.

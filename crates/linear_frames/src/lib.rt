@@ -4,10 +4,8 @@
 
 mod callers;
 mod entering;
-mod pool;
 mod words;
 
 pub use callers::{Caller, Callers};
 pub use entering::fresh_words;
-pub use pool::Pool;
 pub use words::{give_result, lose_registers, word_at};

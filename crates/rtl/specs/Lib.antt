@@ -2,7 +2,6 @@ pub mod Callers
 pub mod Functions
 pub mod Machines
 pub mod Prepared
-pub mod Turns
 pub use Rattle.lang_programs.specs.Written
 pub use Rattle.rtl_language.specs.Meaning
 pub use Rattle.lang_programs.specs.Seen

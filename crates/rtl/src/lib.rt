@@ -8,13 +8,11 @@ mod calls;
 mod functions;
 mod leaving;
 mod pieces;
-mod pool;
 mod preparing;
 mod returns;
 mod running;
 mod starting;
 mod state;
-mod turn;
 
 pub use lang_programs::RunError;
 pub use rtl_language::{Function, Instruction, Rtl, copy_instruction};

@@ -7,11 +7,11 @@ ghost use Rattle.rtl_parts.specs.Acts.{with_result};
 ghost use Rattle.rtl_language.specs.Frames.{returned, comes_back};
 ghost use Rattle.rtl_language.specs.Function.{FunctionData};
 ghost use Rattle.rtl_decoded.specs.Seen.{data_of};
-ghost use Rattle.rtl.specs.Turns.{turned};
-ghost use Rattle.rtl.specs.Machines.{machine_state, CallersFit, MachineFits, WhereGone};
+ghost use Rattle.rtl_decoded.specs.Turns.{WhereGone, turned};
+ghost use Rattle.rtl.specs.Machines.{machine_state, CallersFit, MachineFits};
 
 use crate::state::Machine;
-use crate::turn::Turn;
+use rtl_decoded::Turn;
 use rtl_parts::Register;
 use std::mem;
 
@@ -48,7 +48,7 @@ fn go_back(machine: &mut Machine, value: Option<u32>) -> Turn
     machine.function = caller.function;
     machine.place = caller.place;
     let freed = mem::replace(&mut machine.registers, registers);
-    machine.pool.put(freed);
+    let _ = machine.pool.put(freed);
     Turn::Goes
 }
 

@@ -1,6 +1,5 @@
 use crate::callers::Callers;
-use crate::pool::Pool;
-use rtl_decoded::Cells;
+use rtl_decoded::{Cells, Pool};
 
 /// Where a run stands: the running function's number, the node in it, its registers, the globals, and
 /// the callers; and registers of functions that have returned, to be used again.
