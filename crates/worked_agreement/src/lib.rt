@@ -8,6 +8,7 @@
 //! | `calls COUNT CALLS` | what so many nodes answer to each call, a message or `yes` or `no` |
 //! | `steps COUNT STEPS` | of each step in turn, the message that it sends, or `yes` where it sends none, or `no` where it is not allowed |
 //! | `random COUNT STREAMS TURNS` | `learned`, where in more than half of the schedules a value is, and each call is a step that the reference allows, or none where it allows none |
+//! | `simulated SCHEDULE` | what a schedule prints, and the line of its refusal, `-` for none; both texts in hex |
 //! | `settle INPUT OUTPUT ..` | `agreed`, where `settle` prints one of the outputs |
 //! | `refused INPUT` | the status and the line of a refusal by `settle`, which prints nothing |
 //! | `near INPUT` | `well`, where on each strict front of the input, and each change of one byte of it, `settle` prints what is settled or refuses the form and prints nothing |
@@ -28,6 +29,7 @@ mod orders;
 mod rows;
 mod schedules;
 mod settle;
+mod simulated;
 mod steps;
 mod words;
 
@@ -39,5 +41,6 @@ use std::io;
 pub fn tell(rt: &HostRuntime) -> io::Result<()> {
     compare(rt, "settled.txt", &mut Rows)?;
     compare(rt, "protocol.txt", &mut Rows)?;
-    compare(rt, "settle.txt", &mut Rows)
+    compare(rt, "settle.txt", &mut Rows)?;
+    compare(rt, "schedules.txt", &mut Rows)
 }

@@ -5,6 +5,7 @@ use crate::kept_parts::{kept_told, settled_told};
 use crate::orders::orders_told;
 use crate::schedules::random_told;
 use crate::settle::{near, noise, refused, settled_on};
+use crate::simulated::simulated;
 use crate::steps::steps_told;
 use cfarm_commands::agree;
 use program_rows::{Answers, numbered};
@@ -44,6 +45,7 @@ impl Answers for Rows {
             "steps" => steps_told(alloc, words),
             "random" => random_told(alloc, words),
             "agree" => agreed(alloc),
+            "simulated" => simulated(alloc, words),
             _ => settle_told(alloc, kind, words),
         }
     }

@@ -1,0 +1,29 @@
+-- The lines of a schedule: words parted by one blank, numbers in decimal without leading zeros.
+use Rattle.std.specs.Prelude.{ℕ, ◌<◌, ◌^◌, List, ◌++◌, codes}
+use Rattle.std.specs.Fmt.{decimal}
+use Rattle.cfarm_schedules.specs.declared.command.Command.{Command}
+use Rattle.cfarm_schedules.specs.declared.command.Command.TheVariants.{Offer, Start, Propose, Restart, Deliver}
+
+-- the first line says how many nodes there are
+abbrev pub head_of : ℕ → List ℕ
+head_of count = codes "nodes " ++ decimal count
+
+-- the node and the message of a delivery
+abbrev pub delivery_of : ℕ → ℕ → List ℕ
+delivery_of node message = decimal node ++ (codes " " ++ decimal message)
+
+-- each other line asks a node for one call
+abbrev pub line_of : Command → List ℕ
+line_of (Offer node) = codes "offer " ++ decimal node
+line_of (Start node) = codes "start " ++ decimal node
+line_of (Propose node) = codes "propose " ++ decimal node
+line_of (Restart node) = codes "restart " ++ decimal node
+line_of (Deliver node message) = codes "deliver " ++ delivery_of node message
+
+-- the numbers of a command lie in machine words
+abbrev pub IsInWords : Command → Type 0
+IsInWords (Offer node) = node < 256
+IsInWords (Start node) = node < 256
+IsInWords (Propose node) = node < 256
+IsInWords (Restart node) = node < 256
+IsInWords (Deliver node message) = (node < 256) × (message < 2 ^ 64)

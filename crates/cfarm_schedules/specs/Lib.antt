@@ -1,0 +1,5 @@
+pub mod Commands
+pub mod Texts
+pub mod Told
+pub mod Rooms
+pub mod Plays

@@ -1,0 +1,122 @@
+-- What a schedule does, command by command, and what is printed of it.
+use Rattle.std.specs.Prelude.{◌≡◌, ◌≢◌, ℕ, zero, suc, ◌<◌, ◌+◌, ◌⊎◌, List, [], ◌∷◌, ◌++◌, Option, Some, None, length, reverse, slice_get, codes}
+use Rattle.std.specs.Io.KnownBytes.{Appends}
+use Rattle.std.specs.Option.{option_map}
+use Rattle.std.specs.Fmt.{decimal}
+use Rattle.paxos_core_world.specs.declared.msg.Msg.{Msg}
+use Rattle.paxos_core_world.specs.World.{no_nodes}
+use Rattle.paxos_core_law.specs.NodeState.{NodeState, IsRoomSize}
+use Rattle.paxos_core.specs.Call.{Offer, Start, Proposal, On, Restart}
+use Rattle.paxos_core.specs.Schedule.{Room, NodeCall, played, room_after, IsPlayed}
+use Rattle.cfarm_schedules.specs.Commands.{head_of, line_of}
+use Rattle.cfarm_schedules.specs.Rooms.{Listed, room_of, start, told_by}
+use Rattle.cfarm_schedules.specs.Texts.{IsTextOf, text_of, first_line}
+use Rattle.cfarm_schedules.specs.Told.{told_text}
+use Rattle.cfarm_schedules.specs.declared.command.Command.{Command}
+use Rattle.cfarm_schedules.specs.declared.command.Command.TheVariants as command
+use Rattle.cfarm_schedules.specs.declared.error.ScheduleError.{ScheduleError}
+use Rattle.cfarm_schedules.specs.declared.error.ScheduleError.TheVariants.{NoMemory, Schedule, Write}
+use Rattle.cfarm_schedules.specs.declared.told.Told.{Told}
+
+-- the message with this number, of those sent, of which the newest stands first
+abbrev pub numbered : List Msg → ℕ → Option Msg
+numbered sent zero = None
+numbered sent (suc k) = slice_get (reverse sent) k
+
+-- the call that a command asks for, where its message was sent
+abbrev pub asked : List Msg → Command → Option NodeCall
+asked sent (command.Offer i) = Some (record { node = i; call = Offer })
+asked sent (command.Start i) = Some (record { node = i; call = Start })
+asked sent (command.Propose i) = Some (record { node = i; call = Proposal })
+asked sent (command.Restart i) = Some (record { node = i; call = Restart })
+asked sent (command.Deliver i k) = option_map (λ m. record { node = i; call = On m }) (numbered sent k)
+
+-- the command can be done there by this call
+abbrev pub IsAsked : ℕ → Room → Command → NodeCall → Type 0
+IsAsked count room c k = (k.node < count) × (asked room.sent c ≡ Some k)
+
+-- the commands can be done in turn, by these calls
+abbrev pub AreDone : ℕ → List Command → List NodeCall → Type 0
+AreDone count [] [] = Unit {0}
+AreDone count [] (k ∷ ks) = ⊥
+AreDone count (c ∷ cs) [] = ⊥
+AreDone count (c ∷ cs) (k ∷ ks) = AreDone count cs ks × IsAsked count (played (start count) ks) c k
+
+-- the lines that are printed of the calls
+abbrev pub printed : ℕ → List NodeCall → List ℕ
+printed count [] = []
+printed count (k ∷ ks) = printed count ks ++ told_text (told_by (played (start count) ks) k)
+
+abbrev pub value_word : Option ℕ → List ℕ
+value_word None = codes " -"
+value_word (Some v) = codes " " ++ decimal v
+
+-- what the first nodes have learned
+abbrev pub values : ℕ → (ℕ → NodeState) → List ℕ
+values zero nodes = []
+values (suc n) nodes = values n nodes ++ value_word (nodes n).learned
+
+-- the last line
+abbrev pub closing : ℕ → Room → List ℕ
+closing count room = codes "learned:" ++ (values count room.nodes ++ codes "\n")
+
+-- the whole schedule was played: what is shown is a run of the protocol from the empty opening
+pub record IsShown (text : List ℕ) (before after : Option (List ℕ)) : Type 0 where
+  pub count : ℕ
+  pub commands : List Command
+  pub calls : List NodeCall
+  pub size : IsRoomSize count
+  pub lines : IsTextOf text count commands
+  pub done : AreDone count commands calls
+  pub run : IsPlayed count no_nodes calls
+  pub output : Appends before after (printed count calls ++ closing count (played (start count) calls))
+
+-- the command was done there: what it told, and the room behind it
+abbrev pub HasObeyed : ℕ → Room → Command → Told → Room → Type 0
+HasObeyed count room c told later = (k : NodeCall) × IsAsked count room c k × (later ≡ room_after room k) × (told ≡ told_by room k)
+
+-- the command that the line spells was done
+abbrev pub HasObeyedLine : ℕ → Room → List ℕ → Told → Room → Type 0
+HasObeyedLine count room line told later = (c : Command) × (line ≡ line_of c) × HasObeyed count room c told later
+
+-- the same of rooms as the program holds them
+abbrev pub Obeyed : Listed → Command → Listed → Told → Type 0
+Obeyed old c new told = HasObeyed old.count (room_of old) c told (room_of new)
+
+abbrev pub ObeyedLine : Listed → List ℕ → Listed → Told → Type 0
+ObeyedLine old line new told = HasObeyedLine old.count (room_of old) line told (room_of new)
+
+-- the command cannot be done there
+abbrev pub IsRefused : ℕ → Room → Command → Type 0
+IsRefused count room c = (k : NodeCall) → IsAsked count room c k → ⊥
+
+-- no command that can be done there is spelled so
+abbrev pub IsNoCommand : ℕ → Room → List ℕ → Type 0
+IsNoCommand count room line = (c : Command) (k : NodeCall) → IsAsked count room c k → line ≢ line_of c
+
+-- the first line says no number of nodes
+abbrev pub HasNoHead : List ℕ → Type 0
+HasNoHead text = (count : ℕ) → IsRoomSize count → first_line text ≢ head_of count
+
+-- the lines before this one were played and printed, and this one is none
+pub record StopsBehind (text : List ℕ) (line : ℕ) (before after : Option (List ℕ)) : Type 0 where
+  pub count : ℕ
+  pub commands : List Command
+  pub calls : List NodeCall
+  pub rest : List ℕ
+  pub size : IsRoomSize count
+  pub lines : text ≡ text_of count commands ++ rest
+  pub more : rest ≢ []
+  pub number : line ≡ length commands + 2
+  pub done : AreDone count commands calls
+  pub none : IsNoCommand count (played (start count) calls) (first_line rest)
+  pub output : Appends before after (printed count calls)
+
+abbrev pub StopsAt : List ℕ → ℕ → Option (List ℕ) → Option (List ℕ) → Type 0
+StopsAt text line before after = ((line ≡ 1) × HasNoHead text × Appends before after []) ⊎ StopsBehind text line before after
+
+-- why a schedule is not shown to its end, and what was printed of it then
+abbrev pub IsStopped : List ℕ → ScheduleError → Option (List ℕ) → Option (List ℕ) → Type 0
+IsStopped text NoMemory before after = Unit {0}
+IsStopped text (Schedule line) before after = StopsAt text line before after
+IsStopped text Write before after = Unit {0}

@@ -1,0 +1,16 @@
+//! Schedules of the nodes of a room, line by line: what `sim` reads, what its nodes do, and what it prints. Each command is
+//! one call of a node, so what is shown is a run of the protocol.
+#![tactic(auto)]
+
+mod command;
+mod error;
+mod parts;
+mod playing;
+mod reading;
+mod room;
+mod told;
+
+pub use command::Command;
+pub use error::ScheduleError;
+pub use playing::simulate;
+pub use told::Told;

@@ -1,0 +1,131 @@
+ghost use Rattle.std.specs.Prelude.{◌≡◌, ◌<◌, ℕ, ◌+◌, ◌++◌, ◌∷◌, ◌⊎◌, [], OnOk, OnErr, IfOk, IfErr, IfSome, IsNone, length};
+ghost use Rattle.std.specs.Io.KnownBytes.{Appends};
+ghost use Rattle.std.specs.String.{string_bytes};
+ghost use Rattle.cfarm_schedules.specs.Rooms.{room_of};
+ghost use Rattle.cfarm_schedules.specs.Told.{told_text};
+ghost use Rattle.cfarm_schedules.specs.Texts.{first_line};
+ghost use Rattle.cfarm_schedules.specs.declared.command.Command.TheVariants as Command;
+ghost use Rattle.cfarm_schedules.specs.declared.error.ScheduleError.TheVariants as ScheduleError;
+ghost use Rattle.cfarm_schedules.specs.Plays.{IsNoCommand, IsRefused, IsShown, IsStopped, Obeyed, ObeyedLine, closing};
+
+use crate::command::Command;
+use crate::error::ScheduleError;
+use crate::parts::split_at_byte;
+use crate::reading::{command_of, count_of};
+use crate::room::Room;
+use crate::told::Told;
+use lang_base::NoMemory;
+use paxos_core::agreement;
+use std::alloc::Global;
+use std::io::Write;
+
+/// The first line of a text, and what stands behind it.
+fn next_line(text: &[u8]) -> (&[u8], &[u8])
+    ensures line { result.0.now ≡ first_line text.now }
+    ensures text { (text.now ≡ result.0.now ++ 10 ∷ result.1.now) ⊎ ((text.now ≡ result.0.now) × (result.1.now ≡ [])) }
+{
+    split_at_byte(text, b'\n').unwrap_or((text, &[]))
+}
+
+/// Does what a command asks; none where its node is none, or its message was not sent yet.
+fn obey(room: &mut Room, command: Command) -> Result<Option<Told>, NoMemory>
+    ensures some { IfOk result (λ told. IfSome told (Obeyed room.old command room.new)) }
+    ensures none { IfOk result (λ told. IsNone told → IsRefused room.old.count (room_of room.old) command) }
+    ensures count { room.new.count ≡ room.old.count }
+{
+    let count = room.count();
+    match command {
+        Command::Offer(node) if node < count => Ok(Some(room.offer(node))),
+        Command::Start(node) if node < count => Ok(Some(room.start(node)?)),
+        Command::Propose(node) if node < count => Ok(Some(room.propose(node)?)),
+        Command::Restart(node) if node < count => Ok(Some(room.restart(node))),
+        Command::Deliver(node, number) => deliver(room, node, number),
+        _ => Ok(None),
+    }
+}
+
+/// Hands the message with this number, from 1, to the node; none where there is no such node, or no such message yet.
+fn deliver(room: &mut Room, node: u8, number: u64) -> Result<Option<Told>, NoMemory>
+    ensures some { IfOk result (λ told. IfSome told (Obeyed room.old (Command.Deliver node number) room.new)) }
+    ensures none { IfOk result (λ told. IsNone told → IsRefused room.old.count (room_of room.old) (Command.Deliver node number)) }
+    ensures count { room.new.count ≡ room.old.count }
+{
+    if number == 0 || node >= room.count() {
+        return Ok(None);
+    }
+    match room.message(number - 1) {
+        Some(message) => Ok(Some(room.deliver(node, message)?)),
+        None => Ok(None),
+    }
+}
+
+/// Does what a line asks; none where it spells no command that can be done.
+fn obey_line(alloc: Global, room: &mut Room, line: &[u8]) -> Result<Option<Told>, NoMemory>
+    ensures some { IfOk result (λ told. IfSome told (ObeyedLine room.old line.now room.new)) }
+    ensures none { IfOk result (λ told. IsNone told → IsNoCommand room.old.count (room_of room.old) line.now) }
+    ensures count { room.new.count ≡ room.old.count }
+{
+    room.known();
+    match command_of(alloc, line)? {
+        Some(command) => obey(room, command),
+        None => Ok(None),
+    }
+}
+
+/// Prints what is told of a call.
+fn print<W: Write>(alloc: Global, told: Told, out: &mut W) -> Result<(), ScheduleError>
+    ensures ok { OnOk result (Appends (W.contents out.old) (W.contents out.new) (told_text told)) }
+    ensures err { IfErr result (λ e. (e ≡ ScheduleError.NoMemory) ⊎ (e ≡ ScheduleError.Write)) }
+{
+    let text = format!(in alloc; "{told}")?;
+    match out.write_all(text.as_bytes()) {
+        Ok(()) => Ok(()),
+        Err(_) => Err(ScheduleError::Write),
+    }
+}
+
+/// The last line: what each node has learned.
+fn closing_of(alloc: Global, room: &Room) -> Result<String, NoMemory>
+    ensures { IfOk result (λ text. string_bytes text ≡ closing room.now.count (room_of room.now)) }
+{
+    let mut text = "learned:".to_string(alloc)?;
+    for node in 0..room.count() {
+        match room.learned(node) {
+            None => text.push_str(" -")?,
+            Some(value) => write!(text, " {value}")?,
+        }
+    }
+    text.push_str("\n")?;
+    Ok(text)
+}
+
+/// Plays a schedule, line by line, and prints a line for each command and, at its end, what each node has learned. The
+/// caller buffers.
+pub fn simulate<W: Write>(alloc: Global, schedule: &[u8], out: &mut W) -> Result<(), ScheduleError>
+    // All lines were played, and what they show is a run of the protocol.
+    ensures shown { OnOk result (IsShown schedule.now (W.contents out.old) (W.contents out.new)) }
+    // The first line that is none is told, and what the lines before it print stays.
+    ensures stopped { IfErr result (λ e. IsStopped schedule.now e (W.contents out.old) (W.contents out.new)) }
+{
+    agreement();
+    let (head, mut rest) = next_line(schedule);
+    let Some(count) = count_of(head) else {
+        return Err(ScheduleError::Schedule(1));
+    };
+    let mut room = Room::new(alloc, count)?;
+    let mut number = 1u64;
+    while !rest.is_empty() {
+        let (line, behind) = next_line(rest);
+        number += 1;
+        let Some(told) = obey_line(alloc, &mut room, line)? else {
+            return Err(ScheduleError::Schedule(number));
+        };
+        print(alloc, told, out)?;
+        rest = behind;
+    }
+    let text = closing_of(alloc, &room)?;
+    match out.write_all(text.as_bytes()) {
+        Ok(()) => Ok(()),
+        Err(_) => Err(ScheduleError::Write),
+    }
+}

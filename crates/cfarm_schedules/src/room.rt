@@ -1,0 +1,162 @@
+ghost use Rattle.std.specs.Prelude.{◌≡◌, ◌<◌, ℕ, ◌+◌, ◌^◌, ◌++◌, ◌∷◌, [], IfOk, OnOk, IfSome, length, slice_get, Some};
+ghost use Rattle.paxos_core.specs.Call.{Offer, On, Proposal, Restart, Start};
+ghost use Rattle.paxos_core_law.specs.NodeState.{IsRoomSize};
+ghost use Rattle.cfarm_schedules.specs.declared.told.Told.TheVariants as Told;
+ghost use Rattle.cfarm_schedules.specs.Rooms.{after_call_of, learning, node_at, room_of, start, told_at};
+
+use crate::told::Told;
+use lang_base::NoMemory;
+use paxos_core::{Msg, Node};
+use std::alloc::Global;
+use std::marker::Model;
+
+/// The nodes of a room, and the messages that they sent, the oldest first.
+#[derive(Drop)]
+pub(crate) struct Room {
+    count: u8,
+    nodes: Vec<Node>,
+    sent: Vec<Msg>,
+}
+
+impl Model for Room {
+    ghost use Rattle.std.specs.Prelude.{◌≡◌, length};
+    ghost use Rattle.paxos_core_law.specs.NodeState.{IsRoomSize};
+    ghost use Rattle.cfarm_schedules.specs.Rooms.{Listed};
+
+    ghost Value = { Listed };
+
+    ghost view = { λ r. record { count = r.count; nodes = r.nodes.items; sent = r.sent.items } };
+
+    ghost invariant = { λ r. (length r.nodes.items ≡ r.count) × IsRoomSize r.count };
+}
+
+impl Room {
+    /// A room of so many nodes that have done nothing.
+    pub(crate) fn new(alloc: Global, count: u8) -> Result<Room, NoMemory>
+        requires { IsRoomSize count }
+        ensures count { IfOk result (λ room. room.count ≡ count) }
+        ensures start { IfOk result (λ room. room_of room ≡ start count) }
+    {
+        let mut nodes = Vec::new(alloc);
+        for me in 0..count {
+            nodes.push(Node::new(me, count))?;
+        }
+        Ok(Room {
+            count,
+            nodes,
+            sent: Vec::new(alloc),
+        })
+    }
+
+    pub(crate) fn count(&self) -> u8
+        ensures count { result ≡ self.now.count }
+        ensures nodes { length self.now.nodes ≡ self.now.count }
+        ensures size { IsRoomSize result }
+    {
+        self.count
+    }
+
+    /// What the type keeps, for a caller's proof.
+    pub(crate) fn known(&self)
+        ensures count { self.now.count < 256 }
+        ensures sent { length self.now.sent < 2 ^ 64 }
+    {
+        let _count = self.count;
+        let _sent = self.sent.len();
+    }
+
+    /// The message with this number, counted from 0.
+    pub(crate) fn message(&self, number: u64) -> Option<Msg>
+        ensures { result ≡ slice_get self.now.sent number }
+    {
+        self.sent.get(number as usize).copied()
+    }
+
+    /// What the node has learned since its last restart.
+    pub(crate) fn learned(&self, node: u8) -> Option<u8>
+        requires { node < self.now.count }
+        ensures { result ≡ (node_at self.now node).learned }
+    {
+        self.nodes[usize::from(node)].learned()
+    }
+
+    pub(crate) fn offer(&mut self, node: u8) -> Told
+        requires { node < self.old.count }
+        ensures state { self.new ≡ after_call_of self.old node Offer }
+        ensures told { result ≡ told_at self.old node Offer }
+    {
+        if self.nodes[usize::from(node)].offer() {
+            Told::Offered
+        } else {
+            Told::Nothing
+        }
+    }
+
+    pub(crate) fn start(&mut self, node: u8) -> Result<Told, NoMemory>
+        requires { node < self.old.count }
+        ensures state { OnOk result (self.new ≡ after_call_of self.old node Start) }
+        ensures told { IfOk result (λ told. told ≡ told_at self.old node Start) }
+        ensures count { self.new.count ≡ self.old.count }
+    {
+        match self.nodes[usize::from(node)].start() {
+            Ok(message) => self.send(node, message),
+            Err(_) => Ok(Told::Refused),
+        }
+    }
+
+    pub(crate) fn propose(&mut self, node: u8) -> Result<Told, NoMemory>
+        requires { node < self.old.count }
+        ensures state { OnOk result (self.new ≡ after_call_of self.old node Proposal) }
+        ensures told { IfOk result (λ told. told ≡ told_at self.old node Proposal) }
+        ensures count { self.new.count ≡ self.old.count }
+    {
+        match self.nodes[usize::from(node)].propose() {
+            Some(message) => self.send(node, message),
+            None => Ok(Told::Nothing),
+        }
+    }
+
+    /// The node forgets all but what it keeps.
+    pub(crate) fn restart(&mut self, node: u8) -> Told
+        requires { node < self.old.count }
+        ensures state { self.new ≡ after_call_of self.old node Restart }
+        ensures told { result ≡ told_at self.old node Restart }
+    {
+        self.nodes[usize::from(node)].forget();
+        Told::Restarted
+    }
+
+    pub(crate) fn deliver(&mut self, node: u8, message: Msg) -> Result<Told, NoMemory>
+        requires { node < self.old.count }
+        ensures state { OnOk result (self.new ≡ after_call_of self.old node (On message)) }
+        ensures told { IfOk result (λ told. told ≡ told_at self.old node (On message)) }
+        ensures count { self.new.count ≡ self.old.count }
+    {
+        let before = self.nodes[usize::from(node)].learned();
+        match self.nodes[usize::from(node)].on(&message) {
+            Some(answer) => self.send(node, answer),
+            None => Ok(learning(before, self.nodes[usize::from(node)].learned())),
+        }
+    }
+
+    /// The message is sent, behind all others.
+    fn send(&mut self, node: u8, message: Msg) -> Result<Told, NoMemory>
+        ensures state { OnOk result (self.new ≡ record self.old { sent = self.old.sent ++ message ∷ [] }) }
+        ensures told { IfOk result (λ told. told ≡ Told.Sent (length self.old.sent + 1) node message) }
+        ensures count { self.new.count ≡ self.old.count }
+    {
+        let number = self.sent.len() as u64 + 1;
+        self.sent.push(message)?;
+        Ok(Told::Sent(number, node, message))
+    }
+}
+
+/// What is told of a message that is not answered.
+fn learning(before: Option<u8>, after: Option<u8>) -> Told
+    ensures { result ≡ learning before after }
+{
+    match (before, after) {
+        (None, Some(value)) => Told::Learned(value),
+        _ => Told::Nothing,
+    }
+}
