@@ -2,7 +2,8 @@
 use Rattle.std.specs.Prelude.{◌≡◌, ℕ, ◌<◌, ◌⊎◌, List, [], ◌∷◌, ◌++◌, IfSome}
 use Rattle.atomic_table.specs.Table.{Step, Me}
 use Rattle.paxos_core_world.specs.Step.{Label, Offers}
-use Rattle.paxos_core_law.specs.NodeState.{NodeState}
+use Rattle.paxos_core_law.specs.NodeState.{NodeState, restarted}
+use Rattle.paxos_core_law.specs.Taken.{taken_by_restart}
 use Rattle.paxos_core_law.specs.Takes.{AreStepsOf}
 use Rattle.paxos_core_law.specs.Would.{after_act, taken_by_act}
 use Rattle.paxos_core_law.specs.declared.step.Act.{Act}
@@ -61,6 +62,10 @@ pub record StoresAcceptor (a : Act) (number : ℕ) (v w : View) : Type 0 where
   pub took : Took a v w
   pub shows : IsAcceptorOf (world_after v.opening w.seen) v.node.me number
 
+-- a load of an own word, with which the node forgets all but what it keeps, as at a restart
+abbrev pub Forgot : View → View → Type 0
+Forgot v w = Advances v (taken_by_restart v.node) (restarted v.node v.node.kept) w
+
 module _ {S : Type 0} where
   -- what the plays tell: of the step, the seat before, the number found or stored, and the seat after
   abbrev pub ProposerLook : Step S → Me S View → ℕ → Me S View → Type 0
@@ -80,3 +85,6 @@ module _ {S : Type 0} where
 
   abbrev pub AcceptStore : Step S → Me S View → ℕ → Me S View → Type 0
   AcceptStore s v n w = IfSome (accepted_in n) (λ x. StoresAcceptor (act.Accept x.ballot x.value) n v.0 w.0)
+
+  abbrev pub ForgetLook : Step S → Me S View → ℕ → Me S View → Type 0
+  ForgetLook s v n w = Forgot v.0 w.0

@@ -96,3 +96,12 @@ impl Play<(), View> for Accepts {
 
     ghost then = { λ s v n w. AcceptStore s v n w };
 }
+
+/// A look at an own word, with which the node forgets.
+pub struct Forgets;
+
+impl Play<(), View> for Forgets {
+    ghost use Rattle.rooms_rule.specs.Steps.{ForgetLook};
+
+    ghost then = { λ s v n w. ForgetLook s v n w };
+}

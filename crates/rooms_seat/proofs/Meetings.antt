@@ -26,6 +26,7 @@ use Rattle.rooms_seat.specs.Meeting.{IsKnown, LookedOn, HaveMet}
 use Rattle.rooms_state.specs.SeatState.{SeatState}
 use Rattle.rooms_state.specs.Sound.{IsSound}
 use Rattle.rooms_state.proofs.Moves.{kept_hearing}
+use Rattle.rooms_state.proofs.Told.{notes_of}
 
 -- ---- looks
 
@@ -55,6 +56,7 @@ on_proposer j x old new h =
       me = ap (λ (s : SeatState). s.node.me) h.after;
       count = ap (λ (s : SeatState). s.node.count) h.after;
       kept = ap (λ (s : SeatState). s.node.kept) h.after;
+      learned = λ v e. ap (λ (s : SeatState). s.node.learned) h.after ∙ e;
     }
 
 pub on_acceptor : (j : ℕ) (x : AcceptorWord) (old new : SeatState) → LookedAtAcceptor j x old new → LookedOn old new
@@ -69,6 +71,7 @@ on_acceptor j x old new h =
       me = ap (λ (s : SeatState). s.node.me) h.after ∙ me_hearing old.node j x.promised x.accepted;
       count = ap (λ (s : SeatState). s.node.count) h.after ∙ count_hearing old.node j x.promised x.accepted;
       kept = ap (λ (s : SeatState). s.node.kept) h.after ∙ kept_hearing old.node j x.promised x.accepted (λ (k : KeptPart). k);
+      learned = (notes_of j x old new h).learned;
     }
 
 pub on_through : (a b c : SeatState) → LookedOn a b → LookedOn b c → LookedOn a c
@@ -83,6 +86,7 @@ on_through a b c h k =
       me = k.me ∙ h.me;
       count = k.count ∙ h.count;
       kept = k.kept ∙ h.kept;
+      learned = λ v e. k.learned v (h.learned v e);
     }
 
 -- after the looks at one node more
@@ -110,6 +114,7 @@ informed_sound table s w h =
       proposed = h.proposed;
       proposers = h.proposers;
       acceptors = h.acceptors;
+      owned = h.owned;
     }
 
 -- ---- meeting
@@ -125,8 +130,8 @@ have_met a b b1 b2 a1 a2 eb lb ea la =
       second_own = kb.seen;
       second_other = kb.told;
       one_run = ka.told;
-      first_kept = ka.kept;
-      second_kept = kb.kept;
+      first = record { table = ka.table; me = ka.me; count = ka.count; kept = ka.kept; learned = ka.learned };
+      second = record { table = kb.table; me = kb.me; count = kb.count; kept = kb.kept; learned = kb.learned };
     }
 
 pub met_agree : (a b a' b' : SeatState) → HaveMet a b a' b' → IsKnown a' → IsKnown b' → (v u : ℕ) → a'.node.learned ≡ Some v → b'.node.learned ≡ Some u → v ≡ u

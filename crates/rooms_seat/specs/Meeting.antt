@@ -1,9 +1,11 @@
 -- What a seat knows of its room for certain, and what two seats of one room know once they have met.
-use Rattle.std.specs.Prelude.{◌≡◌, ℕ, Option, Some, None}
+use Rattle.std.specs.Prelude.{◌≡◌, ℕ, ◌<◌, ◌≤◌, ◌⊎◌, Option, Some, None}
+use Rattle.paxos_core_world.specs.Ballot.{Owns}
+use Rattle.paxos_core_world.specs.KeptPart.{IsWithinPromise}
 use Rattle.paxos_core_world.specs.World.{Has}
 use Rattle.paxos_core_late_offers.specs.LateOffer.{BelongsButOffer}
 use Rattle.rooms_rule.specs.Views.{IsLegal, BeginsWith}
-use Rattle.rooms_state.specs.SeatState.{SeatState, seen_world}
+use Rattle.rooms_state.specs.SeatState.{SeatState, seen_world, proposer_of}
 use Rattle.rooms_seat.specs.declared.meeting.Meeting.{Meeting}
 use Rattle.rooms_seat.specs.declared.meeting.Meeting.TheVariants.{Neither, One, Same}
 
@@ -13,6 +15,13 @@ pub record IsKnown (s : SeatState) : Type 0 where
   pub legal : IsLegal s.view.opening s.view.seen
   pub belongs : BelongsButOffer s.view.opening.count (seen_world s) s.view.node
   pub learned : (v : ℕ) → s.node.learned ≡ Some v → Has (s.node.me, v) (seen_world s).learned
+
+-- its numbers: its node is one of the room, a vote is within the promise, and what was seen started is that node's own
+pub record IsBounded (s : SeatState) : Type 0 where
+  pub number : s.node.me < s.node.count
+  pub most : s.node.count ≤ 7
+  pub within : IsWithinPromise s.node.kept.promised s.node.kept.accepted
+  pub owned : (j : ℕ) → j < s.node.count → ((proposer_of s j).started ≡ 0) ⊎ Owns s.node.count j (proposer_of s j).started
 
 -- the seat has looked, which left all that it keeps: it has seen what it had seen, and what it was told
 pub record LookedOn (old new : SeatState) : Type 0 where
@@ -25,6 +34,15 @@ pub record LookedOn (old new : SeatState) : Type 0 where
   pub me : new.node.me ≡ old.node.me
   pub count : new.node.count ≡ old.node.count
   pub kept : new.node.kept ≡ old.node.kept
+  pub learned : (v : ℕ) → old.node.learned ≡ Some v → new.node.learned ≡ Some v
+
+-- what a meeting leaves of a seat
+pub record Remains (old new : SeatState) : Type 0 where
+  pub table : new.table ≡ old.table
+  pub me : new.node.me ≡ old.node.me
+  pub count : new.node.count ≡ old.node.count
+  pub kept : new.node.kept ≡ old.node.kept
+  pub learned : (v : ℕ) → old.node.learned ≡ Some v → new.node.learned ≡ Some v
 
 -- two seats of one room have met: each has seen what either had seen, and the run of the second is a beginning of the first's
 pub record HaveMet (a b a' b' : SeatState) : Type 0 where
@@ -34,8 +52,8 @@ pub record HaveMet (a b a' b' : SeatState) : Type 0 where
   pub second_own : BeginsWith b'.view.seen b.view.seen
   pub second_other : BeginsWith b'.view.seen a.view.seen
   pub one_run : BeginsWith a'.view.seen b'.view.seen
-  pub first_kept : a'.node.kept ≡ a.node.kept
-  pub second_kept : b'.node.kept ≡ b.node.kept
+  pub first : Remains a a'
+  pub second : Remains b b'
 
 -- what two nodes that have learned this tell
 abbrev pub meeting_of : Option ℕ → Option ℕ → Meeting

@@ -7,5 +7,5 @@ mod opening;
 mod seat;
 
 pub use meeting::{Meeting, meet};
-pub use opening::open;
+pub use opening::Dealer;
 pub use seat::{Board, WordSeat};

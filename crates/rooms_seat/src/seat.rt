@@ -1,8 +1,10 @@
 ghost use Rattle.std.specs.Prelude.{◌≡◌, ◌*◌, ◌<◌, ◌↔◌, Some, None, IsErr, IsNone, OnErr, IfOk, IfSome};
 ghost use Rattle.paxos_core_law.specs.Proposer.{next_ballot, next_proposal};
 ghost use Rattle.paxos_core_law.specs.declared.step.Act.TheVariants as act;
-ghost use Rattle.rooms_state.specs.Did.{Did, LookedAtAcceptor, LookedAtProposer};
-ghost use Rattle.rooms_seat.specs.Meeting.{IsKnown};
+ghost use Rattle.rooms_state.specs.Did.{Did, Forgotten, LookedAtAcceptor, LookedAtProposer};
+ghost use Rattle.rooms_state.specs.Would.{would, IsAmong};
+ghost use Rattle.paxos_core_law.specs.NodeState.{offered};
+ghost use Rattle.rooms_seat.specs.Meeting.{IsBounded, IsKnown};
 ghost use Rattle.rooms_state.specs.SeatState.{empty_opening, fresh_seat, promise_of, seen_world, vote_by, vote_of};
 ghost use Rattle.std.specs.Arc.{arc_value};
 ghost use Rattle.paxos_core_law.specs.NodeState.{IsRoomSize};
@@ -11,13 +13,14 @@ ghost use Rattle.rooms_rule.specs.Heard.{after_hearing};
 ghost use Rattle.paxos_core_world.specs.World.{Has};
 
 use atomic_table::{Seat as Token, Table};
-use paxos_core::{CoreError, Msg, Node, Vote};
+use paxos_core::{CoreError, Kept, Msg, Node, Step, Vote};
 use rooms_rule::acceptor::AcceptorWord;
 use rooms_rule::proposer::ProposerWord;
 use rooms_rule::rule::{
-    Accepts, LooksAtAcceptor, LooksAtProposer, Promises, Proposes, RoomLaw, Starts, Tells,
+    Accepts, Forgets, LooksAtAcceptor, LooksAtProposer, Promises, Proposes, RoomLaw, Starts, Tells,
 };
 use rooms_rule::view::{Opening, View};
+use rooms_state::act::Act;
 use std::alloc::Global;
 use std::marker::Model;
 use std::sync::Arc;
@@ -218,6 +221,66 @@ impl WordSeat {
         Some(vote)
     }
 
+    /// The step that `start`, `promise(j)`, `propose` or `accept(j)` would take now: none where it would take none.
+    pub fn intent(&self, act: Act) -> Option<Step>
+        requires { IsAmong self.now.node.count act }
+        ensures { result ≡ would self.now act }
+    {
+        match act {
+            Act::Start => Some(Step::Start(self.node.next_start()?)),
+            Act::Promise(j) => {
+                let seen = self.proposers[usize::from(j)];
+                Some(Step::Promise(self.node.next_promise(seen.started)?))
+            }
+            Act::Propose => {
+                let (ballot, value) = self.node.proposal()?;
+                Some(Step::Propose(ballot, value))
+            }
+            Act::Accept(j) => {
+                let vote = next_vote(&self.node, self.proposers[usize::from(j)])?;
+                Some(Step::Accept(vote.ballot, vote.value))
+            }
+        }
+    }
+
+    /// Forgets all but what its node keeps and what was last seen of the words, as at a restart: loads its two own words.
+    pub fn forget(&mut self)
+        ensures { Forgotten self.old self.new }
+    {
+        let place = usize::from(self.node.me());
+        let _proposer = self
+            .board
+            .shared
+            .load::<Forgets>(&mut self.token, 2 * place);
+        let _acceptor = self
+            .board
+            .shared
+            .load::<Forgets>(&mut self.token, 2 * place + 1);
+        self.node.forget();
+    }
+
+    /// Notes that the node has offered: its offer stands in a cell, and no word shows it.
+    pub fn offer(&mut self)
+        ensures { self.new ≡ record self.old { node = offered self.old.node } }
+    {
+        let _first = self.node.offer();
+    }
+
+    /// What has to outlive a restart.
+    pub fn kept(&self) -> Kept
+        ensures { result ≡ self.now.node.kept }
+    {
+        self.node.kept()
+    }
+
+    /// The number of its node.
+    pub fn me(&self) -> u8
+        ensures value { result ≡ self.now.node.me }
+        ensures below { result < self.now.node.count }
+    {
+        self.node.me()
+    }
+
     /// How many nodes the room has.
     pub fn count(&self) -> u8
         ensures value { result ≡ self.now.node.count }
@@ -231,6 +294,14 @@ impl WordSeat {
         ensures { IsKnown self.now }
     {
         let _node = self.node.me();
+    }
+
+    /// What the type keeps of its numbers, for a caller's proof.
+    pub fn bounds(&self)
+        ensures { IsBounded self.now }
+    {
+        let _node = self.node.me();
+        let _vote = self.node.kept().accepted();
     }
 
     /// Takes in what another seat of the room has seen: the next look shows no less.

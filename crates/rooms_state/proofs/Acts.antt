@@ -41,7 +41,7 @@ use Rattle.rooms_state.proofs.Moves.{number_below, own_stays, store_sound}
 
 -- ---- what answers tell
 
-may_promise : (t : Bool) (b c : ℕ) → ◌≡◌ {A = Option ℕ} (Some b) (cond t (Some c) None) → (t ≡ true) × (b ≡ c)
+pub may_promise : (t : Bool) (b c : ℕ) → ◌≡◌ {A = Option ℕ} (Some b) (cond t (Some c) None) → (t ≡ true) × (b ≡ c)
 may_promise true b c e = (refl, cc)
 may_promise false b c e = absurd (cc)
 

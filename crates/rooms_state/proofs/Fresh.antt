@@ -51,6 +51,7 @@ fresh_sound table t count i same words size lt =
       proposed = refl;
       proposers = λ j jl. subst (λ (x : ProposerWord). ProposerSeen (world_after (empty_opening count) []) j x) (sym (get_or-replicate 7 j no_proposer)) (nothing_seen j);
       acceptors = λ j jl. subst (λ (x : AcceptorWord). AcceptorSeen (world_after (empty_opening count) []) j x) (sym (get_or-replicate 7 j no_acceptor)) (nothing_heard j);
+      owned = λ j jl. inl (ap (λ (x : ProposerWord). x.started) (get_or-replicate 7 j no_proposer));
     }
   where
     nothing_seen : (j : ℕ) → ProposerSeen (world_after (empty_opening count) []) j no_proposer

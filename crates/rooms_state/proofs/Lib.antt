@@ -1,3 +1,4 @@
 pub mod Moves
 pub mod Acts
 pub mod Fresh
+pub mod Told

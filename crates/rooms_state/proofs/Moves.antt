@@ -1,15 +1,17 @@
 -- What stays true of a seat through a word step.
-use Rattle.std.proofs.Common.{◌≡◌, ℕ, ◌+◌, ◌*◌, ◌<◌, ◌≤◌, Bool, true, false, cond, List, [], ◌++◌, length, set, get_or, append_assoc, length-set, get_or-set_same, get_or-set_other, Option, Some, None, refl, sym, ap, ◌∙◌, subst, inl, inr, arith}
+use Rattle.std.proofs.Common.{◌≡◌, ℕ, ◌+◌, ◌*◌, ◌<◌, ◌≤◌, Bool, true, false, cond, List, [], ◌++◌, length, set, get_or, append_assoc, length-set, get_or-set_same, get_or-set_other, Option, Some, None, ◌⊎◌, refl, sym, ap, ◌∙◌, subst, inl, inr, arith}
 use native.Mathlib.Decide.{ℕ_discrete}
 use Rattle.atomic_table.specs.Seated.{TableId}
+use Rattle.paxos_core_world.specs.Ballot.{Owns}
 use Rattle.paxos_core_world.specs.KeptPart.{KeptPart, with_offer, without_offer}
 use Rattle.paxos_core_world.specs.Run.{IsRun, reached}
 use Rattle.paxos_core_world.specs.Step.{Label}
 use Rattle.paxos_core_world.specs.World.{World}
 use Rattle.paxos_core_world.specs.declared.vote.Vote.{Vote}
 use Rattle.paxos_core_law.specs.Learner.{after_promise, notes_promise, notes_vote}
-use Rattle.paxos_core_law.specs.NodeState.{NodeState, offered}
+use Rattle.paxos_core_law.specs.NodeState.{NodeState, offered, restarted}
 use Rattle.paxos_core_law.specs.Reached.{IsReached}
+use Rattle.paxos_core_law.specs.Taken.{taken_by_restart}
 use Rattle.paxos_core_late_offers.specs.LateOffer.{BelongsButOffer}
 use Rattle.rooms_rule.specs.Words.{started_in, proposed_in, promised_in, accepted_in}
 use Rattle.rooms_rule.specs.declared.acceptor.AcceptorWord.{AcceptorWord}
@@ -20,17 +22,17 @@ use Rattle.rooms_rule.specs.Events.{labels_of, events_of}
 use Rattle.rooms_rule.specs.Heard.{after_hearing, after_shown_vote, taken_by_hearing}
 use Rattle.rooms_rule.specs.NotBelow.{ProposerNotBelow, AcceptorNotBelow}
 use Rattle.rooms_rule.specs.Sight.{ProposerSeen, AcceptorSeen}
-use Rattle.rooms_rule.specs.Steps.{Advances, LooksAtProposer, LooksAtAcceptor}
+use Rattle.rooms_rule.specs.Steps.{Advances, LooksAtProposer, LooksAtAcceptor, Forgot}
 use Rattle.rooms_rule.specs.Views.{world_after, IsLegal}
 use Rattle.rooms_rule.specs.WordsOf.{proposed_by, IsProposerOf, IsAcceptorOf}
 use Rattle.rooms_rule.proofs.Advance.{view_with}
 use Rattle.rooms_steps.proofs.HearLemmas.{me_hearing}
 use Rattle.rooms_steps.proofs.Looks.{vote_quiet}
 use Rattle.rooms_steps.proofs.OfferLemmas.{hearing_offered}
-use Rattle.rooms_rule.proofs.RunLemmas.{world_after-events, world_after-append, legal_reached, legal_before, run_behind, kept_of}
+use Rattle.rooms_rule.proofs.RunLemmas.{world_after-events, world_after-append, legal_reached, legal_before, run_behind, started_own, kept_of}
 use Rattle.rooms_steps.proofs.Stays.{proposer_seen_later, acceptor_seen_later, proposer_seen, acceptor_seen}
 use Rattle.rooms_rule.proofs.WordLemmas.{proposer_of_others}
-use Rattle.rooms_state.specs.Did.{LookedAtAcceptor, LookedAtProposer}
+use Rattle.rooms_state.specs.Did.{LookedAtAcceptor, LookedAtProposer, Forgotten}
 use Rattle.rooms_state.specs.SeatState.{SeatState, no_proposer, no_acceptor, proposer_of, acceptor_of, seen_world}
 use Rattle.rooms_state.specs.Sound.{IsSound}
 
@@ -93,6 +95,16 @@ proposers_with w n xs j x lt h all i il = at (ℕ_discrete i j)
     at (yes e) = subst (λ (k : ℕ). ProposerSeen w k (get_or (set xs j x) k no_proposer)) (sym e) (subst (λ (y : ProposerWord). ProposerSeen w j y) (sym (get_or-set_same xs j x no_proposer lt)) h)
     at (no d) = subst (λ (y : ProposerWord). ProposerSeen w i y) (sym (get_or-set_other xs j i x no_proposer d)) (all i il)
 
+-- what is seen started, is the node's own
+owned_with : (n : ℕ) (xs : List ProposerWord) (j : ℕ) (x : ProposerWord) → j < length xs → (x.started ≡ 0) ⊎ Owns n j x.started
+    → ((i : ℕ) → i < n → ((get_or xs i no_proposer).started ≡ 0) ⊎ Owns n i (get_or xs i no_proposer).started)
+    → (i : ℕ) → i < n → ((get_or (set xs j x) i no_proposer).started ≡ 0) ⊎ Owns n i (get_or (set xs j x) i no_proposer).started
+owned_with n xs j x lt h all i il = at (ℕ_discrete i j)
+  where
+    at : Dec (i ≡ j) → ((get_or (set xs j x) i no_proposer).started ≡ 0) ⊎ Owns n i (get_or (set xs j x) i no_proposer).started
+    at (yes e) = subst (λ (k : ℕ). ((get_or (set xs j x) k no_proposer).started ≡ 0) ⊎ Owns n k (get_or (set xs j x) k no_proposer).started) (sym e) (subst (λ (y : ProposerWord). (y.started ≡ 0) ⊎ Owns n j y.started) (sym (get_or-set_same xs j x no_proposer lt)) h)
+    at (no d) = subst (λ (y : ProposerWord). (y.started ≡ 0) ⊎ Owns n i y.started) (sym (get_or-set_other xs j i x no_proposer d)) (all i il)
+
 acceptors_with : (w : World) (n : ℕ) (xs : List AcceptorWord) (j : ℕ) (x : AcceptorWord) → j < length xs → AcceptorSeen w j x → ((i : ℕ) → i < n → AcceptorSeen w i (get_or xs i no_acceptor)) → (i : ℕ) → i < n → AcceptorSeen w i (get_or (set xs j x) i no_acceptor)
 acceptors_with w n xs j x lt h all i il = at (ℕ_discrete i j)
   where
@@ -154,6 +166,10 @@ module _ (table : TableId) (old : SeatState) (sound : IsSound table old) (j numb
           proposers = proposers_with (world_after old.view.opening run) old.view.opening.count old.proposers j x room sight
               (λ i il. proposer_stays_seen old.view [] old.view.node (view_with old.view run old.view.node) h.advances sound.legal i _ (sound.proposers i il));
           acceptors = λ i il. acceptor_stays_seen old.view [] old.view.node (view_with old.view run old.view.node) h.advances sound.legal i _ il (sound.acceptors i il);
+          owned = owned_with old.view.opening.count old.proposers j x room
+              (subst (λ (b : ℕ). (b ≡ 0) ⊎ Owns old.view.opening.count j b) (sym started_is)
+              (started_own old.view.opening.count (world_after old.view.opening run) j (reached_after old.view [] old.view.node (view_with old.view run old.view.node) h.advances sound.legal) low))
+              sound.owned;
         }
 
     pub proposer_looked : LookedAtProposer j x old (after_proposer_look old (view_with old.view run old.view.node) j x)
@@ -235,6 +251,7 @@ module _ (table : TableId) (old : SeatState) (sound : IsSound table old) (steps 
         proposed = ep;
         proposers = λ i il. proposer_stays_seen old.view steps t (view_with old.view run t) a sound.legal i _ (sound.proposers i il);
         acceptors = seen;
+        owned = sound.owned;
       }
 
   pub store_sound : IsSound table (record old { view = view_with old.view run t; node = node; proposed = p })
@@ -346,3 +363,54 @@ acceptor_look table old sound place j number at lt x ep ea t et w h node en =
             accepted_is ∙ (kept_is (λ (k : KeptPart). k.accepted) (λ k. refl) (λ k. refl) mine ∙ kept_hearing old.node j x.promised x.accepted (λ (k : KeptPart). k.accepted)),
           );
         }
+
+-- ---- to forget
+
+-- after a load of an own word, with which the node forgot
+pub forgot_sound : (table : TableId) (old : SeatState) → IsSound table old → (t : TableId) → t ≡ old.table → (w : View) → Forgot old.view w
+    → IsSound table (record old { table = t; view = w; node = restarted old.node old.node.kept })
+forgot_sound table old sound t et w h =
+    let mine : old.view.node.me ≡ old.node.me = ap (λ (s : NodeState). s.me) sound.node in
+    let e : w ≡ view_with old.view w.seen (restarted old.view.node old.view.node.kept) = h.stays in
+    let adv = subst (λ (z : View). Advances old.view (taken_by_restart old.view.node) (restarted old.view.node old.view.node.kept) z) e h in
+    subst (λ (u : TableId). IsSound table (record old { table = u; view = w; node = restarted old.node old.node.kept })) (sym et)
+    (subst (λ (z : View). IsSound table (record old { view = z; node = restarted old.node old.node.kept })) (sym e)
+    (store_sound table old sound (taken_by_restart old.view.node) (restarted old.view.node old.view.node.kept) w.seen adv refl (restarted old.node old.node.kept)
+    (ap (λ (s : NodeState). restarted s s.kept) sound.node) sound.own_word
+    (own_stays old.view (taken_by_restart old.view.node) (restarted old.view.node old.view.node.kept) (view_with old.view w.seen (restarted old.view.node old.view.node.kept)) adv sound.legal sound.own_word
+    (number_below old.view.opening.count (seen_world old) old.view.node sound.belongs) (λ z i k g. g)
+    (subst (λ (i : ℕ). IsProposerOf (seen_world old) i sound.own_word) (sym mine) sound.own))
+    old.proposed sound.proposed))
+
+-- after both loads
+pub forgotten : (table : TableId) (old : SeatState) → IsSound table old → (t u : TableId) → t ≡ old.table → u ≡ t → (mid w : View) → Forgot old.view mid → Forgot mid w
+    → (node : NodeState) → node ≡ restarted old.node old.node.kept
+    → IsSound table (record old { table = u; view = w; node = node }) × Forgotten old (record old { table = u; view = w; node = node })
+forgotten table old sound t u et eu mid w h k node en =
+    subst (λ (s : NodeState). IsSound table (record old { table = u; view = w; node = s }) × Forgotten old (record old { table = u; view = w; node = s })) (sym en) (
+      forgot_sound table (record old { table = t; view = mid; node = restarted old.node old.node.kept }) (forgot_sound table old sound t et mid h) u eu w k,
+      subst (λ (x : TableId). Forgotten old (record old { table = x; view = w; node = restarted old.node old.node.kept })) (sym (eu ∙ et))
+          record { between = mid; first = h; second = k; after = refl },
+    )
+
+-- after the node's offer
+pub offer_sound : (table : TableId) (old : SeatState) → IsSound table old → IsSound table (record old { node = offered old.node })
+offer_sound table old sound =
+    record {
+      same = sound.same;
+      words = sound.words;
+      count = sound.count;
+      most = sound.most;
+      proposer_row = sound.proposer_row;
+      acceptor_row = sound.acceptor_row;
+      seated = sound.seated;
+      node = sound.node;
+      legal = sound.legal;
+      belongs = sound.belongs;
+      own_word = sound.own_word;
+      own = sound.own;
+      proposed = sound.proposed;
+      proposers = sound.proposers;
+      acceptors = sound.acceptors;
+      owned = sound.owned;
+    }

@@ -1,12 +1,15 @@
 -- What a call of a seat does: one word step, and with it at most one step of the protocol and an offer.
-use Rattle.std.specs.Prelude.{◌≡◌, ℕ, [], Option, slice_set}
+use Rattle.std.specs.Prelude.{◌≡◌, ◌≢◌, ℕ, [], Option, Some, slice_set}
+use Rattle.paxos_core_law.specs.NodeState.{restarted}
 use Rattle.paxos_core_law.specs.Would.{after_act}
 use Rattle.paxos_core_law.specs.declared.step.Act.{Act}
 use Rattle.rooms_rule.specs.declared.acceptor.AcceptorWord.{AcceptorWord}
 use Rattle.rooms_rule.specs.declared.proposer.ProposerWord.{ProposerWord}
 use Rattle.rooms_rule.specs.Heard.{after_hearing, taken_by_hearing}
 use Rattle.rooms_rule.specs.NotBelow.{ProposerNotBelow, AcceptorNotBelow}
-use Rattle.rooms_rule.specs.Steps.{Advances, Took}
+use Rattle.rooms_rule.specs.Steps.{Advances, Took, Forgot}
+use Rattle.rooms_rule.specs.Views.{BeginsWith}
+use Rattle.rooms_rule.specs.declared.view.View.{View}
 use Rattle.rooms_rule.specs.WordsOf.{proposed_by}
 use Rattle.rooms_state.specs.SeatState.{SeatState, seen_world, proposer_of, acceptor_of}
 
@@ -33,3 +36,21 @@ pub record LookedAtAcceptor (j : ℕ) (x : AcceptorWord) (old new : SeatState) :
 pub record Did (a : Act) (p : Option ℕ) (old new : SeatState) : Type 0 where
   pub took : Took a old.view new.view
   pub after : new ≡ record old { view = new.view; node = after_act old.node a; proposed = p }
+
+-- what a look at node j's acceptor leaves: all but the notes, and what was learned before
+pub record NotesOf (j : ℕ) (old new : SeatState) : Type 0 where
+  pub table : new.table ≡ old.table
+  pub me : new.node.me ≡ old.node.me
+  pub count : new.node.count ≡ old.node.count
+  pub kept : new.node.kept ≡ old.node.kept
+  pub ballot : new.node.ballot ≡ old.node.ballot
+  pub proposers : new.proposers ≡ old.proposers
+  pub others : (i : ℕ) → i ≢ j → acceptor_of new i ≡ acceptor_of old i
+  pub learned : (v : ℕ) → old.node.learned ≡ Some v → new.node.learned ≡ Some v
+
+-- the seat forgot what its node does not keep, by one load of each of its own words; what it last saw of words stays
+pub record Forgotten (old new : SeatState) : Type 0 where
+  pub between : View
+  pub first : Forgot old.view between
+  pub second : Forgot between new.view
+  pub after : new ≡ record old { view = new.view; node = restarted old.node old.node.kept }

@@ -1,3 +1,4 @@
 pub mod SeatState
 pub mod Sound
 pub mod Did
+pub mod Would

@@ -1,6 +1,7 @@
 -- What holds of every seat.
-use Rattle.std.specs.Prelude.{◌≡◌, ℕ, ◌*◌, ◌<◌, ◌≤◌, length}
+use Rattle.std.specs.Prelude.{◌≡◌, ℕ, ◌*◌, ◌<◌, ◌≤◌, ◌⊎◌, length}
 use Rattle.atomic_table.specs.Seated.{TableId}
+use Rattle.paxos_core_world.specs.Ballot.{Owns}
 use Rattle.paxos_core_law.specs.NodeState.{offered}
 use Rattle.paxos_core_late_offers.specs.LateOffer.{BelongsButOffer}
 use Rattle.rooms_rule.specs.Words.{proposed_in}
@@ -27,3 +28,4 @@ pub record IsSound (table : TableId) (s : SeatState) : Type 0 where
   pub proposed : proposed_in own_word ≡ s.proposed
   pub proposers : (j : ℕ) → j < s.view.opening.count → ProposerSeen (seen_world s) j (proposer_of s j)
   pub acceptors : (j : ℕ) → j < s.view.opening.count → AcceptorSeen (seen_world s) j (acceptor_of s j)
+  pub owned : (j : ℕ) → j < s.view.opening.count → ((proposer_of s j).started ≡ 0) ⊎ Owns s.view.opening.count j (proposer_of s j).started

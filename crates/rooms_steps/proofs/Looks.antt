@@ -9,22 +9,39 @@ use Rattle.paxos_core_world.specs.Step.{Label, Learns}
 use Rattle.paxos_core_world.specs.World.{World}
 use Rattle.paxos_core_world.specs.declared.vote.Vote.{Vote}
 use Rattle.paxos_core_law.specs.Learner.{after_promise}
-use Rattle.paxos_core_law.specs.NodeState.{NodeState}
-use Rattle.paxos_core_law.specs.Taken.{learns_from}
+use Rattle.paxos_core_law.specs.NodeState.{NodeState, restarted}
+use Rattle.paxos_core_law.specs.Taken.{learns_from, taken_by_restart}
 use Rattle.paxos_core_late_offers.specs.LateOffer.{TakesLate}
+use Rattle.paxos_core_late_offers.proofs.LateLemmas.{offers_may_be_late}
 use Rattle.rooms_rule.specs.Words.{promised_in, accepted_in}
 use Rattle.rooms_rule.specs.declared.view.Opening.{Opening}
 use Rattle.rooms_rule.specs.declared.view.View.{View}
 use Rattle.rooms_rule.specs.Events.{events_of}
 use Rattle.rooms_rule.specs.Heard.{taken_on_vote, after_hearing, taken_by_hearing}
 use Rattle.rooms_rule.specs.Rule.{RoomRule}
-use Rattle.rooms_rule.specs.Steps.{LooksAtAcceptor, ProposerLook, AcceptorLook}
+use Rattle.rooms_rule.specs.Steps.{LooksAtAcceptor, ProposerLook, AcceptorLook, ForgetLook}
 use Rattle.rooms_rule.specs.Views.{world_after, IsSeated}
 use Rattle.rooms_rule.specs.WordsOf.{acceptor_at, IsProposerOf, IsAcceptorOf, ShowsWorld}
 use Rattle.rooms_rule.proofs.Advance.{view_with, allows, belongs_now, reached_now}
 use Rattle.rooms_steps.proofs.HearLemmas.{hearing_takes, me_hearing}
 use Rattle.rooms_rule.proofs.RunLemmas.{world_after-events}
 use Rattle.rooms_rule.proofs.WordLemmas.{proposer_kept, acceptor_kept, shows_read}
+
+-- ---- an own word, with which the node forgets
+
+pub forgets : {S : Type 0} (o : Opening) (slots id : ℕ) (me : Me S View) (k : ℕ) → IsSeated me.0
+    → Allows (RoomRule o) slots id me k (λ n. n) (ForgetLook (step slots k 0 0 none) me)
+forgets {S} o slots id me k seated =
+    allows o slots id me k (λ n. n) (ForgetLook (step slots k 0 0 none) me) seated
+    (λ s rule at. record {
+      steps = taken_by_restart me.0.node;
+      node = restarted me.0.node me.0.node.kept;
+      answer = None;
+      takes = offers_may_be_late.forget me.0.node me.0.opening.count (world_after me.0.opening rule.run) (reached_now s id me.0 rule at seated) (belongs_now s id me.0 rule at seated);
+      me = refl;
+      shows = subst (λ (ws : List ℕ). ShowsWorld me.0.opening.count (world_after me.0.opening rule.run) ws) (sym (set-get_or s.words k 0)) rule.words;
+      told = λ a. a;
+    })
 
 -- ---- a proposer's word
 

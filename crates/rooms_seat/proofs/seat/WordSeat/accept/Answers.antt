@@ -1,9 +1,9 @@
-use Rattle.std.proofs.Common.{◌≡◌, ℕ, ◌<◌, Option, IfSome, sym, ap, ◌∙◌, subst}
+use Rattle.std.proofs.Common.{◌≡◌, ℕ, ◌<◌, Option, IfSome, get_or, sym, ap, ◌∙◌, subst}
 use Rattle.paxos_core_world.specs.declared.vote.Vote.{Vote}
 use Rattle.paxos_core_law.specs.declared.step.Act.TheVariants as act
 use Rattle.rooms_rule.specs.Steps.{StoresAcceptor}
-use Rattle.rooms_state.specs.SeatState.{SeatState}
-use Rattle.rooms_state.proofs.Acts.{vote_allowed, vote_sound}
+use Rattle.rooms_state.specs.SeatState.{SeatState, no_proposer}
+use Rattle.rooms_state.proofs.Acts.{given_ballot, given_value, vote_allowed, vote_seen, vote_sound}
 use Rattle.rooms_state.proofs.Moves.{word_below}
 use Rattle.rooms_seat.proofs.seat.WordSeat.accept.Goals as goal
 
@@ -24,3 +24,8 @@ invariant_of-self c =
     let found = c.store.ensures in
     vote_sound _ _ c.self.invariant c.store.new.seat.me.0 c.pack.result c.store.new.seat.table_id found.0 c.on-accepted.new.self c.in_ok-vote.vote
     (subst (λ (o : Option Vote). IfSome o (λ y. StoresAcceptor (act.Accept y.ballot y.value) c.pack.result c.self.inside.token.me.0 c.store.new.seat.me.0)) c.pack.ensures.word.tells_accepted found.2) c.on-accepted.ensures.state
+
+pub pack-requires : goal.pack-requires
+pack-requires c =
+    let told = vote_seen c.self.inside.node (get_or c.self.inside.proposers c.from.result no_proposer).started (get_or c.self.inside.proposers c.from.result no_proposer).proposed c.in_ok-vote.vote c.in_ok-vote.ensures in
+    (given_ballot _ _ c.self.invariant c.in_ok-vote.vote told.0, given_value _ _ c.self.invariant c.in_ok-vote.vote told.0)

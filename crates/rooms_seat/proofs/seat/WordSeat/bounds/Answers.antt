@@ -1,0 +1,19 @@
+use Rattle.std.proofs.Common.{◌≡◌, ℕ, ◌<◌, ◌⊎◌, get_or, sym, subst}
+use Rattle.paxos_core_world.specs.Ballot.{Owns}
+use Rattle.paxos_core_world.specs.KeptPart.{KeptPart, IsWithinPromise}
+use Rattle.rooms_state.specs.SeatState.{SeatState, no_proposer}
+use Rattle.rooms_seat.specs.Meeting.{IsBounded}
+use Rattle.rooms_seat.proofs.seat.WordSeat.bounds.Goals as goal
+
+pub returns : goal.returns
+returns c =
+    let sound = c.self.invariant in
+    subst (λ (s : SeatState). IsBounded s) c.self.view_is
+    record {
+      number = subst (λ (i : ℕ). i < c.self.inside.node.count) c.me-node.ensures.value c.me-node.ensures.below;
+      most = sound.most;
+      within = subst (λ (k : KeptPart). IsWithinPromise k.promised k.accepted) c.kept.ensures c.accepted-vote.ensures.within;
+      owned = λ j lt.
+          subst (λ (n : ℕ). ((get_or c.self.inside.proposers j no_proposer).started ≡ 0) ⊎ Owns n j (get_or c.self.inside.proposers j no_proposer).started) (sym sound.count)
+          (sound.owned j (subst (λ (n : ℕ). j < n) sound.count lt));
+    }
