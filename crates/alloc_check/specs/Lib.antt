@@ -1,3 +1,4 @@
+pub mod Baseline
 pub mod Slots
 pub mod PassLaws
 pub use Rattle.alloc_check_rules.specs.Rules

@@ -1,4 +1,4 @@
-use crate::baseline;
+use crate::base::baseline;
 use alloc_check_laws::{push_lists, read_lists};
 use alloc_check_verdict::{EquationLists, check};
 use lang_base::{FormError, NoMemory, Pass, PassError, Row};
@@ -13,6 +13,7 @@ impl Pass for Alloc {
     ghost use Rattle.std.specs.Prelude.{◌≡◌, ◌≢◌, ◌≤◌, ℕ, List, ◌++◌, length, take, IsTrue, ◌↔◌, OnOk, OnErr, IfOk, IfErr};
     ghost use Rattle.alloc_check_rules.specs.Rules.{IsTooLarge, IsAllocated};
     ghost use Rattle.alloc_check_laws.specs.Text.{CertFits, cert_text};
+    ghost use Rattle.alloc_check.specs.Baseline.{IsBaseline};
     ghost use Rattle.alloc_check.specs.PassLaws.{allocated_fits, one_cert, sound_law};
 
     type In = Rtl;
@@ -45,7 +46,11 @@ impl Pass for Alloc {
     fn baseline(
         alloc: Global,
         input: &rtl_language::Function,
-    ) -> Result<(ltl::Function, EquationLists), PassError> {
+    ) -> Result<(ltl::Function, EquationLists), PassError>
+        ensures accepted { IfOk result (λ made. IsAllocated input.now made.0 made.1) }
+        ensures refused { IfErr result (λ e. e ≢ PassError.NoMemory → IsTooLarge input.now) }
+        ensures is { IfOk result (λ made. IsBaseline input.now made.0 made.1) }
+    {
         baseline(alloc, input)
     }
 

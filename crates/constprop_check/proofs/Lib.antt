@@ -1,4 +1,4 @@
-pub mod Baseline
+pub mod Unchanged
 pub mod Rising
 pub mod Readings
 pub mod Written

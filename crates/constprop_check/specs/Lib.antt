@@ -1,3 +1,4 @@
+pub mod Baseline
 pub mod FactForm
 pub mod PassLaws
 pub use Rattle.constprop_check_rules.specs.Known

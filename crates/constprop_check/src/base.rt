@@ -9,7 +9,7 @@ use rtl_passes::empty_lists;
 use std::alloc::Global;
 
 /// The input itself, with no facts.
-pub(crate) fn baseline(alloc: Global, input: &Function) -> Result<(Function, FactLists), NoMemory>
+pub fn baseline(alloc: Global, input: &Function) -> Result<(Function, FactLists), NoMemory>
     ensures output { IfOk result (λ made. made.0 ≡ input.now) }
     ensures facts { IfOk result (λ made. made.1 ≡ replicate (length input.now.nodes) []) }
     ensures accepted { IfOk result (λ made. IsPropagated input.now made.0 made.1) }

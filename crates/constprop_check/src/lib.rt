@@ -11,6 +11,7 @@ mod nodes;
 mod pass;
 mod verdict;
 
+pub use base::baseline;
 pub use constprop_check_rules::Fact;
 pub use lists::{FactLists, facts_of};
 pub use pass::ConstProp;

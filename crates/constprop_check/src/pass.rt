@@ -13,6 +13,7 @@ impl Pass for ConstProp {
     ghost use Rattle.std.specs.Prelude.{◌≡◌, ◌≢◌, ◌≤◌, ℕ, List, ◌++◌, length, take, IsTrue, ◌↔◌, OnOk, OnErr, IfOk, IfErr};
     ghost use Rattle.constprop_check_rules.specs.Rules.{IsPropagated};
     ghost use Rattle.constprop_check.specs.FactForm.{CertFits, cert_text};
+    ghost use Rattle.constprop_check.specs.Baseline.{IsBaseline};
     ghost use Rattle.constprop_check.specs.PassLaws.{propagated_fits, one_cert, sound_law, never};
 
     type In = Rtl;
@@ -42,7 +43,11 @@ impl Pass for ConstProp {
         check(alloc, input, output, facts)
     }
 
-    fn baseline(alloc: Global, input: &Function) -> Result<(Function, FactLists), PassError> {
+    fn baseline(alloc: Global, input: &Function) -> Result<(Function, FactLists), PassError>
+        ensures accepted { IfOk result (λ made. IsPropagated input.now made.0 made.1) }
+        ensures refused { IfErr result (λ e. e ≢ PassError.NoMemory → never input.now) }
+        ensures is { IfOk result (λ made. IsBaseline input.now made.0 made.1) }
+    {
         Ok(baseline(alloc, input)?)
     }
 

@@ -1,3 +1,3 @@
-pub mod Baseline
+pub mod Unchanged
 pub mod Readings
 pub mod Rising

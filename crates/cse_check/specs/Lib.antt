@@ -1,3 +1,4 @@
+pub mod Baseline
 pub mod Sources
 pub mod PassLaws
 pub use Rattle.cse_check_rules.specs.Equations

@@ -8,10 +8,7 @@ use rtl_passes::empty_lists;
 use std::alloc::Global;
 
 /// The input itself, with no equations.
-pub(crate) fn baseline(
-    alloc: Global,
-    input: &Function,
-) -> Result<(Function, EquationLists), NoMemory>
+pub fn baseline(alloc: Global, input: &Function) -> Result<(Function, EquationLists), NoMemory>
     ensures output { IfOk result (λ made. made.0 ≡ input.now) }
     ensures equations { IfOk result (λ made. made.1 ≡ replicate (length input.now.nodes) []) }
     ensures accepted { IfOk result (λ made. IsEliminated input.now made.0 made.1) }

@@ -12,6 +12,7 @@ mod pass;
 mod verdict;
 mod walk;
 
+pub use base::baseline;
 pub use cse_check_rules::{Equation, RightSide};
 pub use lists::{EquationLists, equations_of};
 pub use pass::Cse;

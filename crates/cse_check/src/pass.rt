@@ -13,6 +13,7 @@ impl Pass for Cse {
     ghost use Rattle.std.specs.Prelude.{◌≡◌, ◌≢◌, ◌≤◌, ℕ, List, ◌++◌, length, take, IsTrue, ◌↔◌, OnOk, OnErr, IfOk, IfErr};
     ghost use Rattle.cse_check_rules.specs.Rules.{IsEliminated};
     ghost use Rattle.cse_check_codec.specs.Text.{CertFits, cert_text};
+    ghost use Rattle.cse_check.specs.Baseline.{IsBaseline};
     ghost use Rattle.cse_check.specs.PassLaws.{eliminated_fits, one_cert, sound_law, never};
 
     type In = Rtl;
@@ -42,7 +43,11 @@ impl Pass for Cse {
         check(alloc, input, output, equations)
     }
 
-    fn baseline(alloc: Global, input: &Function) -> Result<(Function, EquationLists), PassError> {
+    fn baseline(alloc: Global, input: &Function) -> Result<(Function, EquationLists), PassError>
+        ensures accepted { IfOk result (λ made. IsEliminated input.now made.0 made.1) }
+        ensures refused { IfErr result (λ e. e ≢ PassError.NoMemory → never input.now) }
+        ensures is { IfOk result (λ made. IsBaseline input.now made.0 made.1) }
+    {
         Ok(baseline(alloc, input)?)
     }
 

@@ -1,3 +1,4 @@
+pub mod Baseline
 pub mod Faults
 pub mod OrderForm
 pub mod PassLaws

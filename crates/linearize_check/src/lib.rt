@@ -11,6 +11,7 @@ mod proposals;
 mod verdict;
 mod walk;
 
+pub use base::baseline;
 pub use linearize_check_layout::{lay_out, reachable, rising};
 pub use order::{Fault, Order};
 pub use pass::Linearize;

@@ -14,6 +14,7 @@ impl Pass for Linearize {
     ghost use Rattle.std.specs.Prelude.{◌≡◌, ◌≢◌, ◌≤◌, ℕ, List, ◌++◌, length, take, IsTrue, ◌↔◌, OnOk, OnErr, IfOk, IfErr};
     ghost use Rattle.linearize_check_proof.specs.Rules.{IsLaidOut};
     ghost use Rattle.linearize_check.specs.OrderForm.{CertFits, cert_text};
+    ghost use Rattle.linearize_check.specs.Baseline.{IsBaseline};
     ghost use Rattle.linearize_check.specs.PassLaws.{laid_out_fits, one_order, sound_law, never};
 
     type In = Ltl;
@@ -46,7 +47,11 @@ impl Pass for Linearize {
     fn baseline(
         alloc: Global,
         input: &ltl::Function,
-    ) -> Result<(linear_language::Function, Order), PassError> {
+    ) -> Result<(linear_language::Function, Order), PassError>
+        ensures accepted { IfOk result (λ made. IsLaidOut input.now made.0 made.1) }
+        ensures refused { IfErr result (λ e. e ≢ PassError.NoMemory → never input.now) }
+        ensures is { IfOk result (λ made. IsBaseline input.now made.0 made.1) }
+    {
         Ok(baseline(alloc, input)?)
     }
 

@@ -1,4 +1,4 @@
-use Rattle.constprop_check.proofs.Baseline.{none_accepted}
+use Rattle.constprop_check.proofs.Unchanged.{none_accepted}
 use Rattle.constprop_check.proofs.base.baseline.Goals as goal
 
 pub returns-clause-facts : goal.returns-clause-facts

@@ -1,4 +1,4 @@
-use Rattle.cse_check.proofs.Baseline.{none_accepted}
+use Rattle.cse_check.proofs.Unchanged.{none_accepted}
 use Rattle.cse_check.proofs.base.baseline.Goals as goal
 
 pub returns-clause-accepted : goal.returns-clause-accepted
