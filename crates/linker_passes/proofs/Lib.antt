@@ -1,4 +1,5 @@
 mod EqualNames
 mod Fronts
 mod Keeping
+mod SameTexts
 mod Whole

@@ -1,4 +1,5 @@
 pub mod Chains
 pub mod Linked
 pub mod Numbers
+pub mod Texts
 pub mod Valid

@@ -7,10 +7,12 @@ mod chain;
 mod copying;
 mod errors;
 mod functions;
+mod laws;
 mod linking;
 mod names;
 
 pub use chain::{Chain, ChainOf, Named, NamedOf};
 pub use errors::LinkError;
+pub use laws::{text_chain, text_chains};
 pub use linking::link;
 pub use names::are_names;
