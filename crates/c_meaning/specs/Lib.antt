@@ -1,4 +1,7 @@
 pub mod Arguments
+pub mod Parts
+pub mod Reaching
+pub mod Turning
 pub use Rattle.c_program.specs.Meaning
 pub use Rattle.lang_programs.specs.Written
 pub use Rattle.c_checker_rules.specs.Checked

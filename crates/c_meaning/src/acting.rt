@@ -1,12 +1,13 @@
 //! One step of a run.
 
-ghost use Rattle.std.specs.Prelude.{◌+◌, ◌<◌, ◌≤◌, IfOk};
+ghost use Rattle.std.specs.Prelude.{◌≤◌, ◌<◌, IfOk};
+ghost use Rattle.c_program.specs.Trees.{Sequence, Give, Store};
 ghost use Rattle.c_program.specs.Views.{term_tree, given_tree, action_tree, actions_tree};
-ghost use Rattle.c_program.specs.State.{word};
-ghost use Rattle.c_program.specs.Meaning.{Falls, Turns, branches, stores, gives, exec, exec_all, level};
-ghost use Rattle.c_meaning_machine.specs.Costs.{cost, cost_all, given_cost, level_cost, later_cost};
-ghost use Rattle.c_meaning_machine.specs.Resume.{functions_of, here, later};
-ghost use Rattle.c_meaning_machine.specs.Steps.{Meets, next_cost};
+ghost use Rattle.c_program.specs.Meaning.{Falls};
+ghost use Rattle.c_meaning.specs.Parts.{choice_tree, loop_work};
+ghost use Rattle.c_meaning.specs.Reaching.{Reaches, Does, CostFalls, CostsAtMost, level_of};
+ghost use Rattle.c_meaning_machine.specs.Costs.{later_cost};
+ghost use Rattle.c_meaning_machine.specs.Steps.{next_cost};
 
 use crate::arriving::{arrive, store};
 use crate::calling::call;
@@ -19,8 +20,8 @@ use lang_base::{NoMemory, Shown};
 /// What gives a value is done, and the value goes to its target.
 #[tactic(auto, using(c_meaning_machine::proofs::Stops::resume_fails))]
 fn give<'a>(machine: &mut Machine<'a>, target: Target, value: &'a Value) -> Result<Next, NoMemory>
-    ensures meaning { IfOk result (λ next. Meets next machine.new (λ output. later machine.old (gives (level (functions_of machine.old) machine.old.bound) target (given_tree value.now) (here machine.old output)))) }
-    ensures cost { IfOk result (λ next. next_cost next machine.new < given_cost (level_cost (functions_of machine.old) machine.old.bound) (given_tree value.now) + later_cost machine.old) }
+    ensures meaning { IfOk result (Does machine.old machine.new (Give target (given_tree value.now))) }
+    ensures cost { IfOk result (CostFalls machine.old machine.new (Give target (given_tree value.now))) }
 {
     match value {
         Value::Term(term) => match evaluate_here(machine, term) {
@@ -38,7 +39,7 @@ fn give<'a>(machine: &mut Machine<'a>, target: Target, value: &'a Value) -> Resu
 /// A cell becomes what an expression gives.
 #[tactic(auto, using(c_meaning_machine::proofs::Stops::resume_fails))]
 fn store_value(machine: &mut Machine, global: usize, index: &Term, value: &Term) -> Next
-    ensures meaning { Meets result machine.new (λ output. later machine.old (stores global (here machine.old output) (word (term_tree index.now) (here machine.old output)) (word (term_tree value.now) (here machine.old output)))) }
+    ensures meaning { Does machine.old machine.new (Store global (term_tree index.now) (term_tree value.now)) result }
     ensures cost { next_cost result machine.new ≤ later_cost machine.old }
 {
     let Some(index) = evaluate_here(machine, index) else {
@@ -58,8 +59,8 @@ fn choose<'a>(
     then: &'a Action,
     other: &'a Action,
 ) -> Result<Next, NoMemory>
-    ensures meaning { IfOk result (λ next. Meets next machine.new (λ output. later machine.old (branches (here machine.old output) (word (term_tree condition.now) (here machine.old output)) (exec (level (functions_of machine.old) machine.old.bound) (action_tree then.now) (here machine.old output)) (exec (level (functions_of machine.old) machine.old.bound) (action_tree other.now) (here machine.old output))))) }
-    ensures cost { IfOk result (λ next. next_cost next machine.new ≤ 1 + (cost (level_cost (functions_of machine.old) machine.old.bound) (action_tree then.now) + cost (level_cost (functions_of machine.old) machine.old.bound) (action_tree other.now)) + later_cost machine.old) }
+    ensures meaning { IfOk result (Does machine.old machine.new (choice_tree condition.now then.now other.now)) }
+    ensures cost { IfOk result (CostFalls machine.old machine.new (choice_tree condition.now then.now other.now)) }
 {
     let Some(word) = evaluate_here(machine, condition) else {
         return Ok(Next::Stops(Shown::Wrong));
@@ -74,8 +75,8 @@ fn choose<'a>(
 /// The next action is done.
 #[tactic(auto, using(c_program::proofs::Sequences::view_sequence))]
 fn act<'a>(machine: &mut Machine<'a>, action: &'a Action) -> Result<Next, NoMemory>
-    ensures meaning { IfOk result (λ next. Meets next machine.new (λ output. later machine.old (exec (level (functions_of machine.old) machine.old.bound) (action_tree action.now) (here machine.old output)))) }
-    ensures cost { IfOk result (λ next. next_cost next machine.new < cost (level_cost (functions_of machine.old) machine.old.bound) (action_tree action.now) + later_cost machine.old) }
+    ensures meaning { IfOk result (Does machine.old machine.new (action_tree action.now)) }
+    ensures cost { IfOk result (CostFalls machine.old machine.new (action_tree action.now)) }
 {
     match action {
         Action::Nothing => Ok(Next::Goes),
@@ -96,8 +97,8 @@ fn act<'a>(machine: &mut Machine<'a>, action: &'a Action) -> Result<Next, NoMemo
 
 /// A sequence begins.
 fn begin_sequence<'a>(machine: &mut Machine<'a>, all: &'a [Action]) -> Result<Next, NoMemory>
-    ensures meaning { IfOk result (λ next. Meets next machine.new (λ output. later machine.old (exec_all (level (functions_of machine.old) machine.old.bound) (actions_tree all.entry.now) (here machine.old output)))) }
-    ensures cost { IfOk result (λ next. next_cost next machine.new ≤ 1 + cost_all (level_cost (functions_of machine.old) machine.old.bound) (actions_tree all.entry.now) + later_cost machine.old) }
+    ensures meaning { IfOk result (Does machine.old machine.new (Sequence (actions_tree all.entry.now))) }
+    ensures cost { IfOk result (CostFalls machine.old machine.new (Sequence (actions_tree all.entry.now))) }
 {
     machine
         .left
@@ -113,8 +114,8 @@ fn begin_loop<'a>(
     body: &'a Action,
     behind: &'a Action,
 ) -> Result<Next, NoMemory>
-    ensures meaning { IfOk result (λ next. Meets next machine.new (λ output. later machine.old (level (functions_of machine.old) machine.old.bound (Turns (term_tree condition.now) (action_tree body.now) (action_tree behind.now)) (here machine.old output)))) }
-    ensures cost { IfOk result (λ next. next_cost next machine.new ≤ level_cost (functions_of machine.old) machine.old.bound (Turns (term_tree condition.now) (action_tree body.now) (action_tree behind.now)) + later_cost machine.old) }
+    ensures meaning { IfOk result (Reaches machine.old machine.new (level_of machine.old (loop_work condition.now body.now behind.now))) }
+    ensures cost { IfOk result (CostsAtMost machine.old machine.new (loop_work condition.now body.now behind.now)) }
 {
     let bound = machine.bound;
     machine.left.push(Left::Rest(bound, machine.actions))?;
@@ -129,7 +130,7 @@ fn begin_loop<'a>(
 
 /// The next step: the next action, or where there is none, what waits.
 pub fn step(machine: &mut Machine) -> Result<Next, NoMemory>
-    ensures meaning { IfOk result (λ next. Meets next machine.new (λ output. later machine.old (Falls (here machine.old output)))) }
+    ensures meaning { IfOk result (Reaches machine.old machine.new Falls) }
     ensures cost { IfOk result (λ next. next_cost next machine.new < later_cost machine.old) }
 {
     match machine.actions {

@@ -2,9 +2,9 @@
 
 ghost use Rattle.std.specs.Prelude.{◌≡◌, ◌≤◌, MatchOption, IfSome, IfNone};
 ghost use Rattle.c_program.specs.Meaning.{arrives, stores};
+ghost use Rattle.c_meaning.specs.Reaching.{Reaches};
 ghost use Rattle.c_meaning_machine.specs.Costs.{later_cost};
-ghost use Rattle.c_meaning_machine.specs.Resume.{here, later};
-ghost use Rattle.c_meaning_machine.specs.Steps.{Meets, next_cost};
+ghost use Rattle.c_meaning_machine.specs.Steps.{next_cost};
 
 use crate::leaving::returns;
 use c_meaning_machine::{Machine, Next, set_local, store_cell};
@@ -14,7 +14,7 @@ use lang_base::Shown;
 /// A word goes to a variable, or nowhere. One that goes to the caller is left to the caller of this.
 #[tactic(auto, using(c_meaning_machine::proofs::Stops::resume_fails))]
 pub fn settle(machine: &mut Machine, target: Target, word: u32) -> Option<Next>
-    ensures meaning { MatchOption result (target ≡ Target.Caller) (λ next. Meets next machine.new (λ output. later machine.old (arrives target word (here machine.old output)))) }
+    ensures meaning { MatchOption result (target ≡ Target.Caller) (Reaches machine.old machine.new (arrives target word)) }
     ensures cost { IfSome result (λ next. next_cost next machine.new ≤ later_cost machine.old) }
     ensures same { IfNone result (machine.new ≡ machine.old) }
 {
@@ -32,7 +32,7 @@ pub fn settle(machine: &mut Machine, target: Target, word: u32) -> Option<Next>
 /// A cell becomes a word.
 #[tactic(auto, using(c_meaning_machine::proofs::Stops::resume_fails))]
 pub fn store(machine: &mut Machine, global: usize, index: u32, word: u32) -> Next
-    ensures meaning { Meets result machine.new (λ output. later machine.old (stores global (here machine.old output) (Some index) (Some word))) }
+    ensures meaning { Reaches machine.old machine.new (λ s. stores global s (Some index) (Some word)) result }
     ensures cost { next_cost result machine.new ≤ later_cost machine.old }
 {
     if store_cell(&mut machine.globals, global, index, word) {
@@ -44,7 +44,7 @@ pub fn store(machine: &mut Machine, global: usize, index: u32, word: u32) -> Nex
 
 /// A word goes to its target.
 pub fn arrive(machine: &mut Machine, target: Target, word: u32) -> Next
-    ensures meaning { Meets result machine.new (λ output. later machine.old (arrives target word (here machine.old output))) }
+    ensures meaning { Reaches machine.old machine.new (arrives target word) result }
     ensures cost { next_cost result machine.new ≤ later_cost machine.old }
 {
     match settle(machine, target, word) {

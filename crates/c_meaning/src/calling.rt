@@ -1,13 +1,11 @@
 //! Calls of functions with a body.
 
-ghost use Rattle.std.specs.Prelude.{◌≡◌, ℕ, ◌+◌, ◌-◌, ◌<◌, ◌≤◌, List, [], ◌++◌, IfOk, OnOk, IfSome, MatchOption, length, drop, map, replicate, slice_get};
-ghost use Rattle.c_program.specs.Views.{term_tree, actions_tree, function_tree};
-ghost use Rattle.c_program.specs.State.{State, words};
-ghost use Rattle.c_program.specs.Meaning.{Level, Calls, Falls, Fails, calls, enters, level};
-ghost use Rattle.c_meaning.specs.Arguments.{IsPlaced, body_of, called_of};
-ghost use Rattle.c_meaning_machine.specs.Costs.{Costs, body_cost, cost_all, level_cost, later_cost};
-ghost use Rattle.c_meaning_machine.specs.Resume.{functions_of, here, later};
-ghost use Rattle.c_meaning_machine.specs.Steps.{Meets, next_cost};
+ghost use Rattle.std.specs.Prelude.{◌≡◌, ◌+◌, ◌<◌, ◌≤◌, [], ◌++◌, IfOk, OnOk, IfSome, IfNone, length, replicate};
+ghost use Rattle.c_program.specs.Meaning.{Calls};
+ghost use Rattle.c_meaning.specs.Arguments.{ArePlaced, EntersNone, Enters, CostsItsBody, Begins, called_cost};
+ghost use Rattle.c_meaning.specs.Parts.{call_tree};
+ghost use Rattle.c_meaning.specs.Reaching.{Does, CostsAtMost};
+ghost use Rattle.c_meaning_machine.specs.Costs.{later_cost};
 
 use c_meaning_machine::{Cells, Left, Machine, Next, Waiting, evaluate, frame};
 use c_program::{Called, Function, Target, Term};
@@ -21,7 +19,7 @@ fn push_arguments(
     base: usize,
     globals: &[Cells],
 ) -> Result<bool, NoMemory>
-    ensures { IfOk result (λ done. IsPlaced done (words (map term_tree arguments.now) (record { locals = drop base locals.old.items; globals = globals.now; output = [] })) locals.old.items locals.new.items) }
+    ensures { IfOk result (ArePlaced arguments.now base globals.now locals.old.items locals.new.items) }
 {
     let end = locals.len();
     for argument in arguments {
@@ -51,8 +49,9 @@ pub(crate) fn function_at(
     number: usize,
     parameters: usize,
 ) -> Option<&Function>
-    ensures meaning { MatchOption result ((lower : Level) (ws : List ℕ) (s : State) → length ws ≡ parameters → enters lower (slice_get (map function_tree functions.now) number) ws s ≡ Fails s.output) (λ f. (lower : Level) (ws : List ℕ) (s : State) → length ws ≡ parameters → enters lower (slice_get (map function_tree functions.now) number) ws s ≡ body_of lower (function_tree f.now) ws s) }
-    ensures cost { IfSome result (λ f. (lower : Costs) → body_cost lower (slice_get (map function_tree functions.now) number) ≡ cost_all lower (actions_tree f.now.body)) }
+    ensures missing { IfNone result (EntersNone functions.now number parameters) }
+    ensures found { IfSome result (λ f. Enters functions.now number parameters f.now) }
+    ensures cost { IfSome result (λ f. CostsItsBody functions.now number f.now) }
 {
     if number < functions.len() {
         let function = &functions[number];
@@ -72,8 +71,8 @@ fn begin<'a>(
 ) -> Result<(), NoMemory>
     requires bound { 0 < machine.old.bound }
     requires end { end ≤ length machine.old.locals.items }
-    ensures meaning { OnOk result ((output : List ℕ) → later machine.new (Falls (here machine.new output)) ≡ called_of machine.old target end (function_tree function.now) output) }
-    ensures cost { OnOk result (later_cost machine.new ≤ 2 + cost_all (level_cost (functions_of machine.old) (machine.old.bound - 1)) (actions_tree function.now.body) + later_cost machine.old) }
+    ensures meaning { OnOk result (Begins machine.old machine.new target end function.now) }
+    ensures cost { OnOk result (later_cost machine.new ≤ called_cost machine.old function.now + later_cost machine.old) }
 {
     push_blank(
         &mut machine.locals,
@@ -99,8 +98,8 @@ pub fn call<'a>(
     target: Target,
     called: &'a Called,
 ) -> Result<Next, NoMemory>
-    ensures meaning { IfOk result (λ next. Meets next machine.new (λ output. later machine.old (calls (level (functions_of machine.old) machine.old.bound) called.now.function target (here machine.old output) (words (map term_tree called.now.arguments) (here machine.old output))))) }
-    ensures cost { IfOk result (λ next. next_cost next machine.new ≤ level_cost (functions_of machine.old) machine.old.bound (Calls called.now.function []) + later_cost machine.old) }
+    ensures meaning { IfOk result (Does machine.old machine.new (call_tree target called.now)) }
+    ensures cost { IfOk result (CostsAtMost machine.old machine.new (Calls called.now.function [])) }
 {
     let end = machine.locals.len();
     let arguments = called.arguments.as_slice();

@@ -1,11 +1,11 @@
 //! What is done where a statement leaves: the stack is searched for what goes on.
 
-ghost use Rattle.std.specs.Prelude.{◌≡◌, ◌+◌, ◌≤◌, ℕ, List, IfOk, IfSome, IfNone, MatchOption};
+ghost use Rattle.std.specs.Prelude.{◌≡◌, ◌+◌, ◌≤◌, IfOk, IfSome, IfNone};
 ghost use Rattle.c_program.specs.Meaning.{Breaks, Continues, Returns, Falls, ends};
+ghost use Rattle.c_meaning.specs.Reaching.{ReachesRest, ReachesCaller, ComesBack};
 ghost use Rattle.c_meaning_machine.specs.Costs.{rest_cost};
-ghost use Rattle.c_meaning_machine.specs.Resume.{here, rest_of, back_of};
 ghost use Rattle.c_meaning_machine.specs.Stacks.{waiting};
-ghost use Rattle.c_meaning_machine.specs.Steps.{Meets, next_cost};
+ghost use Rattle.c_meaning_machine.specs.Steps.{next_cost};
 
 use crate::arriving::settle;
 use crate::looping::{after_body, turn};
@@ -16,7 +16,7 @@ use lang_base::{NoMemory, Shown};
 /// `break`: the nearest loop is left.
 #[tactic(auto, using(c_meaning_machine::proofs::Stops::resume_fails))]
 pub fn breaks(machine: &mut Machine) -> Next
-    ensures meaning { Meets result machine.new (λ output. rest_of machine.old (Breaks (here machine.old output))) }
+    ensures meaning { ReachesRest machine.old machine.new Breaks result }
     ensures cost { next_cost result machine.new ≤ 1 + rest_cost machine.old }
 {
     while let Some(left) = machine.left.pop() {
@@ -35,7 +35,7 @@ pub fn breaks(machine: &mut Machine) -> Next
 /// `continue`: the rest of the nearest loop's body is left out.
 #[tactic(auto, using(c_meaning_machine::proofs::Stops::resume_fails))]
 pub fn continues(machine: &mut Machine) -> Result<Next, NoMemory>
-    ensures meaning { IfOk result (λ next. Meets next machine.new (λ output. rest_of machine.old (Continues (here machine.old output)))) }
+    ensures meaning { IfOk result (ReachesRest machine.old machine.new Continues) }
     ensures cost { IfOk result (λ next. next_cost next machine.new ≤ rest_cost machine.old) }
 {
     while let Some(left) = machine.left.pop() {
@@ -52,7 +52,7 @@ pub fn continues(machine: &mut Machine) -> Result<Next, NoMemory>
 /// word, that is left to the caller of this.
 #[tactic(auto, using(c_meaning_machine::proofs::Stops::resume_fails))]
 fn come_back(machine: &mut Machine, caller: Waiting, word: Option<u32>) -> Option<Next>
-    ensures meaning { MatchOption result ((output : List ℕ) → back_of machine.old caller (Returns word (here machine.old output)) ≡ rest_of machine.new (Returns word (here machine.new output))) (λ next. Meets next machine.new (λ output. back_of machine.old caller (Returns word (here machine.old output)))) }
+    ensures meaning { ComesBack machine.old machine.new caller word result }
     ensures cost { IfSome result (λ next. next_cost next machine.new ≤ 1 + rest_cost machine.old) }
     ensures left { IfNone result (waiting machine.new.left ≡ waiting machine.old.left) }
     ensures functions { IfNone result (machine.new.functions ≡ machine.old.functions) }
@@ -69,7 +69,7 @@ fn come_back(machine: &mut Machine, caller: Waiting, word: Option<u32>) -> Optio
 
 /// `return`, with a word or without: the nearest caller goes on.
 pub fn returns(machine: &mut Machine, word: Option<u32>) -> Next
-    ensures meaning { Meets result machine.new (λ output. rest_of machine.old (Returns word (here machine.old output))) }
+    ensures meaning { ReachesRest machine.old machine.new (Returns word) result }
     ensures cost { next_cost result machine.new ≤ 1 + rest_cost machine.old }
 {
     while let Some(left) = machine.left.pop() {
@@ -88,7 +88,7 @@ pub fn returns(machine: &mut Machine, word: Option<u32>) -> Next
 /// The end of a function's body is reached.
 #[tactic(auto, using(c_meaning_machine::proofs::Stops::resume_fails))]
 fn reach_end(machine: &mut Machine, caller: Waiting) -> Next
-    ensures meaning { Meets result machine.new (λ output. back_of machine.old caller (ends caller.ending (Falls (here machine.old output)))) }
+    ensures meaning { ReachesCaller machine.old machine.new caller (λ s. ends caller.ending (Falls s)) result }
     ensures cost { next_cost result machine.new ≤ 1 + rest_cost machine.old }
 {
     let word = match caller.ending {
@@ -104,7 +104,7 @@ fn reach_end(machine: &mut Machine, caller: Waiting) -> Next
 
 /// What is done now has fallen through: what waits on top is done.
 pub fn falls(machine: &mut Machine) -> Result<Next, NoMemory>
-    ensures meaning { IfOk result (λ next. Meets next machine.new (λ output. rest_of machine.old (Falls (here machine.old output)))) }
+    ensures meaning { IfOk result (ReachesRest machine.old machine.new Falls) }
     ensures cost { IfOk result (λ next. next_cost next machine.new ≤ rest_cost machine.old) }
 {
     match machine.left.pop() {

@@ -1,14 +1,14 @@
 //! Turns of loops.
 
-ghost use Rattle.std.specs.Prelude.{◌≡◌, ℕ, ◌+◌, ◌-◌, ◌<◌, ◌≤◌, List, [], IfOk, MatchOption};
+ghost use Rattle.std.specs.Prelude.{◌≡◌, ◌<◌, ◌≤◌, [], IfOk};
 ghost use Rattle.std.specs.Option.{option_map};
 ghost use Rattle.c_program.specs.Views.{term_tree, action_tree, actions_tree};
-ghost use Rattle.c_program.specs.State.{State, word};
-ghost use Rattle.c_program.specs.Meaning.{Level, Falls, exec, exec_all, level, after_body, turns_again};
+ghost use Rattle.c_program.specs.State.{word};
+ghost use Rattle.c_meaning.specs.Reaching.{ReachesRest, RestCostsAtMost};
+ghost use Rattle.c_meaning.specs.Turning.{loop_of, loop_cost, behind_of_loop, loop_behind_cost, TurnsOnce, TurnCostsAtMost, TurnsBody, BodyCostsAtMost, TurnsBehind, BehindCostsAtMost, DoTheSame};
 ghost use Rattle.c_meaning_machine.specs.AtOnce.{holds};
-ghost use Rattle.c_meaning_machine.specs.Costs.{Costs, cost, cost_all, level_cost, behind_cost, rest_cost};
-ghost use Rattle.c_meaning_machine.specs.Resume.{functions_of, here, rest_of, work_of};
-ghost use Rattle.c_meaning_machine.specs.Steps.{Meets, next_cost};
+ghost use Rattle.c_meaning_machine.specs.Costs.{Costs, cost, cost_all};
+ghost use Rattle.c_meaning_machine.specs.Resume.{here};
 
 use c_meaning_machine::{Cycle, Left, Machine, Next, at_once, evaluate, frame};
 use c_program::{Action, Term};
@@ -25,7 +25,7 @@ pub fn evaluate_here(machine: &Machine, term: &Term) -> Option<u32>
 /// An action as some in order.
 #[tactic(auto, using(c_meaning_machine::proofs::Levels::goes_on_to_nothing, c_program::proofs::Sequences::view_sequence))]
 pub fn listed(action: &Action) -> &[Action]
-    ensures meaning { (lower : Level) (s : State) → exec_all lower (actions_tree result.now) s ≡ exec lower (action_tree action.now) s }
+    ensures meaning { DoTheSame action.now result.now }
     ensures cost { (lower : Costs) → cost_all lower (actions_tree result.now) ≤ cost lower (action_tree action.now) }
 {
     match action {
@@ -45,8 +45,8 @@ fn holds_here(machine: &Machine, condition: &Term) -> Option<bool>
 /// A loop from its head on.
 #[tactic(auto, using(c_meaning_machine::proofs::Levels::level_none, c_meaning_machine::proofs::Stops::resume_runs_out))]
 pub fn turn<'a>(machine: &mut Machine<'a>, cycle: Cycle<'a>) -> Result<Next, NoMemory>
-    ensures meaning { IfOk result (λ next. Meets next machine.new (λ output. rest_of machine.old (level (functions_of machine.old) cycle.entry.bound (work_of cycle.entry) (here machine.old output)))) }
-    ensures cost { IfOk result (λ next. next_cost next machine.new ≤ level_cost (functions_of machine.old) cycle.entry.bound (work_of cycle.entry) + rest_cost machine.old) }
+    ensures meaning { IfOk result (ReachesRest machine.old machine.new (loop_of machine.old cycle.entry)) }
+    ensures cost { IfOk result (RestCostsAtMost machine.old machine.new (loop_cost machine.old cycle.entry)) }
 {
     let mut bound = cycle.bound;
     while bound > 0 {
@@ -62,8 +62,8 @@ pub fn turn<'a>(machine: &mut Machine<'a>, cycle: Cycle<'a>) -> Result<Next, NoM
 #[tactic(auto, using(c_meaning_machine::proofs::Levels::turn_fails, c_meaning_machine::proofs::Levels::turn_falls, c_meaning_machine::proofs::Levels::turn_begins, c_meaning_machine::proofs::Levels::cost_turns, c_meaning_machine::proofs::Levels::cost_some, c_meaning_machine::proofs::Stops::resume_fails))]
 fn one_turn<'a>(machine: &mut Machine<'a>, cycle: Cycle<'a>) -> Result<Option<Next>, NoMemory>
     requires { 0 < cycle.bound }
-    ensures meaning { IfOk result (λ answer. MatchOption answer ((output : List ℕ) → rest_of machine.old (level (functions_of machine.old) cycle.entry.bound (work_of cycle.entry) (here machine.old output)) ≡ rest_of machine.new (level (functions_of machine.new) (cycle.entry.bound - 1) (work_of cycle.entry) (here machine.new output))) (λ next. Meets next machine.new (λ output. rest_of machine.old (level (functions_of machine.old) cycle.entry.bound (work_of cycle.entry) (here machine.old output))))) }
-    ensures cost { IfOk result (λ answer. MatchOption answer (level_cost (functions_of machine.new) (cycle.entry.bound - 1) (work_of cycle.entry) + rest_cost machine.new ≤ level_cost (functions_of machine.old) cycle.entry.bound (work_of cycle.entry) + rest_cost machine.old) (λ next. next_cost next machine.new ≤ level_cost (functions_of machine.old) cycle.entry.bound (work_of cycle.entry) + rest_cost machine.old)) }
+    ensures meaning { IfOk result (TurnsOnce machine.old machine.new cycle.entry) }
+    ensures cost { IfOk result (TurnCostsAtMost machine.old machine.new cycle.entry) }
 {
     match holds_here(machine, cycle.condition) {
         None => Ok(Some(Next::Stops(Shown::Wrong))),
@@ -81,8 +81,8 @@ fn one_turn<'a>(machine: &mut Machine<'a>, cycle: Cycle<'a>) -> Result<Option<Ne
 /// The body of a loop, and what stands behind it. Where the answer is none, both are done.
 #[tactic(auto, using(c_meaning_machine::proofs::Stops::resume_fails))]
 fn body_turn<'a>(machine: &mut Machine<'a>, cycle: Cycle<'a>) -> Result<Option<Next>, NoMemory>
-    ensures meaning { IfOk result (λ answer. MatchOption answer ((output : List ℕ) → rest_of machine.old (after_body (level (functions_of machine.old) cycle.entry.bound) (term_tree cycle.entry.condition.now) (action_tree cycle.entry.body.now) (action_tree cycle.entry.behind.now) (exec (level (functions_of machine.old) cycle.entry.bound) (action_tree cycle.entry.body.now) (here machine.old output))) ≡ rest_of machine.new (level (functions_of machine.new) cycle.entry.bound (work_of cycle.entry) (here machine.new output))) (λ next. Meets next machine.new (λ output. rest_of machine.old (after_body (level (functions_of machine.old) cycle.entry.bound) (term_tree cycle.entry.condition.now) (action_tree cycle.entry.body.now) (action_tree cycle.entry.behind.now) (exec (level (functions_of machine.old) cycle.entry.bound) (action_tree cycle.entry.body.now) (here machine.old output)))))) }
-    ensures cost { IfOk result (λ answer. MatchOption answer (level_cost (functions_of machine.new) cycle.entry.bound (work_of cycle.entry) + rest_cost machine.new ≤ level_cost (functions_of machine.old) cycle.entry.bound (work_of cycle.entry) + rest_cost machine.old) (λ next. next_cost next machine.new ≤ 1 + (cost (level_cost (functions_of machine.old) cycle.entry.bound) (action_tree cycle.entry.body.now) + behind_cost (level_cost (functions_of machine.old) cycle.entry.bound) (term_tree cycle.entry.condition.now) (action_tree cycle.entry.body.now) (action_tree cycle.entry.behind.now)) + rest_cost machine.old)) }
+    ensures meaning { IfOk result (TurnsBody machine.old machine.new cycle.entry) }
+    ensures cost { IfOk result (BodyCostsAtMost machine.old machine.new cycle.entry) }
 {
     match at_once(
         &mut machine.locals,
@@ -104,8 +104,8 @@ fn body_turn<'a>(machine: &mut Machine<'a>, cycle: Cycle<'a>) -> Result<Option<N
 /// What stands behind a loop's body. Where the answer is none, it is done.
 #[tactic(auto, using(c_meaning_machine::proofs::Stops::resume_fails))]
 fn behind_turn<'a>(machine: &mut Machine<'a>, cycle: Cycle<'a>) -> Result<Option<Next>, NoMemory>
-    ensures meaning { IfOk result (λ answer. MatchOption answer ((output : List ℕ) → rest_of machine.old (turns_again (level (functions_of machine.old) cycle.entry.bound) (term_tree cycle.entry.condition.now) (action_tree cycle.entry.body.now) (action_tree cycle.entry.behind.now) (exec (level (functions_of machine.old) cycle.entry.bound) (action_tree cycle.entry.behind.now) (here machine.old output))) ≡ rest_of machine.new (level (functions_of machine.new) cycle.entry.bound (work_of cycle.entry) (here machine.new output))) (λ next. Meets next machine.new (λ output. rest_of machine.old (turns_again (level (functions_of machine.old) cycle.entry.bound) (term_tree cycle.entry.condition.now) (action_tree cycle.entry.body.now) (action_tree cycle.entry.behind.now) (exec (level (functions_of machine.old) cycle.entry.bound) (action_tree cycle.entry.behind.now) (here machine.old output)))))) }
-    ensures cost { IfOk result (λ answer. MatchOption answer (level_cost (functions_of machine.new) cycle.entry.bound (work_of cycle.entry) + rest_cost machine.new ≤ level_cost (functions_of machine.old) cycle.entry.bound (work_of cycle.entry) + rest_cost machine.old) (λ next. next_cost next machine.new ≤ behind_cost (level_cost (functions_of machine.old) cycle.entry.bound) (term_tree cycle.entry.condition.now) (action_tree cycle.entry.body.now) (action_tree cycle.entry.behind.now) + rest_cost machine.old)) }
+    ensures meaning { IfOk result (TurnsBehind machine.old machine.new cycle.entry) }
+    ensures cost { IfOk result (BehindCostsAtMost machine.old machine.new cycle.entry) }
 {
     match at_once(
         &mut machine.locals,
@@ -126,8 +126,8 @@ fn behind_turn<'a>(machine: &mut Machine<'a>, cycle: Cycle<'a>) -> Result<Option
 
 /// A loop whose body is done.
 pub fn after_body<'a>(machine: &mut Machine<'a>, cycle: Cycle<'a>) -> Result<Next, NoMemory>
-    ensures meaning { IfOk result (λ next. Meets next machine.new (λ output. rest_of machine.old (turns_again (level (functions_of machine.old) cycle.entry.bound) (term_tree cycle.entry.condition.now) (action_tree cycle.entry.body.now) (action_tree cycle.entry.behind.now) (exec (level (functions_of machine.old) cycle.entry.bound) (action_tree cycle.entry.behind.now) (here machine.old output))))) }
-    ensures cost { IfOk result (λ next. next_cost next machine.new ≤ behind_cost (level_cost (functions_of machine.old) cycle.entry.bound) (term_tree cycle.entry.condition.now) (action_tree cycle.entry.body.now) (action_tree cycle.entry.behind.now) + rest_cost machine.old) }
+    ensures meaning { IfOk result (ReachesRest machine.old machine.new (behind_of_loop machine.old cycle.entry)) }
+    ensures cost { IfOk result (RestCostsAtMost machine.old machine.new (loop_behind_cost machine.old cycle.entry)) }
 {
     match behind_turn(machine, cycle)? {
         Some(next) => Ok(next),

@@ -1,10 +1,9 @@
 //! Whole runs.
 
-ghost use Rattle.std.specs.Prelude.{[], map};
 ghost use Rattle.lang_programs.specs.Written.{Wrote};
-ghost use Rattle.c_program.specs.Views.{function_tree};
-ghost use Rattle.c_program.specs.Meaning.{Falls, crun, shown};
-ghost use Rattle.c_meaning_machine.specs.Resume.{here, later};
+ghost use Rattle.c_program.specs.Meaning.{crun};
+ghost use Rattle.c_meaning.specs.Parts.{program_of};
+ghost use Rattle.c_meaning.specs.Reaching.{still_shown};
 
 use crate::acting::step;
 use crate::arriving::arrive;
@@ -19,7 +18,7 @@ use std::io::Write;
 
 /// Steps until the run is over or its bound is spent.
 fn run<W: Write>(machine: &mut Machine, out: &mut W) -> Result<Shown, RunError>
-    ensures { Wrote (shown (later machine.old (Falls (here machine.old [])))) result (W.contents out.old) (W.contents out.new) }
+    ensures { Wrote (still_shown machine.old) result (W.contents out.old) (W.contents out.new) }
 {
     let mut next = Next::Goes;
     loop {
@@ -44,7 +43,7 @@ pub fn run_program<W: Write>(
     n: u32,
     out: &mut W,
 ) -> Result<Shown, RunError>
-    ensures { Wrote (crun (record { globals = globals.now; functions = map function_tree functions.now; main = main }) n) result (W.contents out.old) (W.contents out.new) }
+    ensures { Wrote (crun (program_of globals.now functions.now main) n) result (W.contents out.old) (W.contents out.new) }
 {
     match function_at(functions, main, 0) {
         None => Ok(Shown::Wrong),

@@ -1,10 +1,8 @@
 //! The start of a run.
 
-ghost use Rattle.std.specs.Prelude.{◌≡◌, [], IfOk, map, slice_index};
-ghost use Rattle.c_program.specs.Views.{function_tree};
-ghost use Rattle.c_program.specs.Meaning.{Falls, cells_of, level, shown, start};
-ghost use Rattle.c_meaning.specs.Arguments.{body_of};
-ghost use Rattle.c_meaning_machine.specs.Resume.{here, later};
+ghost use Rattle.std.specs.Prelude.{◌≡◌, IfOk, map, slice_index};
+ghost use Rattle.c_program.specs.Meaning.{cells_of};
+ghost use Rattle.c_meaning.specs.Arguments.{StartsMain};
 
 use crate::calling::push_blank;
 use c_meaning_machine::{Cells, Left, Machine, Stack, Waiting};
@@ -50,7 +48,7 @@ pub fn start<'a>(
     main: &'a Function,
     bound: u32,
 ) -> Result<Machine<'a>, NoMemory>
-    ensures { IfOk result (λ m. shown (later m (Falls (here m []))) ≡ shown (body_of (level (map function_tree functions.entry.now) bound) (function_tree main.entry.now) [] (start globals.now))) }
+    ensures { IfOk result (StartsMain globals.now functions.entry.now main.entry.now bound) }
 {
     let mut locals = Vec::new(alloc);
     push_blank(&mut locals, main.locals.saturating_sub(main.parameters))?;

@@ -42,7 +42,7 @@ returns-in-None-clause-meaning c = λ output.
     let back = λ (o : Outcome). shown (later m (comes_back c.args.target s.locals o)) in
     sym
     (ap after given.1 ∙ ap back (level_calls (functions_of m) m.bound c.args.called.now.function given.0 s bound)
-    ∙ ap back (c.in-None.ensures.meaning (level (functions_of m) (m.bound - 1)) given.0 s given.3)
+    ∙ ap back (c.in-None.ensures.missing (level (functions_of m) (m.bound - 1)) given.0 s given.3)
     ∙ ap shown (resume_fails (functions_of m) (waiting m.left) (take m.base m.locals.items) output))
 
 pub returns-in_ok-begin-in-Some-clause-meaning : goal.returns-in_ok-begin-in-Some-clause-meaning
@@ -69,7 +69,7 @@ returns-in_ok-begin-in-Some-clause-meaning c = λ output.
     ∙ ap (stands old) (ap (drop end) given.2 ∙ drop_at old (map Some given.0) end count)
     ∙ sym
     (ap after given.1 ∙ ap back (level_calls functions m.bound c.args.called.now.function given.0 s bound)
-    ∙ ap back (c.in-Some.ensures.meaning (level functions (m.bound - 1)) given.0 s given.3))
+    ∙ ap back (c.in-Some.ensures.found (level functions (m.bound - 1)) given.0 s given.3))
 
 pub returns-in_ok-begin-in-Some-clause-cost : goal.returns-in_ok-begin-in-Some-clause-cost
 returns-in_ok-begin-in-Some-clause-cost c =
