@@ -1,15 +1,14 @@
 //! Calls (C99 6.5.2.2).
 
-ghost use Rattle.std.specs.Prelude.{◌≡◌, [], map, length, IfOk, IfErr, OnOk, OnErr};
+ghost use Rattle.std.specs.Prelude.{◌≡◌, [], map, IfOk, IfErr, OnOk};
 ghost use Rattle.std.specs.Option.{option_map};
 ghost use Rattle.c_checker_scopes.specs.Bound.{found};
 ghost use Rattle.c_syntax.specs.Views.{expression_tree, call_tree, value_tree};
 ghost use Rattle.c_program.specs.Trees as P;
 ghost use Rattle.c_program.specs.Views.{term_tree, given_tree};
 ghost use Rattle.c_checker_rules.specs.Told.{Tells};
-ghost use Rattle.c_checker_rules.specs.Names as N;
-ghost use Rattle.c_checker_rules.specs.Terms.{term_of};
 ghost use Rattle.c_checker_rules.specs.Calls as C;
+ghost use Rattle.c_checker_terms.specs.Sources.{named_faults, terms_of};
 
 use crate::expressions::check_expression;
 use crate::functions::Functions;
@@ -45,8 +44,8 @@ fn check_callee(
     callee: &Identifier,
     arguments: usize,
 ) -> Result<(), CheckError>
-    ensures ok { OnOk result (C.callee_faults (C.has_body functions.now.bodies callee.now.name) wanted arguments callee.now.offset (C.called functions.now.signatures (N.meaning_of scope.now callee.now)) ≡ []) }
-    ensures err { IfErr result (λ e. Tells e (C.callee_faults (C.has_body functions.now.bodies callee.now.name) wanted arguments callee.now.offset (C.called functions.now.signatures (N.meaning_of scope.now callee.now)))) }
+    ensures ok { OnOk result (named_faults functions.now scope.now wanted callee.now arguments ≡ []) }
+    ensures err { IfErr result (λ e. Tells e (named_faults functions.now scope.now wanted callee.now arguments)) }
 {
     let at = callee.offset;
     let Some(Meaning::Function(number)) = meaning_of(scope, callee) else {
@@ -74,7 +73,7 @@ fn check_arguments(
     arguments: &[Expression],
 ) -> Result<Vec<Term>, CheckError>
     ensures ok { IfOk result (λ ts. C.arguments_faults scope.now (map expression_tree arguments.now) ≡ []) }
-    ensures terms { IfOk result (λ ts. map term_tree ts.items ≡ map (term_of scope.now) (map expression_tree arguments.now)) }
+    ensures terms { IfOk result (λ ts. map term_tree ts.items ≡ terms_of scope.now arguments.now) }
     ensures err { IfErr result (λ e. Tells e (C.arguments_faults scope.now (map expression_tree arguments.now))) }
 {
     let mut terms = Vec::new(alloc);

@@ -5,6 +5,7 @@ ghost use Rattle.c_program.specs.Trees as P;
 ghost use Rattle.c_program.specs.Views.{term_tree};
 ghost use Rattle.c_checker_rules.specs.Types.{common, unary_type, binary_type};
 ghost use Rattle.c_checker_rules.specs.Terms.{by_type, unary_term, binary_term};
+ghost use Rattle.c_checker_terms.specs.Sources.{binary_tree, choice_tree};
 
 use c_program::Term;
 use c_syntax::{BinaryOperator, IntegerType, UnaryOperator};
@@ -155,7 +156,7 @@ pub(crate) fn binary(
     right: Typed,
 ) -> Result<Typed, NoMemory>
     ensures kind { IfOk result (λ t. t.kind ≡ binary_type operator left.kind right.kind) }
-    ensures term { IfOk result (λ t. term_tree t.term ≡ binary_term operator left.kind right.kind (term_tree left.term) (term_tree right.term)) }
+    ensures term { IfOk result (λ t. term_tree t.term ≡ binary_tree operator left.kind right.kind left.term right.term) }
 {
     let kind = binary_type(operator, left.kind, right.kind);
     let kinds = (left.kind, right.kind);
@@ -171,7 +172,7 @@ pub(crate) fn conditional(
     right: Typed,
 ) -> Result<Typed, NoMemory>
     ensures kind { IfOk result (λ t. t.kind ≡ common left.kind right.kind) }
-    ensures term { IfOk result (λ t. term_tree t.term ≡ P.Conditional (term_tree condition.term) (term_tree left.term) (term_tree right.term)) }
+    ensures term { IfOk result (λ t. term_tree t.term ≡ choice_tree condition.term left.term right.term) }
 {
     let kind = common(left.kind, right.kind);
     let behind = boxes(alloc, condition.term, left.term);
