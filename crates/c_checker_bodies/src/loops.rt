@@ -1,13 +1,13 @@
 //! `for` and the turns of loops (C99 6.8.5).
 
 ghost use Rattle.std.specs.Prelude.{◌≡◌, [], OnOk, IfOk, IfErr};
-ghost use Rattle.c_syntax.specs.Views.{optional_tree, expression_tree, set_tree, start_tree};
+ghost use Rattle.c_syntax.specs.Views.{start_tree};
 ghost use Rattle.c_program.specs.Trees as P;
 ghost use Rattle.c_program.specs.Views.{term_tree, action_tree};
 ghost use Rattle.c_checker_rules.specs.Told.{Tells};
-ghost use Rattle.c_checker_rules.specs.Statements as S;
 ghost use Rattle.c_checker_rules.specs.Actions as A;
-ghost use Rattle.c_checker_bodies.specs.Loops.{turns_faults, heads_faults};
+ghost use Rattle.c_checker_bodies.specs.Sources.{condition_term, step_tree};
+ghost use Rattle.c_checker_bodies.specs.ForSources.{started, turn_faults, head_faults, head_condition, head_step, for_tree};
 
 use crate::here::Here;
 use crate::parts::{check_condition, check_start, check_step, two};
@@ -43,7 +43,7 @@ pub(crate) fn repeated(
 impl Heads {
     /// The `for` with this body.
     pub(crate) fn around(self, alloc: Global, body: Action) -> Result<Action, NoMemory>
-        ensures { IfOk result (λ a. action_tree a ≡ A.two (action_tree self.first.value) (P.Loop (term_tree self.condition) (action_tree body) (action_tree self.step))) }
+        ensures { IfOk result (λ a. action_tree a ≡ for_tree self.first.value self.condition body self.step) }
     {
         let Heads {
             first,
@@ -63,10 +63,10 @@ fn check_turns(
     condition: &Option<Expression>,
     step: &Option<Set>,
 ) -> Result<(Term, Action), CheckError>
-    ensures ok { OnOk result (turns_faults scope.now (optional_tree expression_tree condition.now) (optional_tree set_tree step.now) ≡ []) }
-    ensures condition { IfOk result (λ t. term_tree t.0 ≡ A.condition scope.now (optional_tree expression_tree condition.now)) }
-    ensures step { IfOk result (λ t. action_tree t.1 ≡ A.step_action scope.now (optional_tree set_tree step.now)) }
-    ensures err { IfErr result (λ e. Tells e (turns_faults scope.now (optional_tree expression_tree condition.now) (optional_tree set_tree step.now))) }
+    ensures ok { OnOk result (turn_faults scope.now condition.now step.now ≡ []) }
+    ensures condition { IfOk result (λ t. term_tree t.0 ≡ condition_term scope.now condition.now) }
+    ensures step { IfOk result (λ t. action_tree t.1 ≡ step_tree scope.now step.now) }
+    ensures err { IfErr result (λ e. Tells e (turn_faults scope.now condition.now step.now)) }
 {
     let condition = ok!(check_condition(alloc, scope, condition));
     beside(condition, check_step(alloc, scope, step))
@@ -82,12 +82,12 @@ pub(crate) fn check_heads(
     condition: &Option<Expression>,
     step: &Option<Set>,
 ) -> Result<Heads, CheckError>
-    ensures ok { OnOk result (heads_faults depth here.old (start_tree start.now) (optional_tree expression_tree condition.now) (optional_tree set_tree step.now) ≡ []) }
+    ensures ok { OnOk result (head_faults depth here.old start.now condition.now step.now ≡ []) }
     ensures first { IfOk result (λ h. action_tree h.first.value ≡ A.start_action depth here.old (start_tree start.now)) }
-    ensures condition { IfOk result (λ h. term_tree h.condition ≡ A.condition (S.with_start depth here.old (start_tree start.now)).scope (optional_tree expression_tree condition.now)) }
-    ensures step { IfOk result (λ h. action_tree h.step ≡ A.step_action (S.with_start depth here.old (start_tree start.now)).scope (optional_tree set_tree step.now)) }
-    ensures here { OnOk result (here.new ≡ S.with_start depth here.old (start_tree start.now)) }
-    ensures err { IfErr result (λ e. Tells e (heads_faults depth here.old (start_tree start.now) (optional_tree expression_tree condition.now) (optional_tree set_tree step.now))) }
+    ensures condition { IfOk result (λ h. term_tree h.condition ≡ head_condition depth here.old start.now condition.now) }
+    ensures step { IfOk result (λ h. action_tree h.step ≡ head_step depth here.old start.now step.now) }
+    ensures here { OnOk result (here.new ≡ started depth here.old start.now) }
+    ensures err { IfErr result (λ e. Tells e (head_faults depth here.old start.now condition.now step.now)) }
 {
     let first = Box::new(alloc, ok!(check_start(alloc, depth, here, start)))?;
     let (condition, step) = ok!(check_turns(alloc, &here.scope, condition, step));

@@ -1,19 +1,17 @@
 //! The parts of statements that hold no statement (C99 6.8).
 
-ghost use Rattle.std.specs.Prelude.{◌≡◌, [], ◌++◌, false, OnOk, IfOk, IfErr};
-ghost use Rattle.c_syntax.specs.Views.{optional_tree, expression_tree, call_tree, value_tree, set_tree, local_tree, start_tree};
-ghost use Rattle.c_program.specs.Trees as P;
+ghost use Rattle.std.specs.Prelude.{◌≡◌, [], false, OnOk, IfOk, IfErr};
+ghost use Rattle.c_syntax.specs.Views.{call_tree, set_tree, local_tree, start_tree};
 ghost use Rattle.c_program.specs.Views.{term_tree, action_tree};
 ghost use Rattle.c_checker_rules.specs.Told.{unless, Tells};
 ghost use Rattle.c_checker_rules.specs.Names as N;
-ghost use Rattle.c_checker_rules.specs.Terms.{array_number, term_of};
-ghost use Rattle.c_checker_rules.specs.Expressions.{variable_faults, array_faults, expression_faults};
-ghost use Rattle.c_checker_rules.specs.Calls.{call_faults, call_given, value_faults, value_given};
+ghost use Rattle.c_checker_rules.specs.Expressions.{variable_faults};
+ghost use Rattle.c_checker_rules.specs.Calls.{call_faults};
 ghost use Rattle.c_checker_rules.specs.Locals.{with_local};
 ghost use Rattle.c_checker_rules.specs.Statements as S;
 ghost use Rattle.c_checker_rules.specs.Actions as A;
 ghost use Rattle.c_checker_rules.specs.declared.errors.CheckError.TheVariants.{StrayBreak};
-ghost use Rattle.c_program.specs.declared.action.Target.TheVariants.{Nowhere};
+ghost use Rattle.c_checker_bodies.specs.Sources.{call_action, assignment_faults, assignment_action, store_faults, store_action, local_action, condition_faults, condition_term, step_faults, step_tree, return_faults, return_action};
 
 use crate::here::Here;
 use crate::locals::declare_local;
@@ -59,7 +57,7 @@ pub(crate) fn check_call_alone(
     call: &Call,
 ) -> Result<Action, CheckError>
     ensures ok { OnOk result (call_faults functions.now scope.now false (call_tree call.now) ≡ []) }
-    ensures action { IfOk result (λ a. action_tree a ≡ P.Give Nowhere (call_given functions.now scope.now (call_tree call.now))) }
+    ensures action { IfOk result (λ a. action_tree a ≡ call_action functions.now scope.now call.now) }
     ensures err { IfErr result (λ e. Tells e (call_faults functions.now scope.now false (call_tree call.now))) }
 {
     let value = ok!(check_call(alloc, functions, scope, false, call));
@@ -75,9 +73,9 @@ pub(crate) fn check_assignment(
     name: &Identifier,
     value: &c_syntax::Value,
 ) -> Result<Action, CheckError>
-    ensures ok { OnOk result (variable_faults (N.meaning_of scope.now name.now) name.now.offset ++ value_faults functions.now scope.now (value_tree value.now) ≡ []) }
-    ensures action { IfOk result (λ a. action_tree a ≡ P.Give (A.target_of (N.meaning_of scope.now name.now)) (value_given functions.now scope.now (value_tree value.now))) }
-    ensures err { IfErr result (λ e. Tells e (variable_faults (N.meaning_of scope.now name.now) name.now.offset ++ value_faults functions.now scope.now (value_tree value.now))) }
+    ensures ok { OnOk result (assignment_faults functions.now scope.now name.now value.now ≡ []) }
+    ensures action { IfOk result (λ a. action_tree a ≡ assignment_action functions.now scope.now name.now value.now) }
+    ensures err { IfErr result (λ e. Tells e (assignment_faults functions.now scope.now name.now value.now)) }
 {
     let target = ok!(check_target(scope, name));
     let value = ok!(check_value(alloc, functions, scope, value));
@@ -93,9 +91,9 @@ pub(crate) fn check_store(
     index: &Expression,
     value: &Expression,
 ) -> Result<Action, CheckError>
-    ensures ok { OnOk result (array_faults (N.meaning_of scope.now name.now) name.now.offset ++ expression_faults scope.now (expression_tree index.now) ++ expression_faults scope.now (expression_tree value.now) ≡ []) }
-    ensures action { IfOk result (λ a. action_tree a ≡ P.Store (array_number (N.meaning_of scope.now name.now)) (term_of scope.now (expression_tree index.now)) (term_of scope.now (expression_tree value.now))) }
-    ensures err { IfErr result (λ e. Tells e (array_faults (N.meaning_of scope.now name.now) name.now.offset ++ expression_faults scope.now (expression_tree index.now) ++ expression_faults scope.now (expression_tree value.now))) }
+    ensures ok { OnOk result (store_faults scope.now name.now index.now value.now ≡ []) }
+    ensures action { IfOk result (λ a. action_tree a ≡ store_action scope.now name.now index.now value.now) }
+    ensures err { IfErr result (λ e. Tells e (store_faults scope.now name.now index.now value.now)) }
 {
     let (number, _kind) = ok!(array(scope, name));
     let Typed { term: cell, .. } = ok!(check_expression(alloc, scope, index));
@@ -134,7 +132,7 @@ pub(crate) fn check_declaration(
     local: &Local,
 ) -> Result<Action, CheckError>
     ensures ok { OnOk result (S.declaration_faults functions.now depth here.old (local_tree local.now) ≡ []) }
-    ensures action { IfOk result (λ a. action_tree a ≡ A.declared functions.now (with_local depth here.old local.now.kind local.now.name).scope here.old.locals (optional_tree value_tree local.now.value)) }
+    ensures action { IfOk result (λ a. action_tree a ≡ local_action functions.now depth here.old local.now) }
     ensures here { OnOk result (here.new ≡ with_local depth here.old local.now.kind local.now.name) }
     ensures err { IfErr result (λ e. Tells e (S.declaration_faults functions.now depth here.old (local_tree local.now))) }
 {
@@ -180,9 +178,9 @@ pub(crate) fn check_condition(
     scope: &Scopes<Meaning>,
     condition: &Option<Expression>,
 ) -> Result<Term, CheckError>
-    ensures ok { OnOk result (S.optional_faults (expression_faults scope.now) (optional_tree expression_tree condition.now) ≡ []) }
-    ensures term { IfOk result (λ t. term_tree t ≡ A.condition scope.now (optional_tree expression_tree condition.now)) }
-    ensures err { IfErr result (λ e. Tells e (S.optional_faults (expression_faults scope.now) (optional_tree expression_tree condition.now))) }
+    ensures ok { OnOk result (condition_faults scope.now condition.now ≡ []) }
+    ensures term { IfOk result (λ t. term_tree t ≡ condition_term scope.now condition.now) }
+    ensures err { IfErr result (λ e. Tells e (condition_faults scope.now condition.now)) }
 {
     match condition {
         None => Ok(Term::Constant(1)),
@@ -199,9 +197,9 @@ pub(crate) fn check_step(
     scope: &Scopes<Meaning>,
     step: &Option<Set>,
 ) -> Result<Action, CheckError>
-    ensures ok { OnOk result (S.optional_faults (S.set_faults scope.now) (optional_tree set_tree step.now) ≡ []) }
-    ensures action { IfOk result (λ a. action_tree a ≡ A.step_action scope.now (optional_tree set_tree step.now)) }
-    ensures err { IfErr result (λ e. Tells e (S.optional_faults (S.set_faults scope.now) (optional_tree set_tree step.now))) }
+    ensures ok { OnOk result (step_faults scope.now step.now ≡ []) }
+    ensures action { IfOk result (λ a. action_tree a ≡ step_tree scope.now step.now) }
+    ensures err { IfErr result (λ e. Tells e (step_faults scope.now step.now)) }
 {
     match step {
         None => Ok(Action::Nothing),
@@ -231,9 +229,9 @@ pub(crate) fn check_return(
     at: usize,
     value: &Option<c_syntax::Value>,
 ) -> Result<Action, CheckError>
-    ensures ok { OnOk result (S.return_faults functions.now scope.now gives at (optional_tree value_tree value.now) ≡ []) }
-    ensures action { IfOk result (λ a. action_tree a ≡ A.returned functions.now scope.now (optional_tree value_tree value.now)) }
-    ensures err { IfErr result (λ e. Tells e (S.return_faults functions.now scope.now gives at (optional_tree value_tree value.now))) }
+    ensures ok { OnOk result (return_faults functions.now scope.now gives at value.now ≡ []) }
+    ensures action { IfOk result (λ a. action_tree a ≡ return_action functions.now scope.now value.now) }
+    ensures err { IfErr result (λ e. Tells e (return_faults functions.now scope.now gives at value.now)) }
 {
     match (gives, value) {
         (ReturnType::Void, None) => Ok(Action::Leave),

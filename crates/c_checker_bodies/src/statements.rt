@@ -2,14 +2,14 @@
 
 ghost use Rattle.std.specs.Prelude.{suc, ◌≡◌, ◌≤◌, ◌+◌, ◌-◌, [], length, drop, OnOk, IfOk, IfErr};
 ghost use Rattle.c_syntax.specs.Heights.{statement_height, statements_height};
-ghost use Rattle.c_syntax.specs.Views.{statement_tree, statements_tree, optional_tree, expression_tree, set_tree, start_tree};
+ghost use Rattle.c_syntax.specs.Views.{statement_tree, statements_tree};
 ghost use Rattle.c_program.specs.Trees as P;
 ghost use Rattle.c_program.specs.Views.{action_tree, actions_tree};
 ghost use Rattle.c_checker_rules.specs.Told.{Tells};
 ghost use Rattle.c_checker_rules.specs.Locals.{deeper, looping, left};
 ghost use Rattle.c_checker_rules.specs.Statements as S;
-ghost use Rattle.c_checker_rules.specs.Actions as A;
-ghost use Rattle.c_checker_bodies.specs.Loops.{for_faults, for_action};
+ghost use Rattle.c_checker_bodies.specs.Sources.{faults_in, action_for, faults_in_all, actions_for, behind_all};
+ghost use Rattle.c_checker_bodies.specs.ForSources.{NoneInFor, TellsOfFor, IsFor, behind_for};
 
 use crate::here::Here;
 use crate::loops::check_heads;
@@ -71,10 +71,10 @@ fn check_statement(
     statement: &Statement,
 ) -> Result<Action, CheckError>
     requires { place.depth + statement_height (statement_tree statement.now) ≤ 1000 }
-    ensures ok { OnOk result (S.statement_faults functions.now place here.old (statement_tree statement.now) ≡ []) }
-    ensures action { IfOk result (λ a. action_tree a ≡ A.action_of functions.now place.depth here.old (statement_tree statement.now)) }
+    ensures ok { OnOk result (faults_in functions.now place here.old statement.now ≡ []) }
+    ensures action { IfOk result (λ a. action_tree a ≡ action_for functions.now place here.old statement.now) }
     ensures here { OnOk result (here.new ≡ S.after place.depth here.old (statement_tree statement.now)) }
-    ensures err { IfErr result (λ e. Tells e (S.statement_faults functions.now place here.old (statement_tree statement.now))) }
+    ensures err { IfErr result (λ e. Tells e (faults_in functions.now place here.old statement.now)) }
 {
     match statement {
         Statement::Empty => Ok(Action::Nothing),
@@ -148,10 +148,10 @@ fn check_inner(
     statement: &Statement,
 ) -> Result<Box<Action>, CheckError>
     requires { place.depth + statement_height (statement_tree statement.now) ≤ 1000 }
-    ensures ok { OnOk result (S.statement_faults functions.now place here.old (statement_tree statement.now) ≡ []) }
-    ensures action { IfOk result (λ a. action_tree a.value ≡ A.action_of functions.now place.depth here.old (statement_tree statement.now)) }
+    ensures ok { OnOk result (faults_in functions.now place here.old statement.now ≡ []) }
+    ensures action { IfOk result (λ a. action_tree a.value ≡ action_for functions.now place here.old statement.now) }
     ensures here { OnOk result (here.new ≡ left here.old (S.after place.depth here.old (statement_tree statement.now))) }
-    ensures err { IfErr result (λ e. Tells e (S.statement_faults functions.now place here.old (statement_tree statement.now))) }
+    ensures err { IfErr result (λ e. Tells e (faults_in functions.now place here.old statement.now)) }
 {
     let mark = here.scope.len();
     let action = ok!(check_statement(alloc, functions, place, here, statement));
@@ -170,10 +170,10 @@ fn check_block(
     all: &[Statement],
 ) -> Result<Vec<Action>, CheckError>
     requires { place.depth + suc (statements_height (statements_tree all.now)) ≤ 1000 }
-    ensures ok { OnOk result (S.statements_faults functions.now (deeper place) here.old (statements_tree all.now) ≡ []) }
-    ensures actions { IfOk result (λ a. actions_tree a.items ≡ A.actions_of functions.now (suc place.depth) here.old (statements_tree all.now)) }
-    ensures here { OnOk result (here.new ≡ left here.old (S.after_all (suc place.depth) here.old (statements_tree all.now))) }
-    ensures err { IfErr result (λ e. Tells e (S.statements_faults functions.now (deeper place) here.old (statements_tree all.now))) }
+    ensures ok { OnOk result (faults_in_all functions.now (deeper place) here.old all.now ≡ []) }
+    ensures actions { IfOk result (λ a. actions_tree a.items ≡ actions_for functions.now (deeper place) here.old all.now) }
+    ensures here { OnOk result (here.new ≡ left here.old (behind_all (deeper place) here.old all.now)) }
+    ensures err { IfErr result (λ e. Tells e (faults_in_all functions.now (deeper place) here.old all.now)) }
 {
     let mark = here.scope.len();
     let actions = ok!(check_statements(alloc, functions, deeper(place), here, all));
@@ -195,10 +195,10 @@ fn check_for(
     inner: &Statement,
 ) -> Result<Action, CheckError>
     requires { place.depth + statement_height (statement_tree inner.now) ≤ 1000 }
-    ensures ok { OnOk result (for_faults functions.now place here.old (start_tree start.now) (optional_tree expression_tree condition.now) (optional_tree set_tree step.now) (statement_tree inner.now) ≡ []) }
-    ensures action { IfOk result (λ a. action_tree a ≡ for_action functions.now place.depth here.old (start_tree start.now) (optional_tree expression_tree condition.now) (optional_tree set_tree step.now) (statement_tree inner.now)) }
-    ensures here { OnOk result (here.new ≡ left here.old (S.after place.depth (S.with_start place.depth here.old (start_tree start.now)) (statement_tree inner.now))) }
-    ensures err { IfErr result (λ e. Tells e (for_faults functions.now place here.old (start_tree start.now) (optional_tree expression_tree condition.now) (optional_tree set_tree step.now) (statement_tree inner.now))) }
+    ensures ok { OnOk result (NoneInFor functions.now place here.old start.now condition.now step.now inner.now) }
+    ensures action { IfOk result (IsFor functions.now place here.old start.now condition.now step.now inner.now) }
+    ensures here { OnOk result (here.new ≡ left here.old (behind_for place here.old start.now inner.now)) }
+    ensures err { IfErr result (TellsOfFor functions.now place here.old start.now condition.now step.now inner.now) }
 {
     let mark = here.scope.len();
     let heads = ok!(check_heads(alloc, place.depth, here, start, condition, step));
@@ -219,10 +219,10 @@ pub fn check_statements(
     all: &[Statement],
 ) -> Result<Vec<Action>, CheckError>
     requires { place.depth + statements_height (statements_tree all.now) ≤ 1000 }
-    ensures ok { OnOk result (S.statements_faults functions.now place here.old (statements_tree all.now) ≡ []) }
-    ensures actions { IfOk result (λ a. actions_tree a.items ≡ A.actions_of functions.now place.depth here.old (statements_tree all.now)) }
-    ensures here { OnOk result (here.new ≡ S.after_all place.depth here.old (statements_tree all.now)) }
-    ensures err { IfErr result (λ e. Tells e (S.statements_faults functions.now place here.old (statements_tree all.now))) }
+    ensures ok { OnOk result (faults_in_all functions.now place here.old all.now ≡ []) }
+    ensures actions { IfOk result (λ a. actions_tree a.items ≡ actions_for functions.now place here.old all.now) }
+    ensures here { OnOk result (here.new ≡ behind_all place here.old all.now) }
+    ensures err { IfErr result (λ e. Tells e (faults_in_all functions.now place here.old all.now)) }
 {
     let mut actions = Vec::new(alloc);
     for statement in all {
