@@ -1,2 +1,3 @@
 pub mod Parameters
 pub mod Meant
+pub mod Sources

@@ -2,6 +2,7 @@
 
 ghost use Rattle.std.specs.Prelude.{◌≡◌, OnOk};
 ghost use Rattle.c_checker_rules.specs.Functions as F;
+ghost use Rattle.c_checker_declarations.specs.Sources.{signed_with};
 
 use c_checker_rules::{Meaning, Signature};
 use c_checker_scopes::Scopes;
@@ -19,7 +20,7 @@ pub fn declare_function(
     signature: Signature,
 ) -> Result<(), NoMemory>
     ensures scope { OnOk result (scope.new ≡ F.with_function functions.old.signatures scope.old name.now) }
-    ensures signatures { OnOk result (functions.new.signatures ≡ F.with_signature functions.old.signatures scope.old name.now signature) }
+    ensures signatures { OnOk result (functions.new.signatures ≡ signed_with functions.old scope.old name.now signature) }
     ensures bodies { OnOk result (functions.new.bodies ≡ functions.old.bodies) }
 {
     if scope.find(name.name.as_slice()).is_some() {

@@ -1,14 +1,13 @@
 //! Functions with bodies, and prototypes (C99 6.7.5.3 and 6.9.1).
 
-ghost use Rattle.std.specs.Prelude.{◌≡◌, ◌≤◌, ◌+◌, ◌-◌, ◌++◌, [], length, drop, map, OnOk, IfOk, IfErr};
+ghost use Rattle.std.specs.Prelude.{◌≡◌, ◌≤◌, ◌+◌, ◌-◌, [], length, drop, OnOk, IfOk, IfErr};
 ghost use Rattle.c_syntax.specs.Heights.{statements_height};
 ghost use Rattle.c_syntax.specs.Views.{statements_tree, function_tree};
 ghost use Rattle.c_program.specs.Views as V;
 ghost use Rattle.c_checker_rules.specs.Told.{Tells};
-ghost use Rattle.c_checker_rules.specs.Statements as S;
-ghost use Rattle.c_checker_rules.specs.Actions as A;
 ghost use Rattle.c_checker_rules.specs.Functions as F;
 ghost use Rattle.c_checker_declarations.specs.Parameters.{from_none};
+ghost use Rattle.c_checker_declarations.specs.Sources.{body_actions, behind_body, function_for};
 
 use crate::parameters::{check_open_parameters, check_parameters};
 use c_checker_bodies::{Here, check_statements};
@@ -51,8 +50,8 @@ fn check_body(
 ) -> Result<Vec<Action>, CheckError>
     requires { 1 + statements_height (statements_tree function.now.body) ≤ 200 }
     ensures ok { OnOk result (F.body_faults functions.now here.old.scope (function_tree function.now) ≡ []) }
-    ensures actions { IfOk result (λ a. V.actions_tree a.items ≡ A.actions_of functions.now 1 (F.entered here.old.scope (function_tree function.now)) (statements_tree function.now.body)) }
-    ensures here { OnOk result (here.new ≡ S.after_all 1 (F.entered here.old.scope (function_tree function.now)) (statements_tree function.now.body)) }
+    ensures actions { IfOk result (λ a. V.actions_tree a.items ≡ body_actions functions.now here.old.scope function.now) }
+    ensures here { OnOk result (here.new ≡ behind_body here.old.scope function.now) }
     ensures err { IfErr result (λ e. Tells e (F.body_faults functions.now here.old.scope (function_tree function.now))) }
 {
     here.locals = 0;
@@ -76,7 +75,7 @@ pub fn check_function(
 ) -> Result<Function, CheckError>
     requires { 1 + statements_height (statements_tree function.now.body) ≤ 200 }
     ensures ok { OnOk result (F.body_faults functions.now here.old.scope (function_tree function.now) ≡ []) }
-    ensures function { IfOk result (λ g. V.function_tree g ≡ F.function_of functions.now here.old.scope (function_tree function.now)) }
+    ensures function { IfOk result (λ g. V.function_tree g ≡ function_for functions.now here.old.scope function.now) }
     ensures scope { OnOk result (here.new.scope ≡ here.old.scope) }
     ensures err { IfErr result (λ e. Tells e (F.body_faults functions.now here.old.scope (function_tree function.now))) }
 {

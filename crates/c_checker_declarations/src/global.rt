@@ -4,6 +4,7 @@ ghost use Rattle.std.specs.Prelude.{◌≡◌, ◌≤◌, ◌+◌, [], IsTrue, O
 ghost use Rattle.c_syntax.specs.Views.{optional_tree, initializer_tree, global_tree};
 ghost use Rattle.c_checker_rules.specs.Told.{Tells};
 ghost use Rattle.c_checker_rules.specs.Globals as G;
+ghost use Rattle.c_checker_declarations.specs.Sources.{variable_for};
 
 use crate::initial::check_initializer;
 use c_checker_rules::{CheckError, Meaning};
@@ -113,7 +114,7 @@ pub fn check_global(
     requires { cells ≤ 65536 }
     ensures ok { OnOk result (G.global_faults scope.old globals cells (global_tree global.now) ≡ []) }
     ensures cells { OnOk result (cells + G.size_of global.now.size ≤ 65536) }
-    ensures variable { IfOk result (λ v. v ≡ G.global_of (G.with_global globals scope.old (global_tree global.now)) (global_tree global.now)) }
+    ensures variable { IfOk result (λ v. v ≡ variable_for globals scope.old global.now) }
     ensures scope { OnOk result (scope.new ≡ G.with_global globals scope.old (global_tree global.now)) }
     ensures err { IfErr result (λ e. Tells e (G.global_faults scope.old globals cells (global_tree global.now))) }
 {

@@ -1,10 +1,11 @@
 //! The expressions that globals begin with (C99 6.6 and 6.7.8).
 
 ghost use Rattle.std.specs.Prelude.{◌≡◌, ◌≢◌, [], map, Some, IfOk, IfErr};
-ghost use Rattle.c_syntax.specs.Views.{optional_tree, initial_tree, initializer_tree};
+ghost use Rattle.c_syntax.specs.Views.{initial_tree};
 ghost use Rattle.c_checker_rules.specs.Told.{Tells};
 ghost use Rattle.c_checker_rules.specs.Globals as G;
 ghost use Rattle.c_checker_rules.specs.declared.errors.CheckError.TheVariants as CheckError;
+ghost use Rattle.c_checker_declarations.specs.Sources.{initials_in};
 
 use c_checker_rules::{CheckError, Meaning};
 use c_checker_scopes::Scopes;
@@ -83,9 +84,9 @@ pub(crate) fn check_initializer(
     scope: &Scopes<Meaning>,
     initializer: &Option<Initializer>,
 ) -> Result<Vec<u32>, CheckError>
-    ensures ok { IfOk result (λ ws. G.initials_faults scope.now (G.initials_of (optional_tree initializer_tree initializer.now)) ≡ []) }
-    ensures words { IfOk result (λ ws. ws.items ≡ G.initial_words scope.now (G.initials_of (optional_tree initializer_tree initializer.now))) }
-    ensures err { IfErr result (λ e. Tells e (G.initials_faults scope.now (G.initials_of (optional_tree initializer_tree initializer.now)))) }
+    ensures ok { IfOk result (λ ws. G.initials_faults scope.now (initials_in initializer.now) ≡ []) }
+    ensures words { IfOk result (λ ws. ws.items ≡ G.initial_words scope.now (initials_in initializer.now)) }
+    ensures err { IfErr result (λ e. Tells e (G.initials_faults scope.now (initials_in initializer.now))) }
 {
     match initializer {
         None => Ok(Vec::new(alloc)),

@@ -1,11 +1,11 @@
 //! The names of functions: where one is declared again, what `main` is, and the limits (C99 5.1.2.2.1, 6.2.7 and 6.9).
 
-ghost use Rattle.std.specs.Prelude.{◌≡◌, [], length, OnOk, IfErr};
+ghost use Rattle.std.specs.Prelude.{◌≡◌, [], OnOk, IfErr};
 ghost use Rattle.c_checker_rules.specs.Told.{Tells};
-ghost use Rattle.c_checker_rules.specs.Globals as G;
 ghost use Rattle.c_checker_rules.specs.Functions as F;
 ghost use Rattle.c_checker_declarations.specs.Meant.{may_mean};
 ghost use Rattle.c_checker_declarations.specs.Parameters.{int_of};
+ghost use Rattle.c_checker_declarations.specs.Sources.{name_faults};
 
 use c_checker_rules::{CheckError, Meaning, Signature};
 use c_checker_scopes::Scopes;
@@ -154,8 +154,8 @@ pub fn check_name(
     signature: &Signature,
     number: Option<usize>,
 ) -> Result<(), CheckError>
-    ensures ok { OnOk result (F.function_name_faults functions.now scope.now name.now signature.now number ≡ []) }
-    ensures err { IfErr result (λ e. Tells e (F.function_name_faults functions.now scope.now name.now signature.now number)) }
+    ensures ok { OnOk result (name_faults functions.now scope.now name.now signature.now number ≡ []) }
+    ensures err { IfErr result (λ e. Tells e (name_faults functions.now scope.now name.now signature.now number)) }
 {
     if is_redeclared(functions, scope, name, signature, number) {
         return Err(CheckError::Redeclared(name.offset));
