@@ -1,14 +1,11 @@
 //! Declarations at the outside of a text (C99 6.9).
 
-ghost use Rattle.std.specs.Prelude.{◌≡◌, ◌≤◌, ◌++◌, [], map, OnOk, IfErr};
+ghost use Rattle.std.specs.Prelude.{◌≡◌, ◌≤◌, [], OnOk, IfErr};
 ghost use Rattle.c_syntax.specs.Heights.{IsLow};
 ghost use Rattle.c_syntax.specs.Trees as T;
 ghost use Rattle.c_syntax.specs.Views.{declaration_tree, function_tree, global_tree};
-ghost use Rattle.c_program.specs.Views as V;
 ghost use Rattle.c_checker_rules.specs.Told.{Tells};
-ghost use Rattle.c_checker_rules.specs.Functions as F;
-ghost use Rattle.c_checker_rules.specs.Units as U;
-ghost use Rattle.c_checker.specs.Reached.{file_of, globals_in, functions_in};
+ghost use Rattle.c_checker.specs.Reached.{file_of, faults_at, file_behind, GlobalsGrow, FunctionsGrow, naming_faults, scope_with, functions_with};
 
 use crate::progress::Progress;
 use c_checker_declarations::{
@@ -26,13 +23,13 @@ fn take_global(
     global: &GlobalTree,
 ) -> Result<(), CheckError>
     requires { progress.old.cells ≤ 65536 }
-    ensures ok { OnOk result (U.declaration_faults progress.old.functions.bodies (file_of progress.old) (T.Global (global_tree global.now)) ≡ []) }
-    ensures file { OnOk result (file_of progress.new ≡ U.behind (file_of progress.old) (T.Global (global_tree global.now))) }
+    ensures ok { OnOk result (faults_at progress.old (T.Global (global_tree global.now)) ≡ []) }
+    ensures file { OnOk result (file_of progress.new ≡ file_behind progress.old (T.Global (global_tree global.now))) }
     ensures bodies { OnOk result (progress.new.functions.bodies ≡ progress.old.functions.bodies) }
-    ensures globals { OnOk result (progress.new.globals.items ≡ progress.old.globals.items ++ globals_in (file_of progress.old) (T.Global (global_tree global.now))) }
-    ensures functions { OnOk result (map V.function_tree progress.new.defined.items ≡ map V.function_tree progress.old.defined.items ++ functions_in progress.old.functions.bodies (file_of progress.old) (T.Global (global_tree global.now))) }
+    ensures globals { OnOk result (GlobalsGrow progress.old progress.new (T.Global (global_tree global.now))) }
+    ensures functions { OnOk result (FunctionsGrow progress.old progress.new (T.Global (global_tree global.now))) }
     ensures cells { OnOk result (progress.new.cells ≤ 65536) }
-    ensures err { IfErr result (λ e. Tells e (U.declaration_faults progress.old.functions.bodies (file_of progress.old) (T.Global (global_tree global.now)))) }
+    ensures err { IfErr result (λ e. Tells e (faults_at progress.old (T.Global (global_tree global.now)))) }
 {
     let number = progress.globals.len();
     let cells = progress.cells;
@@ -49,13 +46,13 @@ fn declare(
     signature: Signature,
     number: Option<usize>,
 ) -> Result<(), CheckError>
-    ensures ok { OnOk result (F.function_name_faults progress.old.functions progress.old.here.scope name.now signature number ≡ []) }
-    ensures scope { OnOk result (progress.new.here.scope ≡ F.with_function progress.old.functions.signatures progress.old.here.scope name.now) }
-    ensures functions { OnOk result (progress.new.functions ≡ record { signatures = F.with_signature progress.old.functions.signatures progress.old.here.scope name.now signature; bodies = progress.old.functions.bodies }) }
+    ensures ok { OnOk result (naming_faults progress.old name.now signature number ≡ []) }
+    ensures scope { OnOk result (progress.new.here.scope ≡ scope_with progress.old name.now) }
+    ensures functions { OnOk result (progress.new.functions ≡ functions_with progress.old name.now signature) }
     ensures globals { OnOk result (progress.new.globals ≡ progress.old.globals) }
     ensures defined { OnOk result (progress.new.defined ≡ progress.old.defined) }
     ensures cells { OnOk result (progress.new.cells ≡ progress.old.cells) }
-    ensures err { IfErr result (λ e. Tells e (F.function_name_faults progress.old.functions progress.old.here.scope name.now signature number)) }
+    ensures err { IfErr result (λ e. Tells e (naming_faults progress.old name.now signature number)) }
 {
     check_name(
         &progress.functions,
@@ -82,13 +79,13 @@ fn take_function(
 ) -> Result<(), CheckError>
     requires low { IsLow (T.Function (function_tree function.now)) }
     requires cells { progress.old.cells ≤ 65536 }
-    ensures ok { OnOk result (U.declaration_faults progress.old.functions.bodies (file_of progress.old) (T.Function (function_tree function.now)) ≡ []) }
-    ensures file { OnOk result (file_of progress.new ≡ U.behind (file_of progress.old) (T.Function (function_tree function.now))) }
+    ensures ok { OnOk result (faults_at progress.old (T.Function (function_tree function.now)) ≡ []) }
+    ensures file { OnOk result (file_of progress.new ≡ file_behind progress.old (T.Function (function_tree function.now))) }
     ensures bodies { OnOk result (progress.new.functions.bodies ≡ progress.old.functions.bodies) }
-    ensures globals { OnOk result (progress.new.globals.items ≡ progress.old.globals.items ++ globals_in (file_of progress.old) (T.Function (function_tree function.now))) }
-    ensures functions { OnOk result (map V.function_tree progress.new.defined.items ≡ map V.function_tree progress.old.defined.items ++ functions_in progress.old.functions.bodies (file_of progress.old) (T.Function (function_tree function.now))) }
+    ensures globals { OnOk result (GlobalsGrow progress.old progress.new (T.Function (function_tree function.now))) }
+    ensures functions { OnOk result (FunctionsGrow progress.old progress.new (T.Function (function_tree function.now))) }
     ensures cells { OnOk result (progress.new.cells ≤ 65536) }
-    ensures err { IfErr result (λ e. Tells e (U.declaration_faults progress.old.functions.bodies (file_of progress.old) (T.Function (function_tree function.now)))) }
+    ensures err { IfErr result (λ e. Tells e (faults_at progress.old (T.Function (function_tree function.now)))) }
 {
     let number = progress.defined.len();
     let parameters = function.parameters.as_slice();
@@ -107,13 +104,13 @@ fn take_prototype(
     prototype: &Prototype,
 ) -> Result<(), CheckError>
     requires { progress.old.cells ≤ 65536 }
-    ensures ok { OnOk result (U.declaration_faults progress.old.functions.bodies (file_of progress.old) (T.Prototype' prototype.now) ≡ []) }
-    ensures file { OnOk result (file_of progress.new ≡ U.behind (file_of progress.old) (T.Prototype' prototype.now)) }
+    ensures ok { OnOk result (faults_at progress.old (T.Prototype' prototype.now) ≡ []) }
+    ensures file { OnOk result (file_of progress.new ≡ file_behind progress.old (T.Prototype' prototype.now)) }
     ensures bodies { OnOk result (progress.new.functions.bodies ≡ progress.old.functions.bodies) }
-    ensures globals { OnOk result (progress.new.globals.items ≡ progress.old.globals.items ++ globals_in (file_of progress.old) (T.Prototype' prototype.now)) }
-    ensures functions { OnOk result (map V.function_tree progress.new.defined.items ≡ map V.function_tree progress.old.defined.items ++ functions_in progress.old.functions.bodies (file_of progress.old) (T.Prototype' prototype.now)) }
+    ensures globals { OnOk result (GlobalsGrow progress.old progress.new (T.Prototype' prototype.now)) }
+    ensures functions { OnOk result (FunctionsGrow progress.old progress.new (T.Prototype' prototype.now)) }
     ensures cells { OnOk result (progress.new.cells ≤ 65536) }
-    ensures err { IfErr result (λ e. Tells e (U.declaration_faults progress.old.functions.bodies (file_of progress.old) (T.Prototype' prototype.now))) }
+    ensures err { IfErr result (λ e. Tells e (faults_at progress.old (T.Prototype' prototype.now))) }
 {
     let parameters = prototype.parameters.as_slice();
     let signature = prototype_signature(alloc, prototype.result, parameters)?;
@@ -130,13 +127,13 @@ pub(crate) fn take(
 ) -> Result<(), CheckError>
     requires low { IsLow (declaration_tree declaration.now) }
     requires cells { progress.old.cells ≤ 65536 }
-    ensures ok { OnOk result (U.declaration_faults progress.old.functions.bodies (file_of progress.old) (declaration_tree declaration.now) ≡ []) }
-    ensures file { OnOk result (file_of progress.new ≡ U.behind (file_of progress.old) (declaration_tree declaration.now)) }
+    ensures ok { OnOk result (faults_at progress.old (declaration_tree declaration.now) ≡ []) }
+    ensures file { OnOk result (file_of progress.new ≡ file_behind progress.old (declaration_tree declaration.now)) }
     ensures bodies { OnOk result (progress.new.functions.bodies ≡ progress.old.functions.bodies) }
-    ensures globals { OnOk result (progress.new.globals.items ≡ progress.old.globals.items ++ globals_in (file_of progress.old) (declaration_tree declaration.now)) }
-    ensures functions { OnOk result (map V.function_tree progress.new.defined.items ≡ map V.function_tree progress.old.defined.items ++ functions_in progress.old.functions.bodies (file_of progress.old) (declaration_tree declaration.now)) }
+    ensures globals { OnOk result (GlobalsGrow progress.old progress.new (declaration_tree declaration.now)) }
+    ensures functions { OnOk result (FunctionsGrow progress.old progress.new (declaration_tree declaration.now)) }
     ensures cells { OnOk result (progress.new.cells ≤ 65536) }
-    ensures err { IfErr result (λ e. Tells e (U.declaration_faults progress.old.functions.bodies (file_of progress.old) (declaration_tree declaration.now))) }
+    ensures err { IfErr result (λ e. Tells e (faults_at progress.old (declaration_tree declaration.now))) }
 {
     match declaration {
         Declaration::Global(global) => take_global(alloc, progress, global),

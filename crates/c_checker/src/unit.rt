@@ -1,14 +1,13 @@
 //! A whole text (C99 6.9).
 
-ghost use Rattle.std.specs.Prelude.{◌≡◌, ◌≤◌, [], map, OnOk, IfOk, IfErr};
+ghost use Rattle.std.specs.Prelude.{◌≡◌, [], map, IfOk, IfErr};
 ghost use Rattle.std.specs.List.{AllByRecursion};
-ghost use Rattle.c_checker_scopes.specs.Bound.{Bound};
 ghost use Rattle.c_syntax.specs.Heights.{IsLow};
 ghost use Rattle.c_syntax.specs.Views.{declaration_tree};
 ghost use Rattle.c_program.specs.Views.{function_tree};
 ghost use Rattle.c_checker_rules.specs.Told.{Tells};
 ghost use Rattle.c_checker_rules.specs.Units as U;
-ghost use Rattle.c_checker.specs.Reached.{file_of};
+ghost use Rattle.c_checker.specs.Reached.{file_of, faults_in, globals_of, functions_of};
 
 use crate::declaration::take;
 use crate::progress::Progress;
@@ -49,11 +48,11 @@ pub(crate) fn take_all(
     declarations: &[Declaration],
 ) -> Result<Progress, CheckError>
     requires { AllByRecursion IsLow (map declaration_tree declarations.now) }
-    ensures ok { IfOk result (λ p. U.declarations_faults bodies U.empty_file (map declaration_tree declarations.now) ≡ []) }
-    ensures globals { IfOk result (λ p. p.globals.items ≡ U.globals_from U.empty_file (map declaration_tree declarations.now)) }
-    ensures functions { IfOk result (λ p. map function_tree p.defined.items ≡ U.functions_from bodies U.empty_file (map declaration_tree declarations.now)) }
+    ensures ok { IfOk result (λ p. faults_in bodies declarations.now ≡ []) }
+    ensures globals { IfOk result (λ p. p.globals.items ≡ globals_of declarations.now) }
+    ensures functions { IfOk result (λ p. map function_tree p.defined.items ≡ functions_of bodies declarations.now) }
     ensures bodies { IfOk result (λ p. p.functions.bodies ≡ bodies) }
-    ensures err { IfErr result (λ e. Tells e (U.declarations_faults bodies U.empty_file (map declaration_tree declarations.now))) }
+    ensures err { IfErr result (λ e. Tells e (faults_in bodies declarations.now)) }
 {
     let mut progress = beginning(alloc, bodies);
     for declaration in declarations {
