@@ -4,6 +4,7 @@
 #![tactic(auto)]
 
 mod device;
+mod laws;
 mod log;
 mod opening;
 
@@ -11,4 +12,5 @@ pub use acceptor_log_form::{
     Header, Listed, LogError, Record, header_bytes, journal_bytes, kept_parts, no_fault, one_list,
     read, record_bytes, text_stands,
 };
+pub use laws::file_survives;
 pub use log::Log;

@@ -1,5 +1,3 @@
 pub mod Elapsed
-pub mod Filled
-pub mod Garbled
 pub mod Noted
 pub mod Redone

@@ -4,7 +4,7 @@ use Rattle.std.proofs.lemmas.List.{nil_from_length, take_all, take-append-le, dr
 use Rattle.std.proofs.lemmas.List.Sums.{sum_by-append}
 use Rattle.durable_model.specs.declared.call.Call.{Call}
 use Rattle.durable_model.specs.declared.call.Call.TheVariants.{Wrote, Tore, Synced, Left}
-use Rattle.durable_model.specs.Writes.{overwritten}
+use Rattle.durable_model_writes.specs.Writes.{overwritten}
 use Rattle.durable_model.specs.History.{size_of, noted, after, seen_after}
 
 -- a call that wrote nothing

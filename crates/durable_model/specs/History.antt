@@ -2,7 +2,7 @@
 use Rattle.std.specs.Prelude.{◌≡◌, ◌≤◌, ℕ, List, [], ◌∷◌, ◌++◌, length, take, drop}
 use Rattle.durable_model.specs.declared.call.Call.{Call}
 use Rattle.durable_model.specs.declared.call.Call.TheVariants.{Wrote, Tore, Synced, Left}
-use Rattle.durable_model.specs.Writes.{overwritten, Torn}
+use Rattle.durable_model_writes.specs.Writes.{overwritten, Torn}
 
 -- how many bytes of those that were written belong to a call
 abbrev pub size_of : Call → ℕ

@@ -1,4 +1,4 @@
-pub mod Writes
+pub use Rattle.durable_model_writes.specs.Writes
 pub mod Honest
 pub mod Moments
 pub mod History

@@ -5,7 +5,7 @@ use Rattle.std.proofs.lemmas.List.{nil_from_length}
 use Rattle.durable_model.specs.declared.call.Call.{Call}
 use Rattle.durable_model.specs.declared.call.Call.TheVariants.{Wrote, Tore, Synced, Left}
 use Rattle.durable_model.specs.declared.memory.MemoryDisk.{MemoryDisk}
-use Rattle.durable_model.specs.Writes.{torn_overwritten, torn_nothing}
+use Rattle.durable_model_writes.specs.Writes.{torn_overwritten, torn_nothing}
 use Rattle.durable_model.specs.History.{noted, after, seen_after, Leaves, MayLeave, LeftSince}
 
 -- its calls with what they wrote, the last first
@@ -40,14 +40,14 @@ calls_made disk = length disk.calls.items
 abbrev pub bytes_noted : MemoryDisk → ℕ
 bytes_noted disk = length disk.written.items
 
--- there is room for so many calls, and for so many bytes in their writes
-pub record HasRoom (calls bytes : ℕ) (disk : MemoryDisk) : Type 0 where
-  pub for_calls : disk.call_room ≡ calls
-  pub for_bytes : disk.byte_room ≡ bytes
+-- it can note so many calls, and so many bytes in their writes
+pub record HasCapacity (calls bytes : ℕ) (disk : MemoryDisk) : Type 0 where
+  pub for_calls : disk.call_capacity ≡ calls
+  pub for_bytes : disk.byte_capacity ≡ bytes
 
--- a call that writes so many bytes is past the room
-abbrev pub IsPastRoom : ℕ → MemoryDisk → Type 0
-IsPastRoom bytes disk = (disk.call_room ≤ calls_made disk) ⊎ (disk.byte_room < bytes_noted disk + bytes)
+-- a call that writes so many bytes is past the capacity
+abbrev pub IsPastCapacity : ℕ → MemoryDisk → Type 0
+IsPastCapacity bytes disk = (disk.call_capacity ≤ calls_made disk) ⊎ (disk.byte_capacity < bytes_noted disk + bytes)
 
 -- call number n is the one that is to fail, counted from 1
 abbrev pub FailsAt : ℕ → MemoryDisk → Type 0
@@ -57,14 +57,21 @@ FailsAt n disk = disk.fails ≡ n
 abbrev pub told_to_fail : MemoryDisk → ℕ → MemoryDisk
 told_to_fail disk n = record disk { fails = n }
 
--- the rooms are as they were
-abbrev pub KeepsRoom : MemoryDisk → MemoryDisk → Type 0
-KeepsRoom old = HasRoom old.call_room old.byte_room
+-- the capacities are as they were
+abbrev pub KeepsCapacity : MemoryDisk → MemoryDisk → Type 0
+KeepsCapacity old = HasCapacity old.call_capacity old.byte_capacity
 
 -- it has noted this call, with what it wrote, and nothing else
 pub record Notes (call : Call) (bytes : List ℕ) (old new : MemoryDisk) : Type 0 where
   pub history_is : history new ≡ (call, bytes) ∷ history old
   pub first_is : new.first.items ≡ old.first.items
+
+-- it stands for the same as before, whatever it can note
+pub record StandsAs (old new : MemoryDisk) : Type 0 where
+  pub calls_are : new.calls.items ≡ old.calls.items
+  pub written_are : new.written.items ≡ old.written.items
+  pub first_is : new.first.items ≡ old.first.items
+  pub bytes_are : new.bytes.items ≡ old.bytes.items
 
 seen_by : (call : Call) (bytes : List ℕ) (before : List ℕ → Type 0) (seen : List ℕ) → before seen
     → Leaves call bytes before seen (after call bytes seen)

@@ -15,7 +15,7 @@ pub enum Call {
     Left,
 }
 
-/// Notes a call where there is room for it.
+/// Notes a call where the capacity suffices.
 pub(crate) fn note(calls: &mut Vec<Call>, call: Call)
     requires { vec_len calls.old < vec_capacity calls.old }
     ensures noted { calls.new.items ≡ calls.old.items ++ call ∷ [] }
@@ -24,7 +24,7 @@ pub(crate) fn note(calls: &mut Vec<Call>, call: Call)
     let _ = calls.push(call);
 }
 
-/// Keeps the bytes of a write where there is room for them.
+/// Keeps the bytes of a write where the capacity suffices.
 pub(crate) fn keep(written: &mut Vec<u8>, bytes: &[u8])
     requires { vec_len written.old + length bytes.now ≤ vec_capacity written.old }
     ensures kept { written.new.items ≡ written.old.items ++ bytes.now }

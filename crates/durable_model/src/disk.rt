@@ -2,7 +2,7 @@
 
 ghost use Rattle.std.specs.Prelude.{◌≡◌, ◌≤◌, ◌↔◌, List, ℕ, length, IfOk, OnOk, IsErrOf};
 ghost use Rattle.durable_model.specs.declared.error.DiskError.TheVariants.{NoMemory};
-ghost use Rattle.durable_model.specs.Writes.{overwritten, Lengthens, Torn};
+ghost use Rattle.durable_model_writes.specs.Writes.{overwritten, Lengthens, Torn};
 ghost use Rattle.durable_model.specs.Honest.{Only, NothingNew, Follows, Unchanged, Elapses, Counts};
 
 use crate::error::DiskError;

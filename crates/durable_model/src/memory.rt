@@ -6,11 +6,11 @@ ghost use Rattle.durable_model.specs.History.{size_of, noted, seen_after};
 use crate::call::{Call, keep, note};
 use crate::disk::Disk;
 use crate::error::{DiskError, failed};
-use crate::overwriting::overwrite;
 use crate::replaying::torn_image;
+use durable_model_writes::overwrite;
 use lang_base::NoMemory;
 use rand_pcg::Pcg32;
-use std::alloc::Global;
+use std::alloc::{AllocError, Global};
 
 /// An honest disk in memory. It notes each call, so that what a crash at any past moment might have left is known.
 #[derive(Drop)]
@@ -23,10 +23,10 @@ pub struct MemoryDisk {
     calls: Vec<Call>,
     /// The bytes of the writes that were done, one after another.
     written: Vec<u8>,
-    /// How many calls there is room for.
-    call_room: usize,
-    /// How many bytes of writes there is room for.
-    byte_room: usize,
+    /// How many calls it can note.
+    call_capacity: usize,
+    /// How many bytes of writes it can note.
+    byte_capacity: usize,
     /// How many calls stand up to the last sync.
     synced: usize,
     /// Which call is to fail, counted from 1.
@@ -34,30 +34,31 @@ pub struct MemoryDisk {
     failures: u64,
     ghost kept: { bytes.items ≡ seen_after (noted calls.items written.items []) first.items },
     ghost whole: { sum_by size_of calls.items ≡ length written.items },
-    ghost for_calls: { call_room ≤ vec_capacity calls },
-    ghost for_bytes: { byte_room ≤ vec_capacity written },
+    ghost for_calls: { call_capacity ≤ vec_capacity calls },
+    ghost for_bytes: { byte_capacity ≤ vec_capacity written },
 }
 
 impl MemoryDisk {
     ghost use Rattle.std.specs.Prelude.{◌≡◌, ◌<◌, ◌≤◌, ◌↔◌, ◌+◌, [], false, IsTrue, IfOk};
     ghost use Rattle.durable_model.specs.History.{size_of};
     ghost use Rattle.durable_model.specs.Memory.{seen_by_memory, memory_may_leave, memory_faults};
-    ghost use Rattle.durable_model.specs.Memory.{calls_made, bytes_noted, told_to_fail, FailsAt, IsPastRoom};
-    ghost use Rattle.durable_model.specs.Memory.{IsSettled, HasRoom, KeepsRoom, Notes};
+    ghost use Rattle.durable_model.specs.Memory.{calls_made, bytes_noted, told_to_fail, FailsAt, IsPastCapacity};
+    ghost use Rattle.durable_model.specs.Memory.{IsSettled, HasCapacity, KeepsCapacity, Notes, StandsAs};
+    ghost use Rattle.durable_model_writes.specs.Writes.{Lengthens};
 
-    /// An empty disk with room for so many calls, and for so many bytes in its writes. A call past it is a failure
+    /// An empty disk that can note so many calls, and so many bytes in its writes. A call past that is a failure
     /// of the device.
     pub fn new(alloc: Global, calls: usize, bytes: usize) -> Result<MemoryDisk, NoMemory>
         ensures empty { IfOk result (λ disk. seen_by_memory disk ≡ []) }
         ensures settled { IfOk result IsSettled }
-        ensures room { IfOk result (HasRoom calls bytes) }
+        ensures capacity { IfOk result (HasCapacity calls bytes) }
         ensures whole { IfOk result (λ disk. memory_faults disk ≡ 0) }
     {
         MemoryDisk::holding(alloc, Vec::new(alloc), calls, bytes)
     }
 
     /// A disk that holds these bytes, all of them synced.
-    fn holding(
+    pub(crate) fn holding(
         alloc: Global,
         content: Vec<u8>,
         calls: usize,
@@ -65,7 +66,7 @@ impl MemoryDisk {
     ) -> Result<MemoryDisk, NoMemory>
         ensures seen { IfOk result (λ disk. seen_by_memory disk ≡ content.items) }
         ensures settled { IfOk result IsSettled }
-        ensures room { IfOk result (HasRoom calls bytes) }
+        ensures capacity { IfOk result (HasCapacity calls bytes) }
         ensures whole { IfOk result (λ disk. memory_faults disk ≡ 0) }
     {
         Ok(MemoryDisk {
@@ -73,8 +74,8 @@ impl MemoryDisk {
             bytes: content,
             calls: Vec::with_capacity(alloc, calls)?,
             written: Vec::with_capacity(alloc, bytes)?,
-            call_room: calls,
-            byte_room: bytes,
+            call_capacity: calls,
+            byte_capacity: bytes,
             synced: 0,
             fails: 0,
             failures: 0,
@@ -89,12 +90,12 @@ impl MemoryDisk {
         self.fails = n;
     }
 
-    /// A disk that a crash now may leave, with as much room anew, and with no call that is to fail. Each write that
+    /// A disk that a crash now may leave, with as much capacity anew, and with no call that is to fail. Each write that
     /// was not synced is lost, done, mixed with what was there, or garbage, as the words choose.
     pub fn crash(&self, alloc: Global, words: &mut Pcg32) -> Result<MemoryDisk, NoMemory>
         ensures image { IfOk result (λ disk. memory_may_leave self.now (seen_by_memory disk)) }
         ensures settled { IfOk result IsSettled }
-        ensures room { IfOk result (KeepsRoom self.now) }
+        ensures capacity { IfOk result (KeepsCapacity self.now) }
         ensures whole { IfOk result (λ disk. memory_faults disk ≡ 0) }
     {
         let image = torn_image(
@@ -105,12 +106,37 @@ impl MemoryDisk {
             self.synced,
             words,
         )?;
-        MemoryDisk::holding(alloc, image, self.call_room, self.byte_room)
+        MemoryDisk::holding(alloc, image, self.call_capacity, self.byte_capacity)
+    }
+
+    /// What a read gives.
+    pub(crate) fn bytes(&self) -> &[u8]
+        ensures { result.now ≡ seen_by_memory self.now }
+    {
+        self.bytes.as_slice()
+    }
+
+    /// A write of so many bytes would make it longer.
+    pub(crate) fn is_lengthened_by(&self, at: u64, n: usize) -> bool
+        ensures { IsTrue result → Lengthens at n (seen_by_memory self.now) }
+    {
+        n != 0 && (self.bytes.len() as u64) < at.saturating_add(n as u64)
+    }
+
+    /// Makes its capacity suffice for two calls more, and for so many bytes more.
+    pub(crate) fn grow(&mut self, bytes: usize) -> Result<(), AllocError>
+        ensures { StandsAs self.old self.new }
+    {
+        self.calls.reserve(2)?;
+        self.call_capacity = self.calls.capacity();
+        self.written.reserve(bytes)?;
+        self.byte_capacity = self.written.capacity();
+        Ok(())
     }
 
     /// Notes a call that wrote nothing.
     fn note_call(&mut self, call: Call)
-        requires room { calls_made self.old < self.old.call_room }
+        requires capacity { calls_made self.old < self.old.call_capacity }
         requires nothing { size_of call ≡ 0 }
         ensures notes { Notes call [] self.old self.new }
         ensures bytes { self.new.bytes ≡ self.old.bytes }
@@ -126,15 +152,15 @@ impl MemoryDisk {
         self.fails != 0 && self.calls.len() == self.fails - 1
     }
 
-    /// There is room for one call more, which writes so many bytes.
-    fn has_room(&self, bytes: usize) -> bool
-        ensures yes_calls { IsTrue result → calls_made self.now < self.now.call_room }
-        ensures yes_bytes { IsTrue result → bytes_noted self.now + bytes ≤ self.now.byte_room }
-        ensures no { result ≡ false → IsPastRoom bytes self.now }
+    /// The capacity suffices for one call more, which writes so many bytes.
+    fn has_capacity(&self, bytes: usize) -> bool
+        ensures yes_calls { IsTrue result → calls_made self.now < self.now.call_capacity }
+        ensures yes_bytes { IsTrue result → bytes_noted self.now + bytes ≤ self.now.byte_capacity }
+        ensures no { result ≡ false → IsPastCapacity bytes self.now }
     {
-        self.calls.len() < self.call_room
-            && self.written.len() <= self.byte_room
-            && bytes <= self.byte_room - self.written.len()
+        self.calls.len() < self.call_capacity
+            && self.written.len() <= self.byte_capacity
+            && bytes <= self.byte_capacity - self.written.len()
     }
 }
 
@@ -163,7 +189,7 @@ impl Disk for MemoryDisk {
     ghost only_now = { λ d c _. only_as_kept d c };
 
     fn read(&mut self, alloc: Global) -> Result<Vec<u8>, DiskError> {
-        if !self.has_room(0) {
+        if !self.has_capacity(0) {
             return Err(failed(&mut self.failures));
         }
         if self.fails_now() {
@@ -177,7 +203,7 @@ impl Disk for MemoryDisk {
 
     fn write_at(&mut self, at: u64, bytes: &[u8]) -> Result<(), DiskError> {
         let at = at as usize;
-        if !self.has_room(bytes.len()) {
+        if !self.has_capacity(bytes.len()) {
             return Err(failed(&mut self.failures));
         }
         if self.fails_now() {
@@ -191,7 +217,7 @@ impl Disk for MemoryDisk {
     }
 
     fn sync(&mut self) -> Result<(), DiskError> {
-        if !self.has_room(0) {
+        if !self.has_capacity(0) {
             return Err(failed(&mut self.failures));
         }
         if self.fails_now() {

@@ -5,8 +5,7 @@ ghost use Rattle.durable_model.specs.History.{size_of, noted, after, seen_after,
 ghost use Rattle.durable_model.specs.declared.call.Call.{Call};
 
 use crate::call::Call;
-use crate::overwriting::overwrite;
-use crate::tearing::{garble, tear};
+use durable_model_writes::{garble, overwrite, tear};
 use lang_base::NoMemory;
 use rand_pcg::Pcg32;
 use std::alloc::{AllocError, Global};

@@ -79,7 +79,7 @@ fn a_sync_that_failed_leaves_writes_torn(rt: HostRuntime) -> Result<(), Fail> {
 }
 
 #[test]
-fn a_disk_that_a_crash_left_has_its_room_anew(rt: HostRuntime) -> Result<(), Fail> {
+fn a_disk_that_a_crash_left_has_its_capacity_anew(rt: HostRuntime) -> Result<(), Fail> {
     let alloc = rt.alloc();
     let mut disk = MemoryDisk::new(alloc, 2, 6)?;
     disk.write_at(0, b"abcdef")?;

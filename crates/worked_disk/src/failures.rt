@@ -39,7 +39,7 @@ fn fails_the_nth_call_alone(rt: HostRuntime) -> Result<(), Fail> {
 }
 
 #[test]
-fn a_call_past_the_room_fails(rt: HostRuntime) -> Result<(), Fail> {
+fn a_call_past_the_capacity_fails(rt: HostRuntime) -> Result<(), Fail> {
     let alloc = rt.alloc();
     for calls in 0..8usize {
         let mut disk = MemoryDisk::new(alloc, calls, 100)?;

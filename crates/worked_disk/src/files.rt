@@ -1,6 +1,6 @@
 //! A disk over a real file.
 
-use durable_model::{Disk, FileDisk};
+use durable_model::{Disk, DiskError, FileDisk};
 use std::fs;
 use std::test::Fail;
 
@@ -22,8 +22,8 @@ fn what_is_written_is_read_again(rt: HostRuntime) -> Result<(), Fail> {
     disk.sync()?;
     disk.write_at(8, b"z")?;
     assert_eq!(rt; disk.read(alloc)?.as_slice(), b"abXYef\0\0z".as_slice());
-    assert!(rt; disk.write_at(u64::MAX, b"z").is_err());
-    assert_eq!(rt; disk.failures(), 1);
+    assert_eq!(rt; disk.write_at(u64::MAX, b"z"), Err(DiskError::NoMemory));
+    assert_eq!(rt; disk.failures(), 0);
     drop(disk);
     let mut disk = FileDisk::open(&rt, PATH)?;
     assert_eq!(rt; disk.read(alloc)?.as_slice(), b"abXYef\0\0z".as_slice());
@@ -38,5 +38,23 @@ fn a_file_in_the_folder_of_the_run(rt: HostRuntime) -> Result<(), Fail> {
     let mut disk = FileDisk::create(&rt, "worked_disk.cfj")?;
     disk.sync()?;
     fs::remove_file(&rt, "worked_disk.cfj")?;
+    Ok(())
+}
+
+#[test]
+fn what_somebody_else_wrote_is_a_failure(rt: HostRuntime) -> Result<(), Fail> {
+    let alloc = rt.alloc();
+    let _ = fs::remove_file(&rt, "worked_disk_other.cfj");
+    let mut disk = FileDisk::create(&rt, "worked_disk_other.cfj")?;
+    disk.write_at(0, b"abc")?;
+    assert_eq!(rt; disk.read(alloc)?.as_slice(), b"abc".as_slice());
+    fs::write(&rt, "worked_disk_other.cfj", b"abd")?;
+    assert!(rt; disk.read(alloc).is_err());
+    assert_eq!(rt; disk.failures(), 1);
+    drop(disk);
+    let mut disk = FileDisk::open(&rt, "worked_disk_other.cfj")?;
+    assert_eq!(rt; disk.read(alloc)?.as_slice(), b"abd".as_slice());
+    assert_eq!(rt; disk.failures(), 0);
+    fs::remove_file(&rt, "worked_disk_other.cfj")?;
     Ok(())
 }

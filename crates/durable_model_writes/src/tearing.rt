@@ -1,7 +1,7 @@
 //! What a crash makes of a write that is not synced.
 
 ghost use Rattle.std.specs.Prelude.{◌≡◌, ◌<◌, ◌≤◌, ◌+◌, ◌^◌, length, OnOk};
-ghost use Rattle.durable_model.specs.Writes.{Torn, Grown};
+ghost use Rattle.durable_model_writes.specs.Writes.{Torn, Grown};
 
 use crate::overwriting::{lengthen, overwrite};
 use rand_core::utils::NextWord;
@@ -9,7 +9,7 @@ use rand_pcg::Pcg32;
 use std::alloc::AllocError;
 
 /// Tears a write: it is lost, done, done for some of its bytes, or leaves garbage, as the words choose.
-pub(crate) fn tear(
+pub fn tear(
     file: &mut Vec<u8>,
     at: usize,
     bytes: &[u8],
@@ -26,7 +26,7 @@ pub(crate) fn tear(
 }
 
 /// Leaves any bytes in the range of a write; of `bytes`, as far as they go, each one is done or not.
-pub(crate) fn garble(
+pub fn garble(
     file: &mut Vec<u8>,
     at: usize,
     n: usize,

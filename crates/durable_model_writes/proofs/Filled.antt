@@ -2,7 +2,7 @@
 use Rattle.std.proofs.Common.{◌≡◌, ℕ, ◌+◌, ◌-◌, ◌<◌, ◌≤◌, List, [], ◌∷◌, ◌++◌, length, take, drop, replicate, suc, zero, refl, sym, ◌∙◌, ap, arith, length-append}
 use Rattle.std.proofs.lemmas.List.{take-replicate, drop_all, length-replicate}
 use Rattle.std.proofs.Math.Nat.{sub-zero, zero-sub, suc-sub-suc, lt_irrefl}
-use Rattle.durable_model.specs.Writes.{front, overwritten}
+use Rattle.durable_model_writes.specs.Writes.{front, overwritten}
 
 take-append : (xs ys : List ℕ) (n : ℕ) → take n (xs ++ ys) ≡ take n xs ++ take (n - length xs) ys
 take-append [] ys zero = refl

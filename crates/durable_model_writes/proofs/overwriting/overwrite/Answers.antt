@@ -1,6 +1,6 @@
 use Rattle.std.proofs.Common.{◌≡◌, ◌+◌, ◌<◌, ◌≤◌, length, rules}
-use Rattle.durable_model.proofs.Filled.{overwritten_filled}
-use Rattle.durable_model.proofs.overwriting.overwrite.Goals as goal
+use Rattle.durable_model_writes.proofs.Filled.{overwritten_filled}
+use Rattle.durable_model_writes.proofs.overwriting.overwrite.Goals as goal
 
 pub returns-clause-ok : goal.returns-clause-ok
 returns-clause-ok c =

@@ -1,5 +1,5 @@
 use Rattle.std.proofs.Common.{◌≡◌, length, take, drop}
-use Rattle.durable_model.proofs.tearing.garble.Given as goal
+use Rattle.durable_model_writes.proofs.tearing.garble.Given as goal
 
 -- the bytes before the range and behind it stay
 abbrev pub invariant-loop-i : goal.invariant-loop-i

@@ -1,12 +1,12 @@
 //! A write over bytes in memory.
 
 ghost use Rattle.std.specs.Prelude.{◌≡◌, ◌≤◌, ◌+◌, ◌-◌, ◌++◌, length, take, drop, replicate, vec_len, OnOk, OnErr};
-ghost use Rattle.durable_model.specs.Writes.{overwritten, Lengthens};
+ghost use Rattle.durable_model_writes.specs.Writes.{overwritten, Lengthens};
 
 use std::alloc::AllocError;
 
 /// Writes over the bytes from `at` on. Only a write past the end takes memory, and it fails with nothing written.
-pub(crate) fn overwrite(file: &mut Vec<u8>, at: usize, bytes: &[u8]) -> Result<(), AllocError>
+pub fn overwrite(file: &mut Vec<u8>, at: usize, bytes: &[u8]) -> Result<(), AllocError>
     ensures ok { OnOk result (file.new.items ≡ overwritten file.old.items at bytes.now) }
     ensures err { OnErr result (file.new.items ≡ file.old.items) }
     ensures memory { OnErr result (Lengthens at (length bytes.now) file.old.items) }
@@ -27,7 +27,7 @@ pub(crate) fn overwrite(file: &mut Vec<u8>, at: usize, bytes: &[u8]) -> Result<(
 }
 
 /// Fills up with zeros to a length.
-pub(crate) fn lengthen(file: &mut Vec<u8>, end: usize) -> Result<(), AllocError>
+pub fn lengthen(file: &mut Vec<u8>, end: usize) -> Result<(), AllocError>
     requires { vec_len file.old ≤ end }
     ensures ok { OnOk result (file.new.items ≡ file.old.items ++ replicate (end - length file.old.items) 0) }
     ensures err { OnErr result (file.new.items ≡ file.old.items) }

@@ -2,7 +2,7 @@
 use Rattle.std.proofs.Common.{◌≡◌, ℕ, ◌+◌, ◌<◌, min, List, length, take, drop, sym, ◌∙◌, ap, arith}
 use Rattle.std.proofs.lemmas.List.{take-take, take_min}
 use Rattle.std.proofs.Math.Nat.{min-le_right, lt_irrefl}
-use Rattle.durable_model.specs.Writes.{Torn, Grown}
+use Rattle.durable_model_writes.specs.Writes.{Torn, Grown}
 
 pub garbled : (at n : ℕ) (old grown new : List ℕ) → 0 < n → Grown (at + n) old grown → length new ≡ length grown
     → take (min at (length old)) new ≡ take (min at (length old)) grown → drop (at + n) new ≡ drop (at + n) grown → Torn at n old new
