@@ -5,9 +5,12 @@
 //! | `read HEADER JOURNAL` | how many records the bytes stand for, or the number of the fault. As in the file that the rows come from, a ballot 0 or a value that is no node is 403 |
 //! | `list HEADER JOURNAL` | the records: the code of each, its room and its numbers |
 //! | `open HEADER JOURNAL` | how many records are listed where the bytes lie on a disk, or the number of the fault |
+//! | `cuts HEADER JOURNAL` | what each front of the journal stands for, from no bytes to all: the records or the name of the fault, with how often it comes in a row |
+//! | `changed-AT HEADER JOURNAL` | the same with the byte at that place set to 0, 1, .. 255 |
 //! | `crashes APPENDS CALLS` | `yes`, where with each of so many calls of the disk failing in turn, and 16 crashes behind each, a journal opens with what was acknowledged, with one record more or without |
 #![tactic(auto)]
 
+mod changes;
 mod crashes;
 mod rows;
 
@@ -16,5 +19,6 @@ use program_rows::compare;
 use std::io;
 
 fn main(rt: HostRuntime) -> io::Result<()> {
-    compare(&rt, "journals.txt", &mut Rows)
+    compare(&rt, "journals.txt", &mut Rows)?;
+    compare(&rt, "changed.txt", &mut Rows)
 }

@@ -1,3 +1,4 @@
+use crate::changes::{changed, cut};
 use crate::crashes::all_survive;
 use acceptor_log::{Header, Log, LogError, Record, read};
 use durable_model::{Disk, MemoryDisk};
@@ -35,7 +36,11 @@ fn asked(alloc: Global, word: &str, header: &str, journal: &str) -> Option<Strin
             Err(fault) => refused(alloc, fault),
         },
         "open" => opened(alloc, &header, bytes.as_slice()),
-        _ => None,
+        "cuts" => cut(alloc, &header, bytes.as_slice()),
+        _ => {
+            let at = word.strip_prefix("changed-")?.parse().ok()?;
+            changed(alloc, &header, bytes, at)
+        }
     }
 }
 
@@ -72,7 +77,8 @@ fn is_numbered(header: &Header, entry: &Record) -> bool {
     }
 }
 
-fn listed(alloc: Global, records: &[Record]) -> Option<String> {
+/// The records in words.
+pub fn listed(alloc: Global, records: &[Record]) -> Option<String> {
     let mut text = String::new(alloc);
     for entry in records {
         let one = told(alloc, entry)?;

@@ -1,0 +1,88 @@
+#!/usr/bin/env python3
+"""Writes crates/worked_journals/data/changed.txt: what each journal stands for that differs from a given one in a single
+byte, whatever the byte, and what each front of the given one stands for.
+
+    bench/journal_rows.py
+
+The answers are made by the reading below, which stands on the form of a journal alone (docs/FORMATS.md, "A journal")."""
+import os
+
+ROOT = os.path.dirname(os.path.dirname(os.path.realpath(__file__)))
+FILE = os.path.join(ROOT, "crates", "worked_journals", "data", "changed.txt")
+HEADER = b"CFJ1" + bytes([3, 1]) + bytes(range(100, 132))
+
+
+def u16(number):
+    return number.to_bytes(2, "big")
+
+
+def block(body):
+    return b"\x01" + len(body).to_bytes(4, "big") + body
+
+
+EMPTY = HEADER + b"\x00"
+EACH = HEADER + b"".join(map(block, (
+    b"\x01" + u16(3) + b"\x00\xff\x07",
+    b"\x02" + u16(3) + u16(4),
+    b"\x04" + u16(3) + u16(4),
+    b"\x03" + u16(3) + u16(4) + b"\x01",
+    b"\x05" + u16(258) + u16(1027) + b"\x02",
+))) + b"\x00\x01\x00"
+
+
+def told(body):
+    """A body in words, or none where it is of no form."""
+    if len(body) < 3 or not 1 <= body[0] <= 5:
+        return None
+    code, room, rest = body[0], int.from_bytes(body[1:3], "big"), body[3:]
+    if code == 1:
+        return f"1,{room},{len(rest)};"
+    if len(rest) != {2: 2, 3: 3, 4: 2, 5: 3}[code]:
+        return None
+    return ",".join(str(it) for it in (code, room, int.from_bytes(rest[:2], "big"), *rest[2:])) + ";"
+
+
+def read(header, journal):
+    """The records in words, or the name of the fault."""
+    if len(journal) < 39 or journal[:4] != b"CFJ1":
+        return "NotAJournal"
+    if journal[:38] != header:
+        return "OtherSource"
+    records, at = "", 38
+    while at < len(journal) and journal[at] == 1:
+        size = int.from_bytes(journal[at + 1:at + 5], "big")
+        body = journal[at + 5:at + 5 + size]
+        record = told(body)
+        if at + 5 > len(journal) or len(body) != size or record is None:
+            return "BadRecord"
+        records, at = records + record, at + 5 + size
+    return f"[{records}]" if at < len(journal) else "BadRecord"
+
+
+def runs(answers):
+    """Answers, those that are alike and follow one another told once with their number."""
+    told_runs = []
+    for answer in answers:
+        if told_runs and told_runs[-1][0] == answer:
+            told_runs[-1][1] += 1
+        else:
+            told_runs.append([answer, 1])
+    return " ".join(f"{answer}*{number}" for answer, number in told_runs)
+
+
+def rows():
+    for journal in (EMPTY, EACH):
+        names = f"{HEADER.hex()} {journal.hex()}"
+        yield f"cuts {names} => {runs(read(HEADER, journal[:n]) for n in range(len(journal) + 1))}"
+        for at in range(len(journal)):
+            changed = (journal[:at] + bytes([byte]) + journal[at + 1:] for byte in range(256))
+            yield f"changed-{at} {names} => {runs(read(HEADER, it) for it in changed)}"
+
+
+def main():
+    with open(FILE, "w", encoding="utf-8") as file:
+        file.write("# Made by bench/journal_rows.py. `[..]`: the records; else the fault; `*N`: N times in a row.\n")
+        file.writelines(f"{row}\n" for row in rows())
+
+
+main()

@@ -1,0 +1,82 @@
+//! A journal that is cut, or of which one byte is another.
+
+use crate::rows::listed;
+use acceptor_log::{Header, read};
+use std::alloc::Global;
+
+/// Answers in a row, those that are alike told once with their number.
+#[derive(Drop)]
+struct Runs {
+    text: String,
+    last: String,
+    number: u64,
+}
+
+impl Runs {
+    fn new(alloc: Global) -> Runs {
+        Runs {
+            text: String::new(alloc),
+            last: String::new(alloc),
+            number: 0,
+        }
+    }
+
+    fn push(&mut self, alloc: Global, answer: String) -> Option<()> {
+        if self.number != 0 && self.last.as_str() != answer.as_str() {
+            self.close(alloc)?;
+        }
+        self.number = self.number.saturating_add(1);
+        self.last = answer;
+        Some(())
+    }
+
+    /// Tells the answer that came last.
+    fn close(&mut self, alloc: Global) -> Option<()> {
+        if !self.text.as_str().is_empty() {
+            self.text.push_str(" ").ok()?;
+        }
+        let (last, number) = (self.last.as_str(), self.number);
+        let told = format!(in alloc; "{last}*{number}").ok()?;
+        self.text.push_str(told.as_str()).ok()?;
+        self.number = 0;
+        Some(())
+    }
+}
+
+/// What each front of the journal stands for.
+pub fn cut(alloc: Global, header: &Header, journal: &[u8]) -> Option<String> {
+    let mut runs = Runs::new(alloc);
+    for number in 0..journal.len() {
+        let front = journal.get(..number)?;
+        runs.push(alloc, stands_for(alloc, header, front)?)?;
+    }
+    runs.push(alloc, stands_for(alloc, header, journal)?)?;
+    runs.close(alloc)?;
+    Some(runs.text)
+}
+
+/// What the journal stands for with each byte at a place.
+pub fn changed(alloc: Global, header: &Header, journal: Vec<u8>, at: usize) -> Option<String> {
+    let mut journal = journal;
+    let mut runs = Runs::new(alloc);
+    for byte in 0..=255u8 {
+        if at >= journal.len() {
+            return None;
+        }
+        journal[at] = byte;
+        runs.push(alloc, stands_for(alloc, header, journal.as_slice())?)?;
+    }
+    runs.close(alloc)?;
+    Some(runs.text)
+}
+
+/// The records, or the name of the fault.
+fn stands_for(alloc: Global, header: &Header, journal: &[u8]) -> Option<String> {
+    match read(alloc, header, journal) {
+        Ok(found) => {
+            let records = listed(alloc, found.records.as_slice())?;
+            format!(in alloc; "[{records}]").ok()
+        }
+        Err(fault) => format!(in alloc; "{fault}").ok(),
+    }
+}
