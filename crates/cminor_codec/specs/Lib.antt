@@ -1,4 +1,5 @@
 pub mod Codes
+pub mod Parts
 pub mod Results
 pub mod Short
 pub use Rattle.cminor_form.specs.Reading

@@ -1,8 +1,8 @@
 //! Readers of expressions. What calls itself does so with less fuel.
 
-ghost use Rattle.lang_base.specs.Reading.{Reads, made};
-ghost use Rattle.ints.specs.Codes.{argument_count_of};
-ghost use Rattle.cminor_form.specs.Reading.{expression_of, too_high, load, operands, applied, operation, choice, expression_by_code, expression};
+ghost use Rattle.lang_base.specs.Reading.{Reads};
+ghost use Rattle.cminor_form.specs.Reading.{expression_of, too_high, load, operation, choice, expression};
+ghost use Rattle.cminor_codec.specs.Parts.{coded_expression, operands_of};
 
 use crate::parts::{boxed, read_global, read_variable};
 use cminor_syntax::Expression;
@@ -46,7 +46,7 @@ fn read_by_code(
     variables: u16,
     bytes: &mut &[u8],
 ) -> Result<Expression, FormError>
-    ensures { Reads (expression_by_code variables (expression below variables) bytes.old.now) (expression_of result) bytes.new.now }
+    ensures { Reads (coded_expression below variables bytes.old.now) (expression_of result) bytes.new.now }
 {
     match read_byte(bytes)? {
         0 => Ok(Expression::Constant(read_u32(bytes)?)),
@@ -98,7 +98,7 @@ fn read_operands(
     variables: u16,
     bytes: &mut &[u8],
 ) -> Result<Expression, FormError>
-    ensures { Reads (made (applied op) (operands (argument_count_of op) (expression below variables)) bytes.old.now) (expression_of result) bytes.new.now }
+    ensures { Reads (operands_of op below variables bytes.old.now) (expression_of result) bytes.new.now }
 {
     let first = boxed(alloc, read_expression(alloc, below, variables, bytes))?;
     if op.argument_count() == 1 {

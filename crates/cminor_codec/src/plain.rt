@@ -1,9 +1,9 @@
 //! Readers of statements that have no statements in them.
 
-ghost use Rattle.std.specs.Prelude.{◌≡◌, []};
-ghost use Rattle.lang_base.specs.Reading.{Reads, more};
-ghost use Rattle.cminor_form.specs.Reading.{expression_of, statement_of, expression, assign, store, arguments, call, put, returned, plain_statement};
+ghost use Rattle.lang_base.specs.Reading.{Reads};
+ghost use Rattle.cminor_form.specs.Reading.{statement_of, expression, assign, store, arguments, call, put, returned};
 ghost use Rattle.cminor_codec.specs.Results.{expressions_of, row_of, maybe_of};
+ghost use Rattle.cminor_codec.specs.Parts.{expressions, behind_code};
 
 use crate::expressions::read_expression;
 use crate::parts::{read_function_number, read_global, read_target, read_variable};
@@ -50,7 +50,7 @@ fn read_so_many(
     variables: u16,
     bytes: &mut &[u8],
 ) -> Result<Vec<Expression>, FormError>
-    ensures { Reads (more (λ before. expression fuel variables) [] count bytes.old.now) (expressions_of result) bytes.new.now }
+    ensures { Reads (expressions count fuel variables bytes.old.now) (expressions_of result) bytes.new.now }
 {
     let mut expressions = Vec::new(alloc);
     for _ in 0..count {
@@ -132,7 +132,7 @@ pub fn read_plain(
     code: u8,
     bytes: &mut &[u8],
 ) -> Result<Statement, FormError>
-    ensures { Reads (plain_statement variables (expression fuel variables) code bytes.old.now) (statement_of result) bytes.new.now }
+    ensures { Reads (behind_code code fuel variables bytes.old.now) (statement_of result) bytes.new.now }
 {
     match code {
         0 => Ok(Statement::Skip),

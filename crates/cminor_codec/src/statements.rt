@@ -1,12 +1,13 @@
 //! Readers of statements. What calls itself does so with less fuel.
 
-ghost use Rattle.std.specs.Prelude.{◌≡◌, []};
-ghost use Rattle.lang_base.specs.Reading.{Reads, more};
+ghost use Rattle.std.specs.Prelude.{◌≡◌};
+ghost use Rattle.lang_base.specs.Reading.{Reads};
 ghost use Rattle.cminor_syntax.specs.Fits.{height_limit};
 ghost use Rattle.cminor_syntax.specs.Trees as T;
 ghost use Rattle.cminor_syntax.specs.Views.{statement_tree, statements_tree};
-ghost use Rattle.cminor_form.specs.Reading.{statement_of, too_high, expression, sequence, branch, statement_by_code, statement};
+ghost use Rattle.cminor_form.specs.Reading.{statement_of, too_high, sequence, statement};
 ghost use Rattle.cminor_codec.specs.Results.{statements_of};
+ghost use Rattle.cminor_codec.specs.Parts.{coded_statement, statements, condition_and_two};
 
 use crate::expressions::read_expression;
 use crate::parts::boxed;
@@ -68,7 +69,7 @@ fn read_by_code(
     variables: u16,
     bytes: &mut &[u8],
 ) -> Result<Statement, FormError>
-    ensures { Reads (statement_by_code variables (expression below variables) (statement below variables) bytes.old.now) (statement_of result) bytes.new.now }
+    ensures { Reads (coded_statement below variables bytes.old.now) (statement_of result) bytes.new.now }
 {
     match read_byte(bytes)? {
         5 => read_sequence(alloc, below, variables, bytes),
@@ -109,7 +110,7 @@ fn read_so_many(
     variables: u16,
     bytes: &mut &[u8],
 ) -> Result<Vec<Statement>, FormError>
-    ensures { Reads (more (λ before. statement below variables) [] count bytes.old.now) (statements_of result) bytes.new.now }
+    ensures { Reads (statements count below variables bytes.old.now) (statements_of result) bytes.new.now }
 {
     let mut statements = Vec::new(alloc);
     for _ in 0..count {
@@ -128,7 +129,7 @@ fn read_branch(
     variables: u16,
     bytes: &mut &[u8],
 ) -> Result<Statement, FormError>
-    ensures { Reads (branch (expression below variables) (statement below variables) bytes.old.now) (statement_of result) bytes.new.now }
+    ensures { Reads (condition_and_two below variables bytes.old.now) (statement_of result) bytes.new.now }
 {
     let condition = read_expression(alloc, below, variables, bytes)?;
     let then = boxed(alloc, read_statement(alloc, below, variables, bytes));

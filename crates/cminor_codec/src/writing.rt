@@ -1,15 +1,14 @@
 //! Writers of trees: each appends the text.
 
 ghost use Rattle.std.specs.Prelude.{◌≡◌, ◌<◌, ◌^◌, All, length, map};
-ghost use Rattle.std.specs.Int.{w32, to_be_bytes};
-ghost use Rattle.std.specs.List.{flat_map};
-ghost use Rattle.lang_base.specs.Texts.{Appends, optional_text};
+ghost use Rattle.lang_base.specs.Texts.{Appends};
 ghost use Rattle.cminor_syntax.specs.Fits.{statement_count};
 ghost use Rattle.cminor_syntax.specs.Trees as T;
-ghost use Rattle.cminor_syntax.specs.Views.{expression_tree, statement_tree, statements_tree, optional_tree};
+ghost use Rattle.cminor_syntax.specs.Views.{expression_tree, statement_tree, statements_tree};
 ghost use Rattle.cminor_form.specs.Spelling.{expression_text, target_text, arguments_text, statement_text};
-ghost use Rattle.cminor_codec.specs.Codes.{expression_code, statement_code, store_text, call_text};
+ghost use Rattle.cminor_codec.specs.Codes.{expression_code, statement_code, call_text};
 ghost use Rattle.cminor_codec.specs.Short.{HasShortLists};
+ghost use Rattle.cminor_codec.specs.Parts.{expressions_text, returned_text, count_text, stored_text, statements_text};
 
 use cminor_syntax::{Expression, Statement};
 use lang_base::{NoMemory, push_byte, push_u16, push_u32};
@@ -70,7 +69,7 @@ fn push_target(out: &mut Vec<u8>, target: Option<u16>) -> Result<(), NoMemory>
 }
 
 fn push_each_expression(out: &mut Vec<u8>, expressions: &[Expression]) -> Result<(), NoMemory>
-    ensures { Appends result (flat_map (λ e. expression_text (expression_tree e)) expressions.now) out.old.items out.new.items }
+    ensures { Appends result (expressions_text expressions.now) out.old.items out.new.items }
 {
     for expression in expressions {
         push_expression(out, expression)?;
@@ -90,7 +89,7 @@ fn push_arguments(out: &mut Vec<u8>, arguments: &[Expression]) -> Result<(), NoM
 
 /// What a return gives, if anything.
 fn push_returned(out: &mut Vec<u8>, value: &Option<Expression>) -> Result<(), NoMemory>
-    ensures { Appends result (optional_text expression_text (optional_tree expression_tree value.now)) out.old.items out.new.items }
+    ensures { Appends result (returned_text value.now) out.old.items out.new.items }
 {
     match value {
         None => push_byte(out, 0),
@@ -112,7 +111,7 @@ fn are_short(statements: &[Statement])
 #[tactic(auto, using(crate::proofs::Texts::statements_count))]
 fn push_count(out: &mut Vec<u8>, statements: &[Statement]) -> Result<(), NoMemory>
     requires { statement_count (statements_tree statements.now) < 2 ^ 32 }
-    ensures { Appends result (to_be_bytes w32 (statement_count (statements_tree statements.now))) out.old.items out.new.items }
+    ensures { Appends result (count_text statements.now) out.old.items out.new.items }
 {
     push_u32(out, statements.len() as u32)
 }
@@ -143,7 +142,7 @@ fn push_store(
     index: &Expression,
     value: &Expression,
 ) -> Result<(), NoMemory>
-    ensures { Appends result (store_text global (expression_tree index.now) (expression_tree value.now)) out.old.items out.new.items }
+    ensures { Appends result (stored_text global index.now value.now) out.old.items out.new.items }
 {
     push_u16(out, global)?;
     push_expression(out, index)?;
@@ -207,7 +206,7 @@ pub fn push_statement(out: &mut Vec<u8>, statement: &Statement) -> Result<(), No
 #[cycle(writing)]
 fn push_each(out: &mut Vec<u8>, statements: &[Statement]) -> Result<(), NoMemory>
     requires { All (λ s. HasShortLists (statement_tree s)) statements.now }
-    ensures { Appends result (flat_map (λ s. statement_text (statement_tree s)) statements.now) out.old.items out.new.items }
+    ensures { Appends result (statements_text statements.now) out.old.items out.new.items }
 {
     for statement in statements {
         push_statement(out, statement)?;
