@@ -1,9 +1,10 @@
 //! Expressions whose heights are known, so that no height is measured twice.
 
 ghost use Rattle.std.specs.Prelude.{◌≡◌, ◌≤◌, IfOk, IfErr};
-ghost use Rattle.c_syntax.specs.Trees.{Number, Variable, Element, Parenthesis, Cast, Unary, Binary, Conditional};
+ghost use Rattle.c_syntax.specs.Trees.{Number, Variable, Element, Parenthesis, Cast, Unary};
 ghost use Rattle.c_syntax.specs.Views.{expression_tree};
 ghost use Rattle.c_syntax.specs.Heights.{expression_height};
+ghost use Rattle.c_reader_expressions.specs.Making.{IsBinary, IsChoice};
 
 use crate::boxing::boxes;
 use c_reader_tokens::Fault;
@@ -90,7 +91,7 @@ impl Measured {
     ) -> Result<Measured, Fault>
         requires left { left.height ≤ 255 }
         requires right { right.height ≤ 255 }
-        ensures ok { IfOk result (λ made. expression_tree made.expression ≡ Binary operator (expression_tree left.expression) (expression_tree right.expression)) }
+        ensures ok { IfOk result (λ made. IsBinary made.expression operator left.expression right.expression) }
         ensures err { IfErr result (λ e. e ≡ Fault.NoMemory) }
     {
         let height = 1 + left.height.max(right.height);
@@ -110,7 +111,7 @@ impl Measured {
         requires condition { condition.height ≤ 255 }
         requires then { then.height ≤ 255 }
         requires other { other.height ≤ 255 }
-        ensures ok { IfOk result (λ made. expression_tree made.expression ≡ Conditional (expression_tree condition.expression) (expression_tree then.expression) (expression_tree other.expression)) }
+        ensures ok { IfOk result (λ made. IsChoice made.expression condition.expression then.expression other.expression) }
         ensures err { IfErr result (λ e. e ≡ Fault.NoMemory) }
     {
         let height = 1 + condition.height.max(then.height.max(other.height));

@@ -1,9 +1,10 @@
 //! The reader: precedence climbing. What calls itself does so with less fuel.
 
-ghost use Rattle.std.specs.Prelude.{◌≡◌, ◌≢◌, ◌<◌, ◌≤◌, ◌+◌, IfOk, IfErr, Ok, Err};
+ghost use Rattle.std.specs.Prelude.{◌≡◌, ◌≢◌, ◌≤◌, IfOk, IfErr, Ok, Err};
 ghost use Rattle.c_syntax.specs.Views.{expression_tree};
-ghost use Rattle.c_reader_expression_laws.specs.Operands.{number, indexed, variable, cast, enclosed, parenthesized, signed, perhaps_signed, operand};
-ghost use Rattle.c_reader_expression_laws.specs.Reading.{operated, chosen, if_fuel, chain, expression_at};
+ghost use Rattle.c_reader_expression_laws.specs.Operands.{number, indexed, variable, cast, enclosed, parenthesized, perhaps_signed, operand};
+ghost use Rattle.c_reader_expression_laws.specs.Reading.{expression_at};
+ghost use Rattle.c_reader_expressions.specs.Measuring.{Reads, Meets, operators_behind, operator_behind, choice_behind};
 
 use crate::measured::Measured;
 use crate::operators::{binary_sign, binding, deep, next, unary_operator, unary_sign};
@@ -45,9 +46,9 @@ fn read_at(
     level: u8,
     tokens: &[Token],
 ) -> Result<(Measured, &[Token]), Fault>
-    ensures ok { IfOk result (λ r. expression_at fuel level tokens.now ≡ Ok (expression_tree r.0.expression, r.1.now)) }
+    ensures ok { IfOk result (λ r. Reads (expression_at fuel level) tokens.now r.0 r.1.now) }
     ensures low { IfOk result (λ r. r.0.height ≤ fuel) }
-    ensures err { IfErr result (λ e. e ≢ Fault.NoMemory → expression_at fuel level tokens.now ≡ Err e) }
+    ensures err { IfErr result (Meets (expression_at fuel level) tokens.now) }
 {
     if fuel == 0 {
         return Err(deep(tokens));
@@ -60,8 +61,8 @@ fn read_at(
 #[cycle(expressions)]
 #[tactic(auto, unfolding(c_reader_expression_laws::specs::Operands::operand))]
 fn operand(alloc: Global, below: u8, tokens: &[Token]) -> Result<(Measured, &[Token]), Fault>
-    ensures ok { IfOk result (λ r. operand (expression_at below) tokens.now ≡ Ok (expression_tree r.0.expression, r.1.now)) }
-    ensures err { IfErr result (λ e. e ≢ Fault.NoMemory → operand (expression_at below) tokens.now ≡ Err e) }
+    ensures ok { IfOk result (λ r. Reads (operand (expression_at below)) tokens.now r.0 r.1.now) }
+    ensures err { IfErr result (Meets (operand (expression_at below)) tokens.now) }
 {
     match tokens {
         [] => Err(misfit(tokens)),
@@ -82,8 +83,8 @@ fn operand(alloc: Global, below: u8, tokens: &[Token]) -> Result<(Measured, &[To
 /// A constant.
 #[tactic(auto, unfolding(c_reader_expression_laws::specs::Operands::number))]
 fn number(tokens: &[Token]) -> Result<(Measured, &[Token]), Fault>
-    ensures ok { IfOk result (λ r. number tokens.now ≡ Ok (expression_tree r.0.expression, r.1.now)) }
-    ensures err { IfErr result (λ e. e ≢ Fault.NoMemory → number tokens.now ≡ Err e) }
+    ensures ok { IfOk result (λ r. Reads number tokens.now r.0 r.1.now) }
+    ensures err { IfErr result (Meets number tokens.now) }
 {
     let (value, rest) = read_constant(tokens)?;
     Ok((Measured::constant(value), rest))
@@ -93,8 +94,8 @@ fn number(tokens: &[Token]) -> Result<(Measured, &[Token]), Fault>
 #[cycle(expressions)]
 #[tactic(auto, unfolding(c_reader_expression_laws::specs::Operands::variable))]
 fn variable(alloc: Global, below: u8, tokens: &[Token]) -> Result<(Measured, &[Token]), Fault>
-    ensures ok { IfOk result (λ r. variable (expression_at below) tokens.now ≡ Ok (expression_tree r.0.expression, r.1.now)) }
-    ensures err { IfErr result (λ e. e ≢ Fault.NoMemory → variable (expression_at below) tokens.now ≡ Err e) }
+    ensures ok { IfOk result (λ r. Reads (variable (expression_at below)) tokens.now r.0 r.1.now) }
+    ensures err { IfErr result (Meets (variable (expression_at below)) tokens.now) }
 {
     let (name, rest) = read_name(alloc, tokens)?;
     if is_sign_next(Punctuator::LeftBracket, rest) {
@@ -113,8 +114,8 @@ fn indexed(
     array: Identifier,
     tokens: &[Token],
 ) -> Result<(Measured, &[Token]), Fault>
-    ensures ok { IfOk result (λ r. indexed (expression_at below) array tokens.now ≡ Ok (expression_tree r.0.expression, r.1.now)) }
-    ensures err { IfErr result (λ e. e ≢ Fault.NoMemory → indexed (expression_at below) array tokens.now ≡ Err e) }
+    ensures ok { IfOk result (λ r. Reads (indexed (expression_at below) array) tokens.now r.0 r.1.now) }
+    ensures err { IfErr result (Meets (indexed (expression_at below) array) tokens.now) }
 {
     let (array, inner) = beside(array, read_sign(Punctuator::LeftBracket, tokens))?;
     let (array, (index, behind)) = beside(array, read_at(alloc, below, 0, inner))?;
@@ -127,8 +128,8 @@ fn indexed(
 #[cycle(expressions)]
 #[tactic(auto, unfolding(c_reader_expression_laws::specs::Operands::parenthesized))]
 fn parenthesized(alloc: Global, below: u8, tokens: &[Token]) -> Result<(Measured, &[Token]), Fault>
-    ensures ok { IfOk result (λ r. parenthesized (expression_at below) tokens.now ≡ Ok (expression_tree r.0.expression, r.1.now)) }
-    ensures err { IfErr result (λ e. e ≢ Fault.NoMemory → parenthesized (expression_at below) tokens.now ≡ Err e) }
+    ensures ok { IfOk result (λ r. Reads (parenthesized (expression_at below)) tokens.now r.0 r.1.now) }
+    ensures err { IfErr result (Meets (parenthesized (expression_at below)) tokens.now) }
 {
     let inner = read_sign(Punctuator::LeftParenthesis, tokens)?;
     if is_type_next(inner) {
@@ -142,8 +143,8 @@ fn parenthesized(alloc: Global, below: u8, tokens: &[Token]) -> Result<(Measured
 #[cycle(expressions)]
 #[tactic(auto, unfolding(c_reader_expression_laws::specs::Operands::cast))]
 fn cast(alloc: Global, below: u8, tokens: &[Token]) -> Result<(Measured, &[Token]), Fault>
-    ensures ok { IfOk result (λ r. cast (expression_at below) tokens.now ≡ Ok (expression_tree r.0.expression, r.1.now)) }
-    ensures err { IfErr result (λ e. e ≢ Fault.NoMemory → cast (expression_at below) tokens.now ≡ Err e) }
+    ensures ok { IfOk result (λ r. Reads (cast (expression_at below)) tokens.now r.0 r.1.now) }
+    ensures err { IfErr result (Meets (cast (expression_at below)) tokens.now) }
 {
     let (kind, behind) = read_type(tokens)?;
     let inner = read_sign(Punctuator::RightParenthesis, behind)?;
@@ -155,8 +156,8 @@ fn cast(alloc: Global, below: u8, tokens: &[Token]) -> Result<(Measured, &[Token
 #[cycle(expressions)]
 #[tactic(auto, unfolding(c_reader_expression_laws::specs::Operands::enclosed))]
 fn enclosed(alloc: Global, below: u8, tokens: &[Token]) -> Result<(Measured, &[Token]), Fault>
-    ensures ok { IfOk result (λ r. enclosed (expression_at below) tokens.now ≡ Ok (expression_tree r.0.expression, r.1.now)) }
-    ensures err { IfErr result (λ e. e ≢ Fault.NoMemory → enclosed (expression_at below) tokens.now ≡ Err e) }
+    ensures ok { IfOk result (λ r. Reads (enclosed (expression_at below)) tokens.now r.0 r.1.now) }
+    ensures err { IfErr result (Meets (enclosed (expression_at below)) tokens.now) }
 {
     let (inner, behind) = read_at(alloc, below, 0, tokens)?;
     let (inner, rest) = beside(inner, read_sign(Punctuator::RightParenthesis, behind))?;
@@ -172,8 +173,8 @@ fn perhaps_signed(
     found: Option<UnaryOperator>,
     tokens: &[Token],
 ) -> Result<(Measured, &[Token]), Fault>
-    ensures ok { IfOk result (λ r. perhaps_signed (expression_at below) found tokens.now ≡ Ok (expression_tree r.0.expression, r.1.now)) }
-    ensures err { IfErr result (λ e. e ≢ Fault.NoMemory → perhaps_signed (expression_at below) found tokens.now ≡ Err e) }
+    ensures ok { IfOk result (λ r. Reads (perhaps_signed (expression_at below) found) tokens.now r.0 r.1.now) }
+    ensures err { IfErr result (Meets (perhaps_signed (expression_at below) found) tokens.now) }
 {
     let Some(operator) = found else {
         return Err(misfit(tokens));
@@ -193,8 +194,8 @@ fn chain(
     mut left: Measured,
     tokens: &[Token],
 ) -> Result<(Measured, &[Token]), Fault>
-    ensures ok { IfOk result (λ r. chain (expression_at below) below level below (expression_tree left.expression) tokens.now ≡ Ok (expression_tree r.0.expression, r.1.now)) }
-    ensures err { IfErr result (λ e. e ≢ Fault.NoMemory → chain (expression_at below) below level below (expression_tree left.expression) tokens.now ≡ Err e) }
+    ensures ok { IfOk result (λ r. Reads (operators_behind below level left) tokens.now r.0 r.1.now) }
+    ensures err { IfErr result (Meets (operators_behind below level left) tokens.now) }
 {
     let mut rest = tokens;
     for _ in 0..below {
@@ -224,8 +225,8 @@ fn operated(
     left: Measured,
     tokens: &[Token],
 ) -> Result<(Measured, &[Token]), Fault>
-    ensures ok { IfOk result (λ r. if_fuel below (expression_tree left.expression) (operated (expression_at below) operator (expression_tree left.expression) tokens.now) ≡ Ok (expression_tree r.0.expression, r.1.now)) }
-    ensures err { IfErr result (λ e. e ≢ Fault.NoMemory → if_fuel below (expression_tree left.expression) (operated (expression_at below) operator (expression_tree left.expression) tokens.now) ≡ Err e) }
+    ensures ok { IfOk result (λ r. Reads (operator_behind below operator left) tokens.now r.0 r.1.now) }
+    ensures err { IfErr result (Meets (operator_behind below operator left) tokens.now) }
 {
     if left.height > u16::from(below) {
         return Err(Fault::TooDeep);
@@ -245,8 +246,8 @@ fn chosen(
     condition: Measured,
     tokens: &[Token],
 ) -> Result<(Measured, &[Token]), Fault>
-    ensures ok { IfOk result (λ r. if_fuel below (expression_tree condition.expression) (chosen (expression_at below) (expression_tree condition.expression) tokens.now) ≡ Ok (expression_tree r.0.expression, r.1.now)) }
-    ensures err { IfErr result (λ e. e ≢ Fault.NoMemory → if_fuel below (expression_tree condition.expression) (chosen (expression_at below) (expression_tree condition.expression) tokens.now) ≡ Err e) }
+    ensures ok { IfOk result (λ r. Reads (choice_behind below condition) tokens.now r.0 r.1.now) }
+    ensures err { IfErr result (Meets (choice_behind below condition) tokens.now) }
 {
     if condition.height > u16::from(below) {
         return Err(Fault::TooDeep);
