@@ -2,10 +2,10 @@
 
 ghost use Rattle.std.specs.Prelude.{◌≡◌, ◌+◌, ◌<◌, IfOk};
 ghost use Rattle.cminor_syntax.specs.Views.{expression_tree};
-ghost use Rattle.rtlgen_definition.specs.Gen.{operand, place, needs};
-ghost use Rattle.rtlgen_definition.specs.Gen as G;
+ghost use Rattle.rtlgen_definition.specs.Gen.{place, needs};
 ghost use Rattle.rtlgen_definition.specs.Pieces.{one};
 ghost use Rattle.rtlgen_code.specs.Adding.{Adds};
+ghost use Rattle.rtlgen_code.specs.Sources.{branch_piece, value_piece, operand_piece};
 
 use crate::graph::Graph;
 use cminor_syntax::Expression;
@@ -36,7 +36,7 @@ pub fn add_act(graph: &mut Graph, act: Act, next: u16) -> Result<u16, NoMemory>
 
 /// A branch to the first node where the register is not 0, and else to the second.
 pub fn add_branch(graph: &mut Graph, register: u16, taken: u16, other: u16) -> Result<u16, NoMemory>
-    ensures { IfOk result (λ entry. Adds (one (λ n. Instruction.Branch (record { condition = Cond.Nz; arguments = Arguments.One register }) taken other)) 0 graph.old graph.new entry) }
+    ensures { IfOk result (λ entry. Adds (branch_piece register taken other) 0 graph.old graph.new entry) }
 {
     graph.add(Instruction::Branch {
         test: Test {
@@ -58,7 +58,7 @@ pub fn add_expression(
     next: u16,
 ) -> Result<u16, NoMemory>
     requires { temporary + needs (expression_tree expression.now) < 65536 }
-    ensures { IfOk result (λ entry. Adds (G.expression (expression_tree expression.now) target temporary) next graph.old graph.new entry) }
+    ensures { IfOk result (λ entry. Adds (value_piece expression.now target temporary) next graph.old graph.new entry) }
 {
     match expression {
         Expression::Constant(word) => {
@@ -136,7 +136,7 @@ pub fn add_operand(
     next: u16,
 ) -> Result<u16, NoMemory>
     requires { temporary + needs (expression_tree expression.now) < 65536 }
-    ensures { IfOk result (λ entry. Adds (operand (expression_tree expression.now) temporary) next graph.old graph.new entry) }
+    ensures { IfOk result (λ entry. Adds (operand_piece expression.now temporary) next graph.old graph.new entry) }
 {
     match expression {
         Expression::Variable(_) => Ok(next),

@@ -2,8 +2,9 @@
 
 ghost use Rattle.std.specs.Prelude.{◌≡◌, ◌+◌, ◌<◌, ◌++◌, IfOk, OnOk, map};
 ghost use Rattle.cminor_syntax.specs.Views.{expression_tree};
-ghost use Rattle.rtlgen_definition.specs.Gen.{operands, operands_need, places};
+ghost use Rattle.rtlgen_definition.specs.Gen.{operands_need};
 ghost use Rattle.rtlgen_code.specs.Adding.{Adds};
+ghost use Rattle.rtlgen_code.specs.Sources.{operands_piece, places_of};
 
 use crate::expressions::{add_operand, place};
 use crate::graph::Graph;
@@ -18,7 +19,7 @@ fn push_places(
     temporary: u16,
 ) -> Result<(), NoMemory>
     requires { temporary + operands_need (map expression_tree arguments.now) < 65536 }
-    ensures { OnOk result (registers.new.items ≡ registers.old.items ++ places (map expression_tree arguments.now) temporary) }
+    ensures { OnOk result (registers.new.items ≡ registers.old.items ++ places_of arguments.now temporary) }
 {
     match arguments {
         [] => Ok(()),
@@ -32,7 +33,7 @@ fn push_places(
 /// The registers where arguments stand, from this temporary on.
 pub fn places(alloc: Global, arguments: &[Expression], temporary: u16) -> Result<Vec<u16>, NoMemory>
     requires { temporary + operands_need (map expression_tree arguments.now) < 65536 }
-    ensures { IfOk result (λ registers. registers.items ≡ places (map expression_tree arguments.now) temporary) }
+    ensures { IfOk result (λ registers. registers.items ≡ places_of arguments.now temporary) }
 {
     let mut registers = Vec::new(alloc);
     push_places(&mut registers, arguments, temporary)?;
@@ -47,7 +48,7 @@ pub fn add_operands(
     next: u16,
 ) -> Result<u16, NoMemory>
     requires { temporary + operands_need (map expression_tree arguments.now) < 65536 }
-    ensures { IfOk result (λ entry. Adds (operands (map expression_tree arguments.now) temporary) next graph.old graph.new entry) }
+    ensures { IfOk result (λ entry. Adds (operands_piece arguments.now temporary) next graph.old graph.new entry) }
 {
     match arguments {
         [] => Ok(next),

@@ -1,10 +1,11 @@
 //! Statements that hold no statement.
 
-ghost use Rattle.std.specs.Prelude.{◌≡◌, ◌+◌, ◌<◌, [], IfOk, map};
+ghost use Rattle.std.specs.Prelude.{◌+◌, ◌<◌, IfOk, map};
 ghost use Rattle.cminor_syntax.specs.Trees as T;
 ghost use Rattle.cminor_syntax.specs.Views.{expression_tree, optional_tree};
-ghost use Rattle.rtlgen_definition.specs.Gen.{statement, statement_needs};
+ghost use Rattle.rtlgen_definition.specs.Gen.{statement_needs};
 ghost use Rattle.rtlgen_code.specs.Adding.{Adds};
+ghost use Rattle.rtlgen_code.specs.Sources.{store_piece, call_piece, put_piece, return_piece};
 
 use crate::{Graph, add_act, add_operand, add_operands, place, places};
 use cminor_syntax::Expression;
@@ -23,7 +24,7 @@ pub(crate) fn add_store(
     next: u16,
 ) -> Result<u16, NoMemory>
     requires { temporary + statement_needs (T.Store global (expression_tree index.now) (expression_tree word.now)) < 65536 }
-    ensures { IfOk result (λ entry. Adds (statement (T.Store global (expression_tree index.now) (expression_tree word.now)) temporary []) next graph.old graph.new entry) }
+    ensures { IfOk result (Adds (store_piece global index.now word.now temporary) next graph.old graph.new) }
 {
     let last = add_act(
         graph,
@@ -49,7 +50,7 @@ pub(crate) fn add_call(
     next: u16,
 ) -> Result<u16, NoMemory>
     requires { temporary + statement_needs (T.Call function target (map expression_tree arguments.now)) < 65536 }
-    ensures { IfOk result (λ entry. Adds (statement (T.Call function target (map expression_tree arguments.now)) temporary []) next graph.old graph.new entry) }
+    ensures { IfOk result (Adds (call_piece function target arguments.now temporary) next graph.old graph.new) }
 {
     let registers = places(alloc, arguments, temporary)?;
     let last = graph.add(Instruction::Call {
@@ -70,7 +71,7 @@ pub(crate) fn add_put(
     next: u16,
 ) -> Result<u16, NoMemory>
     requires { temporary + statement_needs (T.Put target (expression_tree word.now)) < 65536 }
-    ensures { IfOk result (λ entry. Adds (statement (T.Put target (expression_tree word.now)) temporary []) next graph.old graph.new entry) }
+    ensures { IfOk result (Adds (put_piece target word.now temporary) next graph.old graph.new) }
 {
     let last = add_act(
         graph,
@@ -91,7 +92,7 @@ pub(crate) fn add_return(
     next: u16,
 ) -> Result<u16, NoMemory>
     requires { temporary + statement_needs (T.Return (optional_tree expression_tree value.now)) < 65536 }
-    ensures { IfOk result (λ entry. Adds (statement (T.Return (optional_tree expression_tree value.now)) temporary []) next graph.old graph.new entry) }
+    ensures { IfOk result (Adds (return_piece value.now temporary) next graph.old graph.new) }
 {
     match value {
         None => graph.add(Instruction::Return { value: None }),

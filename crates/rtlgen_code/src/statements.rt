@@ -2,9 +2,10 @@
 
 ghost use Rattle.std.specs.Prelude.{◌≡◌, ◌+◌, ◌<◌, All, IfOk, OnOk, reverse};
 ghost use Rattle.cminor_syntax.specs.Trees as T;
-ghost use Rattle.cminor_syntax.specs.Views.{expression_tree, statement_tree, statements_tree};
+ghost use Rattle.cminor_syntax.specs.Views.{statement_tree, statements_tree};
 ghost use Rattle.rtlgen_definition.specs.Gen as G;
 ghost use Rattle.rtlgen_code.specs.Adding.{Adds};
+ghost use Rattle.rtlgen_code.specs.Sources.{AddsStatements};
 
 use crate::blocks::{enter, exit_of, go_on, leave};
 use crate::plain::{add_call, add_put, add_return, add_store};
@@ -90,7 +91,7 @@ fn add_statements(
     next: u16,
 ) -> Result<u16, NoMemory>
     requires { All (λ s. temporary + G.statement_needs (statement_tree s) < 65536) statements.now }
-    ensures added { IfOk result (λ entry. Adds (G.statements (statements_tree statements.now) temporary (reverse exits.old.items)) next graph.old graph.new entry) }
+    ensures added { IfOk result (AddsStatements statements.now temporary exits.old.items next graph.old graph.new) }
     ensures exits { OnOk result (exits.new.items ≡ exits.old.items) }
 {
     let mut entry = next;
