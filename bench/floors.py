@@ -45,7 +45,7 @@ FLOORS = [
     ("Journals", "durable_model_writes durable_model acceptor_log_form acceptor_log"),
     ("The program", "cfarm_texts cfarm_commands cfarm_schedules cfarm"),
     ("Tests", "program_rows paxos_reference worked_agreement worked_texts worked_forms worked_offers worked_rows worked_disk "
-     "worked_journals"),
+     "worked_journals worked_rooms"),
 ]
 ORDER = [crate for _, crates in FLOORS for crate in crates.split()]
 
