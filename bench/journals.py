@@ -88,7 +88,9 @@ def add():
     subprocess.run(["git", "apply", PATCH], cwd=ROOT, check=True)
     with open(PLAN, "a", encoding="utf-8") as plan:
         plan.write(LINE)
-    return subprocess.run(["rt", "run"], cwd=os.path.join(ROOT, "crates", "journaled"), check=False).returncode
+    # without words the program does nothing
+    subprocess.run(["rt", "run"], cwd=os.path.join(ROOT, "crates", "journaled"), check=False)
+    return 0 if os.path.exists(PROGRAM) else 1
 
 
 def remove():
