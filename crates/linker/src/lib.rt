@@ -6,4 +6,5 @@ mod errors;
 mod programs;
 
 pub use errors::LinkError;
-pub use programs::{Chain, Named, link, translated};
+pub use linker_passes::{text_chain, text_chains};
+pub use programs::{Chain, Named, link, link_translated, translated};

@@ -1,4 +1,4 @@
-ghost use Rattle.std.specs.Prelude.{◌≡◌, ◌≢◌, ◌≤◌, All, IfOk, IfErr, IsErrAnd, OnOk};
+ghost use Rattle.std.specs.Prelude.{◌≡◌, ◌≢◌, ◌↔◌, ◌≤◌, All, IfOk, IfErr, IsErrAnd, OnOk};
 ghost use Rattle.lang_base.specs.Keeps.{Keeps};
 ghost use Rattle.c_program.specs.Meaning.{crun};
 ghost use Rattle.c_checker_rules.specs.Checked.{program_tree};
@@ -6,7 +6,8 @@ ghost use Rattle.cminor_lowering.specs.Programs.{low};
 ghost use Rattle.rtlgen_definition.specs.Gen.{gen};
 ghost use Rattle.rtlgen.specs.Refused.{HasFewNodes};
 ghost use Rattle.linear_language.specs.Meaning as linear;
-ghost use Rattle.linker_passes.specs.Chains.{linked, names_beside, names_of, AllChained};
+ghost use Rattle.linker_passes.specs.Chains.{linked, names_beside, names_of, AllChained, Refusal};
+ghost use Rattle.linker_passes.specs.declared.errors.LinkError.TheVariants as chain;
 ghost use Rattle.linker.specs.Refused.{IsRefused, HasNoTranslation};
 ghost use Rattle.lang_programs.specs.Seen.{seen};
 ghost use Rattle.rtl_language.specs.Meaning as rtl;
@@ -51,6 +52,28 @@ pub fn translated(
     Ok(begun)
 }
 
+/// The Linear program of the last outputs, where the chains begin with the functions of this RTL program; it keeps the
+/// RTL program's meaning. The time is linear in the program and the offers.
+pub fn link_translated(
+    alloc: Global,
+    program: &Program<rtl_language::Function>,
+    named: &[Named<'_>],
+) -> Result<Program<Function>, linker_passes::LinkError>
+    ensures ok { IfOk result (λ made. seen made ≡ linked (seen program.now) named.now) }
+    ensures same_names { IfOk result (λ made. names_of (seen made).functions ≡ names_of (seen program.now).functions) }
+    ensures chained { OnOk result (AllChained (seen program.now).functions named.now) }
+    ensures keeps { IfOk result (λ made. Keeps (rtl.run (seen program.now)) (linear.run (seen made))) }
+
+    // Tested first: the names are others, or not as many. Where they are right and all chains are whole, only memory
+    // can be refused.
+    ensures names { (result ≡ Err chain.Names) ↔ (names_beside named.now ≢ names_of (seen program.now).functions) }
+    ensures refused { IfErr result (λ e. Refusal (seen program.now).functions named.now e) }
+    ensures whole { names_beside named.now ≡ names_of (seen program.now).functions →
+        AllChained (seen program.now).functions named.now → IfErr result (λ e. e ≡ chain.NoMemory) }
+{
+    linker_passes::link::<ConstProp, Cse, Alloc, Linearize>(alloc, program, named)
+}
+
 /// The Linear program of the last outputs, which keeps the meaning of the C program: each function is the
 /// output of its fourth offer. The time is linear in the program and the offers.
 pub fn link(
@@ -68,6 +91,12 @@ pub fn link(
         IsErrAnd result (λ e. e ≢ LinkError.NoMemory → e ≡ LinkError.Names) }
     ensures few { OnOk result (All HasFewNodes (low (program_tree program.now)).functions) }
     ensures refused { IfErr result (λ e. IsRefused (low (program_tree program.now)) named.now e) }
+
+    // Where the names are the program's, no function needs too many nodes and all chains are whole, only memory can be
+    // refused.
+    ensures whole { names_beside named.now ≡ names_of (low (program_tree program.now)).functions →
+        All HasFewNodes (low (program_tree program.now)).functions →
+        AllChained (gen (low (program_tree program.now))).functions named.now → IfErr result (λ e. e ≡ LinkError.NoMemory) }
 {
     keeps_composes();
     let lowered = lower(alloc, program)?;
@@ -75,6 +104,6 @@ pub fn link(
         return Err(LinkError::Names);
     }
     let translated = translate(alloc, &lowered)?;
-    let made = linker_passes::link::<ConstProp, Cse, Alloc, Linearize>(alloc, &translated, named)?;
+    let made = link_translated(alloc, &translated, named)?;
     Ok(made)
 }

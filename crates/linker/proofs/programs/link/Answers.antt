@@ -1,12 +1,14 @@
 -- The steps one behind the other.
-use Rattle.std.proofs.Common.{ap, ◌∙◌}
+use Rattle.std.proofs.Common.{sym, ap, subst, ◌∙◌}
 use Rattle.std.proofs.lemmas.Result.{err_from_is_err_and}
 use Rattle.c_checker_rules.specs.Checked.{program_tree}
 use Rattle.cminor_lowering.specs.Programs.{low}
 use Rattle.rtlgen_definition.specs.Gen.{gen}
-use Rattle.linker_passes.specs.Chains.{names_of}
+use Rattle.linker_passes.specs.Chains.{names_of, AllChained}
 use Rattle.lang_programs.specs.Seen.{seen}
-use Rattle.linker.proofs.Steps.{names_translated, refused_along}
+use Rattle.rtlgen.specs.Refused as translation
+use Rattle.linker.specs.Numbers.{refusal_to_link}
+use Rattle.linker.proofs.Steps.{names_translated, refused_along, few_translate}
 use Rattle.linker.proofs.programs.link.Goals as goal
 
 pub returns-in_err-made-clause-refused : goal.returns-in_err-made-clause-refused
@@ -24,3 +26,17 @@ returns-clause-same_names c =
 pub returns-clause-keeps : goal.returns-clause-keeps
 returns-clause-keeps c =
     c.keeps_composes.ensures _ _ _ c.in_ok-lowered.ensures.keeps (c.keeps_composes.ensures _ _ _ c.in_ok-translated.ensures.keeps c.in_ok-made.ensures.keeps)
+
+pub returns-in_err-translated-clause-whole : goal.returns-in_err-translated-clause-whole
+returns-in_err-translated-clause-whole c = λ names few chained.
+    let told = subst (λ p. translation.IsRefused p.functions c.in_err-translated.field-0.0) c.in_ok-lowered.ensures.same c.in_err-translated.ensures.refused in
+    let p = err_from_is_err_and c.from_residual-in_err-translated.result c.from_residual-in_err-translated.ensures.1 in
+    rw (p.1, p.2) (few_translate (low (program_tree c.args.program.now)).functions c.in_err-translated.field-0.0 few told)
+
+pub returns-in_err-made-clause-whole : goal.returns-in_err-made-clause-whole
+returns-in_err-made-clause-whole c = λ names few chained.
+    let same = c.in_ok-translated.ensures.same ∙ ap gen c.in_ok-lowered.ensures.same in
+    let names_are = names ∙ sym (names_translated (low (program_tree c.args.program.now)).functions) ∙ sym (ap (λ p. names_of p.functions) same) in
+    let chains_are = subst (λ p. AllChained p.functions c.args.named.now) (sym same) chained in
+    let p = err_from_is_err_and c.from_residual-in_err-made.result c.from_residual-in_err-made.ensures.1 in
+    rw (p.1, p.2) (ap refusal_to_link (c.in_err-made.ensures.whole names_are chains_are))
