@@ -2,7 +2,7 @@
 use Rattle.std.proofs.Common.{◌≡◌, ℕ, List, ◌++◌, length, arith}
 use Rattle.std.proofs.lemmas.List.Elements.{recursion_from_All}
 use Rattle.lang_base.specs.Keeps.{Keeps}
-use Rattle.lang_base.specs.Programs.{ProgramOf}
+use Rattle.lang_base.specs.declared.program.Program.{Program}
 use Rattle.lang_base.specs.Soundness.{AllFit, Accepted}
 use Rattle.lang_base.proofs.Forms.{one_text}
 use Rattle.rtl_language.specs.Function as rtl
@@ -17,7 +17,7 @@ use Rattle.alloc_check_laws.specs.Text.{CertFits, cert_text}
 use Rattle.alloc_check_laws.proofs.Forms.{equations_form}
 
 -- what is accepted keeps the meaning
-pub sound_law : (p : ProgramOf rtl.FunctionData) (q : ProgramOf ltl.FunctionData) → AllFit rtl.IsFunction p → AllFit ltl.IsFunction q → Accepted IsAllocated p q → Keeps (rtl_meaning.run p) (run q)
+pub sound_law : (p : Program rtl.FunctionData) (q : Program ltl.FunctionData) → AllFit rtl.IsFunction p → AllFit ltl.IsFunction q → Accepted IsAllocated p q → Keeps (rtl_meaning.run p) (run q)
 sound_law p q fits also accepted = sound p q fits also accepted
 
 list_fits : (registers slots : ℕ) (es : List Equation) → IsInOrder registers slots es → ListFits (EquationFits registers slots) es

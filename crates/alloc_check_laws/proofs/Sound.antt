@@ -6,7 +6,9 @@ use Rattle.std.proofs.lemmas.List.{length-replicate}
 use Rattle.std.proofs.lemmas.List.Elements.{All-head, All-tail}
 use Rattle.lang_base.specs.Keeps.{Keeps}
 use Rattle.lang_base.specs.Machine.{showing, shows, Leads, Matches}
-use Rattle.lang_base.specs.Programs.{GlobalData, NamedFunction, ProgramOf}
+use Rattle.lang_base.specs.declared.program.Global.{Global}
+use Rattle.lang_base.specs.declared.program.Named.{Named}
+use Rattle.lang_base.specs.declared.program.Program.{Program}
 use Rattle.lang_base.specs.Soundness.{AllFit, Accepted, AcceptedInTurn}
 use Rattle.lang_base.specs.declared.shown.Shown.TheVariants as shown
 use Rattle.lang_base.proofs.Simulation.{leads-step, keeps-matches}
@@ -26,7 +28,7 @@ use Rattle.alloc_check_rules.proofs.Entries.{nothing_there}
 use Rattle.alloc_check_laws.proofs.Steps.{pair_of, state_goes, state_ends}
 
 -- each step of the first program is matched by one step of the second
-matched : (sources : List (NamedFunction rtl.FunctionData)) (targets : List (NamedFunction ltl.FunctionData)) → AcceptedInTurn IsSound sources targets → Matches (rtl_meaning.next sources) rtl_frames.printed (next targets) printed (Related sources targets)
+matched : (sources : List (Named rtl.FunctionData)) (targets : List (Named ltl.FunctionData)) → AcceptedInTurn IsSound sources targets → Matches (rtl_meaning.next sources) rtl_frames.printed (next targets) printed (Related sources targets)
 matched sources targets accepted = record {
   goes = λ s s' t r goes.
       let m = state_goes sources targets accepted s r.pair t.here t.callers r.agrees r.callers (slice_get r.pair.source.function.nodes s.place) refl s' goes in
@@ -39,7 +41,7 @@ matched sources targets accepted = record {
 }
 
 -- main has the same number in both
-main_number_same : (fs : List (NamedFunction rtl.FunctionData)) (gs : List (NamedFunction ltl.FunctionData)) → AcceptedInTurn IsSound fs gs → main_number rtl_meaning.takes_none fs ≡ main_number takes_none gs
+main_number_same : (fs : List (Named rtl.FunctionData)) (gs : List (Named ltl.FunctionData)) → AcceptedInTurn IsSound fs gs → main_number rtl_meaning.takes_none fs ≡ main_number takes_none gs
 main_number_same [] [] accepted = refl
 main_number_same [] (g ∷ gs) accepted = absurd accepted
 main_number_same (f ∷ fs) [] accepted = absurd accepted
@@ -51,7 +53,7 @@ main_number_same (f ∷ fs) (g ∷ gs) accepted =
     ∙ ap (λ n. cond (bytes_eq g.name (codes "main") && takes_none g.function) 0 (suc n)) (main_number_same fs gs accepted.1)
 
 -- where main is, both programs begin related: nothing is defined in the first
-main_starts : (globals : List GlobalData) (fs : List (NamedFunction rtl.FunctionData)) (gs : List (NamedFunction ltl.FunctionData)) → AcceptedInTurn IsSound fs gs → (number : ℕ) (p : Pair fs gs number) → Keeps (λ n. shows (rtl_meaning.next fs) rtl_frames.printed n (rtl_meaning.begins globals number (Some p.source))) (λ n. shows (next gs) printed n (begins globals number p.target.function.entry p.target.function.slots))
+main_starts : (globals : List Global) (fs : List (Named rtl.FunctionData)) (gs : List (Named ltl.FunctionData)) → AcceptedInTurn IsSound fs gs → (number : ℕ) (p : Pair fs gs number) → Keeps (λ n. shows (rtl_meaning.next fs) rtl_frames.printed n (rtl_meaning.begins globals number (Some p.source))) (λ n. shows (next gs) printed n (begins globals number p.target.function.entry p.target.function.slots))
 main_starts globals fs gs accepted number p =
     let s : rtl_frames.State = rtl_meaning.begins globals number (Some p.source) in
     let t : State = begins globals number p.target.function.entry p.target.function.slots in
@@ -71,7 +73,7 @@ main_starts globals fs gs accepted number p =
     } in
     keeps-matches (rtl_meaning.next fs) rtl_frames.printed (next gs) printed (Related fs gs) (matched fs gs accepted) (grows gs) s t related
 
-starts : (globals : List GlobalData) (fs : List (NamedFunction rtl.FunctionData)) (gs : List (NamedFunction ltl.FunctionData)) → AcceptedInTurn IsSound fs gs → (number : ℕ) (o : Option (NamedFunction rtl.FunctionData)) → slice_get fs number ≡ o → Keeps (λ n. shows (rtl_meaning.next fs) rtl_frames.printed n (rtl_meaning.begins globals number o)) (λ n. shows (next gs) printed n (begins globals number (entry_of (slice_get gs number)) (slots_of (slice_get gs number))))
+starts : (globals : List Global) (fs : List (Named rtl.FunctionData)) (gs : List (Named ltl.FunctionData)) → AcceptedInTurn IsSound fs gs → (number : ℕ) (o : Option (Named rtl.FunctionData)) → slice_get fs number ≡ o → Keeps (λ n. shows (rtl_meaning.next fs) rtl_frames.printed n (rtl_meaning.begins globals number o)) (λ n. shows (next gs) printed n (begins globals number (entry_of (slice_get gs number)) (slots_of (slice_get gs number))))
 starts globals fs gs accepted number None e =
     λ never. absurd (never 1 (ap (λ x. (showing (rtl_meaning.function_step fs (rtl_meaning.begins globals number None) x) (shows (rtl_meaning.next fs) rtl_frames.printed 0) []).shown) e))
 starts globals fs gs accepted number (Some f) e =
@@ -82,7 +84,7 @@ starts globals fs gs accepted number (Some f) e =
     (subst (λ x. Keeps (λ n. shows (rtl_meaning.next fs) rtl_frames.printed n (rtl_meaning.begins globals number (Some x))) (λ n. shows (next gs) printed n (begins globals number p.target.function.entry p.target.function.slots))) found.1 both)
 
 -- functions that are accepted and in range
-all_sound : (fs : List (NamedFunction rtl.FunctionData)) (gs : List (NamedFunction ltl.FunctionData)) → All (λ f. rtl.IsFunction f.function) fs → All (λ g. ltl.IsFunction g.function) gs → AcceptedInTurn IsAllocated fs gs → AcceptedInTurn IsSound fs gs
+all_sound : (fs : List (Named rtl.FunctionData)) (gs : List (Named ltl.FunctionData)) → All (λ f. rtl.IsFunction f.function) fs → All (λ g. ltl.IsFunction g.function) gs → AcceptedInTurn IsAllocated fs gs → AcceptedInTurn IsSound fs gs
 all_sound [] [] fits also accepted = tt
 all_sound [] (g ∷ gs) fits also accepted = absurd accepted
 all_sound (f ∷ fs) [] fits also accepted = absurd accepted
@@ -92,7 +94,7 @@ all_sound (f ∷ fs) (g ∷ gs) fits also accepted =
       all_sound fs gs (All-tail (λ f. rtl.IsFunction f.function) f fs fits) (All-tail (λ g. ltl.IsFunction g.function) g gs also) accepted.1,
     )
 
-pub sound : (p : ProgramOf rtl.FunctionData) (q : ProgramOf ltl.FunctionData) → AllFit rtl.IsFunction p → AllFit ltl.IsFunction q → Accepted IsAllocated p q → Keeps (rtl_meaning.run p) (run q)
+pub sound : (p : Program rtl.FunctionData) (q : Program ltl.FunctionData) → AllFit rtl.IsFunction p → AllFit ltl.IsFunction q → Accepted IsAllocated p q → Keeps (rtl_meaning.run p) (run q)
 sound p q fits also accepted =
     let sounds = all_sound p.functions q.functions fits also accepted.functions in
     let number = main_number rtl_meaning.takes_none p.functions in

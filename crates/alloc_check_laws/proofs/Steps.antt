@@ -8,7 +8,7 @@ use Rattle.std.proofs.lemmas.List.{length-set, length-map, length-replicate, get
 use Rattle.std.proofs.lemmas.List.Elements.{All-from_recursion}
 use Rattle.std.proofs.lemmas.Option.{slice_get_within, slice_get-get_or}
 use Rattle.lang_base.specs.Machine.{Next, Goes, Ends, Fails}
-use Rattle.lang_base.specs.Programs.{NamedFunction}
+use Rattle.lang_base.specs.declared.program.Named.{Named}
 use Rattle.lang_base.specs.Soundness.{AcceptedInTurn}
 use Rattle.locations.specs.declared.location.Location.{Location}
 use Rattle.locations.specs.declared.location.Location.TheVariants.{InRegister}
@@ -158,7 +158,7 @@ returned_covered d e (Some r) (Some k) is used v known =
 -- ---- programs
 
 -- the functions of a number, accepted
-pub pair_of : (fs : List (NamedFunction rtl.FunctionData)) (gs : List (NamedFunction ltl.FunctionData)) → AcceptedInTurn IsSound fs gs → (k : ℕ) (f : NamedFunction rtl.FunctionData) → slice_get fs k ≡ Some f → (p : Pair fs gs k) × (p.source ≡ f)
+pub pair_of : (fs : List (Named rtl.FunctionData)) (gs : List (Named ltl.FunctionData)) → AcceptedInTurn IsSound fs gs → (k : ℕ) (f : Named rtl.FunctionData) → slice_get fs k ≡ Some f → (p : Pair fs gs k) × (p.source ≡ f)
 pair_of [] gs accepted k f e = cc
 pair_of (f' ∷ fs) [] accepted k f e = absurd accepted
 pair_of (f' ∷ fs) (g ∷ gs) accepted zero f e =
@@ -170,7 +170,7 @@ pair_of (f' ∷ fs) (g ∷ gs) accepted (suc k) f e =
     let q = p.0 in
     (record { source = q.source; target = q.target; lists = q.lists; is_source = q.is_source; is_target = q.is_target; sound = q.sound }, p.1)
 
-module _ (sources : List (NamedFunction rtl.FunctionData)) (targets : List (NamedFunction ltl.FunctionData)) where
+module _ (sources : List (Named rtl.FunctionData)) (targets : List (Named ltl.FunctionData)) where
   -- the second goes to a state that stands where the first's does
   abbrev Arrives : rtl_frames.State → Next State → Type 0
   Arrives s' x = (t' : State) × (x ≡ Goes t') × Related sources targets s' t'
@@ -383,7 +383,7 @@ module _ (sources : List (NamedFunction rtl.FunctionData)) (targets : List (Name
           subst (λ x. Arrives x (calls t first number ws caller' (Some (callee_of c.target)))) there
           (t', ap (λ b. cond b (Goes t') Fails) takes', related')
 
-      call_goes : (f : ℕ) (names : List ℕ) (target : Option ℕ) (n h : ℕ) (places : List Location) (place : Option Location) (after : List Move) (m : ℕ) → AllByRecursion (MoveFits slots) after → (change : Change) → cond (eqb f h && eqb (length names) (length places) && eqb n m) (result_change target place) None ≡ Some change → IsCarried p.lists es (Call f names target n) (record { before = before; body = body.Call h places place after m }) change → (o : Option (NamedFunction rtl.FunctionData)) → slice_get sources f ≡ o → (s' : rtl_frames.State) → rtl_meaning.calls s f (map (λ a. rtl_data.value_at a s.here) names) (rtl_meaning.waiting s target n) o ≡ Goes s' → Arrives s' (calls t first h (values_of places first) (waiting t first place m after) (option_map callee_of (slice_get targets h)))
+      call_goes : (f : ℕ) (names : List ℕ) (target : Option ℕ) (n h : ℕ) (places : List Location) (place : Option Location) (after : List Move) (m : ℕ) → AllByRecursion (MoveFits slots) after → (change : Change) → cond (eqb f h && eqb (length names) (length places) && eqb n m) (result_change target place) None ≡ Some change → IsCarried p.lists es (Call f names target n) (record { before = before; body = body.Call h places place after m }) change → (o : Option (Named rtl.FunctionData)) → slice_get sources f ≡ o → (s' : rtl_frames.State) → rtl_meaning.calls s f (map (λ a. rtl_data.value_at a s.here) names) (rtl_meaning.waiting s target n) o ≡ Goes s' → Arrives s' (calls t first h (values_of places first) (waiting t first place m after) (option_map callee_of (slice_get targets h)))
       call_goes f names target n h places place after m fits change is carried None there s' goes = cc (goes)
       call_goes f names target n h places place after m fits change is carried (Some callee) there s' goes =
           let parts = cond_some (eqb f h && eqb (length names) (length places) && eqb n m) (result_change target place) change is in
@@ -428,7 +428,7 @@ module _ (sources : List (NamedFunction rtl.FunctionData)) (targets : List (Name
       branch_runs n o None result ends = cc (ends)
       branch_runs n o (Some answer) result ends = cc (ends)
 
-      call_runs : (f : ℕ) (vs : List (Option ℕ)) (caller : rtl_frames.Frame) (o : Option (NamedFunction rtl.FunctionData)) (result : ℕ) → rtl_meaning.calls s f vs caller o ≡ Ends result → ⊥
+      call_runs : (f : ℕ) (vs : List (Option ℕ)) (caller : rtl_frames.Frame) (o : Option (Named rtl.FunctionData)) (result : ℕ) → rtl_meaning.calls s f vs caller o ≡ Ends result → ⊥
       call_runs f vs caller None result ends = cc (ends)
       call_runs f vs caller (Some c) result ends = at (length vs == length c.function.parameters) ends
         where

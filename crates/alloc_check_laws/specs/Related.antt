@@ -1,6 +1,6 @@
 -- When a state of the program of LTL stands where a state of that of RTL does.
 use Rattle.std.specs.Prelude.{◌≡◌, ℕ, List, [], ◌∷◌, length, Option, Some, All, slice_get}
-use Rattle.lang_base.specs.Programs.{NamedFunction}
+use Rattle.lang_base.specs.declared.program.Named.{Named}
 use Rattle.rtl_parts.specs.Data as rtl_data
 use Rattle.rtl_parts.specs.Acts as rtl_acts
 use Rattle.rtl_language.specs.Function as rtl
@@ -26,9 +26,9 @@ pub record IsSound (f : rtl.FunctionData) (g : ltl.FunctionData) (lists : List (
   pub allocated : IsAllocated f g lists
 
 -- the functions of a number in both programs, and the equations with which the one is accepted for the other
-pub record Pair (sources : List (NamedFunction rtl.FunctionData)) (targets : List (NamedFunction ltl.FunctionData)) (number : ℕ) : Type 0 where
-  pub source : NamedFunction rtl.FunctionData
-  pub target : NamedFunction ltl.FunctionData
+pub record Pair (sources : List (Named rtl.FunctionData)) (targets : List (Named ltl.FunctionData)) (number : ℕ) : Type 0 where
+  pub source : Named rtl.FunctionData
+  pub target : Named ltl.FunctionData
   pub lists : List (List Equation)
   pub is_source : slice_get sources number ≡ Some source
   pub is_target : slice_get targets number ≡ Some target
@@ -36,7 +36,7 @@ pub record Pair (sources : List (NamedFunction rtl.FunctionData)) (targets : Lis
 
 -- Callers that wait at one node: once r0 to r3 are lost, the result is put where each call wants it and the moves are
 -- done, the equations at the node hold, whatever was returned.
-pub record FrameRelated (sources : List (NamedFunction rtl.FunctionData)) (targets : List (NamedFunction ltl.FunctionData)) (f : rtl_frames.Frame) (g : Frame) : Type 0 where
+pub record FrameRelated (sources : List (Named rtl.FunctionData)) (targets : List (Named ltl.FunctionData)) (f : rtl_frames.Frame) (g : Frame) : Type 0 where
   pub pair : Pair sources targets f.function
   pub function : g.function ≡ f.function
   pub place : g.place ≡ f.place
@@ -45,14 +45,14 @@ pub record FrameRelated (sources : List (NamedFunction rtl.FunctionData)) (targe
   pub holds : (value : Option ℕ) (d : rtl_data.Data) (e : Data) → d.registers ≡ f.registers → e.registers ≡ after_call g.registers → e.slots ≡ g.slots →
       All (Holds (rtl_acts.with_result f.target value d) (all_moved g.moves (with_result g.target value e))) (equations_at pair.lists f.place)
 
-abbrev pub FramesRelated : List (NamedFunction rtl.FunctionData) → List (NamedFunction ltl.FunctionData) → List rtl_frames.Frame → List Frame → Type 0
+abbrev pub FramesRelated : List (Named rtl.FunctionData) → List (Named ltl.FunctionData) → List rtl_frames.Frame → List Frame → Type 0
 FramesRelated sources targets [] [] = Unit {0}
 FramesRelated sources targets [] (g ∷ gs) = ⊥
 FramesRelated sources targets (f ∷ fs) [] = ⊥
 FramesRelated sources targets (f ∷ fs) (g ∷ gs) = FrameRelated sources targets f g × FramesRelated sources targets fs gs
 
 -- Both states are in the same function at the same node, where the equations hold.
-pub record Related (sources : List (NamedFunction rtl.FunctionData)) (targets : List (NamedFunction ltl.FunctionData)) (s : rtl_frames.State) (t : State) : Type 0 where
+pub record Related (sources : List (Named rtl.FunctionData)) (targets : List (Named ltl.FunctionData)) (s : rtl_frames.State) (t : State) : Type 0 where
   pub pair : Pair sources targets s.function
   pub same : t ≡ record { function = s.function; place = s.place; here = t.here; callers = t.callers }
   pub agrees : Agrees pair.target.function.slots (equations_at pair.lists s.place) s.here t.here

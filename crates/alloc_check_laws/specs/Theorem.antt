@@ -1,6 +1,6 @@
 -- That what register allocation accepts keeps the meaning of whole programs.
 use Rattle.lang_base.specs.Keeps.{Keeps}
-use Rattle.lang_base.specs.Programs.{ProgramOf}
+use Rattle.lang_base.specs.declared.program.Program.{Program}
 use Rattle.lang_base.specs.Soundness.{AllFit, Accepted}
 use Rattle.rtl_language.specs.Function as rtl
 use Rattle.rtl_language.specs.Meaning as rtl_meaning
@@ -9,4 +9,4 @@ use Rattle.ltl.specs.Meaning.{run}
 use Rattle.alloc_check_rules.specs.Rules.{IsAllocated}
 
 abbrev pub AllocatedKeeps : Type 0
-AllocatedKeeps = (p : ProgramOf rtl.FunctionData) (q : ProgramOf FunctionData) → AllFit rtl.IsFunction p → AllFit IsFunction q → Accepted IsAllocated p q → Keeps (rtl_meaning.run p) (run q)
+AllocatedKeeps = (p : Program rtl.FunctionData) (q : Program FunctionData) → AllFit rtl.IsFunction p → AllFit IsFunction q → Accepted IsAllocated p q → Keeps (rtl_meaning.run p) (run q)

@@ -2,7 +2,7 @@
 use Rattle.std.specs.Prelude.{◌≡◌, ℕ, List, [], ◌∷◌, ◌++◌}
 use Rattle.hex.specs.Hex.{encode_lower}
 use Rattle.lang_base.specs.Keeps.{Keeps}
-use Rattle.lang_base.specs.Programs.{GlobalData}
+use Rattle.lang_base.specs.declared.program.Global.{Global}
 use Rattle.offers.specs.OneFunction.{program_of_one}
 use Rattle.ltl.specs.Function as ltl
 use Rattle.ltl.specs.Meaning as ltl_meaning
@@ -32,7 +32,7 @@ pub record IsSettled (bytes printed : List ℕ) : Type 0 where
   pub laid_out : IsLaidOut input output order
   pub ordered : IsOrderOf node input order
   pub learned : IsLearnedByAll node
-  pub keeps : (globals : List GlobalData) (name : List ℕ) →
+  pub keeps : (globals : List Global) (name : List ℕ) →
       Keeps (ltl_meaning.run (program_of_one globals name input)) (linear_meaning.run (program_of_one globals name output))
   pub prints : printed ≡ encode_lower (linear_spelling.spelling output) ++ ending
 

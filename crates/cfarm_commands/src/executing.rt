@@ -1,5 +1,5 @@
 ghost use Rattle.std.specs.Prelude.{◌≡◌, IfOk, IfErr, Ok};
-ghost use Rattle.lang_base.specs.Programs.{ProgramOf};
+ghost use Rattle.lang_base.specs.declared.program.Program.{Program};
 ghost use Rattle.linear_language.specs.Function.{FunctionData};
 ghost use Rattle.linear_language.specs.Meaning.{run};
 ghost use Rattle.lang_programs.specs.Written.{Wrote};
@@ -21,7 +21,7 @@ pub fn exec<W: Write>(
     out: &mut W,
 ) -> Result<Shown, ExecError>
     // The bytes spell a program, and what it does within the bound was written and is told.
-    ensures ran { IfOk result (λ shown. (p : ProgramOf FunctionData) × IsSpelled bytes.now p × Wrote (run p limit) (Ok shown) (W.contents out.old) (W.contents out.new)) }
+    ensures ran { IfOk result (λ shown. (p : Program FunctionData) × IsSpelled bytes.now p × Wrote (run p limit) (Ok shown) (W.contents out.old) (W.contents out.new)) }
     // Bytes are refused only where they spell no program, and then nothing is printed; a run that is broken off
     // wrote a beginning of the output.
     ensures refused { IfErr result (λ fault. IsTold bytes.now fault) }

@@ -1,5 +1,4 @@
 ghost use Rattle.std.specs.Prelude.{◌≡◌, IfOk, IfErr};
-ghost use Rattle.lang_programs.specs.Seen.{seen};
 ghost use Rattle.cfarm_commands.specs.ExecTold.{IsSpelled, IsFormTold};
 
 use lang::{one_program, read_program};
@@ -9,7 +8,7 @@ use std::alloc::Global;
 
 /// The program that all of the bytes spell.
 pub(crate) fn read_whole(alloc: Global, bytes: &[u8]) -> Result<Program<Function>, FormError>
-    ensures ok { IfOk result (λ program. IsSpelled bytes.now (seen program)) }
+    ensures ok { IfOk result (λ program. IsSpelled bytes.now program) }
     ensures refused { IfErr result (λ fault. IsFormTold bytes.now fault) }
 {
     one_program::<Linear>();

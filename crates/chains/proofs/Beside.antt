@@ -1,8 +1,7 @@
 -- What offers that are lent beside names link.
 use Rattle.std.proofs.Common.{◌≡◌, ℕ, zero, suc, ◌<◌, List, [], ◌∷◌, ◌++◌, length, take, map, get_or, Option, Some, None, refl, sym, ap, subst, ◌∙◌, arith}
 use Rattle.lang_base.specs.declared.program.Named as code
-use Rattle.lang_base.specs.Programs.{NamedFunction}
-use Rattle.lang_programs.specs.Seen.{named_seen}
+use Rattle.lang_base.specs.declared.program.Named.{Named}
 use Rattle.rtl_language.specs.Function.{FunctionData}
 use Rattle.linear_language.specs.Function as linear
 use Rattle.linker_passes.specs.Chains.{HasChain, AllChained, made_of, all_made_of, names_of, names_beside}
@@ -26,7 +25,7 @@ beside_next (x ∷ functions) (y ∷ offers) (suc n) (z ∷ all) f o named below
 
 -- the names are the functions'
 pub names_are : (functions : List (code.Named FunctionData)) (offers : List Offers) (named : List Named) → AreBeside functions offers named
-    → names_beside named ≡ names_of (map named_seen functions)
+    → names_beside named ≡ names_of functions
 names_are [] [] [] are = refl
 names_are [] [] (n ∷ named) are = absurd are
 names_are [] (o ∷ offers) named are = absurd are
@@ -45,7 +44,7 @@ has_chain f o (Some chain) lent go = record {
 }
 
 pub chained : (functions : List (code.Named FunctionData)) (offers : List Offers) (named : List Named) → AreBeside functions offers named
-    → AllGoOn (map named_seen functions) offers → AllChained (map named_seen functions) named
+    → AllGoOn functions offers → AllChained functions named
 chained [] [] [] are go = tt
 chained [] [] (n ∷ named) are go = absurd are
 chained [] (o ∷ offers) named are go = absurd are
@@ -64,7 +63,7 @@ goes_on f o (Some chain) lent is = record {
 }
 
 pub all_go_on : (functions : List (code.Named FunctionData)) (offers : List Offers) (named : List Named) → AreBeside functions offers named
-    → AllChained (map named_seen functions) named → AllGoOn (map named_seen functions) offers
+    → AllChained functions named → AllGoOn functions offers
 all_go_on [] [] [] are all = tt
 all_go_on [] [] (n ∷ named) are all = absurd are
 all_go_on [] (o ∷ offers) named are all = absurd are
@@ -73,16 +72,16 @@ all_go_on (f ∷ functions) (o ∷ offers) [] are all = absurd are
 all_go_on (f ∷ functions) (o ∷ offers) (n ∷ named) are all = (goes_on f.function o n.chain are.0.lends all.0, all_go_on functions offers named are.1 all.1)
 
 -- what is made is the output of the last offer
-one_end : (name : List ℕ) (o : Offers) (chain : Option Chain) (rest rest' : List (NamedFunction linear.FunctionData)) → LendsTo o chain → rest ≡ rest'
+one_end : (name : List ℕ) (o : Offers) (chain : Option Chain) (rest rest' : List (Named linear.FunctionData)) → LendsTo o chain → rest ≡ rest'
     → made_of (λ c. c.fourth.now.output) name chain ++ rest ≡ record { name = name; function = o.order.output } ∷ rest'
 one_end name o None rest rest' lent e = absurd lent
 one_end name o (Some chain) rest rest' lent e = λ i. record { name = name; function = (lent.fourth i).output } ∷ e i
 
 pub all_ends : (functions : List (code.Named FunctionData)) (offers : List Offers) (named : List Named) → AreBeside functions offers named
-    → all_made_of (λ c. c.fourth.now.output) (map named_seen functions) named ≡ ends_of (map named_seen functions) offers
+    → all_made_of (λ c. c.fourth.now.output) functions named ≡ ends_of functions offers
 all_ends [] [] [] are = refl
 all_ends [] [] (n ∷ named) are = absurd are
 all_ends [] (o ∷ offers) named are = absurd are
 all_ends (f ∷ functions) [] named are = absurd are
 all_ends (f ∷ functions) (o ∷ offers) [] are = absurd are
-all_ends (f ∷ functions) (o ∷ offers) (n ∷ named) are = one_end f.name.items o n.chain _ _ are.0.lends (all_ends functions offers named are.1)
+all_ends (f ∷ functions) (o ∷ offers) (n ∷ named) are = one_end f.name o n.chain _ _ are.0.lends (all_ends functions offers named are.1)

@@ -2,8 +2,7 @@
 use Rattle.std.proofs.Common.{◌≡◌, ℕ, zero, suc, List, [], ◌∷◌, take, map, Option, Some, None, subst}
 use Rattle.std.specs.Prelude.{slice_get}
 use Rattle.lang_base.specs.declared.program.Named as code
-use Rattle.lang_base.specs.Programs.{NamedFunction}
-use Rattle.lang_programs.specs.Seen.{named_seen}
+use Rattle.lang_base.specs.declared.program.Named.{Named}
 use Rattle.rtl_language.specs.Function.{FunctionData}
 use Rattle.linker_passes.specs.declared.errors.LinkError as chains
 use Rattle.linker_passes.specs.declared.errors.LinkError.TheVariants as chain
@@ -33,26 +32,26 @@ none_missing (f ∷ functions) (o ∷ offers) (n ∷ named) zero m are there mis
 none_missing (f ∷ functions) (o ∷ offers) (n ∷ named) (suc i) m are there missing = none_missing functions offers named i m are.1 there missing
 
 -- the chain that is broken is of offers that do not go on
-module _ (g : NamedFunction FunctionData) (m : Named) (chain : Chain) (offered : m.chain ≡ Some chain) (broken : IsChain g.function chain → ⊥) where
-  broken_here : (f : NamedFunction FunctionData) (o : Offers) (n : Named) → f ≡ g → n ≡ m → LendsTo o n.chain → GoOnFrom f.function o → ⊥
+module _ (g : Named FunctionData) (m : Named) (chain : Chain) (offered : m.chain ≡ Some chain) (broken : IsChain g.function chain → ⊥) where
+  broken_here : (f : Named FunctionData) (o : Offers) (n : Named) → f ≡ g → n ≡ m → LendsTo o n.chain → GoOnFrom f.function o → ⊥
   broken_here f o n ef en lent go =
       broken (subst (λ c. HasChain g.function c) offered (subst (λ x. HasChain g.function x.chain) en (subst (λ h. HasChain h.function n.chain) ef (has_chain f.function o n.chain lent go))))
 
   first_broken : (functions : List (code.Named FunctionData)) (offers : List Offers) (named : List Named) (i : ℕ) → AreBeside functions offers named
-      → AllChained (take i (map named_seen functions)) (take i named) → slice_get (map named_seen functions) i ≡ Some g → slice_get named i ≡ Some m
-      → IsFirstBroken (map named_seen functions) offers i
+      → AllChained (take i functions) (take i named) → slice_get functions i ≡ Some g → slice_get named i ≡ Some m
+      → IsFirstBroken functions offers i
   first_broken [] [] [] i are before of there = absurd (cc of)
   first_broken [] [] (n ∷ named) i are before of there = absurd are
   first_broken [] (o ∷ offers) named i are before of there = absurd are
   first_broken (f ∷ functions) [] named i are before of there = absurd are
   first_broken (f ∷ functions) (o ∷ offers) [] i are before of there = absurd are
   first_broken (f ∷ functions) (o ∷ offers) (n ∷ named) zero are before of there =
-      broken_here (named_seen f) o n (cc of) (cc there) are.0.lends
+      broken_here f o n (cc of) (cc there) are.0.lends
   first_broken (f ∷ functions) (o ∷ offers) (n ∷ named) (suc i) are before of there =
       (goes_on f.function o n.chain are.0.lends before.0, first_broken functions offers named i are.1 before.1 of there)
 
 pub unlinked : (functions : List (code.Named FunctionData)) (offers : List Offers) (named : List Named) (e : chains.LinkError) → AreBeside functions offers named
-    → Refusal (map named_seen functions) named e → IsUnlinked (map named_seen functions) offers (refusal_to_link e)
+    → Refusal functions named e → IsUnlinked functions offers (refusal_to_link e)
 unlinked functions offers named chain.NoMemory are told = tt
 unlinked functions offers named chain.Names are told = absurd (told (names_are functions offers named are))
 unlinked functions offers named (chain.Missing i) are told = absurd (none_missing functions offers named i told.beside are told.there told.missing)

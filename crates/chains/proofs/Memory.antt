@@ -1,6 +1,6 @@
 -- Refusals that are for want of memory.
 use Rattle.std.proofs.Common.{◌≡◌, ◌≢◌, refl, sym, subst}
-use Rattle.lang_base.specs.Programs.{ProgramOf}
+use Rattle.lang_base.specs.declared.program.Program.{Program}
 use Rattle.lang_base.specs.declared.errors.PassError.{PassError}
 use Rattle.lang_base.specs.declared.errors.PassError.TheVariants.{NoMemory, TooManyRegisters}
 use Rattle.cminor_syntax.specs.Trees.{FunctionTree}
@@ -15,6 +15,6 @@ only_memory NoMemory never = refl
 only_memory TooManyRegisters never = absurd (never (λ e. absurd (cc e)))
 
 -- want of memory may be told of any program
-pub memory_refused : (program : ProgramOf FunctionTree) (e : CompileError) → IsNoMemory e → IsRefused program e
+pub memory_refused : (program : Program FunctionTree) (e : CompileError) → IsNoMemory e → IsRefused program e
 memory_refused program (Link fault) told = subst (λ g. HasNoTranslation program g) (sym told) tt
 memory_refused program (Pass fault) told = told

@@ -4,8 +4,7 @@ use Rattle.std.specs.Prelude.{All}
 use Rattle.std.proofs.lemmas.List.{get_or-map, length-map}
 use Rattle.std.proofs.lemmas.List.Elements.{All-get_or}
 use Rattle.lang_base.specs.declared.program.Named as code
-use Rattle.lang_base.specs.Programs.{NamedFunction}
-use Rattle.lang_programs.specs.Seen.{named_seen}
+use Rattle.lang_base.specs.declared.program.Named.{Named}
 use Rattle.rtl_language.specs.Function.{FunctionData}
 use Rattle.constprop_check_rules.specs.declared.fact.Fact.{Fact}
 use Rattle.constprop_check_rules.specs.Rules.{IsPropagated}
@@ -19,8 +18,8 @@ large_from_the_start f a b facts equations first second large =
 
 -- one of functions that all have few registers has few
 pub few_at : (functions : List (code.Named FunctionData)) (n : ℕ) (f : code.Named FunctionData) → n < length functions → f ≡ get_or functions n f
-    → All (λ g. g.function.registers ≤ 2048) (map named_seen functions) → f.function.registers ≤ 2048
+    → All (λ g. g.function.registers ≤ 2048) functions → f.function.registers ≤ 2048
 few_at functions n f below e all =
-    let longer : n < length (map named_seen functions) = rw (length-map functions named_seen) below in
-    let same = get_or-map named_seen functions n f (named_seen f) below ∙ ap named_seen (sym e) in
-    subst (λ (g : NamedFunction FunctionData). g.function.registers ≤ 2048) same (All-get_or (λ (g : NamedFunction FunctionData). g.function.registers ≤ 2048) (map named_seen functions) n (named_seen f) longer all)
+    let longer : n < length functions = rw (length-map functions named_seen) below in
+    let same = get_or-functions n f f below ∙ ap (sym e) in
+    subst (λ (g : Named FunctionData). g.function.registers ≤ 2048) same (All-get_or (λ (g : Named FunctionData). g.function.registers ≤ 2048) functions n f longer all)

@@ -44,7 +44,7 @@ LendsTo offers (Some chain) = IsLent offers chain
 
 -- the function's name, with its offers
 pub record IsBeside (f : code.Named rtl.FunctionData) (offers : Offers) (named : Named) : Type 0 where
-  pub name : named.name.now ≡ f.name.items
+  pub name : named.name.now ≡ f.name
   pub lends : LendsTo offers named.chain
 
 -- function by function

@@ -6,7 +6,6 @@ ghost use Rattle.cminor_lowering.specs.Programs.{low};
 ghost use Rattle.rtlgen.specs.Refused.{HasFewNodes};
 ghost use Rattle.linear_language.specs.Meaning as linear;
 ghost use Rattle.linker_passes.specs.Chains.{names_of};
-ghost use Rattle.lang_programs.specs.Seen.{named_seen, seen};
 ghost use Rattle.rtl_language.specs.Meaning as rtl;
 ghost use Rattle.chains.specs.Lent.{AreBeside};
 ghost use Rattle.chains.specs.Offered.{AllGoOn, linked_offers};
@@ -31,8 +30,8 @@ fn all_offers(
     functions: &[Named<rtl_language::Function>],
     maker: &mut Maker,
 ) -> Result<Vec<Offers>, CompileError>
-    ensures chained { IfOk result (λ offers. AllGoOn (map named_seen functions.now) offers.items) }
-    ensures refused { All (λ f. f.function.registers ≤ 2048) (map named_seen functions.now) → IfErr result IsNoMemory }
+    ensures chained { IfOk result (λ offers. AllGoOn functions.now offers.items) }
+    ensures refused { All (λ f. f.function.registers ≤ 2048) functions.now → IfErr result IsNoMemory }
 {
     let mut offers = Vec::with_capacity(alloc, functions.len())?;
     for number in 0..functions.len() {
@@ -67,14 +66,14 @@ pub fn link_offers(
     program: &Program<rtl_language::Function>,
     offers: &[Offers],
 ) -> Result<Program<Function>, LinkError>
-    ensures ok { IfOk result (λ made. seen made ≡ linked_offers (seen program.now) offers.now) }
-    ensures same_names { IfOk result (λ made. names_of (seen made).functions ≡ names_of (seen program.now).functions) }
-    ensures chained { OnOk result (AllGoOn (seen program.now).functions offers.now) }
-    ensures keeps { IfOk result (λ made. Keeps (rtl.run (seen program.now)) (linear.run (seen made))) }
+    ensures ok { IfOk result (λ made. made ≡ linked_offers program.now offers.now) }
+    ensures same_names { IfOk result (λ made. names_of made.functions ≡ names_of program.now.functions) }
+    ensures chained { OnOk result (AllGoOn program.now.functions offers.now) }
+    ensures keeps { IfOk result (λ made. Keeps (rtl.run program.now) (linear.run made)) }
 
     // As many offers as functions are asked first. Where all chain, only memory can be refused.
-    ensures refused { IfErr result (λ e. IsUnlinked (seen program.now).functions offers.now e) }
-    ensures whole { AllGoOn (seen program.now).functions offers.now → IfErr result (λ e. e ≡ LinkError.NoMemory) }
+    ensures refused { IfErr result (λ e. IsUnlinked program.now.functions offers.now e) }
+    ensures whole { AllGoOn program.now.functions offers.now → IfErr result (λ e. e ≡ LinkError.NoMemory) }
 {
     if program.functions.len() != offers.len() {
         return Err(LinkError::Names);
@@ -91,8 +90,8 @@ pub fn compile(
     program: &CProgram,
     maker: &mut Maker,
 ) -> Result<Program<Function>, CompileError>
-    ensures keeps { IfOk result (λ made. Keeps (crun (program_tree program.now)) (linear.run (seen made))) }
-    ensures same_names { IfOk result (λ made. names_of (seen made).functions ≡ names_of (low (program_tree program.now)).functions) }
+    ensures keeps { IfOk result (λ made. Keeps (crun (program_tree program.now)) (linear.run made)) }
+    ensures same_names { IfOk result (λ made. names_of made.functions ≡ names_of (low (program_tree program.now)).functions) }
 
     // Where memory is not wanting, it is refused exactly where a function needs too many nodes.
     ensures few { OnOk result (All HasFewNodes (low (program_tree program.now)).functions) }

@@ -3,7 +3,7 @@ use Rattle.std.proofs.Common.{◌≡◌, ℕ, suc, ◌+◌, Bool, true, false, c
 use Rattle.std.specs.Prelude.{is_some, codes, ◌&&◌}
 use Rattle.std.specs.Str.{bytes_eq}
 use Rattle.std.proofs.lemmas.Slice.Eq.{bytes_eq-Decides}
-use Rattle.lang_base.specs.Programs.{NamedFunction}
+use Rattle.lang_base.specs.declared.program.Named.{Named}
 use Rattle.machine.specs.Frames.{main_number}
 use Rattle.c_checker_scopes.specs.Bound.{Bound, found}
 use Rattle.c_checker_scopes.proofs.Laws.{found-same, found-other}
@@ -58,15 +58,15 @@ adds_nothing x number bodies name other e = at (found name bodies) refl
 abbrev main : List ℕ
 main = codes "main"
 
-abbrev numbered : List (NamedFunction FunctionTree) → ℕ
+abbrev numbered : List (Named FunctionTree) → ℕ
 numbered fs = main_number (λ f. true) fs
 
 -- the first of these is main
-first_is : (f : NamedFunction FunctionTree) (fs : List (NamedFunction FunctionTree)) → bytes_eq f.name main ≡ true → numbered (f ∷ fs) ≡ 0
+first_is : (f : Named FunctionTree) (fs : List (Named FunctionTree)) → bytes_eq f.name main ≡ true → numbered (f ∷ fs) ≡ 0
 first_is f fs e = ap (λ z. cond (z && true) 0 (suc (numbered fs))) e
 
 -- main stands behind the first
-behind_first : (f : NamedFunction FunctionTree) (fs : List (NamedFunction FunctionTree)) → bytes_eq f.name main ≡ false → numbered (f ∷ fs) ≡ suc (numbered fs)
+behind_first : (f : Named FunctionTree) (fs : List (Named FunctionTree)) → bytes_eq f.name main ≡ false → numbered (f ∷ fs) ≡ suc (numbered fs)
 behind_first f fs e = ap (λ z. cond (z && true) 0 (suc (numbered fs))) e
 
 not_there : (r : Option (Bound ℕ)) → r ≡ None → is_some r ≡ true → ⊥
@@ -84,10 +84,10 @@ module _ (all : List (Bound ℕ)) where
       name : List ℕ
       name = g.name.name
 
-      here : NamedFunction FunctionTree
+      here : Named FunctionTree
       here = low_named (function_of (known all (naming file g)) (naming file g).scope g)
 
-      rest : List (NamedFunction FunctionTree)
+      rest : List (Named FunctionTree)
       rest = map low_named (functions_from all (naming file g) ds)
 
       at : (found main (with_body number bodies name) ≡ None → suc number + numbered rest ≡ number_of (found main (bodies_from (suc number) (with_body number bodies name) ds))) →

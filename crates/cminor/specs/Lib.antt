@@ -1,7 +1,6 @@
 pub mod Room
 pub use Rattle.cminor_lowering.specs.Programs
 pub use Rattle.cminor_lowering.specs.Short
-pub use Rattle.lang_programs.specs.Seen
 pub use Rattle.lang_base.specs.Keeps
 pub use Rattle.cminor_syntax.specs.Trees
 pub use Rattle.cminor_syntax.specs.Meaning

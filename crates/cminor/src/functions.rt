@@ -7,14 +7,13 @@ ghost use Rattle.cminor_syntax.specs.Trees as T;
 ghost use Rattle.cminor_syntax.specs.Views.{statements_tree};
 ghost use Rattle.cminor_lowering.specs.Actions.{low_action, low_actions};
 ghost use Rattle.cminor_lowering.specs.Programs.{ends_with_return, followed_by, is_return, low_ending, low_function, low_named};
-ghost use Rattle.lang_programs.specs.Seen.{named_seen};
 
 use crate::lower_actions;
 use c_program::{Action, Ending, Function as CFunction, Target};
 use cminor_codec::sequence;
 use cminor_language::Function;
 use cminor_syntax::{Expression, Statement};
-use lang_base::{Named, NoMemory};
+use lang_base::{Named, NoMemory, Row};
 use std::alloc::Global;
 
 /// Whether this is a `return` of a value.
@@ -72,9 +71,9 @@ fn lower_function(alloc: Global, function: &CFunction) -> Result<Function, NoMem
 /// A function and its name.
 fn lower_named(alloc: Global, function: &CFunction) -> Result<Named<Function>, NoMemory>
     requires { IsFunction (low_function (function_tree function.now)) }
-    ensures { IfOk result (λ f. named_seen f ≡ low_named (function_tree function.now)) }
+    ensures { IfOk result (λ f. f ≡ low_named (function_tree function.now)) }
 {
-    let name = Vec::from_slice(alloc, function.name.as_slice())?;
+    let name = Row::from_vec(Vec::from_slice(alloc, function.name.as_slice())?);
     let function = lower_function(alloc, function)?;
     Ok(Named { name, function })
 }
@@ -85,7 +84,7 @@ pub(crate) fn lower_functions(
     functions: &[CFunction],
 ) -> Result<Vec<Named<Function>>, NoMemory>
     requires { All (λ f. IsFunction (low_function (function_tree f))) functions.now }
-    ensures { IfOk result (λ fs. map named_seen fs.items ≡ map low_named (map function_tree functions.now)) }
+    ensures { IfOk result (λ fs. fs.items ≡ map low_named (map function_tree functions.now)) }
 {
     let mut lowered = Vec::new(alloc);
     for function in functions {

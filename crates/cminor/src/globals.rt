@@ -2,10 +2,9 @@
 
 ghost use Rattle.std.specs.Prelude.{◌≡◌, ◌<◌, ◌≤◌, All, IfOk, length, map, take};
 ghost use Rattle.cminor_lowering.specs.Programs.{low_global, without_zeros};
-ghost use Rattle.lang_programs.specs.Seen.{global_seen};
 
 use c_program::GlobalVariable;
-use lang_base::NoMemory;
+use lang_base::{NoMemory, Row};
 use std::alloc::Global;
 
 /// How many words stand before the zeros at the end.
@@ -23,13 +22,13 @@ fn significant(words: &[u32]) -> usize
 /// A global variable.
 fn lower_global(alloc: Global, global: &GlobalVariable) -> Result<lang_base::Global, NoMemory>
     requires { global.now.cells < 4294967296 }
-    ensures { IfOk result (λ g. global_seen g ≡ low_global global.now) }
+    ensures { IfOk result (λ g. g ≡ low_global global.now) }
 {
     let words = global.first_words.as_slice();
     let first_words = Vec::from_slice(alloc, &words[..significant(words)])?;
     Ok(lang_base::Global {
         cells: global.cells as u32,
-        first_words,
+        first_words: Row::from_vec(first_words),
     })
 }
 
@@ -39,7 +38,7 @@ pub(crate) fn lower_globals(
     globals: &[GlobalVariable],
 ) -> Result<Vec<lang_base::Global>, NoMemory>
     requires { All (λ g. g.cells < 4294967296) globals.now }
-    ensures { IfOk result (λ gs. map global_seen gs.items ≡ map low_global globals.now) }
+    ensures { IfOk result (λ gs. gs.items ≡ map low_global globals.now) }
 {
     let mut lowered = Vec::new(alloc);
     for global in globals {

@@ -9,7 +9,6 @@ ghost use Rattle.c_program.specs.Views.{function_tree};
 ghost use Rattle.cminor_syntax.specs.Fits.{IsFunction};
 ghost use Rattle.cminor_syntax.specs.Meaning.{run};
 ghost use Rattle.cminor_lowering.specs.Programs.{low, low_function};
-ghost use Rattle.lang_programs.specs.Seen.{seen};
 
 use crate::functions::lower_functions;
 use crate::globals::lower_globals;
@@ -17,26 +16,29 @@ use crate::lowered_keeps;
 use c_checker_rules::CProgram;
 use cminor_language::Function;
 use cminor_lowering_ranges::lowered_fits;
-use lang_base::{NoMemory, Program};
+use lang_base::{NoMemory, Program, Row};
 use std::alloc::Global;
 
 /// The Cminor program of a program whose parts are in range.
 fn lower_all(alloc: Global, program: &CProgram) -> Result<Program<Function>, NoMemory>
     requires globals { All (λ g. g.cells < 4294967296) program.now.globals }
     requires functions { All (λ f. IsFunction (low_function (function_tree f))) program.now.functions }
-    ensures { IfOk result (λ p. seen p ≡ low (program_tree program.now)) }
+    ensures { IfOk result (λ p. p ≡ low (program_tree program.now)) }
 {
     let globals = lower_globals(alloc, program.globals())?;
     let functions = lower_functions(alloc, program.functions())?;
-    Ok(Program { globals, functions })
+    Ok(Program {
+        globals: Row::from_vec(globals),
+        functions: Row::from_vec(functions),
+    })
 }
 
 /// The Cminor program of a checked C program, which keeps its meaning (Leroy 2009, sections 2.1 and 3.1). The
 /// time is linear in the program. A program with a sequence of 2^32 - 1 actions or more, which Cminor has no
 /// number for, is refused as one for which there is no memory.
 pub fn lower(alloc: Global, program: &CProgram) -> Result<Program<Function>, NoMemory>
-    ensures same { IfOk result (λ p. seen p ≡ low (program_tree program.now)) }
-    ensures keeps { IfOk result (λ p. Keeps (crun (program_tree program.now)) (run (seen p))) }
+    ensures same { IfOk result (λ p. p ≡ low (program_tree program.now)) }
+    ensures keeps { IfOk result (λ p. Keeps (crun (program_tree program.now)) (run p)) }
     ensures short { IfOk result (λ p. IsShortProgram (program_tree program.now)) }
 {
     lowered_keeps(program);

@@ -9,4 +9,3 @@ pub use Rattle.cminor_syntax.specs.Meaning
 pub use Rattle.cminor_syntax.specs.Growth
 pub use Rattle.cminor_form.specs.Spelling
 pub use Rattle.lang_base.specs.Behaviour
-pub use Rattle.lang_base.specs.Programs

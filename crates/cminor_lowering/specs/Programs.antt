@@ -1,6 +1,8 @@
 -- The program of Cminor that a C program stands for (Leroy 2009, section 3.1).
 use Rattle.std.specs.Prelude.{◌≡◌, ℕ, zero, suc, List, [], ◌∷◌, Some, map, max, Bool, true, false}
-use Rattle.lang_base.specs.Programs.{GlobalData, NamedFunction, ProgramOf}
+use Rattle.lang_base.specs.declared.program.Global.{Global}
+use Rattle.lang_base.specs.declared.program.Named.{Named}
+use Rattle.lang_base.specs.declared.program.Program.{Program}
 use Rattle.machine.specs.Frames.{main_number}
 use Rattle.c_program.specs.declared.action.Target.TheVariants.{Caller}
 use Rattle.c_program.specs.declared.function.Ending.{Ending}
@@ -44,7 +46,7 @@ low_body f = Sequence (followed_by (low_actions (spare_of f) f.body) (low_ending
 abbrev pub low_function : C.FunctionTree → FunctionTree
 low_function f = record { parameters = f.parameters; variables = suc (spare_of f); body = low_body f }
 
-abbrev pub low_named : C.FunctionTree → NamedFunction FunctionTree
+abbrev pub low_named : C.FunctionTree → Named FunctionTree
 low_named f = record { name = f.name; function = low_function f }
 
 -- a word before others, unless it is a 0 behind which none follows
@@ -58,11 +60,11 @@ abbrev pub without_zeros : List ℕ → List ℕ
 without_zeros [] = []
 without_zeros (w ∷ ws) = listed w (without_zeros ws)
 
-abbrev pub low_global : GlobalVariable → GlobalData
+abbrev pub low_global : GlobalVariable → Global
 low_global g = record { cells = g.cells; first_words = without_zeros g.first_words }
 
 -- The Cminor program of a C program.
-abbrev pub low : ProgramTree → ProgramOf FunctionTree
+abbrev pub low : ProgramTree → Program FunctionTree
 low p = record { globals = map low_global p.globals; functions = map low_named p.functions }
 
 -- the function whose number is that of main is the first of that name

@@ -4,7 +4,7 @@ use Rattle.std.specs.Prelude.{not, ◌&&◌, ◌||◌, ◌==◌}
 use Rattle.std.specs.List.{AllByRecursion}
 use Rattle.std.proofs.lemmas.Bool.{eqb-true, leb-true, and_parts}
 use Rattle.machine.proofs.Distinct.{all_append}
-use Rattle.lang_base.specs.Programs.{NamedFunction}
+use Rattle.lang_base.specs.declared.program.Named.{Named}
 use Rattle.lang_base.specs.Texts.{EachFits}
 use Rattle.c_lexer_parts.specs.Lexemes.{IsName}
 use Rattle.c_checker_scopes.specs.Bound.{Bound, found}
@@ -73,10 +73,10 @@ is_named f scope x s number none =
 
 module _ (all : List (Bound ℕ)) where
   -- each of these has a number below this one
-  abbrev AreBefore : List (NamedFunction M.FunctionTree) → ℕ → Type 0
+  abbrev AreBefore : List (Named M.FunctionTree) → ℕ → Type 0
   AreBefore before n = AllByRecursion (λ g. (k : ℕ) × (k < n) × Owns all g.name k) before
 
-  differ : (before : List (NamedFunction M.FunctionTree)) (n : ℕ) (name : List ℕ) → AreBefore before n → Owns all name n → AllByRecursion (λ g. g.name ≢ name) before
+  differ : (before : List (Named M.FunctionTree)) (n : ℕ) (name : List ℕ) → AreBefore before n → Owns all name n → AllByRecursion (λ g. g.name ≢ name) before
   differ [] n name each own = tt
   differ (g ∷ gs) n name each own = (other each.0, differ gs n name each.1 own)
     where
@@ -85,11 +85,11 @@ module _ (all : List (Bound ℕ)) where
           let equal : k ≡ n = one_owner all name k n (b, sym (ap (λ x. found x all) same) ∙ there, is) own in
           omega arith
 
-  higher : (before : List (NamedFunction M.FunctionTree)) (n : ℕ) → AreBefore before n → AreBefore before (suc n)
+  higher : (before : List (Named M.FunctionTree)) (n : ℕ) → AreBefore before n → AreBefore before (suc n)
   higher [] n each = tt
   higher (g ∷ gs) n each = ((each.0.0, omega (arith, each.0.1), each.0.2), higher gs n each.1)
 
-  pub functions_named : (file : File) (ds : List DeclarationTree) (before : List (NamedFunction M.FunctionTree)) → declarations_faults all file ds ≡ [] → AreBefore before file.defined →
+  pub functions_named : (file : File) (ds : List DeclarationTree) (before : List (Named M.FunctionTree)) → declarations_faults all file ds ≡ [] → AreBefore before file.defined →
       AllByRecursion (λ f. IsName f.name) (functions_from all file ds) → AllByRecursion (λ f. IsFunction f.function) (map low_named (functions_from all file ds)) →
       EachFits (FunctionFits IsFunction) before (map low_named (functions_from all file ds))
   functions_named file [] before none each names fits = tt

@@ -2,7 +2,8 @@
 use Rattle.std.proofs.Common.{◌≡◌, ℕ, zero, suc, ◌+◌, ◌==◌, Bool, true, false, cond, List, [], ◌∷◌, ◌++◌, length, Option, Some, None, refl, sym, ap, subst, arith}
 use Rattle.std.specs.Prelude.{slice_get, ◌%◌}
 use Rattle.lang_base.specs.Behaviour.{IsBeginningOf, GoesOnTo, IsRun}
-use Rattle.lang_base.specs.Programs.{NamedFunction, ProgramOf}
+use Rattle.lang_base.specs.declared.program.Named.{Named}
+use Rattle.lang_base.specs.declared.program.Program.{Program}
 use Rattle.lang_base.proofs.Beginnings.{IsBeginningOf-refl, IsBeginningOf-trans}
 use Rattle.machine.specs.Frames.{main_number}
 use Rattle.cminor_syntax.specs.Trees.{StatementTree, StatementsTree, FunctionTree, Skip, Assign, Store, Call, Put, Sequence, If, Loop, Block, Exit, Return, Done, First}
@@ -106,12 +107,12 @@ mutual
   prints-exec_all lower adds Done s = IsBeginningOf-refl s.output
   prints-exec_all lower adds (First t rest) s = prints-goes_on s.output (exec_all lower rest) (exec lower t s) (prints-exec_all lower adds rest) (prints-exec lower adds t s)
 
-prints-enters : (lower : Level) → Adds lower → (f : Option (NamedFunction FunctionTree)) (arguments : List (Option ℕ)) (s : State) → PrintsOn s.output (enters lower f arguments s)
+prints-enters : (lower : Level) → Adds lower → (f : Option (Named FunctionTree)) (arguments : List (Option ℕ)) (s : State) → PrintsOn s.output (enters lower f arguments s)
 prints-enters lower adds None arguments s = IsBeginningOf-refl s.output
 prints-enters lower adds (Some f) arguments s =
     prints-if s.output (length arguments == f.function.parameters) _ _ (prints-exec lower adds f.function.body (begins f.function arguments s)) (IsBeginningOf-refl s.output)
 
-pub prints-level : (functions : List (NamedFunction FunctionTree)) (n : ℕ) → Adds (level functions n)
+pub prints-level : (functions : List (Named FunctionTree)) (n : ℕ) → Adds (level functions n)
 prints-level functions zero work s = IsBeginningOf-refl s.output
 prints-level functions (suc n) (Does t) s = prints-exec (level functions n) (prints-level functions n) t s
 prints-level functions (suc n) (Calls f arguments) s = prints-enters (level functions n) (prints-level functions n) (slice_get functions f) arguments s
@@ -191,13 +192,13 @@ mutual
   later-exec_all lower upper next adds (First t rest) s =
       later-goes_on (exec_all lower rest) (exec_all upper rest) (exec lower t s) (exec upper t s) (later-exec_all lower upper next adds rest) (prints-exec_all upper adds rest) (later-exec lower upper next adds t s)
 
-pub later-enters : (lower upper : Level) → IsNextLevel lower upper → Adds upper → (f : Option (NamedFunction FunctionTree)) (arguments : List (Option ℕ)) (s : State) → IsLater (enters lower f arguments s) (enters upper f arguments s)
+pub later-enters : (lower upper : Level) → IsNextLevel lower upper → Adds upper → (f : Option (Named FunctionTree)) (arguments : List (Option ℕ)) (s : State) → IsLater (enters lower f arguments s) (enters upper f arguments s)
 later-enters lower upper next adds None arguments s = refl
 later-enters lower upper next adds (Some f) arguments s =
     later-if (length arguments == f.function.parameters) (exec lower f.function.body (begins f.function arguments s)) (Fails s.output) (exec upper f.function.body (begins f.function arguments s)) (Fails s.output)
     (later-exec lower upper next adds f.function.body (begins f.function arguments s)) refl
 
-pub later-level : (functions : List (NamedFunction FunctionTree)) (n : ℕ) → IsNextLevel (level functions n) (level functions (suc n))
+pub later-level : (functions : List (Named FunctionTree)) (n : ℕ) → IsNextLevel (level functions n) (level functions (suc n))
 later-level functions zero work s = prints-level functions 1 work s
 later-level functions (suc n) (Does t) s = later-exec (level functions n) (level functions (suc n)) (later-level functions n) (prints-level functions (suc n)) t s
 later-level functions (suc n) (Calls f arguments) s =
@@ -217,7 +218,7 @@ later-shown (RunsOut printed) (RunsOut o) h = h
 later-shown (RunsOut printed) (Fails o) h = h
 later-shown (Fails printed) o' e = ap shown e
 
-pub runs_on : (p : ProgramOf FunctionTree) → IsRun (run p)
+pub runs_on : (p : Program FunctionTree) → IsRun (run p)
 runs_on p n =
     let main = slice_get p.functions (main_number (λ f. true) p.functions) in
     let one : suc n ≡ n + 1 = omega arith in

@@ -7,4 +7,3 @@ pub mod Meaning
 pub mod Growth
 pub mod Fits
 pub use Rattle.lang_base.specs.Behaviour
-pub use Rattle.lang_base.specs.Programs

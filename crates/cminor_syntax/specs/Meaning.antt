@@ -3,7 +3,8 @@
 use Rattle.std.specs.Prelude.{ℕ, zero, suc, ◌-◌, ◌%◌, ◌==◌, true, List, [], ◌∷◌, ◌++◌, length, Option, Some, None, map, replicate, slice_get, if◌then◌else◌}
 use Rattle.lang_base.specs.declared.shown.Shown.TheVariants.{Running, Ended, Wrong}
 use Rattle.lang_base.specs.Behaviour.{Shows, Behaviour}
-use Rattle.lang_base.specs.Programs.{NamedFunction, ProgramOf}
+use Rattle.lang_base.specs.declared.program.Named.{Named}
+use Rattle.lang_base.specs.declared.program.Program.{Program}
 use Rattle.machine.specs.Frames.{main_number, cells_of}
 use Rattle.cminor_syntax.specs.Trees.{StatementTree, StatementsTree, FunctionTree, Skip, Assign, Store, Call, Put, Sequence, If, Loop, Block, Exit, Return, Done, First}
 use Rattle.cminor_syntax.specs.State.{State, given, put_cell}
@@ -121,13 +122,13 @@ abbrev pub begins : FunctionTree → List (Option ℕ) → State → State
 begins f arguments s = record { variables = arguments ++ replicate (f.variables - f.parameters) None; globals = s.globals; output = s.output }
 
 -- a function's body, where there is such a function and it takes so many arguments
-abbrev pub enters : Level → Option (NamedFunction FunctionTree) → List (Option ℕ) → State → Outcome
+abbrev pub enters : Level → Option (Named FunctionTree) → List (Option ℕ) → State → Outcome
 enters lower None arguments s = Fails s.output
 enters lower (Some f) arguments s =
     if length arguments == f.function.parameters then exec lower f.function.body (begins f.function arguments s) else Fails s.output
 
 -- What runs below a bound: nothing below 0, and below n + 1 what runs with the bound n.
-abbrev pub level : List (NamedFunction FunctionTree) → ℕ → Level
+abbrev pub level : List (Named FunctionTree) → ℕ → Level
 level functions zero work s = RunsOut s.output
 level functions (suc n) (Does t) s = exec (level functions n) t s
 level functions (suc n) (Calls f arguments) s = enters (level functions n) (slice_get functions f) arguments s
@@ -142,9 +143,9 @@ shown (RunsOut printed) = record { shown = Running; output = printed }
 shown (Fails printed) = record { shown = Wrong; output = printed }
 
 -- the globals at the start, and nothing printed
-abbrev pub start : ProgramOf FunctionTree → State
+abbrev pub start : Program FunctionTree → State
 start p = record { variables = []; globals = map cells_of p.globals; output = [] }
 
 -- What the run of a program shows at a bound: main's body runs with it.
-abbrev pub run : ProgramOf FunctionTree → Behaviour
+abbrev pub run : Program FunctionTree → Behaviour
 run p = λ n. shown (enters (level p.functions n) (slice_get p.functions (main_number (λ f. true) p.functions)) [] (start p))

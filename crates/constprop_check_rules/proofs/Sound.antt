@@ -6,7 +6,7 @@ use Rattle.std.proofs.lemmas.Bool.{cases_lt}
 use Rattle.std.proofs.lemmas.List.{get_or_past}
 use Rattle.std.proofs.lemmas.Option.{slice_get_within, slice_get-get_or, slice_get_cases}
 use Rattle.lang_base.specs.Keeps.{Keeps}
-use Rattle.lang_base.specs.Programs.{ProgramOf}
+use Rattle.lang_base.specs.declared.program.Program.{Program}
 use Rattle.lang_base.specs.Soundness.{Accepted}
 use Rattle.ints.specs.MachineTable.{machine_table}
 use Rattle.rtl_parts.specs.declared.act.Act.{Act}
@@ -165,5 +165,5 @@ stepwise = record {
   node = λ f g lists accepted n i e d counted hold runs. node_matched f g lists accepted n i e d counted hold;
 }
 
-pub sound : (p q : ProgramOf FunctionData) → Accepted IsPropagated p q → Keeps (run p) (run q)
+pub sound : (p q : Program FunctionData) → Accepted IsPropagated p q → Keeps (run p) (run q)
 sound p q accepted = stepwise_keeps IsPropagated HoldAt stepwise p q accepted

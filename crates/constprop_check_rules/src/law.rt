@@ -1,7 +1,7 @@
 //! What accepted outputs are worth, as the contract of a call that does nothing else.
 
 ghost use Rattle.lang_base.specs.Keeps.{Keeps};
-ghost use Rattle.lang_base.specs.Programs.{ProgramOf};
+ghost use Rattle.lang_base.specs.declared.program.Program.{Program};
 ghost use Rattle.lang_base.specs.Soundness.{Accepted};
 ghost use Rattle.rtl_language.specs.Function.{FunctionData};
 ghost use Rattle.rtl_language.specs.Meaning.{run};
@@ -10,5 +10,5 @@ ghost use Rattle.constprop_check_rules.specs.Rules.{IsPropagated};
 /// A program of RTL keeps the meaning of another where each of its functions is accepted for the
 /// function of the same number with some facts, under the same name and beside the same globals.
 pub fn propagated_keeps()
-    ensures { (p q : ProgramOf FunctionData) → Accepted IsPropagated p q → Keeps (run p) (run q) }
+    ensures { (p q : Program FunctionData) → Accepted IsPropagated p q → Keeps (run p) (run q) }
 {}

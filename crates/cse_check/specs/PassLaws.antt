@@ -2,7 +2,7 @@
 use Rattle.std.proofs.Common.{◌≡◌, ℕ, List, ◌++◌, length, arith}
 use Rattle.std.proofs.lemmas.List.Elements.{recursion_from_All}
 use Rattle.lang_base.specs.Keeps.{Keeps}
-use Rattle.lang_base.specs.Programs.{ProgramOf}
+use Rattle.lang_base.specs.declared.program.Program.{Program}
 use Rattle.lang_base.specs.Soundness.{AllFit, Accepted}
 use Rattle.lang_base.proofs.Forms.{one_text}
 use Rattle.rtl_language.specs.Function.{FunctionData, IsFunction}
@@ -19,7 +19,7 @@ abbrev pub never : FunctionData → Type 0
 never f = ⊥
 
 -- what is accepted keeps the meaning, also where every function is in range
-pub sound_law : (p q : ProgramOf FunctionData) → AllFit IsFunction p → AllFit IsFunction q → Accepted IsEliminated p q → Keeps (run p) (run q)
+pub sound_law : (p q : Program FunctionData) → AllFit IsFunction p → AllFit IsFunction q → Accepted IsEliminated p q → Keeps (run p) (run q)
 sound_law p q fits also accepted = sound p q accepted
 
 list_fits : (registers : ℕ) (equations : List Equation) → IsInOrder registers equations → ListFits (EquationFits registers) equations

@@ -7,7 +7,7 @@ use Rattle.std.proofs.lemmas.List.{get_or_past}
 use Rattle.std.proofs.lemmas.List.Elements.{All-contains}
 use Rattle.std.proofs.lemmas.Option.{slice_get_within, slice_get-get_or, slice_get_cases}
 use Rattle.lang_base.specs.Keeps.{Keeps}
-use Rattle.lang_base.specs.Programs.{ProgramOf}
+use Rattle.lang_base.specs.declared.program.Program.{Program}
 use Rattle.lang_base.specs.Soundness.{Accepted}
 use Rattle.rtl_parts.specs.declared.act.Act.{Act}
 use Rattle.rtl_parts.specs.declared.act.Act.TheVariants.{Nop, Constant, Move, Operate, Load, Store, Put}
@@ -189,5 +189,5 @@ stepwise = record {
   node = λ f g lists accepted n i e d counted hold runs. node_matched f g lists accepted n i e d counted hold runs;
 }
 
-pub sound : (p q : ProgramOf FunctionData) → Accepted IsEliminated p q → Keeps (run p) (run q)
+pub sound : (p q : Program FunctionData) → Accepted IsEliminated p q → Keeps (run p) (run q)
 sound p q accepted = stepwise_keeps IsEliminated HoldAt stepwise p q accepted

@@ -8,7 +8,7 @@ use Rattle.std.proofs.lemmas.Bool.Decides.{nat_tests}
 use Rattle.lang_base.specs.declared.errors.FormError.TheVariants.{NotCanonical, TooLarge}
 use Rattle.lang_base.specs.Reading.{Reading, byte, number, below, up_to, counted}
 use Rattle.lang_base.specs.Texts.{counted_text, EachFits}
-use Rattle.lang_base.specs.Programs.{GlobalData}
+use Rattle.lang_base.specs.declared.program.Global.{Global}
 use Rattle.lang_base.proofs.Forms.{IsForm}
 use Rattle.lang_base.proofs.Parts.{byte_form, number16_form, number32_form, made_form, tested_form, fits_form, below_form, up_to_form, both_form}
 use Rattle.lang_base.proofs.Lists.{counted_form, each_fits, fits_each, tagged_form}
@@ -95,7 +95,7 @@ words_form n few =
     (fit, fits.last))
 
 -- a global behind others of so many cells
-abbrev PlacedFits : ℕ → GlobalData → Type 0
+abbrev PlacedFits : ℕ → Global → Type 0
 PlacedFits total g = GlobalFits g × (total + g.cells ≤ cell_limit)
 
 global_form : (total : ℕ) → IsForm (global total) global_text (PlacedFits total)
@@ -107,14 +107,14 @@ global_form total =
     (λ p fits. (refl, (record { some = fits.0.0; listed = fits.1.listed; words = fits.1.words; last = fits.1.last }, fits.0.1)))
     (λ g fits. ((g.cells, g.first_words), ((fits.0.some, fits.1), record { listed = fits.0.listed; words = fits.0.words; last = fits.0.last }), refl))
 
-abbrev Placed : List GlobalData → GlobalData → Type 0
+abbrev Placed : List Global → Global → Type 0
 Placed before g = PlacedFits (cells_of_all before) g
 
-pub cells_push : (before : List GlobalData) (g : GlobalData) → cells_of_all (before ++ g ∷ []) ≡ cells_of_all before + g.cells
+pub cells_push : (before : List Global) (g : Global) → cells_of_all (before ++ g ∷ []) ≡ cells_of_all before + g.cells
 cells_push [] g = omega arith
 cells_push (h ∷ before) g = omega (arith, cells_push before g)
 
-placed_fits : (before gs : List GlobalData) → cells_of_all before ≤ cell_limit → EachFits Placed before gs → AllByRecursion GlobalFits gs × (cells_of_all before + cells_of_all gs ≤ cell_limit)
+placed_fits : (before gs : List Global) → cells_of_all before ≤ cell_limit → EachFits Placed before gs → AllByRecursion GlobalFits gs × (cells_of_all before + cells_of_all gs ≤ cell_limit)
 placed_fits before [] few fits = (tt, omega arith)
 placed_fits before (g ∷ gs) few fits =
     let push = cells_push before g in
@@ -122,7 +122,7 @@ placed_fits before (g ∷ gs) few fits =
     let rest = placed_fits (before ++ g ∷ []) gs few' fits.1 in
     ((fits.0.0, rest.0), omega (arith, push, rest.1))
 
-fits_placed : (before gs : List GlobalData) → AllByRecursion GlobalFits gs → cells_of_all before + cells_of_all gs ≤ cell_limit → EachFits Placed before gs
+fits_placed : (before gs : List Global) → AllByRecursion GlobalFits gs → cells_of_all before + cells_of_all gs ≤ cell_limit → EachFits Placed before gs
 fits_placed before [] fits few = tt
 fits_placed before (g ∷ gs) fits few =
     let push = cells_push before g in
@@ -130,7 +130,7 @@ fits_placed before (g ∷ gs) fits few =
     let few' : cells_of_all (before ++ g ∷ []) + cells_of_all gs ≤ cell_limit = omega (arith, push, few) in
     ((fits.0, one), fits_placed (before ++ g ∷ []) gs fits.1 few')
 
-pub record GlobalsFit (gs : List GlobalData) : Type 0 where
+pub record GlobalsFit (gs : List Global) : Type 0 where
   pub few : length gs ≤ global_limit
   pub cells : cells_of_all gs ≤ cell_limit
   pub each : AllByRecursion GlobalFits gs
@@ -144,10 +144,10 @@ globals_form =
 
 -- ---- the head
 
-abbrev pub HeadFits : List GlobalData × ℕ → Type 0
+abbrev pub HeadFits : List Global × ℕ → Type 0
 HeadFits h = GlobalsFit h.0 × (h.1 ≤ function_limit)
 
-abbrev body_text : List GlobalData × ℕ → List ℕ
+abbrev body_text : List Global × ℕ → List ℕ
 body_text h = globals_text h.0 ++ byte_text h.1
 
 body_form : IsForm body body_text HeadFits

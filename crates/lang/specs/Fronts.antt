@@ -4,7 +4,7 @@ use Rattle.std.specs.List.{flat_map}
 use Rattle.lang_base.specs.declared.errors.FormError.{FormError}
 use Rattle.lang_base.specs.declared.errors.FormError.TheVariants.{NoMemory}
 use Rattle.lang_base.specs.Texts.{EachFits}
-use Rattle.lang_base.specs.Programs.{NamedFunction}
+use Rattle.lang_base.specs.declared.program.Named.{Named}
 use Rattle.lang.specs.Form.{named_text, FunctionFits}
 
 -- no front of the bytes is the text of a value that fits
@@ -20,9 +20,9 @@ Fronts text Fits bytes (Err e) rest = e ≢ NoMemory → NoFront text Fits bytes
 abbrev pub OneText : {A : Type 0} → (A → List ℕ) → (A → Type 0) → Type 0
 OneText {A} text Fits = (f g : A) (x y : List ℕ) → Fits f → Fits g → text f ++ x ≡ text g ++ y → (f ≡ g) × (x ≡ y)
 
-abbrev pub functions_text : {F : Type 0} → (F → List ℕ) → List (NamedFunction F) → List ℕ
+abbrev pub functions_text : {F : Type 0} → (F → List ℕ) → List (Named F) → List ℕ
 functions_text spelling fs = flat_map (named_text spelling) fs
 
 -- so many named functions
-abbrev pub FunctionsFit : {F : Type 0} → (F → Type 0) → ℕ → List (NamedFunction F) → Type 0
+abbrev pub FunctionsFit : {F : Type 0} → (F → Type 0) → ℕ → List (Named F) → Type 0
 FunctionsFit Fits count fs = (length fs ≡ count) × EachFits (FunctionFits Fits) [] fs

@@ -3,6 +3,5 @@ pub mod Seen
 pub mod Fronts
 pub mod Shorts
 pub mod Reading
-pub use Rattle.lang_base.specs.Programs
 pub use Rattle.lang_base.specs.Behaviour
 pub use Rattle.lang_base.specs.Keeps

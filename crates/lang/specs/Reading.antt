@@ -5,7 +5,7 @@ use Rattle.std.specs.List.{list_all}
 use Rattle.std.specs.Option.{is_none}
 use Rattle.lang_base.specs.declared.errors.FormError.TheVariants.{NotCanonical, TooLarge}
 use Rattle.lang_base.specs.Reading.{Reading, byte, number, made, tested, below, up_to, both, counted, tagged}
-use Rattle.lang_base.specs.Programs.{GlobalData}
+use Rattle.lang_base.specs.declared.program.Global.{Global}
 use Rattle.c_lexer_spellings.specs.Bytes.{is_word_byte, begins_with_digit}
 use Rattle.c_lexer_spellings.specs.Lookups.{keyword_of}
 use Rattle.lang.specs.Form.{global_limit, cell_limit, function_limit, ends_well, cells_of_all}
@@ -29,16 +29,16 @@ cells total bytes = tested (λ n. nat_le (total + n) cell_limit) TooLarge (teste
 unfoldable pub words : ℕ → Reading (List ℕ)
 words cells bytes = tested ends_well NotCanonical (counted (below (cells + 1) (number w32)) (λ before. number w32)) bytes
 
-unfoldable pub global : ℕ → Reading GlobalData
+unfoldable pub global : ℕ → Reading Global
 global total bytes = made (λ p. record { cells = p.0; first_words = p.1 }) (both (cells total) (λ n. words n)) bytes
 
-unfoldable pub globals : Reading (List GlobalData)
+unfoldable pub globals : Reading (List Global)
 globals bytes = counted (up_to global_limit (number w16)) (λ before. global (cells_of_all before)) bytes
 
 -- the globals, and the number of functions
-unfoldable pub body : Reading (List GlobalData × ℕ)
+unfoldable pub body : Reading (List Global × ℕ)
 body bytes = both globals (λ gs. up_to function_limit byte) bytes
 
 -- `CFP1`, the language's tag, and what stands behind them
-unfoldable pub head : ℕ → Reading (List GlobalData × ℕ)
+unfoldable pub head : ℕ → Reading (List Global × ℕ)
 head tag bytes = tagged 67 (tagged 70 (tagged 80 (tagged 49 (tagged tag body)))) bytes

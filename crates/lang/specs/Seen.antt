@@ -4,19 +4,17 @@ use Rattle.std.specs.Global.{Vec}
 use Rattle.lang_base.specs.declared.errors.FormError.{FormError}
 use Rattle.lang_base.specs.declared.program.Global.{Global}
 use Rattle.lang_base.specs.declared.program.Named.{Named}
-use Rattle.lang_base.specs.Programs.{GlobalData, NamedFunction}
-use Rattle.lang_programs.specs.Seen.{global_seen, named_seen}
 
--- what a reader returned, seen so
+-- what a reader returned, so
 abbrev pub seen_by : {A B : Type 0} → (A → B) → Result A FormError → Result B FormError
 seen_by view (Ok x) = Ok (view x)
 seen_by view (Err e) = Err e
 
-abbrev pub globals_of : Result (Vec Global) FormError → Result (List GlobalData) FormError
-globals_of result = seen_by (λ v. map global_seen v.items) result
+abbrev pub globals_of : Result (Vec Global) FormError → Result (List Global) FormError
+globals_of result = seen_by (λ v. v.items) result
 
-abbrev pub functions_of : {F : Type 0} → Result (Vec (Named F)) FormError → Result (List (NamedFunction F)) FormError
-functions_of result = seen_by (λ v. map named_seen v.items) result
+abbrev pub functions_of : {F : Type 0} → Result (Vec (Named F)) FormError → Result (List (Named F)) FormError
+functions_of result = seen_by (λ v. v.items) result
 
-abbrev pub head_of : Result (Vec Global × ℕ) FormError → Result (List GlobalData × ℕ) FormError
-head_of result = seen_by (λ p. (map global_seen p.0.items, p.1)) result
+abbrev pub head_of : Result (Vec Global × ℕ) FormError → Result (List Global × ℕ) FormError
+head_of result = seen_by (λ p. (p.0.items, p.1)) result

@@ -4,11 +4,10 @@
 ghost use Rattle.std.specs.Prelude.{ℕ, ◌<◌, map, slice_index};
 ghost use Rattle.lang.specs.Form.{named_text, FunctionFits};
 ghost use Rattle.lang.specs.Fronts.{Fronts, functions_text, FunctionsFit};
-ghost use Rattle.lang_programs.specs.Seen.{named_seen};
 ghost use Rattle.lang.specs.Seen.{seen_by, functions_of};
 
 use crate::names::read_name;
-use lang_base::{FormError, Language, Named};
+use lang_base::{FormError, Language, Named, Row};
 use lang_programs::is_taken;
 use std::alloc::Global;
 
@@ -23,7 +22,7 @@ fn read_named<L: Language>(
     before: &[Named<L::Fun>],
     bytes: &mut &[u8],
 ) -> Result<Named<L::Fun>, FormError>
-    ensures { Fronts (named_text L.spelling) (FunctionFits L.fits (map named_seen before.now)) bytes.old.now (seen_by named_seen result) bytes.new.now }
+    ensures { Fronts (named_text L.spelling) (FunctionFits L.fits before.now) bytes.old.now (seen_by result) bytes.new.now }
 {
     are_bytes(bytes);
     let name = read_name(alloc, bytes)?;
@@ -32,7 +31,10 @@ fn read_named<L: Language>(
     }
     let (function, length) = L::read(alloc, bytes)?;
     *bytes = &bytes[length..];
-    Ok(Named { name, function })
+    Ok(Named {
+        name: Row::from_vec(name),
+        function,
+    })
 }
 
 /// So many named functions.

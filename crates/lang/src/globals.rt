@@ -6,10 +6,9 @@ ghost use Rattle.lang_base.specs.Reading.{IsRead, Reads, items_of, more, number}
 ghost use Rattle.std.specs.Int.{w32};
 ghost use Rattle.lang.specs.Form.{ends_well, cell_limit, cells_of_all};
 ghost use Rattle.lang.specs.Reading.{cells, words, global, globals};
-ghost use Rattle.lang_programs.specs.Seen.{global_seen};
 ghost use Rattle.lang.specs.Seen.{seen_by, globals_of};
 
-use lang_base::{FormError, read_u16, read_u32};
+use lang_base::{FormError, Row, read_u16, read_u32};
 use std::alloc;
 
 /// The number of a global's cells, behind globals of so many.
@@ -74,12 +73,15 @@ fn read_global(
     total: u32,
     bytes: &mut &[u8],
 ) -> Result<lang_base::Global, FormError>
-    ensures read { Reads (global total bytes.old.now) (seen_by global_seen result) bytes.new.now }
+    ensures read { Reads (global total bytes.old.now) (seen_by result) bytes.new.now }
     ensures few { IfOk result (λ g. total + g.cells ≤ cell_limit) }
 {
     let cells = read_cells(total, bytes)?;
     let first_words = read_words(alloc, cells, bytes)?;
-    Ok(lang_base::Global { cells, first_words })
+    Ok(lang_base::Global {
+        cells,
+        first_words: Row::from_vec(first_words),
+    })
 }
 
 fn read_so_many_globals(

@@ -3,15 +3,14 @@
 ghost use Rattle.std.specs.Prelude.{◌≡◌, ◌≢◌, ◌≤◌, ℕ, List, ◌++◌, length, take, codes, OnOk, OnErr, IfOk, IfErr};
 ghost use Rattle.std.specs.List.{list_any};
 ghost use Rattle.std.specs.Str.{bytes_eq};
-ghost use Rattle.lang_base.specs.Programs.{ProgramOf};
+ghost use Rattle.lang_base.specs.declared.program.Program.{Program};
 ghost use Rattle.lang_base.specs.Texts.{Appends};
 ghost use Rattle.lang.specs.Form.{IsProgram, program_text};
-ghost use Rattle.lang_programs.specs.Seen.{seen};
 
 use crate::functions::read_functions;
 use crate::head::read_head;
 use crate::writing::{push_functions, push_head};
-use lang_base::{FormError, Language, NoMemory, Program};
+use lang_base::{FormError, Language, NoMemory, Program, Row};
 use lang_programs::is_taken;
 use std::alloc::Global;
 
@@ -22,10 +21,10 @@ pub fn read_program<L: Language>(
     bytes: &[u8],
 ) -> Result<(Program<L::Fun>, usize), FormError>
     ensures within { IfOk result (λ found. found.1 ≤ length bytes.now) }
-    ensures fits { IfOk result (λ found. IsProgram L.fits (seen found.0)) }
-    ensures front { IfOk result (λ found. take found.1 bytes.now ≡ program_text L.TAG L.spelling (seen found.0)) }
+    ensures fits { IfOk result (λ found. IsProgram L.fits found.0) }
+    ensures front { IfOk result (λ found. take found.1 bytes.now ≡ program_text L.TAG L.spelling found.0) }
     ensures refused { IfErr result (λ e. e ≢ FormError.NoMemory →
-        (p : ProgramOf L.Fun) (rest : List ℕ) → IsProgram L.fits p → bytes.now ≡ program_text L.TAG L.spelling p ++ rest → ⊥) }
+        (p : Program L.Fun) (rest : List ℕ) → IsProgram L.fits p → bytes.now ≡ program_text L.TAG L.spelling p ++ rest → ⊥) }
 {
     let mut rest = bytes;
     let (globals, count) = read_head(alloc, L::TAG, &mut rest)?;
@@ -33,12 +32,16 @@ pub fn read_program<L: Language>(
     if !is_taken(&functions, b"main".as_slice()) {
         return Err(FormError::NotCanonical);
     }
-    Ok((Program { globals, functions }, bytes.len() - rest.len()))
+    let program = Program {
+        globals: Row::from_vec(globals),
+        functions: Row::from_vec(functions),
+    };
+    Ok((program, bytes.len() - rest.len()))
 }
 
 fn push_program<L: Language>(out: &mut Vec<u8>, program: &Program<L::Fun>) -> Result<(), NoMemory>
-    requires { IsProgram L.fits (seen program.now) }
-    ensures { Appends result (program_text L.TAG L.spelling (seen program.now)) out.old.items out.new.items }
+    requires { IsProgram L.fits program.now }
+    ensures { Appends result (program_text L.TAG L.spelling program.now) out.old.items out.new.items }
 {
     let functions = program.functions.as_slice();
     push_head(
@@ -55,8 +58,8 @@ pub fn write_program<L: Language>(
     program: &Program<L::Fun>,
     out: &mut Vec<u8>,
 ) -> Result<(), NoMemory>
-    requires { IsProgram L.fits (seen program.now) }
-    ensures ok { OnOk result (out.new.items ≡ out.old.items ++ program_text L.TAG L.spelling (seen program.now)) }
+    requires { IsProgram L.fits program.now }
+    ensures ok { OnOk result (out.new.items ≡ out.old.items ++ program_text L.TAG L.spelling program.now) }
     ensures err { OnErr result (out.new.items ≡ out.old.items) }
 {
     let length = out.len();

@@ -5,7 +5,6 @@ ghost use Rattle.std.specs.List.{flat_map};
 ghost use Rattle.std.specs.Int.{w32, to_be_bytes};
 ghost use Rattle.lang_base.specs.Texts.{Appends};
 ghost use Rattle.lang.specs.Form.{name_text, named_text, global_text};
-ghost use Rattle.lang_programs.specs.Seen.{global_seen, named_seen};
 ghost use Rattle.lang.specs.Shorts.{IsShortNamed, IsShortGlobal, globals_written, head_written, functions_written};
 
 use lang_base::{Language, Named, NoMemory, push_byte, push_u16, push_u32};
@@ -21,16 +20,16 @@ fn push_each_word(out: &mut Vec<u8>, words: &[u32]) -> Result<(), NoMemory>
 
 fn push_global(out: &mut Vec<u8>, global: &lang_base::Global) -> Result<(), NoMemory>
     requires { IsShortGlobal global.now }
-    ensures { Appends result (global_text (global_seen global.now)) out.old.items out.new.items }
+    ensures { Appends result (global_text global.now) out.old.items out.new.items }
 {
     push_u32(out, global.cells)?;
     push_u32(out, global.first_words.len() as u32)?;
-    push_each_word(out, &global.first_words)
+    push_each_word(out, global.first_words.as_slice())
 }
 
 fn push_each_global(out: &mut Vec<u8>, globals: &[lang_base::Global]) -> Result<(), NoMemory>
     requires { All IsShortGlobal globals.now }
-    ensures { Appends result (flat_map (λ g. global_text (global_seen g)) globals.now) out.old.items out.new.items }
+    ensures { Appends result (flat_map (λ g. global_text g) globals.now) out.old.items out.new.items }
 {
     for global in globals {
         push_global(out, global)?;
@@ -78,9 +77,9 @@ fn push_name(out: &mut Vec<u8>, name: &[u8]) -> Result<(), NoMemory>
 
 fn push_named<L: Language>(out: &mut Vec<u8>, named: &Named<L::Fun>) -> Result<(), NoMemory>
     requires { IsShortNamed named.now }
-    ensures { Appends result (named_text L.spelling (named_seen named.now)) out.old.items out.new.items }
+    ensures { Appends result (named_text L.spelling named.now) out.old.items out.new.items }
 {
-    push_name(out, &named.name)?;
+    push_name(out, named.name.as_slice())?;
     L::write(&named.function, out)
 }
 

@@ -2,7 +2,6 @@ pub mod Numbers
 pub mod Behaviour
 pub mod Keeps
 pub mod Machine
-pub mod Programs
 pub mod Soundness
 pub mod Reading
 pub mod Texts

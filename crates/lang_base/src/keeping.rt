@@ -3,7 +3,7 @@
 ghost use Rattle.std.specs.Prelude.{◌≡◌, ℕ};
 ghost use Rattle.lang_base.specs.Behaviour.{Behaviour};
 ghost use Rattle.lang_base.specs.Keeps.{Keeps};
-ghost use Rattle.lang_base.specs.Programs.{ProgramOf};
+ghost use Rattle.lang_base.specs.declared.program.Program.{Program};
 ghost use Rattle.lang_base.specs.Soundness.{AllFit, Accepted};
 
 use crate::language::Language;
@@ -16,5 +16,5 @@ pub fn keeps_composes()
 
 /// What a pass accepts for a whole program keeps its meaning.
 pub fn keeps_all<P: Pass>()
-    ensures { (p : ProgramOf P.In.Fun) (q : ProgramOf P.Out.Fun) → AllFit P.In.fits p → AllFit P.Out.fits q → Accepted P.accepts p q → Keeps (P.In.run p) (P.Out.run q) }
+    ensures { (p : Program P.In.Fun) (q : Program P.Out.Fun) → AllFit P.In.fits p → AllFit P.Out.fits q → Accepted P.accepts p q → Keeps (P.In.run p) (P.Out.run q) }
 {}

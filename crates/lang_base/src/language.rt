@@ -1,6 +1,6 @@
 ghost use Rattle.std.specs.Prelude.{◌≡◌, ◌≢◌, ◌≤◌, ℕ, List, ◌++◌, length, take, true, ◌↔◌, OnOk, OnErr, IfOk, IfErr};
 ghost use Rattle.lang_base.specs.Behaviour.{Behaviour, IsRun};
-ghost use Rattle.lang_base.specs.Programs.{ProgramOf};
+ghost use Rattle.lang_base.specs.declared.program.Program.{Program};
 
 use crate::errors::{FormError, NoMemory};
 use std::alloc::Global;
@@ -23,7 +23,7 @@ pub trait Language {
     ghost spelling: { Self.Fun → List ℕ };
 
     /// What the run of a program shows at each bound.
-    ghost run: { ProgramOf Self.Fun → Behaviour };
+    ghost run: { Program Self.Fun → Behaviour };
 
     /// Every function fits.
     fn known(function: &Self::Fun)
@@ -50,7 +50,7 @@ pub trait Language {
     ghost one_spelling: { (f g : Self.Fun) (x y : List ℕ) → fits f → fits g → spelling f ++ x ≡ spelling g ++ y → (f ≡ g) × (x ≡ y) };
 
     /// From one bound to the next the output only grows, and an end or a fault stays.
-    ghost runs_on: { (p : ProgramOf Self.Fun) → IsRun (run p) };
+    ghost runs_on: { (p : Program Self.Fun) → IsRun (run p) };
 
     /// `==` says of two functions whether they are one.
     ghost eq_decides: { (f g : Self.Fun) → (Self.Fun.eq f g ≡ true) ↔ (f ≡ g) };

@@ -1,6 +1,6 @@
 ghost use Rattle.std.specs.Prelude.{◌≡◌, ◌≢◌, ◌≤◌, ℕ, List, ◌++◌, length, take, IsTrue, ◌↔◌, OnOk, OnErr, IfOk, IfErr};
 ghost use Rattle.lang_base.specs.Keeps.{Keeps};
-ghost use Rattle.lang_base.specs.Programs.{ProgramOf};
+ghost use Rattle.lang_base.specs.declared.program.Program.{Program};
 ghost use Rattle.lang_base.specs.Soundness.{AllFit, Accepted};
 
 use crate::errors::{FormError, NoMemory, PassError};
@@ -79,7 +79,7 @@ pub trait Pass {
             (c : Self.Cert) (rest : List ℕ) → cert_fits input.now output.now c → bytes.now ≡ cert_spelling input.now output.now c ++ rest → ⊥) };
 
     /// What is accepted keeps the meaning of whole programs.
-    ghost sound: { (p : ProgramOf Self.In.Fun) (q : ProgramOf Self.Out.Fun) → AllFit Self.In.fits p → AllFit Self.Out.fits q → Accepted accepts p q → Keeps (Self.In.run p) (Self.Out.run q) };
+    ghost sound: { (p : Program Self.In.Fun) (q : Program Self.Out.Fun) → AllFit Self.In.fits p → AllFit Self.Out.fits q → Accepted accepts p q → Keeps (Self.In.run p) (Self.Out.run q) };
 
     /// A certificate that is accepted has a spelling.
     ghost accepted_fits: { (i : Self.In.Fun) (o : Self.Out.Fun) (c : Self.Cert) → Self.In.fits i → Self.Out.fits o → accepts i o c → cert_fits i o c };

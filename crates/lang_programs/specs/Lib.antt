@@ -1,4 +1,3 @@
-pub mod Seen
 pub mod Numbers
 pub mod Written
 pub use Rattle.lang_base.specs.Behaviour

@@ -2,7 +2,6 @@
 
 ghost use Rattle.std.specs.Prelude.{◌≡◌, None, Some, ◌<◌, length, map, slice_get, MatchOption};
 ghost use Rattle.linear_language.specs.Function.{IsFunction};
-ghost use Rattle.lang_programs.specs.Seen.{named_seen};
 ghost use Rattle.linear.specs.Functions.{HasFunction};
 
 use lang_base::Named;
@@ -11,8 +10,8 @@ use linear_language::Function;
 /// The function of this number, if it is there.
 pub(crate) fn function_at(functions: &[Named<Function>], number: usize) -> Option<&Function>
     ensures { MatchOption result
-        (slice_get (map named_seen functions.now) number ≡ None)
-        (λ function. HasFunction (slice_get (map named_seen functions.now) number) function.now) }
+        (slice_get functions.now number ≡ None)
+        (λ function. HasFunction (slice_get functions.now number) function.now) }
 {
     match functions.get(number) {
         None => None,

@@ -1,7 +1,7 @@
 //! Returns: the nearest caller goes on, or the run ends.
 
 ghost use Rattle.std.specs.Prelude.{◌≡◌, ℕ, ◌≤◌, List, Option, Some, length};
-ghost use Rattle.lang_base.specs.Programs.{NamedFunction};
+ghost use Rattle.lang_base.specs.declared.program.Named.{Named};
 ghost use Rattle.locations.specs.Fits.{ValueFits};
 ghost use Rattle.machine.specs.Frames.{returned, comes_back};
 ghost use Rattle.linear_language.specs.Function.{FunctionData};
@@ -20,7 +20,7 @@ fn go_back(machine: &mut Machine, value: Option<u32>) -> Turn
     requires { CallersStand machine.old.callers }
     ensures turn { (output : List ℕ) →
         comes_back machine.old.callers (machine_state machine.old output).here (Some value) ≡ turned result (machine_state machine.new output) }
-    ensures fits { (functions : List (NamedFunction FunctionData)) → CallersFit functions machine.old.callers →
+    ensures fits { (functions : List (Named FunctionData)) → CallersFit functions machine.old.callers →
         WhereGone result (MachineFits functions machine.new) }
 {
     let Some(caller) = machine.callers.pop() else {
@@ -48,7 +48,7 @@ pub(crate) fn come_back(machine: &mut Machine, value: Option<Register>) -> Turn
     ensures turn { (output : List ℕ) →
         comes_back machine.old.callers (machine_state machine.old output).here (returned value (machine_state machine.old output).here)
         ≡ turned result (machine_state machine.new output) }
-    ensures fits { (functions : List (NamedFunction FunctionData)) → CallersFit functions machine.old.callers →
+    ensures fits { (functions : List (Named FunctionData)) → CallersFit functions machine.old.callers →
         WhereGone result (MachineFits functions machine.new) }
 {
     let Some(register) = value else {

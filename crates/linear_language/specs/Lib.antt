@@ -13,5 +13,4 @@ pub use Rattle.machine.specs.Frames
 pub use Rattle.machine.specs.Calls
 pub use Rattle.machine.specs.Fits
 pub use Rattle.lang_base.specs.Behaviour
-pub use Rattle.lang_base.specs.Programs
 pub use Rattle.lang_base.specs.Machine

@@ -2,7 +2,7 @@
 use Rattle.std.proofs.Common.{◌≡◌, ℕ, ◌<◌, ◌≤◌, ◌^◌, List, ◌++◌, length, arith}
 use Rattle.std.proofs.lemmas.List.Elements.{recursion_from_All}
 use Rattle.lang_base.specs.Keeps.{Keeps}
-use Rattle.lang_base.specs.Programs.{ProgramOf}
+use Rattle.lang_base.specs.declared.program.Program.{Program}
 use Rattle.lang_base.specs.Soundness.{AllFit, Accepted}
 use Rattle.lang_base.proofs.Forms.{one_text}
 use Rattle.ltl.specs.Function as ltl
@@ -18,7 +18,7 @@ abbrev pub never : ltl.FunctionData → Type 0
 never f = ⊥
 
 -- what is accepted keeps the meaning, also where every function is in range
-pub sound_law : (p : ProgramOf ltl.FunctionData) (q : ProgramOf linear.FunctionData) → AllFit ltl.IsFunction p → AllFit linear.IsFunction q → Accepted IsLaidOut p q → Keeps (blocks.run p) (code.run q)
+pub sound_law : (p : Program ltl.FunctionData) (q : Program linear.FunctionData) → AllFit ltl.IsFunction p → AllFit linear.IsFunction q → Accepted IsLaidOut p q → Keeps (blocks.run p) (code.run q)
 sound_law p q fits also accepted = sound p q accepted
 
 -- an order that is accepted can be written

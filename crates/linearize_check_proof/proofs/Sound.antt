@@ -4,7 +4,9 @@ use Rattle.std.specs.Prelude.{slice_get, ◌==◌, codes}
 use Rattle.std.specs.Str.{bytes_eq}
 use Rattle.lang_base.specs.Keeps.{Keeps}
 use Rattle.lang_base.specs.Machine.{showing, shows, Leads, Matches}
-use Rattle.lang_base.specs.Programs.{GlobalData, NamedFunction, ProgramOf}
+use Rattle.lang_base.specs.declared.program.Global.{Global}
+use Rattle.lang_base.specs.declared.program.Named.{Named}
+use Rattle.lang_base.specs.declared.program.Program.{Program}
 use Rattle.lang_base.specs.Soundness.{Accepted, AcceptedInTurn}
 use Rattle.lang_base.specs.declared.shown.Shown.TheVariants as shown
 use Rattle.lang_base.proofs.Simulation.{keeps-matches}
@@ -20,7 +22,7 @@ use Rattle.linearize_check_proof.specs.Related.{Pair, HasPairs, Related}
 use Rattle.linearize_check_proof.proofs.Steps.{first_listed, block_goes, block_ends}
 
 -- each step of the program is matched by its stretch of the code
-matched : (sources : List (NamedFunction ltl.FunctionData)) (targets : List (NamedFunction linear.FunctionData)) → HasPairs sources targets → Matches (blocks.next sources) printed (code.next targets) printed (Related sources targets)
+matched : (sources : List (Named ltl.FunctionData)) (targets : List (Named linear.FunctionData)) → HasPairs sources targets → Matches (blocks.next sources) printed (code.next targets) printed (Related sources targets)
 matched sources targets pairs = record {
   goes = λ s s' t r goes.
       let m = block_goes sources targets pairs s r.pair t.callers r.callers r.listed r.behind t.place r.stands s' goes in
@@ -32,7 +34,7 @@ matched sources targets pairs = record {
 }
 
 -- the functions of a number, accepted
-pair_of : (fs : List (NamedFunction ltl.FunctionData)) (gs : List (NamedFunction linear.FunctionData)) → AcceptedInTurn IsLaidOut fs gs → (k : ℕ) (f : NamedFunction ltl.FunctionData) → slice_get fs k ≡ Some f → (p : Pair fs gs k) × (p.source ≡ f)
+pair_of : (fs : List (Named ltl.FunctionData)) (gs : List (Named linear.FunctionData)) → AcceptedInTurn IsLaidOut fs gs → (k : ℕ) (f : Named ltl.FunctionData) → slice_get fs k ≡ Some f → (p : Pair fs gs k) × (p.source ≡ f)
 pair_of [] gs accepted k f e = cc
 pair_of (f' ∷ fs) [] accepted k f e = absurd accepted
 pair_of (f' ∷ fs) (g ∷ gs) accepted zero f e =
@@ -45,7 +47,7 @@ pair_of (f' ∷ fs) (g ∷ gs) accepted (suc k) f e =
     (record { source = q.source; target = q.target; order = q.order; is_source = q.is_source; is_target = q.is_target; laid_out = q.laid_out }, p.1)
 
 -- main has the same number in both
-main_number_same : (fs : List (NamedFunction ltl.FunctionData)) (gs : List (NamedFunction linear.FunctionData)) → AcceptedInTurn IsLaidOut fs gs → main_number blocks.takes_none fs ≡ main_number code.takes_none gs
+main_number_same : (fs : List (Named ltl.FunctionData)) (gs : List (Named linear.FunctionData)) → AcceptedInTurn IsLaidOut fs gs → main_number blocks.takes_none fs ≡ main_number code.takes_none gs
 main_number_same [] [] accepted = refl
 main_number_same [] (g ∷ gs) accepted = absurd accepted
 main_number_same (f ∷ fs) [] accepted = absurd accepted
@@ -57,7 +59,7 @@ main_number_same (f ∷ fs) (g ∷ gs) accepted =
     ∙ ap (λ n. cond (bytes_eq g.name (codes "main") && code.takes_none g.function) 0 (suc n)) (main_number_same fs gs accepted.1)
 
 -- where main is, both programs start at its entry
-main_starts : (globals : List GlobalData) (fs : List (NamedFunction ltl.FunctionData)) (gs : List (NamedFunction linear.FunctionData)) (number : ℕ) (p : Pair fs gs number) → HasPairs fs gs → Keeps (λ n. shows (blocks.next fs) printed n (begins globals number p.source.function.entry p.source.function.slots)) (λ n. shows (code.next gs) printed n (begins globals number 0 (code.slots_of (slice_get gs number))))
+main_starts : (globals : List Global) (fs : List (Named ltl.FunctionData)) (gs : List (Named linear.FunctionData)) (number : ℕ) (p : Pair fs gs number) → HasPairs fs gs → Keeps (λ n. shows (blocks.next fs) printed n (begins globals number p.source.function.entry p.source.function.slots)) (λ n. shows (code.next gs) printed n (begins globals number 0 (code.slots_of (slice_get gs number))))
 main_starts globals fs gs number p pairs =
     let first = first_listed p.order p.source.function.entry p.laid_out.allowed.lists.entry in
     let slots : code.slots_of (slice_get gs number) ≡ p.source.function.slots = ap code.slots_of p.is_target ∙ p.laid_out.frame.slots in
@@ -74,14 +76,14 @@ main_starts globals fs gs number p pairs =
     } in
     keeps-matches (blocks.next fs) printed (code.next gs) printed (Related fs gs) (matched fs gs pairs) (growth.grows gs) s t related
 
-starts : (globals : List GlobalData) (fs : List (NamedFunction ltl.FunctionData)) (gs : List (NamedFunction linear.FunctionData)) (number : ℕ) → AcceptedInTurn IsLaidOut fs gs → (o : Option (NamedFunction ltl.FunctionData)) → slice_get fs number ≡ o → Keeps (λ n. shows (blocks.next fs) printed n (begins globals number (blocks.entry_of o) (blocks.slots_of o))) (λ n. shows (code.next gs) printed n (begins globals number 0 (code.slots_of (slice_get gs number))))
+starts : (globals : List Global) (fs : List (Named ltl.FunctionData)) (gs : List (Named linear.FunctionData)) (number : ℕ) → AcceptedInTurn IsLaidOut fs gs → (o : Option (Named ltl.FunctionData)) → slice_get fs number ≡ o → Keeps (λ n. shows (blocks.next fs) printed n (begins globals number (blocks.entry_of o) (blocks.slots_of o))) (λ n. shows (code.next gs) printed n (begins globals number 0 (code.slots_of (slice_get gs number))))
 starts globals fs gs number accepted None e =
     λ never. absurd (never 1 (ap (λ x. (showing (blocks.function_step fs (begins globals number 0 0) x) (shows (blocks.next fs) printed 0) []).shown) e))
 starts globals fs gs number accepted (Some f) e =
     let found = pair_of fs gs accepted number f e in
     subst (λ x. Keeps (λ n. shows (blocks.next fs) printed n (begins globals number x.function.entry x.function.slots)) (λ n. shows (code.next gs) printed n (begins globals number 0 (code.slots_of (slice_get gs number))))) found.1 (main_starts globals fs gs number found.0 (pair_of fs gs accepted))
 
-pub sound : (p : ProgramOf ltl.FunctionData) (q : ProgramOf linear.FunctionData) → Accepted IsLaidOut p q → Keeps (blocks.run p) (code.run q)
+pub sound : (p : Program ltl.FunctionData) (q : Program linear.FunctionData) → Accepted IsLaidOut p q → Keeps (blocks.run p) (code.run q)
 sound p q accepted =
     let number = main_number blocks.takes_none p.functions in
     let both = starts p.globals p.functions q.functions number accepted.functions (slice_get p.functions number) refl in

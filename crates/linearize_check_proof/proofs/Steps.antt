@@ -4,7 +4,7 @@ use Rattle.std.specs.Prelude.{◌==◌, slice_get, Contains, All}
 use Rattle.std.specs.Option.{option_map}
 use Rattle.std.proofs.lemmas.Bool.{eqb-true}
 use Rattle.lang_base.specs.Machine.{Goes, Ends, Fails, showing, shows, Leads}
-use Rattle.lang_base.specs.Programs.{NamedFunction}
+use Rattle.lang_base.specs.declared.program.Named.{Named}
 use Rattle.lang_base.specs.declared.shown.Shown.TheVariants as shown
 use Rattle.locations.specs.declared.location.Location.{Location}
 use Rattle.locations.specs.declared.location.Move.{Move}
@@ -31,7 +31,7 @@ use Rattle.linearize_check_proof.proofs.Places.{slice_get-some, slice_get-drop, 
 use Rattle.linearize_check_proof.specs.Related.{Pair, HasPairs, FrameRelated, FramesRelated, Related}
 
 -- no step, or more, lead from s to t
-pub record Comes (targets : List (NamedFunction linear.FunctionData)) (s t : State) : Type 0 where
+pub record Comes (targets : List (Named linear.FunctionData)) (s t : State) : Type 0 where
   pub by : (k : ℕ) → (j : ℕ) × (k ≤ j) × (shows (code.next targets) printed j s ≡ shows (code.next targets) printed k t)
 
 -- what a listed node's order says of its successors
@@ -65,7 +65,7 @@ call_never_ends {A} s d number values caller (Some callee) result e = at (length
     at true e = cc
     at false e = cc
 
-module _ (sources : List (NamedFunction ltl.FunctionData)) (targets : List (NamedFunction linear.FunctionData)) (pairs : HasPairs sources targets) where
+module _ (sources : List (Named ltl.FunctionData)) (targets : List (Named linear.FunctionData)) (pairs : HasPairs sources targets) where
   comes_none : (s : State) → Comes targets s s
   comes_none s = record { by = λ k. (k, omega arith, refl) }
 
@@ -225,7 +225,7 @@ module _ (sources : List (NamedFunction ltl.FunctionData)) (targets : List (Name
           callers = (caller, related);
         }
 
-    call_goes : (function : ℕ) (o : Option (NamedFunction ltl.FunctionData)) (arguments : List Location) (target : Option Location) (after : List Move) (n : ℕ) → Contains p.order n → (behind : List ℕ) (d : Data) (place : ℕ) (s' : State) → slice_get sources function ≡ o → calls s d function (values_of arguments d) (waiting s d target n after) (option_map blocks.callee_of o) ≡ Goes s' → drop place (the_code p) ≡ Call function arguments target ∷ copies after (jump n behind (order_code (the_blocks p) behind)) → Matched s' (at place d)
+    call_goes : (function : ℕ) (o : Option (Named ltl.FunctionData)) (arguments : List Location) (target : Option Location) (after : List Move) (n : ℕ) → Contains p.order n → (behind : List ℕ) (d : Data) (place : ℕ) (s' : State) → slice_get sources function ≡ o → calls s d function (values_of arguments d) (waiting s d target n after) (option_map blocks.callee_of o) ≡ Goes s' → drop place (the_code p) ≡ Call function arguments target ∷ copies after (jump n behind (order_code (the_blocks p) behind)) → Matched s' (at place d)
     call_goes function None arguments target after n listed behind d place s' found goes e = cc (goes)
     call_goes function (Some f) arguments target after n listed behind d place s' found goes e =
         let pair = pairs function f found in

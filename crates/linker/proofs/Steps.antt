@@ -1,7 +1,8 @@
 -- What the refusal of a program of RTL says of the program of Cminor that it was translated from.
 use Rattle.std.proofs.Common.{◌≡◌, ℕ, zero, suc, List, [], ◌∷◌, map, refl, sym, ap, ◌∙◌, subst, arith}
 use Rattle.std.specs.Prelude.{All}
-use Rattle.lang_base.specs.Programs.{NamedFunction, ProgramOf}
+use Rattle.lang_base.specs.declared.program.Named.{Named}
+use Rattle.lang_base.specs.declared.program.Program.{Program}
 use Rattle.cminor_syntax.specs.Trees.{FunctionTree}
 use Rattle.rtlgen_definition.specs.Gen.{gen, gen_named}
 use Rattle.rtlgen.specs.Refused as translation
@@ -18,29 +19,29 @@ use Rattle.linker.specs.Numbers.{refusal_to_link, refusal_to_translate}
 use Rattle.linker.specs.Refused.{IsRefused}
 
 -- the translation keeps the names
-pub names_translated : (functions : List (NamedFunction FunctionTree)) → names_of (map gen_named functions) ≡ names_of functions
+pub names_translated : (functions : List (Named FunctionTree)) → names_of (map gen_named functions) ≡ names_of functions
 names_translated [] = refl
 names_translated (f ∷ functions) = ap (λ names. f.name ∷ names) (names_translated functions)
 
 module _ {A2 A3 A4 A5 C1 C2 C3 C4 : Type 0} where
-  refused_translated : (program : ProgramOf FunctionTree) (named : List (Named (Parts FunctionData A2 C1) (Parts A2 A3 C2) (Parts A3 A4 C3) (Parts A4 A5 C4))) (e : chains.LinkError)
+  refused_translated : (program : Program FunctionTree) (named : List (Named (Parts FunctionData A2 C1) (Parts A2 A3 C2) (Parts A3 A4 C3) (Parts A4 A5 C4))) (e : chains.LinkError)
       → Refusal (gen program).functions named e → IsRefused program named (refusal_to_link e)
   refused_translated program named chain.NoMemory told = tt
   refused_translated program named chain.Names told = λ same. told (same ∙ sym (names_translated program.functions))
   refused_translated program named (chain.Missing i) told = told
   refused_translated program named (chain.Unchained i) told = told
 
-  pub refused_along : (program : ProgramOf FunctionTree) (translated : ProgramOf FunctionData) (named : List (Named (Parts FunctionData A2 C1) (Parts A2 A3 C2) (Parts A3 A4 C3) (Parts A4 A5 C4))) (e : chains.LinkError)
+  pub refused_along : (program : Program FunctionTree) (translated : Program FunctionData) (named : List (Named (Parts FunctionData A2 C1) (Parts A2 A3 C2) (Parts A3 A4 C3) (Parts A4 A5 C4))) (e : chains.LinkError)
       → translated ≡ gen program → Refusal translated.functions named e → IsRefused program named (refusal_to_link e)
   refused_along program translated named e same told = refused_translated program named e (subst (λ p. Refusal p.functions named e) same told)
 
 -- where no function needs too many nodes, none is told
-none_too_large : (functions : List (NamedFunction FunctionTree)) (i : ℕ) → All translation.HasFewNodes functions → translation.IsFirstTooLarge functions i → ⊥
+none_too_large : (functions : List (Named FunctionTree)) (i : ℕ) → All translation.HasFewNodes functions → translation.IsFirstTooLarge functions i → ⊥
 none_too_large [] i few told = told
 none_too_large (f ∷ functions) zero few told = let have = few zero f (omega arith) in absurd (omega (arith, have, told))
 none_too_large (f ∷ functions) (suc i) few told = none_too_large functions i (λ k d below. few (suc k) d (omega (arith, below))) told.1
 
 -- so the translation refuses memory alone
-pub few_translate : (functions : List (NamedFunction FunctionTree)) (e : GenError) → All translation.HasFewNodes functions → translation.IsRefused functions e → refusal_to_translate e ≡ NoMemory
+pub few_translate : (functions : List (Named FunctionTree)) (e : GenError) → All translation.HasFewNodes functions → translation.IsRefused functions e → refusal_to_translate e ≡ NoMemory
 few_translate functions gen_error.NoMemory few told = refl
 few_translate functions (gen_error.TooManyNodes i) few told = absurd (none_too_large functions i few told)

@@ -1,6 +1,6 @@
 -- Why a program of Cminor is not linked: its names first, then its translation to RTL, then the chains.
 use Rattle.std.specs.Prelude.{◌≢◌, List}
-use Rattle.lang_base.specs.Programs.{ProgramOf}
+use Rattle.lang_base.specs.declared.program.Program.{Program}
 use Rattle.cminor_syntax.specs.Trees.{FunctionTree}
 use Rattle.rtlgen_definition.specs.Gen.{gen}
 use Rattle.offers.specs.declared.parts.Parts.{Parts}
@@ -11,7 +11,7 @@ use Rattle.linker_passes.specs.Chains.{names_beside, names_of, IsMissing, IsUnch
 use Rattle.linker.specs.declared.errors.LinkError.{LinkError}
 use Rattle.linker.specs.declared.errors.LinkError.TheVariants.{NoMemory, TooManyNodes, Missing, Unchained, Names}
 
-abbrev pub IsRefused : {A2 A3 A4 A5 C1 C2 C3 C4 : Type 0} → ProgramOf FunctionTree → List (Named (Parts FunctionData A2 C1) (Parts A2 A3 C2) (Parts A3 A4 C3) (Parts A4 A5 C4)) → LinkError → Type 0
+abbrev pub IsRefused : {A2 A3 A4 A5 C1 C2 C3 C4 : Type 0} → Program FunctionTree → List (Named (Parts FunctionData A2 C1) (Parts A2 A3 C2) (Parts A3 A4 C3) (Parts A4 A5 C4)) → LinkError → Type 0
 IsRefused program named NoMemory = Unit {0}
 IsRefused program named Names = names_beside named ≢ names_of program.functions
 IsRefused program named (TooManyNodes i) = IsFirstTooLarge program.functions i
@@ -19,7 +19,7 @@ IsRefused program named (Missing i) = IsMissing (gen program).functions named i
 IsRefused program named (Unchained i) = IsUnchained (gen program).functions named i
 
 -- the first function that needs too many nodes is told, unless memory was refused; nothing else is
-abbrev pub HasNoTranslation : ProgramOf FunctionTree → LinkError → Type 0
+abbrev pub HasNoTranslation : Program FunctionTree → LinkError → Type 0
 HasNoTranslation program NoMemory = Unit {0}
 HasNoTranslation program Names = ⊥
 HasNoTranslation program (TooManyNodes i) = IsFirstTooLarge program.functions i

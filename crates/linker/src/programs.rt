@@ -9,7 +9,6 @@ ghost use Rattle.linear_language.specs.Meaning as linear;
 ghost use Rattle.linker_passes.specs.Chains.{linked, names_beside, names_of, AllChained, Refusal};
 ghost use Rattle.linker_passes.specs.declared.errors.LinkError.TheVariants as chain;
 ghost use Rattle.linker.specs.Refused.{IsRefused, HasNoTranslation};
-ghost use Rattle.lang_programs.specs.Seen.{seen};
 ghost use Rattle.rtl_language.specs.Meaning as rtl;
 
 use crate::errors::LinkError;
@@ -37,10 +36,10 @@ pub fn translated(
     alloc: Global,
     program: &CProgram,
 ) -> Result<Program<rtl_language::Function>, LinkError>
-    ensures same { IfOk result (λ made. seen made ≡ gen (low (program_tree program.now))) }
-    ensures same_names { IfOk result (λ made. names_of (seen made).functions ≡ names_of (low (program_tree program.now)).functions) }
-    ensures small { IfOk result (λ made. All (λ f. f.function.registers ≤ 2048) (seen made).functions) }
-    ensures keeps { IfOk result (λ made. Keeps (crun (program_tree program.now)) (rtl.run (seen made))) }
+    ensures same { IfOk result (λ made. made ≡ gen (low (program_tree program.now))) }
+    ensures same_names { IfOk result (λ made. names_of made.functions ≡ names_of (low (program_tree program.now)).functions) }
+    ensures small { IfOk result (λ made. All (λ f. f.function.registers ≤ 2048) made.functions) }
+    ensures keeps { IfOk result (λ made. Keeps (crun (program_tree program.now)) (rtl.run made)) }
 
     // Where memory is not wanting, it is refused exactly where a function needs too many nodes.
     ensures few { OnOk result (All HasFewNodes (low (program_tree program.now)).functions) }
@@ -59,17 +58,17 @@ pub fn link_translated(
     program: &Program<rtl_language::Function>,
     named: &[Named<'_>],
 ) -> Result<Program<Function>, linker_passes::LinkError>
-    ensures ok { IfOk result (λ made. seen made ≡ linked (seen program.now) named.now) }
-    ensures same_names { IfOk result (λ made. names_of (seen made).functions ≡ names_of (seen program.now).functions) }
-    ensures chained { OnOk result (AllChained (seen program.now).functions named.now) }
-    ensures keeps { IfOk result (λ made. Keeps (rtl.run (seen program.now)) (linear.run (seen made))) }
+    ensures ok { IfOk result (λ made. made ≡ linked program.now named.now) }
+    ensures same_names { IfOk result (λ made. names_of made.functions ≡ names_of program.now.functions) }
+    ensures chained { OnOk result (AllChained program.now.functions named.now) }
+    ensures keeps { IfOk result (λ made. Keeps (rtl.run program.now) (linear.run made)) }
 
     // Tested first: the names are others, or not as many. Where they are right and all chains are whole, only memory
     // can be refused.
-    ensures names { (result ≡ Err chain.Names) ↔ (names_beside named.now ≢ names_of (seen program.now).functions) }
-    ensures refused { IfErr result (λ e. Refusal (seen program.now).functions named.now e) }
-    ensures whole { names_beside named.now ≡ names_of (seen program.now).functions →
-        AllChained (seen program.now).functions named.now → IfErr result (λ e. e ≡ chain.NoMemory) }
+    ensures names { (result ≡ Err chain.Names) ↔ (names_beside named.now ≢ names_of program.now.functions) }
+    ensures refused { IfErr result (λ e. Refusal program.now.functions named.now e) }
+    ensures whole { names_beside named.now ≡ names_of program.now.functions →
+        AllChained program.now.functions named.now → IfErr result (λ e. e ≡ chain.NoMemory) }
 {
     linker_passes::link::<ConstProp, Cse, Alloc, Linearize>(alloc, program, named)
 }
@@ -81,10 +80,10 @@ pub fn link(
     program: &CProgram,
     named: &[Named<'_>],
 ) -> Result<Program<Function>, LinkError>
-    ensures ok { IfOk result (λ made. seen made ≡ linked (gen (low (program_tree program.now))) named.now) }
-    ensures same_names { IfOk result (λ made. names_of (seen made).functions ≡ names_of (low (program_tree program.now)).functions) }
+    ensures ok { IfOk result (λ made. made ≡ linked (gen (low (program_tree program.now))) named.now) }
+    ensures same_names { IfOk result (λ made. names_of made.functions ≡ names_of (low (program_tree program.now)).functions) }
     ensures chained { OnOk result (AllChained (gen (low (program_tree program.now))).functions named.now) }
-    ensures keeps { IfOk result (λ made. Keeps (crun (program_tree program.now)) (linear.run (seen made))) }
+    ensures keeps { IfOk result (λ made. Keeps (crun (program_tree program.now)) (linear.run made)) }
 
     // Tested first: the names are others, or not as many.
     ensures names { names_beside named.now ≢ names_of (low (program_tree program.now)).functions →

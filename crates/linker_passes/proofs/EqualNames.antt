@@ -2,15 +2,14 @@
 use Rattle.std.proofs.Common.{◌≡◌, ℕ, ◌<◌, List, [], length, map, get_or, sym, ap, ◌∙◌}
 use Rattle.std.proofs.lemmas.List.{get_or-map, length-map}
 use Rattle.lang_base.specs.declared.program.Named as code
-use Rattle.lang_programs.specs.Seen.{named_seen}
 use Rattle.linker_passes.specs.declared.chain.Named.{Named}
 use Rattle.linker_passes.specs.Chains.{names_beside, names_of}
 
 pub same_name_at : {F O1 O2 O3 O4 : Type 0} (functions : List (code.Named F)) (named : List (Named O1 O2 O3 O4)) (i : ℕ) (f : code.Named F) (n : Named O1 O2 O3 O4)
-    → i < length functions → i < length named → names_beside named ≡ names_of (map named_seen functions) → (get_or functions i f).name.items ≡ (get_or named i n).name.now
+    → i < length functions → i < length named → names_beside named ≡ names_of functions → (get_or functions i f).name ≡ (get_or named i n).name.now
 same_name_at functions named i f n in_functions in_named e =
-    let seen : i < length (map named_seen functions) = rw (length-map functions named_seen) in_functions in
-    sym (ap (λ g. g.name) (get_or-map named_seen functions i f (named_seen f) in_functions))
-    ∙ sym (get_or-map (λ g. g.name) (map named_seen functions) i (named_seen f) [] seen)
+    let seen : i < length functions = rw (length-map functions named_seen) in_functions in
+    sym (ap (λ g. g.name) (get_or-functions i f f in_functions))
+    ∙ sym (get_or-map (λ g. g.name) functions i f [] seen)
     ∙ ap (λ names. get_or names i []) (sym e)
     ∙ get_or-map (λ g. g.name.now) named i n [] in_named

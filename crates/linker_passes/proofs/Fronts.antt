@@ -5,7 +5,6 @@ use Rattle.std.proofs.lemmas.Option.{slice_get-get_or}
 use Rattle.std.proofs.lemmas.List.{get_or-map, length-map}
 use Rattle.offers.specs.declared.parts.Parts.{Parts}
 use Rattle.lang_base.specs.declared.program.Named as code
-use Rattle.lang_programs.specs.Seen.{named_seen}
 use Rattle.linker_passes.specs.declared.chain.Chain.{Chain}
 use Rattle.linker_passes.specs.declared.chain.Named.{Named}
 use Rattle.linker_passes.specs.declared.errors.LinkError.{LinkError}
@@ -43,7 +42,7 @@ module _ {A1 A2 A3 A4 A5 C1 C2 C3 C4 : Type 0} (Valid : Chain (Parts A1 A2 C1) (
   has_chain f (Some chain) end is = is.chained
 
   -- what is linked is chained
-  chained_front : (functions : List (code.Named A1)) (named : List Beside) (n : ℕ) (all_made : List (code.Named A5)) → AreLinked Valid (take n functions) (take n named) all_made → AllChained (take n (map named_seen functions)) (take n named)
+  chained_front : (functions : List (code.Named A1)) (named : List Beside) (n : ℕ) (all_made : List (code.Named A5)) → AreLinked Valid (take n functions) (take n named) all_made → AllChained (take n functions) (take n named)
   chained_front functions named zero all_made are = tt
   chained_front [] [] (suc n) all_made are = tt
   chained_front [] (y ∷ named) (suc n) all_made are = absurd are
@@ -52,16 +51,16 @@ module _ {A1 A2 A3 A4 A5 C1 C2 C3 C4 : Type 0} (Valid : Chain (Parts A1 A2 C1) (
   chained_front (x ∷ functions) (y ∷ named) (suc n) (g ∷ all_made) are =
       (has_chain x.function y.chain g.function are.0.end, chained_front functions named n all_made are.1)
 
-  module _ (functions : List (code.Named A1)) (named : List Beside) (n : ℕ) (f : code.Named A1) (m : Beside) (before : AllChained (take n (map named_seen functions)) (take n named)) (of : slice_get (map named_seen functions) n ≡ Some (named_seen f)) (there : slice_get named n ≡ Some m) where
-    missing_at : (chain : Option OfChain) (i : ℕ) → m.chain ≡ chain → Tells n f.function chain (Missing i) → IsMissing (map named_seen functions) named i
-    missing_at None i e told = subst (λ k. IsMissing (map named_seen functions) named k) (sym told) (record { before = before; beside = m; there = there; missing = e })
+  module _ (functions : List (code.Named A1)) (named : List Beside) (n : ℕ) (f : code.Named A1) (m : Beside) (before : AllChained (take n functions) (take n named)) (of : slice_get functions n ≡ Some f) (there : slice_get named n ≡ Some m) where
+    missing_at : (chain : Option OfChain) (i : ℕ) → m.chain ≡ chain → Tells n f.function chain (Missing i) → IsMissing functions named i
+    missing_at None i e told = subst (λ k. IsMissing functions named k) (sym told) (record { before = before; beside = m; there = there; missing = e })
     missing_at (Some chain) i e told = absurd told
 
-    unchained_at : (chain : Option OfChain) (i : ℕ) → m.chain ≡ chain → Tells n f.function chain (Unchained i) → IsUnchained (map named_seen functions) named i
+    unchained_at : (chain : Option OfChain) (i : ℕ) → m.chain ≡ chain → Tells n f.function chain (Unchained i) → IsUnchained functions named i
     unchained_at None i e told = absurd told
-    unchained_at (Some chain) i e told = subst (λ k. IsUnchained (map named_seen functions) named k) (sym told.0) (record { before = before; function = named_seen f; beside = m; chain = chain; of = of; there = there; offered = e; broken = told.1 })
+    unchained_at (Some chain) i e told = subst (λ k. IsUnchained functions named k) (sym told.0) (record { before = before; function = f; beside = m; chain = chain; of = of; there = there; offered = e; broken = told.1 })
 
-    refusal_at : (e : LinkError) → Tells n f.function m.chain e → Refusal (map named_seen functions) named e
+    refusal_at : (e : LinkError) → Tells n f.function m.chain e → Refusal functions named e
     refusal_at NoMemory told = tt
     refusal_at Names told = absurd told
     refusal_at (Missing i) told = missing_at m.chain i refl told
@@ -71,10 +70,10 @@ module _ {A1 A2 A3 A4 A5 C1 C2 C3 C4 : Type 0} (Valid : Chain (Parts A1 A2 C1) (
   pub first_fault : (functions : List (code.Named A1)) (named : List Beside) (n : ℕ) (all_made : List (code.Named A5)) (f : code.Named A1) (m : Beside) (e : LinkError)
       → n < length functions → n < length named → f ≡ get_or functions n f → m ≡ get_or named n m
       → AreLinked Valid (take n functions) (take n named) all_made → Tells n f.function m.chain e
-      → Refusal (map named_seen functions) named e
+      → Refusal functions named e
   first_fault functions named n all_made f m e below below' ef em are told =
-      let longer : n < length (map named_seen functions) = rw (length-map functions named_seen) below in
-      let of : slice_get (map named_seen functions) n ≡ Some (named_seen f) =
-      slice_get-get_or (map named_seen functions) n (named_seen f) longer ∙ ap (λ g. Some g) (get_or-map named_seen functions n f (named_seen f) below ∙ ap named_seen (sym ef)) in
+      let longer : n < length functions = rw (length-map functions named_seen) below in
+      let of : slice_get functions n ≡ Some f =
+      slice_get-get_or functions n f longer ∙ ap (λ g. Some g) (get_or-functions n f f below ∙ ap (sym ef)) in
       let there : slice_get named n ≡ Some m = slice_get-get_or named n m below' ∙ ap (λ g. Some g) (sym em) in
       refusal_at functions named n f m (chained_front functions named n all_made are) of there e told

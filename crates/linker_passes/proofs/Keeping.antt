@@ -5,10 +5,11 @@ use Rattle.offers.specs.declared.parts.Parts.{Parts}
 use Rattle.lang_base.specs.declared.program.Named as code
 use Rattle.lang_base.specs.Behaviour.{Behaviour}
 use Rattle.lang_base.specs.Keeps.{Keeps}
-use Rattle.lang_base.specs.Programs.{GlobalData, NamedFunction, ProgramOf}
+use Rattle.lang_base.specs.declared.program.Global.{Global}
+use Rattle.lang_base.specs.declared.program.Named.{Named}
+use Rattle.lang_base.specs.declared.program.Program.{Program}
 use Rattle.lang_base.specs.Soundness.{AllFit, Accepted, AcceptedInTurn}
 use Rattle.lang_base.proofs.Composition.{keeps-composes}
-use Rattle.lang_programs.specs.Seen.{named_seen}
 use Rattle.linker_passes.specs.declared.chain.Chain.{Chain}
 use Rattle.linker_passes.specs.declared.chain.Named.{Named}
 use Rattle.linker_passes.specs.Chains.{IsChain, AllChained, made_of, all_made_of, names_of}
@@ -27,39 +28,39 @@ module _ {A1 A2 A3 A4 A5 C1 C2 C3 C4 : Type 0} (Valid : Chain (Parts A1 A2 C1) (
   Are functions named all_made = AreLinked Valid functions named all_made
 
   -- the functions are the inputs of their first offers
-  begins_with : (f : code.Named A1) (chain : Option OfChain) (end : A5) (rest : List (NamedFunction A1)) → IsEnd Valid f.function chain end
-      → named_seen f ∷ rest ≡ made_of (λ c. c.first.now.input) f.name.items chain ++ rest
+  begins_with : (f : code.Named A1) (chain : Option OfChain) (end : A5) (rest : List (Named A1)) → IsEnd Valid f.function chain end
+      → f ∷ rest ≡ made_of (λ c. c.first.now.input) f.name chain ++ rest
   begins_with f None end rest is = absurd is
-  begins_with f (Some chain) end rest is = ap (λ g. record { name = f.name.items; function = g } ∷ rest) (sym is.chained.first)
+  begins_with f (Some chain) end rest is = ap (λ g. record { name = f.name; function = g } ∷ rest) (sym is.chained.first)
 
   pub inputs : (functions : List (code.Named A1)) (named : List Beside) (all_made : List (code.Named A5)) → Are functions named all_made
-      → map named_seen functions ≡ all_made_of (λ c. c.first.now.input) (map named_seen functions) named
+      → functions ≡ all_made_of (λ c. c.first.now.input) functions named
   inputs [] [] [] are = refl
   inputs [] [] (g ∷ all_made) are = refl
   inputs [] (y ∷ named) all_made are = absurd are
   inputs (x ∷ functions) [] all_made are = absurd are
   inputs (x ∷ functions) (y ∷ named) [] are = absurd are
   inputs (x ∷ functions) (y ∷ named) (g ∷ all_made) are =
-      ap (λ rest. named_seen x ∷ rest) (inputs functions named all_made are.1) ∙ begins_with x y.chain g.function _ are.0.end
+      ap (λ rest. x ∷ rest) (inputs functions named all_made are.1) ∙ begins_with x y.chain g.function _ are.0.end
 
   -- what is made are the outputs of the fourth offers
-  ends_with : (f : code.Named A1) (chain : Option OfChain) (made : code.Named A5) (rest : List (NamedFunction A5)) → made.name.items ≡ f.name.items → IsEnd Valid f.function chain made.function
-      → named_seen made ∷ rest ≡ made_of (λ c. c.fourth.now.output) f.name.items chain ++ rest
+  ends_with : (f : code.Named A1) (chain : Option OfChain) (made : code.Named A5) (rest : List (Named A5)) → made.name ≡ f.name → IsEnd Valid f.function chain made.function
+      → made ∷ rest ≡ made_of (λ c. c.fourth.now.output) f.name chain ++ rest
   ends_with f None made rest e is = absurd is
   ends_with f (Some chain) made rest e is = λ i. record { name = e i; function = is.same i } ∷ rest
 
   pub outputs : (functions : List (code.Named A1)) (named : List Beside) (all_made : List (code.Named A5)) → Are functions named all_made
-      → map named_seen all_made ≡ all_made_of (λ c. c.fourth.now.output) (map named_seen functions) named
+      → all_made ≡ all_made_of (λ c. c.fourth.now.output) functions named
   outputs [] [] [] are = refl
   outputs [] [] (g ∷ all_made) are = absurd are
   outputs [] (y ∷ named) all_made are = absurd are
   outputs (x ∷ functions) [] all_made are = absurd are
   outputs (x ∷ functions) (y ∷ named) [] are = absurd are
   outputs (x ∷ functions) (y ∷ named) (g ∷ all_made) are =
-      ap (λ rest. named_seen g ∷ rest) (outputs functions named all_made are.1) ∙ ends_with x y.chain g _ are.0.name are.0.end
+      ap (λ rest. g ∷ rest) (outputs functions named all_made are.1) ∙ ends_with x y.chain g _ are.0.name are.0.end
 
   pub same_names : (functions : List (code.Named A1)) (named : List Beside) (all_made : List (code.Named A5)) → Are functions named all_made
-      → names_of (map named_seen all_made) ≡ names_of (map named_seen functions)
+      → names_of all_made ≡ names_of functions
   same_names [] [] [] are = refl
   same_names [] [] (g ∷ all_made) are = absurd are
   same_names [] (y ∷ named) all_made are = absurd are
@@ -70,7 +71,7 @@ module _ {A1 A2 A3 A4 A5 C1 C2 C3 C4 : Type 0} (Valid : Chain (Parts A1 A2 C1) (
 
   -- what is linked is chained
   pub chained : (functions : List (code.Named A1)) (named : List Beside) (all_made : List (code.Named A5)) → Are functions named all_made
-      → AllChained (map named_seen functions) named
+      → AllChained functions named
   chained [] [] all_made are = tt
   chained [] (y ∷ named) all_made are = absurd are
   chained (x ∷ functions) [] all_made are = absurd are
@@ -80,48 +81,48 @@ module _ {A1 A2 A3 A4 A5 C1 C2 C3 C4 : Type 0} (Valid : Chain (Parts A1 A2 C1) (
 
   -- what holds of a part of each valid chain holds of all these parts
   module _ {F : Type 0} (part : OfChain → F) (Fits : F → Type 0) (fit : (f : A1) (c : OfChain) → IsChain f c → Valid c → Fits (part c)) where
-    one_fits : (f : A1) (name : List ℕ) (chain : Option OfChain) (end : A5) (rest : List (NamedFunction F)) → IsEnd Valid f chain end
+    one_fits : (f : A1) (name : List ℕ) (chain : Option OfChain) (end : A5) (rest : List (Named F)) → IsEnd Valid f chain end
         → All (λ g. Fits g.function) rest → All (λ g. Fits g.function) (made_of part name chain ++ rest)
     one_fits f name None end rest is all = absurd is
     one_fits f name (Some chain) end rest is all = All-cons (λ g. Fits g.function) (record { name = name; function = part chain }) rest (fit f chain is.chained is.valid) all
 
     pub all_fit : (functions : List (code.Named A1)) (named : List Beside) (all_made : List (code.Named A5)) → Are functions named all_made
-        → All (λ g. Fits g.function) (all_made_of part (map named_seen functions) named)
+        → All (λ g. Fits g.function) (all_made_of part functions named)
     all_fit [] named all_made are = All-nil _
     all_fit (x ∷ functions) [] all_made are = absurd are
     all_fit (x ∷ functions) (y ∷ named) [] are = absurd are
     all_fit (x ∷ functions) (y ∷ named) (g ∷ all_made) are =
-        one_fits x.function x.name.items y.chain g.function _ are.0.end (all_fit functions named all_made are.1)
+        one_fits x.function x.name y.chain g.function _ are.0.end (all_fit functions named all_made are.1)
 
   -- where one part of each valid chain is accepted for another, so are the programs of these parts
   module _ {F G C : Type 0} (part : OfChain → F) (next : OfChain → G) (Accepts : F → G → C → Type 0) (accept : (f : A1) (c : OfChain) → IsChain f c → Valid c → (k : C) × Accepts (part c) (next c) k) where
-    one_accepted : (f : A1) (name : List ℕ) (chain : Option OfChain) (end : A5) (rest : List (NamedFunction F)) (rest' : List (NamedFunction G)) → IsEnd Valid f chain end
+    one_accepted : (f : A1) (name : List ℕ) (chain : Option OfChain) (end : A5) (rest : List (Named F)) (rest' : List (Named G)) → IsEnd Valid f chain end
         → AcceptedInTurn Accepts rest rest' → AcceptedInTurn Accepts (made_of part name chain ++ rest) (made_of next name chain ++ rest')
     one_accepted f name None end rest rest' is all = absurd is
     one_accepted f name (Some chain) end rest rest' is all = ((refl, accept f chain is.chained is.valid), all)
 
     pub all_accepted : (functions : List (code.Named A1)) (named : List Beside) (all_made : List (code.Named A5)) → Are functions named all_made
-        → AcceptedInTurn Accepts (all_made_of part (map named_seen functions) named) (all_made_of next (map named_seen functions) named)
+        → AcceptedInTurn Accepts (all_made_of part functions named) (all_made_of next functions named)
     all_accepted [] named all_made are = tt
     all_accepted (x ∷ functions) [] all_made are = absurd are
     all_accepted (x ∷ functions) (y ∷ named) [] are = absurd are
     all_accepted (x ∷ functions) (y ∷ named) (g ∷ all_made) are =
-        one_accepted x.function x.name.items y.chain g.function _ _ are.0.end (all_accepted functions named all_made are.1)
+        one_accepted x.function x.name y.chain g.function _ _ are.0.end (all_accepted functions named all_made are.1)
 
 -- a pass from the functions of one language to those of another keeps the meaning of what it accepts
-abbrev pub IsSound : {F G C : Type 0} → (F → Type 0) → (G → Type 0) → (F → G → C → Type 0) → (ProgramOf F → Behaviour) → (ProgramOf G → Behaviour) → Type 0
-IsSound {F} {G} FitsF FitsG Accepts run run' = (p : ProgramOf F) (q : ProgramOf G) → AllFit FitsF p → AllFit FitsG q → Accepted Accepts p q → Keeps (run p) (run' q)
+abbrev pub IsSound : {F G C : Type 0} → (F → Type 0) → (G → Type 0) → (F → G → C → Type 0) → (Program F → Behaviour) → (Program G → Behaviour) → Type 0
+IsSound {F} {G} FitsF FitsG Accepts run run' = (p : Program F) (q : Program G) → AllFit FitsF p → AllFit FitsG q → Accepted Accepts p q → Keeps (run p) (run' q)
 
 module _ {A1 A2 A3 A4 A5 C1 C2 C3 C4 : Type 0} (Fits1 : A1 → Type 0) (Fits2 : A2 → Type 0) (Fits3 : A3 → Type 0) (Fits4 : A4 → Type 0) (Fits5 : A5 → Type 0)
     (Accepts1 : A1 → A2 → C1 → Type 0) (Accepts2 : A2 → A3 → C2 → Type 0) (Accepts3 : A3 → A4 → C3 → Type 0) (Accepts4 : A4 → A5 → C4 → Type 0)
-    (run1 : ProgramOf A1 → Behaviour) (run2 : ProgramOf A2 → Behaviour) (run3 : ProgramOf A3 → Behaviour) (run4 : ProgramOf A4 → Behaviour) (run5 : ProgramOf A5 → Behaviour)
+    (run1 : Program A1 → Behaviour) (run2 : Program A2 → Behaviour) (run3 : Program A3 → Behaviour) (run4 : Program A4 → Behaviour) (run5 : Program A5 → Behaviour)
     (sound1 : IsSound Fits1 Fits2 Accepts1 run1 run2) (sound2 : IsSound Fits2 Fits3 Accepts2 run2 run3) (sound3 : IsSound Fits3 Fits4 Accepts3 run3 run4) (sound4 : IsSound Fits4 Fits5 Accepts4 run4 run5) where
   abbrev Valid : Chain (Parts A1 A2 C1) (Parts A2 A3 C2) (Parts A3 A4 C3) (Parts A4 A5 C4) → Type 0
   Valid chain = AreValid (IsValid Fits1 Fits2 Accepts1) (IsValid Fits2 Fits3 Accepts2) (IsValid Fits3 Fits4 Accepts3) (IsValid Fits4 Fits5 Accepts4) chain
 
-  module _ (globals : List GlobalData) (functions : List (code.Named A1)) (named : List (Named (Parts A1 A2 C1) (Parts A2 A3 C2) (Parts A3 A4 C3) (Parts A4 A5 C4))) (all_made : List (code.Named A5)) (are : AreLinked Valid functions named all_made) where
-    abbrev between : {F : Type 0} → (Chain (Parts A1 A2 C1) (Parts A2 A3 C2) (Parts A3 A4 C3) (Parts A4 A5 C4) → F) → ProgramOf F
-    between part = record { globals = globals; functions = all_made_of part (map named_seen functions) named }
+  module _ (globals : List Global) (functions : List (code.Named A1)) (named : List (Named (Parts A1 A2 C1) (Parts A2 A3 C2) (Parts A3 A4 C3) (Parts A4 A5 C4))) (all_made : List (code.Named A5)) (are : AreLinked Valid functions named all_made) where
+    abbrev between : {F : Type 0} → (Chain (Parts A1 A2 C1) (Parts A2 A3 C2) (Parts A3 A4 C3) (Parts A4 A5 C4) → F) → Program F
+    between part = record { globals = globals; functions = all_made_of part functions named }
 
     first : Keeps (run1 (between (λ c. c.first.now.input))) (run2 (between (λ c. c.first.now.output)))
     first = sound1 _ _
@@ -160,9 +161,9 @@ module _ {A1 A2 A3 A4 A5 C1 C2 C3 C4 : Type 0} (Fits1 : A1 → Type 0) (Fits2 : 
         })
 
     -- from the first inputs to the last outputs
-    pub linked_keeps : Keeps (run1 (record { globals = globals; functions = map named_seen functions })) (run5 (record { globals = globals; functions = map named_seen all_made }))
+    pub linked_keeps : Keeps (run1 (record { globals = globals; functions = functions })) (run5 (record { globals = globals; functions = all_made }))
     linked_keeps =
         let all = keeps-composes _ _ _ first (keeps-composes _ _ _ second (keeps-composes _ _ _ third fourth)) in
-        let from : Keeps (run1 (record { globals = globals; functions = map named_seen functions })) (run5 (between (λ c. c.fourth.now.output))) =
+        let from : Keeps (run1 (record { globals = globals; functions = functions })) (run5 (between (λ c. c.fourth.now.output))) =
         subst (λ fs. Keeps (run1 (record { globals = globals; functions = fs })) (run5 (between (λ c. c.fourth.now.output)))) (sym (inputs Valid functions named all_made are)) all in
-        subst (λ fs. Keeps (run1 (record { globals = globals; functions = map named_seen functions })) (run5 (record { globals = globals; functions = fs }))) (sym (outputs Valid functions named all_made are)) from
+        subst (λ fs. Keeps (run1 (record { globals = globals; functions = functions })) (run5 (record { globals = globals; functions = fs }))) (sym (outputs Valid functions named all_made are)) from

@@ -4,7 +4,6 @@ use Rattle.std.proofs.lemmas.Bool.{cases_eq}
 use Rattle.std.proofs.lemmas.List.{get_or_default}
 use Rattle.offers.specs.declared.parts.Parts.{Parts}
 use Rattle.lang_base.specs.declared.program.Named as code
-use Rattle.lang_programs.specs.Seen.{named_seen}
 use Rattle.linker_passes.specs.declared.chain.Chain.{Chain}
 use Rattle.linker_passes.specs.declared.chain.Named.{Named}
 use Rattle.linker_passes.specs.Chains.{IsChain, HasChain, AllChained}
@@ -41,7 +40,7 @@ module _ {A1 A2 A3 A4 A5 C1 C2 C3 C4 : Type 0} (text1 : A1 → List ℕ) (text2 
 
   -- so do all
   pub all_follow : (functions : List (code.Named A1)) (named : List (Named (Parts A1 A2 C1) (Parts A2 A3 C2) (Parts A3 A4 C3) (Parts A4 A5 C4))) (n : ℕ) → length functions ≡ n → FollowBefore functions named n
-      → AllTextChained text1 text2 text3 text4 (map named_seen functions) named → AllChained (map named_seen functions) named
+      → AllTextChained text1 text2 text3 text4 functions named → AllChained functions named
   all_follow [] [] n e follow texts = tt
   all_follow [] (y ∷ named) n e follow texts = absurd texts
   all_follow (x ∷ functions) [] n e follow texts = absurd texts
@@ -68,7 +67,7 @@ module _ {A1 A2 A3 A4 A5 C1 C2 C3 C4 : Type 0} (text1 : A1 → List ℕ) (text2 
 
   -- there are as many names as functions
   pub as_many : (functions : List (code.Named A1)) (named : List (Named (Parts A1 A2 C1) (Parts A2 A3 C2) (Parts A3 A4 C3) (Parts A4 A5 C4)))
-      → AllTextChained text1 text2 text3 text4 (map named_seen functions) named → length functions ≡ length named
+      → AllTextChained text1 text2 text3 text4 functions named → length functions ≡ length named
   as_many [] [] texts = refl
   as_many [] (y ∷ named) texts = absurd texts
   as_many (x ∷ functions) [] texts = absurd texts

@@ -21,7 +21,7 @@ module _ {A1 A2 A3 A4 A5 C1 C2 C3 C4 : Type 0} where
 
   -- a function under the same name, the end of a valid chain from the first one
   pub record IsLinked (Valid : Chain (Parts A1 A2 C1) (Parts A2 A3 C2) (Parts A3 A4 C3) (Parts A4 A5 C4) → Type 0) (f : code.Named A1) (n : Named (Parts A1 A2 C1) (Parts A2 A3 C2) (Parts A3 A4 C3) (Parts A4 A5 C4)) (made : code.Named A5) : Type 0 where
-    pub name : made.name.items ≡ f.name.items
+    pub name : made.name ≡ f.name
     pub end : IsEnd Valid f.function n.chain made.function
 
   -- function by function

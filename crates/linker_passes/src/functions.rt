@@ -1,7 +1,6 @@
 //! Linking the functions of a program, one after the other.
 
 ghost use Rattle.std.specs.Prelude.{◌≡◌, ◌≢◌, length, map, ℕ, IfOk, IfErr, Option};
-ghost use Rattle.lang_programs.specs.Seen.{named_seen};
 ghost use Rattle.linker_passes.specs.Chains.{Refusal};
 ghost use Rattle.linker_passes.specs.Linked.{AreLinked, IsLinked, IsEnd, Tells};
 ghost use Rattle.linker_passes.specs.Valid.{AreValid, IsValid};
@@ -49,7 +48,7 @@ fn link_function<P1: Pass, P2: Pass<In = P1::Out>, P3: Pass<In = P2::Out>, P4: P
     ensures err { IfErr result (λ e. Tells number function.now.function named.now.chain e) }
 {
     let end = end_of_chain::<P1, P2, P3, P4>(alloc, number, &function.function, &named.chain)?;
-    let name = function.name.as_slice().to_vec(alloc)?;
+    let name = function.name.copied(alloc)?;
     Ok(lang_base::Named {
         name,
         function: end,
@@ -73,7 +72,7 @@ pub(crate) fn link_functions<
         (IsValid P2.Out.fits P3.Out.fits P3.accepts) (IsValid P3.Out.fits P4.Out.fits P4.accepts))
         functions.now named.now made.items) }
     ensures err { IfErr result (λ e. e ≢ LinkError.Names) }
-    ensures first { IfErr result (λ e. Refusal (map named_seen functions.now) named.now e) }
+    ensures first { IfErr result (λ e. Refusal functions.now named.now e) }
 {
     let mut linked = Vec::with_capacity(alloc, functions.len())?;
     for number in 0..functions.len() {

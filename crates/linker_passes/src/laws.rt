@@ -1,7 +1,6 @@
 //! What texts say of chains, as contracts of calls that change nothing: equal texts are of equal functions.
 
 ghost use Rattle.std.specs.Prelude.{map};
-ghost use Rattle.lang_programs.specs.Seen.{named_seen};
 ghost use Rattle.linker_passes.specs.Chains.{IsChain, HasChain, AllChained};
 ghost use Rattle.linker_passes.specs.Texts.{IsTextChain, HasTextChain, AllTextChained};
 
@@ -42,8 +41,8 @@ pub fn text_chains<
     P3: Pass<In = P2::Out>,
     P4: Pass<In = P3::Out>,
 >(functions: &[lang_base::Named<<P1::In as Language>::Fun>], named: &[NamedOf<'_, P1, P2, P3, P4>])
-    ensures { AllTextChained P1.In.spelling P1.Out.spelling P2.Out.spelling P3.Out.spelling (map named_seen functions.now) named.now →
-        AllChained (map named_seen functions.now) named.now }
+    ensures { AllTextChained P1.In.spelling P1.Out.spelling P2.Out.spelling P3.Out.spelling functions.now named.now →
+        AllChained functions.now named.now }
 {
     if functions.len() != named.len() {
         return;

@@ -1,5 +1,4 @@
 ghost use Rattle.std.specs.Prelude.{◌≡◌, map, IsTrue, ◌↔◌};
-ghost use Rattle.lang_programs.specs.Seen.{named_seen};
 ghost use Rattle.linker_passes.specs.Chains.{names_beside, names_of};
 
 use crate::chain::Named;
@@ -15,7 +14,7 @@ pub fn are_names<F, O1, O2, O3, O4>(
     functions: &[lang_base::Named<F>],
     named: &[Named<'_, O1, O2, O3, O4>],
 ) -> bool
-    ensures { IsTrue result ↔ (names_beside named.now ≡ names_of (map named_seen functions.now)) }
+    ensures { IsTrue result ↔ (names_beside named.now ≡ names_of functions.now) }
 {
     if functions.len() != named.len() {
         return false;

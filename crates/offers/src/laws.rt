@@ -2,7 +2,7 @@
 
 ghost use Rattle.std.specs.Prelude.{◌≡◌, ℕ, List, ◌++◌};
 ghost use Rattle.lang_base.specs.Keeps.{Keeps};
-ghost use Rattle.lang_base.specs.Programs.{GlobalData};
+ghost use Rattle.lang_base.specs.declared.program.Global.{Global};
 ghost use Rattle.offers.specs.declared.parts.Parts.{Parts};
 ghost use Rattle.offers.specs.OneFunction.{program_of_one};
 ghost use Rattle.offers.specs.Text.{text_of, PartsFit};
@@ -13,7 +13,7 @@ use lang_base::Pass;
 /// The program of an offer's output alone keeps the meaning of the program of its input, whatever
 /// the function's name and whatever globals stand beside it.
 pub fn offer_keeps<P: Pass>(offer: &Offer<P>)
-    ensures { (globals : List GlobalData) (name : List ℕ) →
+    ensures { (globals : List Global) (name : List ℕ) →
         Keeps (P.In.run (program_of_one globals name offer.now.input)) (P.Out.run (program_of_one globals name offer.now.output)) }
 {
     offer.validated();

@@ -4,6 +4,5 @@ pub mod Machines
 pub mod Prepared
 pub use Rattle.lang_programs.specs.Written
 pub use Rattle.rtl_language.specs.Meaning
-pub use Rattle.lang_programs.specs.Seen
 pub use Rattle.rtl_language.specs.Function
 pub use Rattle.lang_base.specs.Behaviour

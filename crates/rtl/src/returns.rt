@@ -1,7 +1,7 @@
 //! Returns: the nearest caller goes on, or the run ends.
 
 ghost use Rattle.std.specs.Prelude.{◌≡◌, ℕ, List, Option, Some, length};
-ghost use Rattle.lang_base.specs.Programs.{NamedFunction};
+ghost use Rattle.lang_base.specs.declared.program.Named.{Named};
 ghost use Rattle.rtl_parts.specs.Fits.{TargetFits};
 ghost use Rattle.rtl_parts.specs.Acts.{with_result};
 ghost use Rattle.rtl_language.specs.Frames.{returned, comes_back};
@@ -34,7 +34,7 @@ fn go_back(machine: &mut Machine, value: Option<u32>) -> Turn
     ensures turn { (output : List ℕ) →
         comes_back machine.old.callers (data_of machine.old.registers.items machine.old.globals.items output) (Some value)
         ≡ turned result (machine_state machine.new output) }
-    ensures fits { (functions : List (NamedFunction FunctionData)) → CallersFit functions machine.old.callers →
+    ensures fits { (functions : List (Named FunctionData)) → CallersFit functions machine.old.callers →
         WhereGone result (MachineFits functions machine.new) }
 {
     let Some(caller) = machine.callers.pop() else {
@@ -59,7 +59,7 @@ pub(crate) fn come_back(machine: &mut Machine, value: Option<Register>) -> Turn
         comes_back machine.old.callers (data_of machine.old.registers.items machine.old.globals.items output)
         (returned value (data_of machine.old.registers.items machine.old.globals.items output))
         ≡ turned result (machine_state machine.new output) }
-    ensures fits { (functions : List (NamedFunction FunctionData)) → CallersFit functions machine.old.callers →
+    ensures fits { (functions : List (Named FunctionData)) → CallersFit functions machine.old.callers →
         WhereGone result (MachineFits functions machine.new) }
 {
     let Some(register) = value else {

@@ -3,7 +3,8 @@ use Rattle.std.proofs.Common.{ℕ, List, [], ◌∷◌, Option, Some, None, Bool
 use Rattle.std.specs.Prelude.{slice_get, ◌==◌, map}
 use Rattle.lang_base.specs.Behaviour.{IsBeginningOf, IsRun}
 use Rattle.lang_base.specs.Machine.{Next, Goes, Ends, Fails, Grows}
-use Rattle.lang_base.specs.Programs.{NamedFunction, ProgramOf}
+use Rattle.lang_base.specs.declared.program.Named.{Named}
+use Rattle.lang_base.specs.declared.program.Program.{Program}
 use Rattle.lang_base.proofs.Beginnings.{IsBeginningOf-refl, IsBeginningOf-same}
 use Rattle.lang_base.proofs.Simulation.{shows_is_run}
 use Rattle.rtl_parts.specs.Data.{Data, value_at}
@@ -29,7 +30,7 @@ branch_prints : (s : State) (taken other : ℕ) (o : Option Bool) → PrintsOn (
 branch_prints s taken other None = tt
 branch_prints s taken other (Some answer) = IsBeginningOf-refl (printed s)
 
-call_prints : (s : State) (number : ℕ) (arguments : List (Option ℕ)) (caller : Frame) (callee : Option (NamedFunction FunctionData)) → PrintsOn (printed s) (calls s number arguments caller callee)
+call_prints : (s : State) (number : ℕ) (arguments : List (Option ℕ)) (caller : Frame) (callee : Option (Named FunctionData)) → PrintsOn (printed s) (calls s number arguments caller callee)
 call_prints s number arguments caller None = tt
 call_prints s number arguments caller (Some callee) =
     let at : (b : Bool) → PrintsOn (printed s) (cond b (Goes (begun s number callee.function arguments caller)) Fails) = λ b. elim b as (λ b. PrintsOn (printed s) (cond b (Goes (begun s number callee.function arguments caller)) Fails)) [ true ↦ IsBeginningOf-refl (printed s) | false ↦ tt ] in
@@ -41,7 +42,7 @@ return_prints [] d (Some None) = tt
 return_prints [] d (Some (Some w)) = tt
 return_prints (frame ∷ callers) d (Some value) = IsBeginningOf-same _ _ (sym (output-with_result frame.target value (restored frame d)))
 
-instruction_prints : (functions : List (NamedFunction FunctionData)) (s : State) (i : Option Instruction) → PrintsOn (printed s) (instruction_step functions s i)
+instruction_prints : (functions : List (Named FunctionData)) (s : State) (i : Option Instruction) → PrintsOn (printed s) (instruction_step functions s i)
 instruction_prints functions s None = tt
 instruction_prints functions s (Some (Do act successor)) = goes_prints s successor (printed s) (does act s.here) (does_prints act s.here)
 instruction_prints functions s (Some (Call function arguments target successor)) =
@@ -49,15 +50,15 @@ instruction_prints functions s (Some (Call function arguments target successor))
 instruction_prints functions s (Some (Branch test taken other)) = branch_prints s taken other (holds test s.here)
 instruction_prints functions s (Some (Return value)) = return_prints s.callers s.here (returned value s.here)
 
-function_prints : (functions : List (NamedFunction FunctionData)) (s : State) (f : Option (NamedFunction FunctionData)) → PrintsOn (printed s) (function_step functions s f)
+function_prints : (functions : List (Named FunctionData)) (s : State) (f : Option (Named FunctionData)) → PrintsOn (printed s) (function_step functions s f)
 function_prints functions s None = tt
 function_prints functions s (Some f) = instruction_prints functions s (slice_get f.function.nodes s.place)
 
 -- each step's output begins with what was printed before it
-pub grows : (functions : List (NamedFunction FunctionData)) → Grows (next functions) printed
+pub grows : (functions : List (Named FunctionData)) → Grows (next functions) printed
 grows functions = record {
   step = λ s t e. subst (PrintsOn (printed s)) e (function_prints functions s (slice_get functions s.function));
 }
 
-pub runs_on : (p : ProgramOf FunctionData) → IsRun (run p)
+pub runs_on : (p : Program FunctionData) → IsRun (run p)
 runs_on p = shows_is_run (next p.functions) printed (grows p.functions) (start p)

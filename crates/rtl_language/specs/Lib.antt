@@ -10,5 +10,4 @@ pub use Rattle.rtl_parts.specs.Data
 pub use Rattle.rtl_parts.specs.Acts
 pub use Rattle.rtl_parts.specs.Fits
 pub use Rattle.lang_base.specs.Behaviour
-pub use Rattle.lang_base.specs.Programs
 pub use Rattle.lang_base.specs.Machine

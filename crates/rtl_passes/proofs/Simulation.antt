@@ -4,7 +4,7 @@ use Rattle.std.specs.Prelude.{slice_get, ◌==◌, replicate}
 use Rattle.std.specs.List.{AllByRecursion}
 use Rattle.std.proofs.lemmas.List.{length-replicate}
 use Rattle.lang_base.specs.Machine.{Next, Goes, Ends, Fails, showing, shows, Leads, Matches}
-use Rattle.lang_base.specs.Programs.{NamedFunction}
+use Rattle.lang_base.specs.declared.program.Named.{Named}
 use Rattle.lang_base.specs.Soundness.{AcceptedInTurn}
 use Rattle.lang_base.specs.declared.shown.Shown.TheVariants as shown
 use Rattle.lang_base.proofs.Simulation.{leads-step}
@@ -21,21 +21,21 @@ use Rattle.rtl_passes.specs.Facts.{IsMatched, IsStepwise, Pair, WaitsWith, Stand
 use Rattle.rtl_passes.proofs.Counts.{count-with_result, GoesCounted, effect_counts, count-with_arguments}
 
 -- what follows a state by what its instruction does
-abbrev follows : List (NamedFunction FunctionData) → State → Effect → Next State
+abbrev follows : List (Named FunctionData) → State → Effect → Next State
 follows functions s (Onward place d) = Goes (record s { place = place; here = d })
 follows functions s (Calls function arguments target successor) = calls s function arguments (waiting s target successor) (slice_get functions function)
 follows functions s (Back value) = comes_back s.callers s.here value
 follows functions s Faults = Fails
 
-onward_follows : (functions : List (NamedFunction FunctionData)) (s : State) (place : ℕ) (o : Option Data) → goes_to s place o ≡ follows functions s (onward place o)
+onward_follows : (functions : List (Named FunctionData)) (s : State) (place : ℕ) (o : Option Data) → goes_to s place o ≡ follows functions s (onward place o)
 onward_follows functions s place None = refl
 onward_follows functions s place (Some d) = refl
 
-chooses_follows : (functions : List (NamedFunction FunctionData)) (s : State) (taken other : ℕ) (o : Option Bool) → branches s taken other o ≡ follows functions s (chooses taken other s.here o)
+chooses_follows : (functions : List (Named FunctionData)) (s : State) (taken other : ℕ) (o : Option Bool) → branches s taken other o ≡ follows functions s (chooses taken other s.here o)
 chooses_follows functions s taken other None = refl
 chooses_follows functions s taken other (Some answer) = refl
 
-step_follows : (functions : List (NamedFunction FunctionData)) (s : State) (i : Instruction) → instruction_step functions s (Some i) ≡ follows functions s (effect_of i s.here)
+step_follows : (functions : List (Named FunctionData)) (s : State) (i : Instruction) → instruction_step functions s (Some i) ≡ follows functions s (effect_of i s.here)
 step_follows functions s (Do act successor) = onward_follows functions s successor (does act s.here)
 step_follows functions s (Call function arguments target successor) = refl
 step_follows functions s (Branch test taken other) = chooses_follows functions s taken other (holds test s.here)
@@ -52,7 +52,7 @@ begun_same s number f g arguments caller shape = λ i. record {
 
 module _ {C : Type 0} (Accepts : FunctionData → FunctionData → C → Type 0) (Holds : C → ℕ → Data → Type 0) (stepwise : IsStepwise Accepts Holds) where
   -- the functions of a number, accepted
-  pub pair_of : (fs gs : List (NamedFunction FunctionData)) → AcceptedInTurn Accepts fs gs → (k : ℕ) (f : NamedFunction FunctionData) → slice_get fs k ≡ Some f → (p : Pair Accepts fs gs k) × (p.source ≡ f)
+  pub pair_of : (fs gs : List (Named FunctionData)) → AcceptedInTurn Accepts fs gs → (k : ℕ) (f : Named FunctionData) → slice_get fs k ≡ Some f → (p : Pair Accepts fs gs k) × (p.source ≡ f)
   pair_of [] gs accepted k f e = cc
   pair_of (f' ∷ fs) [] accepted k f e = absurd accepted
   pair_of (f' ∷ fs) (g ∷ gs) accepted zero f e =
@@ -64,7 +64,7 @@ module _ {C : Type 0} (Accepts : FunctionData → FunctionData → C → Type 0)
       let q = p.0 in
       (record { source = q.source; target = q.target; certificate = q.certificate; is_source = q.is_source; is_target = q.is_target; accepted = q.accepted }, p.1)
 
-  module _ (sources targets : List (NamedFunction FunctionData)) (accepted : AcceptedInTurn Accepts sources targets) where
+  module _ (sources targets : List (Named FunctionData)) (accepted : AcceptedInTurn Accepts sources targets) where
     abbrev Standing : State → Type 0
     Standing s = StandsWith Accepts Holds sources targets s
 
@@ -94,7 +94,7 @@ module _ {C : Type 0} (Accepts : FunctionData → FunctionData → C → Type 0)
           subst Standing is (begins_standing s number arguments caller p waits callers),
         )
 
-    call_goes : (s : State) (number : ℕ) (arguments : List (Option ℕ)) (caller : Frame) (o : Option (NamedFunction FunctionData)) → slice_get sources number ≡ o → Waiting caller → AllByRecursion Waiting s.callers → (s' : State) → calls s number arguments caller o ≡ Goes s' → GoAlike s' (calls s number arguments caller (slice_get targets number))
+    call_goes : (s : State) (number : ℕ) (arguments : List (Option ℕ)) (caller : Frame) (o : Option (Named FunctionData)) → slice_get sources number ≡ o → Waiting caller → AllByRecursion Waiting s.callers → (s' : State) → calls s number arguments caller o ≡ Goes s' → GoAlike s' (calls s number arguments caller (slice_get targets number))
     call_goes s number arguments caller None e waits callers s' goes = cc (goes)
     call_goes s number arguments caller (Some callee) e waits callers s' goes =
         let found = pair_of sources targets accepted number callee e in
@@ -131,7 +131,7 @@ module _ {C : Type 0} (Accepts : FunctionData → FunctionData → C → Type 0)
     effect_goes s p counted callers Faults counts after s' goes = cc (goes)
 
     -- only a return ends
-    call_never_ends : (s : State) (number : ℕ) (arguments : List (Option ℕ)) (caller : Frame) (o : Option (NamedFunction FunctionData)) (result : ℕ) → calls s number arguments caller o ≡ Ends result → ⊥
+    call_never_ends : (s : State) (number : ℕ) (arguments : List (Option ℕ)) (caller : Frame) (o : Option (Named FunctionData)) (result : ℕ) → calls s number arguments caller o ≡ Ends result → ⊥
     call_never_ends s number arguments caller None result ends = cc (ends)
     call_never_ends s number arguments caller (Some callee) result ends = at (length arguments == length callee.function.parameters) ends
       where

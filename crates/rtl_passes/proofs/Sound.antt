@@ -5,7 +5,9 @@ use Rattle.std.specs.Str.{bytes_eq}
 use Rattle.std.proofs.lemmas.List.{length-replicate}
 use Rattle.lang_base.specs.Keeps.{Keeps}
 use Rattle.lang_base.specs.Machine.{showing, shows}
-use Rattle.lang_base.specs.Programs.{GlobalData, NamedFunction, ProgramOf}
+use Rattle.lang_base.specs.declared.program.Global.{Global}
+use Rattle.lang_base.specs.declared.program.Named.{Named}
+use Rattle.lang_base.specs.declared.program.Program.{Program}
 use Rattle.lang_base.specs.Soundness.{Accepted, AcceptedInTurn}
 use Rattle.lang_base.proofs.Simulation.{keeps-matches}
 use Rattle.machine.specs.Frames.{main_number}
@@ -19,7 +21,7 @@ use Rattle.rtl_passes.proofs.Simulation.{pair_of, matches}
 
 module _ {C : Type 0} (Accepts : FunctionData → FunctionData → C → Type 0) (Holds : C → ℕ → Data → Type 0) (stepwise : IsStepwise Accepts Holds) where
   -- main has the same number in both
-  main_number_same : (fs gs : List (NamedFunction FunctionData)) → AcceptedInTurn Accepts fs gs → main_number takes_none fs ≡ main_number takes_none gs
+  main_number_same : (fs gs : List (Named FunctionData)) → AcceptedInTurn Accepts fs gs → main_number takes_none fs ≡ main_number takes_none gs
   main_number_same [] [] accepted = refl
   main_number_same [] (g ∷ gs) accepted = absurd accepted
   main_number_same (f ∷ fs) [] accepted = absurd accepted
@@ -31,7 +33,7 @@ module _ {C : Type 0} (Accepts : FunctionData → FunctionData → C → Type 0)
       ∙ ap (λ n. cond (bytes_eq g.name (codes "main") && takes_none g.function) 0 (suc n)) (main_number_same fs gs accepted.1)
 
   -- where main is, both programs begin alike
-  main_starts : (globals : List GlobalData) (fs gs : List (NamedFunction FunctionData)) → AcceptedInTurn Accepts fs gs → (number : ℕ) (p : Pair Accepts fs gs number) → Keeps (λ n. shows (next fs) printed n (begins globals number (Some p.source))) (λ n. shows (next gs) printed n (begins globals number (Some p.target)))
+  main_starts : (globals : List Global) (fs gs : List (Named FunctionData)) → AcceptedInTurn Accepts fs gs → (number : ℕ) (p : Pair Accepts fs gs number) → Keeps (λ n. shows (next fs) printed n (begins globals number (Some p.source))) (λ n. shows (next gs) printed n (begins globals number (Some p.target)))
   main_starts globals fs gs accepted number p =
       let shape = stepwise.shape p.source.function p.target.function p.certificate p.accepted in
       let s : State = begins globals number (Some p.source) in
@@ -49,7 +51,7 @@ module _ {C : Type 0} (Accepts : FunctionData → FunctionData → C → Type 0)
       } in
       keeps-matches (next fs) printed (next gs) printed (AreAlike Accepts Holds fs gs) (matches Accepts Holds stepwise fs gs accepted) (grows gs) s t alike
 
-  starts : (globals : List GlobalData) (fs gs : List (NamedFunction FunctionData)) → AcceptedInTurn Accepts fs gs → (number : ℕ) (o : Option (NamedFunction FunctionData)) → slice_get fs number ≡ o → Keeps (λ n. shows (next fs) printed n (begins globals number o)) (λ n. shows (next gs) printed n (begins globals number (slice_get gs number)))
+  starts : (globals : List Global) (fs gs : List (Named FunctionData)) → AcceptedInTurn Accepts fs gs → (number : ℕ) (o : Option (Named FunctionData)) → slice_get fs number ≡ o → Keeps (λ n. shows (next fs) printed n (begins globals number o)) (λ n. shows (next gs) printed n (begins globals number (slice_get gs number)))
   starts globals fs gs accepted number None e =
       λ never. absurd (never 1 (ap (λ x. (showing (function_step fs (begins globals number None) x) (shows (next fs) printed 0) []).shown) e))
   starts globals fs gs accepted number (Some f) e =
@@ -59,7 +61,7 @@ module _ {C : Type 0} (Accepts : FunctionData → FunctionData → C → Type 0)
       subst (λ x. Keeps (λ n. shows (next fs) printed n (begins globals number (Some f))) (λ n. shows (next gs) printed n (begins globals number x))) (sym p.is_target)
       (subst (λ x. Keeps (λ n. shows (next fs) printed n (begins globals number (Some x))) (λ n. shows (next gs) printed n (begins globals number (Some p.target)))) found.1 both)
 
-  pub stepwise_keeps : (p q : ProgramOf FunctionData) → Accepted Accepts p q → Keeps (run p) (run q)
+  pub stepwise_keeps : (p q : Program FunctionData) → Accepted Accepts p q → Keeps (run p) (run q)
   stepwise_keeps p q accepted =
       let number = main_number takes_none p.functions in
       let both = starts p.globals p.functions q.functions accepted.functions number (slice_get p.functions number) refl in

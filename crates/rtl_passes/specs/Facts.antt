@@ -2,7 +2,7 @@
 -- two programs then go side by side: in the same states (Leroy 2009, section 3.2, on dataflow analyses).
 use Rattle.std.specs.Prelude.{◌≡◌, ◌≢◌, ℕ, List, length, Option, Some, slice_get}
 use Rattle.std.specs.List.{AllByRecursion}
-use Rattle.lang_base.specs.Programs.{NamedFunction}
+use Rattle.lang_base.specs.declared.program.Named.{Named}
 use Rattle.rtl_parts.specs.Data.{Data}
 use Rattle.rtl_parts.specs.Acts.{with_result}
 use Rattle.rtl_language.specs.declared.instruction.Instruction.{Instruction}
@@ -26,28 +26,28 @@ pub record IsStepwise {C : Type 0} (Accepts : FunctionData → FunctionData → 
   pub node : (f g : FunctionData) (c : C) → Accepts f g c → (n : ℕ) (i : Instruction) → slice_get f.nodes n ≡ Some i → (d : Data) → length d.registers ≡ f.registers → Holds c n d → effect_of i d ≢ Faults → IsMatched (Holds c) g.nodes n d (effect_of i d)
 
 -- the functions of a number in both programs, accepted with a certificate
-pub record Pair {C : Type 0} (Accepts : FunctionData → FunctionData → C → Type 0) (sources targets : List (NamedFunction FunctionData)) (number : ℕ) : Type 0 where
-  pub source : NamedFunction FunctionData
-  pub target : NamedFunction FunctionData
+pub record Pair {C : Type 0} (Accepts : FunctionData → FunctionData → C → Type 0) (sources targets : List (Named FunctionData)) (number : ℕ) : Type 0 where
+  pub source : Named FunctionData
+  pub target : Named FunctionData
   pub certificate : C
   pub is_source : slice_get sources number ≡ Some source
   pub is_target : slice_get targets number ≡ Some target
   pub accepted : Accepts source.function target.function certificate
 
 -- A caller that waits: when it goes on the facts hold, whatever was returned.
-pub record WaitsWith {C : Type 0} (Accepts : FunctionData → FunctionData → C → Type 0) (Holds : C → ℕ → Data → Type 0) (sources targets : List (NamedFunction FunctionData)) (frame : Frame) : Type 0 where
+pub record WaitsWith {C : Type 0} (Accepts : FunctionData → FunctionData → C → Type 0) (Holds : C → ℕ → Data → Type 0) (sources targets : List (Named FunctionData)) (frame : Frame) : Type 0 where
   pub pair : Pair Accepts sources targets frame.function
   pub counted : length frame.registers ≡ pair.source.function.registers
   pub holds : (value : Option ℕ) (d : Data) → d.registers ≡ frame.registers → Holds pair.certificate frame.place (with_result frame.target value d)
 
 -- The facts hold of a state, and of each caller that waits.
-pub record StandsWith {C : Type 0} (Accepts : FunctionData → FunctionData → C → Type 0) (Holds : C → ℕ → Data → Type 0) (sources targets : List (NamedFunction FunctionData)) (s : State) : Type 0 where
+pub record StandsWith {C : Type 0} (Accepts : FunctionData → FunctionData → C → Type 0) (Holds : C → ℕ → Data → Type 0) (sources targets : List (Named FunctionData)) (s : State) : Type 0 where
   pub pair : Pair Accepts sources targets s.function
   pub counted : length s.here.registers ≡ pair.source.function.registers
   pub holds : Holds pair.certificate s.place s.here
   pub callers : AllByRecursion (WaitsWith Accepts Holds sources targets) s.callers
 
 -- both programs are in the same state, and the facts hold of it
-pub record AreAlike {C : Type 0} (Accepts : FunctionData → FunctionData → C → Type 0) (Holds : C → ℕ → Data → Type 0) (sources targets : List (NamedFunction FunctionData)) (s t : State) : Type 0 where
+pub record AreAlike {C : Type 0} (Accepts : FunctionData → FunctionData → C → Type 0) (Holds : C → ℕ → Data → Type 0) (sources targets : List (Named FunctionData)) (s t : State) : Type 0 where
   pub same : t ≡ s
   pub stands : StandsWith Accepts Holds sources targets s

@@ -4,7 +4,7 @@ use Rattle.std.specs.Prelude.{codes}
 use Rattle.ints.specs.declared.operators.Op.TheVariants.{SubS}
 use Rattle.ints.specs.declared.conditions.Cond.TheVariants.{Nz}
 use Rattle.lang_base.specs.declared.shown.Shown.TheVariants.{Ended}
-use Rattle.lang_base.specs.Programs.{ProgramOf}
+use Rattle.lang_base.specs.declared.program.Program.{Program}
 use Rattle.rtl_parts.specs.declared.arguments.Arguments.TheVariants.{One, Two}
 use Rattle.rtl_parts.specs.declared.act.Act.TheVariants.{Nop, Constant, Operate}
 use Rattle.rtl_language.specs.declared.instruction.Instruction.TheVariants.{Do, Call, Branch, Return}
@@ -51,7 +51,7 @@ asks_is = refl
 
 -- ---- runs, as both languages define them
 
-abbrev five_program : ProgramOf FunctionTree
+abbrev five_program : Program FunctionTree
 five_program = record { globals = []; functions = record { name = codes "main"; function = five } ∷ [] }
 
 pub five_runs : M.run five_program 0 ≡ record { shown = Ended 5; output = [] }

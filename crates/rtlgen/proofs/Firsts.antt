@@ -4,7 +4,7 @@ use Rattle.std.proofs.lemmas.List.{map-append}
 use Rattle.std.proofs.Common.{◌+◌, ◌++◌, add-one, ◌≡◌, ◌≤◌, ◌<◌, ℕ, zero, suc, List, [], ◌∷◌, length, take, get_or, map, refl, sym, ap, subst, ◌∙◌, arith}
 use Rattle.std.specs.Prelude.{All}
 use Rattle.std.proofs.lemmas.List.Elements.{All-head, All-tail}
-use Rattle.lang_base.specs.Programs.{NamedFunction}
+use Rattle.lang_base.specs.declared.program.Named.{Named}
 use Rattle.cminor_syntax.specs.Trees.{FunctionTree}
 use Rattle.rtlgen_definition.specs.Gen.{HasTooManyNodes}
 use Rattle.rtlgen.specs.Refused.{HasFewNodes, IsFirstTooLarge}
@@ -15,7 +15,7 @@ whole [] (suc n) some = refl
 whole (x ∷ xs) zero some = absurd (omega arith)
 whole (x ∷ xs) (suc n) some = ap (λ l. x ∷ l) (whole xs n (omega arith))
 
-pub first_is : {A : Type 0} (view : A → NamedFunction FunctionTree) (xs : List A) (i : ℕ) (x : A) → i < length xs → x ≡ get_or xs i x → All (λ y. HasFewNodes (view y)) (take i xs) →
+pub first_is : {A : Type 0} (view : A → Named FunctionTree) (xs : List A) (i : ℕ) (x : A) → i < length xs → x ≡ get_or xs i x → All (λ y. HasFewNodes (view y)) (take i xs) →
     HasTooManyNodes (view x).function → IsFirstTooLarge (map view xs) i
 first_is view [] i x lt e few large = absurd (omega arith)
 first_is view (y ∷ ys) zero x lt e few large = subst (λ z. HasTooManyNodes (view z).function) e large

@@ -4,7 +4,6 @@ ghost use Rattle.std.specs.Prelude.{◌≡◌, ◌≤◌, [], length, IfOk, OnSo
 ghost use Rattle.rtlgen_code.specs.Adding.{Adds};
 ghost use Rattle.rtlgen_definition.specs.Gen.{statement, ends_with_value, numbers_from, ending, gen_function, gen_named, HasTooManyNodes};
 ghost use Rattle.rtlgen_definition.specs.Pieces.{both};
-ghost use Rattle.lang_programs.specs.Seen.{named_seen};
 ghost use Rattle.rtl_language.specs.Function.{node_limit};
 ghost use Rattle.rtlgen.specs.Refused.{HasFewNodes};
 
@@ -78,12 +77,12 @@ pub(crate) fn translate_named(
     alloc: Global,
     named: &Named<CminorFunction>,
 ) -> Result<Option<Named<Function>>, NoMemory>
-    ensures made { IfOk result (λ made. MatchOption made (HasTooManyNodes named.now.function) (λ f. named_seen f ≡ gen_named (named_seen named.now))) }
-    ensures few { IfOk result (λ made. OnSome made (HasFewNodes (named_seen named.now))) }
+    ensures made { IfOk result (λ made. MatchOption made (HasTooManyNodes named.now.function) (λ f. f ≡ gen_named named.now)) }
+    ensures few { IfOk result (λ made. OnSome made (HasFewNodes named.now)) }
 {
     let Some(function) = translate_function(alloc, &named.function)? else {
         return Ok(None);
     };
-    let name = Vec::from_slice(alloc, named.name.as_slice())?;
+    let name = named.name.copied(alloc)?;
     Ok(Some(Named { name, function }))
 }

@@ -5,7 +5,6 @@ ghost use Rattle.lang_base.specs.Keeps.{Keeps};
 ghost use Rattle.cminor_syntax.specs.Fits.{IsFunction};
 ghost use Rattle.cminor_syntax.specs.Meaning as C;
 ghost use Rattle.rtlgen_definition.specs.Gen.{gen, gen_named};
-ghost use Rattle.lang_programs.specs.Seen.{named_seen, seen};
 ghost use Rattle.rtl_language.specs.Meaning as R;
 ghost use Rattle.rtlgen.specs.Refused.{HasFewNodes, IsRefused};
 
@@ -14,14 +13,14 @@ use crate::functions::translate_named;
 use crate::generated_is_small;
 use crate::globals::copy_globals;
 use cminor_language::Function as CminorFunction;
-use lang_base::{Named, Program};
+use lang_base::{Named, Program, Row};
 use rtl_language::Function;
 use rtlgen_definition::generated_keeps;
 use std::alloc::Global;
 
 /// Each function is in range.
 fn are_in_range(functions: &[Named<CminorFunction>])
-    ensures { All (λ f. IsFunction f.function) (map named_seen functions.now) }
+    ensures { All (λ f. IsFunction f.function) functions.now }
 {
     for named in functions {
         let _body = named.function.body();
@@ -33,9 +32,9 @@ fn translate_functions(
     alloc: Global,
     functions: &[Named<CminorFunction>],
 ) -> Result<Vec<Named<Function>>, GenError>
-    ensures ok { IfOk result (λ fs. map named_seen fs.items ≡ map gen_named (map named_seen functions.now)) }
-    ensures few { OnOk result (All HasFewNodes (map named_seen functions.now)) }
-    ensures err { IfErr result (λ e. IsRefused (map named_seen functions.now) e) }
+    ensures ok { IfOk result (λ fs. fs.items ≡ map gen_named functions.now) }
+    ensures few { OnOk result (All HasFewNodes functions.now) }
+    ensures err { IfErr result (λ e. IsRefused functions.now e) }
 {
     let mut translated = Vec::new(alloc);
     for (number, named) in functions.iter().enumerate() {
@@ -52,13 +51,16 @@ fn translate_all(
     alloc: Global,
     program: &Program<CminorFunction>,
 ) -> Result<Program<Function>, GenError>
-    ensures same { IfOk result (λ p. seen p ≡ gen (seen program.now)) }
-    ensures few { OnOk result (All HasFewNodes (seen program.now).functions) }
-    ensures refused { IfErr result (λ e. IsRefused (seen program.now).functions e) }
+    ensures same { IfOk result (λ p. p ≡ gen program.now) }
+    ensures few { OnOk result (All HasFewNodes program.now.functions) }
+    ensures refused { IfErr result (λ e. IsRefused program.now.functions e) }
 {
     let globals = copy_globals(alloc, program.globals.as_slice())?;
     let functions = translate_functions(alloc, program.functions.as_slice())?;
-    Ok(Program { globals, functions })
+    Ok(Program {
+        globals: Row::from_vec(globals),
+        functions: Row::from_vec(functions),
+    })
 }
 
 /// The RTL program of a Cminor program, which keeps its meaning; or the first function that needs more than
@@ -67,13 +69,13 @@ pub fn translate(
     alloc: Global,
     program: &Program<CminorFunction>,
 ) -> Result<Program<Function>, GenError>
-    ensures same { IfOk result (λ p. seen p ≡ gen (seen program.now)) }
-    ensures keeps { IfOk result (λ p. Keeps (C.run (seen program.now)) (R.run (seen p))) }
-    ensures small { IfOk result (λ p. All (λ f. f.function.registers ≤ 2048) (seen p).functions) }
+    ensures same { IfOk result (λ p. p ≡ gen program.now) }
+    ensures keeps { IfOk result (λ p. Keeps (C.run program.now) (R.run p)) }
+    ensures small { IfOk result (λ p. All (λ f. f.function.registers ≤ 2048) p.functions) }
 
     // Where memory is not wanting, it is refused exactly where a function needs too many nodes.
-    ensures few { OnOk result (All HasFewNodes (seen program.now).functions) }
-    ensures refused { IfErr result (λ e. IsRefused (seen program.now).functions e) }
+    ensures few { OnOk result (All HasFewNodes program.now.functions) }
+    ensures refused { IfErr result (λ e. IsRefused program.now.functions e) }
 {
     generated_keeps();
     generated_is_small();

@@ -3,7 +3,7 @@ use Rattle.std.proofs.Common.{◌≡◌, ℕ, suc, ◌+◌, ◌==◌, ◌<◌, �
 use Rattle.std.specs.Prelude.{slice_get, option_and_then}
 use Rattle.std.specs.Option.{option_map}
 use Rattle.std.specs.List.{AllByRecursion}
-use Rattle.lang_base.specs.Programs.{NamedFunction}
+use Rattle.lang_base.specs.declared.program.Named.{Named}
 use Rattle.ints.specs.declared.operators.Op.{Op}
 use Rattle.ints.specs.MachineTable.{machine_table}
 use Rattle.rtl_parts.specs.declared.arguments.Arguments.TheVariants.{One, Two}
@@ -43,7 +43,7 @@ place_below variables r (T.Unary o e) le fits = omega arith
 place_below variables r (T.Binary o a b) le fits = omega arith
 place_below variables r (T.Choice c a b) le fits = omega arith
 
-module _ (functions : List (NamedFunction FunctionData)) (c : Ground) (there : IsThere functions c) (s : C.State) where
+module _ (functions : List (Named FunctionData)) (c : Ground) (there : IsThere functions c) (s : C.State) where
   abbrev Leading : Piece → Data → Data → Type 0
   Leading piece d d' = Brings functions c there piece d d'
 

@@ -8,7 +8,7 @@ use Rattle.std.proofs.lemmas.List.Elements.{All-head, All-tail}
 use Rattle.std.proofs.lemmas.Option.{slice_get-map}
 use Rattle.lang_base.specs.declared.shown.Shown.TheVariants.{Running}
 use Rattle.lang_base.specs.Machine.{Goes, Fails}
-use Rattle.lang_base.specs.Programs.{NamedFunction}
+use Rattle.lang_base.specs.declared.program.Named.{Named}
 use Rattle.rtl_parts.specs.Data.{Data}
 use Rattle.rtl_language.specs.declared.instruction.Instruction.TheVariants.{Return}
 use Rattle.rtl_language.specs.Function.{FunctionData}
@@ -127,7 +127,7 @@ begins_sees number f callers vs s globals output within count same_globals same_
 
 -- ---- a function
 
-module _ (functions : List (NamedFunction FunctionData)) (c : Ground) (there : IsThere functions c) (bound : ℕ) where
+module _ (functions : List (Named FunctionData)) (c : Ground) (there : IsThere functions c) (bound : ℕ) where
   -- where a body's end is reached, nothing is returned
   ends_arrive : (u : State) (o : M.Outcome) (z : Bool) → (z ≡ true → (s : C.State) → o ≡ M.Falls s → ⊥) → Stands c.nodes 0 (ending z 0 0).nodes → Arrives functions c bound [] (ending z 0 0).entry u o → CallArrives functions c.callers bound u o
   ends_arrive u (M.Falls s) true leaves stands h = absurd (leaves refl s refl)
@@ -138,7 +138,7 @@ module _ (functions : List (NamedFunction FunctionData)) (c : Ground) (there : I
   ends_arrive u (M.RunsOut output) z leaves stands h = h
   ends_arrive u (M.Fails output) z leaves stands h = tt
 
-pub body_arrives : (functions : List (NamedFunction FunctionData)) (bound less : ℕ) → bound ≤ suc less → (lower : M.Level) → LowerArrives functions bound less lower → (number : ℕ) (f : FunctionTree) (callers : List Frame) →
+pub body_arrives : (functions : List (Named FunctionData)) (bound less : ℕ) → bound ≤ suc less → (lower : M.Level) → LowerArrives functions bound less lower → (number : ℕ) (f : FunctionTree) (callers : List Frame) →
     IsThere functions (ground number f callers) → IsFunction f → (s : C.State) (d : Data) → Sees (ground number f callers) s d →
     CallArrives functions callers bound (at_node (ground number f callers) (gen_function f).entry d) (M.exec lower f.body s)
 body_arrives functions bound less sooner lower runs number f callers there fits s d sees =
@@ -152,32 +152,32 @@ body_arrives functions bound less sooner lower runs number f callers there fits 
 
 -- ---- calls, and what runs below each bound
 
-abbrev pub AllInRange : List (NamedFunction FunctionTree) → Type 0
+abbrev pub AllInRange : List (Named FunctionTree) → Type 0
 AllInRange fs = All (λ named. IsFunction named.function) fs
 
-pub in_range : (fs : List (NamedFunction FunctionTree)) → AllInRange fs → (k : ℕ) (f : NamedFunction FunctionTree) → slice_get fs k ≡ Some f → IsFunction f.function
+pub in_range : (fs : List (Named FunctionTree)) → AllInRange fs → (k : ℕ) (f : Named FunctionTree) → slice_get fs k ≡ Some f → IsFunction f.function
 in_range [] fit k f e = absurd cc
 in_range (g ∷ fs) fit zero f e =
     let same : g ≡ f = cc in
-    subst (λ (n : NamedFunction FunctionTree). IsFunction n.function) same (All-head (λ n. IsFunction n.function) g fs fit)
+    subst (λ (n : Named FunctionTree). IsFunction n.function) same (All-head (λ n. IsFunction n.function) g fs fit)
 in_range (g ∷ fs) fit (suc k) f e = in_range fs (All-tail (λ n. IsFunction n.function) g fs fit) k f e
 
-pub is_found : (fs : List (NamedFunction FunctionTree)) (k : ℕ) (f : NamedFunction FunctionTree) → slice_get fs k ≡ Some f → slice_get (map gen_named fs) k ≡ Some (gen_named f)
+pub is_found : (fs : List (Named FunctionTree)) (k : ℕ) (f : Named FunctionTree) → slice_get fs k ≡ Some f → slice_get (map gen_named fs) k ≡ Some (gen_named f)
 is_found fs k f e = slice_get-map gen_named fs k ∙ ap (option_map gen_named) e
 
-pub is_there : (fs : List (NamedFunction FunctionTree)) (k : ℕ) (f : NamedFunction FunctionTree) (callers : List Frame) → slice_get fs k ≡ Some f → IsThere (map gen_named fs) (ground k f.function callers)
+pub is_there : (fs : List (Named FunctionTree)) (k : ℕ) (f : Named FunctionTree) (callers : List Frame) → slice_get fs k ≡ Some f → IsThere (map gen_named fs) (ground k f.function callers)
 is_there fs k f callers e = record { named = gen_named f; found = is_found fs k f e; nodes = refl }
 
 pub length-numbers : (first n : ℕ) → length (numbers_from first n) ≡ n
 length-numbers first zero = refl
 length-numbers first (suc n) = ap suc (length-numbers (suc first) n)
 
-module _ (fs : List (NamedFunction FunctionTree)) (fit : AllInRange fs) where
-  abbrev functions : List (NamedFunction FunctionData)
+module _ (fs : List (Named FunctionTree)) (fit : AllInRange fs) where
+  abbrev functions : List (Named FunctionData)
   functions = map gen_named fs
 
   module _ (n less : ℕ) (sooner : n ≤ suc less) (runs : LowerArrives functions n less (M.level fs n)) where
-    entered : (number : ℕ) (f : NamedFunction FunctionTree) → slice_get fs number ≡ Some f → (vs : List (Option ℕ)) (s : C.State) (u : State) (caller : Frame) → u.here.globals ≡ s.globals → u.here.output ≡ s.output →
+    entered : (number : ℕ) (f : Named FunctionTree) → slice_get fs number ≡ Some f → (vs : List (Option ℕ)) (s : C.State) (u : State) (caller : Frame) → u.here.globals ≡ s.globals → u.here.output ≡ s.output →
         next functions u ≡ R.calls u number vs caller (slice_get functions number) → (z : Bool) → (length vs == f.function.parameters) ≡ z →
         CallArrives functions (caller ∷ u.callers) (suc n) u (cond z (M.exec (M.level fs n) f.function.body (M.begins f.function vs s)) (M.Fails s.output))
     entered number f found vs s u caller globals output e false counts = tt
@@ -193,7 +193,7 @@ module _ (fs : List (NamedFunction FunctionTree)) (fit : AllInRange fs) where
         call_step functions callers (suc n) n u (at_node (ground number f.function callers) (gen_function f.function).entry d) (M.exec (M.level fs n) f.function.body (M.begins f.function vs s)) (omega arith) step
         (body_arrives functions n less sooner (M.level fs n) runs number f.function callers there fits (M.begins f.function vs s) d (begins_sees number f.function callers vs s u.here.globals u.here.output fits.within count globals output))
 
-    calls_arrive : (number : ℕ) (x : Option (NamedFunction FunctionTree)) → slice_get fs number ≡ x → (vs : List (Option ℕ)) (s : C.State) (u : State) (caller : Frame) → u.here.globals ≡ s.globals → u.here.output ≡ s.output →
+    calls_arrive : (number : ℕ) (x : Option (Named FunctionTree)) → slice_get fs number ≡ x → (vs : List (Option ℕ)) (s : C.State) (u : State) (caller : Frame) → u.here.globals ≡ s.globals → u.here.output ≡ s.output →
         next functions u ≡ R.calls u number vs caller (slice_get functions number) → CallArrives functions (caller ∷ u.callers) (suc n) u (M.enters (M.level fs n) x vs s)
     calls_arrive number None found vs s u caller globals output e = tt
     calls_arrive number (Some f) found vs s u caller globals output e = entered number f found vs s u caller globals output e (length vs == f.function.parameters) refl

@@ -3,7 +3,7 @@ use Rattle.std.proofs.Common.{◌≡◌, ◌≢◌, ℕ, ◌<◌, ◌≤◌, Lis
 use Rattle.std.specs.Prelude.{slice_get, slice_index_or, slice_set}
 use Rattle.std.proofs.lemmas.Bool.{cases_eq}
 use Rattle.std.proofs.lemmas.List.{length-set, get_or-set_same, get_or-set_other}
-use Rattle.lang_base.specs.Programs.{NamedFunction}
+use Rattle.lang_base.specs.declared.program.Named.{Named}
 use Rattle.rtl_parts.specs.Data.{Data, value_at, put_at}
 use Rattle.rtl_language.specs.declared.instruction.Instruction.{Instruction}
 use Rattle.rtl_language.specs.Function.{FunctionData}
@@ -24,13 +24,13 @@ abbrev pub at_node : Ground → ℕ → Data → State
 at_node c place d = record { function = c.number; place = place; here = d; callers = c.callers }
 
 -- the function of that number has those nodes
-pub record IsThere (functions : List (NamedFunction FunctionData)) (c : Ground) : Type 0 where
-  pub named : NamedFunction FunctionData
+pub record IsThere (functions : List (Named FunctionData)) (c : Ground) : Type 0 where
+  pub named : Named FunctionData
   pub found : slice_get functions c.number ≡ Some named
   pub nodes : named.function.nodes ≡ c.nodes
 
 -- a step is that of the node
-pub node_step : (functions : List (NamedFunction FunctionData)) (c : Ground) → IsThere functions c → (place : ℕ) (d : Data) (i : Instruction) → slice_get c.nodes place ≡ Some i →
+pub node_step : (functions : List (Named FunctionData)) (c : Ground) → IsThere functions c → (place : ℕ) (d : Data) (i : Instruction) → slice_get c.nodes place ≡ Some i →
     next functions (at_node c place d) ≡ instruction_step functions (at_node c place d) (Some i)
 node_step functions c there place d i e =
     ap (function_step functions (at_node c place d)) there.found

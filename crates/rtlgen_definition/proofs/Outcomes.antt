@@ -3,7 +3,7 @@ use Rattle.std.proofs.Common.{◌≡◌, ℕ, zero, suc, ◌+◌, ◌≤◌, Lis
 use Rattle.std.specs.Prelude.{slice_get}
 use Rattle.lang_base.specs.declared.shown.Shown.TheVariants.{Running}
 use Rattle.lang_base.specs.Machine.{Goes, shows}
-use Rattle.lang_base.specs.Programs.{NamedFunction}
+use Rattle.lang_base.specs.declared.program.Named.{Named}
 use Rattle.rtl_parts.specs.Data.{Data}
 use Rattle.rtl_language.specs.Function.{FunctionData}
 use Rattle.rtl_language.specs.Frames.{Frame, State, printed, comes_back}
@@ -19,11 +19,11 @@ use Rattle.rtlgen_definition.proofs.Comes.{Comes, comes_comes, comes_step, step_
 use Rattle.rtlgen_definition.proofs.Grounds.{Ground, IsThere, Sees, at_node}
 
 -- a node is reached, with the words of this state
-abbrev pub Reaches : List (NamedFunction FunctionData) → Ground → State → ℕ → C.State → Type 0
+abbrev pub Reaches : List (Named FunctionData) → Ground → State → ℕ → C.State → Type 0
 Reaches functions c u place s = (d : Data) × Comes (next functions) printed u (at_node c place d) × Sees c s d
 
 -- a `return` of this to these callers is reached
-pub record Leaves (functions : List (NamedFunction FunctionData)) (callers : List Frame) (u : State) (w : Option ℕ) (s : C.State) : Type 0 where
+pub record Leaves (functions : List (Named FunctionData)) (callers : List Frame) (u : State) (w : Option ℕ) (s : C.State) : Type 0 where
   pub last : State
   pub comes : Comes (next functions) printed u last
   pub step : next functions last ≡ comes_back callers last.here (Some w)
@@ -31,13 +31,13 @@ pub record Leaves (functions : List (NamedFunction FunctionData)) (callers : Lis
   pub output : last.here.output ≡ s.output
 
 -- so many steps are made at least, and this is printed by then
-pub record Runs (functions : List (NamedFunction FunctionData)) (bound : ℕ) (u : State) (output : List ℕ) : Type 0 where
+pub record Runs (functions : List (Named FunctionData)) (bound : ℕ) (u : State) (output : List ℕ) : Type 0 where
   pub steps : ℕ
   pub many : bound ≤ steps
   pub shown : shows (next functions) printed steps u ≡ record { shown = Running; output = output }
 
 -- Of a statement: it goes on at a node, or at that of a block around it. Where it goes wrong nothing is asked.
-abbrev pub Arrives : List (NamedFunction FunctionData) → Ground → (bound : ℕ) (exits : List ℕ) (following : ℕ) → State → M.Outcome → Type 0
+abbrev pub Arrives : List (Named FunctionData) → Ground → (bound : ℕ) (exits : List ℕ) (following : ℕ) → State → M.Outcome → Type 0
 Arrives functions c bound exits following u (M.Falls s) = Reaches functions c u following s
 Arrives functions c bound exits following u (M.Exits n s) = (place : ℕ) → slice_get exits n ≡ Some place → Reaches functions c u place s
 Arrives functions c bound exits following u (M.Returns w s) = Leaves functions c.callers u w s
@@ -45,7 +45,7 @@ Arrives functions c bound exits following u (M.RunsOut output) = Runs functions 
 Arrives functions c bound exits following u (M.Fails output) = Unit {0}
 
 -- of a function, called by these
-abbrev pub CallArrives : List (NamedFunction FunctionData) → (callers : List Frame) (bound : ℕ) → State → M.Outcome → Type 0
+abbrev pub CallArrives : List (Named FunctionData) → (callers : List Frame) (bound : ℕ) → State → M.Outcome → Type 0
 CallArrives functions callers bound u (M.Falls s) = Leaves functions callers u None s
 CallArrives functions callers bound u (M.Exits n s) = Unit {0}
 CallArrives functions callers bound u (M.Returns w s) = Leaves functions callers u w s
@@ -53,7 +53,7 @@ CallArrives functions callers bound u (M.RunsOut output) = Runs functions bound 
 CallArrives functions callers bound u (M.Fails output) = Unit {0}
 
 -- What runs with one bound less, wherever it stands: statements arrive within `less`, and calls within `bound`, their own step with them.
-pub record LowerArrives (functions : List (NamedFunction FunctionData)) (bound less : ℕ) (lower : M.Level) : Type 0 where
+pub record LowerArrives (functions : List (Named FunctionData)) (bound less : ℕ) (lower : M.Level) : Type 0 where
   pub does : (c : Ground) → IsThere functions c → (t : StatementTree) (exits : List ℕ) (following count : ℕ) (s : C.State) (d : Data) → StatementFits c.variables t → c.variables + statement_needs t ≤ c.registers →
       Stands c.nodes count (statement t c.variables exits following count).nodes → Sees c s d →
       Arrives functions c less exits following (at_node c (statement t c.variables exits following count).entry d) (lower (M.Does t) s)
@@ -61,7 +61,7 @@ pub record LowerArrives (functions : List (NamedFunction FunctionData)) (bound l
       next functions u ≡ R.calls u f arguments caller (slice_get functions f) →
       CallArrives functions (caller ∷ u.callers) bound u (lower (M.Calls f arguments) s)
 
-module _ (functions : List (NamedFunction FunctionData)) where
+module _ (functions : List (Named FunctionData)) where
   leaves_comes : (callers : List Frame) (u v : State) (w : Option ℕ) (s : C.State) → Comes (next functions) printed u v → Leaves functions callers v w s → Leaves functions callers u w s
   leaves_comes callers u v w s p h = record { last = h.last; comes = comes_comes p h.comes; step = h.step; globals = h.globals; output = h.output }
 

@@ -2,7 +2,7 @@
 use Rattle.std.proofs.Common.{◌≡◌, ℕ, ◌+◌, ◌==◌, Bool, true, false, not, cond, List, [], ◌∷◌, ◌++◌, length, Some, refl, ap, ◌∙◌}
 use Rattle.std.specs.Prelude.{slice_get}
 use Rattle.lang_base.specs.Machine.{Goes}
-use Rattle.lang_base.specs.Programs.{NamedFunction}
+use Rattle.lang_base.specs.declared.program.Named.{Named}
 use Rattle.ints.specs.declared.conditions.Cond.TheVariants.{Nz}
 use Rattle.ints.specs.CondTable.{cond_table}
 use Rattle.rtl_parts.specs.declared.arguments.Arguments.TheVariants.{One}
@@ -22,7 +22,7 @@ not_zero : (w : ℕ) (z : Bool) → (w == 0) ≡ z → cond_table Nz (w ∷ []) 
 unfolding cond_table
 not_zero w z e = ap not e
 
-module _ (functions : List (NamedFunction FunctionData)) (c : Ground) (there : IsThere functions c) where
+module _ (functions : List (Named FunctionData)) (c : Ground) (there : IsThere functions c) where
   -- the machine comes from one state to another
   abbrev pub Leads : State → State → Type 0
   Leads s t = Comes (next functions) printed s t

@@ -7,7 +7,8 @@ use Rattle.lang_base.specs.declared.shown.Shown.TheVariants.{Ended, Wrong}
 use Rattle.lang_base.specs.Behaviour.{Shows}
 use Rattle.lang_base.specs.Keeps.{Keeps}
 use Rattle.lang_base.specs.Machine.{showing, shows}
-use Rattle.lang_base.specs.Programs.{NamedFunction, ProgramOf}
+use Rattle.lang_base.specs.declared.program.Named.{Named}
+use Rattle.lang_base.specs.declared.program.Program.{Program}
 use Rattle.lang_base.proofs.Simulation.{keeps-follows}
 use Rattle.machine.specs.Frames.{main_number, cells_of}
 use Rattle.rtl_parts.specs.Data.{Data}
@@ -24,12 +25,12 @@ use Rattle.rtlgen_definition.proofs.Outcomes.{CallArrives}
 use Rattle.rtlgen_definition.proofs.Functions.{AllInRange, ground, begins_sees, body_arrives, in_range, is_found, is_there, length-numbers, levels_arrive}
 
 -- main is shown at some bound from this one on as this
-abbrev Shown : List (NamedFunction FunctionData) → (bound : ℕ) → State → Shows → Type 0
+abbrev Shown : List (Named FunctionData) → (bound : ℕ) → State → Shows → Type 0
 Shown functions bound u x = (j : ℕ) × (bound ≤ j) × (x ≡ shows (next functions) printed j u)
 
 -- ---- what is shown of main
 
-shown_arrives : (functions : List (NamedFunction FunctionData)) (bound : ℕ) (u : State) (o : M.Outcome) → CallArrives functions [] bound u o → (M.shown o).shown ≢ Wrong → Shown functions bound u (M.shown o)
+shown_arrives : (functions : List (Named FunctionData)) (bound : ℕ) (u : State) (o : M.Outcome) → CallArrives functions [] bound u o → (M.shown o).shown ≢ Wrong → Shown functions bound u (M.shown o)
 shown_arrives functions bound u (M.Falls s) h right = absurd (right refl)
 shown_arrives functions bound u (M.Exits n s) h right = absurd (right refl)
 shown_arrives functions bound u (M.Returns None s) h right = absurd (right refl)
@@ -48,7 +49,7 @@ counts_none f e =
     let none : length (gen_function f).parameters ≡ 0 = length-numbers 0 f.parameters ∙ sym (eqb-true 0 f.parameters e) in
     ap (λ n. n == 0) none
 
-same_main : (fs : List (NamedFunction FunctionTree)) (named : NamedFunction FunctionTree) → slice_get fs (main_number (λ f. true) fs) ≡ Some named → (0 == named.function.parameters) ≡ true →
+same_main : (fs : List (Named FunctionTree)) (named : Named FunctionTree) → slice_get fs (main_number (λ f. true) fs) ≡ Some named → (0 == named.function.parameters) ≡ true →
     main_number takes_none (map gen_named fs) ≡ main_number (λ f. true) fs
 same_main [] named e none = refl
 same_main (f ∷ fs) named e none = at (bytes_eq f.name (codes "main")) (main_number (λ f. true) fs) (main_number takes_none (map gen_named fs)) e (λ found. same_main fs named found none)
@@ -57,7 +58,7 @@ same_main (f ∷ fs) named e none = at (bytes_eq f.name (codes "main")) (main_nu
         cond (z && takes_none (gen_function f.function)) 0 (suc m') ≡ cond (z && true) 0 (suc m)
     at true m m' found later =
         let is : named ≡ f = cc in
-        ap (λ b. cond b 0 (suc m')) (counts_none f.function (ap (λ (n : NamedFunction FunctionTree). 0 == n.function.parameters) (sym is) ∙ none))
+        ap (λ b. cond b 0 (suc m')) (counts_none f.function (ap (λ (n : Named FunctionTree). 0 == n.function.parameters) (sym is) ∙ none))
     at false m m' found later = ap suc (later found)
 
 -- ---- whole programs
@@ -66,11 +67,11 @@ no_arguments : (parameters : List ℕ) (registers : List (Option ℕ)) → with_
 no_arguments [] registers = refl
 no_arguments (r ∷ rs) registers = refl
 
-module _ (p : ProgramOf FunctionTree) (fit : AllInRange p.functions) where
-  abbrev functions : List (NamedFunction FunctionData)
+module _ (p : Program FunctionTree) (fit : AllInRange p.functions) where
+  abbrev functions : List (Named FunctionData)
   functions = map gen_named p.functions
 
-  main_arrives : (n number : ℕ) (f : NamedFunction FunctionTree) → slice_get p.functions number ≡ Some f → (0 == f.function.parameters) ≡ true →
+  main_arrives : (n number : ℕ) (f : Named FunctionTree) → slice_get p.functions number ≡ Some f → (0 == f.function.parameters) ≡ true →
       CallArrives functions [] n (R.begins p.globals number (slice_get functions number)) (M.exec (M.level p.functions n) f.function.body (M.begins f.function [] (M.start p)))
   main_arrives n number f found none =
       let level = levels_arrive p.functions fit n in
@@ -87,10 +88,10 @@ module _ (p : ProgramOf FunctionTree) (fit : AllInRange p.functions) where
       (body_arrives functions n level.0 level.1 (M.level p.functions n) level.2 number g [] there fits (M.begins g [] (M.start p)) (with registers) sees)
 
   -- main's outcome, where it takes no parameters
-  abbrev outcome : ℕ → NamedFunction FunctionTree → Bool → M.Outcome
+  abbrev outcome : ℕ → Named FunctionTree → Bool → M.Outcome
   outcome n f z = cond z (M.exec (M.level p.functions n) f.function.body (M.begins f.function [] (M.start p))) (M.Fails [])
 
-  shown_at : (n number : ℕ) → main_number (λ f. true) p.functions ≡ number → (x : Option (NamedFunction FunctionTree)) → slice_get p.functions number ≡ x →
+  shown_at : (n number : ℕ) → main_number (λ f. true) p.functions ≡ number → (x : Option (Named FunctionTree)) → slice_get p.functions number ≡ x →
       (M.shown (M.enters (M.level p.functions n) x [] (M.start p))).shown ≢ Wrong →
       Shown functions n (R.start (gen p)) (M.shown (M.enters (M.level p.functions n) x [] (M.start p)))
   shown_at n number is None found right = absurd (right refl)

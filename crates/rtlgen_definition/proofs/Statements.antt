@@ -3,7 +3,7 @@ use Rattle.std.proofs.Common.{◌≡◌, ℕ, suc, ◌+◌, ◌%◌, ◌==◌, �
 use Rattle.std.specs.Prelude.{slice_get, slice_set, slice_index_or, nat_lt, option_and_then}
 use Rattle.std.specs.Option.{option_map}
 use Rattle.std.proofs.lemmas.Option.{get_or_from_slice_get}
-use Rattle.lang_base.specs.Programs.{NamedFunction}
+use Rattle.lang_base.specs.declared.program.Named.{Named}
 use Rattle.rtl_parts.specs.declared.act.Act.TheVariants.{Nop, Store, Put}
 use Rattle.rtl_parts.specs.Data.{Data, value_at, put_at}
 use Rattle.rtl_parts.specs.Acts.{with_result, changed, stored, printing}
@@ -51,7 +51,7 @@ store_does d g i w globals e = at (slice_get d.globals g) e
 returned_word : (p w : ℕ) (d : Data) → value_at p d ≡ Some w → returned (Some p) d ≡ Some (Some w)
 returned_word p w d e = rw e refl
 
-module _ (functions : List (NamedFunction FunctionData)) (c : Ground) (there : IsThere functions c) (bound : ℕ) where
+module _ (functions : List (Named FunctionData)) (c : Ground) (there : IsThere functions c) (bound : ℕ) where
   abbrev Comes_to : State → State → Type 0
   Comes_to u v = Comes (next functions) printed u v
 

@@ -2,7 +2,8 @@
 -- registers from the number of variables on are temporaries: each operand of an expression or a statement has one, and an
 -- operand's own operands begin with that same one, which it is given last of all.
 use Rattle.std.specs.Prelude.{ℕ, zero, suc, ◌+◌, ◌<◌, List, [], ◌∷◌, length, map, max, Some, None, Bool, true, false, slice_index_or}
-use Rattle.lang_base.specs.Programs.{NamedFunction, ProgramOf}
+use Rattle.lang_base.specs.declared.program.Named.{Named}
+use Rattle.lang_base.specs.declared.program.Program.{Program}
 use Rattle.rtl_parts.specs.declared.arguments.Arguments.TheVariants.{One, Two}
 use Rattle.rtl_parts.specs.declared.act.Act.TheVariants.{Constant, Move, Operate, Load, Store, Put}
 use Rattle.rtl_language.specs.declared.instruction.Instruction.TheVariants.{Do, Call, Return}
@@ -167,9 +168,9 @@ abbrev pub HasTooManyNodes : FunctionTree → Type 0
 HasTooManyNodes f = node_limit < length (gen_function f).nodes
 
 -- under the same name
-abbrev pub gen_named : NamedFunction FunctionTree → NamedFunction FunctionData
+abbrev pub gen_named : Named FunctionTree → Named FunctionData
 gen_named f = record { name = f.name; function = gen_function f.function }
 
 -- The RTL program of a Cminor program.
-abbrev pub gen : ProgramOf FunctionTree → ProgramOf FunctionData
+abbrev pub gen : Program FunctionTree → Program FunctionData
 gen p = record { globals = p.globals; functions = map gen_named p.functions }

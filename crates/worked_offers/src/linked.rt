@@ -1,7 +1,7 @@
 //! Linking: what is linked, and each refusal.
 
 use crate::proposing::{function_of, text_of};
-use lang_base::{Language, Pass, Program};
+use lang_base::{Language, Pass, Program, Row};
 use linker_passes::{Chain, ChainOf, LinkError, Named, NamedOf, are_names, link};
 use offers::Offer;
 use program_rows::{bytes_of, numbered};
@@ -24,14 +24,14 @@ fn program_of<L: Language>(alloc: Global, words: &[&str]) -> Option<Program<L::F
     for word in words {
         let (name, input, _beside, _offers) = parts_of(word)?;
         let named = lang_base::Named {
-            name: name.as_bytes().to_vec(alloc).ok()?,
+            name: Row::from_vec(name.as_bytes().to_vec(alloc).ok()?),
             function: function_of::<L>(alloc, input)?,
         };
         functions.push(named).ok()?;
     }
     Some(Program {
-        globals: Vec::new(alloc),
-        functions,
+        globals: Row::from_vec(Vec::new(alloc)),
+        functions: Row::from_vec(functions),
     })
 }
 

@@ -1,6 +1,5 @@
 use Rattle.std.proofs.Common.{◌≡◌, [], ◌++◌, length, drop, sym, ap, ◌∙◌, arith}
 use Rattle.std.proofs.lemmas.List.{take-append-drop, length-drop, append-nil}
-use Rattle.lang_programs.specs.Seen.{seen}
 use Rattle.linear_language.specs.Spelling.{spelling}
 use Rattle.lang.specs.Form.{program_text}
 use Rattle.cfarm_commands.proofs.reading_programs.read_whole.Goals as goal
@@ -8,7 +7,7 @@ use Rattle.cfarm_commands.proofs.reading_programs.read_whole.Goals as goal
 pub returns-then-length-bytes-clause-refused : goal.returns-then-length-bytes-clause-refused
 returns-then-length-bytes-clause-refused c = λ different p spelled.
     let bytes = c.args.bytes.now in
-    let found = seen c.in_ok-program.program in
+    let found = c.in_ok-program.program in
     let n = c.in_ok-program.length in
     let behind = drop n bytes in
     let whole : program_text 4 spelling found ++ behind ≡ program_text 4 spelling p ++ [] =

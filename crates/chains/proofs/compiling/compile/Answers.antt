@@ -4,7 +4,6 @@ use Rattle.std.specs.Prelude.{All}
 use Rattle.std.proofs.lemmas.Result.{err_from_is_err_and}
 use Rattle.c_checker_rules.specs.Checked.{program_tree}
 use Rattle.cminor_lowering.specs.Programs.{low}
-use Rattle.lang_programs.specs.Seen.{named_seen}
 use Rattle.chains.specs.Offered.{AllGoOn}
 use Rattle.chains.specs.declared.errors.CompileError.TheVariants.{Link}
 use Rattle.chains.proofs.Memory.{memory_refused}
@@ -18,13 +17,13 @@ returns-clause-same_names c = c.in_ok-made.ensures.same_names ∙ c.in_ok-begun.
 
 pub returns-in_err-offers-clause-refused : goal.returns-in_err-offers-clause-refused
 returns-in_err-offers-clause-refused c =
-    let small = subst (λ fs. All (λ f. f.function.registers ≤ 2048) (map named_seen fs)) (sym c.as_slice.ensures.value) c.in_ok-begun.ensures.small in
+    let small = subst (λ fs. All (λ f. f.function.registers ≤ 2048) fs) (sym c.as_slice.ensures.value) c.in_ok-begun.ensures.small in
     let p = err_from_is_err_and c.from_residual-in_err-offers.result c.from_residual-in_err-offers.ensures.1 in
     rw (p.1, p.2) (memory_refused (low (program_tree c.args.program.now)) c.in_err-offers.field-0.0 (c.in_err-offers.ensures.refused small))
 
 pub returns-in_err-made-clause-refused : goal.returns-in_err-made-clause-refused
 returns-in_err-made-clause-refused c =
-    let begun = subst (λ fs. AllGoOn (map named_seen fs) c.in_ok-offers.offers.items) c.as_slice.ensures.value c.in_ok-offers.ensures.chained in
-    let all = subst (λ os. AllGoOn (map named_seen c.in_ok-begun.begun.functions.items) os) (sym c.deref.ensures.value) begun in
+    let begun = subst (λ fs. AllGoOn fs c.in_ok-offers.offers.items) c.as_slice.ensures.value c.in_ok-offers.ensures.chained in
+    let all = subst (λ os. AllGoOn c.in_ok-begun.begun.functions os) (sym c.deref.ensures.value) begun in
     let p = err_from_is_err_and c.from_residual-in_err-made.result c.from_residual-in_err-made.ensures.1 in
     rw (p.1, p.2) (memory_refused (low (program_tree c.args.program.now)) (Link c.in_err-made.field-0.0) (c.in_err-made.ensures.whole all))

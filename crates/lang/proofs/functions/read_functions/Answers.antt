@@ -1,7 +1,6 @@
 use Rattle.std.proofs.Common.{◌<◌, length, arith}
 use Rattle.std.specs.Prelude.{map}
 use Rattle.std.proofs.lemmas.Result.{err_from_is_err_and}
-use Rattle.lang_programs.specs.Seen.{named_seen}
 use Rattle.lang.proofs.NamedRows.{under_way, functions_stop, one_more}
 use Rattle.lang.proofs.functions.read_functions.Goals as goal
 
@@ -11,8 +10,8 @@ loop-init g c = under_way g.L.Language.spelling g.L.Language.fits _ _ c.new-func
 pub returns-in_err-function : goal.returns-in_err-function
 returns-in_err-function g c =
     let p = err_from_is_err_and c.from_residual.result c.from_residual.ensures.1 in
-    let lt : length (map named_seen c.loop.functions.items) < c.args.count = omega (arith, c.loop.invariant.so_far, c.loop-test.true) in
-    rw (p.1, p.2) (λ memory. functions_stop g.L.Language.spelling g.L.Language.fits g.met.L.Language.one_spelling c.args.count c.args.bytes.now.now c.loop.bytes.now (map named_seen c.loop.functions.items) c.loop.invariant.parts c.loop.invariant.fits lt (rw (← c.deref.ensures.value) (c.in_err-function.ensures memory)))
+    let lt : length c.loop.functions.items < c.args.count = omega (arith, c.loop.invariant.so_far, c.loop-test.true) in
+    rw (p.1, p.2) (λ memory. functions_stop g.L.Language.spelling g.L.Language.fits g.met.L.Language.one_spelling c.args.count c.args.bytes.now.now c.loop.bytes.now c.loop.functions.items c.loop.invariant.parts c.loop.invariant.fits lt (rw (← c.deref.ensures.value) (c.in_err-function.ensures memory)))
 
 pub loop-preserved : goal.loop-preserved
 loop-preserved g c =

@@ -5,24 +5,23 @@ use Rattle.lang_base.specs.declared.program.Global.{Global}
 use Rattle.lang_base.proofs.Loops.{goes_on, stops}
 use Rattle.lang.specs.Form.{cells_of_all}
 use Rattle.lang.specs.Reading.{global}
-use Rattle.lang_programs.specs.Seen.{global_seen}
 use Rattle.lang.proofs.Forms.{cells_push}
 use Rattle.lang.proofs.globals.read_so_many_globals.Goals as goal
 
-seen_push : (gs : List Global) (g : Global) → map global_seen (gs ++ g ∷ []) ≡ map global_seen gs ++ global_seen g ∷ []
+seen_push : (gs : List Global) (g : Global) → (gs ++ g ∷ []) ≡ gs ++ g ∷ []
 seen_push [] g = refl
-seen_push (h ∷ gs) g = ap (λ l. global_seen h ∷ l) (seen_push gs g)
+seen_push (h ∷ gs) g = ap (λ l. h ∷ l) (seen_push gs g)
 
 pub returns-in_err-global : goal.returns-in_err-global
 returns-in_err-global c =
     let p = err_from_is_err_and c.from_residual.result c.from_residual.ensures.1 in
-    rw (p.1, p.2) (λ memory. stops (λ before. global (cells_of_all before)) c.args.count _ c.in_err-global.field-0.0 (map global_seen c.loop.globals.items) c.loop.counter c.loop.bytes.now c.loop-test.true c.loop.invariant.under_way (rw (← c.loop.invariant.total) (c.in_err-global.ensures.read memory)))
+    rw (p.1, p.2) (λ memory. stops (λ before. global (cells_of_all before)) c.args.count _ c.in_err-global.field-0.0 c.loop.globals.items c.loop.counter c.loop.bytes.now c.loop-test.true c.loop.invariant.under_way (rw (← c.loop.invariant.total) (c.in_err-global.ensures.read memory)))
 
 pub loop-preserved : goal.loop-preserved
 loop-preserved c =
     let push = seen_push c.loop.globals.items c.in_ok-global.global in
     rw (c.in_ok-push.ensures.items, push) (record {
-      under_way = goes_on (λ before. global (cells_of_all before)) c.args.count _ (map global_seen c.loop.globals.items) c.loop.counter c.loop.bytes.now _ c.read_global.new.bytes.now c.loop-test.true c.loop.invariant.under_way (rw (← c.loop.invariant.total) c.in_ok-global.ensures.read);
-      total = ap (λ n. n + c.in_ok-global.global.cells) c.loop.invariant.total ∙ sym (cells_push (map global_seen c.loop.globals.items) (global_seen c.in_ok-global.global));
+      under_way = goes_on (λ before. global (cells_of_all before)) c.args.count _ c.loop.globals.items c.loop.counter c.loop.bytes.now _ c.read_global.new.bytes.now c.loop-test.true c.loop.invariant.under_way (rw (← c.loop.invariant.total) c.in_ok-global.ensures.read);
+      total = ap (λ n. n + c.in_ok-global.global.cells) c.loop.invariant.total ∙ sym (cells_push c.loop.globals.items c.in_ok-global.global);
       few = c.in_ok-global.ensures.few;
     })

@@ -1,8 +1,7 @@
 use Rattle.std.proofs.Common.{◌≡◌, ◌++◌, take}
 use Rattle.std.specs.List.{flat_map}
 use Rattle.lang.specs.Form.{named_text}
-use Rattle.lang_programs.specs.Seen.{named_seen}
 use Rattle.lang.proofs.writing.push_functions.Given as goal
 
 abbrev pub invariant-loop-function : goal.invariant-loop-function
-invariant-loop-function g l = l.out.items ≡ l.fn.out.items ++ flat_map (λ f. named_text g.L.Language.spelling (named_seen f)) (take l.function-index l.functions)
+invariant-loop-function g l = l.out.items ≡ l.fn.out.items ++ flat_map (λ f. named_text g.L.Language.spelling f) (take l.function-index l.functions)

@@ -5,7 +5,6 @@ use Rattle.c_checker_rules.specs.Checked.{program_tree}
 use Rattle.cminor_lowering.specs.Programs.{low}
 use Rattle.rtlgen_definition.specs.Gen.{gen}
 use Rattle.linker_passes.specs.Chains.{names_of, AllChained}
-use Rattle.lang_programs.specs.Seen.{seen}
 use Rattle.rtlgen.specs.Refused as translation
 use Rattle.linker.specs.Numbers.{refusal_to_link}
 use Rattle.linker.proofs.Steps.{names_translated, refused_along, few_translate}
@@ -15,7 +14,7 @@ pub returns-in_err-made-clause-refused : goal.returns-in_err-made-clause-refused
 returns-in_err-made-clause-refused c =
     let p = err_from_is_err_and c.from_residual-in_err-made.result c.from_residual-in_err-made.ensures.1 in
     let same = c.in_ok-translated.ensures.same ∙ ap gen c.in_ok-lowered.ensures.same in
-    rw (p.1, p.2) (refused_along (low (program_tree c.args.program.now)) (seen c.in_ok-translated.translated) c.args.named.now c.in_err-made.field-0.0 same c.in_err-made.ensures.refused)
+    rw (p.1, p.2) (refused_along (low (program_tree c.args.program.now)) c.in_ok-translated.translated c.args.named.now c.in_err-made.field-0.0 same c.in_err-made.ensures.refused)
 
 pub returns-clause-same_names : goal.returns-clause-same_names
 returns-clause-same_names c =

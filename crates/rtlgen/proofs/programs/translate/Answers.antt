@@ -4,11 +4,10 @@ use Rattle.std.specs.Prelude.{All}
 use Rattle.std.proofs.lemmas.Result.{IfOk-weaker}
 use Rattle.cminor_syntax.specs.Fits.{IsFunction}
 use Rattle.rtlgen_definition.specs.Gen.{gen}
-use Rattle.lang_programs.specs.Seen.{named_seen, seen}
 use Rattle.rtlgen.proofs.Small.{all_small}
 use Rattle.rtlgen.proofs.programs.translate.Goals as goal
 
 pub returns-clause-small : goal.returns-clause-small
 returns-clause-small c =
-    IfOk-weaker _ (λ p. seen p ≡ gen (seen c.args.program.now)) _
-    (λ p e. subst (λ q. All (λ f. f.function.registers ≤ 2048) q.functions) (sym e) (all_small _ c.generated_is_small.ensures (subst (λ fs. All (λ f. IsFunction f.function) (map named_seen fs)) c.as_slice.ensures.value c.are_in_range.ensures))) c.translate_all.ensures.same
+    IfOk-weaker _ (λ p. p ≡ gen c.args.program.now) _
+    (λ p e. subst (λ q. All (λ f. f.function.registers ≤ 2048) q.functions) (sym e) (all_small _ c.generated_is_small.ensures (subst (λ fs. All (λ f. IsFunction f.function) fs) c.as_slice.ensures.value c.are_in_range.ensures))) c.translate_all.ensures.same

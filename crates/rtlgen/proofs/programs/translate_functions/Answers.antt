@@ -2,7 +2,6 @@ use Rattle.std.proofs.Common.{subst}
 use Rattle.std.specs.Prelude.{All}
 use Rattle.std.proofs.lemmas.List.Elements.{All-map, All-more}
 use Rattle.rtlgen_definition.specs.Gen.{gen_named}
-use Rattle.lang_programs.specs.Seen.{named_seen}
 use Rattle.rtlgen.specs.Refused.{HasFewNodes}
 use Rattle.rtlgen.proofs.Firsts.{whole, first_is, one_more}
 use Rattle.rtlgen.proofs.programs.translate_functions.Goals as goal
@@ -10,7 +9,7 @@ use Rattle.rtlgen.proofs.programs.translate_functions.Goals as goal
 pub returns-in-None-clause-err : goal.returns-in-None-clause-err
 returns-in-None-clause-err c =
     let large = rw c.in-None.is at c.in_ok-function.ensures.made in
-    first_is named_seen c.args.functions.now c.loop-number.number c.index-functions-number.result c.loop-number-test.true c.index-functions-number.is c.loop-number.invariant.few large
+    first_is c.args.functions.now c.loop-number.number c.index-functions-number.result c.loop-number-test.true c.index-functions-number.is c.loop-number.invariant.few large
 
 pub loop-number-preserved : goal.loop-number-preserved
 loop-number-preserved c =
@@ -20,11 +19,11 @@ loop-number-preserved c =
     let made = rw c.in-Some.is at c.in_ok-function.ensures.made in
     let few = rw c.in-Some.is at c.in_ok-function.ensures.few in
     record {
-      same = one_more named_seen gen_named named_seen all c.loop-number.translated.items c.push.new.self.items i here c.in-Some.function c.loop-number-test.true c.index-functions-number.is c.loop-number.invariant.same made c.in_ok-push-in-Some.ensures.items;
-      few = All-more (λ f. HasFewNodes (named_seen f)) all i here c.loop-number-test.true c.loop-number.invariant.few (subst (λ f. HasFewNodes (named_seen f)) c.index-functions-number.is few);
+      same = one_more gen_named all c.loop-number.translated.items c.push.new.self.items i here c.in-Some.function c.loop-number-test.true c.index-functions-number.is c.loop-number.invariant.same made c.in_ok-push-in-Some.ensures.items;
+      few = All-more (λ f. HasFewNodes f) all i here c.loop-number-test.true c.loop-number.invariant.few (subst (λ f. HasFewNodes f) c.index-functions-number.is few);
     }
 
 pub returns-clause-few : goal.returns-clause-few
 returns-clause-few c =
     let fs = c.args.functions.now in
-    All-map HasFewNodes named_seen fs (subst (λ xs. All (λ f. HasFewNodes (named_seen f)) xs) (whole fs c.loop-number.number c.loop-number-test.false) c.loop-number.invariant.few)
+    All-map HasFewNodes fs (subst (λ xs. All (λ f. HasFewNodes f) xs) (whole fs c.loop-number.number c.loop-number-test.false) c.loop-number.invariant.few)

@@ -1,12 +1,11 @@
 use Rattle.std.proofs.Common.{◌≡◌, take, map}
 use Rattle.std.specs.Prelude.{All}
 use Rattle.rtlgen_definition.specs.Gen.{gen_named}
-use Rattle.lang_programs.specs.Seen.{named_seen}
 use Rattle.rtlgen.specs.Refused.{HasFewNodes}
 use Rattle.rtlgen.proofs.programs.translate_functions.Given as goal
 
 abbrev pub invariant-loop-number : goal.invariant-loop-number
 invariant-loop-number l = record {
-  same : map named_seen l.translated.items ≡ map gen_named (map named_seen (take l.number l.functions));
-  few : All (λ f. HasFewNodes (named_seen f)) (take l.number l.functions);
+  same : l.translated.items ≡ map gen_named (take l.number l.functions);
+  few : All (λ f. HasFewNodes f) (take l.number l.functions);
 }
