@@ -1,11 +1,13 @@
-//! What the interpreters of all languages share: a program as plain data, functions found by name, how one byte is
-//! printed, and why a run is broken off.
+//! What languages, passes and interpreters share of whole programs: functions found by name, copies of globals, how
+//! one byte is printed, and why a run is broken off.
 #![tactic(auto)]
 
+mod copying;
 mod error;
 mod names;
 mod printing;
 
+pub use copying::copy_globals;
 pub use error::RunError;
 pub use names::is_taken;
 pub use printing::print;

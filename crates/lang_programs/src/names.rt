@@ -6,7 +6,7 @@ use lang_base::Named;
 
 /// Whether one of the functions has this name. Each is looked at: a program has at most 64.
 pub fn is_taken<F>(functions: &[Named<F>], name: &[u8]) -> bool
-    ensures { result ≡ list_any (λ f. bytes_eq f.name.items name.now) functions.now }
+    ensures { result ≡ list_any (λ f. bytes_eq f.name name.now) functions.now }
 {
     functions
         .iter()
