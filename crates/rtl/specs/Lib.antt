@@ -1,3 +1,4 @@
+pub mod Arguments
 pub mod Callers
 pub mod Functions
 pub mod Machines
