@@ -1,6 +1,6 @@
 -- Named functions: which texts a reader may take, and what a refusal says.
 use Rattle.std.proofs.Common.{◌≡◌, ◌≢◌, ℕ, ◌+◌, ◌<◌, ◌≤◌, Bool, true, false, List, [], ◌∷◌, ◌++◌, length, take, drop, ◌-◌, refl, sym, ap, subst, ◌∙◌, arith, append_assoc, append-nil}
-use Rattle.std.specs.Prelude.{map, ◌||◌, Err, codes}
+use Rattle.std.specs.Prelude.{◌||◌, Err}
 use Rattle.std.specs.List.{AllByRecursion, list_any}
 use Rattle.std.specs.Str.{bytes_eq}
 use Rattle.std.specs.Cmp.Lexicographic.{same_text, other_text}
@@ -10,7 +10,7 @@ use Rattle.lang_base.specs.declared.errors.FormError.{FormError}
 use Rattle.lang_base.specs.Texts.{EachFits}
 use Rattle.lang_base.specs.declared.program.Named.{Named}
 use Rattle.lang_base.proofs.Forms.{one_text, no_text}
-use Rattle.lang.specs.Form.{FunctionFits, has_main, name_text, named_text}
+use Rattle.lang.specs.Form.{FunctionFits, name_text, named_text}
 use Rattle.lang.specs.Fronts.{NoFront, OneText, functions_text, FunctionsFit}
 use Rattle.lang.specs.Reading.{name}
 use Rattle.lang.proofs.Forms.{NameFits, name_form}
@@ -52,7 +52,7 @@ module _ {F : Type 0} (spelling : F → List ℕ) (Fits : F → Type 0) where
     record { name = fits.name; short = fits.short; new = new; function = fits' },
   )
 
-  -- so many functions of the code are read, and this is left
+  -- so many functions are read, and this is left
   pub record IsUnderWay (bytes : List ℕ) (fs : List (Named F)) (rest : List ℕ) (n : ℕ) : Type 0 where
     pub parts : bytes ≡ functions_text spelling fs ++ rest
     pub fits : EachFits (FunctionFits Fits) [] fs
@@ -60,10 +60,6 @@ module _ {F : Type 0} (spelling : F → List ℕ) (Fits : F → Type 0) where
 
   pub under_way : (bytes : List ℕ) (fs : List (Named F)) → fs ≡ [] → IsUnderWay bytes fs bytes 0
   under_way bytes fs e = subst (λ gs. IsUnderWay bytes gs bytes 0) (sym e) (record { parts = refl; fits = tt; so_far = refl })
-
-  seen_push : (fs : List (Named F)) (f : Named F) → (fs ++ f ∷ []) ≡ fs ++ f ∷ []
-  seen_push [] f = refl
-  seen_push (g ∷ fs) f = ap (λ l. g ∷ l) (seen_push fs f)
 
   text_push : (fs : List (Named F)) (f : Named F) → functions_text spelling (fs ++ f ∷ []) ≡ functions_text spelling fs ++ named_text spelling f
   text_push [] f = append-nil (named_text spelling f)
@@ -74,9 +70,9 @@ module _ {F : Type 0} (spelling : F → List ℕ) (Fits : F → Type 0) where
     parts =
         so_far.parts ∙ ap (λ l. functions_text spelling fs ++ l) left
         ∙ sym (append_assoc (functions_text spelling fs) (named_text spelling f) rest')
-        ∙ ap (λ l. l ++ rest') (sym (text_push fs f) ∙ ap (functions_text spelling) (sym (seen_push fs f)));
-    fits = subst (EachFits (FunctionFits Fits) []) (sym (seen_push fs f)) (push_fits (FunctionFits Fits) [] fs f so_far.fits fits);
-    so_far = ap length (seen_push fs f) ∙ length-append fs (f ∷ []) ∙ ap (λ k. k + 1) so_far.so_far;
+        ∙ ap (λ l. l ++ rest') (sym (text_push fs f));
+    fits = push_fits (FunctionFits Fits) [] fs f so_far.fits fits;
+    so_far = length-append fs (f ∷ []) ∙ ap (λ k. k + 1) so_far.so_far;
   }
 
   module _ (one : OneText spelling Fits) where
@@ -150,20 +146,8 @@ pub is_among : {F : Type 0} (n : List ℕ) (fs : List (Named F)) → list_any (�
 is_among n [] e all = absurd cc
 is_among n (f ∷ fs) e all = taken_at n f fs (bytes_eq f.name n) refl e all.0 (λ later. is_among n fs later all.1)
 
--- a name that is sought among the functions of the code is sought among what they are
-pub sought : {F : Type 0} (n : List ℕ) (fs : List (Named F)) → list_any (λ f. bytes_eq f.name n) fs ≡ list_any (λ f. bytes_eq f.name n) fs
-sought n [] = refl
-sought n (f ∷ fs) = ap (λ b. bytes_eq f.name n || b) (sought n fs)
-
 -- what is left behind a function's bytes
 pub behind_front : (behind text : List ℕ) (n : ℕ) → take n behind ≡ text → behind ≡ text ++ take (length behind - n) (drop n behind)
 behind_front behind text n e =
     let all : take (length behind - n) (drop n behind) ≡ drop n behind = take_all (length behind - n) (drop n behind) (omega (arith, length-drop n behind)) in
     sym (take-append-drop n behind) ∙ ap (λ l. l ++ drop n behind) e ∙ ap (λ l. text ++ l) (sym all)
-
--- whatever is told of the name `main` is whether a function has it
-pub main_is : {F : Type 0} (fs fs' : List (Named F)) (n : List ℕ) (b : Bool) → b ≡ list_any (λ f. bytes_eq f.name n) fs' → fs' ≡ fs → n ≡ codes "main" → b ≡ has_main fs
-main_is {F} fs fs' n b e same name =
-    e ∙ ap (λ (gs : List (Named F)). list_any (λ f. bytes_eq f.name n) gs) same
-    ∙ ap (λ (m : List ℕ). list_any (λ (f : Named F). bytes_eq f.name m) fs) name
-    ∙ sought (codes "main") fs

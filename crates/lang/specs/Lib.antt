@@ -1,5 +1,4 @@
 pub mod Form
-pub mod Seen
 pub mod Fronts
 pub mod Shorts
 pub mod Reading

@@ -1,10 +1,9 @@
 //! Readers of named functions: a language's reader says which functions have a spelling, and so these
 //! say it of named ones.
 
-ghost use Rattle.std.specs.Prelude.{ℕ, ◌<◌, map, slice_index};
+ghost use Rattle.std.specs.Prelude.{ℕ, ◌<◌, slice_index};
 ghost use Rattle.lang.specs.Form.{named_text, FunctionFits};
 ghost use Rattle.lang.specs.Fronts.{Fronts, functions_text, FunctionsFit};
-ghost use Rattle.lang.specs.Seen.{seen_by, functions_of};
 
 use crate::names::read_name;
 use lang_base::{FormError, Language, Named, Row};
@@ -22,7 +21,7 @@ fn read_named<L: Language>(
     before: &[Named<L::Fun>],
     bytes: &mut &[u8],
 ) -> Result<Named<L::Fun>, FormError>
-    ensures { Fronts (named_text L.spelling) (FunctionFits L.fits before.now) bytes.old.now (seen_by result) bytes.new.now }
+    ensures { Fronts (named_text L.spelling) (FunctionFits L.fits before.now) bytes.old.now result bytes.new.now }
 {
     are_bytes(bytes);
     let name = read_name(alloc, bytes)?;
@@ -42,13 +41,13 @@ pub fn read_functions<L: Language>(
     alloc: Global,
     count: u8,
     bytes: &mut &[u8],
-) -> Result<Vec<Named<L::Fun>>, FormError>
-    ensures { Fronts (functions_text L.spelling) (FunctionsFit L.fits count) bytes.old.now (functions_of result) bytes.new.now }
+) -> Result<Row<Named<L::Fun>>, FormError>
+    ensures { Fronts (functions_text L.spelling) (FunctionsFit L.fits count) bytes.old.now result bytes.new.now }
 {
     let mut functions = Vec::new(alloc);
     for _ in 0..count {
         let function = read_named::<L>(alloc, &functions, bytes)?;
         functions.push(function)?;
     }
-    Ok(functions)
+    Ok(Row::from_vec(functions))
 }

@@ -6,7 +6,6 @@ ghost use Rattle.lang_base.specs.Reading.{IsRead, Reads, items_of, more, number}
 ghost use Rattle.std.specs.Int.{w32};
 ghost use Rattle.lang.specs.Form.{ends_well, cell_limit, cells_of_all};
 ghost use Rattle.lang.specs.Reading.{cells, words, global, globals};
-ghost use Rattle.lang.specs.Seen.{seen_by, globals_of};
 
 use lang_base::{FormError, Row, read_u16, read_u32};
 use std::alloc;
@@ -73,7 +72,7 @@ fn read_global(
     total: u32,
     bytes: &mut &[u8],
 ) -> Result<lang_base::Global, FormError>
-    ensures read { Reads (global total bytes.old.now) (seen_by result) bytes.new.now }
+    ensures read { Reads (global total bytes.old.now) result bytes.new.now }
     ensures few { IfOk result (λ g. total + g.cells ≤ cell_limit) }
 {
     let cells = read_cells(total, bytes)?;
@@ -89,7 +88,7 @@ fn read_so_many_globals(
     count: u16,
     bytes: &mut &[u8],
 ) -> Result<Vec<lang_base::Global>, FormError>
-    ensures { Reads (more (λ before. global (cells_of_all before)) [] count bytes.old.now) (globals_of result) bytes.new.now }
+    ensures { Reads (more (λ before. global (cells_of_all before)) [] count bytes.old.now) (items_of result) bytes.new.now }
 {
     let mut globals = Vec::new(alloc);
     let mut total = 0;
@@ -106,12 +105,13 @@ fn read_so_many_globals(
 pub fn read_globals(
     alloc: alloc::Global,
     bytes: &mut &[u8],
-) -> Result<Vec<lang_base::Global>, FormError>
-    ensures { Reads (globals bytes.old.now) (globals_of result) bytes.new.now }
+) -> Result<Row<lang_base::Global>, FormError>
+    ensures { Reads (globals bytes.old.now) result bytes.new.now }
 {
     let count = read_u16(bytes)?;
     if count > 1024 {
         return Err(FormError::TooLarge);
     }
-    read_so_many_globals(alloc, count, bytes)
+    let globals = read_so_many_globals(alloc, count, bytes)?;
+    Ok(Row::from_vec(globals))
 }

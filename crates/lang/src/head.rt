@@ -2,10 +2,9 @@
 
 ghost use Rattle.lang_base.specs.Reading.{Reads};
 ghost use Rattle.lang.specs.Reading.{body, head};
-ghost use Rattle.lang.specs.Seen.{head_of};
 
 use crate::globals::read_globals;
-use lang_base::{FormError, read_byte, read_count};
+use lang_base::{FormError, Row, read_byte, read_count};
 use std::alloc;
 
 /// The globals, and the number of functions.
@@ -13,8 +12,8 @@ use std::alloc;
 fn read_body(
     alloc: alloc::Global,
     bytes: &mut &[u8],
-) -> Result<(Vec<lang_base::Global>, u8), FormError>
-    ensures { Reads (body bytes.old.now) (head_of result) bytes.new.now }
+) -> Result<(Row<lang_base::Global>, u8), FormError>
+    ensures { Reads (body bytes.old.now) result bytes.new.now }
 {
     let globals = read_globals(alloc, bytes)?;
     let count = read_count(64, bytes)?;
@@ -27,8 +26,8 @@ pub fn read_head(
     alloc: alloc::Global,
     tag: u8,
     bytes: &mut &[u8],
-) -> Result<(Vec<lang_base::Global>, u8), FormError>
-    ensures { Reads (head tag bytes.old.now) (head_of result) bytes.new.now }
+) -> Result<(Row<lang_base::Global>, u8), FormError>
+    ensures { Reads (head tag bytes.old.now) result bytes.new.now }
 {
     if read_byte(bytes)? != b'C' {
         return Err(FormError::BadTag);

@@ -10,7 +10,7 @@ ghost use Rattle.lang.specs.Form.{IsProgram, program_text};
 use crate::functions::read_functions;
 use crate::head::read_head;
 use crate::writing::{push_functions, push_head};
-use lang_base::{FormError, Language, NoMemory, Program, Row};
+use lang_base::{FormError, Language, NoMemory, Program};
 use lang_programs::is_taken;
 use std::alloc::Global;
 
@@ -29,14 +29,11 @@ pub fn read_program<L: Language>(
     let mut rest = bytes;
     let (globals, count) = read_head(alloc, L::TAG, &mut rest)?;
     let functions = read_functions::<L>(alloc, count, &mut rest)?;
-    if !is_taken(&functions, b"main".as_slice()) {
+    let main = b"main".as_slice();
+    if !is_taken(functions.as_slice(), main) {
         return Err(FormError::NotCanonical);
     }
-    let program = Program {
-        globals: Row::from_vec(globals),
-        functions: Row::from_vec(functions),
-    };
-    Ok((program, bytes.len() - rest.len()))
+    Ok((Program { globals, functions }, bytes.len() - rest.len()))
 }
 
 fn push_program<L: Language>(out: &mut Vec<u8>, program: &Program<L::Fun>) -> Result<(), NoMemory>

@@ -4,8 +4,9 @@ ghost use Rattle.std.specs.Prelude.{◌≤◌, length, All};
 ghost use Rattle.std.specs.List.{flat_map};
 ghost use Rattle.std.specs.Int.{w32, to_be_bytes};
 ghost use Rattle.lang_base.specs.Texts.{Appends};
-ghost use Rattle.lang.specs.Form.{name_text, named_text, global_text};
-ghost use Rattle.lang.specs.Shorts.{IsShortNamed, IsShortGlobal, globals_written, head_written, functions_written};
+ghost use Rattle.lang.specs.Form.{name_text, named_text, global_text, globals_text, head_text};
+ghost use Rattle.lang.specs.Fronts.{functions_text};
+ghost use Rattle.lang.specs.Shorts.{IsShortNamed, IsShortGlobal};
 
 use lang_base::{Language, Named, NoMemory, push_byte, push_u16, push_u32};
 
@@ -29,7 +30,7 @@ fn push_global(out: &mut Vec<u8>, global: &lang_base::Global) -> Result<(), NoMe
 
 fn push_each_global(out: &mut Vec<u8>, globals: &[lang_base::Global]) -> Result<(), NoMemory>
     requires { All IsShortGlobal globals.now }
-    ensures { Appends result (flat_map (λ g. global_text g) globals.now) out.old.items out.new.items }
+    ensures { Appends result (flat_map global_text globals.now) out.old.items out.new.items }
 {
     for global in globals {
         push_global(out, global)?;
@@ -40,7 +41,7 @@ fn push_each_global(out: &mut Vec<u8>, globals: &[lang_base::Global]) -> Result<
 fn push_globals(out: &mut Vec<u8>, globals: &[lang_base::Global]) -> Result<(), NoMemory>
     requires few { length globals.now ≤ 1024 }
     requires short { All IsShortGlobal globals.now }
-    ensures { Appends result (globals_written globals.now) out.old.items out.new.items }
+    ensures { Appends result (globals_text globals.now) out.old.items out.new.items }
 {
     push_u16(out, globals.len() as u16)?;
     push_each_global(out, globals)
@@ -55,7 +56,7 @@ pub fn push_head(
 ) -> Result<(), NoMemory>
     requires few { length globals.now ≤ 1024 }
     requires short { All IsShortGlobal globals.now }
-    ensures { Appends result (head_written tag globals.now count) out.old.items out.new.items }
+    ensures { Appends result (head_text tag (globals.now, count)) out.old.items out.new.items }
 {
     push_byte(out, b'C')?;
     push_byte(out, b'F')?;
@@ -89,7 +90,7 @@ pub fn push_functions<L: Language>(
     functions: &[Named<L::Fun>],
 ) -> Result<(), NoMemory>
     requires { All IsShortNamed functions.now }
-    ensures { Appends result (functions_written L.spelling functions.now) out.old.items out.new.items }
+    ensures { Appends result (functions_text L.spelling functions.now) out.old.items out.new.items }
 {
     for function in functions {
         push_named::<L>(out, function)?;

@@ -1,5 +1,4 @@
 use Rattle.std.proofs.Common.{◌<◌, length, arith}
-use Rattle.std.specs.Prelude.{map}
 use Rattle.std.proofs.lemmas.Result.{err_from_is_err_and}
 use Rattle.lang.proofs.NamedRows.{under_way, functions_stop, one_more}
 use Rattle.lang.proofs.functions.read_functions.Goals as goal
@@ -19,4 +18,4 @@ loop-preserved g c =
     rw c.in_ok-push.ensures.items (one_more g.L.Language.spelling g.L.Language.fits c.args.bytes.now.now c.loop.functions.items c.loop.bytes.now c.loop.counter c.in_ok-function.function c.read_named.new.bytes.now c.loop.invariant front.0 front.1)
 
 pub returns : goal.returns
-returns g c = (c.loop.invariant.parts, (omega (arith, c.loop.invariant.so_far), c.loop.invariant.fits))
+returns g c = rw c.from_vec.ensures (c.loop.invariant.parts, (omega (arith, c.loop.invariant.so_far), c.loop.invariant.fits))

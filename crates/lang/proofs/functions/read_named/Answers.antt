@@ -1,5 +1,4 @@
 use Rattle.std.proofs.Common.{sym, ◌∙◌}
-use Rattle.std.specs.Prelude.{map}
 use Rattle.std.proofs.lemmas.Result.{err_from_is_err_and}
 use Rattle.lang_base.proofs.Forms.{AreBytes}
 use Rattle.lang.proofs.Forms.{name_form}
@@ -30,4 +29,4 @@ returns g c =
     let are : AreBytes c.args.bytes.now.now = λ i. c.are_bytes.ensures i in
     let t = name_form.takes c.args.bytes.now.now c.in_ok-name.name.items c.read_name.new.bytes.now are c.in_ok-name.ensures in
     let is = rw c.deref.ensures.value at c.is_taken.ensures in
-    named_front g.L.Language.spelling g.L.Language.fits c.in_ok-name.name.items c.args.bytes.now.now c.read_name.new.bytes.now c.args.before.now c.in_ok-function.function _ t.fits t.parts (not_taken c.in_ok-name.name.items c.args.before.now (sym is ∙ c.if-is_taken.false)) c.in_ok-function.ensures.fits (behind_front c.read_name.new.bytes.now _ c.in_ok-function.length c.in_ok-function.ensures.front)
+    rw c.from_vec.ensures (named_front g.L.Language.spelling g.L.Language.fits c.in_ok-name.name.items c.args.bytes.now.now c.read_name.new.bytes.now c.args.before.now c.in_ok-function.function _ t.fits t.parts (not_taken c.in_ok-name.name.items c.args.before.now (sym is ∙ c.if-is_taken.false)) c.in_ok-function.ensures.fits (behind_front c.read_name.new.bytes.now _ c.in_ok-function.length c.in_ok-function.ensures.front))

@@ -1,16 +1,10 @@
-use Rattle.std.proofs.Common.{◌≡◌, ◌+◌, [], ◌∷◌, ◌++◌, List, refl, sym, ap, ◌∙◌}
-use Rattle.std.specs.Prelude.{map}
+use Rattle.std.proofs.Common.{◌+◌, sym, ap, ◌∙◌}
 use Rattle.std.proofs.lemmas.Result.{err_from_is_err_and}
-use Rattle.lang_base.specs.declared.program.Global.{Global}
 use Rattle.lang_base.proofs.Loops.{goes_on, stops}
 use Rattle.lang.specs.Form.{cells_of_all}
 use Rattle.lang.specs.Reading.{global}
 use Rattle.lang.proofs.Forms.{cells_push}
 use Rattle.lang.proofs.globals.read_so_many_globals.Goals as goal
-
-seen_push : (gs : List Global) (g : Global) → (gs ++ g ∷ []) ≡ gs ++ g ∷ []
-seen_push [] g = refl
-seen_push (h ∷ gs) g = ap (λ l. h ∷ l) (seen_push gs g)
 
 pub returns-in_err-global : goal.returns-in_err-global
 returns-in_err-global c =
@@ -19,8 +13,7 @@ returns-in_err-global c =
 
 pub loop-preserved : goal.loop-preserved
 loop-preserved c =
-    let push = seen_push c.loop.globals.items c.in_ok-global.global in
-    rw (c.in_ok-push.ensures.items, push) (record {
+    rw c.in_ok-push.ensures.items (record {
       under_way = goes_on (λ before. global (cells_of_all before)) c.args.count _ c.loop.globals.items c.loop.counter c.loop.bytes.now _ c.read_global.new.bytes.now c.loop-test.true c.loop.invariant.under_way (rw (← c.loop.invariant.total) c.in_ok-global.ensures.read);
       total = ap (λ n. n + c.in_ok-global.global.cells) c.loop.invariant.total ∙ sym (cells_push c.loop.globals.items c.in_ok-global.global);
       few = c.in_ok-global.ensures.few;

@@ -1,4 +1,4 @@
-use Rattle.std.proofs.Common.{◌≡◌, ◌≤◌, [], map}
+use Rattle.std.proofs.Common.{◌≡◌, ◌≤◌, []}
 use Rattle.lang_base.specs.Reading.{more}
 use Rattle.lang_base.proofs.Loops.{IsUnderWay}
 use Rattle.lang.specs.Form.{cells_of_all, cell_limit}
