@@ -1,6 +1,7 @@
-ghost use Rattle.std.specs.Prelude.{◌≡◌, ℕ, List, IfSome, slice_index_or};
-ghost use Rattle.c_program.specs.Values.{Variables, value, cell_of, truth};
+ghost use Rattle.std.specs.Prelude.{◌≡◌, IfSome, slice_index_or};
+ghost use Rattle.c_program.specs.Values.{value, cell_of, truth};
 ghost use Rattle.c_program.specs.Views.{term_tree};
+ghost use Rattle.c_meaning_machine.specs.AtOnce.{IsWorth};
 
 use crate::cells::Cells;
 use crate::operators::{on_one, on_two};
@@ -57,7 +58,7 @@ pub fn evaluate(term: &Term, locals: &[Option<u32>], globals: &[Cells]) -> Optio
 /// What a constant or a local is worth, without a call.
 #[inline(always)]
 fn leaf(term: &Term, locals: &[Option<u32>]) -> Option<Option<u32>>
-    ensures { IfSome result (λ word. (globals : List (List ℕ)) → word ≡ value (record { locals = locals.now; globals = globals }) (term_tree term.now)) }
+    ensures { IfSome result (IsWorth term.now locals.now) }
 {
     match term {
         Term::Constant(word) => Some(Some(*word)),

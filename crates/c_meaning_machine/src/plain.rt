@@ -1,9 +1,7 @@
 //! Actions that need no stack: they are done at once.
 
-ghost use Rattle.std.specs.Prelude.{◌≡◌, drop, take};
-ghost use Rattle.c_program.specs.Trees as T;
-ghost use Rattle.c_program.specs.Views.{term_tree, action_tree};
-ghost use Rattle.c_meaning_machine.specs.AtOnce.{Ran};
+ghost use Rattle.std.specs.Prelude.{◌≡◌, take};
+ghost use Rattle.c_meaning_machine.specs.AtOnce.{RanAt, Assigned, Stored};
 
 use crate::cells::Cells;
 use crate::evaluation::evaluate;
@@ -19,7 +17,7 @@ pub fn at_once(
     globals: &mut Vec<Cells>,
     action: &Action,
 ) -> Option<bool>
-    ensures ran { Ran result (action_tree action.now) (drop base locals.old.items) globals.old.items (drop base locals.new.items) globals.new.items }
+    ensures ran { RanAt base result action.now locals.old.items globals.old.items locals.new.items globals.new.items }
     ensures below { take base locals.new.items ≡ take base locals.old.items }
 {
     match action {
@@ -43,7 +41,7 @@ fn assign(
     number: usize,
     term: &Term,
 ) -> bool
-    ensures ran { Ran (Some result) (T.Give (Target.Local number) (T.Plain (term_tree term.now))) (drop base locals.old.items) globals.now (drop base locals.new.items) globals.now }
+    ensures ran { Assigned base result number term.now locals.old.items globals.now locals.new.items }
     ensures below { take base locals.new.items ≡ take base locals.old.items }
 {
     match evaluate(term, frame(locals, base), globals) {
@@ -64,7 +62,7 @@ fn store(
     index: &Term,
     value: &Term,
 ) -> bool
-    ensures { Ran (Some result) (T.Store global (term_tree index.now) (term_tree value.now)) (drop base locals.now) globals.old.items (drop base locals.now) globals.new.items }
+    ensures { Stored base result global index.now value.now locals.now globals.old.items globals.new.items }
 {
     let Some(index) = evaluate(index, frame(locals, base), globals) else {
         return false;

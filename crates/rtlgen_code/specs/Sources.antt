@@ -4,7 +4,7 @@ use Rattle.ints.specs.declared.conditions.Cond.TheVariants.{Nz}
 use Rattle.cminor_syntax.specs.declared.expression.Expression.{Expression}
 use Rattle.cminor_syntax.specs.declared.statement.Statement.{Statement}
 use Rattle.cminor_syntax.specs.Trees as T
-use Rattle.cminor_syntax.specs.Views.{expression_tree, statements_tree, optional_tree}
+use Rattle.cminor_syntax.specs.Views.{expression_tree, statement_tree, statements_tree, optional_tree}
 use Rattle.rtl_parts.specs.declared.arguments.Arguments.TheVariants.{One}
 use Rattle.rtl_language.specs.declared.instruction.Instruction.TheVariants.{Branch}
 use Rattle.rtlgen_definition.specs.Gen.{expression, operand, operands, places, statement, statements}
@@ -42,7 +42,12 @@ put_piece target word temporary = statement (T.Put target (expression_tree word)
 abbrev pub return_piece : Option Expression → ℕ → Piece
 return_piece value temporary = statement (T.Return (optional_tree expression_tree value)) temporary []
 
--- The piece of statements in order is added. The exits are the nodes behind the blocks around them, the inmost last.
+-- The piece of a statement is added. The exits are the nodes behind the blocks around it, the inmost last.
+abbrev pub AddsStatement : Statement → (temporary : ℕ) → (exits : List ℕ) → (next : ℕ) → (before after : Graph) → (begins : ℕ) → Type 0
+AddsStatement s temporary exits next before after begins =
+    Adds (statement (statement_tree s) temporary (reverse exits)) next before after begins
+
+-- the same of statements in order
 abbrev pub AddsStatements : List Statement → (temporary : ℕ) → (exits : List ℕ) → (next : ℕ) → (before after : Graph) → (begins : ℕ) → Type 0
 AddsStatements all temporary exits next before after begins =
     Adds (statements (statements_tree all) temporary (reverse exits)) next before after begins

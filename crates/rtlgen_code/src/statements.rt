@@ -1,11 +1,10 @@
 //! Statements, each made from its end. What calls itself does so at most as often as a statement is high.
 
-ghost use Rattle.std.specs.Prelude.{◌≡◌, ◌+◌, ◌<◌, All, IfOk, OnOk, reverse};
+ghost use Rattle.std.specs.Prelude.{◌≡◌, ◌+◌, ◌<◌, All, IfOk, OnOk};
 ghost use Rattle.cminor_syntax.specs.Trees as T;
 ghost use Rattle.cminor_syntax.specs.Views.{statement_tree, statements_tree};
 ghost use Rattle.rtlgen_definition.specs.Gen as G;
-ghost use Rattle.rtlgen_code.specs.Adding.{Adds};
-ghost use Rattle.rtlgen_code.specs.Sources.{AddsStatements};
+ghost use Rattle.rtlgen_code.specs.Sources.{AddsStatement, AddsStatements};
 
 use crate::blocks::{enter, exit_of, go_on, leave};
 use crate::plain::{add_call, add_put, add_return, add_store};
@@ -33,7 +32,7 @@ pub fn add_statement(
     next: u16,
 ) -> Result<u16, NoMemory>
     requires { temporary + G.statement_needs (statement_tree statement.now) < 65536 }
-    ensures added { IfOk result (λ entry. Adds (G.statement (statement_tree statement.now) temporary (reverse exits.old.items)) next graph.old graph.new entry) }
+    ensures added { IfOk result (AddsStatement statement.now temporary exits.old.items next graph.old graph.new) }
     ensures exits { OnOk result (exits.new.items ≡ exits.old.items) }
 {
     match statement {
