@@ -1,4 +1,5 @@
 pub mod Numbers
+pub mod Made
 pub mod Refused
 pub mod InRange
 pub use Rattle.rtlgen_definition.specs.Gen

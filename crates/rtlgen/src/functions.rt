@@ -1,10 +1,10 @@
 //! Functions.
 
-ghost use Rattle.std.specs.Prelude.{◌≡◌, ◌≤◌, [], length, IfOk, OnSome, MatchOption};
+ghost use Rattle.std.specs.Prelude.{◌≡◌, ◌≤◌, length, IfOk, OnSome};
 ghost use Rattle.rtlgen_code.specs.Adding.{Adds};
-ghost use Rattle.rtlgen_definition.specs.Gen.{statement, ends_with_value, numbers_from, ending, gen_function, gen_named, HasTooManyNodes};
-ghost use Rattle.rtlgen_definition.specs.Pieces.{both};
+ghost use Rattle.rtlgen_definition.specs.Gen.{numbers_from, ending, gen_function};
 ghost use Rattle.rtl_language.specs.Function.{node_limit};
+ghost use Rattle.rtlgen.specs.Made.{body_piece, IsMadeOf, IsMadeOfNamed};
 ghost use Rattle.rtlgen.specs.Refused.{HasFewNodes};
 
 use crate::{generated_fits, generated_is_small};
@@ -37,7 +37,7 @@ fn add_ending(graph: &mut Graph, is_left: bool) -> Result<u16, NoMemory>
 
 /// A body's code, and the node where it begins.
 fn add_body(alloc: Global, graph: &mut Graph, function: &CminorFunction) -> Result<u16, NoMemory>
-    ensures { IfOk result (λ entry. Adds (both (statement function.now.body function.now.variables []) (ending (ends_with_value function.now.body))) 0 graph.old graph.new entry) }
+    ensures { IfOk result (λ entry. Adds (body_piece function.now) 0 graph.old graph.new entry) }
 {
     generated_is_small();
     let body = function.body();
@@ -51,7 +51,7 @@ fn translate_function(
     alloc: Global,
     function: &CminorFunction,
 ) -> Result<Option<Function>, NoMemory>
-    ensures made { IfOk result (λ made. MatchOption made (HasTooManyNodes function.now) (λ f. f ≡ gen_function function.now)) }
+    ensures made { IfOk result (IsMadeOf function.now) }
     ensures few { IfOk result (λ made. OnSome made (length (gen_function function.now).nodes ≤ node_limit)) }
 {
     generated_fits();
@@ -77,7 +77,7 @@ pub(crate) fn translate_named(
     alloc: Global,
     named: &Named<CminorFunction>,
 ) -> Result<Option<Named<Function>>, NoMemory>
-    ensures made { IfOk result (λ made. MatchOption made (HasTooManyNodes named.now.function) (λ f. f ≡ gen_named named.now)) }
+    ensures made { IfOk result (IsMadeOfNamed named.now) }
     ensures few { IfOk result (λ made. OnSome made (HasFewNodes named.now)) }
 {
     let Some(function) = translate_function(alloc, &named.function)? else {

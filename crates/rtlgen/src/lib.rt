@@ -5,7 +5,6 @@
 
 mod errors;
 mod functions;
-mod globals;
 mod law;
 mod programs;
 

@@ -11,9 +11,9 @@ ghost use Rattle.rtlgen.specs.Refused.{HasFewNodes, IsRefused};
 use crate::errors::GenError;
 use crate::functions::translate_named;
 use crate::generated_is_small;
-use crate::globals::copy_globals;
 use cminor_language::Function as CminorFunction;
 use lang_base::{Named, Program, Row};
+use lang_programs::copy_globals;
 use rtl_language::Function;
 use rtlgen_definition::generated_keeps;
 use std::alloc::Global;
@@ -31,8 +31,8 @@ fn are_in_range(functions: &[Named<CminorFunction>])
 fn translate_functions(
     alloc: Global,
     functions: &[Named<CminorFunction>],
-) -> Result<Vec<Named<Function>>, GenError>
-    ensures ok { IfOk result (λ fs. fs.items ≡ map gen_named functions.now) }
+) -> Result<Row<Named<Function>>, GenError>
+    ensures ok { IfOk result (λ fs. fs ≡ map gen_named functions.now) }
     ensures few { OnOk result (All HasFewNodes functions.now) }
     ensures err { IfErr result (λ e. IsRefused functions.now e) }
 {
@@ -43,7 +43,7 @@ fn translate_functions(
             None => return Err(GenError::TooManyNodes(number)),
         }
     }
-    Ok(translated)
+    Ok(Row::from_vec(translated))
 }
 
 /// The RTL program of a Cminor program, or the first function that needs too many nodes.
@@ -55,12 +55,9 @@ fn translate_all(
     ensures few { OnOk result (All HasFewNodes program.now.functions) }
     ensures refused { IfErr result (λ e. IsRefused program.now.functions e) }
 {
-    let globals = copy_globals(alloc, program.globals.as_slice())?;
+    let globals = copy_globals(alloc, &program.globals)?;
     let functions = translate_functions(alloc, program.functions.as_slice())?;
-    Ok(Program {
-        globals: Row::from_vec(globals),
-        functions: Row::from_vec(functions),
-    })
+    Ok(Program { globals, functions })
 }
 
 /// The RTL program of a Cminor program, which keeps its meaning; or the first function that needs more than

@@ -1,15 +1,12 @@
 use Rattle.std.proofs.Common.{subst}
 use Rattle.std.specs.Prelude.{All}
-use Rattle.std.proofs.lemmas.List.Elements.{All-map, All-more}
+use Rattle.std.proofs.lemmas.List.Elements.{All-more}
 use Rattle.cminor_syntax.specs.Fits.{IsFunction}
 use Rattle.rtlgen.proofs.Firsts.{whole}
 use Rattle.rtlgen.proofs.programs.are_in_range.Goals as goal
 
 pub returns : goal.returns
-returns c =
-    let fs = c.args.functions.now in
-    let all = subst (λ xs. All (λ f. IsFunction f.function) xs) (whole fs c.loop-named.named-index c.loop-named-test.false) c.loop-named.invariant in
-    All-map (λ f. IsFunction f.function) fs all
+returns c = subst (All (λ f. IsFunction f.function)) (whole c.args.functions.now c.loop-named.named-index c.loop-named-test.false) c.loop-named.invariant
 
 pub loop-named-preserved : goal.loop-named-preserved
 loop-named-preserved c =

@@ -10,4 +10,4 @@ use Rattle.rtlgen.proofs.programs.translate.Goals as goal
 pub returns-clause-small : goal.returns-clause-small
 returns-clause-small c =
     IfOk-weaker _ (λ p. p ≡ gen c.args.program.now) _
-    (λ p e. subst (λ q. All (λ f. f.function.registers ≤ 2048) q.functions) (sym e) (all_small _ c.generated_is_small.ensures (subst (λ fs. All (λ f. IsFunction f.function) fs) c.as_slice.ensures.value c.are_in_range.ensures))) c.translate_all.ensures.same
+    (λ p e. subst (λ q. All (λ f. f.function.registers ≤ 2048) q.functions) (sym e) (all_small _ c.generated_is_small.ensures (subst (All (λ f. IsFunction f.function)) c.as_slice.ensures c.are_in_range.ensures))) c.translate_all.ensures.same

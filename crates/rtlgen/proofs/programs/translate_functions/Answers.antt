@@ -1,6 +1,6 @@
 use Rattle.std.proofs.Common.{subst}
 use Rattle.std.specs.Prelude.{All}
-use Rattle.std.proofs.lemmas.List.Elements.{All-map, All-more}
+use Rattle.std.proofs.lemmas.List.Elements.{All-more}
 use Rattle.rtlgen_definition.specs.Gen.{gen_named}
 use Rattle.rtlgen.specs.Refused.{HasFewNodes}
 use Rattle.rtlgen.proofs.Firsts.{whole, first_is, one_more}
@@ -20,10 +20,8 @@ loop-number-preserved c =
     let few = rw c.in-Some.is at c.in_ok-function.ensures.few in
     record {
       same = one_more gen_named all c.loop-number.translated.items c.push.new.self.items i here c.in-Some.function c.loop-number-test.true c.index-functions-number.is c.loop-number.invariant.same made c.in_ok-push-in-Some.ensures.items;
-      few = All-more (λ f. HasFewNodes f) all i here c.loop-number-test.true c.loop-number.invariant.few (subst (λ f. HasFewNodes f) c.index-functions-number.is few);
+      few = All-more HasFewNodes all i here c.loop-number-test.true c.loop-number.invariant.few (subst HasFewNodes c.index-functions-number.is few);
     }
 
 pub returns-clause-few : goal.returns-clause-few
-returns-clause-few c =
-    let fs = c.args.functions.now in
-    All-map HasFewNodes fs (subst (λ xs. All (λ f. HasFewNodes f) xs) (whole fs c.loop-number.number c.loop-number-test.false) c.loop-number.invariant.few)
+returns-clause-few c = subst (All HasFewNodes) (whole c.args.functions.now c.loop-number.number c.loop-number-test.false) c.loop-number.invariant.few

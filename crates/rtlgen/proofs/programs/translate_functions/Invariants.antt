@@ -7,5 +7,5 @@ use Rattle.rtlgen.proofs.programs.translate_functions.Given as goal
 abbrev pub invariant-loop-number : goal.invariant-loop-number
 invariant-loop-number l = record {
   same : l.translated.items ≡ map gen_named (take l.number l.functions);
-  few : All (λ f. HasFewNodes f) (take l.number l.functions);
+  few : All HasFewNodes (take l.number l.functions);
 }
