@@ -1,7 +1,6 @@
 -- What offers that are lent beside names link.
 use Rattle.std.proofs.Common.{◌≡◌, ℕ, zero, suc, ◌<◌, List, [], ◌∷◌, ◌++◌, length, take, map, get_or, Option, Some, None, refl, sym, ap, subst, ◌∙◌, arith}
 use Rattle.lang_base.specs.declared.program.Named as code
-use Rattle.lang_base.specs.declared.program.Named.{Named}
 use Rattle.rtl_language.specs.Function.{FunctionData}
 use Rattle.linear_language.specs.Function as linear
 use Rattle.linker_passes.specs.Chains.{HasChain, AllChained, made_of, all_made_of, names_of, names_beside}
@@ -72,7 +71,7 @@ all_go_on (f ∷ functions) (o ∷ offers) [] are all = absurd are
 all_go_on (f ∷ functions) (o ∷ offers) (n ∷ named) are all = (goes_on f.function o n.chain are.0.lends all.0, all_go_on functions offers named are.1 all.1)
 
 -- what is made is the output of the last offer
-one_end : (name : List ℕ) (o : Offers) (chain : Option Chain) (rest rest' : List (Named linear.FunctionData)) → LendsTo o chain → rest ≡ rest'
+one_end : (name : List ℕ) (o : Offers) (chain : Option Chain) (rest rest' : List (code.Named linear.FunctionData)) → LendsTo o chain → rest ≡ rest'
     → made_of (λ c. c.fourth.now.output) name chain ++ rest ≡ record { name = name; function = o.order.output } ∷ rest'
 one_end name o None rest rest' lent e = absurd lent
 one_end name o (Some chain) rest rest' lent e = λ i. record { name = name; function = (lent.fourth i).output } ∷ e i

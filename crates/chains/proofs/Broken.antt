@@ -2,7 +2,6 @@
 use Rattle.std.proofs.Common.{◌≡◌, ℕ, zero, suc, List, [], ◌∷◌, take, map, Option, Some, None, subst}
 use Rattle.std.specs.Prelude.{slice_get}
 use Rattle.lang_base.specs.declared.program.Named as code
-use Rattle.lang_base.specs.declared.program.Named.{Named}
 use Rattle.rtl_language.specs.Function.{FunctionData}
 use Rattle.linker_passes.specs.declared.errors.LinkError as chains
 use Rattle.linker_passes.specs.declared.errors.LinkError.TheVariants as chain
@@ -32,8 +31,8 @@ none_missing (f ∷ functions) (o ∷ offers) (n ∷ named) zero m are there mis
 none_missing (f ∷ functions) (o ∷ offers) (n ∷ named) (suc i) m are there missing = none_missing functions offers named i m are.1 there missing
 
 -- the chain that is broken is of offers that do not go on
-module _ (g : Named FunctionData) (m : Named) (chain : Chain) (offered : m.chain ≡ Some chain) (broken : IsChain g.function chain → ⊥) where
-  broken_here : (f : Named FunctionData) (o : Offers) (n : Named) → f ≡ g → n ≡ m → LendsTo o n.chain → GoOnFrom f.function o → ⊥
+module _ (g : code.Named FunctionData) (m : Named) (chain : Chain) (offered : m.chain ≡ Some chain) (broken : IsChain g.function chain → ⊥) where
+  broken_here : (f : code.Named FunctionData) (o : Offers) (n : Named) → f ≡ g → n ≡ m → LendsTo o n.chain → GoOnFrom f.function o → ⊥
   broken_here f o n ef en lent go =
       broken (subst (λ c. HasChain g.function c) offered (subst (λ x. HasChain g.function x.chain) en (subst (λ h. HasChain h.function n.chain) ef (has_chain f.function o n.chain lent go))))
 

@@ -1,7 +1,7 @@
 -- What the refusal of a program of RTL says of the program of Cminor that it was translated from.
 use Rattle.std.proofs.Common.{◌≡◌, ℕ, zero, suc, List, [], ◌∷◌, map, refl, sym, ap, ◌∙◌, subst, arith}
 use Rattle.std.specs.Prelude.{All}
-use Rattle.lang_base.specs.declared.program.Named.{Named}
+use Rattle.lang_base.specs.declared.program.Named as code
 use Rattle.lang_base.specs.declared.program.Program.{Program}
 use Rattle.cminor_syntax.specs.Trees.{FunctionTree}
 use Rattle.rtlgen_definition.specs.Gen.{gen, gen_named}
@@ -19,7 +19,7 @@ use Rattle.linker.specs.Numbers.{refusal_to_link, refusal_to_translate}
 use Rattle.linker.specs.Refused.{IsRefused}
 
 -- the translation keeps the names
-pub names_translated : (functions : List (Named FunctionTree)) → names_of (map gen_named functions) ≡ names_of functions
+pub names_translated : (functions : List (code.Named FunctionTree)) → names_of (map gen_named functions) ≡ names_of functions
 names_translated [] = refl
 names_translated (f ∷ functions) = ap (λ names. f.name ∷ names) (names_translated functions)
 
@@ -36,12 +36,12 @@ module _ {A2 A3 A4 A5 C1 C2 C3 C4 : Type 0} where
   refused_along program translated named e same told = refused_translated program named e (subst (λ p. Refusal p.functions named e) same told)
 
 -- where no function needs too many nodes, none is told
-none_too_large : (functions : List (Named FunctionTree)) (i : ℕ) → All translation.HasFewNodes functions → translation.IsFirstTooLarge functions i → ⊥
+none_too_large : (functions : List (code.Named FunctionTree)) (i : ℕ) → All translation.HasFewNodes functions → translation.IsFirstTooLarge functions i → ⊥
 none_too_large [] i few told = told
 none_too_large (f ∷ functions) zero few told = let have = few zero f (omega arith) in absurd (omega (arith, have, told))
 none_too_large (f ∷ functions) (suc i) few told = none_too_large functions i (λ k d below. few (suc k) d (omega (arith, below))) told.1
 
 -- so the translation refuses memory alone
-pub few_translate : (functions : List (Named FunctionTree)) (e : GenError) → All translation.HasFewNodes functions → translation.IsRefused functions e → refusal_to_translate e ≡ NoMemory
+pub few_translate : (functions : List (code.Named FunctionTree)) (e : GenError) → All translation.HasFewNodes functions → translation.IsRefused functions e → refusal_to_translate e ≡ NoMemory
 few_translate functions gen_error.NoMemory few told = refl
 few_translate functions (gen_error.TooManyNodes i) few told = absurd (none_too_large functions i few told)

@@ -1,8 +1,7 @@
 -- The first functions linked, and one more.
-use Rattle.std.proofs.Common.{◌≡◌, ℕ, zero, suc, ◌<◌, List, [], ◌∷◌, ◌++◌, length, take, map, get_or, Option, Some, None, sym, ap, ◌∙◌, subst, refl, arith}
+use Rattle.std.proofs.Common.{◌≡◌, ℕ, zero, suc, ◌<◌, List, [], ◌∷◌, ◌++◌, length, take, get_or, Option, Some, None, sym, ap, ◌∙◌, subst, refl, arith}
 use Rattle.std.specs.Prelude.{slice_get}
 use Rattle.std.proofs.lemmas.Option.{slice_get-get_or}
-use Rattle.std.proofs.lemmas.List.{get_or-map, length-map}
 use Rattle.offers.specs.declared.parts.Parts.{Parts}
 use Rattle.lang_base.specs.declared.program.Named as code
 use Rattle.linker_passes.specs.declared.chain.Chain.{Chain}
@@ -33,9 +32,10 @@ module _ {A1 A2 A3 A4 A5 C1 C2 C3 C4 : Type 0} (Valid : Chain (Parts A1 A2 C1) (
   linked_next (x ∷ functions) (y ∷ named) (suc n) (g ∷ all_made) f m made below below' ef em are is =
       (are.0, linked_next functions named n all_made f m made (omega (arith, below)) (omega (arith, below')) ef em are.1 is)
 
-  -- what is linked stays so along an equation
-  pub linked_along : (functions functions' : List (code.Named A1)) (named : List Beside) (all_made : List (code.Named A5)) → functions ≡ functions' → AreLinked Valid functions named all_made → AreLinked Valid functions' named all_made
-  linked_along functions functions' named all_made e are = subst (λ fs. AreLinked Valid fs named all_made) e are
+  -- what is linked stays so along equations
+  pub linked_along : (functions functions' : List (code.Named A1)) (named : List Beside) (all_made all_made' : List (code.Named A5)) → functions ≡ functions' → all_made' ≡ all_made
+      → AreLinked Valid functions named all_made → AreLinked Valid functions' named all_made'
+  linked_along functions functions' named all_made all_made' e e' are = subst (λ fs. AreLinked Valid fs named all_made') e (subst (λ gs. AreLinked Valid functions named gs) (sym e') are)
 
   pub has_chain : (f : A1) (chain : Option OfChain) (end : A5) → IsEnd Valid f chain end → HasChain f chain
   has_chain f None end is = is
@@ -72,8 +72,6 @@ module _ {A1 A2 A3 A4 A5 C1 C2 C3 C4 : Type 0} (Valid : Chain (Parts A1 A2 C1) (
       → AreLinked Valid (take n functions) (take n named) all_made → Tells n f.function m.chain e
       → Refusal functions named e
   first_fault functions named n all_made f m e below below' ef em are told =
-      let longer : n < length functions = rw (length-map functions named_seen) below in
-      let of : slice_get functions n ≡ Some f =
-      slice_get-get_or functions n f longer ∙ ap (λ g. Some g) (get_or-functions n f f below ∙ ap (sym ef)) in
+      let of : slice_get functions n ≡ Some f = slice_get-get_or functions n f below ∙ ap (λ g. Some g) (sym ef) in
       let there : slice_get named n ≡ Some m = slice_get-get_or named n m below' ∙ ap (λ g. Some g) (sym em) in
       refusal_at functions named n f m (chained_front functions named n all_made are) of there e told

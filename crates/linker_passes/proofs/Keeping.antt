@@ -1,12 +1,11 @@
 -- The programs of the outputs in between, each accepted for the one before it.
-use Rattle.std.proofs.Common.{◌≡◌, ℕ, List, [], ◌∷◌, ◌++◌, map, Option, Some, None, All, sym, ap, ◌∙◌, subst, refl}
+use Rattle.std.proofs.Common.{◌≡◌, ℕ, List, [], ◌∷◌, ◌++◌, Option, Some, None, All, sym, ap, ◌∙◌, subst, refl}
 use Rattle.std.proofs.lemmas.List.Elements.{All-nil, All-cons}
 use Rattle.offers.specs.declared.parts.Parts.{Parts}
 use Rattle.lang_base.specs.declared.program.Named as code
 use Rattle.lang_base.specs.Behaviour.{Behaviour}
 use Rattle.lang_base.specs.Keeps.{Keeps}
 use Rattle.lang_base.specs.declared.program.Global.{Global}
-use Rattle.lang_base.specs.declared.program.Named.{Named}
 use Rattle.lang_base.specs.declared.program.Program.{Program}
 use Rattle.lang_base.specs.Soundness.{AllFit, Accepted, AcceptedInTurn}
 use Rattle.lang_base.proofs.Composition.{keeps-composes}
@@ -28,7 +27,7 @@ module _ {A1 A2 A3 A4 A5 C1 C2 C3 C4 : Type 0} (Valid : Chain (Parts A1 A2 C1) (
   Are functions named all_made = AreLinked Valid functions named all_made
 
   -- the functions are the inputs of their first offers
-  begins_with : (f : code.Named A1) (chain : Option OfChain) (end : A5) (rest : List (Named A1)) → IsEnd Valid f.function chain end
+  begins_with : (f : code.Named A1) (chain : Option OfChain) (end : A5) (rest : List (code.Named A1)) → IsEnd Valid f.function chain end
       → f ∷ rest ≡ made_of (λ c. c.first.now.input) f.name chain ++ rest
   begins_with f None end rest is = absurd is
   begins_with f (Some chain) end rest is = ap (λ g. record { name = f.name; function = g } ∷ rest) (sym is.chained.first)
@@ -44,7 +43,7 @@ module _ {A1 A2 A3 A4 A5 C1 C2 C3 C4 : Type 0} (Valid : Chain (Parts A1 A2 C1) (
       ap (λ rest. x ∷ rest) (inputs functions named all_made are.1) ∙ begins_with x y.chain g.function _ are.0.end
 
   -- what is made are the outputs of the fourth offers
-  ends_with : (f : code.Named A1) (chain : Option OfChain) (made : code.Named A5) (rest : List (Named A5)) → made.name ≡ f.name → IsEnd Valid f.function chain made.function
+  ends_with : (f : code.Named A1) (chain : Option OfChain) (made : code.Named A5) (rest : List (code.Named A5)) → made.name ≡ f.name → IsEnd Valid f.function chain made.function
       → made ∷ rest ≡ made_of (λ c. c.fourth.now.output) f.name chain ++ rest
   ends_with f None made rest e is = absurd is
   ends_with f (Some chain) made rest e is = λ i. record { name = e i; function = is.same i } ∷ rest
@@ -81,7 +80,7 @@ module _ {A1 A2 A3 A4 A5 C1 C2 C3 C4 : Type 0} (Valid : Chain (Parts A1 A2 C1) (
 
   -- what holds of a part of each valid chain holds of all these parts
   module _ {F : Type 0} (part : OfChain → F) (Fits : F → Type 0) (fit : (f : A1) (c : OfChain) → IsChain f c → Valid c → Fits (part c)) where
-    one_fits : (f : A1) (name : List ℕ) (chain : Option OfChain) (end : A5) (rest : List (Named F)) → IsEnd Valid f chain end
+    one_fits : (f : A1) (name : List ℕ) (chain : Option OfChain) (end : A5) (rest : List (code.Named F)) → IsEnd Valid f chain end
         → All (λ g. Fits g.function) rest → All (λ g. Fits g.function) (made_of part name chain ++ rest)
     one_fits f name None end rest is all = absurd is
     one_fits f name (Some chain) end rest is all = All-cons (λ g. Fits g.function) (record { name = name; function = part chain }) rest (fit f chain is.chained is.valid) all
@@ -96,7 +95,7 @@ module _ {A1 A2 A3 A4 A5 C1 C2 C3 C4 : Type 0} (Valid : Chain (Parts A1 A2 C1) (
 
   -- where one part of each valid chain is accepted for another, so are the programs of these parts
   module _ {F G C : Type 0} (part : OfChain → F) (next : OfChain → G) (Accepts : F → G → C → Type 0) (accept : (f : A1) (c : OfChain) → IsChain f c → Valid c → (k : C) × Accepts (part c) (next c) k) where
-    one_accepted : (f : A1) (name : List ℕ) (chain : Option OfChain) (end : A5) (rest : List (Named F)) (rest' : List (Named G)) → IsEnd Valid f chain end
+    one_accepted : (f : A1) (name : List ℕ) (chain : Option OfChain) (end : A5) (rest : List (code.Named F)) (rest' : List (code.Named G)) → IsEnd Valid f chain end
         → AcceptedInTurn Accepts rest rest' → AcceptedInTurn Accepts (made_of part name chain ++ rest) (made_of next name chain ++ rest')
     one_accepted f name None end rest rest' is all = absurd is
     one_accepted f name (Some chain) end rest rest' is all = ((refl, accept f chain is.chained is.valid), all)

@@ -1,6 +1,6 @@
 -- Chains of four offers, one for each pass, and the programs that they link.
 use Rattle.std.specs.Prelude.{◌≡◌, ◌≢◌, ℕ, List, [], ◌∷◌, ◌++◌, map, take, slice_get, Option, Some, None}
-use Rattle.lang_base.specs.declared.program.Named.{Named}
+use Rattle.lang_base.specs.declared.program.Named as code
 use Rattle.lang_base.specs.declared.program.Program.{Program}
 use Rattle.offers.specs.declared.parts.Parts.{Parts}
 use Rattle.linker_passes.specs.declared.chain.Chain.{Chain}
@@ -9,7 +9,7 @@ use Rattle.linker_passes.specs.declared.errors.LinkError.{LinkError}
 use Rattle.linker_passes.specs.declared.errors.LinkError.TheVariants.{NoMemory, Missing, Unchained, Names}
 
 -- the names of a program's functions, and those beside offers
-abbrev pub names_of : {F : Type 0} → List (Named F) → List (List ℕ)
+abbrev pub names_of : {F : Type 0} → List (code.Named F) → List (List ℕ)
 names_of functions = map (λ f. f.name) functions
 
 abbrev pub names_beside : {O1 O2 O3 O4 : Type 0} → List (Named O1 O2 O3 O4) → List (List ℕ)
@@ -28,18 +28,18 @@ HasChain start None = ⊥
 HasChain start (Some chain) = IsChain start chain
 
 -- function by function
-abbrev pub AllChained : {A1 A2 A3 A4 A5 C1 C2 C3 C4 : Type 0} → List (Named A1) → List (Named (Parts A1 A2 C1) (Parts A2 A3 C2) (Parts A3 A4 C3) (Parts A4 A5 C4)) → Type 0
+abbrev pub AllChained : {A1 A2 A3 A4 A5 C1 C2 C3 C4 : Type 0} → List (code.Named A1) → List (Named (Parts A1 A2 C1) (Parts A2 A3 C2) (Parts A3 A4 C3) (Parts A4 A5 C4)) → Type 0
 AllChained [] [] = Unit {0}
 AllChained [] (n ∷ named) = ⊥
 AllChained (f ∷ functions) [] = ⊥
 AllChained (f ∷ functions) (n ∷ named) = HasChain f.function n.chain × AllChained functions named
 
 -- what is made of a function by its chain; without one nothing
-abbrev pub made_of : {F O1 O2 O3 O4 : Type 0} → (Chain O1 O2 O3 O4 → F) → List ℕ → Option (Chain O1 O2 O3 O4) → List (Named F)
+abbrev pub made_of : {F O1 O2 O3 O4 : Type 0} → (Chain O1 O2 O3 O4 → F) → List ℕ → Option (Chain O1 O2 O3 O4) → List (code.Named F)
 made_of make name None = []
 made_of make name (Some chain) = record { name = name; function = make chain } ∷ []
 
-abbrev pub all_made_of : {A F O1 O2 O3 O4 : Type 0} → (Chain O1 O2 O3 O4 → F) → List (Named A) → List (Named O1 O2 O3 O4) → List (Named F)
+abbrev pub all_made_of : {A F O1 O2 O3 O4 : Type 0} → (Chain O1 O2 O3 O4 → F) → List (code.Named A) → List (Named O1 O2 O3 O4) → List (code.Named F)
 all_made_of make [] named = []
 all_made_of make (f ∷ functions) [] = []
 all_made_of make (f ∷ functions) (n ∷ named) = made_of make f.name n.chain ++ all_made_of make functions named
@@ -49,16 +49,16 @@ abbrev pub linked : {A O1 O2 O3 I F C : Type 0} → Program A → List (Named O1
 linked program named = record { globals = program.globals; functions = all_made_of (λ chain. chain.fourth.now.output) program.functions named }
 
 -- the functions before this one are chained, and it has no offers
-pub record IsMissing {A1 A2 A3 A4 A5 C1 C2 C3 C4 : Type 0} (functions : List (Named A1)) (named : List (Named (Parts A1 A2 C1) (Parts A2 A3 C2) (Parts A3 A4 C3) (Parts A4 A5 C4))) (i : ℕ) : Type 0 where
+pub record IsMissing {A1 A2 A3 A4 A5 C1 C2 C3 C4 : Type 0} (functions : List (code.Named A1)) (named : List (Named (Parts A1 A2 C1) (Parts A2 A3 C2) (Parts A3 A4 C3) (Parts A4 A5 C4))) (i : ℕ) : Type 0 where
   pub before : AllChained (take i functions) (take i named)
   pub beside : Named (Parts A1 A2 C1) (Parts A2 A3 C2) (Parts A3 A4 C3) (Parts A4 A5 C4)
   pub there : slice_get named i ≡ Some beside
   pub missing : beside.chain ≡ None
 
 -- the functions before this one are chained, and its offers do not go on from it
-pub record IsUnchained {A1 A2 A3 A4 A5 C1 C2 C3 C4 : Type 0} (functions : List (Named A1)) (named : List (Named (Parts A1 A2 C1) (Parts A2 A3 C2) (Parts A3 A4 C3) (Parts A4 A5 C4))) (i : ℕ) : Type 0 where
+pub record IsUnchained {A1 A2 A3 A4 A5 C1 C2 C3 C4 : Type 0} (functions : List (code.Named A1)) (named : List (Named (Parts A1 A2 C1) (Parts A2 A3 C2) (Parts A3 A4 C3) (Parts A4 A5 C4))) (i : ℕ) : Type 0 where
   pub before : AllChained (take i functions) (take i named)
-  pub function : Named A1
+  pub function : code.Named A1
   pub beside : Named (Parts A1 A2 C1) (Parts A2 A3 C2) (Parts A3 A4 C3) (Parts A4 A5 C4)
   pub chain : Chain (Parts A1 A2 C1) (Parts A2 A3 C2) (Parts A3 A4 C3) (Parts A4 A5 C4)
   pub of : slice_get functions i ≡ Some function
@@ -67,7 +67,7 @@ pub record IsUnchained {A1 A2 A3 A4 A5 C1 C2 C3 C4 : Type 0} (functions : List (
   pub broken : IsChain function.function chain → ⊥
 
 -- why a program is not linked: the first fault, the names before the chains
-abbrev pub Refusal : {A1 A2 A3 A4 A5 C1 C2 C3 C4 : Type 0} → List (Named A1) → List (Named (Parts A1 A2 C1) (Parts A2 A3 C2) (Parts A3 A4 C3) (Parts A4 A5 C4)) → LinkError → Type 0
+abbrev pub Refusal : {A1 A2 A3 A4 A5 C1 C2 C3 C4 : Type 0} → List (code.Named A1) → List (Named (Parts A1 A2 C1) (Parts A2 A3 C2) (Parts A3 A4 C3) (Parts A4 A5 C4)) → LinkError → Type 0
 Refusal functions named NoMemory = Unit {0}
 Refusal functions named Names = names_beside named ≢ names_of functions
 Refusal functions named (Missing i) = IsMissing functions named i

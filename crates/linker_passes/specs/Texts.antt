@@ -1,7 +1,7 @@
 -- Chains whose neighbours have equal texts: the input of each offer is spelled as the output of the one before it, and the
 -- input of the first as the function.
 use Rattle.std.specs.Prelude.{◌≡◌, ℕ, List, [], ◌∷◌, Option, Some, None}
-use Rattle.lang_base.specs.declared.program.Named.{Named}
+use Rattle.lang_base.specs.declared.program.Named as code
 use Rattle.offers.specs.declared.parts.Parts.{Parts}
 use Rattle.linker_passes.specs.declared.chain.Chain.{Chain}
 use Rattle.linker_passes.specs.declared.chain.Named.{Named}
@@ -19,7 +19,7 @@ module _ {A1 A2 A3 A4 A5 C1 C2 C3 C4 : Type 0} (text1 : A1 → List ℕ) (text2 
   HasTextChain start (Some chain) = IsTextChain start chain
 
   -- function by function
-  abbrev pub AllTextChained : List (Named A1) → List (Named (Parts A1 A2 C1) (Parts A2 A3 C2) (Parts A3 A4 C3) (Parts A4 A5 C4)) → Type 0
+  abbrev pub AllTextChained : List (code.Named A1) → List (Named (Parts A1 A2 C1) (Parts A2 A3 C2) (Parts A3 A4 C3) (Parts A4 A5 C4)) → Type 0
   AllTextChained [] [] = Unit {0}
   AllTextChained [] (n ∷ named) = ⊥
   AllTextChained (f ∷ functions) [] = ⊥

@@ -1,6 +1,6 @@
 -- One more place; behind the last one, all functions' offers chain where their texts are equal.
-use Rattle.std.proofs.Common.{◌≡◌, ◌<◌, ◌≤◌, ℕ, length, arith, refl}
-use Rattle.linker_passes.proofs.SameTexts.{FollowBefore, all_follow, follow_next, as_many}
+use Rattle.std.proofs.Common.{◌≡◌, ◌<◌, length, arith, refl}
+use Rattle.linker_passes.proofs.SameTexts.{all_follow, follow_next, as_many}
 use Rattle.linker_passes.proofs.laws.text_chains.Goals as goal
 
 pub loop-number-preserved : goal.loop-number-preserved

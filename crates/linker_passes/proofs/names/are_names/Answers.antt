@@ -7,4 +7,4 @@ pub returns-then-not-is_name : goal.returns-then-not-is_name
 returns-then-not-is_name g c =
     let in_functions = c.loop-number-test.true in
     let in_named : c.loop-number.number < length c.args.named.now = omega (arith, c.loop-number.invariant.0, in_functions) in
-    (λ yes. let never : ⊥ = cc in absurd never, λ e. c.if-not-is_name.ensures.1 (c.as_slice.ensures.value ∙ same_name_at _ _ _ _ _ in_functions in_named e))
+    (λ yes. let never : ⊥ = cc in absurd never, λ e. c.if-not-is_name.ensures.1 (c.as_slice.ensures ∙ same_name_at _ _ _ _ _ in_functions in_named e))

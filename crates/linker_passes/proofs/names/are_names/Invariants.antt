@@ -1,4 +1,4 @@
-use Rattle.std.proofs.Common.{◌≡◌, length, map, take}
+use Rattle.std.proofs.Common.{◌≡◌, length, take}
 use Rattle.linker_passes.specs.Chains.{names_beside, names_of}
 use Rattle.linker_passes.proofs.names.are_names.Given as goal
 
