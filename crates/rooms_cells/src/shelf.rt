@@ -91,7 +91,8 @@ impl<T: Drop> Sights<T> {
     /// Reads cell `j`. What was seen stays.
     pub fn look(&mut self, j: usize)
         requires { j < 7 }
-        ensures { Read j self.old self.new }
+        ensures read { Read j self.old self.new }
+        ensures cells { names_of self.new ≡ names_of self.old }
     {
         let sight = &mut self.sights[j];
         sight.look(self.shelf.cell(j));
@@ -100,22 +101,25 @@ impl<T: Drop> Sights<T> {
     /// Puts the value into cell `j`, if the cell takes it.
     pub fn put(&mut self, alloc: Global, j: usize, value: Arc<T>) -> Put<Arc<T>>
         requires { j < 7 }
-        ensures { IsPutAt result value (arc_value value) j self.old self.new }
+        ensures put { IsPutAt result value (arc_value value) j self.old self.new }
+        ensures cells { names_of self.new ≡ names_of self.old }
+        ensures size { length self.old ≡ 7 }
     {
         let sight = &mut self.sights[j];
         sight.put(alloc, self.shelf.cell(j), value)
     }
 
-    /// What two seats have seen in cell `j` of one shelf is equal.
+    /// What two seats have seen in cell `j` of one shelf is equal. No shelf has a cell from 7 on.
     pub fn compare(&mut self, other: &mut Sights<T>, j: usize)
-        requires place { j < 7 }
-        requires shelf { names_of self.old ≡ names_of other.old }
+        requires { names_of self.old ≡ names_of other.old }
         ensures mine { self.new ≡ self.old }
         ensures other { other.new ≡ other.old }
         ensures same { (x y : T) → value_at self.old j ≡ Some x → value_at other.old j ≡ Some y → x ≡ y }
     {
-        let sight = &mut self.sights[j];
-        sight.compare(&mut other.sights[j]);
+        if j < 7 {
+            let sight = &mut self.sights[j];
+            sight.compare(&mut other.sights[j]);
+        }
     }
 
     /// The value of cell `j`, as it was seen.

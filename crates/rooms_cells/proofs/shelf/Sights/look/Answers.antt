@@ -1,5 +1,5 @@
 use Rattle.std.proofs.Common.{◌≡◌, sym, ap, ◌∙◌, subst, ◌<◌, ℕ, List, length, length-set, get_or}
-use Rattle.rooms_cells.specs.Seen.{SightOf, IsOnShelf}
+use Rattle.rooms_cells.specs.Seen.{SightOf, IsOnShelf, names_of}
 use Rattle.rooms_cells.proofs.Rows.{get_or-map, map-set_same}
 use Rattle.rooms_cells.proofs.shelf.Sights.look.Goals as goal
 
@@ -16,3 +16,7 @@ invariant_of-self g c =
       size = length-set c.self.inside.sights c.args.j c.look.new.self ∙ shelf.size;
       names = map-set_same (λ s. s.cell) c.self.inside.sights c.args.j c.look.new.self c.index-self-j.result c.look.ensures.cell ∙ shelf.names;
     }
+
+pub returns-clause-cells : goal.returns-clause-cells
+returns-clause-cells g c =
+    map-set_same (λ s. s.cell) c.self.inside.sights c.args.j c.look.new.self c.index-self-j.result c.look.ensures.cell ∙ ap (λ s. names_of s) c.self.view_is

@@ -1,5 +1,5 @@
 use Rattle.std.proofs.Common.{◌≡◌, sym, ap, ◌∙◌, subst, ◌<◌, ℕ, List, length, length-set, get_or}
-use Rattle.rooms_cells.specs.Seen.{SightOf, IsOnShelf}
+use Rattle.rooms_cells.specs.Seen.{SightOf, IsOnShelf, names_of}
 use Rattle.rooms_cells.proofs.Rows.{get_or-map, map-set_same, put_cell}
 use Rattle.rooms_cells.proofs.shelf.Sights.put.Goals as goal
 
@@ -16,3 +16,10 @@ invariant_of-self g c =
       size = length-set c.self.inside.sights c.args.j c.put.new.self ∙ shelf.size;
       names = map-set_same (λ s. s.cell) c.self.inside.sights c.args.j c.put.new.self c.index-self-j.result (put_cell c.put.result _ _ _ _ c.put.ensures) ∙ shelf.names;
     }
+
+pub returns-clause-cells : goal.returns-clause-cells
+returns-clause-cells g c =
+    map-set_same (λ s. s.cell) c.self.inside.sights c.args.j c.put.new.self c.index-self-j.result (put_cell c.put.result _ _ _ _ c.put.ensures) ∙ ap (λ s. names_of s) c.self.view_is
+
+pub returns-clause-size : goal.returns-clause-size
+returns-clause-size g c = ap (λ (s : List (SightOf g.row.T.Denot)). length s) (sym c.self.view_is) ∙ c.self.invariant.size

@@ -1,0 +1,15 @@
+//! A room: nodes that agree by Paxos on one node's offer, over shared atomic words and write-once cells. Each call of a
+//! seat is exactly one load or store of one word, but `meet` and `forget`, which load more; none takes a lock or waits, and
+//! all but `offer` take no memory. What a seat learns is learned in a run of the protocol that has the room's words.
+#![tactic(auto)]
+
+mod meeting;
+mod room;
+mod seat;
+
+pub use meeting::meet;
+pub use room::open;
+pub use rooms_cells::Put;
+pub use rooms_seat::Meeting;
+pub use rooms_state::act::Act;
+pub use seat::Seat;
