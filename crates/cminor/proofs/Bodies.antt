@@ -1,6 +1,6 @@
 -- A function's body: its last action, and statements with one behind them.
 use Rattle.std.proofs.Common.{◌≡◌, ◌≤◌, ◌<◌, ◌-◌, ℕ, suc, List, [], ◌∷◌, ◌++◌, length, Option, Some, None, refl, sym, ap, ◌∙◌, arith}
-use Rattle.std.specs.Prelude.{Bool, true, false, slice_get, if◌then◌else◌}
+use Rattle.std.specs.Prelude.{Bool, true, false, slice_get}
 use Rattle.c_program.specs.declared.action.Action.{Action}
 use Rattle.c_program.specs.Views.{action_tree, actions_tree}
 use Rattle.cminor_syntax.specs.declared.statement.Statement.{Statement}
@@ -8,6 +8,7 @@ use Rattle.cminor_syntax.specs.Trees.{ExpressionTree, StatementTree, StatementsT
 use Rattle.cminor_syntax.specs.Views.{statement_tree, statements_tree}
 use Rattle.cminor_syntax.specs.Fits.{MaybeFits, ExpressionFits, StatementFits, StatementsFit}
 use Rattle.cminor_lowering.specs.Programs.{is_return, ends_with_return, followed_by}
+use Rattle.cminor.specs.Bodies.{zero_or_nothing}
 use Rattle.std.specs.List.{AllByRecursion}
 
 -- ---- the last action
@@ -33,10 +34,6 @@ one_behind (t ∷ ss) s = ap (λ l. First (statement_tree t) l) (one_behind ss s
 pub none_behind : (ss : StatementsTree) → followed_by ss Done ≡ ss
 none_behind Done = refl
 none_behind (First s rest) = ap (λ l. First s l) (none_behind rest)
-
--- what is done where the end of a body is reached
-abbrev zero_or_nothing : Bool → StatementsTree
-zero_or_nothing b = if b then First (Return (Some (Number 0))) Done else Done
 
 pub ends_here : (ss : List Statement) (before last : StatementsTree) (b : Bool) → statements_tree ss ≡ before → last ≡ zero_or_nothing b → b ≡ false →
     statements_tree ss ≡ followed_by before last

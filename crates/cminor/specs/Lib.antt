@@ -1,4 +1,6 @@
 pub mod Room
+pub mod Parts
+pub mod Bodies
 pub use Rattle.cminor_lowering.specs.Programs
 pub use Rattle.cminor_lowering.specs.Short
 pub use Rattle.lang_base.specs.Keeps

@@ -1,9 +1,9 @@
 //! Expressions put together from their parts.
 
 ghost use Rattle.std.specs.Prelude.{◌≡◌, IfOk};
-ghost use Rattle.cminor_syntax.specs.Trees as T;
 ghost use Rattle.cminor_syntax.specs.Views.{expression_tree};
 ghost use Rattle.cminor_lowering.specs.Terms.{truth_of};
+ghost use Rattle.cminor.specs.Parts.{choice_tree};
 
 use cminor_syntax::Expression;
 use lang_base::NoMemory;
@@ -24,7 +24,7 @@ pub fn choice(
     then: Expression,
     other: Expression,
 ) -> Result<Expression, NoMemory>
-    ensures { IfOk result (λ e. expression_tree e ≡ T.Choice (expression_tree condition) (expression_tree then) (expression_tree other)) }
+    ensures { IfOk result (λ e. expression_tree e ≡ choice_tree condition then other) }
 {
     let (values, condition) = beside((then, other), boxed(alloc, condition))?;
     let (then, other) = values;

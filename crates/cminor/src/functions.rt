@@ -1,12 +1,12 @@
 //! Functions.
 
-ghost use Rattle.std.specs.Prelude.{◌≡◌, suc, All, IfOk, map, if◌then◌else◌};
+ghost use Rattle.std.specs.Prelude.{◌≡◌, All, IfOk, map};
 ghost use Rattle.c_program.specs.Views.{action_tree, actions_tree, function_tree};
 ghost use Rattle.cminor_syntax.specs.Fits.{IsFunction, StatementFits};
-ghost use Rattle.cminor_syntax.specs.Trees as T;
 ghost use Rattle.cminor_syntax.specs.Views.{statements_tree};
-ghost use Rattle.cminor_lowering.specs.Actions.{low_action, low_actions};
-ghost use Rattle.cminor_lowering.specs.Programs.{ends_with_return, followed_by, is_return, low_ending, low_function, low_named};
+ghost use Rattle.cminor_lowering.specs.Actions.{low_action};
+ghost use Rattle.cminor_lowering.specs.Programs.{ends_with_return, is_return, low_function, low_named};
+ghost use Rattle.cminor.specs.Bodies.{body_of, ending_of, zero_or_nothing};
 
 use crate::lower_actions;
 use c_program::{Action, Ending, Function as CFunction, Target};
@@ -38,7 +38,7 @@ fn ends_with_return(actions: &[Action]) -> bool
 
 /// Whether 0 is returned where the end of the body is reached.
 fn returns_zero(function: &CFunction) -> bool
-    ensures { low_ending function.now.ending (ends_with_return (actions_tree function.now.body)) ≡ (if result then T.First (T.Return (Some (T.Number 0))) T.Done else T.Done) }
+    ensures { ending_of (function_tree function.now) ≡ zero_or_nothing result }
 {
     match function.ending {
         Ending::ReturnsZero => !ends_with_return(function.body.as_slice()),
@@ -49,7 +49,7 @@ fn returns_zero(function: &CFunction) -> bool
 /// What a function does, in order, also where the end of its body is reached.
 fn lower_body(alloc: Global, spare: u16, function: &CFunction) -> Result<Vec<Statement>, NoMemory>
     requires { All (λ a. StatementFits 65536 (low_action spare (action_tree a))) function.now.body }
-    ensures { IfOk result (λ ss. statements_tree ss.items ≡ followed_by (low_actions spare (actions_tree function.now.body)) (low_ending function.now.ending (ends_with_return (actions_tree function.now.body)))) }
+    ensures { IfOk result (λ ss. statements_tree ss.items ≡ body_of spare (function_tree function.now)) }
 {
     let mut body = lower_actions(alloc, spare, function.body.as_slice())?;
     if returns_zero(function) {
@@ -82,13 +82,13 @@ fn lower_named(alloc: Global, function: &CFunction) -> Result<Named<Function>, N
 pub(crate) fn lower_functions(
     alloc: Global,
     functions: &[CFunction],
-) -> Result<Vec<Named<Function>>, NoMemory>
+) -> Result<Row<Named<Function>>, NoMemory>
     requires { All (λ f. IsFunction (low_function (function_tree f))) functions.now }
-    ensures { IfOk result (λ fs. fs.items ≡ map low_named (map function_tree functions.now)) }
+    ensures { IfOk result (λ fs. fs ≡ map low_named (map function_tree functions.now)) }
 {
     let mut lowered = Vec::new(alloc);
     for function in functions {
         lowered.push(lower_named(alloc, function)?)?;
     }
-    Ok(lowered)
+    Ok(Row::from_vec(lowered))
 }

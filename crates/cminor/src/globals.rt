@@ -36,13 +36,13 @@ fn lower_global(alloc: Global, global: &GlobalVariable) -> Result<lang_base::Glo
 pub(crate) fn lower_globals(
     alloc: Global,
     globals: &[GlobalVariable],
-) -> Result<Vec<lang_base::Global>, NoMemory>
+) -> Result<Row<lang_base::Global>, NoMemory>
     requires { All (λ g. g.cells < 4294967296) globals.now }
-    ensures { IfOk result (λ gs. gs.items ≡ map low_global globals.now) }
+    ensures { IfOk result (λ gs. gs ≡ map low_global globals.now) }
 {
     let mut lowered = Vec::new(alloc);
     for global in globals {
         lowered.push(lower_global(alloc, global)?)?;
     }
-    Ok(lowered)
+    Ok(Row::from_vec(lowered))
 }

@@ -3,7 +3,8 @@
 ghost use Rattle.std.specs.Prelude.{◌≡◌, IfOk};
 ghost use Rattle.cminor_syntax.specs.Trees as T;
 ghost use Rattle.cminor_syntax.specs.Views.{expression_tree, statement_tree};
-ghost use Rattle.cminor_lowering.specs.Actions.{two, turn};
+ghost use Rattle.cminor_lowering.specs.Actions.{two};
+ghost use Rattle.cminor.specs.Parts.{three_tree, turn_tree, turns_tree};
 
 use cminor_codec::sequence;
 use cminor_syntax::{Expression, Statement};
@@ -32,7 +33,7 @@ fn three(
     second: Statement,
     third: Statement,
 ) -> Result<Statement, NoMemory>
-    ensures { IfOk result (λ s. statement_tree s ≡ T.Sequence (T.First (statement_tree first) (T.First (statement_tree second) (T.First (statement_tree third) T.Done)))) }
+    ensures { IfOk result (λ s. statement_tree s ≡ three_tree first second third) }
 {
     Ok(sequence(vec![in alloc; first, second, third]?))
 }
@@ -61,7 +62,7 @@ fn turn(
     body: Statement,
     behind: Statement,
 ) -> Result<Statement, NoMemory>
-    ensures { IfOk result (λ s. statement_tree s ≡ turn (expression_tree condition) (statement_tree body) (statement_tree behind)) }
+    ensures { IfOk result (λ s. statement_tree s ≡ turn_tree condition body behind) }
 {
     let (parts, head) = beside((body, behind), head(alloc, condition))?;
     let (body, behind) = parts;
@@ -77,7 +78,7 @@ pub(crate) fn turns(
     body: Statement,
     behind: Statement,
 ) -> Result<Statement, NoMemory>
-    ensures { IfOk result (λ s. statement_tree s ≡ T.Block (T.Loop (turn (expression_tree condition) (statement_tree body) (statement_tree behind)))) }
+    ensures { IfOk result (λ s. statement_tree s ≡ turns_tree condition body behind) }
 {
     let turn = turn(alloc, condition, body, behind)?;
     block(alloc, Statement::Loop(Box::new(alloc, turn)?))

@@ -16,7 +16,7 @@ use crate::lowered_keeps;
 use c_checker_rules::CProgram;
 use cminor_language::Function;
 use cminor_lowering_ranges::lowered_fits;
-use lang_base::{NoMemory, Program, Row};
+use lang_base::{NoMemory, Program};
 use std::alloc::Global;
 
 /// The Cminor program of a program whose parts are in range.
@@ -27,10 +27,7 @@ fn lower_all(alloc: Global, program: &CProgram) -> Result<Program<Function>, NoM
 {
     let globals = lower_globals(alloc, program.globals())?;
     let functions = lower_functions(alloc, program.functions())?;
-    Ok(Program {
-        globals: Row::from_vec(globals),
-        functions: Row::from_vec(functions),
-    })
+    Ok(Program { globals, functions })
 }
 
 /// The Cminor program of a checked C program, which keeps its meaning (Leroy 2009, sections 2.1 and 3.1). The

@@ -1,12 +1,13 @@
 //! Values, and what they are given to.
 
-ghost use Rattle.std.specs.Prelude.{◌≡◌, ◌<◌, ℕ, Option, All, IfOk, map};
+ghost use Rattle.std.specs.Prelude.{◌≡◌, ◌<◌, ℕ, Option, All, IfOk};
 ghost use Rattle.c_program.specs.Views.{term_tree, given_tree};
 ghost use Rattle.cminor_syntax.specs.Fits.{ExpressionFits, StatementFits};
 ghost use Rattle.cminor_syntax.specs.Trees.{StatementTree};
 ghost use Rattle.cminor_syntax.specs.Views.{statement_tree};
 ghost use Rattle.cminor_lowering.specs.Actions.{low_plain, low_given_by, low_given};
 ghost use Rattle.cminor_lowering.specs.Terms.{low_term};
+ghost use Rattle.c_program.specs.declared.action.Value.TheVariants.{Call};
 ghost use Rattle.c_program.specs.Trees as T;
 ghost use Rattle.cminor.specs.Room.{HasRoom};
 
@@ -77,7 +78,7 @@ fn lower_call(
     requires function { called.now.function < 256 }
     requires target { HasRoom target }
     requires arguments { All (λ t. ExpressionFits 65536 (low_term (term_tree t))) called.now.arguments }
-    ensures { IfOk result (λ s. statement_tree s ≡ low_given spare target (T.Called called.now.function (map term_tree called.now.arguments))) }
+    ensures { IfOk result (λ s. statement_tree s ≡ low_given spare target (given_tree (Call called.now))) }
 {
     let arguments = lower_terms(alloc, called.arguments.as_slice())?;
     let variable = variable_for(spare, target);
