@@ -1,8 +1,9 @@
 //! The whole text.
 
-ghost use Rattle.std.specs.Prelude.{◌≡◌, ◌≢◌, IfOk, IfErr, IsErrAnd, MatchResult, List};
+ghost use Rattle.std.specs.Prelude.{◌≡◌, ◌≢◌, IfOk, IfErr, IsErrAnd, List};
 ghost use Rattle.c_syntax.specs.declared.token.Token.{Token};
 ghost use Rattle.c_lexer_parts.specs.declared.errors.LexError.{LexError};
+ghost use Rattle.c_lexer.specs.Answers.{GivesTokens};
 ghost use Rattle.c_lexer.specs.Texts.{HasFault, HasTokens};
 
 use c_lexer_parts::{LexError, first_part};
@@ -39,7 +40,7 @@ pub fn lex(alloc: Global, text: &[u8]) -> Result<Vec<Token>, LexError>
     // The text has this fault, unless memory ran out.
     ensures err { IfErr result (λ e. e ≢ LexError.NoMemory → HasFault text.now e) }
     // A text that has tokens is given these, unless memory runs out.
-    ensures only { (tokens : List Token) → HasTokens text.now tokens → MatchResult result (λ v. v.items ≡ tokens) (λ e. e ≡ LexError.NoMemory) }
+    ensures only { (tokens : List Token) → HasTokens text.now tokens → GivesTokens tokens result }
     // A text that has a fault is refused with it, unless memory runs out.
     ensures first { (e : LexError) → HasFault text.now e → IsErrAnd result (λ f. f ≢ LexError.NoMemory → f ≡ e) }
 {
