@@ -1,5 +1,5 @@
 -- What offers that are lent beside names link.
-use Rattle.std.proofs.Common.{◌≡◌, ℕ, zero, suc, ◌<◌, List, [], ◌∷◌, ◌++◌, length, take, map, get_or, Option, Some, None, refl, sym, ap, subst, ◌∙◌, arith}
+use Rattle.std.proofs.Common.{◌≡◌, ℕ, zero, suc, ◌<◌, List, [], ◌∷◌, ◌++◌, length, take, get_or, Option, Some, None, refl, sym, ap, subst, ◌∙◌, arith}
 use Rattle.lang_base.specs.declared.program.Named as code
 use Rattle.rtl_language.specs.Function.{FunctionData}
 use Rattle.linear_language.specs.Function as linear

@@ -1,5 +1,5 @@
 -- What a refusal to link the chains says of the offers.
-use Rattle.std.proofs.Common.{◌≡◌, ℕ, zero, suc, List, [], ◌∷◌, take, map, Option, Some, None, subst}
+use Rattle.std.proofs.Common.{◌≡◌, ℕ, zero, suc, List, [], ◌∷◌, take, Option, Some, None, subst}
 use Rattle.std.specs.Prelude.{slice_get}
 use Rattle.lang_base.specs.declared.program.Named as code
 use Rattle.rtl_language.specs.Function.{FunctionData}

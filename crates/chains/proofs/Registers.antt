@@ -1,9 +1,7 @@
 -- Functions of few registers: passes 1 and 2 keep the number, whatever is offered to them.
-use Rattle.std.proofs.Common.{◌≡◌, ℕ, ◌<◌, ◌≤◌, List, length, map, get_or, sym, ap, subst, ◌∙◌}
+use Rattle.std.proofs.Common.{◌≡◌, ℕ, ◌<◌, ◌≤◌, List, length, get_or, sym, subst, ◌∙◌}
 use Rattle.std.specs.Prelude.{All}
-use Rattle.std.proofs.lemmas.List.{get_or-map, length-map}
 use Rattle.std.proofs.lemmas.List.Elements.{All-get_or}
-use Rattle.lang_base.specs.declared.program.Named as code
 use Rattle.lang_base.specs.declared.program.Named.{Named}
 use Rattle.rtl_language.specs.Function.{FunctionData}
 use Rattle.constprop_check_rules.specs.declared.fact.Fact.{Fact}
@@ -17,9 +15,7 @@ large_from_the_start f a b facts equations first second large =
     subst (λ n. baseline_limit < n) (second.shape.same.registers ∙ first.shape.same.registers) large
 
 -- one of functions that all have few registers has few
-pub few_at : (functions : List (code.Named FunctionData)) (n : ℕ) (f : code.Named FunctionData) → n < length functions → f ≡ get_or functions n f
+pub few_at : (functions : List (Named FunctionData)) (n : ℕ) (f : Named FunctionData) → n < length functions → f ≡ get_or functions n f
     → All (λ g. g.function.registers ≤ 2048) functions → f.function.registers ≤ 2048
 few_at functions n f below e all =
-    let longer : n < length functions = rw (length-map functions named_seen) below in
-    let same = get_or-functions n f f below ∙ ap (sym e) in
-    subst (λ (g : Named FunctionData). g.function.registers ≤ 2048) same (All-get_or (λ (g : Named FunctionData). g.function.registers ≤ 2048) functions n f longer all)
+    subst (λ (g : Named FunctionData). g.function.registers ≤ 2048) (sym e) (All-get_or (λ (g : Named FunctionData). g.function.registers ≤ 2048) functions n f below all)

@@ -1,4 +1,4 @@
-ghost use Rattle.std.specs.Prelude.{◌≡◌, ◌≤◌, All, IfOk, IfErr, OnOk, length, map};
+ghost use Rattle.std.specs.Prelude.{◌≡◌, ◌≤◌, All, IfOk, IfErr, OnOk, length};
 ghost use Rattle.lang_base.specs.Keeps.{Keeps};
 ghost use Rattle.c_program.specs.Meaning.{crun};
 ghost use Rattle.c_checker_rules.specs.Checked.{program_tree};
@@ -14,14 +14,10 @@ ghost use Rattle.chains.specs.Refused.{IsNoMemory, IsRefused, IsUnlinked};
 use crate::errors::CompileError;
 use crate::makers::{Maker, offers_of};
 use crate::offering::Offers;
-use alloc_check::Alloc;
 use c_checker_rules::CProgram;
-use constprop_check::ConstProp;
-use cse_check::Cse;
 use lang_base::{Named, NoMemory, Program, keeps_composes};
 use linear_language::Function;
-use linearize_check::Linearize;
-use linker::{LinkError, translated};
+use linker::{LinkError, link_translated, translated};
 use std::alloc::Global;
 
 /// The offers of each function, in order.
@@ -79,7 +75,7 @@ pub fn link_offers(
         return Err(LinkError::Names);
     }
     let named = named_of(alloc, program.functions.as_slice(), offers)?;
-    let made = linker_passes::link::<ConstProp, Cse, Alloc, Linearize>(alloc, program, &named)?;
+    let made = link_translated(alloc, program, &named)?;
     Ok(made)
 }
 

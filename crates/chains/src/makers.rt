@@ -1,6 +1,6 @@
 //! Who makes the offers of a function, and the four offers of one.
 
-ghost use Rattle.std.specs.Prelude.{◌≡◌, ◌≢◌, ◌≤◌, Some, None, IfOk, IfErr};
+ghost use Rattle.std.specs.Prelude.{◌≡◌, ◌≢◌, Some, None, IfOk, IfErr};
 ghost use Rattle.alloc_check_rules.specs.Rules.{IsTooLarge};
 ghost use Rattle.chains.specs.Offered.{GoOnFrom};
 

@@ -12,7 +12,10 @@ use std::alloc::{AllocError, Global};
 const LIMIT: u64 = 1_000_000_000;
 
 /// What a Linear program prints, and how its run stands.
-fn ran(alloc: Global, program: &Program<linear_language::Function>) -> Result<Told, AllocError> {
+pub fn ran(
+    alloc: Global,
+    program: &Program<linear_language::Function>,
+) -> Result<Told, AllocError> {
     let mut output = Vec::new(alloc);
     let closing = match run(alloc, program, LIMIT, &mut output) {
         Ok(shown) => Closing(shown).to_string(alloc)?,

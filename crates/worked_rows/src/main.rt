@@ -4,17 +4,20 @@
 //! answers through the commands `check` and `interpret`, and those that end as programs of RTL and as linked programs
 //! too, once of the baselines and once of the optimisers' offers. `vectors.txt` was made by an independent reading of the
 //! language, the answers in `gcc.txt`, `examples.txt` and `drawn.txt`, whose programs were drawn by chance, are those of a
-//! C compiler, and `rows.txt` was written by hand. `exec.txt` has linked programs, in bytes, for `exec`.
+//! C compiler, and `rows.txt` was written by hand. `links.txt` links the baselines of two programs of known answers, and
+//! has a row for each refusal to link. `exec.txt` has linked programs, in bytes, for `exec`.
 //!
 //! All are one program, since a program is linked with all that it stands on, by two compilers.
 #![tactic(auto)]
 
 mod executed;
+mod joined;
 mod linked;
 mod told;
 mod translated;
 
 use crate::executed::executed;
+use crate::joined::Links;
 use crate::linked::linked;
 use crate::told::{Told, told_of};
 use crate::translated::translated;
@@ -50,6 +53,7 @@ fn tell(rt: &HostRuntime) -> io::Result<()> {
     compare(rt, "examples.txt", Form::Hex)?;
     compare(rt, "drawn.txt", Form::Plain)?;
     compare(rt, "rows.txt", Form::Plain)?;
+    program_rows::compare(rt, "links.txt", &mut Links)?;
     execute(rt)
 }
 

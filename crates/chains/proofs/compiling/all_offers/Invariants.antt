@@ -1,4 +1,4 @@
-use Rattle.std.proofs.Common.{map, take}
+use Rattle.std.proofs.Common.{take}
 use Rattle.chains.specs.Offered.{AllGoOn}
 use Rattle.chains.proofs.compiling.all_offers.Given as goal
 

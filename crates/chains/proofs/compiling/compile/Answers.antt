@@ -1,5 +1,5 @@
 -- The translation and the linking, one behind the other; where the program is translated, only memory can be refused.
-use Rattle.std.proofs.Common.{◌≤◌, map, sym, subst, ◌∙◌}
+use Rattle.std.proofs.Common.{◌≤◌, sym, subst, ◌∙◌}
 use Rattle.std.specs.Prelude.{All}
 use Rattle.std.proofs.lemmas.Result.{err_from_is_err_and}
 use Rattle.c_checker_rules.specs.Checked.{program_tree}
@@ -17,13 +17,13 @@ returns-clause-same_names c = c.in_ok-made.ensures.same_names ∙ c.in_ok-begun.
 
 pub returns-in_err-offers-clause-refused : goal.returns-in_err-offers-clause-refused
 returns-in_err-offers-clause-refused c =
-    let small = subst (λ fs. All (λ f. f.function.registers ≤ 2048) fs) (sym c.as_slice.ensures.value) c.in_ok-begun.ensures.small in
+    let small = subst (λ fs. All (λ f. f.function.registers ≤ 2048) fs) (sym c.as_slice.ensures) c.in_ok-begun.ensures.small in
     let p = err_from_is_err_and c.from_residual-in_err-offers.result c.from_residual-in_err-offers.ensures.1 in
     rw (p.1, p.2) (memory_refused (low (program_tree c.args.program.now)) c.in_err-offers.field-0.0 (c.in_err-offers.ensures.refused small))
 
 pub returns-in_err-made-clause-refused : goal.returns-in_err-made-clause-refused
 returns-in_err-made-clause-refused c =
-    let begun = subst (λ fs. AllGoOn fs c.in_ok-offers.offers.items) c.as_slice.ensures.value c.in_ok-offers.ensures.chained in
+    let begun = subst (λ fs. AllGoOn fs c.in_ok-offers.offers.items) c.as_slice.ensures c.in_ok-offers.ensures.chained in
     let all = subst (λ os. AllGoOn c.in_ok-begun.begun.functions os) (sym c.deref.ensures.value) begun in
     let p = err_from_is_err_and c.from_residual-in_err-made.result c.from_residual-in_err-made.ensures.1 in
     rw (p.1, p.2) (memory_refused (low (program_tree c.args.program.now)) (Link c.in_err-made.field-0.0) (c.in_err-made.ensures.whole all))

@@ -1,5 +1,5 @@
 -- What is linked, and what is refused, in the words of the offers.
-use Rattle.std.proofs.Common.{◌≡◌, map, length, sym, ap, subst, ◌∙◌, arith}
+use Rattle.std.proofs.Common.{◌≡◌, length, sym, ap, subst, ◌∙◌, arith}
 use Rattle.std.proofs.lemmas.Result.{err_from_is_err_and}
 use Rattle.linker.specs.Numbers.{refusal_to_link}
 use Rattle.chains.specs.Lent.{AreBeside}
@@ -16,7 +16,7 @@ returns-then-len-offers-clause-whole c = λ all.
 pub returns-in_err-made-clause-refused : goal.returns-in_err-made-clause-refused
 returns-in_err-made-clause-refused c =
     let fs = c.args.program.now.functions in
-    let at = subst (λ xs. AreBeside xs c.args.offers.now c.in_ok-named.named.items) c.as_slice.ensures.value c.in_ok-named.ensures in
+    let at = subst (λ xs. AreBeside xs c.args.offers.now c.in_ok-named.named.items) c.as_slice.ensures c.in_ok-named.ensures in
     let are = subst (λ ns. AreBeside fs c.args.offers.now ns) (sym c.deref.ensures.value) at in
     let p = err_from_is_err_and c.from_residual-in_err-made.result c.from_residual-in_err-made.ensures.1 in
     rw (p.1, p.2) (unlinked fs c.args.offers.now c.deref.result.now c.in_err-made.field-0.0 are c.in_err-made.ensures.refused)
@@ -24,7 +24,7 @@ returns-in_err-made-clause-refused c =
 pub returns-in_err-made-clause-whole : goal.returns-in_err-made-clause-whole
 returns-in_err-made-clause-whole c = λ all.
     let fs = c.args.program.now.functions in
-    let at = subst (λ xs. AreBeside xs c.args.offers.now c.in_ok-named.named.items) c.as_slice.ensures.value c.in_ok-named.ensures in
+    let at = subst (λ xs. AreBeside xs c.args.offers.now c.in_ok-named.named.items) c.as_slice.ensures c.in_ok-named.ensures in
     let are = subst (λ ns. AreBeside fs c.args.offers.now ns) (sym c.deref.ensures.value) at in
     let memory = c.in_err-made.ensures.whole (names_are fs c.args.offers.now c.deref.result.now are) (chained fs c.args.offers.now c.deref.result.now are all) in
     let p = err_from_is_err_and c.from_residual-in_err-made.result c.from_residual-in_err-made.ensures.1 in
@@ -33,7 +33,7 @@ returns-in_err-made-clause-whole c = λ all.
 pub returns-clause-ok : goal.returns-clause-ok
 returns-clause-ok c =
     let fs = c.args.program.now.functions in
-    let at = subst (λ xs. AreBeside xs c.args.offers.now c.in_ok-named.named.items) c.as_slice.ensures.value c.in_ok-named.ensures in
+    let at = subst (λ xs. AreBeside xs c.args.offers.now c.in_ok-named.named.items) c.as_slice.ensures c.in_ok-named.ensures in
     let are = subst (λ ns. AreBeside fs c.args.offers.now ns) (sym c.deref.ensures.value) at in
     let ends = all_ends fs c.args.offers.now c.deref.result.now are in
     c.in_ok-made.ensures.ok ∙ (λ i. record { globals = c.args.program.now.globals; functions = ends i })
@@ -41,6 +41,6 @@ returns-clause-ok c =
 pub returns-clause-chained : goal.returns-clause-chained
 returns-clause-chained c =
     let fs = c.args.program.now.functions in
-    let at = subst (λ xs. AreBeside xs c.args.offers.now c.in_ok-named.named.items) c.as_slice.ensures.value c.in_ok-named.ensures in
+    let at = subst (λ xs. AreBeside xs c.args.offers.now c.in_ok-named.named.items) c.as_slice.ensures c.in_ok-named.ensures in
     let are = subst (λ ns. AreBeside fs c.args.offers.now ns) (sym c.deref.ensures.value) at in
     all_go_on fs c.args.offers.now c.deref.result.now are c.in_ok-made.ensures.chained
