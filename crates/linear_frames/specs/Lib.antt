@@ -1,2 +1,3 @@
 pub mod There
+pub mod Frames
 pub mod Callers

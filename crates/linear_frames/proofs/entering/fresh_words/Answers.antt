@@ -1,14 +1,13 @@
 use Rattle.std.proofs.Common.{ap, ◌∙◌, ◌+◌}
 use Rattle.machine.specs.Calls.{values_of, with_arguments}
-use Rattle.rtl_decoded.specs.Seen.{data_of}
-use Rattle.linear_decoded.specs.Words.{frame_data}
+use Rattle.linear_frames.specs.Frames.{framed}
 use Rattle.linear_frames.proofs.Begun.{fresh_data}
 use Rattle.linear_frames.proofs.entering.fresh_words.Goals as goal
 
 pub returns-clause-words : goal.returns-clause-words
 returns-clause-words c = λ globals output.
-    let values = values_of c.args.arguments.now (frame_data (data_of c.args.words.now globals output)) in
-    let begun = frame_data (data_of c.in_ok-fresh.fresh.items globals output) in
+    let values = values_of c.args.arguments.now (framed c.args.words.now globals output) in
+    let begun = framed c.in_ok-fresh.fresh.items globals output in
     c.hand_over.ensures.words globals output
     ∙ ap (λ ps. with_arguments ps values begun) (c.as_slice.ensures ∙ c.parameters.ensures)
     ∙ ap (with_arguments c.args.callee.now.parameters values)
