@@ -1,6 +1,6 @@
 //! The functions of a program, by number.
 
-ghost use Rattle.std.specs.Prelude.{◌≡◌, None, Some, ◌<◌, length, map, slice_get, MatchOption};
+ghost use Rattle.std.specs.Prelude.{◌≡◌, None, Some, ◌<◌, length, slice_get, MatchOption};
 ghost use Rattle.linear_language.specs.Function.{IsFunction};
 ghost use Rattle.linear.specs.Functions.{HasFunction};
 

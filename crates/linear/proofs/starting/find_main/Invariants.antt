@@ -1,4 +1,4 @@
-use Rattle.std.proofs.Common.{◌≡◌, ◌+◌, drop, map}
+use Rattle.std.proofs.Common.{◌≡◌, ◌+◌, drop}
 use Rattle.machine.specs.Frames.{main_number}
 use Rattle.linear_language.specs.Meaning.{takes_none}
 use Rattle.linear.proofs.starting.find_main.Given as goal
