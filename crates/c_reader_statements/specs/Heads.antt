@@ -1,13 +1,15 @@
 -- What stands behind the head of a statement: its statements, which another reading reads.
-use Rattle.std.specs.Prelude.{false, Ok}
+use Rattle.std.specs.Prelude.{◌≡◌, ℕ, List, false, Ok}
 use Rattle.c_syntax.specs.declared.punctuator.Punctuator.TheVariants.{RightBrace}
+use Rattle.c_syntax.specs.declared.expression.Expression.{Expression}
+use Rattle.c_syntax.specs.declared.token.Token.{Token}
 use Rattle.c_syntax.specs.Trees.{ExpressionTree, StatementTree}
 use Rattle.c_syntax.specs.Trees as T
 use Rattle.c_syntax.specs.Views.{statement_tree, expression_tree, optional_tree, set_tree, start_tree}
 use Rattle.c_reader_tokens.specs.Reading.{Reading}
 use Rattle.c_reader_tokens.specs.Tokens.{sign}
 use Rattle.c_reader_productions.specs.Combining.{◌◁◌, ◌&◌, made}
-use Rattle.c_reader_statement_laws.specs.Reading.{Below, statements_of, branched, items_in, branches_in}
+use Rattle.c_reader_statement_laws.specs.Reading.{Below, statements_of, branched, items_in, branches_in, if_in}
 use Rattle.c_reader_statements.specs.declared.heads.Head.{Head}
 use Rattle.c_reader_statements.specs.declared.heads.Head.TheVariants as H
 use Rattle.c_reader_statements.specs.declared.heads.Loop.{Loop}
@@ -24,6 +26,10 @@ looped (L.For head) s = T.For (start_tree head.value.start) (optional_tree expre
 
 abbrev pub behind_if : Below → ExpressionTree → Reading StatementTree
 behind_if below e ts = made (λ v. branched v.0 v.1.0 v.1.1) (have e & branches_in below) ts
+
+-- an `if` begins with this condition, and these tokens are behind it
+abbrev pub BeginsIf : (fuel : ℕ) → (tokens : List Token) → Expression → (rest : List Token) → Type 0
+BeginsIf fuel tokens condition rest = (below : Below) → if_in below fuel tokens ≡ behind_if below (expression_tree condition) rest
 
 abbrev pub behind_loop : Below → Loop → Reading StatementTree
 behind_loop below (L.While e) ts = made (λ v. T.While v.0 v.1) (have (expression_tree e) & below false) ts

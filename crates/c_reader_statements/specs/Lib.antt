@@ -1,4 +1,5 @@
 pub mod Heads
+pub mod Branches
 pub use Rattle.c_reader_productions.specs.Combining
 pub use Rattle.c_reader_productions.specs.Parts
 pub use Rattle.c_reader_statement_laws.specs.Reading

@@ -3,7 +3,7 @@
 ghost use Rattle.std.specs.Prelude.{◌≡◌, ◌≢◌, IfOk, IfErr, Ok, Err};
 ghost use Rattle.c_syntax.specs.Views.{optional_tree, expression_tree, set_tree};
 ghost use Rattle.c_reader_statement_laws.specs.Reading.{Below, condition, step, by_first, if_in, while_in, for_in};
-ghost use Rattle.c_reader_statements.specs.Heads.{behind_if, behind_loop, behind_head};
+ghost use Rattle.c_reader_statements.specs.Heads.{BeginsIf, behind_loop, behind_head};
 
 use crate::parts::{read_set, read_start};
 use crate::simple::{
@@ -39,7 +39,7 @@ pub(crate) enum Head {
 /// `if` and its condition (C99 6.8.4.1).
 #[tactic(auto, unfolding(c_reader_statement_laws::specs::Reading::if_in))]
 fn read_if_head(alloc: Global, fuel: u8, tokens: &[Token]) -> Result<(Expression, &[Token]), Fault>
-    ensures ok { IfOk result (λ r. (below : Below) → if_in below fuel tokens.now ≡ behind_if below (expression_tree r.0) r.1.now) }
+    ensures ok { IfOk result (λ r. BeginsIf fuel tokens.now r.0 r.1.now) }
     ensures err { IfErr result (λ e. e ≢ Fault.NoMemory → (below : Below) → if_in below fuel tokens.now ≡ Err e) }
 {
     let rest = ok!(read_word(Keyword::If, tokens));

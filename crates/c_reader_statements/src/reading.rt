@@ -2,11 +2,12 @@
 //! statement, and put it together.
 
 ghost use Rattle.std.specs.Prelude.{◌≡◌, ◌≢◌, IfOk, IfErr, Ok, Err, map};
-ghost use Rattle.c_syntax.specs.Views.{statement_tree, statements_tree, optional_tree, expression_tree};
+ghost use Rattle.c_syntax.specs.Views.{statement_tree, statements_tree};
 ghost use Rattle.c_syntax.specs.Trees as T;
 ghost use Rattle.c_syntax.specs.declared.keyword.Keyword.TheVariants as K;
 ghost use Rattle.c_reader_tokens.specs.Peeking.{is_word_next};
-ghost use Rattle.c_reader_statement_laws.specs.Reading.{branched, items_in, block_in, else_in, branches_in, statement_at};
+ghost use Rattle.c_reader_statement_laws.specs.Reading.{items_in, block_in, else_in, branches_in, statement_at};
+ghost use Rattle.c_reader_statements.specs.Branches.{branched_tree, branches_tree, if_else_tree, other_tree};
 ghost use Rattle.c_reader_statements.specs.Heads.{behind_head, looped};
 
 use crate::first::{first_of, too_high};
@@ -31,7 +32,7 @@ fn branched_twice(
     then: Box<Statement>,
     other: Statement,
 ) -> Result<Statement, Fault>
-    ensures ok { IfOk result (λ s. statement_tree s ≡ T.IfElse (expression_tree condition) (statement_tree then.value) (statement_tree other)) }
+    ensures ok { IfOk result (λ s. statement_tree s ≡ if_else_tree condition then.value other) }
     ensures err { IfErr result (λ e. e ≡ Fault.NoMemory) }
 {
     let ((condition, then), other) = ok!(beside((condition, then), boxed(alloc, other)));
@@ -44,7 +45,7 @@ fn branched(
     condition: Expression,
     branches: (Statement, Option<Statement>),
 ) -> Result<Statement, Fault>
-    ensures ok { IfOk result (λ s. statement_tree s ≡ branched (expression_tree condition) (statement_tree branches.0) (optional_tree statement_tree branches.1)) }
+    ensures ok { IfOk result (λ s. statement_tree s ≡ branched_tree condition branches) }
     ensures err { IfErr result (λ e. e ≡ Fault.NoMemory) }
 {
     let (then, other) = branches;
@@ -121,7 +122,7 @@ fn read_other(
     fuel: u8,
     tokens: &[Token],
 ) -> Result<(Option<Statement>, &[Token]), Fault>
-    ensures ok { IfOk result (λ r. else_in (statement_at fuel) tokens.now ≡ Ok (optional_tree statement_tree r.0, r.1.now)) }
+    ensures ok { IfOk result (λ r. else_in (statement_at fuel) tokens.now ≡ Ok (other_tree r.0, r.1.now)) }
     ensures err { IfErr result (λ e. e ≢ Fault.NoMemory → else_in (statement_at fuel) tokens.now ≡ Err e) }
 {
     if !is_else_next(tokens) {
@@ -140,7 +141,7 @@ fn read_branches(
     fuel: u8,
     tokens: &[Token],
 ) -> Result<((Statement, Option<Statement>), &[Token]), Fault>
-    ensures ok { IfOk result (λ r. branches_in (statement_at fuel) tokens.now ≡ Ok ((statement_tree r.0.0, optional_tree statement_tree r.0.1), r.1.now)) }
+    ensures ok { IfOk result (λ r. branches_in (statement_at fuel) tokens.now ≡ Ok (branches_tree r.0, r.1.now)) }
     ensures err { IfErr result (λ e. e ≢ Fault.NoMemory → branches_in (statement_at fuel) tokens.now ≡ Err e) }
 {
     let (then, rest) = ok!(read_statement(alloc, fuel, false, tokens));
