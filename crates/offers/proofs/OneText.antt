@@ -1,18 +1,15 @@
 -- No text of parts is a beginning of another, where that holds of each part.
 use Rattle.std.proofs.Common.{◌≡◌, ℕ, List, ◌++◌, drop, sym, ap, ◌∙◌, subst, append_assoc}
 use Rattle.offers.specs.declared.parts.Parts.{Parts}
-use Rattle.offers.specs.Text.{text_of, PartsFit}
-
--- no text is a beginning of another, and no two values share one
-abbrev pub HasOneText : {A : Type 0} → (A → Type 0) → (A → List ℕ) → Type 0
-HasOneText {A} Fits text = (a b : A) (x y : List ℕ) → Fits a → Fits b → text a ++ x ≡ text b ++ y → (a ≡ b) × (x ≡ y)
+use Rattle.offers.specs.Fronts.{HasOneText}
+use Rattle.offers.specs.Text.{spelling_of, PartsFit}
 
 module _ {I O C : Type 0} (number : ℕ) (InputFits : I → Type 0) (OutputFits : O → Type 0) (CertificateFits : I → O → C → Type 0) (input_text : I → List ℕ) (output_text : O → List ℕ) (certificate_text : I → O → C → List ℕ) where
   regrouped : (a b c d : List ℕ) → (a ++ (b ++ c)) ++ d ≡ a ++ (b ++ (c ++ d))
   regrouped a b c d = simp append_assoc
 
   abbrev text : Parts I O C → List ℕ
-  text = text_of number input_text output_text certificate_text
+  text = spelling_of number input_text output_text certificate_text
 
   -- behind the number
   behind_number : (p q : Parts I O C) (x y : List ℕ) → text p ++ x ≡ text q ++ y

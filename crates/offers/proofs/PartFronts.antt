@@ -1,7 +1,7 @@
 -- The front of a text of parts, put together from the fronts of its number, input, output and certificate.
 use Rattle.std.proofs.Common.{◌≡◌, ℕ, List, ◌∷◌, ◌++◌, drop, sym, ap, ◌∙◌, subst, append_assoc}
 use Rattle.offers.specs.declared.parts.Parts.{Parts}
-use Rattle.offers.specs.Text.{text_of, PartsFit}
+use Rattle.offers.specs.Text.{spelling_of, PartsFit}
 use Rattle.offers.specs.Fronts.{IsOnlyFront, HasNoFront}
 
 module _ {I O C : Type 0} (number : ℕ) (InputFits : I → Type 0) (OutputFits : O → Type 0) (CertificateFits : I → O → C → Type 0) (input_text : I → List ℕ) (output_text : O → List ℕ) (certificate_text : I → O → C → List ℕ) where
@@ -9,7 +9,7 @@ module _ {I O C : Type 0} (number : ℕ) (InputFits : I → Type 0) (OutputFits 
   regrouped a b c d = simp append_assoc
 
   abbrev text : Parts I O C → List ℕ
-  text = text_of number input_text output_text certificate_text
+  text = spelling_of number input_text output_text certificate_text
 
   abbrev Fits : Parts I O C → Type 0
   Fits = PartsFit InputFits OutputFits CertificateFits

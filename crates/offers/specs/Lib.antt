@@ -1,4 +1,5 @@
 pub mod Refusals
 pub mod Text
+pub mod Reading
 pub mod Fronts
 pub mod OneFunction

@@ -1,9 +1,9 @@
 //! Reading the parts of a written offer, one behind the other.
 
 ghost use Rattle.std.specs.Prelude.{◌≡◌, ◌≢◌, ℕ, List, [], ◌∷◌, ◌++◌, IfOk, IfErr};
-ghost use Rattle.offers.specs.declared.parts.Parts.{Parts};
 ghost use Rattle.offers.specs.Text.{text_of, PartsFit};
-ghost use Rattle.offers.specs.Fronts.{IsOnlyFront, HasNoFront};
+ghost use Rattle.offers.specs.Fronts.{IsOnlyFront, HasNoFront, AnswersOther};
+ghost use Rattle.offers.specs.Reading.{IsOnlyCertificate, HasNoCertificate, IsOnlyText, HasNoText};
 
 use crate::parts::{Parts, PartsOf};
 use lang_base::{FormError, Language, Pass};
@@ -15,7 +15,7 @@ fn after_number(number: u8, bytes: &[u8]) -> Result<&[u8], FormError>
     ensures short { result ≡ Err FormError.Short → bytes.now ≡ [] }
     ensures other { IfErr result (λ _. (rest : List ℕ) → bytes.now ≢ number ∷ rest) }
     ensures empty { bytes.now ≡ [] → result ≡ Err FormError.Short }
-    ensures tag { (first : ℕ) (rest : List ℕ) → bytes.now ≡ first ∷ rest → first ≢ number → result ≡ Err FormError.BadTag }
+    ensures tag { AnswersOther number bytes.now result (Err FormError.BadTag) }
 {
     match bytes {
         [] => Err(FormError::Short),
@@ -45,9 +45,8 @@ fn certificate_at<'a, P: Pass>(
 ) -> Result<(P::Cert, &'a [u8]), FormError>
     ensures fits { IfOk result (λ found. P.cert_fits input.now output.now found.0) }
     ensures front { IfOk result (λ found. bytes.now ≡ P.cert_spelling input.now output.now found.0 ++ found.1.now) }
-    ensures only { IfOk result (λ found. IsOnlyFront (P.cert_fits input.now output.now) (P.cert_spelling input.now output.now) bytes.now found.0 found.1.now) }
-    ensures refused { IfErr result (λ e. e ≢ FormError.NoMemory →
-        HasNoFront (P.cert_fits input.now output.now) (P.cert_spelling input.now output.now) bytes.now) }
+    ensures only { IfOk result (λ found. IsOnlyCertificate P.Pass input.now output.now bytes.now found.0 found.1.now) }
+    ensures refused { IfErr result (λ e. e ≢ FormError.NoMemory → HasNoCertificate P.Pass input.now output.now bytes.now) }
 {
     let (certificate, used) = P::read_cert(alloc, input, output, bytes)?;
     let (_front, behind) = bytes.split_at(used);
@@ -60,12 +59,11 @@ pub(crate) fn parts_at<P: Pass>(
     bytes: &[u8],
 ) -> Result<(PartsOf<P>, &[u8]), FormError>
     ensures fits { IfOk result (λ found. PartsFit P.In.fits P.Out.fits P.cert_fits found.0) }
-    ensures front { IfOk result (λ found. bytes.now ≡ text_of P.NUMBER P.In.spelling P.Out.spelling P.cert_spelling found.0 ++ found.1.now) }
-    ensures only { IfOk result (λ found. IsOnlyFront (PartsFit P.In.fits P.Out.fits P.cert_fits) (text_of P.NUMBER P.In.spelling P.Out.spelling P.cert_spelling) bytes.now found.0 found.1.now) }
-    ensures refused { IfErr result (λ e. e ≢ FormError.NoMemory →
-        HasNoFront (PartsFit P.In.fits P.Out.fits P.cert_fits) (text_of P.NUMBER P.In.spelling P.Out.spelling P.cert_spelling) bytes.now) }
+    ensures front { IfOk result (λ found. bytes.now ≡ text_of P.In.Language P.Out.Language P.Pass found.0 ++ found.1.now) }
+    ensures only { IfOk result (λ found. IsOnlyText P.In.Language P.Out.Language P.Pass bytes.now found.0 found.1.now) }
+    ensures refused { IfErr result (λ e. e ≢ FormError.NoMemory → HasNoText P.In.Language P.Out.Language P.Pass bytes.now) }
     ensures empty { bytes.now ≡ [] → result ≡ Err FormError.Short }
-    ensures tag { (first : ℕ) (rest : List ℕ) → bytes.now ≡ first ∷ rest → first ≢ P.NUMBER → result ≡ Err FormError.BadTag }
+    ensures tag { AnswersOther P.NUMBER bytes.now result (Err FormError.BadTag) }
 {
     let behind = after_number(P::NUMBER, bytes)?;
     let (input, behind) = function_at::<P::In>(alloc, behind)?;

@@ -1,9 +1,9 @@
 //! What an offer is worth, as contracts of calls that do nothing else.
 
-ghost use Rattle.std.specs.Prelude.{◌≡◌, ℕ, List, ◌++◌};
+ghost use Rattle.std.specs.Prelude.{ℕ, List};
 ghost use Rattle.lang_base.specs.Keeps.{Keeps};
 ghost use Rattle.lang_base.specs.declared.program.Global.{Global};
-ghost use Rattle.offers.specs.declared.parts.Parts.{Parts};
+ghost use Rattle.offers.specs.Fronts.{HasOneText};
 ghost use Rattle.offers.specs.OneFunction.{program_of_one};
 ghost use Rattle.offers.specs.Text.{text_of, PartsFit};
 
@@ -21,8 +21,5 @@ pub fn offer_keeps<P: Pass>(offer: &Offer<P>)
 
 /// No offer's text is a beginning of another's, and no two offers share one.
 pub fn one_text<P: Pass>()
-    ensures { (p q : Parts P.In.Fun P.Out.Fun P.Cert) (x y : List ℕ) →
-        PartsFit P.In.fits P.Out.fits P.cert_fits p → PartsFit P.In.fits P.Out.fits P.cert_fits q →
-        text_of P.NUMBER P.In.spelling P.Out.spelling P.cert_spelling p ++ x ≡ text_of P.NUMBER P.In.spelling P.Out.spelling P.cert_spelling q ++ y →
-        (p ≡ q) × (x ≡ y) }
+    ensures { HasOneText (PartsFit P.In.fits P.Out.fits P.cert_fits) (text_of P.In.Language P.Out.Language P.Pass) }
 {}

@@ -1,7 +1,8 @@
-ghost use Rattle.std.specs.Prelude.{◌≡◌, ◌≢◌, ℕ, List, [], ◌∷◌, ◌++◌, OnOk, OnErr, IfOk, IfErr, IsErrAnd};
+ghost use Rattle.std.specs.Prelude.{◌≡◌, ◌≢◌, [], ◌++◌, OnOk, OnErr, IfOk, IfErr};
 ghost use Rattle.sha2.specs.Sha256.{sha256};
 ghost use Rattle.lang_base.specs.Behaviour.{IsBeginningOf};
-ghost use Rattle.offers.specs.declared.parts.Parts.{Parts};
+ghost use Rattle.offers.specs.Fronts.{AnswersOther};
+ghost use Rattle.offers.specs.Reading.{AreOnlyParts, IsNoText, IsUnaccepted, Rejects, RejectsForm, RefusesMore, RejectsMore};
 ghost use Rattle.offers.specs.Text.{text_of, PartsFit};
 
 use crate::errors::OfferError;
@@ -69,19 +70,14 @@ impl<P: Pass> Offer<P> {
     /// The parts that the bytes spell, all of the bytes, whether the pass accepts them or not.
     pub fn parts(alloc: Global, bytes: &[u8]) -> Result<PartsOf<P>, FormError>
         ensures fits { IfOk result (λ parts. PartsFit P.In.fits P.Out.fits P.cert_fits parts) }
-        ensures spelled { IfOk result (λ parts. bytes.now ≡ text_of P.NUMBER P.In.spelling P.Out.spelling P.cert_spelling parts) }
-        ensures only { IfOk result (λ found. (parts : Parts P.In.Fun P.Out.Fun P.Cert) → PartsFit P.In.fits P.Out.fits P.cert_fits parts →
-            bytes.now ≡ text_of P.NUMBER P.In.spelling P.Out.spelling P.cert_spelling parts → found ≡ parts) }
-        ensures refused { IfErr result (λ e. e ≢ FormError.NoMemory →
-            (parts : Parts P.In.Fun P.Out.Fun P.Cert) → PartsFit P.In.fits P.Out.fits P.cert_fits parts →
-            bytes.now ≢ text_of P.NUMBER P.In.spelling P.Out.spelling P.cert_spelling parts) }
+        ensures spelled { IfOk result (λ parts. bytes.now ≡ text_of P.In.Language P.Out.Language P.Pass parts) }
+        ensures only { IfOk result (AreOnlyParts P.In.Language P.Out.Language P.Pass bytes.now) }
+        ensures refused { IfErr result (λ e. e ≢ FormError.NoMemory → IsNoText P.In.Language P.Out.Language P.Pass bytes.now) }
 
         // Which fault it is: no bytes, another first byte, bytes behind the form.
         ensures empty { bytes.now ≡ [] → result ≡ Err FormError.Short }
-        ensures tag { (first : ℕ) (rest : List ℕ) → bytes.now ≡ first ∷ rest → first ≢ P.NUMBER → result ≡ Err FormError.BadTag }
-        ensures behind { (parts : Parts P.In.Fun P.Out.Fun P.Cert) (first : ℕ) (rest : List ℕ) → PartsFit P.In.fits P.Out.fits P.cert_fits parts →
-            bytes.now ≡ text_of P.NUMBER P.In.spelling P.Out.spelling P.cert_spelling parts ++ first ∷ rest →
-            IsErrAnd result (λ e. e ≢ FormError.NoMemory → e ≡ FormError.NotCanonical) }
+        ensures tag { AnswersOther P.NUMBER bytes.now result (Err FormError.BadTag) }
+        ensures behind { RefusesMore P.In.Language P.Out.Language P.Pass bytes.now result }
     {
         let (parts, behind) = parts_at::<P>(alloc, bytes)?;
         if !behind.is_empty() {
@@ -93,27 +89,18 @@ impl<P: Pass> Offer<P> {
     /// The offer that the bytes spell, all of the bytes, if the pass accepts it: nobody's certificate
     /// is trusted.
     pub fn read(alloc: Global, bytes: &[u8]) -> Result<Offer<P>, OfferError>
-        ensures spelled { IfOk result (λ offer. bytes.now ≡ text_of P.NUMBER P.In.spelling P.Out.spelling P.cert_spelling offer) }
+        ensures spelled { IfOk result (λ offer. bytes.now ≡ text_of P.In.Language P.Out.Language P.Pass offer) }
         ensures accepted { IfOk result (λ offer. P.accepts offer.input offer.output offer.certificate) }
 
         // What is rejected is the text of no accepted offer, and unless it is 301 of no parts at all.
-        ensures rejected { IfErr result (λ e. e ≢ OfferError.NoMemory →
-            (parts : Parts P.In.Fun P.Out.Fun P.Cert) → PartsFit P.In.fits P.Out.fits P.cert_fits parts →
-            P.accepts parts.input parts.output parts.certificate → bytes.now ≢ text_of P.NUMBER P.In.spelling P.Out.spelling P.cert_spelling parts) }
-        ensures form { IfErr result (λ e. e ≢ OfferError.NoMemory → e ≢ OfferError.Refused →
-            (parts : Parts P.In.Fun P.Out.Fun P.Cert) → PartsFit P.In.fits P.Out.fits P.cert_fits parts →
-            bytes.now ≢ text_of P.NUMBER P.In.spelling P.Out.spelling P.cert_spelling parts) }
-        ensures refused { result ≡ Err OfferError.Refused →
-            (parts : Parts P.In.Fun P.Out.Fun P.Cert) × PartsFit P.In.fits P.Out.fits P.cert_fits parts
-            × (bytes.now ≡ text_of P.NUMBER P.In.spelling P.Out.spelling P.cert_spelling parts)
-            × (P.accepts parts.input parts.output parts.certificate → ⊥) }
+        ensures rejected { IfErr result (Rejects P.In.Language P.Out.Language P.Pass bytes.now) }
+        ensures form { IfErr result (RejectsForm P.In.Language P.Out.Language P.Pass bytes.now) }
+        ensures refused { result ≡ Err OfferError.Refused → IsUnaccepted P.In.Language P.Out.Language P.Pass bytes.now }
 
         // Which fault of the form it is: no bytes, another first byte, bytes behind the form.
         ensures empty { bytes.now ≡ [] → result ≡ Err OfferError.Short }
-        ensures tag { (first : ℕ) (rest : List ℕ) → bytes.now ≡ first ∷ rest → first ≢ P.NUMBER → result ≡ Err OfferError.BadTag }
-        ensures behind { (parts : Parts P.In.Fun P.Out.Fun P.Cert) (first : ℕ) (rest : List ℕ) → PartsFit P.In.fits P.Out.fits P.cert_fits parts →
-            bytes.now ≡ text_of P.NUMBER P.In.spelling P.Out.spelling P.cert_spelling parts ++ first ∷ rest →
-            IsErrAnd result (λ e. e ≢ OfferError.NoMemory → e ≡ OfferError.NotCanonical) }
+        ensures tag { AnswersOther P.NUMBER bytes.now result (Err OfferError.BadTag) }
+        ensures behind { RejectsMore P.In.Language P.Out.Language P.Pass bytes.now result }
     {
         let parts = Self::parts(alloc, bytes)?;
         Self::check(alloc, parts.input, parts.output, parts.certificate)
@@ -121,7 +108,7 @@ impl<P: Pass> Offer<P> {
 
     /// Writes the offer at the end of `out`, which a refusal leaves as it was.
     pub fn write(&self, out: &mut Vec<u8>) -> Result<(), NoMemory>
-        ensures ok { OnOk result (out.new.items ≡ out.old.items ++ text_of P.NUMBER P.In.spelling P.Out.spelling P.cert_spelling self.now) }
+        ensures ok { OnOk result (out.new.items ≡ out.old.items ++ text_of P.In.Language P.Out.Language P.Pass self.now) }
         ensures err { OnErr result (out.new.items ≡ out.old.items) }
     {
         let before = out.len();
@@ -134,7 +121,7 @@ impl<P: Pass> Offer<P> {
 
     /// Writes the offer at the end of `out`, which a refusal may leave longer.
     fn append(&self, out: &mut Vec<u8>) -> Result<(), NoMemory>
-        ensures ok { OnOk result (out.new.items ≡ out.old.items ++ text_of P.NUMBER P.In.spelling P.Out.spelling P.cert_spelling self.now) }
+        ensures ok { OnOk result (out.new.items ≡ out.old.items ++ text_of P.In.Language P.Out.Language P.Pass self.now) }
         ensures err { OnErr result (IsBeginningOf out.old.items out.new.items) }
     {
         self.validated();
@@ -147,7 +134,7 @@ impl<P: Pass> Offer<P> {
 
     /// The name of the offer: the SHA-256 of its text.
     pub fn name(&self, alloc: Global) -> Result<[u8; 32], NoMemory>
-        ensures { IfOk result (λ digest. digest ≡ sha256 (text_of P.NUMBER P.In.spelling P.Out.spelling P.cert_spelling self.now)) }
+        ensures { IfOk result (λ digest. digest ≡ sha256 (text_of P.In.Language P.Out.Language P.Pass self.now)) }
     {
         let mut text = Vec::new(alloc);
         self.write(&mut text)?;

@@ -19,7 +19,7 @@ returns-then-not-is_empty-clause-refused g c _ parts fits e =
 pub returns-clause-spelled : goal.returns-clause-spelled
 returns-clause-spelled g c =
     let nothing : c.in_ok-parts.behind.now ≡ [] = nil_from_length _ (grind (arith, nat_tests)) in
-    c.in_ok-parts.ensures.front ∙ ap (λ behind. text_of g.P.Pass.NUMBER g.P.In.Language.spelling g.P.Out.Language.spelling g.P.Pass.cert_spelling c.in_ok-parts.parts ++ behind) nothing ∙ append-nil _
+    c.in_ok-parts.ensures.front ∙ ap (λ behind. text_of g.P.In.Language g.P.Out.Language g.P.Pass c.in_ok-parts.parts ++ behind) nothing ∙ append-nil _
 
 pub returns-clause-only : goal.returns-clause-only
 returns-clause-only g c parts fits e = (c.in_ok-parts.ensures.only parts [] fits (e ∙ sym (append-nil _))).0
