@@ -1,8 +1,7 @@
 //! Whether an equation is among others that are in order.
 
-ghost use Rattle.std.specs.Prelude.{◌≡◌, ◌↔◌, ◌<◌, ◌≤◌, ℕ, length, get_or, IsTrue, Contains};
-ghost use Rattle.alloc_check_rules.specs.declared.equation.Equation.{Equation};
-ghost use Rattle.alloc_check_verdict.specs.Ranks.{place, rank as rank_of, RiseFrom};
+ghost use Rattle.std.specs.Prelude.{◌≡◌, ◌↔◌, ◌<◌, ◌≤◌, length, IsTrue, Contains};
+ghost use Rattle.alloc_check_verdict.specs.Ranks.{place, rank as rank_of, RiseFrom, AreLower, AreNoLower};
 
 use alloc_check_blocks::is_at;
 use alloc_check_rules::Equation;
@@ -36,8 +35,8 @@ pub(crate) fn is_same(equation: &Equation, other: &Equation) -> bool
 fn first_from(equations: &[Equation], least: u64) -> usize
     requires { RiseFrom 0 equations.now }
     ensures within { result ≤ length equations.now }
-    ensures lower { (k : ℕ) (d : Equation) → k < result → rank_of (get_or equations.now k d) < least }
-    ensures higher { (k : ℕ) (d : Equation) → result ≤ k → k < length equations.now → least ≤ rank_of (get_or equations.now k d) }
+    ensures lower { AreLower equations.now result least }
+    ensures higher { AreNoLower equations.now result least }
 {
     let mut low = 0;
     let mut high = equations.len();

@@ -1,8 +1,8 @@
 //! Whether the equations before a block give what is demanded of them.
 
-ghost use Rattle.std.specs.Prelude.{◌↔◌, IsTrue, All};
-ghost use Rattle.alloc_check_rules.specs.Equations.{demand as demand_of};
+ghost use Rattle.std.specs.Prelude.{◌↔◌, IsTrue};
 ghost use Rattle.alloc_check_rules.specs.Rules.{IsGiven, IsAnswered};
+ghost use Rattle.alloc_check_verdict.specs.Given.{AreAnswered};
 ghost use Rattle.alloc_check_verdict.specs.Ranks.{RiseFrom};
 
 use crate::among::is_among;
@@ -40,7 +40,7 @@ pub(crate) fn are_answered(
     after: &[Equation],
 ) -> bool
     requires { RiseFrom 0 equations.now }
-    ensures { IsTrue result ↔ All (λ e. IsAnswered equations.now block.now.before (demand_of block.now.body change e)) after.now }
+    ensures { IsTrue result ↔ AreAnswered equations.now block.now change after.now }
 {
     for equation in after {
         if !is_answered(equations, block, &block.demand(change, equation)) {

@@ -2,9 +2,10 @@
 
 ghost use Rattle.std.specs.Prelude.{◌≡◌, ◌↔◌, ◌<◌, ◌≤◌, ◌^◌, ℕ, length, All, IfOk, IsTrue};
 ghost use Rattle.rtl_passes.specs.Faults.{TellsLowest};
-ghost use Rattle.alloc_check_rules.specs.Pairs.{change_of as change_by, successors_of};
-ghost use Rattle.alloc_check_rules.specs.Rules.{equations_at, LeadsTo, IsCarried, StandsFor, HoldsAtEntry, IsRightAs, IsRightAt};
+ghost use Rattle.alloc_check_rules.specs.Pairs.{successors_of};
+ghost use Rattle.alloc_check_rules.specs.Rules.{equations_at, LeadsTo, IsCarried, IsRightAs, IsRightAt};
 ghost use Rattle.alloc_check_verdict.specs.Ranks.{RiseFrom};
+ghost use Rattle.alloc_check_verdict.specs.Right.{Stands, BeginsRight};
 
 use crate::answers::are_answered;
 use crate::entry::hold_at_entry;
@@ -76,7 +77,7 @@ fn stands_traced(
     block: &TracedBlock,
 ) -> bool
     requires { RiseFrom 0 equations.now }
-    ensures { IsTrue result ↔ StandsFor lists.now equations.now instruction.now block.now (change_by instruction.now block.now.body) }
+    ensures { IsTrue result ↔ Stands lists.now equations.now instruction.now block.now }
 {
     match change_of(instruction, block.body()) {
         Some(change) => is_carried(lists, equations, instruction, block, change),
@@ -93,7 +94,7 @@ fn stands_for(
     block: &Block,
 ) -> Result<bool, NoMemory>
     requires { RiseFrom 0 equations.now }
-    ensures { IfOk result (λ yes. IsTrue yes ↔ StandsFor lists.now equations.now instruction.now block.now (change_by instruction.now block.now.body)) }
+    ensures { IfOk result (λ yes. IsTrue yes ↔ Stands lists.now equations.now instruction.now block.now) }
 {
     let traced = TracedBlock::of(alloc, block)?;
     Ok(stands_traced(lists, equations, instruction, &traced))
@@ -106,7 +107,7 @@ fn begins_right(
     n: usize,
     equations: &[Equation],
 ) -> bool
-    ensures { IsTrue result ↔ (n ≡ input.now.entry → All (HoldsAtEntry input.now.parameters output.now.parameters) equations.now) }
+    ensures { IsTrue result ↔ BeginsRight input.now output.now n equations.now }
 {
     n != usize::from(input.entry())
         || hold_at_entry(
