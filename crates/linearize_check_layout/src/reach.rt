@@ -1,9 +1,10 @@
 //! Which nodes are reached from the entry, by a stack on the heap.
 
-ghost use Rattle.std.specs.Prelude.{◌≡◌, ℕ, ◌<◌, ◌↔◌, ◌++◌, Some, true, false, length, slice_get, slice_set, IfOk, OnOk};
-ghost use Rattle.linearize_check_proof.specs.Layout.{successors, successors_of};
+ghost use Rattle.std.specs.Prelude.{◌≡◌, ℕ, ◌<◌, ◌↔◌, ◌++◌, length, IfOk, OnOk};
+ghost use Rattle.linearize_check_proof.specs.Layout.{successors};
 ghost use Rattle.linearize_check_layout.specs.Marks.{IsMarked};
 ghost use Rattle.linearize_check_layout.specs.Reach.{IsReached};
+ghost use Rattle.linearize_check_layout.specs.Visits.{LeavesMarked, MarksNew};
 
 use lang_base::NoMemory;
 use ltl::{Block, Body, Function};
@@ -33,9 +34,8 @@ fn visit(
 ) -> Result<(), NoMemory>
     requires node { node < length blocks.now }
     requires marks { length marks.old.items ≡ length blocks.now }
-    ensures seen { slice_get marks.old.items node ≡ Some true → OnOk result ((marks.new.items ≡ marks.old.items) × (pending.new.items ≡ pending.old.items)) }
-    ensures first { slice_get marks.old.items node ≡ Some false → OnOk result ((marks.new.items ≡ slice_set marks.old.items node true)
-        × (pending.new.items ≡ pending.old.items ++ successors_of (slice_get blocks.now node))) }
+    ensures seen { LeavesMarked node marks.old.items pending.old.items marks.new.items pending.new.items result }
+    ensures first { MarksNew blocks.now node marks.old.items pending.old.items marks.new.items pending.new.items result }
 {
     let place = usize::from(node);
     if !marks[place] {
