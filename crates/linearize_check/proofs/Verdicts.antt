@@ -15,7 +15,7 @@ use Rattle.linearize_check_proof.specs.Layout.{successors_of}
 use Rattle.linearize_check_proof.specs.Orders.{ListsNodes, IsOrder}
 use Rattle.linearize_check_proof.specs.Rules.{IsLaidOut, laid_out}
 use Rattle.linearize_check_proof.proofs.Places.{Contains-later}
-use Rattle.linearize_check.specs.Faults.{HasShape, IsFreshAt, IsClosedAt, StandsAt, IsRightAt, TellsLowest, lesser, TellsFault}
+use Rattle.linearize_check.specs.Faults.{HasShape, IsFreshAt, IsClosedAt, IsOrderedAt, StandsAt, IsRightAt, TellsLowest, TellsMisplaced, lesser, TellsFault}
 use Rattle.linearize_check.proofs.Lowest.{lowest-same, lowest-both}
 use Rattle.linearize_check.proofs.Positions.{code-from_stands, code-stands}
 
@@ -44,7 +44,7 @@ all-from_closed blocks order closed = All-from_get_or (ClosedNode blocks order) 
 
 -- ---- an order that is allowed
 
-pub order-exact : (f : ltl.FunctionData) (order : List ℕ) (lowest : Option ℕ) (answer : Bool) → is_some lowest ≡ not answer → ListsNodes f order → TellsLowest (λ i. IsFreshAt order i × IsClosedAt f.blocks order i) order (length order) lowest → (answer ≡ true) ↔ IsOrder f order
+pub order-exact : (f : ltl.FunctionData) (order : List ℕ) (lowest : Option ℕ) (answer : Bool) → is_some lowest ≡ not answer → ListsNodes f order → TellsLowest (IsOrderedAt f.blocks order) order (length order) lowest → (answer ≡ true) ↔ IsOrder f order
 order-exact f order None answer e lists right = (
   λ _. record {
     lists = lists;
@@ -110,8 +110,8 @@ module _ (input : ltl.FunctionData) (output : linear.FunctionData) (order : List
   told-exact (Some fault) answer e told = (λ is. absurd (both_ways answer (not-true answer (sym e)) is), λ laid. absurd (not_laid_out fault told laid))
 
   -- the three tests together
-  pub right-from_tests : (a b : Option ℕ) → TellsLowest (λ i. IsFreshAt order i × IsClosedAt input.blocks order i) order (length order) a → TellsLowest (StandsAt input.blocks output.code order) order (length order) b → TellsLowest (IsRightAt input.blocks output.code order) order (length order) (lesser a b)
+  pub right-from_tests : (a b : Option ℕ) → TellsLowest (IsOrderedAt input.blocks order) order (length order) a → TellsMisplaced input.blocks output.code order b → TellsLowest (IsRightAt input.blocks output.code order) order (length order) (lesser a b)
   right-from_tests a b listed placed =
       lowest-same _ (IsRightAt input.blocks output.code order) order (length order) (lesser a b)
       (λ i. (λ p. record { fresh = p.0.0; closed = p.0.1; stands = p.1 }, λ r. ((r.fresh, r.closed), r.stands)))
-      (lowest-both (λ i. IsFreshAt order i × IsClosedAt input.blocks order i) (StandsAt input.blocks output.code order) order (length order) a b listed placed)
+      (lowest-both (IsOrderedAt input.blocks order) (StandsAt input.blocks output.code order) order (length order) a b listed placed)

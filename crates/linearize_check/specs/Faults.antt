@@ -24,6 +24,10 @@ IsFreshAt order i = ¬ Contains (take i order) (slice_index order i)
 abbrev pub IsClosedAt : List Block → List ℕ → ℕ → Type 0
 IsClosedAt blocks order i = All (Contains order) (successors_of (slice_get blocks (slice_index order i)))
 
+-- the node at a position is where it may stand
+abbrev pub IsOrderedAt : List Block → List ℕ → ℕ → Type 0
+IsOrderedAt blocks order i = IsFreshAt order i × IsClosedAt blocks order i
+
 -- the stretch of the first listed node
 abbrev pub first_stretch : List Block → List ℕ → List Instruction
 first_stretch blocks [] = []
@@ -60,6 +64,14 @@ pub record IsLowestWrong (Right : ℕ → Type 0) (order : List ℕ) (count n : 
 abbrev pub TellsLowest : (ℕ → Type 0) → List ℕ → ℕ → Option ℕ → Type 0
 TellsLowest Right order count None = (i : ℕ) → i < count → Right i
 TellsLowest Right order count (Some n) = IsLowestWrong Right order count n
+
+-- the lowest node whose stretch is not what the code has in its place
+abbrev pub TellsMisplaced : List Block → List Instruction → List ℕ → Option ℕ → Type 0
+TellsMisplaced blocks code order found = TellsLowest (StandsAt blocks code order) order (length order) found
+
+-- code stands behind the last stretch
+abbrev pub IsLonger : List Block → List Instruction → List ℕ → Type 0
+IsLonger blocks code order = length (order_code blocks order) < length code
 
 -- the lower of two nodes, where there are any
 abbrev pub lesser : Option ℕ → Option ℕ → Option ℕ

@@ -3,7 +3,7 @@
 ghost use Rattle.std.specs.Prelude.{◌≡◌, ◌+◌, ◌<◌, ◌≤◌, ◌^◌, ◌↔◌, false, Some, slice_get, All, length, drop, IsTrue, IfOk};
 ghost use Rattle.linearize_check_proof.specs.Layout.{order_code, successors_of};
 ghost use Rattle.linearize_check_layout.specs.Marks.{IsMarked, AreMarked};
-ghost use Rattle.linearize_check.specs.Faults.{IsFreshAt, IsClosedAt, TellsLowest, lesser};
+ghost use Rattle.linearize_check.specs.Faults.{IsFreshAt, IsClosedAt, IsOrderedAt, TellsLowest, lesser};
 
 use lang_base::NoMemory;
 use linearize_check_layout::block_at;
@@ -27,7 +27,7 @@ pub(crate) fn lowest_disordered(
     order: &[u16],
 ) -> Result<Option<u16>, NoMemory>
     requires { All (λ n. n < length blocks.now) order.now }
-    ensures { IfOk result (TellsLowest (λ i. IsFreshAt order.now i × IsClosedAt blocks.now order.now i) order.now (length order.now)) }
+    ensures { IfOk result (TellsLowest (IsOrderedAt blocks.now order.now) order.now (length order.now)) }
 {
     let mut listed = vec![in alloc; false; blocks.len()]?;
     let repeated = lowest_repeated(order, &mut listed);

@@ -1,8 +1,7 @@
 //! A walk along the code that anybody proposes, one stretch after the other.
 
-ghost use Rattle.std.specs.Prelude.{◌≡◌, ◌<◌, ◌↔◌, length, drop, IsTrue, IfOk};
-ghost use Rattle.linearize_check_proof.specs.Layout.{order_code};
-ghost use Rattle.linearize_check.specs.Faults.{BeginsWith, StandsAt, TellsLowest};
+ghost use Rattle.std.specs.Prelude.{◌≡◌, ◌↔◌, drop, IsTrue, IfOk};
+ghost use Rattle.linearize_check.specs.Faults.{BeginsWith, IsLonger, TellsMisplaced};
 
 use crate::faults::lesser;
 use lang_base::NoMemory;
@@ -27,8 +26,8 @@ pub(crate) fn walk_along(
     order: &[u16],
     code: &[Instruction],
 ) -> Result<Walk, NoMemory>
-    ensures misplaced { IfOk result (λ walk. TellsLowest (StandsAt blocks.now code.now order.now) order.now (length order.now) walk.misplaced) }
-    ensures longer { IfOk result (λ walk. IsTrue walk.is_longer ↔ (length (order_code blocks.now order.now) < length code.now)) }
+    ensures misplaced { IfOk result (λ walk. TellsMisplaced blocks.now code.now order.now walk.misplaced) }
+    ensures longer { IfOk result (λ walk. IsTrue walk.is_longer ↔ IsLonger blocks.now code.now order.now) }
 {
     let mut misplaced = None;
     let mut stretch = Vec::new(alloc);
