@@ -1,6 +1,10 @@
 -- Plans of blocks that are in range: moves and an act, before they are written as lists.
 use Rattle.std.specs.Prelude.{ℕ, IfSome}
+use Rattle.ints.specs.declared.operators.Op.{Op}
+use Rattle.ints.specs.Codes.{argument_count_of}
 use Rattle.machine.specs.Fits.{RegisterFits, MoveFits, ArgumentsFit}
+use Rattle.rtl_parts.specs.declared.arguments.Arguments.{Arguments}
+use Rattle.rtl_parts.specs.Fits as rtl
 use Rattle.ltl.specs.Function.{MaybeActFits}
 use Rattle.oracle_alloc_blocks.specs.declared.plan.Reached.{Reached}
 use Rattle.oracle_alloc_blocks.specs.declared.plan.Operands.{Operands}
@@ -23,3 +27,10 @@ pub record PlanFits (slots : ℕ) (p : Plan) : Type 0 where
   pub second : IfSome p.second (MoveFits slots)
   pub act : MaybeActFits p.act
   pub after : IfSome p.after (MoveFits slots)
+
+-- what takes these arguments fits for as many as there are, among however many registers
+abbrev pub OperandsFitFor : ℕ → Arguments → Operands → Type 0
+OperandsFitFor slots arguments o = (registers count : ℕ) → rtl.ArgumentsFit registers count arguments → OperandsFit slots count o
+
+abbrev pub PlanFitsFor : ℕ → Op → Arguments → Plan → Type 0
+PlanFitsFor slots op arguments p = (registers : ℕ) → rtl.ArgumentsFit registers (argument_count_of op) arguments → PlanFits slots p

@@ -2,9 +2,8 @@
 
 ghost use Rattle.std.specs.Prelude.{◌≡◌, ◌<◌, ℕ, length, All, IfOk, IfSome};
 ghost use Rattle.locations.specs.Fits.{MoveFits, MovesFit};
-ghost use Rattle.rtl_parts.specs.Fits as rtl_fits;
-ghost use Rattle.rtl_language.specs.Function as rtl_function;
 ghost use Rattle.ltl.specs.Function.{BlockFits};
+ghost use Rattle.oracle_alloc_blocks.specs.Blocks.{FitsForAct, FitsForCall, FitsForBranch, FitsForInstruction};
 ghost use Rattle.oracle_alloc_blocks.specs.Plans.{PlanFits};
 
 use crate::parameters::places_of;
@@ -65,7 +64,7 @@ fn doing(
     successor: u16,
     is_needless: bool,
 ) -> Result<Block, NoMemory>
-    ensures { (registers nodes : ℕ) → rtl_fits.ActFits registers act.now → successor < nodes → IfOk result (BlockFits places.now.slots nodes) }
+    ensures { FitsForAct places.now.slots act.now successor result }
 {
     if is_needless {
         return going(alloc, Plan::NOTHING, successor);
@@ -81,7 +80,7 @@ fn calling(
     target: Option<Register>,
     successor: u16,
 ) -> Result<Block, NoMemory>
-    ensures { (registers nodes : ℕ) → rtl_function.CallFits registers function arguments.now target → successor < nodes → IfOk result (BlockFits places.now.slots nodes) }
+    ensures { FitsForCall places.now.slots function arguments.now target successor result }
 {
     let arguments = places_of(alloc, places, arguments)?;
     let before = at_most_one(alloc, None)?;
@@ -105,7 +104,7 @@ fn branching(
     taken: u16,
     other: u16,
 ) -> Result<Block, NoMemory>
-    ensures { (registers nodes : ℕ) → rtl_fits.TestFits registers test.now → taken < nodes → other < nodes → IfOk result (BlockFits places.now.slots nodes) }
+    ensures { FitsForBranch places.now.slots test.now taken other result }
 {
     let asked = operands(places, &test.arguments);
     let before = moves_of(alloc, asked.first, asked.second)?;
@@ -161,7 +160,7 @@ fn block_of(
     instruction: &Instruction,
     is_needless: bool,
 ) -> Result<Block, NoMemory>
-    ensures { (registers nodes : ℕ) → rtl_function.InstructionFits registers nodes instruction.now → IfOk result (BlockFits places.now.slots nodes) }
+    ensures { FitsForInstruction places.now.slots instruction.now result }
 {
     match instruction {
         Instruction::Do { act, successor } => { doing(alloc, places, act, *successor, is_needless) }

@@ -1,9 +1,8 @@
 //! What blocks do in place of plain instructions, with the places that registers have.
 
 ghost use Rattle.std.specs.Prelude.{ℕ};
-ghost use Rattle.ints.specs.Codes.{argument_count_of};
 ghost use Rattle.rtl_parts.specs.Fits as rtl_fits;
-ghost use Rattle.oracle_alloc_blocks.specs.Plans.{PlanFits};
+ghost use Rattle.oracle_alloc_blocks.specs.Plans.{PlanFits, PlanFitsFor};
 
 use crate::places::Places;
 use crate::plan::Plan;
@@ -27,7 +26,7 @@ fn constant(places: &Places, target: Register, word: u32) -> Plan
 }
 
 fn operation(places: &Places, op: Op, target: Register, arguments: &Arguments) -> Plan
-    ensures { (registers : ℕ) → rtl_fits.ArgumentsFit registers (argument_count_of op) arguments.now → PlanFits places.now.slots result }
+    ensures { PlanFitsFor places.now.slots op arguments.now result }
 {
     let to = target_of(places, target);
     let taken = operands(places, arguments);

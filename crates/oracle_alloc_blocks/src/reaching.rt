@@ -2,8 +2,7 @@
 
 ghost use Rattle.std.specs.Prelude.{ℕ, ◌<◌, IfSome};
 ghost use Rattle.locations.specs.Fits.{LocationFits, MoveFits, HasRegister};
-ghost use Rattle.rtl_parts.specs.Fits as rtl_fits;
-ghost use Rattle.oracle_alloc_blocks.specs.Plans.{ReachedFits, OperandsFit, PlanFits};
+ghost use Rattle.oracle_alloc_blocks.specs.Plans.{ReachedFits, OperandsFitFor, PlanFits};
 
 use crate::places::Places;
 use crate::plan::{Operands, Plan, Reached};
@@ -60,7 +59,7 @@ pub(crate) fn target_of(places: &Places, register: Register) -> Reached
 
 /// The arguments, through r0 and r1 where they lie in slots.
 pub(crate) fn operands(places: &Places, arguments: &Arguments) -> Operands
-    ensures { (registers count : ℕ) → rtl_fits.ArgumentsFit registers count arguments.now → OperandsFit places.now.slots count result }
+    ensures { OperandsFitFor places.now.slots arguments.now result }
 {
     match *arguments {
         Arguments::One(first) => {
