@@ -5,7 +5,7 @@ ghost use Rattle.std.specs.Prelude.{◌≡◌, []};
 ghost use Rattle.lang_base.specs.Reading.{IsRead, Reads, items_of, more};
 ghost use Rattle.locations.specs.Reading.{location};
 ghost use Rattle.rtl_passes.specs.ListForm.{list, lists};
-ghost use Rattle.alloc_check_laws.specs.Reading.{equation};
+ghost use Rattle.alloc_check_laws.specs.Reading.{equation, lists_for};
 
 use alloc_check_rules::Equation;
 use lang_base::{FormError, Row, read_byte, read_u16, read_u16_below};
@@ -74,7 +74,7 @@ fn read_each(
     nodes: u32,
     bytes: &mut &[u8],
 ) -> Result<Vec<Row<Equation>>, FormError>
-    ensures { Reads (more (λ before. list (equation registers slots)) [] nodes bytes.old.now) (items_of result) bytes.new.now }
+    ensures { Reads (lists_for nodes registers slots bytes.old.now) (items_of result) bytes.new.now }
 {
     let mut read = Vec::new(alloc);
     for _ in 0..nodes {
