@@ -4,6 +4,7 @@ pub mod Meaning
 pub mod Spelling
 pub mod Reading
 pub mod Flags
+pub mod Noting
 pub mod Forms
 pub mod Equal
 pub mod Growth

@@ -1,11 +1,9 @@
 //! Readers of the parts of a function. Each is one function on lists, which says the value and the
 //! bytes behind it, or the first fault.
 
-ghost use Rattle.std.specs.Prelude.{◌≡◌, ℕ, ◌^◌, ◌<◌, [], ◌∷◌, ◌++◌, List, IfOk, length, slice_index};
+ghost use Rattle.std.specs.Prelude.{◌≡◌, ℕ, ◌^◌, ◌<◌, [], IfOk, length, slice_index};
 ghost use Rattle.lang_base.specs.Reading.{IsRead, Reads, items_of, more};
-ghost use Rattle.linear_language.specs.declared.instruction.Instruction.{Instruction};
-ghost use Rattle.linear_language.specs.Flags.{Flags};
-ghost use Rattle.linear_language.specs.Labels.{labels_of};
+ghost use Rattle.linear_language.specs.Noting.{IsNoted, ReadsPlaced};
 ghost use Rattle.linear_language.specs.Reading.{instruction, calling, placed, code, parts, function};
 
 use crate::function::Function;
@@ -66,8 +64,8 @@ fn read_placed(
     bytes: &mut &[u8],
 ) -> Result<Instruction, FormError>
     requires { length flags.old.items ≡ 2 ^ 16 }
-    ensures read { (before : List Instruction) → Flags flags.old.items (labels_of before) → Reads (placed slots before bytes.old.now) result bytes.new.now }
-    ensures flags { (before : List Instruction) → Flags flags.old.items (labels_of before) → IfOk result (λ i. Flags flags.new.items (labels_of (before ++ i ∷ []))) }
+    ensures read { ReadsPlaced slots flags.old.items bytes.old.now result bytes.new.now }
+    ensures flags { IfOk result (λ i. IsNoted flags.old.items i flags.new.items) }
 {
     let instruction = read_instruction(alloc, slots, bytes)?;
     if note(flags, &instruction) {
