@@ -1,5 +1,6 @@
 pub mod Results
 pub mod Same
+pub mod Comparing
 pub use Rattle.cminor_syntax.specs.Trees
 pub use Rattle.cminor_syntax.specs.Views
 pub use Rattle.cminor_syntax.specs.Fits

@@ -5,6 +5,7 @@ ghost use Rattle.std.specs.Cmp.Lexicographic.{pointwise};
 ghost use Rattle.cminor_syntax.specs.Trees as T;
 ghost use Rattle.cminor_syntax.specs.Views.{expression_tree, statement_tree, statements_tree, optional_tree};
 ghost use Rattle.cminor_language.specs.Same.{same_expression, same_option, same_statement};
+ghost use Rattle.cminor_language.specs.Comparing.{is_binary, is_choice, same_returned, is_store, is_if};
 
 use cminor_syntax::{Expression, Statement};
 use ints::Op;
@@ -66,7 +67,7 @@ fn is_unary(left: &Expression, op: Op, operand: &Expression) -> bool
 
 #[cycle(expressions)]
 fn is_binary(left: &Expression, op: Op, first: &Expression, second: &Expression) -> bool
-    ensures { result ≡ same_expression (expression_tree left.now) (T.Binary op (expression_tree first.now) (expression_tree second.now)) }
+    ensures { result ≡ is_binary left.now op first.now second.now }
 {
     match left {
         Expression::Binary(other, one, two) => {
@@ -83,7 +84,7 @@ fn is_choice(
     then: &Expression,
     other: &Expression,
 ) -> bool
-    ensures { result ≡ same_expression (expression_tree left.now) (T.Choice (expression_tree condition.now) (expression_tree then.now) (expression_tree other.now)) }
+    ensures { result ≡ is_choice left.now condition.now then.now other.now }
 {
     match left {
         Expression::Choice(asked, first, second) => {
@@ -117,7 +118,7 @@ fn same_expressions(left: &[Expression], right: &[Expression]) -> bool
 }
 
 fn same_returned(left: &Option<Expression>, right: &Option<Expression>) -> bool
-    ensures { result ≡ same_option same_expression (optional_tree expression_tree left.now) (optional_tree expression_tree right.now) }
+    ensures { result ≡ same_returned left.now right.now }
 {
     match left {
         None => right.is_none(),
@@ -178,7 +179,7 @@ fn is_assign(left: &Statement, variable: u16, value: &Expression) -> bool
 }
 
 fn is_store(left: &Statement, global: u16, index: &Expression, value: &Expression) -> bool
-    ensures { result ≡ same_statement (statement_tree left.now) (T.Store global (expression_tree index.now) (expression_tree value.now)) }
+    ensures { result ≡ is_store left.now global index.now value.now }
 {
     match left {
         Statement::Store(other, at, given) => {
@@ -238,7 +239,7 @@ fn same_each(left: &[Statement], right: &[Statement]) -> bool
 
 #[cycle(statements)]
 fn is_if(left: &Statement, condition: &Expression, then: &Statement, other: &Statement) -> bool
-    ensures { result ≡ same_statement (statement_tree left.now) (T.If (expression_tree condition.now) (statement_tree then.now) (statement_tree other.now)) }
+    ensures { result ≡ is_if left.now condition.now then.now other.now }
 {
     match left {
         Statement::If(asked, first, second) => {
