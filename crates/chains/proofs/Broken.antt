@@ -6,7 +6,6 @@ use Rattle.rtl_language.specs.Function.{FunctionData}
 use Rattle.linker_passes.specs.declared.errors.LinkError as chains
 use Rattle.linker_passes.specs.declared.errors.LinkError.TheVariants as chain
 use Rattle.linker_passes.specs.Chains.{HasChain, IsChain, AllChained, Refusal}
-use Rattle.linker.specs.Numbers.{refusal_to_link}
 use Rattle.chains.specs.declared.offering.Offers.{Offers}
 use Rattle.chains.specs.Lent.{Chain, Named, LendsTo, AreBeside}
 use Rattle.chains.specs.Offered.{GoOnFrom}
@@ -50,8 +49,9 @@ module _ (g : code.Named FunctionData) (m : Named) (chain : Chain) (offered : m.
       (goes_on f.function o n.chain are.0.lends before.0, first_broken functions offers named i are.1 before.1 of there)
 
 pub unlinked : (functions : List (code.Named FunctionData)) (offers : List Offers) (named : List Named) (e : chains.LinkError) → AreBeside functions offers named
-    → Refusal functions named e → IsUnlinked functions offers (refusal_to_link e)
+    → Refusal functions named e → IsUnlinked functions offers e
 unlinked functions offers named chain.NoMemory are told = tt
+unlinked functions offers named (chain.TooManyNodes i) are told = absurd told
 unlinked functions offers named chain.Names are told = absurd (told (names_are functions offers named are))
 unlinked functions offers named (chain.Missing i) are told = absurd (none_missing functions offers named i told.beside are told.there told.missing)
 unlinked functions offers named (chain.Unchained i) are told =

@@ -2,9 +2,8 @@
 //! pass, to one Linear program, which keeps the meaning of the C program.
 #![tactic(auto)]
 
-mod errors;
 mod programs;
+mod refusals;
 
-pub use errors::LinkError;
-pub use linker_passes::{text_chain, text_chains};
+pub use linker_passes::{LinkError, text_chain, text_chains};
 pub use programs::{Chain, Named, link, link_translated, translated};

@@ -7,11 +7,10 @@ ghost use Rattle.rtlgen_definition.specs.Gen.{gen};
 ghost use Rattle.rtlgen.specs.Refused.{HasFewNodes};
 ghost use Rattle.linear_language.specs.Meaning as linear;
 ghost use Rattle.linker_passes.specs.Chains.{linked, names_beside, names_of, AllChained, Refusal};
-ghost use Rattle.linker_passes.specs.declared.errors.LinkError.TheVariants as chain;
 ghost use Rattle.linker.specs.Refused.{IsRefused, HasNoTranslation};
 ghost use Rattle.rtl_language.specs.Meaning as rtl;
 
-use crate::errors::LinkError;
+use crate::refusals::rtl_of;
 use alloc_check::Alloc;
 use c_checker_rules::CProgram;
 use cminor::lower;
@@ -20,8 +19,7 @@ use cse_check::Cse;
 use lang_base::{Program, keeps_composes};
 use linear_language::Function;
 use linearize_check::Linearize;
-use linker_passes::{ChainOf, NamedOf, are_names};
-use rtlgen::translate;
+use linker_passes::{ChainOf, LinkError, NamedOf, are_names};
 use std::alloc::Global;
 
 /// The offers of one function, one for each pass, in the order of the passes.
@@ -47,7 +45,7 @@ pub fn translated(
 {
     keeps_composes();
     let lowered = lower(alloc, program)?;
-    let begun = translate(alloc, &lowered)?;
+    let begun = rtl_of(alloc, &lowered)?;
     Ok(begun)
 }
 
@@ -57,7 +55,7 @@ pub fn link_translated(
     alloc: Global,
     program: &Program<rtl_language::Function>,
     named: &[Named<'_>],
-) -> Result<Program<Function>, linker_passes::LinkError>
+) -> Result<Program<Function>, LinkError>
     ensures ok { IfOk result (λ made. made ≡ linked program.now named.now) }
     ensures same_names { IfOk result (λ made. names_of made.functions ≡ names_of program.now.functions) }
     ensures chained { OnOk result (AllChained program.now.functions named.now) }
@@ -65,10 +63,10 @@ pub fn link_translated(
 
     // Tested first: the names are others, or not as many. Where they are right and all chains are whole, only memory
     // can be refused.
-    ensures names { (result ≡ Err chain.Names) ↔ (names_beside named.now ≢ names_of program.now.functions) }
+    ensures names { (result ≡ Err LinkError.Names) ↔ (names_beside named.now ≢ names_of program.now.functions) }
     ensures refused { IfErr result (λ e. Refusal program.now.functions named.now e) }
     ensures whole { names_beside named.now ≡ names_of program.now.functions →
-        AllChained program.now.functions named.now → IfErr result (λ e. e ≡ chain.NoMemory) }
+        AllChained program.now.functions named.now → IfErr result (λ e. e ≡ LinkError.NoMemory) }
 {
     linker_passes::link::<ConstProp, Cse, Alloc, Linearize>(alloc, program, named)
 }
@@ -102,7 +100,7 @@ pub fn link(
     if !are_names(lowered.functions.as_slice(), named) {
         return Err(LinkError::Names);
     }
-    let translated = translate(alloc, &lowered)?;
+    let translated = rtl_of(alloc, &lowered)?;
     let made = link_translated(alloc, &translated, named)?;
     Ok(made)
 }

@@ -7,7 +7,7 @@ use Rattle.lang_base.specs.declared.program.Named as code
 use Rattle.linker_passes.specs.declared.chain.Chain.{Chain}
 use Rattle.linker_passes.specs.declared.chain.Named.{Named}
 use Rattle.linker_passes.specs.declared.errors.LinkError.{LinkError}
-use Rattle.linker_passes.specs.declared.errors.LinkError.TheVariants.{NoMemory, Missing, Unchained, Names}
+use Rattle.linker_passes.specs.declared.errors.LinkError.TheVariants.{NoMemory, TooManyNodes, Missing, Unchained, Names}
 use Rattle.linker_passes.specs.Chains.{HasChain, AllChained, IsMissing, IsUnchained, Refusal}
 use Rattle.linker_passes.specs.Linked.{IsEnd, IsLinked, AreLinked, Tells}
 
@@ -63,6 +63,7 @@ module _ {A1 A2 A3 A4 A5 C1 C2 C3 C4 : Type 0} (Valid : Chain (Parts A1 A2 C1) (
     refusal_at : (e : LinkError) → Tells n f.function m.chain e → Refusal functions named e
     refusal_at NoMemory told = tt
     refusal_at Names told = absurd told
+    refusal_at (TooManyNodes i) told = absurd told
     refusal_at (Missing i) told = missing_at m.chain i refl told
     refusal_at (Unchained i) told = unchained_at m.chain i refl told
 

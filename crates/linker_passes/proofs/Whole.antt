@@ -5,7 +5,7 @@ use Rattle.offers.specs.declared.parts.Parts.{Parts}
 use Rattle.lang_base.specs.declared.program.Named as code
 use Rattle.linker_passes.specs.declared.chain.Named.{Named}
 use Rattle.linker_passes.specs.declared.errors.LinkError.{LinkError}
-use Rattle.linker_passes.specs.declared.errors.LinkError.TheVariants.{NoMemory, Missing, Unchained, Names}
+use Rattle.linker_passes.specs.declared.errors.LinkError.TheVariants.{NoMemory, TooManyNodes, Missing, Unchained, Names}
 use Rattle.linker_passes.specs.Chains.{HasChain, AllChained, Refusal}
 
 module _ {A1 A2 A3 A4 A5 C1 C2 C3 C4 : Type 0} where
@@ -36,6 +36,7 @@ module _ {A1 A2 A3 A4 A5 C1 C2 C3 C4 : Type 0} where
       → AllChained functions named → e ≢ Names → Refusal functions named e → e ≡ NoMemory
   only_memory functions named NoMemory chained other told = refl
   only_memory functions named Names chained other told = absurd (other refl)
+  only_memory functions named (TooManyNodes i) chained other told = absurd told
   only_memory functions named (Missing i) chained other told = absurd (none_missing functions named i told.beside chained told.there told.missing)
   only_memory functions named (Unchained i) chained other told =
       absurd (told.broken (subst (λ chain. HasChain told.function.function chain) told.offered (chain_there functions named i told.function told.beside chained told.of told.there)))

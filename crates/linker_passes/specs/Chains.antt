@@ -6,7 +6,7 @@ use Rattle.offers.specs.declared.parts.Parts.{Parts}
 use Rattle.linker_passes.specs.declared.chain.Chain.{Chain}
 use Rattle.linker_passes.specs.declared.chain.Named.{Named}
 use Rattle.linker_passes.specs.declared.errors.LinkError.{LinkError}
-use Rattle.linker_passes.specs.declared.errors.LinkError.TheVariants.{NoMemory, Missing, Unchained, Names}
+use Rattle.linker_passes.specs.declared.errors.LinkError.TheVariants.{NoMemory, TooManyNodes, Missing, Unchained, Names}
 
 -- the names of a program's functions, and those beside offers
 abbrev pub names_of : {F : Type 0} → List (code.Named F) → List (List ℕ)
@@ -70,5 +70,6 @@ pub record IsUnchained {A1 A2 A3 A4 A5 C1 C2 C3 C4 : Type 0} (functions : List (
 abbrev pub Refusal : {A1 A2 A3 A4 A5 C1 C2 C3 C4 : Type 0} → List (code.Named A1) → List (Named (Parts A1 A2 C1) (Parts A2 A3 C2) (Parts A3 A4 C3) (Parts A4 A5 C4)) → LinkError → Type 0
 Refusal functions named NoMemory = Unit {0}
 Refusal functions named Names = names_beside named ≢ names_of functions
+Refusal functions named (TooManyNodes i) = ⊥
 Refusal functions named (Missing i) = IsMissing functions named i
 Refusal functions named (Unchained i) = IsUnchained functions named i

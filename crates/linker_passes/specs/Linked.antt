@@ -5,7 +5,7 @@ use Rattle.lang_base.specs.declared.program.Named as code
 use Rattle.linker_passes.specs.declared.chain.Chain.{Chain}
 use Rattle.linker_passes.specs.declared.chain.Named.{Named}
 use Rattle.linker_passes.specs.declared.errors.LinkError.{LinkError}
-use Rattle.linker_passes.specs.declared.errors.LinkError.TheVariants.{NoMemory, Missing, Unchained, Names}
+use Rattle.linker_passes.specs.declared.errors.LinkError.TheVariants.{NoMemory, TooManyNodes, Missing, Unchained, Names}
 use Rattle.linker_passes.specs.Chains.{IsChain}
 
 module _ {A1 A2 A3 A4 A5 C1 C2 C3 C4 : Type 0} where
@@ -37,6 +37,7 @@ module _ {A1 A2 A3 A4 A5 C1 C2 C3 C4 : Type 0} where
   abbrev pub Tells : ℕ → A1 → Option (Chain (Parts A1 A2 C1) (Parts A2 A3 C2) (Parts A3 A4 C3) (Parts A4 A5 C4)) → LinkError → Type 0
   Tells number start chain NoMemory = Unit {0}
   Tells number start chain Names = ⊥
+  Tells number start chain (TooManyNodes function) = ⊥
   Tells number start None (Missing function) = function ≡ number
   Tells number start (Some chain) (Missing function) = ⊥
   Tells number start None (Unchained function) = ⊥

@@ -11,6 +11,10 @@ pub enum LinkError {
     /// A growth of memory was refused.
     #[error("NoMemory")]
     NoMemory,
+    /// The function needs more than 65,535 nodes, so that it has no RTL with which a chain begins. Only the linking of C
+    /// programs tells so.
+    #[error("TooManyNodes")]
+    TooManyNodes(usize),
     /// The function has no offers.
     #[error("Missing")]
     Missing(usize),
@@ -30,6 +34,7 @@ impl LinkError {
     {
         match self {
             LinkError::NoMemory => 1,
+            LinkError::TooManyNodes(_) => 240,
             LinkError::Missing(_) => 601,
             LinkError::Unchained(_) => 602,
             LinkError::Names => 603,
@@ -42,7 +47,9 @@ impl LinkError {
     {
         match self {
             LinkError::NoMemory | LinkError::Names => None,
-            LinkError::Missing(function) | LinkError::Unchained(function) => Some(function),
+            LinkError::TooManyNodes(function)
+            | LinkError::Missing(function)
+            | LinkError::Unchained(function) => Some(function),
         }
     }
 }

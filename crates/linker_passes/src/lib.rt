@@ -4,7 +4,6 @@
 #![tactic(auto)]
 
 mod chain;
-mod copying;
 mod errors;
 mod functions;
 mod laws;

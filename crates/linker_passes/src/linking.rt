@@ -3,11 +3,11 @@ ghost use Rattle.lang_base.specs.Keeps.{Keeps};
 ghost use Rattle.linker_passes.specs.Chains.{linked, names_beside, names_of, AllChained, Refusal};
 
 use crate::chain::NamedOf;
-use crate::copying::copy_globals;
 use crate::errors::LinkError;
 use crate::functions::link_functions;
 use crate::names::are_names;
 use lang_base::{Language, Pass, Program, Row};
+use lang_programs::copy_globals;
 use std::alloc::Global;
 
 /// The program of the last outputs: each function is the output of its fourth offer. Nothing is searched:
@@ -33,10 +33,10 @@ pub fn link<P1: Pass, P2: Pass<In = P1::Out>, P3: Pass<In = P2::Out>, P4: Pass<I
     if !are_names(program.functions.as_slice(), named) {
         return Err(LinkError::Names);
     }
-    let globals = copy_globals(alloc, program.globals.as_slice())?;
+    let globals = copy_globals(alloc, &program.globals)?;
     let functions = link_functions::<P1, P2, P3, P4>(alloc, program.functions.as_slice(), named)?;
     Ok(Program {
-        globals: Row::from_vec(globals),
+        globals,
         functions: Row::from_vec(functions),
     })
 }

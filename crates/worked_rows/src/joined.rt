@@ -103,7 +103,7 @@ fn chain_at(offers: &[Offers], beside: Beside, number: usize) -> Option<Chain<'_
 fn name_at(lowered: &Program<cminor_language::Function>, names: Names, number: usize) -> &[u8] {
     let functions = lowered.functions.as_slice();
     let at = match names {
-        Names::Turned => (functions.len() - 1).saturating_sub(number),
+        Names::Turned => functions.len().saturating_sub(1).saturating_sub(number),
         _ => number,
     };
     match functions.get(at) {

@@ -1,7 +1,6 @@
 -- What is linked, and what is refused, in the words of the offers.
 use Rattle.std.proofs.Common.{◌≡◌, length, sym, ap, subst, ◌∙◌, arith}
 use Rattle.std.proofs.lemmas.Result.{err_from_is_err_and}
-use Rattle.linker.specs.Numbers.{refusal_to_link}
 use Rattle.chains.specs.Lent.{AreBeside}
 use Rattle.chains.proofs.Beside.{names_are, chained, all_go_on, all_ends}
 use Rattle.chains.proofs.Broken.{unlinked}
@@ -28,7 +27,7 @@ returns-in_err-made-clause-whole c = λ all.
     let are = subst (λ ns. AreBeside fs c.args.offers.now ns) (sym c.deref.ensures.value) at in
     let memory = c.in_err-made.ensures.whole (names_are fs c.args.offers.now c.deref.result.now are) (chained fs c.args.offers.now c.deref.result.now are all) in
     let p = err_from_is_err_and c.from_residual-in_err-made.result c.from_residual-in_err-made.ensures.1 in
-    rw (p.1, p.2) (ap refusal_to_link memory)
+    rw (p.1, p.2) memory
 
 pub returns-clause-ok : goal.returns-clause-ok
 returns-clause-ok c =

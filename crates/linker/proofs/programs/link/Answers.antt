@@ -5,9 +5,8 @@ use Rattle.c_checker_rules.specs.Checked.{program_tree}
 use Rattle.cminor_lowering.specs.Programs.{low}
 use Rattle.rtlgen_definition.specs.Gen.{gen}
 use Rattle.linker_passes.specs.Chains.{names_of, AllChained}
-use Rattle.rtlgen.specs.Refused as translation
-use Rattle.linker.specs.Numbers.{refusal_to_link}
-use Rattle.linker.proofs.Steps.{names_translated, refused_along, few_translate}
+use Rattle.linker.specs.Refused.{HasNoTranslation}
+use Rattle.linker.proofs.Steps.{names_translated, refused_along, few_translate, untranslated}
 use Rattle.linker.proofs.programs.link.Goals as goal
 
 pub returns-in_err-made-clause-refused : goal.returns-in_err-made-clause-refused
@@ -28,9 +27,15 @@ returns-clause-keeps c =
 
 pub returns-in_err-translated-clause-whole : goal.returns-in_err-translated-clause-whole
 returns-in_err-translated-clause-whole c = λ names few chained.
-    let told = subst (λ p. translation.IsRefused p.functions c.in_err-translated.field-0.0) c.in_ok-lowered.ensures.same c.in_err-translated.ensures.refused in
+    let told = subst (λ p. HasNoTranslation p c.in_err-translated.field-0.0) c.in_ok-lowered.ensures.same c.in_err-translated.ensures.refused in
     let p = err_from_is_err_and c.from_residual-in_err-translated.result c.from_residual-in_err-translated.ensures.1 in
-    rw (p.1, p.2) (few_translate (low (program_tree c.args.program.now)).functions c.in_err-translated.field-0.0 few told)
+    rw (p.1, p.2) (few_translate (low (program_tree c.args.program.now)) c.in_err-translated.field-0.0 few told)
+
+pub returns-in_err-translated-clause-refused : goal.returns-in_err-translated-clause-refused
+returns-in_err-translated-clause-refused c =
+    let told = subst (λ p. HasNoTranslation p c.in_err-translated.field-0.0) c.in_ok-lowered.ensures.same c.in_err-translated.ensures.refused in
+    let p = err_from_is_err_and c.from_residual-in_err-translated.result c.from_residual-in_err-translated.ensures.1 in
+    rw (p.1, p.2) (untranslated (low (program_tree c.args.program.now)) c.args.named.now c.in_err-translated.field-0.0 told)
 
 pub returns-in_err-made-clause-whole : goal.returns-in_err-made-clause-whole
 returns-in_err-made-clause-whole c = λ names few chained.
@@ -38,4 +43,4 @@ returns-in_err-made-clause-whole c = λ names few chained.
     let names_are = names ∙ sym (names_translated (low (program_tree c.args.program.now)).functions) ∙ sym (ap (λ p. names_of p.functions) same) in
     let chains_are = subst (λ p. AllChained p.functions c.args.named.now) (sym same) chained in
     let p = err_from_is_err_and c.from_residual-in_err-made.result c.from_residual-in_err-made.ensures.1 in
-    rw (p.1, p.2) (ap refusal_to_link (c.in_err-made.ensures.whole names_are chains_are))
+    rw (p.1, p.2) (c.in_err-made.ensures.whole names_are chains_are)
