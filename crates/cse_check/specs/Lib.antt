@@ -1,6 +1,7 @@
 pub mod Baseline
 pub mod Sources
 pub mod PassLaws
+pub mod Verdict
 pub use Rattle.cse_check_rules.specs.Equations
 pub use Rattle.cse_check_rules.specs.Rules
 pub use Rattle.cse_check_codec.specs.Text

@@ -1,8 +1,8 @@
 //! Whether an output is accepted, and where it is not.
 
-ghost use Rattle.std.specs.Prelude.{◌↔◌, IsTrue, IfOk, length};
-ghost use Rattle.rtl_passes.specs.Faults.{TellsFault};
-ghost use Rattle.cse_check_rules.specs.Rules.{HasShape, IsRightAt, IsEliminated};
+ghost use Rattle.std.specs.Prelude.{◌↔◌, IsTrue, IfOk};
+ghost use Rattle.cse_check_rules.specs.Rules.{IsEliminated};
+ghost use Rattle.cse_check.specs.Verdict.{TellsWhy};
 
 use crate::lists::{EquationLists, has_shape};
 use crate::nodes::lowest_wrong;
@@ -18,7 +18,7 @@ pub fn why(
     output: &Function,
     equations: &EquationLists,
 ) -> Result<Option<Fault>, NoMemory>
-    ensures { IfOk result (TellsFault (HasShape input.now output.now equations.now) (IsRightAt input.now output.now equations.now) (length input.now.nodes)) }
+    ensures { IfOk result (TellsWhy input.now output.now equations.now) }
 {
     let lists = equations.as_slice();
     if !has_shape(input, output, lists) {
