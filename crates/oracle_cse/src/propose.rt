@@ -1,5 +1,6 @@
-ghost use Rattle.std.specs.Prelude.{◌≡◌, ℕ, All, length, IfOk, IfSome};
+ghost use Rattle.std.specs.Prelude.{◌≡◌, All, length, IfOk};
 ghost use Rattle.rtl_language.specs.Function.{InstructionFits};
+ghost use Rattle.oracle_cse.specs.Ranges.{StaysInRange, MayMove};
 
 use crate::analysis::Analysis;
 use crate::unreached::give_each;
@@ -87,7 +88,7 @@ fn chosen(
     equations: &[Equation],
     words: &mut Pcg32,
 ) -> Result<Instruction, NoMemory>
-    ensures { (nodes : ℕ) → InstructionFits registers nodes instruction.now → IfOk result (InstructionFits registers nodes) }
+    ensures { StaysInRange registers instruction.now result }
 {
     match allowed(registers, instruction, equations) {
         Some(shorter) if words.next_word() % 2 == 1 => Ok(shorter),
@@ -97,7 +98,7 @@ fn chosen(
 
 /// The move that the first of the equations allows which allows one.
 fn allowed(registers: u16, instruction: &Instruction, equations: &[Equation]) -> Option<Instruction>
-    ensures { (nodes : ℕ) → InstructionFits registers nodes instruction.now → IfSome result (InstructionFits registers nodes) }
+    ensures { MayMove registers instruction.now result }
 {
     for equation in equations {
         let moved = allowed_by(registers, instruction, *equation);
@@ -117,7 +118,7 @@ fn holder(equation: Equation) -> Register {
 }
 
 fn allowed_by(registers: u16, instruction: &Instruction, equation: Equation) -> Option<Instruction>
-    ensures { (nodes : ℕ) → InstructionFits registers nodes instruction.now → IfSome result (InstructionFits registers nodes) }
+    ensures { MayMove registers instruction.now result }
 {
     let source = holder(equation);
     if source >= registers {
