@@ -12,18 +12,14 @@ use Rattle.paxos_core_world.specs.declared.msg.Msg.{Msg}
 use Rattle.paxos_core_law.specs.NodeState.{IsRoomSize}
 use Rattle.paxos_core.specs.Call.{Call, On}
 use Rattle.paxos_core.specs.Schedule.{Room, NodeCall, played, room_after, IsSchedule, SchedulesAreRuns, WasSent}
-use Rattle.cfarm_schedules.specs.Commands.{head_of, line_of, IsInWords}
+use Rattle.cfarm_schedules_lines.specs.Commands.{head_of, line_of, IsInWords}
 use Rattle.cfarm_schedules.specs.Plays.{asked, IsAsked, AreDone, printed, closing, HasObeyed, IsNoCommand, IsShown, StopsAt}
 use Rattle.cfarm_schedules.specs.Rooms.{start, told_by}
-use Rattle.cfarm_schedules.specs.Texts.{text_of, IsTextOf, first_line}
+use Rattle.cfarm_schedules_lines.specs.Texts.{text_of, IsLeft, IsTextOf, first_line}
 use Rattle.cfarm_schedules.specs.Told.{told_text}
-use Rattle.cfarm_schedules.specs.declared.command.Command.{Command}
-use Rattle.cfarm_schedules.specs.declared.command.Command.TheVariants as command
+use Rattle.cfarm_schedules_lines.specs.declared.command.Command.{Command}
+use Rattle.cfarm_schedules_lines.specs.declared.command.Command.TheVariants as command
 use Rattle.cfarm_schedules.specs.declared.told.Told.{Told}
-
--- what is left of the text behind the lines that were read
-abbrev pub IsLeft : List ℕ → ℕ → List Command → List ℕ → Type 0
-IsLeft text count commands rest = (text ≡ text_of count commands ++ rest) ⊎ ((rest ≡ []) × (text ++ 10 ∷ [] ≡ text_of count commands))
 
 -- a line, and what stands behind it
 abbrev pub IsLine : List ℕ → List ℕ → List ℕ → Type 0
@@ -116,7 +112,7 @@ first_going text count line rest room before size is split stands = record {
     fits (inl e) = let h = longer line rest in let same = ap length e in omega arith
     fits (inr p) = let none = ap length p.1 in omega arith
 
-next_left : (text : List ℕ) (count : ℕ) (commands : List Command) (c : Command) (rest line behind : List ℕ) → rest ≢ [] → line ≡ line_of c → IsLeft text count commands rest → IsLine rest line behind → IsLeft text count (c ∷ commands) behind
+pub next_left : (text : List ℕ) (count : ℕ) (commands : List Command) (c : Command) (rest line behind : List ℕ) → rest ≢ [] → line ≡ line_of c → IsLeft text count commands rest → IsLine rest line behind → IsLeft text count (c ∷ commands) behind
 next_left text count commands c rest line behind more is (inr none) split = absurd (more none.0)
 next_left text count commands c rest line behind more is (inl so) (inl e) =
     inl (so ∙ ap (λ l. text_of count commands ++ l) (e ∙ ap (λ l. l ++ 10 ∷ behind) is ∙ sym (append_assoc (line_of c) (10 ∷ []) behind))

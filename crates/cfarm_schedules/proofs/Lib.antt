@@ -1,4 +1,4 @@
-pub mod Decimals
 pub mod Moves
 pub mod Fresh
 pub mod Going
+pub mod Cut

@@ -10,7 +10,7 @@ use Rattle.paxos_core.specs.Call.{Call, after_call, answer_to}
 use Rattle.paxos_core.specs.Schedule.{NodeCall, put_node, room_after}
 use Rattle.cfarm_schedules.specs.Plays.{asked, numbered, IsAsked}
 use Rattle.cfarm_schedules.specs.Rooms.{Listed, node_at, room_of, after_call_of, told_of, told_by}
-use Rattle.cfarm_schedules.specs.declared.command.Command.{Command}
+use Rattle.cfarm_schedules_lines.specs.declared.command.Command.{Command}
 use Rattle.cfarm_schedules.specs.declared.told.Told.{Told}
 
 read_set_same : (nodes : List NodeState) (i : ℕ) (t d : NodeState) → i < length nodes → slice_index_or (slice_set nodes i t) i d ≡ t

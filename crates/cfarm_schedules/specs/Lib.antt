@@ -1,5 +1,6 @@
-pub mod Commands
-pub mod Texts
 pub mod Told
 pub mod Rooms
 pub mod Plays
+pub mod Lines
+pub use Rattle.cfarm_schedules_lines.specs.Commands
+pub use Rattle.cfarm_schedules_lines.specs.Texts

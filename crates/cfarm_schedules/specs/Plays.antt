@@ -3,17 +3,18 @@ use Rattle.std.specs.Prelude.{◌≡◌, ◌≢◌, ℕ, zero, suc, ◌<◌, ◌
 use Rattle.std.specs.Io.KnownBytes.{Appends}
 use Rattle.std.specs.Option.{option_map}
 use Rattle.std.specs.Fmt.{decimal}
+use Rattle.lang_base.specs.Behaviour.{IsBeginningOf}
 use Rattle.paxos_core_world.specs.declared.msg.Msg.{Msg}
 use Rattle.paxos_core_world.specs.World.{no_nodes}
 use Rattle.paxos_core_law.specs.NodeState.{NodeState, IsRoomSize}
 use Rattle.paxos_core.specs.Call.{Offer, Start, Proposal, On, Restart}
 use Rattle.paxos_core.specs.Schedule.{Room, NodeCall, played, room_after, IsPlayed}
-use Rattle.cfarm_schedules.specs.Commands.{head_of, line_of}
+use Rattle.cfarm_schedules_lines.specs.Commands.{head_of, line_of}
 use Rattle.cfarm_schedules.specs.Rooms.{Listed, room_of, start, told_by}
-use Rattle.cfarm_schedules.specs.Texts.{IsTextOf, text_of, first_line}
+use Rattle.cfarm_schedules_lines.specs.Texts.{IsTextOf, IsLeft, text_of, first_line}
 use Rattle.cfarm_schedules.specs.Told.{told_text}
-use Rattle.cfarm_schedules.specs.declared.command.Command.{Command}
-use Rattle.cfarm_schedules.specs.declared.command.Command.TheVariants as command
+use Rattle.cfarm_schedules_lines.specs.declared.command.Command.{Command}
+use Rattle.cfarm_schedules_lines.specs.declared.command.Command.TheVariants as command
 use Rattle.cfarm_schedules.specs.declared.error.ScheduleError.{ScheduleError}
 use Rattle.cfarm_schedules.specs.declared.error.ScheduleError.TheVariants.{NoMemory, Schedule, Write}
 use Rattle.cfarm_schedules.specs.declared.told.Told.{Told}
@@ -115,8 +116,29 @@ pub record StopsBehind (text : List ℕ) (line : ℕ) (before after : Option (Li
 abbrev pub StopsAt : List ℕ → ℕ → Option (List ℕ) → Option (List ℕ) → Type 0
 StopsAt text line before after = ((line ≡ 1) × HasNoHead text × Appends before after []) ⊎ StopsBehind text line before after
 
--- why a schedule is not shown to its end, and what was printed of it then
+-- what is shown of these calls, where this is left of the text behind their lines: at its end the last line too
+abbrev pub shown_of : ℕ → List NodeCall → List ℕ → List ℕ
+shown_of count calls [] = printed count calls ++ closing count (played (start count) calls)
+shown_of count calls (b ∷ rest) = printed count calls
+
+-- a beginning of the text was printed
+abbrev pub IsBegun : List ℕ → Option (List ℕ) → Option (List ℕ) → Type 0
+IsBegun text before after = (front : List ℕ) × IsBeginningOf front text × Appends before after front
+
+-- The first lines were played, and a beginning of what they show was printed.
+pub record IsCutOff (text : List ℕ) (before after : Option (List ℕ)) : Type 0 where
+  pub count : ℕ
+  pub commands : List Command
+  pub calls : List NodeCall
+  pub rest : List ℕ
+  pub size : IsRoomSize count
+  pub lines : IsLeft text count commands rest
+  pub done : AreDone count commands calls
+  pub output : IsBegun (shown_of count calls rest) before after
+
+-- Why a schedule is not shown to its end, and what was printed of it then: what the lines before a bad one print; where
+-- memory or the writer failed, a beginning of what the whole would show.
 abbrev pub IsStopped : List ℕ → ScheduleError → Option (List ℕ) → Option (List ℕ) → Type 0
-IsStopped text NoMemory before after = Unit {0}
+IsStopped text NoMemory before after = IsCutOff text before after
 IsStopped text (Schedule line) before after = StopsAt text line before after
-IsStopped text Write before after = Unit {0}
+IsStopped text Write before after = IsCutOff text before after

@@ -1,3 +1,6 @@
+ghost use Rattle.std.specs.Prelude.{◌≡◌};
+ghost use Rattle.cfarm_schedules.specs.Lines.{status_of};
+
 use lang_base::NoMemory;
 use std::alloc::AllocError;
 use std::error::Error;
@@ -9,11 +12,29 @@ pub enum ScheduleError {
     NoMemory,
     /// The line with this number, from 1, has another form, or names a node that is none or a message that was not sent yet.
     Schedule(u64),
-    /// The writer failed.
+    /// The writer failed; it may hold a beginning of the output.
     Write,
 }
 
+impl ScheduleError {
+    /// The exit status of the program.
+    pub fn status(self) -> u8
+        ensures { result ≡ status_of self }
+    {
+        match self {
+            ScheduleError::NoMemory => 7,
+            ScheduleError::Schedule(_) => 2,
+            ScheduleError::Write => 4,
+        }
+    }
+}
+
 impl fmt::Display for ScheduleError {
+    ghost use Rattle.std.specs.Prelude.{Some};
+    ghost use Rattle.cfarm_schedules.specs.Lines.{schedule_line};
+
+    ghost output = { λ fault. Some (schedule_line fault) };
+
     fn fmt<W: fmt::Write>(&self, f: &mut fmt::Formatter<W>) -> fmt::Result {
         match self {
             ScheduleError::NoMemory => write!(f, "memory"),

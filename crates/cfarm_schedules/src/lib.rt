@@ -2,15 +2,13 @@
 //! one call of a node, so what is shown is a run of the protocol.
 #![tactic(auto)]
 
-mod command;
 mod error;
-mod parts;
 mod playing;
-mod reading;
+mod printing;
 mod room;
 mod told;
 
-pub use command::Command;
+pub use cfarm_schedules_lines::Command;
 pub use error::ScheduleError;
 pub use playing::simulate;
 pub use told::Told;

@@ -1,19 +1,18 @@
 ghost use Rattle.std.specs.Prelude.{◌≡◌, ◌<◌, ℕ, ◌+◌, ◌++◌, ◌∷◌, ◌⊎◌, [], OnOk, OnErr, IfOk, IfErr, IfSome, IsNone, length};
-ghost use Rattle.std.specs.Io.KnownBytes.{Appends};
+ghost use Rattle.std.specs.Io.KnownBytes.{Appends, Keeps};
 ghost use Rattle.std.specs.String.{string_bytes};
 ghost use Rattle.cfarm_schedules.specs.Rooms.{room_of};
 ghost use Rattle.cfarm_schedules.specs.Told.{told_text};
-ghost use Rattle.cfarm_schedules.specs.Texts.{first_line};
-ghost use Rattle.cfarm_schedules.specs.declared.command.Command.TheVariants as Command;
+ghost use Rattle.cfarm_schedules_lines.specs.Texts.{first_line};
+ghost use Rattle.cfarm_schedules_lines.specs.declared.command.Command.TheVariants as Command;
 ghost use Rattle.cfarm_schedules.specs.declared.error.ScheduleError.TheVariants as ScheduleError;
-ghost use Rattle.cfarm_schedules.specs.Plays.{IsNoCommand, IsRefused, IsShown, IsStopped, Obeyed, ObeyedLine, closing};
+ghost use Rattle.cfarm_schedules.specs.Plays.{IsBegun, IsNoCommand, IsRefused, IsShown, IsStopped, Obeyed, ObeyedLine, closing};
 
-use crate::command::Command;
 use crate::error::ScheduleError;
-use crate::parts::split_at_byte;
-use crate::reading::{command_of, count_of};
+use crate::printing::print_all;
 use crate::room::Room;
 use crate::told::Told;
+use cfarm_schedules_lines::{Command, command_of, count_of, split_at_byte};
 use lang_base::NoMemory;
 use paxos_core::agreement;
 use std::alloc::Global;
@@ -76,11 +75,11 @@ fn obey_line(alloc: Global, room: &mut Room, line: &[u8]) -> Result<Option<Told>
 fn print<W: Write>(alloc: Global, told: Told, out: &mut W) -> Result<(), ScheduleError>
     ensures ok { OnOk result (Appends (W.contents out.old) (W.contents out.new) (told_text told)) }
     ensures err { IfErr result (λ e. (e ≡ ScheduleError.NoMemory) ⊎ (e ≡ ScheduleError.Write)) }
+    ensures begun { OnErr result (IsBegun (told_text told) (W.contents out.old) (W.contents out.new)) }
 {
-    let text = format!(in alloc; "{told}")?;
-    match out.write_all(text.as_bytes()) {
-        Ok(()) => Ok(()),
-        Err(_) => Err(ScheduleError::Write),
+    match format!(in alloc; "{told}") {
+        Ok(text) => print_all(text.as_bytes(), out),
+        Err(_) => Err(ScheduleError::NoMemory),
     }
 }
 
@@ -99,12 +98,40 @@ fn closing_of(alloc: Global, room: &Room) -> Result<String, NoMemory>
     Ok(text)
 }
 
+/// What is told of the line with this number, which is none: what was printed of the lines before it is flushed.
+fn stop_at<W: Write>(number: u64, out: &mut W) -> ScheduleError
+    ensures told { (result ≡ ScheduleError.Schedule number) ⊎ (result ≡ ScheduleError.Write) }
+    ensures kept { Keeps (W.contents out.old) (W.contents out.new) }
+{
+    match out.flush() {
+        Ok(()) => ScheduleError::Schedule(number),
+        Err(_) => ScheduleError::Write,
+    }
+}
+
+/// Prints the last line, and flushes all.
+fn close<W: Write>(alloc: Global, room: &Room, out: &mut W) -> Result<(), ScheduleError>
+    ensures ok { OnOk result (Appends (W.contents out.old) (W.contents out.new) (closing room.now.count (room_of room.now))) }
+    ensures err { IfErr result (λ e. (e ≡ ScheduleError.NoMemory) ⊎ (e ≡ ScheduleError.Write)) }
+    ensures begun { OnErr result (IsBegun (closing room.now.count (room_of room.now)) (W.contents out.old) (W.contents out.new)) }
+{
+    let Ok(text) = closing_of(alloc, room) else {
+        return Err(ScheduleError::NoMemory);
+    };
+    print_all(text.as_bytes(), out)?;
+    match out.flush() {
+        Ok(()) => Ok(()),
+        Err(_) => Err(ScheduleError::Write),
+    }
+}
+
 /// Plays a schedule, line by line, and prints a line for each command and, at its end, what each node has learned. The
-/// caller buffers.
+/// caller buffers; all is flushed.
 pub fn simulate<W: Write>(alloc: Global, schedule: &[u8], out: &mut W) -> Result<(), ScheduleError>
     // All lines were played, and what they show is a run of the protocol.
     ensures shown { OnOk result (IsShown schedule.now (W.contents out.old) (W.contents out.new)) }
-    // The first line that is none is told, and what the lines before it print stays.
+    // The first line that is none is told, and what the lines before it print stays; where memory or the writer fails, a
+    // beginning of what the schedule shows is printed.
     ensures stopped { IfErr result (λ e. IsStopped schedule.now e (W.contents out.old) (W.contents out.new)) }
 {
     agreement();
@@ -112,20 +139,20 @@ pub fn simulate<W: Write>(alloc: Global, schedule: &[u8], out: &mut W) -> Result
     let Some(count) = count_of(head) else {
         return Err(ScheduleError::Schedule(1));
     };
-    let mut room = Room::new(alloc, count)?;
+    let Ok(mut room) = Room::new(alloc, count) else {
+        return Err(ScheduleError::NoMemory);
+    };
     let mut number = 1u64;
     while !rest.is_empty() {
         let (line, behind) = next_line(rest);
         number += 1;
-        let Some(told) = obey_line(alloc, &mut room, line)? else {
-            return Err(ScheduleError::Schedule(number));
+        let told = match obey_line(alloc, &mut room, line) {
+            Ok(Some(told)) => told,
+            Ok(None) => return Err(stop_at(number, out)),
+            Err(NoMemory) => return Err(ScheduleError::NoMemory),
         };
         print(alloc, told, out)?;
         rest = behind;
     }
-    let text = closing_of(alloc, &room)?;
-    match out.write_all(text.as_bytes()) {
-        Ok(()) => Ok(()),
-        Err(_) => Err(ScheduleError::Write),
-    }
+    close(alloc, &room, out)
 }

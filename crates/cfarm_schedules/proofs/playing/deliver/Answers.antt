@@ -1,7 +1,7 @@
 use Rattle.std.proofs.Common.{◌-◌, sym, ap, ◌∙◌, arith, rules}
 use Rattle.std.specs.Option.{option_map}
 use Rattle.paxos_core.specs.Call.{On}
-use Rattle.cfarm_schedules.specs.declared.command.Command.TheVariants.{Deliver}
+use Rattle.cfarm_schedules_lines.specs.declared.command.Command.TheVariants.{Deliver}
 use Rattle.cfarm_schedules.proofs.Moves.{done, numbered_is}
 use Rattle.cfarm_schedules.proofs.playing.deliver.Goals as goal
 

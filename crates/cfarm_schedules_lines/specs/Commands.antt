@@ -1,8 +1,8 @@
 -- The lines of a schedule: words parted by one blank, numbers in decimal without leading zeros.
 use Rattle.std.specs.Prelude.{ℕ, ◌<◌, ◌^◌, List, ◌++◌, codes}
 use Rattle.std.specs.Fmt.{decimal}
-use Rattle.cfarm_schedules.specs.declared.command.Command.{Command}
-use Rattle.cfarm_schedules.specs.declared.command.Command.TheVariants.{Offer, Start, Propose, Restart, Deliver}
+use Rattle.cfarm_schedules_lines.specs.declared.command.Command.{Command}
+use Rattle.cfarm_schedules_lines.specs.declared.command.Command.TheVariants.{Offer, Start, Propose, Restart, Deliver}
 
 -- the first line says how many nodes there are
 abbrev pub head_of : ℕ → List ℕ

@@ -1,8 +1,8 @@
 use Rattle.std.proofs.Common.{sym, subst, ◌∙◌, rules}
 use Rattle.std.specs.Str.{IsUtf8}
 use Rattle.std.proofs.lemmas.Fmt.{parse-decimal}
-use Rattle.cfarm_schedules.proofs.Decimals.{decimal_is_text}
-use Rattle.cfarm_schedules.proofs.parts.number_in.Goals as goal
+use Rattle.cfarm_schedules_lines.proofs.Decimals.{decimal_is_text}
+use Rattle.cfarm_schedules_lines.proofs.parts.number_in.Goals as goal
 
 pub returns-in_default : goal.returns-in_default
 returns-in_default c = λ n h e. absurd (c.in_default.ensures.cases.0 (subst IsUtf8 (sym e) (decimal_is_text n h)))

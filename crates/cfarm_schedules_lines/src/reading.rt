@@ -3,9 +3,9 @@
 ghost use Rattle.std.specs.Prelude.{◌≡◌, ◌<◌, ◌^◌, ℕ, ◌++◌, Some, IsNone, IfSome, IfOk, OnOk, codes};
 ghost use Rattle.std.specs.Fmt.{decimal};
 ghost use Rattle.paxos_core_law.specs.NodeState.{IsRoomSize};
-ghost use Rattle.cfarm_schedules.specs.Commands.{IsInWords, delivery_of, head_of, line_of};
-ghost use Rattle.cfarm_schedules.specs.declared.command.Command.{Command};
-ghost use Rattle.cfarm_schedules.specs.declared.command.Command.TheVariants as Command;
+ghost use Rattle.cfarm_schedules_lines.specs.Commands.{IsInWords, delivery_of, head_of, line_of};
+ghost use Rattle.cfarm_schedules_lines.specs.declared.command.Command.{Command};
+ghost use Rattle.cfarm_schedules_lines.specs.declared.command.Command.TheVariants as Command;
 
 use crate::command::Command;
 use crate::parts::{behind, number_in, split_at_byte};
@@ -42,7 +42,7 @@ fn guess(line: &[u8]) -> Option<Command>
 }
 
 /// The command that the line spells.
-pub(crate) fn command_of(alloc: Global, line: &[u8]) -> Result<Option<Command>, NoMemory>
+pub fn command_of(alloc: Global, line: &[u8]) -> Result<Option<Command>, NoMemory>
     ensures some { IfOk result (λ found. IfSome found (λ c. line.now ≡ line_of c)) }
     ensures only { IfOk result (λ found. (c : Command) → IsInWords c → line.now ≡ line_of c → found ≡ Some c) }
 {
@@ -55,7 +55,7 @@ pub(crate) fn command_of(alloc: Global, line: &[u8]) -> Result<Option<Command>, 
 
 /// The number of nodes that the first line says.
 #[tactic(auto, using(crate::proofs::Decimals::head_3, crate::proofs::Decimals::head_5, crate::proofs::Decimals::head_7))]
-pub(crate) fn count_of(line: &[u8]) -> Option<u8>
+pub fn count_of(line: &[u8]) -> Option<u8>
     ensures some { IfSome result (λ count. IsRoomSize count × (line.now ≡ head_of count)) }
     ensures none { IsNone result → (count : ℕ) → IsRoomSize count → line.now ≡ head_of count → ⊥ }
 {

@@ -3,12 +3,12 @@
 ghost use Rattle.std.specs.Prelude.{◌≡◌, ◌<◌, ◌^◌, ℕ, ◌++◌, ◌∷◌, List, Some, IsNone, IfSome, MatchOption, codes};
 ghost use Rattle.std.specs.List.{before_first};
 ghost use Rattle.std.specs.Fmt.{decimal};
-ghost use Rattle.cfarm_schedules.specs.Texts.{HasNoFront, is_byte};
+ghost use Rattle.cfarm_schedules_lines.specs.Texts.{HasNoFront, is_byte};
 
 use std::str;
 
 /// What stands before the byte where it stands first, and what stands behind it there.
-pub(crate) fn split_at_byte(bytes: &[u8], byte: u8) -> Option<(&[u8], &[u8])>
+pub fn split_at_byte(bytes: &[u8], byte: u8) -> Option<(&[u8], &[u8])>
     ensures some { IfSome result (λ parts. bytes.now ≡ parts.0.now ++ byte ∷ parts.1.now) }
     ensures first { IfSome result (λ parts. parts.0.now ≡ before_first (is_byte byte) bytes.now) }
     ensures none { IsNone result → before_first (is_byte byte) bytes.now ≡ bytes.now }

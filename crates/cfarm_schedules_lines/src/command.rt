@@ -13,7 +13,7 @@ pub enum Command {
 
 impl fmt::Display for Command {
     ghost use Rattle.std.specs.Prelude.{Some};
-    ghost use Rattle.cfarm_schedules.specs.Commands.{line_of};
+    ghost use Rattle.cfarm_schedules_lines.specs.Commands.{line_of};
 
     ghost output = { λ c. Some (line_of c) };
 

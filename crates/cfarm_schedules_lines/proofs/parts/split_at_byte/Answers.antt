@@ -1,9 +1,9 @@
 use Rattle.std.proofs.Common.{◌≡◌, take, get_or, true, sym, ap, ◌∙◌, arith, rules}
 use Rattle.std.proofs.lemmas.List.Sums.{position_or_len_is}
-use Rattle.cfarm_schedules.specs.Texts.{is_byte}
-use Rattle.cfarm_schedules.proofs.Decimals.{take_all}
-use Rattle.cfarm_schedules.proofs.parts.split_at_byte.Goals as goal
-use Rattle.cfarm_schedules.proofs.parts.split_at_byte.Goals.{then-loop-length-test+else-bytes-length, else-loop-length-test}
+use Rattle.cfarm_schedules_lines.specs.Texts.{is_byte}
+use Rattle.cfarm_schedules_lines.proofs.Decimals.{take_all}
+use Rattle.cfarm_schedules_lines.proofs.parts.split_at_byte.Goals as goal
+use Rattle.cfarm_schedules_lines.proofs.parts.split_at_byte.Goals.{then-loop-length-test+else-bytes-length, else-loop-length-test}
 
 pub returns-then-length-bytes-clause-none : goal.returns-then-length-bytes-clause-none
 returns-then-length-bytes-clause-none c = λ _.

@@ -1,6 +1,6 @@
 use Rattle.std.proofs.Common.{refl, arith}
-use Rattle.cfarm_schedules.proofs.Decimals.{first_is, second_is, has_blank}
-use Rattle.cfarm_schedules.proofs.reading.delivery_in.Goals as goal
+use Rattle.cfarm_schedules_lines.proofs.Decimals.{first_is, second_is, has_blank}
+use Rattle.cfarm_schedules_lines.proofs.reading.delivery_in.Goals as goal
 
 pub returns-in_err-node : goal.returns-in_err-node
 returns-in_err-node c = λ i k below word e. absurd (has_blank i k c.args.words.now (omega arith) e (c.in_err-node.ensures.none refl))

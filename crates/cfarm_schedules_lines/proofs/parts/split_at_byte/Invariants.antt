@@ -1,6 +1,6 @@
 use Rattle.std.proofs.Common.{◌≡◌, ℕ, ◌<◌, ◌≤◌, ◌-◌, length, get_or, false}
-use Rattle.cfarm_schedules.specs.Texts.{is_byte}
-use Rattle.cfarm_schedules.proofs.parts.split_at_byte.Given as goal
+use Rattle.cfarm_schedules_lines.specs.Texts.{is_byte}
+use Rattle.cfarm_schedules_lines.proofs.parts.split_at_byte.Given as goal
 
 -- none of the bytes before is the one that is looked for
 abbrev pub invariant-loop-length : goal.invariant-loop-length

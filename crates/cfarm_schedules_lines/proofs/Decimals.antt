@@ -10,8 +10,8 @@ use Rattle.std.proofs.lemmas.Fmt.{decimal_digit, decimal_by_steps, IsAscii-decim
 use Rattle.std.proofs.lemmas.List.{append_cancel_left}
 use Rattle.std.proofs.lemmas.List.Sums.{position_or_len_is}
 use Rattle.std.proofs.lemmas.Str.{IsUtf8-from_ascii}
-use Rattle.cfarm_schedules.specs.Commands.{head_of}
-use Rattle.cfarm_schedules.specs.Texts.{is_byte}
+use Rattle.cfarm_schedules_lines.specs.Commands.{head_of}
+use Rattle.cfarm_schedules_lines.specs.Texts.{is_byte}
 
 pub head_3 : head_of 3 ≡ codes "nodes 3"
 head_3 = ap (λ ds. codes "nodes " ++ ds) (decimal_digit 3 (omega arith))

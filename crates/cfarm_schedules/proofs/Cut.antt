@@ -1,0 +1,132 @@
+-- A schedule that is cut off: what was printed is a beginning of what is shown.
+use Rattle.std.proofs.Common.{◌≡◌, ◌≢◌, ℕ, List, [], ◌∷◌, ◌++◌, Option, Result, Ok, Err, OnOk, OnErr, IfErr, ◌⊎◌, inl, inr, refl, sym, ap, ◌∙◌, subst, append_assoc}
+use Rattle.std.specs.Io.KnownBytes.{Appends, Keeps}
+use Rattle.std.proofs.KnownBytes.{Appends-kept, Appends-nil, Appends-trans}
+use Rattle.lang_base.specs.Behaviour.{IsBeginningOf}
+use Rattle.lang_base.proofs.Beginnings.{IsBeginningOf-refl, IsBeginningOf-trans}
+use Rattle.paxos_core.specs.Schedule.{Room, NodeCall, played}
+use Rattle.cfarm_schedules_lines.specs.Commands.{line_of}
+use Rattle.cfarm_schedules.specs.Plays.{HasObeyed, IsAsked, IsBegun, IsCutOff, IsStopped, StopsAt, closing, printed, shown_of}
+use Rattle.cfarm_schedules.specs.Rooms.{start, told_by}
+use Rattle.cfarm_schedules_lines.specs.Texts.{IsLeft}
+use Rattle.cfarm_schedules.specs.Told.{told_text}
+use Rattle.cfarm_schedules_lines.specs.declared.command.Command.{Command}
+use Rattle.cfarm_schedules.specs.declared.error.ScheduleError.{ScheduleError}
+use Rattle.cfarm_schedules.specs.declared.error.ScheduleError.TheVariants.{NoMemory, Schedule, Write}
+use Rattle.cfarm_schedules.specs.declared.told.Told.{Told}
+use Rattle.cfarm_schedules.proofs.Going.{IsGoing, IsLine, next_left}
+
+pub begun_by : (text : List ℕ) (before after : Option (List ℕ)) → Appends before after text → IsBegun text before after
+begun_by text before after more = (text, IsBeginningOf-refl text, more)
+
+pub begun_kept : (text : List ℕ) (before mid after : Option (List ℕ)) → IsBegun text before mid → Keeps mid after → IsBegun text before after
+begun_kept text before mid after begun kept = (begun.0, begun.1, Appends-kept before mid after begun.0 begun.2 kept)
+
+-- nothing is a beginning of all
+pub none_begun : (text : List ℕ) (known : Option (List ℕ)) → IsBegun text known known
+none_begun text known = ([], (text, refl), Appends-nil known)
+
+-- a beginning of more, behind what was printed before
+begun_behind : (front text : List ℕ) (before mid after : Option (List ℕ)) → Appends before mid front → IsBegun text mid after → IsBegun (front ++ text) before after
+begun_behind front text before mid after first begun =
+    let rest = begun.1.0 in
+    (front ++ begun.0, (rest, append_assoc front begun.0 rest ∙ ap (λ l. front ++ l) begun.1.1), Appends-trans before mid after front begun.0 first begun.2)
+
+-- the lines of the calls are a beginning of what is shown
+is_shown : (count : ℕ) (calls : List NodeCall) (rest : List ℕ) → IsBeginningOf (printed count calls) (shown_of count calls rest)
+is_shown count calls [] = (closing count (played (start count) calls), refl)
+is_shown count calls (b ∷ rest) = IsBeginningOf-refl (printed count calls)
+
+longer_begun : (xs ys : List ℕ) (before after : Option (List ℕ)) → IsBeginningOf xs ys → IsBegun xs before after → IsBegun ys before after
+longer_begun xs ys before after more begun = (begun.0, IsBeginningOf-trans begun.0 xs ys begun.1 more, begun.2)
+
+-- the lines so far are all that is printed
+pub cut_going : (text : List ℕ) (count number : ℕ) (rest : List ℕ) (room : Room) (before now after : Option (List ℕ)) → IsGoing text count number rest room before now
+    → Keeps now after → IsCutOff text before after
+cut_going text count number rest room before now after so kept = record {
+  count = count;
+  commands = so.commands;
+  calls = so.calls;
+  rest = rest;
+  size = so.size;
+  lines = so.left;
+  done = so.done;
+  output = longer_begun (printed count so.calls) (shown_of count so.calls rest) before after (is_shown count so.calls rest)
+      (begun_by (printed count so.calls) before after (Appends-kept before now after (printed count so.calls) so.output kept));
+}
+
+-- a command was done, and of its line a beginning is printed
+pub cut_within : (text : List ℕ) (count number : ℕ) (rest line behind : List ℕ) (room later : Room) (before now after : Option (List ℕ)) (c : Command) (told : Told)
+    → IsGoing text count number rest room before now → rest ≢ [] → IsLine rest line behind → line ≡ line_of c
+    → HasObeyed count room c told later → IsBegun (told_text told) now after → IsCutOff text before after
+cut_within text count number rest line behind room later before now after c told so more split is did begun =
+    let k = did.0 in
+    let is_told : told ≡ told_by (played (start count) so.calls) k = did.3 ∙ ap (λ (r : Room). told_by r k) so.stands in
+    let lines = begun_behind (printed count so.calls) (told_text (told_by (played (start count) so.calls) k)) before now after so.output
+    (subst (λ t. IsBegun (told_text t) now after) is_told begun) in
+    record {
+      count = count;
+      commands = c ∷ so.commands;
+      calls = k ∷ so.calls;
+      rest = behind;
+      size = so.size;
+      lines = next_left text count so.commands c rest line behind more is so.left split;
+      done = (so.done, subst (λ (r : Room). IsAsked count r c k) so.stands did.1);
+      output = longer_begun (printed count (k ∷ so.calls)) (shown_of count (k ∷ so.calls) behind) before after (is_shown count (k ∷ so.calls) behind) lines;
+    }
+
+-- the last line was begun
+pub cut_last : (text : List ℕ) (count number : ℕ) (rest : List ℕ) (room : Room) (before now after : Option (List ℕ)) (last : List ℕ) → IsGoing text count number rest room before now
+    → rest ≡ [] → last ≡ closing count room → IsBegun last now after → IsCutOff text before after
+cut_last text count number rest room before now after last so none is begun = record {
+  count = count;
+  commands = so.commands;
+  calls = so.calls;
+  rest = [];
+  size = so.size;
+  lines = subst (IsLeft text count so.commands) none so.left;
+  done = so.done;
+  output = begun_behind (printed count so.calls) (closing count (played (start count) so.calls)) before now after so.output
+      (subst (λ l. IsBegun l now after) (is ∙ ap (closing count) so.stands) begun);
+}
+
+-- ---- what is answered
+
+on_ok : {T : Type 0} (r : Result T ScheduleError) (P Q : Type 0) → (P → Q) → OnOk r P → OnOk r Q
+on_ok (Ok x) P Q f h = f h
+on_ok (Err e) P Q f h = tt
+
+-- memory or the writer failed
+pub cut : (e : ScheduleError) (text : List ℕ) (before after : Option (List ℕ)) → (e ≡ NoMemory) ⊎ (e ≡ Write) → IsCutOff text before after → IsStopped text e before after
+cut e text before after (inl p) off = subst (λ (x : ScheduleError). IsStopped text x before after) (sym p) off
+cut e text before after (inr p) off = subst (λ (x : ScheduleError). IsStopped text x before after) (sym p) off
+
+pub cut_by : {T : Type 0} (r : Result T ScheduleError) (text : List ℕ) (before after : Option (List ℕ)) (P : Type 0) → IfErr r (λ e. (e ≡ NoMemory) ⊎ (e ≡ Write)) → OnErr r P
+    → (P → IsCutOff text before after) → IfErr r (λ e. IsStopped text e before after)
+cut_by (Ok x) text before after P kinds begun f = tt
+cut_by (Err e) text before after P kinds begun f = cut e text before after kinds (f begun)
+
+pub shown_by : {T : Type 0} (r : Result T ScheduleError) (P Q : Type 0) → OnOk r P → (P → Q) → OnOk r Q
+shown_by r P Q h f = on_ok r P Q f h
+
+-- a line is none, and what was printed before it is flushed
+pub stopped_at : (e : ScheduleError) (text : List ℕ) (line : ℕ) (before now after : Option (List ℕ)) → (e ≡ Schedule line) ⊎ (e ≡ Write)
+    → StopsAt text line before now → IsCutOff text before after → Keeps now after → IsStopped text e before after
+stopped_at e text line before now after (inr p) stops off kept = subst (λ (x : ScheduleError). IsStopped text x before after) (sym p) off
+stopped_at e text line before now after (inl p) stops off kept = subst (λ (x : ScheduleError). IsStopped text x before after) (sym p) (still stops)
+  where
+    still : StopsAt text line before now → StopsAt text line before after
+    still (inl first) = inl (first.0, first.1, Appends-kept before now after [] first.2 kept)
+    still (inr behind) = inr (record {
+      count = behind.count;
+      commands = behind.commands;
+      calls = behind.calls;
+      rest = behind.rest;
+      size = behind.size;
+      lines = behind.lines;
+      more = behind.more;
+      number = behind.number;
+      done = behind.done;
+      none = behind.none;
+      output = Appends-kept before now after (printed behind.count behind.calls) behind.output kept;
+    })
