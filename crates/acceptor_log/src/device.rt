@@ -26,6 +26,7 @@ pub fn write_durably<D: Disk>(disk: &mut D, at: u64, bytes: &[u8]) -> Result<(),
         → Unchanged D.seen D.may_leave disk.old disk.new }
     ensures later { D.faults disk.old ≤ D.faults disk.new }
     ensures failed { IsErrOf result DiskError.Device → Risen (D.faults disk.old) (D.faults disk.new) }
+    ensures unfailed { (IsErrOf result DiskError.Device → ⊥) → D.faults disk.new ≡ D.faults disk.old }
 {
     match disk.write_at(at, bytes) {
         Ok(()) => disk.sync(),
@@ -48,6 +49,7 @@ pub fn put<D: Disk>(disk: &mut D, gate: u64, block: &[u8]) -> Result<(), DiskErr
         → IsErrOf result DiskError.NoMemory → Unchanged D.seen D.may_leave disk.old disk.new }
     ensures later { D.faults disk.old ≤ D.faults disk.new }
     ensures failed { IsErrOf result DiskError.Device → Risen (D.faults disk.old) (D.faults disk.new) }
+    ensures unfailed { (IsErrOf result DiskError.Device → ⊥) → D.faults disk.new ≡ D.faults disk.old }
 {
     match write_durably(disk, gate + 1, block) {
         Ok(()) => write_durably(disk, gate, &[1]),

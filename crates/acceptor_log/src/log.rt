@@ -51,6 +51,9 @@ impl<D: Disk> Log<D> {
             → Risen (D.faults disk) (D.faults refused.0)) }
         ensures later { MatchResult result (λ log. D.faults disk ≤ D.faults log.disk)
             (λ refused. D.faults disk ≤ D.faults refused.0) }
+        // A failure of the device is told as one.
+        ensures unfailed { MatchResult result (λ log. D.faults log.disk ≡ D.faults disk)
+            (λ refused. refused.1 ≢ LogError.Device → D.faults refused.0 ≡ D.faults disk) }
     {
         let mut disk = disk;
         match lay(alloc, header, &mut disk) {
@@ -97,6 +100,9 @@ impl<D: Disk> Log<D> {
             → Risen (D.faults disk) (D.faults refused.0)) }
         ensures later { MatchResult result (λ opened. D.faults disk ≤ D.faults opened.0.disk)
             (λ refused. D.faults disk ≤ D.faults refused.0) }
+        // A failure of the device is told as one: so it is where the sync fails.
+        ensures unfailed { MatchResult result (λ opened. D.faults opened.0.disk ≡ D.faults disk)
+            (λ refused. refused.1 ≢ LogError.Device → D.faults refused.0 ≡ D.faults disk) }
     {
         let mut disk = disk;
         match load(alloc, header, &mut disk) {
@@ -141,6 +147,7 @@ impl<D: Disk> Log<D> {
         ensures stops { result ≡ Err LogError.Device → self.new.going ≡ false }
         ensures failed { result ≡ Err LogError.Device → Risen (D.faults self.old.disk) (D.faults self.new.disk) }
         ensures later { D.faults self.old.disk ≤ D.faults self.new.disk }
+        ensures unfailed { result ≢ Err LogError.Device → D.faults self.new.disk ≡ D.faults self.old.disk }
         ensures unwritten { D.is_honest self.old.disk
             → IfErr result (λ e. e ≢ LogError.Device → IsUnwritten D.seen D.may_leave self.old self.new) }
         ensures full { result ≡ Err LogError.Full → MOST_BYTES < file_with self.old entry.now }

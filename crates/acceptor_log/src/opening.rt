@@ -22,6 +22,7 @@ pub fn lay<D: Disk>(alloc: Global, header: &Header, disk: &mut D) -> Result<(), 
         → IfErr result (λ e. e ≢ LogError.Device → Unchanged D.seen D.may_leave disk.old disk.new) }
     ensures faults { IfErr result (λ e. e ≢ LogError.Device → e ≡ LogError.NoMemory) }
     ensures failed { result ≡ Err LogError.Device → Risen (D.faults disk.old) (D.faults disk.new) }
+    ensures unfailed { result ≢ Err LogError.Device → D.faults disk.new ≡ D.faults disk.old }
     ensures later { D.faults disk.old ≤ D.faults disk.new }
 {
     let mut bytes = header_bytes(alloc, header)?;
@@ -44,6 +45,7 @@ pub fn load<D: Disk>(alloc: Global, header: &Header, disk: &mut D) -> Result<Lis
     ensures refused { D.is_honest disk.old → IfErr result (λ e.
         e ≢ LogError.NoMemory → e ≢ LogError.Device → HasFault header.now (D.seen disk.old) e) }
     ensures failed { result ≡ Err LogError.Device → Risen (D.faults disk.old) (D.faults disk.new) }
+    ensures unfailed { result ≢ Err LogError.Device → D.faults disk.new ≡ D.faults disk.old }
     ensures later { D.faults disk.old ≤ D.faults disk.new }
 {
     match disk.sync() {

@@ -4,7 +4,7 @@ use Rattle.durable_model.specs.declared.call.Call.{Call}
 use Rattle.durable_model.specs.declared.memory.MemoryDisk.{MemoryDisk}
 use Rattle.durable_model.specs.Honest.{Elapses}
 use Rattle.durable_model.specs.History.{MayLeave, LeftSince}
-use Rattle.durable_model.specs.Memory.{history, memory_may_leave, memory_left_since, Notes}
+use Rattle.durable_model.specs.Memory.{history, memory_moment, memory_may_leave, memory_left_since, Notes}
 
 -- a moment before the last call, or this one
 split_since : (first : List ℕ) (last : Call × List ℕ) (all later earlier : List (Call × List ℕ)) (t : ℕ) (c : List ℕ)
@@ -25,7 +25,7 @@ since_more first last all t c left = record {
 }
 
 pub noted_elapses : (old new : MemoryDisk) (call : Call) (bytes : List ℕ) → Notes call bytes old new
-    → Elapses (λ disk. length (history disk)) memory_left_since memory_may_leave old new
+    → Elapses memory_moment memory_left_since memory_may_leave old new
 noted_elapses old new call bytes notes =
     let last : Call × List ℕ = (call, bytes) in
     let all = history old in

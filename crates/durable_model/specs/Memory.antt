@@ -20,6 +20,10 @@ seen_by_memory disk = disk.bytes.items
 abbrev pub memory_faults : MemoryDisk → ℕ
 memory_faults disk = disk.failures
 
+-- how many calls were noted
+abbrev pub memory_moment : MemoryDisk → ℕ
+memory_moment disk = length (history disk)
+
 -- what a crash now may leave
 abbrev pub memory_may_leave : MemoryDisk → List ℕ → Type 0
 memory_may_leave disk = MayLeave (history disk) disk.first.items
@@ -52,6 +56,10 @@ IsPastCapacity bytes disk = (disk.call_capacity ≤ calls_made disk) ⊎ (disk.b
 -- call number n is the one that is to fail, counted from 1
 abbrev pub FailsAt : ℕ → MemoryDisk → Type 0
 FailsAt n disk = disk.fails ≡ n
+
+-- a call that writes so many bytes fails now: it is the one that is to fail, or is past the capacity
+abbrev pub MustFail : ℕ → MemoryDisk → Type 0
+MustFail bytes disk = IsPastCapacity bytes disk ⊎ FailsAt (calls_made disk + 1) disk
 
 -- the same, where call number n is to fail
 abbrev pub told_to_fail : MemoryDisk → ℕ → MemoryDisk

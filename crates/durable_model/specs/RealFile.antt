@@ -1,7 +1,7 @@
 -- What a disk over a real file stands for: what the disk in memory does that it keeps beside the file.
-use Rattle.std.specs.Prelude.{◌≡◌, ℕ, List, length}
+use Rattle.std.specs.Prelude.{◌≡◌, ℕ, List}
 use Rattle.durable_model.specs.declared.file.FileDisk.{FileDisk}
-use Rattle.durable_model.specs.Memory.{history, seen_by_memory, memory_may_leave, memory_left_since, IsSettled}
+use Rattle.durable_model.specs.Memory.{seen_by_memory, memory_moment, memory_may_leave, memory_left_since, IsSettled}
 
 -- what a read gives, where it succeeds
 abbrev pub seen_by_file : FileDisk → List ℕ
@@ -9,7 +9,7 @@ seen_by_file disk = seen_by_memory disk.held
 
 -- how many calls were noted
 abbrev pub file_moment : FileDisk → ℕ
-file_moment disk = length (history disk.held)
+file_moment disk = memory_moment disk.held
 
 -- what a crash now may leave of an honest file
 abbrev pub file_may_leave : FileDisk → List ℕ → Type 0

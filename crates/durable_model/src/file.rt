@@ -1,9 +1,13 @@
 //! A disk over a file of the operating system.
 
+ghost use Rattle.std.specs.Prelude.{◌≡◌, ◌<◌, ◌≤◌, ◌+◌, true, false, OnOk};
+ghost use Rattle.durable_model.specs.Honest.{Only};
+ghost use Rattle.durable_model.specs.Memory.{seen_by_memory, memory_may_leave, calls_made, bytes_noted, StandsAs};
+
 use crate::disk::Disk;
 use crate::error::{DiskError, failed};
 use crate::memory::MemoryDisk;
-use std::alloc::Global;
+use std::alloc::{AllocError, Global};
 use std::fs::File;
 use std::io;
 use std::io::ErrorKind;
@@ -17,14 +21,21 @@ use std::path::Path;
 /// writes and syncs is proved. What is left of the premise that a file is honest is one thing, `WasHonest`: that a crash
 /// leaves of it what the contract allows. A sync that failed may have lost what was written, which no later sync would
 /// tell: so each later one fails too, until the file is opened again.
+///
+/// A sync takes no memory: a write takes what the note of the sync behind it needs. One that makes the file longer takes
+/// beside this what a write of one byte and its sync need, such as opens a gate.
 #[derive(Drop)]
 pub struct FileDisk {
     file: File,
     /// What the file must hold, and what was done to it since it was opened.
     held: MemoryDisk,
+    /// Nothing was written since the last sync, or since it was opened.
+    is_settled: bool,
     /// A sync has failed.
     is_loose: bool,
     failures: u64,
+    ghost rests: { is_settled ≡ true → Only (seen_by_memory held) (memory_may_leave held) },
+    ghost spare: { is_settled ≡ false → calls_made held < held.call_capacity },
 }
 
 impl FileDisk {
@@ -65,6 +76,7 @@ impl FileDisk {
             Ok(held) => Ok(FileDisk {
                 file,
                 held,
+                is_settled: true,
                 is_loose: false,
                 failures: 0,
             }),
@@ -91,6 +103,21 @@ fn read_all(alloc: Global, file: &File) -> Result<Vec<u8>, DiskError> {
     match file.read_exact_at(&mut bytes, 0) {
         Ok(()) => Ok(bytes),
         Err(_) => Err(DiskError::Device),
+    }
+}
+
+/// Makes room for the notes of a write of so many bytes and of the sync behind it. A write that makes the file longer
+/// takes the room for one more of each as well, the write being of one byte.
+fn make_room(held: &mut MemoryDisk, n: usize, is_longer: bool) -> Result<(), AllocError>
+    ensures stands { StandsAs held.old held.new }
+    ensures capacity { held.old.call_capacity ≤ held.new.call_capacity }
+    ensures calls { OnOk result (calls_made held.new + 2 ≤ held.new.call_capacity) }
+    ensures bytes { OnOk result (bytes_noted held.new + n ≤ held.new.byte_capacity) }
+{
+    if is_longer {
+        held.grow(4, n.saturating_add(1))
+    } else {
+        held.grow(2, n)
     }
 }
 
@@ -132,37 +159,37 @@ impl Disk for FileDisk {
         }
     }
 
-    /// It is noted first, so that what finds no memory is not written.
+    /// It is noted first, so that what finds no memory is not written. Where a write that makes the file no longer finds
+    /// no memory for its note, the device has failed.
     fn write_at(&mut self, at: u64, bytes: &[u8]) -> Result<(), DiskError> {
-        if self.held.grow(bytes.len()).is_err() {
-            if self.held.is_lengthened_by(at, bytes.len()) {
+        let is_longer = self.held.is_lengthened_by(at, bytes.len());
+        if make_room(&mut self.held, bytes.len(), is_longer).is_err() {
+            if is_longer {
                 return Err(DiskError::NoMemory);
             }
             return Err(failed(&mut self.failures));
         }
-        match self.held.write_at(at, bytes) {
-            Ok(()) => {}
-            Err(DiskError::NoMemory) => return Err(DiskError::NoMemory),
-            Err(DiskError::Device) => return Err(failed(&mut self.failures)),
+        if self.held.note_write(at as usize, bytes).is_err() {
+            return Err(DiskError::NoMemory);
         }
+        self.is_settled = false;
         match self.file.write_all_at(bytes, at) {
             Ok(()) => Ok(()),
             Err(_) => Err(failed(&mut self.failures)),
         }
     }
 
+    /// The file is synced in each call, the sync noted where something was written since the last.
     fn sync(&mut self) -> Result<(), DiskError> {
-        if self.held.grow(0).is_err() {
-            return Err(failed(&mut self.failures));
-        }
         if self.is_loose || self.file.sync_all().is_err() {
             self.is_loose = true;
             return Err(failed(&mut self.failures));
         }
-        match self.held.sync() {
-            Ok(()) => Ok(()),
-            Err(_) => Err(failed(&mut self.failures)),
+        if !self.is_settled {
+            self.held.note_sync();
+            self.is_settled = true;
         }
+        Ok(())
     }
 
     fn failures(&self) -> u64 {

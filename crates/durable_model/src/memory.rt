@@ -39,12 +39,14 @@ pub struct MemoryDisk {
 }
 
 impl MemoryDisk {
-    ghost use Rattle.std.specs.Prelude.{◌≡◌, ◌<◌, ◌≤◌, ◌↔◌, ◌+◌, [], false, IsTrue, IfOk};
+    ghost use Rattle.std.specs.Prelude.{◌≡◌, ◌<◌, ◌≤◌, ◌↔◌, ◌+◌, [], false, length, IsTrue, IfOk, OnOk, OnErr};
+    ghost use Rattle.durable_model.specs.Honest.{Only, Follows, Unchanged, Elapses};
     ghost use Rattle.durable_model.specs.History.{size_of};
     ghost use Rattle.durable_model.specs.Memory.{seen_by_memory, memory_may_leave, memory_faults};
+    ghost use Rattle.durable_model.specs.Memory.{memory_moment, memory_left_since};
     ghost use Rattle.durable_model.specs.Memory.{calls_made, bytes_noted, told_to_fail, FailsAt, IsPastCapacity};
     ghost use Rattle.durable_model.specs.Memory.{IsSettled, HasCapacity, KeepsCapacity, Notes, StandsAs};
-    ghost use Rattle.durable_model_writes.specs.Writes.{Lengthens};
+    ghost use Rattle.durable_model_writes.specs.Writes.{overwritten, Lengthens, Torn};
 
     /// An empty disk that can note so many calls, and so many bytes in its writes. A call past that is a failure
     /// of the device.
@@ -123,15 +125,50 @@ impl MemoryDisk {
         n != 0 && (self.bytes.len() as u64) < at.saturating_add(n as u64)
     }
 
-    /// Makes its capacity suffice for two calls more, and for so many bytes more.
-    pub(crate) fn grow(&mut self, bytes: usize) -> Result<(), AllocError>
-        ensures { StandsAs self.old self.new }
+    /// Makes its capacity suffice for so many calls more, and for so many bytes more in their writes.
+    pub(crate) fn grow(&mut self, calls: usize, bytes: usize) -> Result<(), AllocError>
+        ensures stands { StandsAs self.old self.new }
+        ensures capacity { self.old.call_capacity ≤ self.new.call_capacity }
+        ensures calls { OnOk result (calls_made self.new + calls ≤ self.new.call_capacity) }
+        ensures bytes { OnOk result (bytes_noted self.new + bytes ≤ self.new.byte_capacity) }
     {
-        self.calls.reserve(2)?;
+        self.calls.reserve(calls)?;
         self.call_capacity = self.calls.capacity();
         self.written.reserve(bytes)?;
         self.byte_capacity = self.written.capacity();
         Ok(())
+    }
+
+    /// Writes, and notes the write. Where it finds no memory nothing was written.
+    pub(crate) fn note_write(&mut self, at: usize, bytes: &[u8]) -> Result<(), AllocError>
+        requires calls { calls_made self.old < self.old.call_capacity }
+        requires bytes { bytes_noted self.old + length bytes.now ≤ self.old.byte_capacity }
+        ensures written { OnOk result (seen_by_memory self.new ≡ overwritten (seen_by_memory self.old) at bytes.now) }
+        ensures others { Torn at (length bytes.now) (seen_by_memory self.old) (seen_by_memory self.new) }
+        ensures crash { Follows (Torn at (length bytes.now)) (memory_may_leave self.old) (memory_may_leave self.new) }
+        ensures time { Elapses memory_moment memory_left_since memory_may_leave self.old self.new }
+        ensures memory { OnErr result (Lengthens at (length bytes.now) (seen_by_memory self.old)) }
+        ensures unwritten { OnErr result (Unchanged seen_by_memory memory_may_leave self.old self.new) }
+        ensures capacity { KeepsCapacity self.old self.new }
+        ensures calls { calls_made self.new ≤ calls_made self.old + 1 }
+        ensures failures { self.new.failures ≡ self.old.failures }
+    {
+        overwrite(&mut self.bytes, at, bytes)?;
+        keep(&mut self.written, bytes);
+        note(&mut self.calls, Call::Wrote(at, bytes.len()));
+        Ok(())
+    }
+
+    /// Notes a sync: from now on a crash leaves what a read gives.
+    pub(crate) fn note_sync(&mut self)
+        requires { calls_made self.old < self.old.call_capacity }
+        ensures durable { Only (seen_by_memory self.new) (memory_may_leave self.new) }
+        ensures unchanged { Unchanged seen_by_memory memory_may_leave self.old self.new }
+        ensures time { Elapses memory_moment memory_left_since memory_may_leave self.old self.new }
+        ensures failures { self.new.failures ≡ self.old.failures }
+    {
+        self.note_call(Call::Synced);
+        self.synced = self.calls.len();
     }
 
     /// Notes a call that wrote nothing.
@@ -165,9 +202,11 @@ impl MemoryDisk {
 }
 
 impl Disk for MemoryDisk {
-    ghost use Rattle.std.specs.Prelude.{length, ⊤};
-    ghost use Rattle.durable_model.specs.Memory.{history, seen_by_memory, memory_faults};
-    ghost use Rattle.durable_model.specs.Memory.{memory_may_leave, memory_left_since};
+    ghost use Rattle.std.specs.Prelude.{◌≡◌, ◌↔◌, length, ⊤, IfOk, OnOk, IsErrOf};
+    ghost use Rattle.durable_model_writes.specs.Writes.{overwritten, Lengthens, Torn};
+    ghost use Rattle.durable_model.specs.Honest.{Only, Follows, Unchanged, Elapses, Counts};
+    ghost use Rattle.durable_model.specs.Memory.{seen_by_memory, memory_faults, MustFail};
+    ghost use Rattle.durable_model.specs.Memory.{memory_may_leave, memory_moment, memory_left_since};
     ghost use Rattle.durable_model.specs.Memory.{left_as_kept, counts_as_kept, only_as_kept};
 
     ghost is_honest = { λ _. ⊤ };
@@ -176,7 +215,7 @@ impl Disk for MemoryDisk {
 
     ghost may_leave = { memory_may_leave };
 
-    ghost moment = { λ d. length (history d) };
+    ghost moment = { memory_moment };
 
     ghost left_since = { memory_left_since };
 
@@ -188,7 +227,13 @@ impl Disk for MemoryDisk {
 
     ghost only_now = { λ d c _. only_as_kept d c };
 
-    fn read(&mut self, alloc: Global) -> Result<Vec<u8>, DiskError> {
+    fn read(&mut self, alloc: Global) -> Result<Vec<u8>, DiskError>
+        ensures bytes { IfOk result (λ bytes. bytes.items ≡ seen_by_memory self.old) }
+        ensures unchanged { Unchanged seen_by_memory memory_may_leave self.old self.new }
+        ensures time { Elapses memory_moment memory_left_since memory_may_leave self.old self.new }
+        ensures failures { Counts result (memory_faults self.old) (memory_faults self.new) }
+        ensures fails { IsErrOf result DiskError.Device ↔ MustFail 0 self.old }
+    {
         if !self.has_capacity(0) {
             return Err(failed(&mut self.failures));
         }
@@ -201,7 +246,17 @@ impl Disk for MemoryDisk {
         Ok(bytes)
     }
 
-    fn write_at(&mut self, at: u64, bytes: &[u8]) -> Result<(), DiskError> {
+    fn write_at(&mut self, at: u64, bytes: &[u8]) -> Result<(), DiskError>
+        ensures written { OnOk result (seen_by_memory self.new ≡ overwritten (seen_by_memory self.old) at bytes.now) }
+        ensures others { Torn at (length bytes.now) (seen_by_memory self.old) (seen_by_memory self.new) }
+        ensures crash { Follows (Torn at (length bytes.now)) (memory_may_leave self.old) (memory_may_leave self.new) }
+        ensures time { Elapses memory_moment memory_left_since memory_may_leave self.old self.new }
+        ensures memory { IsErrOf result DiskError.NoMemory → Lengthens at (length bytes.now) (seen_by_memory self.old) }
+        ensures unwritten { IsErrOf result DiskError.NoMemory
+            → Unchanged seen_by_memory memory_may_leave self.old self.new }
+        ensures failures { Counts result (memory_faults self.old) (memory_faults self.new) }
+        ensures fails { IsErrOf result DiskError.Device ↔ MustFail (length bytes.now) self.old }
+    {
         let at = at as usize;
         if !self.has_capacity(bytes.len()) {
             return Err(failed(&mut self.failures));
@@ -210,13 +265,18 @@ impl Disk for MemoryDisk {
             self.note_call(Call::Tore(at, bytes.len()));
             return Err(failed(&mut self.failures));
         }
-        overwrite(&mut self.bytes, at, bytes)?;
-        keep(&mut self.written, bytes);
-        note(&mut self.calls, Call::Wrote(at, bytes.len()));
+        self.note_write(at, bytes)?;
         Ok(())
     }
 
-    fn sync(&mut self) -> Result<(), DiskError> {
+    fn sync(&mut self) -> Result<(), DiskError>
+        ensures durable { OnOk result (Only (seen_by_memory self.new) (memory_may_leave self.new)) }
+        ensures unchanged { Unchanged seen_by_memory memory_may_leave self.old self.new }
+        ensures time { Elapses memory_moment memory_left_since memory_may_leave self.old self.new }
+        ensures memory { IsErrOf result DiskError.NoMemory → ⊥ }
+        ensures failures { Counts result (memory_faults self.old) (memory_faults self.new) }
+        ensures fails { IsErrOf result DiskError.Device ↔ MustFail 0 self.old }
+    {
         if !self.has_capacity(0) {
             return Err(failed(&mut self.failures));
         }
@@ -224,8 +284,7 @@ impl Disk for MemoryDisk {
             self.note_call(Call::Left);
             return Err(failed(&mut self.failures));
         }
-        self.note_call(Call::Synced);
-        self.synced = self.calls.len();
+        self.note_sync();
         Ok(())
     }
 

@@ -1,10 +1,10 @@
 -- Behind a closed gate nothing counts, and once the block is whole behind it either gate is right.
 use Rattle.std.proofs.Common.{◌+◌, [], ◌∷◌, ◌++◌, length}
-use Rattle.durable_model.specs.Moments.{composed}
+use Rattle.durable_model.specs.Moments.{composed, weaker}
 use Rattle.acceptor_log_form.specs.Lists.{Between}
 use Rattle.acceptor_log.specs.Rest.{MayTear}
 use Rattle.acceptor_log.proofs.Crash.{between-first, between-second, stands-written, next-gate}
-use Rattle.acceptor_log.proofs.Runs.{weaker, both_ok}
+use Rattle.acceptor_log.proofs.Runs.{both_ok}
 use Rattle.acceptor_log.proofs.device.put.Goals as goal
 
 pub returns-in-Err-clause-any_moment : goal.returns-in-Err-clause-any_moment

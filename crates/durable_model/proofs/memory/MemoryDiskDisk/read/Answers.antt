@@ -2,11 +2,11 @@ use Rattle.durable_model.proofs.Elapsed.{noted_elapses}
 use Rattle.durable_model.proofs.memory.MemoryDiskDisk.read.Goals as goal
 
 pub returns-then-fails_now-clause-time : goal.returns-then-fails_now-clause-time
-returns-then-fails_now-clause-time c h =
+returns-then-fails_now-clause-time c =
     let notes = c.note_call.ensures.notes in
     noted_elapses _ _ _ _ (record { history_is = notes.history_is; first_is = notes.first_is })
 
 pub returns-clause-time : goal.returns-clause-time
-returns-clause-time c h =
+returns-clause-time c =
     let notes = c.note_call-2.ensures.notes in
     noted_elapses _ _ _ _ (record { history_is = notes.history_is; first_is = notes.first_is })
