@@ -1,0 +1,5 @@
+pub mod Records
+pub mod Runs
+pub mod Steps
+pub mod Results
+pub mod Answering

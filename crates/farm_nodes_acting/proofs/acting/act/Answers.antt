@@ -1,0 +1,41 @@
+use Rattle.std.proofs.Common.{◌≡◌, List, ap, ◌∙◌, sym, subst}
+use Rattle.acceptor_log_form.specs.declared.record.Record.{Record}
+use Rattle.acceptor_log_form.specs.Text.{room_of}
+use Rattle.acceptor_log.specs.Acknowledged.{acknowledged}
+use Rattle.farm_nodes_acting.specs.Advances.{Advances}
+use Rattle.farm_nodes_acting.proofs.Records.{room_of_step}
+use Rattle.farm_nodes_acting.proofs.Runs.{one, perhaps}
+use Rattle.farm_nodes_acting.proofs.Steps.{step_kept, pending_is, more}
+use Rattle.farm_nodes_acting.proofs.acting.act.Goals as goal
+
+pub returns-in-Ok-clause-journal : goal.returns-in-Ok-clause-journal
+returns-in-Ok-clause-journal g c honest going =
+    let disk = g.D.Disk in
+    let old = c.args.log.now in
+    let new = c.append.new.self in
+    let r = c.record_of.result in
+    let added = c.in-Ok.ensures.added honest going in
+    let ready = c.append.ensures.sound (c.append.ensures.honest.1 honest) c.in-Ok.ensures.ok.1 in
+    record {
+      ready = ready;
+      advances = one disk.seen disk.may_leave disk.moment disk.left_since disk.is_honest old new c.args.room c.args.seat.now.node.kept c.take.new.seat.node.kept r
+          (ap room_of c.record_of.ensures ∙ room_of_step c.args.room c.in-Some.step)
+          (step_kept c.args.room c.args.seat.now c.take.new.seat c.args.act c.in-Some.step r c.in-Some.ensures c.record_of.ensures c.take.ensures)
+          c.append.ensures.same ready added (c.append.ensures.any_moment honest going);
+      moved = more (acknowledged disk.seen old) (acknowledged disk.seen new) r added;
+    }
+
+pub returns-clause-journal : goal.returns-clause-journal
+returns-clause-journal g c honest going =
+    let disk = g.D.Disk in
+    let old = c.args.log.now in
+    let new = c.append.new.self in
+    let r = c.record_of.result in
+    let kept = c.args.seat.now.node.kept in
+    let pending = pending_is c.args.room c.args.seat.now c.args.act c.in-Some.step r c.in-Some.ensures c.record_of.ensures in (
+      acknowledged disk.seen old,
+      subst (λ (p : List Record). Advances disk.seen disk.may_leave disk.moment disk.left_since old new c.args.room kept kept (acknowledged disk.seen old) p) (sym pending)
+          (perhaps disk.seen disk.may_leave disk.moment disk.left_since old new c.args.room kept r
+          (λ b left later. g.met.D.Disk.counts_now new.disk (disk.moment old.disk) b (c.append.ensures.honest.1 honest) later left)
+          (c.append.ensures.any_moment honest going)),
+    )

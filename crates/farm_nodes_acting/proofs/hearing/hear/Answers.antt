@@ -1,0 +1,37 @@
+use Rattle.std.proofs.Common.{◌≡◌, ◌≢◌, ℕ, sym, ap, arith}
+use Rattle.rooms_state.specs.SeatState.{SeatState}
+use Rattle.rooms_state.proofs.Told.{notes_of}
+use Rattle.farm_nodes_acting.proofs.Answering.{heard_through, heard_proposer, heard_acceptor, quiet_proposer, quiet_acceptor}
+use Rattle.farm_nodes_acting.proofs.Results.{grown_at}
+use Rattle.farm_nodes_acting.proofs.hearing.hear.Goals as goal
+
+pub returns-clause-heard : goal.returns-clause-heard
+returns-clause-heard g c =
+    let s = c.args.seat.now in
+    let s1 = c.look_proposer-proposer.new.self in
+    let s2 = c.answer.new.seat in
+    let t = c.look_acceptor-acceptor.new.self in
+    heard_through s s1 t (heard_proposer c.args.j c.look_proposer-proposer.result s s1 c.look_proposer-proposer.ensures)
+    (heard_through s1 s2 t c.answer.ensures.heard (heard_acceptor c.args.j c.look_acceptor-acceptor.result s2 t c.look_acceptor-acceptor.ensures))
+
+pub returns-clause-quiet : goal.returns-clause-quiet
+returns-clause-quiet g c =
+    quiet_acceptor c.args.j c.args.j c.look_acceptor-acceptor.result c.answer.new.seat c.look_acceptor-acceptor.new.self c.look_acceptor-acceptor.ensures c.in-Ok.ensures.quiet
+
+pub returns-clause-others : goal.returns-clause-others
+returns-clause-others g c i lt quiet =
+    let other : i ≢ c.args.j = (λ (e : i ≡ c.args.j). omega arith) in
+    quiet_acceptor i c.args.j c.look_acceptor-acceptor.result c.answer.new.seat c.look_acceptor-acceptor.new.self c.look_acceptor-acceptor.ensures
+    (c.in-Ok.ensures.others i lt (quiet_proposer i c.args.j c.look_proposer-proposer.result c.args.seat.now c.look_proposer-proposer.new.self other c.look_proposer-proposer.ensures quiet))
+
+pub returns-clause-journal : goal.returns-clause-journal
+returns-clause-journal g c honest going =
+    let disk = g.D.Disk in
+    let s = c.args.seat.now in
+    let s1 = c.look_proposer-proposer.new.self in
+    let s2 = c.answer.new.seat in
+    let t = c.look_acceptor-acceptor.new.self in
+    grown_at disk.is_honest disk.seen disk.may_leave disk.moment disk.left_since c.args.log.now c.answer.new.log c.args.room s1 s2 s t c.in-Ok.moved
+    (ap (λ (u : SeatState). u.node.kept) (sym c.look_proposer-proposer.ensures.after))
+    (notes_of c.args.j c.look_acceptor-acceptor.result s2 t c.look_acceptor-acceptor.ensures).kept
+    (c.in-Ok.ensures.journal honest going)

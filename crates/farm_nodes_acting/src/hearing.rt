@@ -1,0 +1,69 @@
+//! Hearing the nodes of a room: what they propose is accepted, or else their ballots are promised.
+
+ghost use Rattle.std.specs.Prelude.{◌≡◌, ◌≢◌, ◌<◌, ℕ, true, IfOk, IfErr, OnOk};
+ghost use Rattle.acceptor_log.specs.Acknowledged.{IsSound};
+ghost use Rattle.farm_nodes_acting.specs.Noted.{pending_of};
+ghost use Rattle.farm_nodes_acting.specs.Served.{IsServed};
+ghost use Rattle.farm_nodes_acting.specs.Journalled.{Journalled};
+ghost use Rattle.farm_nodes_acting.specs.Cause.{HasCause};
+ghost use Rattle.farm_nodes_acting.specs.Quiet.{IsQuiet, HasHeard};
+
+use crate::acting::act;
+use crate::stop::Stop;
+use acceptor_log::Log;
+use durable_model::Disk;
+use rooms_seat::WordSeat;
+use rooms_state::act::Act;
+
+/// Hears node `j`: looks at its proposer, accepts what it proposes or else promises its ballot, and looks at its
+/// acceptor. Answers whether it took a step.
+pub fn hear<D: Disk>(log: &mut Log<D>, seat: &mut WordSeat, room: u16, j: u8) -> Result<bool, Stop>
+    requires sound { IsSound D.is_honest D.seen D.may_leave log.old }
+    requires below { j < seat.old.node.count }
+    ensures served { IsServed D.is_honest D.seen D.may_leave D.faults log.old log.new }
+    ensures going { IfOk result (λ moved. log.new.going ≡ log.old.going) }
+    ensures heard { HasHeard seat.old seat.new }
+    ensures quiet { OnOk result (IsQuiet j seat.new) }
+
+    // What was quiet stays so.
+    ensures others { OnOk result ((i : ℕ) → i < j → IsQuiet i seat.old → IsQuiet i seat.new) }
+
+    ensures journal { D.is_honest log.old.disk → log.old.going ≡ true → Journalled
+        D.is_honest D.seen D.may_leave D.moment D.left_since log.old log.new room seat.old seat.new result }
+    ensures cause { log.old.going ≡ true → IfErr result (λ stop. HasCause D.is_honest D.faults
+        log.old log.new (pending_of room seat.new stop.pending) stop.error) }
+{
+    let _proposer = seat.look_proposer(j);
+    let moved = match answer(log, seat, room, j) {
+        Ok(moved) => moved,
+        Err(stop) => return Err(stop),
+    };
+    let _acceptor = seat.look_acceptor(j);
+    Ok(moved)
+}
+
+/// Accepts what node `j` was seen to have proposed or, where it does not, promises the ballot that it was seen to have
+/// started.
+fn answer<D: Disk>(log: &mut Log<D>, seat: &mut WordSeat, room: u16, j: u8) -> Result<bool, Stop>
+    requires sound { IsSound D.is_honest D.seen D.may_leave log.old }
+    requires below { j < seat.old.node.count }
+    ensures served { IsServed D.is_honest D.seen D.may_leave D.faults log.old log.new }
+    ensures going { IfOk result (λ moved. log.new.going ≡ log.old.going) }
+    ensures heard { HasHeard seat.old seat.new }
+    ensures quiet { OnOk result (IsQuiet j seat.new) }
+    ensures others { OnOk result ((i : ℕ) → i < j → IsQuiet i seat.old → IsQuiet i seat.new) }
+    ensures journal { D.is_honest log.old.disk → log.old.going ≡ true → Journalled
+        D.is_honest D.seen D.may_leave D.moment D.left_since log.old log.new room seat.old seat.new result }
+    ensures cause { log.old.going ≡ true → IfErr result (λ stop. HasCause D.is_honest D.faults
+        log.old log.new (pending_of room seat.new stop.pending) stop.error) }
+{
+    seat.bounds();
+    let moved = match act(log, seat, room, Act::Accept(j)) {
+        Ok(moved) => moved,
+        Err(stop) => return Err(stop),
+    };
+    if moved {
+        return Ok(true);
+    }
+    act(log, seat, room, Act::Promise(j))
+}
