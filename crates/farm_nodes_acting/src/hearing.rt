@@ -15,6 +15,28 @@ use durable_model::Disk;
 use rooms_seat::WordSeat;
 use rooms_state::act::Act;
 
+/// Hears every node, its own number too. Answers whether it took a step.
+pub fn hear_all<D: Disk>(log: &mut Log<D>, seat: &mut WordSeat, room: u16) -> Result<bool, Stop>
+    requires { IsSound D.is_honest D.seen D.may_leave log.old }
+    ensures served { IsServed D.is_honest D.seen D.may_leave D.faults log.old log.new }
+    ensures going { IfOk result (λ moved. log.new.going ≡ log.old.going) }
+    ensures heard { HasHeard seat.old seat.new }
+    ensures quiet { OnOk result ((j : ℕ) → j < seat.new.node.count → IsQuiet j seat.new) }
+    ensures journal { D.is_honest log.old.disk → log.old.going ≡ true → Journalled
+        D.is_honest D.seen D.may_leave D.moment D.left_since log.old log.new room seat.old seat.new result }
+    ensures cause { log.old.going ≡ true → IfErr result (λ stop. HasCause D.is_honest D.faults
+        log.old log.new (pending_of room seat.new stop.pending) stop.error) }
+{
+    let mut moved = false;
+    for j in 0..seat.count() {
+        match hear(log, seat, room, j) {
+            Ok(again) => moved = moved || again,
+            Err(stop) => return Err(stop),
+        }
+    }
+    Ok(moved)
+}
+
 /// Hears node `j`: looks at its proposer, accepts what it proposes or else promises its ballot, and looks at its
 /// acceptor. Answers whether it took a step.
 pub fn hear<D: Disk>(log: &mut Log<D>, seat: &mut WordSeat, room: u16, j: u8) -> Result<bool, Stop>

@@ -7,5 +7,5 @@ mod hearing;
 mod stop;
 
 pub use acting::act;
-pub use hearing::hear;
+pub use hearing::{hear, hear_all};
 pub use stop::{Pending, Stop};
