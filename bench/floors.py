@@ -44,7 +44,7 @@ FLOORS = [
      "rooms_steps rooms_state rooms_seat rooms_cells rooms"),
     ("Journals", "durable_model_writes durable_model acceptor_log_form acceptor_log"),
     ("The farm", "farm_nodes_acting"),
-    ("The program", "cfarm_texts cfarm_commands cfarm_schedules cfarm"),
+    ("The program", "cfarm_texts cfarm_commands cfarm_schedules_lines cfarm_schedules cfarm"),
     ("Tests", "program_rows paxos_reference worked_agreement worked_texts worked_forms worked_offers worked_rows worked_disk "
      "worked_journals worked_rooms"),
 ]
