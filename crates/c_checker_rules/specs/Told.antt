@@ -12,6 +12,6 @@ abbrev pub first : List CheckError → Option CheckError
 first [] = None
 first (fault ∷ faults) = Some fault
 
--- What is refused has these faults, and the first of them is told. A want of memory says nothing.
+-- What is refused has these faults, and the first of them is told. Being out of memory says nothing.
 abbrev pub Tells : CheckError → List CheckError → Type 0
 Tells e faults = e ≢ NoMemory → first faults ≡ Some e

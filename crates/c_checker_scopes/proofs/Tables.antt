@@ -60,7 +60,7 @@ name_of-old names name symbol lt = get_or_append_left names (name ∷ []) [] sym
 -- one name more, for which there is a row
 pub more_name : (names : List (List ℕ)) (latest : List (Option ℕ)) (links : List Link) (name : List ℕ) → length names < length latest
     → ((symbol : ℕ) → symbol < length names → name_of names symbol ≢ name) → IsTable names latest links → IsTable (names ++ name ∷ []) latest links
-more_name names latest links name room new table = record {
+more_name names latest links name space new table = record {
   distinct = apart;
   rows = omega (arith, length_push names name);
   newest = table.newest;

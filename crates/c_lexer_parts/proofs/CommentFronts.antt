@@ -25,7 +25,7 @@ close_at text before behind e =
 
 -- a text that has the mark at a place is cut there
 pub cut_at_close : (text : List ℕ) (n : ℕ) → n + 2 ≤ length text → IsClose text n → text ≡ take n text ++ (42 ∷ 47 ∷ drop (n + 2) text)
-cut_at_close text n room (star, slash) =
+cut_at_close text n space (star, slash) =
     let here : drop n text ≡ get_or text n 0 ∷ drop (n + 1) text = drop_more text n 0 (omega arith) in
     let next : drop (n + 1) text ≡ get_or text (n + 1) 0 ∷ drop (n + 1 + 1) text = drop_more text (n + 1) 0 (omega arith) in
     let at : n + 1 + 1 ≡ n + 2 = omega arith in
@@ -35,8 +35,8 @@ cut_at_close text n room (star, slash) =
 -- the body before the first mark is closed there for the first time
 pub closes_first : (text : List ℕ) (n : ℕ) → IsFirstClose text n → ClosesFirst (take n text) (drop (n + 2) text)
 closes_first text n first before behind e =
-    let whole : text ≡ before ++ (42 ∷ 47 ∷ behind) = cut_at_close text n first.room first.closes ∙ e in
-    let len : length (take n text) ≡ n = length-take-le n text (omega (arith, first.room)) in
+    let whole : text ≡ before ++ (42 ∷ 47 ∷ behind) = cut_at_close text n first.space first.closes ∙ e in
+    let len : length (take n text) ≡ n = length-take-le n text (omega (arith, first.space)) in
     ⊎_elim
     (λ (earlier : length before < n). absurd (first.first (length before) earlier (close_at text before behind whole)))
     (λ (later : n ≤ length before). omega arith)
@@ -52,12 +52,12 @@ line_end text n ends =
     (λ (past : length text ≤ n). subst IsLineEnd (sym (drop_all n text past)) tt)
     (order n (length text))
 
-module _ (text : List ℕ) (b : ℕ) (room : 1 < length text) (first : get_or text 0 0 ≡ 47) (second : get_or text 1 0 ≡ b) where
+module _ (text : List ℕ) (b : ℕ) (space : 1 < length text) (first : get_or text 0 0 ≡ 47) (second : get_or text 1 0 ≡ b) where
   -- the front of a text, from its third byte on
   front_is : (n : ℕ) → take (2 + n) text ≡ 47 ∷ b ∷ take n (drop 2 text)
   front_is n =
       let more : 2 + n ≡ suc (suc n) = omega arith in
-      ap (λ (l : List ℕ). take (2 + n) l) (two_bytes text 47 b room first second) ∙ ap (λ m. take m (47 ∷ b ∷ drop 2 text)) more
+      ap (λ (l : List ℕ). take (2 + n) l) (two_bytes text 47 b space first second) ∙ ap (λ m. take m (47 ∷ b ∷ drop 2 text)) more
 
   behind_is : (n : ℕ) → drop (2 + n) text ≡ drop n (drop 2 text)
   behind_is n = sym (drop-drop n 2 text)
@@ -69,31 +69,31 @@ pub record IsLine (text : List ℕ) (n : ℕ) : Type 0 where
   pub ends : n < length text → get_or text n 0 ≡ 10
 
 pub line_gap : (text : List ℕ) (n : ℕ) → 1 < length text → get_or text 0 0 ≡ 47 → get_or text 1 0 ≡ 47 → IsLine (drop 2 text) n → IsGap (take (2 + n) text) (drop (2 + n) text)
-line_gap text n room first second line =
+line_gap text n space first second line =
     let len = length-take-le n (drop 2 text) line.in_range in
     IsGap.line (take n (drop 2 text))
-    (front_is text 47 room first second n)
+    (front_is text 47 space first second n)
     (All-from_get_or (λ b. b ≢ 10) (take n (drop 2 text)) 0 (λ k h e. line.each k (omega arith) (sym (get_or-take n (drop 2 text) k 0 (omega arith)) ∙ e)))
-    (subst IsLineEnd (sym (behind_is text 47 room first second n)) (line_end (drop 2 text) n line.ends))
+    (subst IsLineEnd (sym (behind_is text 47 space first second n)) (line_end (drop 2 text) n line.ends))
 
 pub block_gap : (text : List ℕ) (n : ℕ) → 1 < length text → get_or text 0 0 ≡ 47 → get_or text 1 0 ≡ 42 → IsFirstClose (drop 2 text) n → IsGap (take (n + 4) text) (drop (n + 4) text)
-block_gap text n room first second closes =
+block_gap text n space first second closes =
     let at : 2 + (n + 2) ≡ n + 4 = omega arith in
     let rest = drop 2 text in
     let body = take n rest in
-    let cut : rest ≡ body ++ (42 ∷ 47 ∷ drop (n + 2) rest) = cut_at_close rest n closes.room closes.closes in
-    let len : length body ≡ n = length-take-le n rest (omega (arith, closes.room)) in
+    let cut : rest ≡ body ++ (42 ∷ 47 ∷ drop (n + 2) rest) = cut_at_close rest n closes.space closes.closes in
+    let len : length body ≡ n = length-take-le n rest (omega (arith, closes.space)) in
     let through : take (n + 2) rest ≡ body ++ (42 ∷ 47 ∷ []) =
     ap (λ (l : List ℕ). take (n + 2) l) (cut ∙ sym (append_assoc body (42 ∷ 47 ∷ []) (drop (n + 2) rest)))
     ∙ take_at (body ++ (42 ∷ 47 ∷ [])) (drop (n + 2) rest) (n + 2) (length-append body (42 ∷ 47 ∷ []) ∙ ap (λ m. m + 2) len) in
     subst (λ m. IsGap (take m text) (drop m text)) at
     (IsGap.block body
-    (front_is text 42 room first second (n + 2) ∙ ap (λ (l : List ℕ). 47 ∷ 42 ∷ l) through)
-    (subst (ClosesFirst body) (sym (behind_is text 42 room first second (n + 2))) (closes_first rest n closes)))
+    (front_is text 42 space first second (n + 2) ∙ ap (λ (l : List ℕ). 47 ∷ 42 ∷ l) through)
+    (subst (ClosesFirst body) (sym (behind_is text 42 space first second (n + 2))) (closes_first rest n closes)))
 
 pub open_comment : (text : List ℕ) → 1 < length text → get_or text 0 0 ≡ 47 → get_or text 1 0 ≡ 42 → NoClose (drop 2 text) (length (drop 2 text)) → IsOpenComment text
-open_comment text room first second none = record {
+open_comment text space first second none = record {
   body = drop 2 text;
-  opened = two_bytes text 47 42 room first second;
+  opened = two_bytes text 47 42 space first second;
   never_closed = λ before behind e. never_closed (drop 2 text) before behind none e;
 }

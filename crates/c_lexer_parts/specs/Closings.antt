@@ -9,6 +9,6 @@ abbrev pub NoClose : List ℕ → ℕ → Type 0
 NoClose text n = (k : ℕ) → k < n → IsClose text k → ⊥
 
 pub record IsFirstClose (text : List ℕ) (n : ℕ) : Type 0 where
-  pub room : n + 2 ≤ length text
+  pub space : n + 2 ≤ length text
   pub closes : IsClose text n
   pub first : NoClose text n

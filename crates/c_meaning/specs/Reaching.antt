@@ -27,6 +27,10 @@ still_shown m = shown (later m (Falls (here m [])))
 abbrev pub Reaches : Machine → Machine → (State → Outcome) → Next → Type 0
 Reaches old new does next = Meets next new (λ output. later old (does (here old output)))
 
+-- The same for work below the machine's bound.
+abbrev pub ReachesWork : Machine → Machine → Work → Next → Type 0
+ReachesWork old new work = Reaches old new (level_of old work)
+
 -- The same, where nothing of the present actions is left to do: what waits on the stack comes next.
 abbrev pub ReachesRest : Machine → Machine → (State → Outcome) → Next → Type 0
 ReachesRest old new does next = Meets next new (λ output. rest_of old (does (here old output)))

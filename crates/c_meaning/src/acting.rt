@@ -5,7 +5,7 @@ ghost use Rattle.c_program.specs.Trees.{Sequence, Give, Store};
 ghost use Rattle.c_program.specs.Views.{term_tree, given_tree, action_tree, actions_tree};
 ghost use Rattle.c_program.specs.Meaning.{Falls};
 ghost use Rattle.c_meaning.specs.Parts.{choice_tree, loop_work};
-ghost use Rattle.c_meaning.specs.Reaching.{Reaches, Does, CostFalls, CostsAtMost, level_of};
+ghost use Rattle.c_meaning.specs.Reaching.{Reaches, ReachesWork, Does, CostFalls, CostsAtMost};
 ghost use Rattle.c_meaning_machine.specs.Costs.{later_cost};
 ghost use Rattle.c_meaning_machine.specs.Steps.{next_cost};
 
@@ -114,7 +114,7 @@ fn begin_loop<'a>(
     body: &'a Action,
     behind: &'a Action,
 ) -> Result<Next, NoMemory>
-    ensures meaning { IfOk result (Reaches machine.old machine.new (level_of machine.old (loop_work condition.now body.now behind.now))) }
+    ensures meaning { IfOk result (ReachesWork machine.old machine.new (loop_work condition.now body.now behind.now)) }
     ensures cost { IfOk result (CostsAtMost machine.old machine.new (loop_work condition.now body.now behind.now)) }
 {
     let bound = machine.bound;

@@ -1,3 +1,4 @@
+pub mod Functions
 pub mod Numbers
 pub mod Telling
 pub mod Refusing

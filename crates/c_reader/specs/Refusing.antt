@@ -8,8 +8,12 @@ use Rattle.c_syntax.specs.Declarations.{IsUnit}
 use Rattle.c_reader.specs.declared.errors.ReadError.{ReadError}
 use Rattle.c_reader.specs.declared.errors.ReadError.TheVariants as E
 
--- Syntax: no tree, however high. A want of memory says nothing.
+-- no function and no initializer of it is too high
+abbrev pub AreLow : UnitTree → Type 0
+AreLow u = AllByRecursion IsLow u.declarations
+
+-- Syntax: no tree, however high. Being out of memory says nothing.
 abbrev pub Refuses : ReadError → List Token → Type 0
 Refuses E.NoMemory ts = Unit {0}
 Refuses (E.Syntax at) ts = (u : UnitTree) → IsUnit u ts → ⊥
-Refuses (E.TooDeep at) ts = (u : UnitTree) → IsUnit u ts → AllByRecursion IsLow u.declarations → ⊥
+Refuses (E.TooDeep at) ts = (u : UnitTree) → IsUnit u ts → AreLow u → ⊥

@@ -23,7 +23,7 @@ error_of F.NoMemory initial ts end = E.NoMemory
 error_of (F.Syntax at) initial ts end = E.Syntax (place_or end at)
 error_of F.TooDeep initial ts end = E.TooDeep (place_or (begin_of ts) initial)
 
--- The reading has this fault, of a text that ends here. A want of memory tells nothing.
+-- The reading has this fault, of a text that ends here. Being out of memory tells nothing.
 abbrev pub Tells : {A : Type 0} → ReadError → ℕ → Result A Fault → Type 0
 Tells E.NoMemory end r = Unit {0}
 Tells (E.Syntax at) end r = (o : Option ℕ) × (r ≡ Err (F.Syntax o)) × (at ≡ place_or end o)

@@ -3,8 +3,8 @@
 ghost use Rattle.std.specs.Prelude.{◌≡◌, ◌≢◌, true, None, IfOk, IfErr, Ok, Err};
 ghost use Rattle.c_syntax.specs.Heights.{highest};
 ghost use Rattle.c_syntax.specs.Views.{statements_tree, declaration_tree};
-ghost use Rattle.c_reader_declaration_laws.specs.Parameters.{all_named};
-ghost use Rattle.c_reader_declaration_laws.specs.Reading.{body, function, headed, callable, is_callable_next, declaration};
+ghost use Rattle.c_reader_declaration_laws.specs.Reading.{body, headed, callable, is_callable_next, declaration};
+ghost use Rattle.c_reader.specs.Functions.{function_of};
 
 use crate::globals::{HIGHEST, read_global};
 use crate::misread::Misread;
@@ -33,8 +33,8 @@ fn read_function(
     prototype: Prototype,
     tokens: &[Token],
 ) -> Result<(Declaration, &[Token]), Fault>
-    ensures ok { IfOk result (λ r. function highest prototype (all_named prototype.parameters) tokens.now ≡ Ok (declaration_tree r.0, r.1.now)) }
-    ensures err { IfErr result (λ e. e ≢ Fault.NoMemory → function highest prototype (all_named prototype.parameters) tokens.now ≡ Err e) }
+    ensures ok { IfOk result (λ r. function_of prototype tokens.now ≡ Ok (declaration_tree r.0, r.1.now)) }
+    ensures err { IfErr result (λ e. e ≢ Fault.NoMemory → function_of prototype tokens.now ≡ Err e) }
 {
     let Prototype {
         result,

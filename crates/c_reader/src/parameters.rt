@@ -1,11 +1,10 @@
 //! Readers of what a function and its prototype begin with (C99 6.7.5.3).
 
 ghost use Rattle.std.specs.Prelude.{◌≡◌, ◌≢◌, IfOk, IfErr, Ok, Err, length};
-ghost use Rattle.c_reader_productions.specs.Combining.{commas, either, there, missing};
-ghost use Rattle.c_reader_tokens.specs.Peeking.{is_name_next};
-ghost use Rattle.c_reader_tokens.specs.Tokens.{placed_name};
+ghost use Rattle.c_reader_productions.specs.Combining.{commas};
 ghost use Rattle.c_reader_declaration_laws.specs.Parameters.{named, all_named};
 ghost use Rattle.c_reader_declaration_laws.specs.Reading.{open_parameter, open_parameters, return_type, heading};
+ghost use Rattle.c_reader.specs.Functions.{open_name};
 
 use crate::globals::read_here;
 use c_reader_tokens::{
@@ -19,8 +18,8 @@ use owned::{beside, ok};
 use std::alloc::Global;
 
 fn read_open_name(alloc: Global, tokens: &[Token]) -> Result<(Option<Identifier>, &[Token]), Fault>
-    ensures ok { IfOk result (λ r. either is_name_next (there placed_name) missing tokens.now ≡ Ok (r.0, r.1.now)) }
-    ensures err { IfErr result (λ e. e ≢ Fault.NoMemory → either is_name_next (there placed_name) missing tokens.now ≡ Err e) }
+    ensures ok { IfOk result (λ r. open_name tokens.now ≡ Ok (r.0, r.1.now)) }
+    ensures err { IfErr result (λ e. e ≢ Fault.NoMemory → open_name tokens.now ≡ Err e) }
 {
     if !is_name_next(tokens) {
         return Ok((None, tokens));

@@ -1,14 +1,13 @@
 //! The reader of a whole text.
 
 ghost use Rattle.std.specs.Prelude.{◌≡◌, IfOk, IfErr, Ok, map};
-ghost use Rattle.c_syntax.specs.Heights.{highest, IsLow};
+ghost use Rattle.c_syntax.specs.Heights.{highest};
 ghost use Rattle.c_syntax.specs.Declarations.{end_of, IsUnit};
 ghost use Rattle.c_syntax.specs.Trees.{UnitTree};
 ghost use Rattle.c_syntax.specs.Views.{declaration_tree};
-ghost use Rattle.std.specs.List.{AllByRecursion};
 ghost use Rattle.c_reader_declaration_laws.specs.Reading.{is_next_there, declarations};
 ghost use Rattle.c_syntax.specs.Units.{unit_tree};
-ghost use Rattle.c_reader.specs.Refusing.{Refuses};
+ghost use Rattle.c_reader.specs.Refusing.{AreLow, Refuses};
 ghost use Rattle.c_reader.specs.Telling.{begin_of, error_of, Tells};
 
 use crate::errors::ReadError;
@@ -89,8 +88,8 @@ fn read_declarations(
 #[tactic(auto, using(crate::proofs::Sound::spelled_read, crate::proofs::Sound::low_read, crate::proofs::Sound::one_tree, crate::proofs::Sound::refused))]
 pub fn read(alloc: Global, tokens: &[Token]) -> Result<Unit, ReadError>
     ensures ok { IfOk result (λ u. IsUnit (unit_tree u) tokens.now) }
-    ensures low { IfOk result (λ u. AllByRecursion IsLow (unit_tree u).declarations) }
-    ensures only { (u : UnitTree) → IsUnit u tokens.now → AllByRecursion IsLow u.declarations → IfOk result (λ v. unit_tree v ≡ u) }
+    ensures low { IfOk result (λ u. AreLow (unit_tree u)) }
+    ensures only { (u : UnitTree) → IsUnit u tokens.now → AreLow u → IfOk result (λ v. unit_tree v ≡ u) }
     ensures err { IfErr result (λ e. Refuses e tokens.now) }
 {
     let end = end_of(tokens);

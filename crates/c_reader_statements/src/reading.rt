@@ -68,7 +68,7 @@ fn looped(alloc: Global, head: Loop, body: Statement) -> Result<Statement, Fault
     }
 }
 
-/// The same statements, with no room for more: most blocks hold few, and a statement is large.
+/// The same statements, with no space for more: most blocks hold few, and a statement is large.
 fn fitted(statements: Vec<Statement>) -> Vec<Statement>
     ensures { result.items ≡ statements.items }
 {

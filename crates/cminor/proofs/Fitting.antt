@@ -12,15 +12,15 @@ use Rattle.cminor_syntax.specs.Trees.{StatementTree}
 use Rattle.cminor_syntax.specs.Fits.{ExpressionFits, StatementFits, StatementsFit, TargetFits}
 use Rattle.cminor_lowering.specs.Terms.{low_term}
 use Rattle.cminor_lowering.specs.Actions.{low_given_by, low_action, low_actions}
-use Rattle.cminor.specs.Room.{HasRoom}
+use Rattle.cminor.specs.Space.{HasRoom}
 
 -- the target of what gives its word to a variable that is there
-pub target_has_room : (spare : ℕ) (target : Target) (s : Option ℕ → StatementTree) →
+pub target_has_space : (spare : ℕ) (target : Target) (s : Option ℕ → StatementTree) →
     ((v : Option ℕ) → StatementFits 65536 (s v) → TargetFits 65536 v) → StatementFits 65536 (low_given_by spare target s) → HasRoom target
-target_has_room spare Nowhere s there fits = tt
-target_has_room spare (Local n) s there fits = there (Some n) fits
-target_has_room spare (Global g) s there fits = omega (arith, fits.1.1.0.0)
-target_has_room spare Caller s there fits = tt
+target_has_space spare Nowhere s there fits = tt
+target_has_space spare (Local n) s there fits = there (Some n) fits
+target_has_space spare (Global g) s there fits = omega (arith, fits.1.1.0.0)
+target_has_space spare Caller s there fits = tt
 
 -- what holds of each such statement that is in range, whichever variable it names
 pub given_fits : (P : Type 0) (spare : ℕ) (target : Target) (s : Option ℕ → StatementTree) →

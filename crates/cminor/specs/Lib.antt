@@ -1,4 +1,4 @@
-pub mod Room
+pub mod Space
 pub mod Parts
 pub mod Bodies
 pub use Rattle.cminor_lowering.specs.Programs

@@ -23,7 +23,7 @@ fn are_in_range(spare: u16, actions: &[Action])
     ensures { All (λ a. StatementFits 65536 (low_action spare (action_tree a))) actions.now }
 {}
 
-/// The statement that an action stands for. Each number in it has room in its field.
+/// The statement that an action stands for. Each number in it has space in its field.
 #[cycle(lowering)]
 fn lower_action(alloc: Global, spare: u16, action: &Action) -> Result<Statement, NoMemory>
     requires { StatementFits 65536 (low_action spare (action_tree action.now)) }

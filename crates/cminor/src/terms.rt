@@ -31,7 +31,7 @@ fn lower_truth(alloc: Global, term: &Term) -> Result<Expression, NoMemory>
     truth(alloc, lower_term(alloc, term)?)
 }
 
-/// The expression that a term stands for. Each number in it has room in its field.
+/// The expression that a term stands for. Each number in it has space in its field.
 #[cycle(lowering)]
 pub fn lower_term(alloc: Global, term: &Term) -> Result<Expression, NoMemory>
     requires { ExpressionFits 65536 (low_term (term_tree term.now)) }

@@ -9,7 +9,7 @@ ghost use Rattle.cminor_lowering.specs.Actions.{low_plain, low_given_by, low_giv
 ghost use Rattle.cminor_lowering.specs.Terms.{low_term};
 ghost use Rattle.c_program.specs.declared.action.Value.TheVariants.{Call};
 ghost use Rattle.c_program.specs.Trees as T;
-ghost use Rattle.cminor.specs.Room.{HasRoom};
+ghost use Rattle.cminor.specs.Space.{HasRoom};
 
 use crate::parts::two;
 use crate::{lower_term, lower_terms};

@@ -1,4 +1,4 @@
--- Statements whose counts have room in their bytes, as those of each function have.
+-- Statements whose counts have space in their bytes, as those of each function have.
 use Rattle.std.specs.Prelude.{◌<◌, ◌^◌, length}
 use Rattle.cminor_syntax.specs.Trees.{StatementTree, StatementsTree, Skip, Assign, Store, Call, Put, Sequence, If, Loop, Block, Exit, Return, Done, First}
 use Rattle.cminor_syntax.specs.Fits.{statement_count}

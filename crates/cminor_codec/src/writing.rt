@@ -100,7 +100,7 @@ fn push_returned(out: &mut Vec<u8>, value: &Option<Expression>) -> Result<(), No
     }
 }
 
-/// Where a sequence's counts have room, so have those of each of its statements.
+/// Where a sequence's counts have space, so have those of each of its statements.
 fn are_short(statements: &[Statement])
     requires { HasShortLists (T.Sequence (statements_tree statements.now)) }
     ensures count { statement_count (statements_tree statements.now) < 2 ^ 32 }
@@ -164,7 +164,7 @@ fn push_call(
     push_arguments(out, arguments)
 }
 
-/// A code, and what follows it. Each count has room in its bytes.
+/// A code, and what follows it. Each count has space in its bytes.
 #[cycle(writing)]
 pub fn push_statement(out: &mut Vec<u8>, statement: &Statement) -> Result<(), NoMemory>
     requires { HasShortLists (statement_tree statement.now) }

@@ -1,4 +1,4 @@
--- A function's counts have room in their bytes.
+-- A function's counts have space in their bytes.
 use Rattle.cminor_syntax.specs.Trees.{StatementTree, StatementsTree, Skip, Assign, Store, Call, Put, Sequence, If, Loop, Block, Exit, Return, Done, First}
 use Rattle.std.proofs.Common.{ℕ}
 use Rattle.cminor_syntax.specs.Fits.{StatementFits, StatementsFit}

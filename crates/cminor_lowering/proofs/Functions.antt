@@ -143,15 +143,15 @@ begins_sees : (f : T.FunctionTree) (ws : List ℕ) (s : S.State) (t : V.State) �
 begins_sees f ws s t count shares = record {
   holds = arguments_hold ws (f.locals - f.parameters) (suc (spare_of f) - f.parameters);
   below = rw (begun_length ws (f.locals - f.parameters), count) (below f.parameters f.locals);
-  room = rw (begun_length ws (suc (spare_of f) - f.parameters), count) (room f.parameters f.locals);
+  space = rw (begun_length ws (suc (spare_of f) - f.parameters), count) (space f.parameters f.locals);
   shares = record { globals = shares.globals; output = shares.output };
 }
   where
     below : (p l : ℕ) → p + (l - p) ≤ max p l
     below p l = omega arith
 
-    room : (p l : ℕ) → max p l < p + (suc (max p l) - p)
-    room p l = omega arith
+    space : (p l : ℕ) → max p l < p + (suc (max p l) - p)
+    space p l = omega arith
 
 pub function_follows : (lower : C.Level) (lower' : M.Level) → LowerFollows lower lower' → (fs : List T.FunctionTree) (n : ℕ) (ws : List ℕ) (s : S.State) (t : V.State) → Shares s t →
     FollowsCall (C.enters lower (slice_get fs n) ws s) (M.enters lower' (slice_get (map low_named fs) n) (map Some ws) t)

@@ -23,7 +23,7 @@ stores_follow spare g i w s t sees =
     at : (globals : Option (List (List ℕ))) → Follows spare (C.with_globals s globals) (M.with_globals t globals)
     at None = tt
     at (Some globals) =
-        (record t { globals = globals }, refl, record { holds = sees.holds; below = sees.below; room = sees.room; shares = record { globals = refl; output = sees.shares.output } })
+        (record t { globals = globals }, refl, record { holds = sees.holds; below = sees.below; space = sees.space; shares = record { globals = refl; output = sees.shares.output } })
 
 -- the caller's words, with these globals and this output
 abbrev pub base : V.State → List (List ℕ) → List ℕ → V.State
@@ -49,7 +49,7 @@ module _ (spare : ℕ) (lower : M.Level) (s : S.State) (t : V.State) (sees : See
   given_follows (Global g) w globals output gives =
       let now = V.given (Some spare) (Some w) (base t globals output) in
       let with = sees_spare spare w (base_of s globals output) (base t globals output) (sees_with spare s t globals output sees) in
-      let held = spare_held spare w (base t globals output) sees.room in
+      let held = spare_held spare w (base t globals output) sees.space in
       let stored = subst (λ x. Follows spare (C.stores g (base_of s globals output) (Some 0) (Some w)) (M.stores g now (Some 0) x)) (sym held) (stores_follow spare g 0 w (base_of s globals output) now with) in
       subst (λ o. Follows spare (C.stores g (base_of s globals output) (Some 0) (Some w)) (then (Store g (Number 0) (Variable spare)) o)) (sym (gives (Some spare)))
       (closed (C.stores g (base_of s globals output) (Some 0) (Some w)) (M.stores g now (Some 0) (V.held spare now)) stored)
@@ -63,7 +63,7 @@ module _ (spare : ℕ) (lower : M.Level) (s : S.State) (t : V.State) (sees : See
       closed (C.Fails printed) m f = tt
   given_follows Caller w globals output gives =
       let now = V.given (Some spare) (Some w) (base t globals output) in
-      let held = spare_held spare w (base t globals output) sees.room in
+      let held = spare_held spare w (base t globals output) sees.space in
       (now, ap (then (Return (Some (Variable spare)))) (gives (Some spare)) ∙ ap (λ x. M.goes_on (M.exec_all lower Done) (M.returns now x)) held, record { globals = refl; output = refl })
 
   -- a run that is broken off by the statement

@@ -24,9 +24,9 @@ to_each [] short k d below = absurd (omega arith)
 to_each (x ∷ xs) short zero d below = short.0
 to_each (x ∷ xs) short (suc k) d below = to_each xs short.1 k d (omega arith)
 
--- a sequence that has room is short where each of its actions is
-pub with_room : (xs : List Action) (r : Bool) → action_count (actions_tree xs) < action_limit → (IsTrue r ↔ All (λ a. IsShort (action_tree a)) xs) → IsTrue r ↔ IsShort (T.Sequence (actions_tree xs))
-with_room xs r few each = ((λ t. (few, from_each xs (each.0 t))), (λ short. each.1 (to_each xs short.1)))
+-- a sequence that has space is short where each of its actions is
+pub with_space : (xs : List Action) (r : Bool) → action_count (actions_tree xs) < action_limit → (IsTrue r ↔ All (λ a. IsShort (action_tree a)) xs) → IsTrue r ↔ IsShort (T.Sequence (actions_tree xs))
+with_space xs r few each = ((λ t. (few, from_each xs (each.0 t))), (λ short. each.1 (to_each xs short.1)))
 
-pub without_room : (xs : List Action) (r : Bool) → r ≡ false → (IsTrue r ↔ (action_count (actions_tree xs) < action_limit)) → IsTrue r ↔ IsShort (T.Sequence (actions_tree xs))
-without_room xs r long room = ((λ t. absurd cc), (λ short. room.1 short.0))
+pub without_space : (xs : List Action) (r : Bool) → r ≡ false → (IsTrue r ↔ (action_count (actions_tree xs) < action_limit)) → IsTrue r ↔ IsShort (T.Sequence (actions_tree xs))
+without_space xs r long space = ((λ t. absurd cc), (λ short. space.1 short.0))

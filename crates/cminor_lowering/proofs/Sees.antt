@@ -18,7 +18,7 @@ Holds xs ys = (i w : ℕ) → slice_index_or xs i None ≡ Some w → slice_inde
 pub record Sees (spare : ℕ) (s : C.State) (t : M.State) : Type 0 where
   pub holds : Holds s.locals t.variables
   pub below : length s.locals ≤ spare
-  pub room : spare < length t.variables
+  pub space : spare < length t.variables
   pub shares : Shares s t
 
 -- ---- one word is set
@@ -55,15 +55,15 @@ pub sees_lost : (spare n : ℕ) (s : C.State) (t : M.State) → Sees spare s t �
 sees_lost spare n s t sees = record {
   holds = λ i w e. sees.holds i w (lost_holds s.locals n i w e);
   below = rw (length-set s.locals n None) sees.below;
-  room = sees.room;
+  space = sees.space;
   shares = record { globals = sees.shares.globals; output = sees.shares.output };
 }
 
 pub sees_set : (spare n w : ℕ) (s : C.State) (t : M.State) → Sees spare s t → Sees spare (C.with_local n (Some w) s) (M.given (Some n) (Some w) t)
 sees_set spare n w s t sees = record {
-  holds = set_holds s.locals t.variables n (Some w) sees.holds (omega (arith, sees.below, sees.room));
+  holds = set_holds s.locals t.variables n (Some w) sees.holds (omega (arith, sees.below, sees.space));
   below = rw (length-set s.locals n (Some w)) sees.below;
-  room = rw (length-set t.variables n (Some w)) sees.room;
+  space = rw (length-set t.variables n (Some w)) sees.space;
   shares = record { globals = sees.shares.globals; output = sees.shares.output };
 }
 
@@ -71,15 +71,15 @@ pub sees_spare : (spare w : ℕ) (s : C.State) (t : M.State) → Sees spare s t 
 sees_spare spare w s t sees = record {
   holds = spare_holds s.locals t.variables spare (Some w) sees.below sees.holds;
   below = sees.below;
-  room = rw (length-set t.variables spare (Some w)) sees.room;
+  space = rw (length-set t.variables spare (Some w)) sees.space;
   shares = record { globals = sees.shares.globals; output = sees.shares.output };
 }
 
 -- what the spare variable holds, once it is set
 pub spare_held : (spare w : ℕ) (t : M.State) → spare < length t.variables → M.held spare (M.given (Some spare) (Some w) t) ≡ Some w
-spare_held spare w t room = get_or-set_same t.variables spare (Some w) None room
+spare_held spare w t space = get_or-set_same t.variables spare (Some w) None space
 
 -- the same locals, with other globals and another output
 pub sees_with : (spare : ℕ) (s : C.State) (t : M.State) (globals : List (List ℕ)) (output : List ℕ) → Sees spare s t →
     Sees spare (record { locals = s.locals; globals = globals; output = output }) (record { variables = t.variables; globals = globals; output = output })
-sees_with spare s t globals output sees = record { holds = sees.holds; below = sees.below; room = sees.room; shares = record { globals = refl; output = refl } }
+sees_with spare s t globals output sees = record { holds = sees.holds; below = sees.below; space = sees.space; shares = record { globals = refl; output = refl } }

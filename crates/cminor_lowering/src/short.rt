@@ -9,7 +9,7 @@ use c_program::{Action, Function};
 
 /// Whether so few actions stand in a sequence.
 #[tactic(auto, using(crate::proofs::Rows::counted))]
-fn has_room(actions: &[Action]) -> bool
+fn has_space(actions: &[Action]) -> bool
     ensures { IsTrue result ↔ (action_count (actions_tree actions.now) < action_limit) }
 {
     actions.len() < 4_294_967_295
@@ -26,7 +26,7 @@ fn is_short(action: &Action) -> bool
             true,
         Action::Sequence(all) => {
             let all = all.as_slice();
-            has_room(all) && are_short(all)
+            has_space(all) && are_short(all)
         }
         Action::Give(_, value) => {
             value_words(value);
@@ -65,5 +65,5 @@ pub fn is_short_function(function: &Function) -> bool
     ensures { IsTrue result ↔ IsShortFunction (function_tree function.now) }
 {
     let body = function.body.as_slice();
-    has_room(body) && are_short(body)
+    has_space(body) && are_short(body)
 }

@@ -1,8 +1,8 @@
 //! Whether an output is accepted, and where it is not.
 
-ghost use Rattle.std.specs.Prelude.{◌↔◌, IsTrue, IfOk, length};
-ghost use Rattle.rtl_passes.specs.Faults.{TellsFault};
-ghost use Rattle.constprop_check_rules.specs.Rules.{HasShape, IsRightAt, IsPropagated};
+ghost use Rattle.std.specs.Prelude.{◌↔◌, IsTrue, IfOk};
+ghost use Rattle.constprop_check_rules.specs.Rules.{IsPropagated};
+ghost use Rattle.constprop_check.specs.Verdict.{TellsWhy};
 
 use crate::lists::{FactLists, has_shape};
 use crate::nodes::lowest_wrong;
@@ -18,7 +18,7 @@ pub fn why(
     output: &Function,
     facts: &FactLists,
 ) -> Result<Option<Fault>, NoMemory>
-    ensures { IfOk result (TellsFault (HasShape input.now output.now facts.now) (IsRightAt input.now output.now facts.now) (length input.now.nodes)) }
+    ensures { IfOk result (TellsWhy input.now output.now facts.now) }
 {
     let lists = facts.as_slice();
     if !has_shape(input, output, lists) {

@@ -1,4 +1,5 @@
 pub mod Known
+pub mod Ranges
 pub mod Rules
 pub use Rattle.rtl_passes.specs.Shape
 pub use Rattle.rtl_passes.specs.Facts

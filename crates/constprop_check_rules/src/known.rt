@@ -4,7 +4,7 @@ ghost use Rattle.std.specs.Prelude.{◌≡◌, ◌==◌, ℕ, [], ◌∷◌, opt
 ghost use Rattle.ints.specs.CondTable.{cond_table};
 ghost use Rattle.ints.specs.MachineTable.{machine_table};
 ghost use Rattle.rtl_parts.specs.Fits.{ActFits};
-ghost use Rattle.rtl_language.specs.Function.{InstructionFits};
+ghost use Rattle.constprop_check_rules.specs.Ranges.{StaysInRange};
 ghost use Rattle.constprop_check_rules.specs.Known.{fact_at, known_words, known_value, target_of, written_by, value_by, decided, folded_act, folded};
 
 use crate::fact::Fact;
@@ -135,7 +135,7 @@ fn fold_act(act: &Act, facts: &[Fact]) -> Option<Act>
 /// The instruction made simpler, where the facts allow it; takes no memory.
 pub fn fold(instruction: &Instruction, facts: &[Fact]) -> Option<Instruction>
     ensures value { result ≡ folded instruction.now facts.now }
-    ensures fits { (registers nodes : ℕ) → InstructionFits registers nodes instruction.now → IfSome result (InstructionFits registers nodes) }
+    ensures fits { StaysInRange instruction.now result }
 {
     match instruction {
         Instruction::Do { act, successor } => {

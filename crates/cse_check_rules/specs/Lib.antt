@@ -1,5 +1,6 @@
 pub mod Equations
 pub mod Order
+pub mod Ranges
 pub mod Rules
 pub use Rattle.rtl_passes.specs.Shape
 pub use Rattle.rtl_passes.specs.Facts

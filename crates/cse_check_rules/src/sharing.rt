@@ -1,7 +1,6 @@
-ghost use Rattle.std.specs.Prelude.{◌≡◌, ◌<◌, ℕ, IfSome};
-ghost use Rattle.rtl_parts.specs.Fits.{ActFits};
-ghost use Rattle.rtl_language.specs.Function.{InstructionFits};
+ghost use Rattle.std.specs.Prelude.{◌≡◌};
 ghost use Rattle.cse_check_rules.specs.Equations.{shared_by, shared};
+ghost use Rattle.cse_check_rules.specs.Ranges.{ActStaysInRange, StaysInRange};
 
 use crate::equation::{Equation, RightSide};
 use rtl_language::Instruction;
@@ -9,7 +8,7 @@ use rtl_parts::{Act, Register};
 
 fn share_act(act: &Act, register: Register) -> Option<(Equation, Act)>
     ensures value { result ≡ shared_by act.now register }
-    ensures fits { (registers : ℕ) → register < registers → ActFits registers act.now → IfSome result (λ made. ActFits registers made.1) }
+    ensures fits { ActStaysInRange register act.now result }
 {
     match *act {
         Act::Operate {
@@ -58,7 +57,7 @@ fn share_act(act: &Act, register: Register) -> Option<(Equation, Act)>
 /// if its act is an operator, a load or a move; takes no memory.
 pub fn share(instruction: &Instruction, register: Register) -> Option<(Equation, Instruction)>
     ensures value { result ≡ shared instruction.now register }
-    ensures fits { (registers nodes : ℕ) → register < registers → InstructionFits registers nodes instruction.now → IfSome result (λ made. InstructionFits registers nodes made.1) }
+    ensures fits { StaysInRange register instruction.now result }
 {
     match instruction {
         Instruction::Do { act, successor } => {

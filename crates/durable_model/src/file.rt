@@ -106,9 +106,9 @@ fn read_all(alloc: Global, file: &File) -> Result<Vec<u8>, DiskError> {
     }
 }
 
-/// Makes room for the notes of a write of so many bytes and of the sync behind it. A write that makes the file longer
-/// takes the room for one more of each as well, the write being of one byte.
-fn make_room(held: &mut MemoryDisk, n: usize, is_longer: bool) -> Result<(), AllocError>
+/// Makes space for the notes of a write of so many bytes and of the sync behind it. A write that makes the file longer
+/// takes the space for one more of each as well, the write being of one byte.
+fn make_space(held: &mut MemoryDisk, n: usize, is_longer: bool) -> Result<(), AllocError>
     ensures stands { StandsAs held.old held.new }
     ensures capacity { held.old.call_capacity ≤ held.new.call_capacity }
     ensures calls { OnOk result (calls_made held.new + 2 ≤ held.new.call_capacity) }
@@ -163,7 +163,7 @@ impl Disk for FileDisk {
     /// no memory for its note, the device has failed.
     fn write_at(&mut self, at: u64, bytes: &[u8]) -> Result<(), DiskError> {
         let is_longer = self.held.is_lengthened_by(at, bytes.len());
-        if make_room(&mut self.held, bytes.len(), is_longer).is_err() {
+        if make_space(&mut self.held, bytes.len(), is_longer).is_err() {
             if is_longer {
                 return Err(DiskError::NoMemory);
             }

@@ -1,10 +1,8 @@
 //! The laws of keeping a meaning, as contracts of calls that do nothing else.
 
-ghost use Rattle.std.specs.Prelude.{◌≡◌, ℕ};
 ghost use Rattle.lang_base.specs.Behaviour.{Behaviour};
 ghost use Rattle.lang_base.specs.Keeps.{Keeps};
-ghost use Rattle.lang_base.specs.declared.program.Program.{Program};
-ghost use Rattle.lang_base.specs.Soundness.{AllFit, Accepted};
+ghost use Rattle.lang_base.specs.Soundness.{KeepsAll};
 
 use crate::language::Language;
 use crate::pass::Pass;
@@ -16,5 +14,5 @@ pub fn keeps_composes()
 
 /// What a pass accepts for a whole program keeps its meaning.
 pub fn keeps_all<P: Pass>()
-    ensures { (p : Program P.In.Fun) (q : Program P.Out.Fun) → AllFit P.In.fits p → AllFit P.Out.fits q → Accepted P.accepts p q → Keeps (P.In.run p) (P.Out.run q) }
+    ensures { KeepsAll P.In.fits P.Out.fits P.accepts P.In.run P.Out.run }
 {}

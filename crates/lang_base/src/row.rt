@@ -4,7 +4,7 @@ use crate::errors::NoMemory;
 use std::alloc::Global;
 use std::marker::Model;
 
-/// Items in order. Two rows are equal where their items are: how much room each has does not count.
+/// Items in order. Two rows are equal where their items are: how much space each has does not count.
 #[derive(Drop)]
 pub struct Row<T> {
     items: Vec<T>,

@@ -73,11 +73,11 @@ put_at-other (InRegister q) (InSlot s) v d ne = refl
 put_at-other (InSlot t) (InRegister r) v d ne = refl
 put_at-other (InSlot t) (InSlot s) v d ne = get_or-set_other d.slots t s v None (λ e. ne (ap (λ n. InSlot n) (sym e)))
 
-put_at-room : (p l : Location) (v : Option ℕ) (d : Data) → LiesIn d l → LiesIn (put_at p v d) l
-put_at-room (InRegister q) (InRegister r) v d lies = omega (arith, lies, length-set d.registers q v)
-put_at-room (InRegister q) (InSlot s) v d lies = lies
-put_at-room (InSlot t) (InRegister r) v d lies = lies
-put_at-room (InSlot t) (InSlot s) v d lies = omega (arith, lies, length-set d.slots t v)
+put_at-space : (p l : Location) (v : Option ℕ) (d : Data) → LiesIn d l → LiesIn (put_at p v d) l
+put_at-space (InRegister q) (InRegister r) v d lies = omega (arith, lies, length-set d.registers q v)
+put_at-space (InRegister q) (InSlot s) v d lies = lies
+put_at-space (InSlot t) (InRegister r) v d lies = lies
+put_at-space (InSlot t) (InSlot s) v d lies = omega (arith, lies, length-set d.slots t v)
 
 -- ---- the arguments
 
@@ -90,9 +90,9 @@ turned : (p : Location) (ps : List Location) → AllByRecursion (λ y. p ≢ y) 
 turned p [] all = tt
 turned p (q ∷ ps) all = ((λ e. all.0 (sym e)), turned p ps all.1)
 
-all_room : (p : Location) (v : Option ℕ) (d : Data) (ls : List Location) → AllByRecursion (LiesIn d) ls → AllByRecursion (LiesIn (put_at p v d)) ls
-all_room p v d [] lie = tt
-all_room p v d (l ∷ ls) lie = (put_at-room p l v d lie.0, all_room p v d ls lie.1)
+all_space : (p : Location) (v : Option ℕ) (d : Data) (ls : List Location) → AllByRecursion (LiesIn d) ls → AllByRecursion (LiesIn (put_at p v d)) ls
+all_space p v d [] lie = tt
+all_space p v d (l ∷ ls) lie = (put_at-space p l v d lie.0, all_space p v d ls lie.1)
 
 pub with_arguments-each : (ps : List Location) (vs : List (Option ℕ)) (d : Data) (k : ℕ) (l : Location) (v : Option ℕ) → AreDistinct ps → AllByRecursion (LiesIn d) ps → slice_get ps k ≡ Some l → slice_get vs k ≡ Some v → value_at l (with_arguments ps vs d) ≡ v
 with_arguments-each [] vs d k l v distinct lie p_at v_at = cc (p_at)
@@ -102,7 +102,7 @@ with_arguments-each (p ∷ ps) (w ∷ vs) d zero l v distinct lie p_at v_at =
     let word : w ≡ v = cc (v_at) in
     subst (λ x. value_at x (with_arguments ps vs (put_at p w d)) ≡ v) same
     (with_arguments-other ps vs (put_at p w d) p (turned p ps distinct.0) ∙ put_at-itself p w d lie.0 ∙ word)
-with_arguments-each (p ∷ ps) (w ∷ vs) d (suc k) l v distinct lie p_at v_at = with_arguments-each ps vs (put_at p w d) k l v distinct.1 (all_room p w d ps lie.1) p_at v_at
+with_arguments-each (p ∷ ps) (w ∷ vs) d (suc k) l v distinct lie p_at v_at = with_arguments-each ps vs (put_at p w d) k l v distinct.1 (all_space p w d ps lie.1) p_at v_at
 
 pub put_at-globals : (l : Location) (v : Option ℕ) (d : Data) → (put_at l v d).globals ≡ d.globals
 put_at-globals (InRegister r) v d = refl

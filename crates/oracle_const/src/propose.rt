@@ -1,5 +1,6 @@
-ghost use Rattle.std.specs.Prelude.{◌≡◌, ℕ, All, length, IfOk};
+ghost use Rattle.std.specs.Prelude.{◌≡◌, All, length, IfOk};
 ghost use Rattle.rtl_language.specs.Function.{InstructionFits};
+ghost use Rattle.oracle_const.specs.Ranges.{StaysInRange};
 
 use crate::analysis::Analysis;
 use crate::unreached::give_each;
@@ -83,7 +84,7 @@ fn chosen(
     facts: &[Fact],
     words: &mut Pcg32,
 ) -> Result<Instruction, NoMemory>
-    ensures { (registers nodes : ℕ) → InstructionFits registers nodes instruction.now → IfOk result (InstructionFits registers nodes) }
+    ensures { StaysInRange instruction.now result }
 {
     match fold(instruction, facts) {
         Some(simpler) if words.next_word() % 2 == 1 => Ok(simpler),

@@ -18,6 +18,10 @@ byte_text n = n ∷ []
 abbrev pub register_text : ℕ → List ℕ
 register_text r = to_be_bytes w16 r
 
+-- three of them
+abbrev pub three_text : ℕ → ℕ → ℕ → List ℕ
+three_text first second third = register_text first ++ (register_text second ++ register_text third)
+
 -- the number of registers, and the registers
 abbrev pub registers_text : List ℕ → List ℕ
 registers_text rs = counted_text byte_text register_text rs

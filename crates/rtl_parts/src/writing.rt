@@ -4,7 +4,7 @@ ghost use Rattle.std.specs.Prelude.{◌≡◌, ◌≤◌, ◌∷◌, ◌++◌, l
 ghost use Rattle.std.specs.List.{flat_map};
 ghost use Rattle.lang_base.specs.Texts.{Appends};
 ghost use Rattle.rtl_parts.specs.Fits.{parameter_limit, argument_limit};
-ghost use Rattle.rtl_parts.specs.Spelling.{register_text, registers_text, target_text, arguments_text, test_text, act_code, act_body, frame_text};
+ghost use Rattle.rtl_parts.specs.Spelling.{register_text, three_text, registers_text, target_text, arguments_text, test_text, act_code, act_body, frame_text};
 
 use crate::act::Act;
 use crate::arguments::Arguments;
@@ -80,7 +80,7 @@ fn code_of(act: &Act) -> u8
 
 /// Three numbers, one behind the other.
 fn push_three(out: &mut Vec<u8>, first: u16, second: u16, third: u16) -> Result<(), NoMemory>
-    ensures { Appends result (register_text first ++ (register_text second ++ register_text third)) out.old.items out.new.items }
+    ensures { Appends result (three_text first second third) out.old.items out.new.items }
 {
     push_u16(out, first)?;
     push_u16(out, second)?;

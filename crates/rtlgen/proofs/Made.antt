@@ -8,15 +8,15 @@ use Rattle.rtlgen_code.specs.declared.graph.Graph.{Graph}
 use Rattle.rtlgen_code.specs.Adding.{Adds}
 
 pub made_nodes : {piece : Piece} {next begins : ℕ} {g h : Graph} → Adds piece next g h begins → g.nodes.items ≡ [] → h.is_full ≡ false → h.nodes.items ≡ (piece next 0).nodes
-made_nodes {piece} {next} {begins} {g} {h} a none room = subst (λ xs. h.nodes.items ≡ xs ++ (piece next (length xs)).nodes) none (a.nodes room)
+made_nodes {piece} {next} {begins} {g} {h} a none space = subst (λ xs. h.nodes.items ≡ xs ++ (piece next (length xs)).nodes) none (a.nodes space)
 
 pub made_entry : {piece : Piece} {next begins : ℕ} {g h : Graph} → Adds piece next g h begins → g.nodes.items ≡ [] → h.is_full ≡ false → begins ≡ (piece next 0).entry
-made_entry {piece} {next} {begins} {g} {h} a none room = subst (λ xs. begins ≡ (piece next (length xs)).entry) none (a.entry room)
+made_entry {piece} {next} {begins} {g} {h} a none space = subst (λ xs. begins ≡ (piece next (length xs)).entry) none (a.entry space)
 
 pub made_few : {piece : Piece} {next begins : ℕ} {g h : Graph} → Adds piece next g h begins → g.nodes.items ≡ [] → h.is_full ≡ false → length (piece next 0).nodes ≤ node_limit
-made_few {piece} {next} {begins} {g} {h} a none room =
+made_few {piece} {next} {begins} {g} {h} a none space =
     let few : length g.nodes.items ≤ node_limit = omega (arith, ap length none) in
-    subst (λ n. n ≤ node_limit) (ap length (made_nodes a none room)) (a.within few)
+    subst (λ n. n ≤ node_limit) (ap length (made_nodes a none space)) (a.within few)
 
 -- so many numbers, and one more
 pub numbers_more : (first n : ℕ) → numbers_from first (suc n) ≡ numbers_from first n ++ (first + n) ∷ []

@@ -31,53 +31,53 @@ module _ (registers total : ℕ) where
     pub entry : made.entry < total
     pub nodes : AllByRecursion (InstructionFits registers total) made.nodes
 
-  -- what is made is in range, where it goes on at a node, and there is room for its own
+  -- what is made is in range, where it goes on at a node, and there is space for its own
   abbrev pub PieceFits : Piece → Type 0
   PieceFits piece = (following count : ℕ) → following < total → count + length (piece following count).nodes ≤ total → MadeFits (piece following count)
 
   pub nothing_fits : PieceFits nothing
-  nothing_fits following count low room = record { entry = low; nodes = tt }
+  nothing_fits following count low space = record { entry = low; nodes = tt }
 
   pub one_fits : (node : ℕ → Instruction) → ((n : ℕ) → n < total → InstructionFits registers total (node n)) → PieceFits (one node)
-  one_fits node fits following count low room = record { entry = omega (arith, room); nodes = (fits following low, tt) }
+  one_fits node fits following count low space = record { entry = omega (arith, space); nodes = (fits following low, tt) }
 
   act_fits : (act : Act) → ActFits registers act → PieceFits (one (Do act))
   act_fits act fits = one_fits (Do act) (λ n low. (fits, low))
 
   pub both_fits : (first second : Piece) → PieceFits first → PieceFits second → PieceFits (both first second)
-  both_fits first second f g following count low room =
+  both_fits first second f g following count low space =
       let last = second following count in
       let front = first last.entry (count + length last.nodes) in
-      let room' = subst (λ n. count + n ≤ total) (length-append last.nodes front.nodes) room in
-      let h = g following count low (omega (arith, room')) in
-      let k = f last.entry (count + length last.nodes) h.entry (omega (arith, room')) in
+      let space' = subst (λ n. count + n ≤ total) (length-append last.nodes front.nodes) space in
+      let h = g following count low (omega (arith, space')) in
+      let k = f last.entry (count + length last.nodes) h.entry (omega (arith, space')) in
       record { entry = k.entry; nodes = all_append (InstructionFits registers total) last.nodes front.nodes h.nodes k.nodes }
 
   either_fits : (r : ℕ) (taken other : Piece) → r < registers → PieceFits taken → PieceFits other → PieceFits (either r taken other)
-  either_fits r taken other fits f g following count low room =
+  either_fits r taken other fits f g following count low space =
       let second = other following count in
       let behind = count + length second.nodes in
       let first = taken following behind in
       let branch = Branch (record { condition = Nz; arguments = One r }) first.entry second.entry in
-      let room' = subst (λ n. count + n ≤ total) (length-append second.nodes (first.nodes ++ branch ∷ [])) room in
-      let room'' = subst (λ n. count + (length second.nodes + n) ≤ total) (length-append first.nodes (branch ∷ [])) room' in
-      let h = g following count low (omega (arith, room'')) in
-      let k = f following behind low (omega (arith, room'')) in
+      let space' = subst (λ n. count + n ≤ total) (length-append second.nodes (first.nodes ++ branch ∷ [])) space in
+      let space'' = subst (λ n. count + (length second.nodes + n) ≤ total) (length-append first.nodes (branch ∷ [])) space' in
+      let h = g following count low (omega (arith, space'')) in
+      let k = f following behind low (omega (arith, space'')) in
       let rest = all_append (InstructionFits registers total) first.nodes (branch ∷ []) k.nodes (((one_argument, fits), k.entry, h.entry), tt) in
-      record { entry = omega (arith, room''); nodes = all_append (InstructionFits registers total) second.nodes (first.nodes ++ branch ∷ []) h.nodes rest }
+      record { entry = omega (arith, space''); nodes = all_append (InstructionFits registers total) second.nodes (first.nodes ++ branch ∷ []) h.nodes rest }
 
   again_fits : (body : Piece) → PieceFits body → PieceFits (again body)
-  again_fits body f following count low room =
-      let here : count < total = omega (arith, room) in
-      let turn = f count (suc count) here (omega (arith, room)) in
+  again_fits body f following count low space =
+      let here : count < total = omega (arith, space) in
+      let turn = f count (suc count) here (omega (arith, space)) in
       record { entry = here; nodes = ((tt, turn.entry), turn.nodes) }
 
   module _ (variables : ℕ) where
     place_fits : (e : ExpressionTree) (r : ℕ) → ExpressionFits variables e → variables ≤ r → r + needs e ≤ registers → place e r < registers
-    place_fits e r fits le room =
+    place_fits e r fits le space =
         let some = needs_some e in
         let below = place_below variables r e le fits in
-        omega (arith, some, below, room)
+        omega (arith, some, below, space)
 
     unless_fits : (e : ExpressionTree) (piece : Piece) → PieceFits piece → PieceFits (unless_variable e piece)
     unless_fits (T.Number w) piece f = f
@@ -88,41 +88,41 @@ module _ (registers total : ℕ) where
     unless_fits (T.Choice c a b) piece f = f
 
     expression_fits : (e : ExpressionTree) (target r : ℕ) → ExpressionFits variables e → variables ≤ r → r + needs e ≤ registers → target < registers → PieceFits (expression e target r)
-    expression_fits (T.Number w) target r fits le room low = act_fits (Constant target w) (low, fits)
-    expression_fits (T.Variable v) target r fits le room low = act_fits (Move target v) (low, omega (arith, fits, le, room))
-    expression_fits (T.Load g i) target r fits le room low =
+    expression_fits (T.Number w) target r fits le space low = act_fits (Constant target w) (low, fits)
+    expression_fits (T.Variable v) target r fits le space low = act_fits (Move target v) (low, omega (arith, fits, le, space))
+    expression_fits (T.Load g i) target r fits le space low =
         let some = needs_some i in
-        both_fits (operand i r) (one (Do (Load target g (place i r)))) (unless_fits i (expression i r r) (expression_fits i r r fits.1 le room (omega (arith, some, room))))
-        (act_fits (Load target g (place i r)) (low, fits.0, place_fits i r fits.1 le room))
-    expression_fits (T.Unary o a) target r fits le room low =
+        both_fits (operand i r) (one (Do (Load target g (place i r)))) (unless_fits i (expression i r r) (expression_fits i r r fits.1 le space (omega (arith, some, space))))
+        (act_fits (Load target g (place i r)) (low, fits.0, place_fits i r fits.1 le space))
+    expression_fits (T.Unary o a) target r fits le space low =
         let some = needs_some a in
-        both_fits (operand a r) (one (Do (Operate o target (One (place a r))))) (unless_fits a (expression a r r) (expression_fits a r r fits.1 le room (omega (arith, some, room))))
-        (act_fits (Operate o target (One (place a r))) (low, (fits.0, place_fits a r fits.1 le room)))
-    expression_fits (T.Binary o a b) target r fits le room low =
+        both_fits (operand a r) (one (Do (Operate o target (One (place a r))))) (unless_fits a (expression a r r) (expression_fits a r r fits.1 le space (omega (arith, some, space))))
+        (act_fits (Operate o target (One (place a r))) (low, (fits.0, place_fits a r fits.1 le space)))
+    expression_fits (T.Binary o a b) target r fits le space low =
         let some = needs_some a in
         let also = needs_some b in
         let act = Operate o target (Two (place a r) (place b (suc r))) in
-        both_fits (operand a r) (both (operand b (suc r)) (one (Do act))) (unless_fits a (expression a r r) (expression_fits a r r fits.1.0 le (omega (arith, room)) (omega (arith, some, room))))
-        (both_fits (operand b (suc r)) (one (Do act)) (unless_fits b (expression b (suc r) (suc r)) (expression_fits b (suc r) (suc r) fits.1.1 (omega (arith, le)) (omega (arith, room)) (omega (arith, also, room))))
-        (act_fits act (low, (fits.0, place_fits a r fits.1.0 le (omega (arith, room)), place_fits b (suc r) fits.1.1 (omega (arith, le)) (omega (arith, room))))))
-    expression_fits (T.Choice c a b) target r fits le room low =
+        both_fits (operand a r) (both (operand b (suc r)) (one (Do act))) (unless_fits a (expression a r r) (expression_fits a r r fits.1.0 le (omega (arith, space)) (omega (arith, some, space))))
+        (both_fits (operand b (suc r)) (one (Do act)) (unless_fits b (expression b (suc r) (suc r)) (expression_fits b (suc r) (suc r) fits.1.1 (omega (arith, le)) (omega (arith, space)) (omega (arith, also, space))))
+        (act_fits act (low, (fits.0, place_fits a r fits.1.0 le (omega (arith, space)), place_fits b (suc r) fits.1.1 (omega (arith, le)) (omega (arith, space))))))
+    expression_fits (T.Choice c a b) target r fits le space low =
         let some = needs_some c in
-        both_fits (operand c r) (either (place c r) (expression a target r) (expression b target r)) (unless_fits c (expression c r r) (expression_fits c r r fits.0 le (omega (arith, room)) (omega (arith, some, room))))
-        (either_fits (place c r) (expression a target r) (expression b target r) (place_fits c r fits.0 le (omega (arith, room))) (expression_fits a target r fits.1.0 le (omega (arith, room)) low) (expression_fits b target r fits.1.1 le (omega (arith, room)) low))
+        both_fits (operand c r) (either (place c r) (expression a target r) (expression b target r)) (unless_fits c (expression c r r) (expression_fits c r r fits.0 le (omega (arith, space)) (omega (arith, some, space))))
+        (either_fits (place c r) (expression a target r) (expression b target r) (place_fits c r fits.0 le (omega (arith, space))) (expression_fits a target r fits.1.0 le (omega (arith, space)) low) (expression_fits b target r fits.1.1 le (omega (arith, space)) low))
 
     operand_fits : (e : ExpressionTree) (r : ℕ) → ExpressionFits variables e → variables ≤ r → r + needs e ≤ registers → PieceFits (operand e r)
-    operand_fits e r fits le room =
+    operand_fits e r fits le space =
         let some = needs_some e in
-        unless_fits e (expression e r r) (expression_fits e r r fits le room (omega (arith, some, room)))
+        unless_fits e (expression e r r) (expression_fits e r r fits le space (omega (arith, some, space)))
 
     operands_fit : (es : List ExpressionTree) (r : ℕ) → AllByRecursion (ExpressionFits variables) es → variables ≤ r → r + operands_need es ≤ registers → PieceFits (operands es r)
-    operands_fit [] r fits le room = nothing_fits
-    operands_fit (e ∷ es) r fits le room =
-        both_fits (operand e r) (operands es (suc r)) (operand_fits e r fits.0 le (omega (arith, room))) (operands_fit es (suc r) fits.1 (omega (arith, le)) (omega (arith, room)))
+    operands_fit [] r fits le space = nothing_fits
+    operands_fit (e ∷ es) r fits le space =
+        both_fits (operand e r) (operands es (suc r)) (operand_fits e r fits.0 le (omega (arith, space))) (operands_fit es (suc r) fits.1 (omega (arith, le)) (omega (arith, space)))
 
     places_fit : (es : List ExpressionTree) (r : ℕ) → AllByRecursion (ExpressionFits variables) es → variables ≤ r → r + operands_need es ≤ registers → AllByRecursion (RegisterFits registers) (places es r)
-    places_fit [] r fits le room = tt
-    places_fit (e ∷ es) r fits le room = (place_fits e r fits.0 le (omega (arith, room)), places_fit es (suc r) fits.1 (omega (arith, le)) (omega (arith, room)))
+    places_fit [] r fits le space = tt
+    places_fit (e ∷ es) r fits le space = (place_fits e r fits.0 le (omega (arith, space)), places_fit es (suc r) fits.1 (omega (arith, le)) (omega (arith, space)))
 
     module _ (within : variables ≤ registers) where
       target_fits : (target : Option ℕ) → C.TargetFits variables target → TargetFits registers target
@@ -139,19 +139,19 @@ module _ (registers total : ℕ) where
 
       mutual
         pub statement_fits : (t : StatementTree) (exits : List ℕ) → StatementFits variables t → variables + statement_needs t ≤ registers → AreInside exits → PieceFits (statement t variables exits)
-        statement_fits T.Skip exits fits room inside = nothing_fits
-        statement_fits (T.Assign v e) exits fits room inside = expression_fits e v variables fits.1 (omega arith) room (omega (arith, fits.0, within))
-        statement_fits (T.Store g i e) exits fits room inside =
+        statement_fits T.Skip exits fits space inside = nothing_fits
+        statement_fits (T.Assign v e) exits fits space inside = expression_fits e v variables fits.1 (omega arith) space (omega (arith, fits.0, within))
+        statement_fits (T.Store g i e) exits fits space inside =
             let r = variables in
             let act = Store g (place i r) (place e (suc r)) in
-            both_fits (operand i r) (both (operand e (suc r)) (one (Do act))) (operand_fits i r fits.1.0 (omega arith) (omega (arith, room)))
-            (both_fits (operand e (suc r)) (one (Do act)) (operand_fits e (suc r) fits.1.1 (omega arith) (omega (arith, room)))
-            (act_fits act (fits.0, place_fits i r fits.1.0 (omega arith) (omega (arith, room)), place_fits e (suc r) fits.1.1 (omega arith) (omega (arith, room)))))
-        statement_fits (T.Call f target arguments) exits fits room inside =
+            both_fits (operand i r) (both (operand e (suc r)) (one (Do act))) (operand_fits i r fits.1.0 (omega arith) (omega (arith, space)))
+            (both_fits (operand e (suc r)) (one (Do act)) (operand_fits e (suc r) fits.1.1 (omega arith) (omega (arith, space)))
+            (act_fits act (fits.0, place_fits i r fits.1.0 (omega arith) (omega (arith, space)), place_fits e (suc r) fits.1.1 (omega arith) (omega (arith, space)))))
+        statement_fits (T.Call f target arguments) exits fits space inside =
             let r = variables in
-            both_fits (operands arguments r) (one (Call f (places arguments r) target)) (operands_fit arguments r fits.1.1.1 (omega arith) room)
+            both_fits (operands arguments r) (one (Call f (places arguments r) target)) (operands_fit arguments r fits.1.1.1 (omega arith) space)
             (one_fits (Call f (places arguments r) target) (λ n low. (
-              record { function = fits.0; few = few arguments r fits.1.1.0; arguments = places_fit arguments r fits.1.1.1 (omega arith) room; target = target_fits target fits.1.0 },
+              record { function = fits.0; few = few arguments r fits.1.1.0; arguments = places_fit arguments r fits.1.1.1 (omega arith) space; target = target_fits target fits.1.0 },
               low,
             )))
           where
@@ -161,25 +161,25 @@ module _ (registers total : ℕ) where
 
             few : (es : List ExpressionTree) (r : ℕ) → length es < 256 → length (places es r) ≤ 255
             few es r h = rw (counted es r) (omega (arith, h))
-        statement_fits (T.Put target e) exits fits room inside =
+        statement_fits (T.Put target e) exits fits space inside =
             let r = variables in
-            both_fits (operand e r) (one (Do (Put (place e r) target))) (operand_fits e r fits.1 (omega arith) room)
-            (act_fits (Put (place e r) target) (place_fits e r fits.1 (omega arith) room, target_fits target fits.0))
-        statement_fits (T.Sequence ss) exits fits room inside = statements_fit ss exits fits.1 room inside
-        statement_fits (T.If e t u) exits fits room inside =
+            both_fits (operand e r) (one (Do (Put (place e r) target))) (operand_fits e r fits.1 (omega arith) space)
+            (act_fits (Put (place e r) target) (place_fits e r fits.1 (omega arith) space, target_fits target fits.0))
+        statement_fits (T.Sequence ss) exits fits space inside = statements_fit ss exits fits.1 space inside
+        statement_fits (T.If e t u) exits fits space inside =
             let r = variables in
-            both_fits (operand e r) (either (place e r) (statement t r exits) (statement u r exits)) (operand_fits e r fits.0 (omega arith) (omega (arith, room)))
-            (either_fits (place e r) (statement t r exits) (statement u r exits) (place_fits e r fits.0 (omega arith) (omega (arith, room)))
-            (statement_fits t exits fits.1.0 (omega (arith, room)) inside) (statement_fits u exits fits.1.1 (omega (arith, room)) inside))
-        statement_fits (T.Loop t) exits fits room inside = again_fits (statement t variables exits) (statement_fits t exits fits room inside)
-        statement_fits (T.Block t) exits fits room inside = λ following count low. statement_fits t (following ∷ exits) fits room (inside_more following exits low inside) following count low
-        statement_fits (T.Exit n) exits fits room inside = λ following count low few. record { entry = inside n; nodes = tt }
-        statement_fits (T.Return None) exits fits room inside = one_fits (λ n. Return None) (λ n low. tt)
-        statement_fits (T.Return (Some e)) exits fits room inside =
+            both_fits (operand e r) (either (place e r) (statement t r exits) (statement u r exits)) (operand_fits e r fits.0 (omega arith) (omega (arith, space)))
+            (either_fits (place e r) (statement t r exits) (statement u r exits) (place_fits e r fits.0 (omega arith) (omega (arith, space)))
+            (statement_fits t exits fits.1.0 (omega (arith, space)) inside) (statement_fits u exits fits.1.1 (omega (arith, space)) inside))
+        statement_fits (T.Loop t) exits fits space inside = again_fits (statement t variables exits) (statement_fits t exits fits space inside)
+        statement_fits (T.Block t) exits fits space inside = λ following count low. statement_fits t (following ∷ exits) fits space (inside_more following exits low inside) following count low
+        statement_fits (T.Exit n) exits fits space inside = λ following count low few. record { entry = inside n; nodes = tt }
+        statement_fits (T.Return None) exits fits space inside = one_fits (λ n. Return None) (λ n low. tt)
+        statement_fits (T.Return (Some e)) exits fits space inside =
             let r = variables in
-            both_fits (operand e r) (one (λ n. Return (Some (place e r)))) (operand_fits e r fits (omega arith) room) (one_fits (λ n. Return (Some (place e r))) (λ n low. place_fits e r fits (omega arith) room))
+            both_fits (operand e r) (one (λ n. Return (Some (place e r)))) (operand_fits e r fits (omega arith) space) (one_fits (λ n. Return (Some (place e r))) (λ n low. place_fits e r fits (omega arith) space))
 
         statements_fit : (ss : StatementsTree) (exits : List ℕ) → StatementsFit variables ss → variables + statements_need ss ≤ registers → AreInside exits → PieceFits (statements ss variables exits)
-        statements_fit T.Done exits fits room inside = nothing_fits
-        statements_fit (T.First t rest) exits fits room inside =
-            both_fits (statement t variables exits) (statements rest variables exits) (statement_fits t exits fits.0 (omega (arith, room)) inside) (statements_fit rest exits fits.1 (omega (arith, room)) inside)
+        statements_fit T.Done exits fits space inside = nothing_fits
+        statements_fit (T.First t rest) exits fits space inside =
+            both_fits (statement t variables exits) (statements rest variables exits) (statement_fits t exits fits.0 (omega (arith, space)) inside) (statements_fit rest exits fits.1 (omega (arith, space)) inside)

@@ -70,16 +70,16 @@ loop_nodes body gs hs ks head turn h at k t =
 pub loop_added : {body : Piece} {next head turn : ℕ} {g h k l : Graph} → Adds (one (λ n. Do Nop 0)) 0 g h head → Adds body head h k turn →
     l.nodes.items ≡ slice_set k.nodes.items head (Do Nop turn) → l.is_full ≡ k.is_full → Adds (again body) next g l head
 loop_added {body} {next} {head} {turn} {g} {h} {k} {l} o b written same = record {
-  had_room = λ room. o.had_room (b.had_room (sym same ∙ room));
-  nodes = λ room.
+  had_space = λ space. o.had_space (b.had_space (sym same ∙ space));
+  nodes = λ space.
       written
-      ∙ loop_nodes body g.nodes.items h.nodes.items k.nodes.items head turn (o.nodes (b.had_room (sym same ∙ room))) (o.entry (b.had_room (sym same ∙ room))) (b.nodes (sym same ∙ room)) (b.entry (sym same ∙ room));
-  entry = λ room. o.entry (b.had_room (sym same ∙ room));
-  too_many = λ full room. over (sym same ∙ full) room h.is_full refl;
+      ∙ loop_nodes body g.nodes.items h.nodes.items k.nodes.items head turn (o.nodes (b.had_space (sym same ∙ space))) (o.entry (b.had_space (sym same ∙ space))) (b.nodes (sym same ∙ space)) (b.entry (sym same ∙ space));
+  entry = λ space. o.entry (b.had_space (sym same ∙ space));
+  too_many = λ full space. over (sym same ∙ full) space h.is_full refl;
   within = λ few. omega (arith, b.within (o.within few), ap length written, length-set k.nodes.items head (Do Nop turn));
 }
   where
     over : k.is_full ≡ true → g.is_full ≡ false → (c : Bool) → h.is_full ≡ c → node_limit < length g.nodes.items + suc (length (turn_of body (length g.nodes.items)).nodes)
-    over full room true e = omega (arith, o.too_many e room)
-    over full room false e =
+    over full space true e = omega (arith, o.too_many e space)
+    over full space false e =
         omega (arith, b.too_many full e, more o e, ap (λ m. length m.nodes) (loop_turn body g.nodes.items h.nodes.items head (o.nodes e) (o.entry e)))

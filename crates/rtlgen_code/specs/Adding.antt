@@ -7,7 +7,7 @@ use Rattle.rtlgen_code.specs.declared.graph.Graph.{Graph}
 
 -- the piece goes on at the node `next`, and begins at the node `begins`
 pub record Adds (piece : Piece) (next : ℕ) (before after : Graph) (begins : ℕ) : Type 0 where
-  pub had_room : after.is_full ≡ false → before.is_full ≡ false
+  pub had_space : after.is_full ≡ false → before.is_full ≡ false
   pub nodes : after.is_full ≡ false → after.nodes.items ≡ before.nodes.items ++ (piece next (length before.nodes.items)).nodes
   pub entry : after.is_full ≡ false → begins ≡ (piece next (length before.nodes.items)).entry
   pub too_many : after.is_full ≡ true → before.is_full ≡ false → node_limit < length before.nodes.items + length (piece next (length before.nodes.items)).nodes

@@ -37,7 +37,7 @@ pub(crate) fn exit_of(exits: &[u16], blocks: u16) -> u16
 /// The head of a loop goes on to its body, which is added behind it.
 pub(crate) fn go_on(graph: &mut Graph, head: u16, body: u16)
     ensures nodes { graph.new.nodes.items ≡ slice_set graph.old.nodes.items head (Instruction.Do Act.Nop body) }
-    ensures room { graph.new.is_full ≡ graph.old.is_full }
+    ensures space { graph.new.is_full ≡ graph.old.is_full }
 {
     let head = usize::from(head);
     if head < graph.nodes.len() {

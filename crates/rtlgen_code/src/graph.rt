@@ -21,7 +21,7 @@ impl Graph {
     /// No nodes.
     pub fn new(alloc: Global) -> Graph
         ensures nodes { result.nodes.items ≡ [] }
-        ensures room { result.is_full ≡ false }
+        ensures space { result.is_full ≡ false }
     {
         Graph {
             nodes: Vec::new(alloc),

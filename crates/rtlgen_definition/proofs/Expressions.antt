@@ -69,36 +69,36 @@ module _ (functions : List (Named FunctionData)) (c : Ground) (there : IsThere f
 
   -- an instruction that sets the target, alone and behind other code
   set_gained : (act : Act) (target r : ℕ) (x : Option ℕ) (d : Data) → target < length d.registers → does act d ≡ Some (put_at target x d) → Gained (one (Do act)) target r d x
-  set_gained act target r x d room e = (put_at target x d, brings_one functions c there act d (put_at target x d) e, gives_put r target x d d room (kept_same r d))
+  set_gained act target r x d space e = (put_at target x d, brings_one functions c there act d (put_at target x d) e, gives_put r target x d d space (kept_same r d))
 
   then_gained : (front : Piece) (act : Act) (target r : ℕ) (x : Option ℕ) (d d' : Data) → Leading front d d' → Kept r d d' → target < length d.registers → does act d' ≡ Some (put_at target x d') →
       Gained (both front (one (Do act))) target r d x
-  then_gained front act target r x d d' leads kept room e =
-      (put_at target x d', brings_both functions c there front (one (Do act)) d d' (put_at target x d') leads (brings_one functions c there act d' (put_at target x d') e), gives_put r target x d d' room kept)
+  then_gained front act target r x d d' leads kept space e =
+      (put_at target x d', brings_both functions c there front (one (Do act)) d d' (put_at target x d') leads (brings_one functions c there act d' (put_at target x d') e), gives_put r target x d d' space kept)
 
   -- ---- each kind of expression, once its operands have words
 
   load_gained : (g : ℕ) (i : ExpressionTree) (target r u w : ℕ) (d d' : Data) → target < length d.registers → Leading (operand i r) d d' → value_at (place i r) d' ≡ Some u → Kept r d d' → d'.globals ≡ s.globals →
       C.cell s.globals g u ≡ Some w → Gained (expression (T.Load g i) target r) target r d (Some w)
-  load_gained g i target r u w d d' room leads holds kept globals e =
+  load_gained g i target r u w d d' space leads holds kept globals e =
       let is : option_and_then (word_in (slice_get d'.globals g)) (value_at (place i r) d') ≡ Some w =
       ap (option_and_then (word_in (slice_get d'.globals g))) holds ∙ ap (λ globals. word_in (slice_get globals g) u) globals ∙ cell_same s.globals g u ∙ e in
-      then_gained (operand i r) (Load target g (place i r)) target r (Some w) d d' leads kept room (ap (given target d') is)
+      then_gained (operand i r) (Load target g (place i r)) target r (Some w) d d' leads kept space (ap (given target d') is)
 
   unary_gained : (o : Op) (a : ExpressionTree) (target r u w : ℕ) (d d' : Data) → target < length d.registers → Leading (operand a r) d d' → value_at (place a r) d' ≡ Some u → Kept r d d' →
       machine_table o (u ∷ []) ≡ Some w → Gained (expression (T.Unary o a) target r) target r d (Some w)
-  unary_gained o a target r u w d d' room leads holds kept e =
+  unary_gained o a target r u w d d' space leads holds kept e =
       let is : option_and_then (machine_table o) (option_map (λ x. x ∷ []) (value_at (place a r) d')) ≡ Some w = ap (λ v. option_and_then (machine_table o) (option_map (λ x. x ∷ []) v)) holds ∙ e in
-      then_gained (operand a r) (Operate o target (One (place a r))) target r (Some w) d d' leads kept room (ap (given target d') is)
+      then_gained (operand a r) (Operate o target (One (place a r))) target r (Some w) d d' leads kept space (ap (given target d') is)
 
   binary_gained : (o : Op) (a b : ExpressionTree) (target r u v w : ℕ) (d d' d'' : Data) → target < length d.registers → place a r < suc r →
       Leading (operand a r) d d' → value_at (place a r) d' ≡ Some u → Kept r d d' → Leading (operand b (suc r)) d' d'' → value_at (place b (suc r)) d'' ≡ Some v → Kept (suc r) d' d'' →
       machine_table o (u ∷ v ∷ []) ≡ Some w → Gained (expression (T.Binary o a b) target r) target r d (Some w)
-  binary_gained o a b target r u v w d d' d'' room low leads holds kept leads' holds' kept' e =
+  binary_gained o a b target r u v w d d' d'' space low leads holds kept leads' holds' kept' e =
       let act = Operate o target (Two (place a r) (place b (suc r))) in
       let first : value_at (place a r) d'' ≡ Some u = kept'.below (place a r) low ∙ holds in
       let is : option_and_then (machine_table o) (pair_of (value_at (place a r) d'') (value_at (place b (suc r)) d'')) ≡ Some w = (λ k. option_and_then (machine_table o) (pair_of (first k) (holds' k))) ∙ e in
-      let g = then_gained (operand b (suc r)) act target r (Some w) d' d'' leads' (kept_kept r (suc r) d' d' d'' (omega arith) (kept_same r d') kept') (rw kept.room room) (ap (given target d'') is) in
+      let g = then_gained (operand b (suc r)) act target r (Some w) d' d'' leads' (kept_kept r (suc r) d' d' d'' (omega arith) (kept_same r d') kept') (rw kept.space space) (ap (given target d'') is) in
       (g.0, brings_both functions c there (operand a r) (both (operand b (suc r)) (one (Do act))) d d' g.0 leads g.1, gives_kept r target (Some w) d d' g.0 kept g.2)
 
   -- only one part of a choice is evaluated
@@ -120,48 +120,48 @@ module _ (functions : List (Named FunctionData)) (c : Ground) (there : IsThere f
 
   pub expression_gained : (e : ExpressionTree) (target r : ℕ) (d : Data) (x : Option ℕ) → fits_on e → c.variables ≤ r → r + needs e ≤ c.registers → target < c.registers → Sees c s d → value e s ≡ Some x →
       Gained (expression e target r) target r d x
-  expression_gained (T.Number w) target r d x fits le room low sees e =
-      subst (Gained (expression (T.Number w) target r) target r d) (same_value (Some w) x e) (set_gained (Constant target w) target r (Some w) d (rw sees.room low) refl)
-  expression_gained (T.Variable v) target r d x fits le room low sees e =
-      subst (Gained (expression (T.Variable v) target r) target r d) (sees.holds v fits ∙ same_value (C.held v s) x e) (set_gained (Move target v) target r (value_at v d) d (rw sees.room low) refl)
-  expression_gained (T.Load g i) target r d x fits le room low sees e =
+  expression_gained (T.Number w) target r d x fits le space low sees e =
+      subst (Gained (expression (T.Number w) target r) target r d) (same_value (Some w) x e) (set_gained (Constant target w) target r (Some w) d (rw sees.space low) refl)
+  expression_gained (T.Variable v) target r d x fits le space low sees e =
+      subst (Gained (expression (T.Variable v) target r) target r d) (sees.holds v fits ∙ same_value (C.held v s) x e) (set_gained (Move target v) target r (value_at v d) d (rw sees.space low) refl)
+  expression_gained (T.Load g i) target r d x fits le space low sees e =
       let y = defined_is (option_and_then (C.cell s.globals g) (word_of (value i s))) x e in
       let u = needed_is (C.cell s.globals g) (value i s) y.0 y.1 in
       let some = needs_some i in
-      let p = placed i r d (Some u.0) fits.1 sees u.1 (expression_gained i r r d (Some u.0) fits.1 le room (omega (arith, some, room)) sees u.1) in
+      let p = placed i r d (Some u.0) fits.1 sees u.1 (expression_gained i r r d (Some u.0) fits.1 le space (omega (arith, some, space)) sees u.1) in
       subst (Gained (expression (T.Load g i) target r) target r d) (sym y.2)
-      (load_gained g i target r u.0 y.0 d p.0 (rw sees.room low) p.1 p.2 p.3 (p.3.globals ∙ sees.globals) u.2)
-  expression_gained (T.Unary o a) target r d x fits le room low sees e =
+      (load_gained g i target r u.0 y.0 d p.0 (rw sees.space low) p.1 p.2 p.3 (p.3.globals ∙ sees.globals) u.2)
+  expression_gained (T.Unary o a) target r d x fits le space low sees e =
       let y = defined_is (option_and_then (λ x. machine_table o (x ∷ [])) (word_of (value a s))) x e in
       let u = needed_is (λ x. machine_table o (x ∷ [])) (value a s) y.0 y.1 in
       let some = needs_some a in
-      let p = placed a r d (Some u.0) fits.1 sees u.1 (expression_gained a r r d (Some u.0) fits.1 le room (omega (arith, some, room)) sees u.1) in
+      let p = placed a r d (Some u.0) fits.1 sees u.1 (expression_gained a r r d (Some u.0) fits.1 le space (omega (arith, some, space)) sees u.1) in
       subst (Gained (expression (T.Unary o a) target r) target r d) (sym y.2)
-      (unary_gained o a target r u.0 y.0 d p.0 (rw sees.room low) p.1 p.2 p.3 u.2)
-  expression_gained (T.Binary o a b) target r d x fits le room low sees e =
+      (unary_gained o a target r u.0 y.0 d p.0 (rw sees.space low) p.1 p.2 p.3 u.2)
+  expression_gained (T.Binary o a b) target r d x fits le space low sees e =
       let y = defined_is (option_and_then (machine_table o) (M.pair_of (word_of (value a s)) (word_of (value b s)))) x e in
       let u = pair_needed (machine_table o) (value a s) (value b s) y.0 y.1 in
       let some = needs_some a in
       let also = needs_some b in
-      let p = placed a r d (Some u.0) fits.1.0 sees u.2 (expression_gained a r r d (Some u.0) fits.1.0 le (omega (arith, room)) (omega (arith, some, room)) sees u.2) in
+      let p = placed a r d (Some u.0) fits.1.0 sees u.2 (expression_gained a r r d (Some u.0) fits.1.0 le (omega (arith, space)) (omega (arith, some, space)) sees u.2) in
       let sees' = sees_kept c s r d p.0 le sees p.3 in
-      let q = placed b (suc r) p.0 (Some u.1) fits.1.1 sees' u.3 (expression_gained b (suc r) (suc r) p.0 (Some u.1) fits.1.1 (omega (arith, le)) (omega (arith, room)) (omega (arith, also, room)) sees' u.3) in
+      let q = placed b (suc r) p.0 (Some u.1) fits.1.1 sees' u.3 (expression_gained b (suc r) (suc r) p.0 (Some u.1) fits.1.1 (omega (arith, le)) (omega (arith, space)) (omega (arith, also, space)) sees' u.3) in
       subst (Gained (expression (T.Binary o a b) target r) target r d) (sym y.2)
-      (binary_gained o a b target r u.0 u.1 y.0 d p.0 q.0 (rw sees.room low) (place_below c.variables r a le fits.1.0) p.1 p.2 p.3 q.1 q.2 q.3 u.4)
-  expression_gained (T.Choice n a b) target r d x fits le room low sees e =
+      (binary_gained o a b target r u.0 u.1 y.0 d p.0 q.0 (rw sees.space low) (place_below c.variables r a le fits.1.0) p.1 p.2 p.3 q.1 q.2 q.3 u.4)
+  expression_gained (T.Choice n a b) target r d x fits le space low sees e =
       let u = choice_needed (value n s) (value a s) (value b s) x e in
       let some = needs_some n in
-      let p = placed n r d (Some u.0) fits.0 sees u.1 (expression_gained n r r d (Some u.0) fits.0 le (omega (arith, room)) (omega (arith, some, room)) sees u.1) in
+      let p = placed n r d (Some u.0) fits.0 sees u.1 (expression_gained n r r d (Some u.0) fits.0 le (omega (arith, space)) (omega (arith, some, space)) sees u.1) in
       let sees' = sees_kept c s r d p.0 le sees p.3 in
       choice_gained n a b target r u.0 x d p.0 p.1 p.2 p.3 (u.0 == 0) refl u.2
-      (λ h. expression_gained a target r p.0 x fits.1.0 le (omega (arith, room)) low sees' h)
-      (λ h. expression_gained b target r p.0 x fits.1.1 le (omega (arith, room)) low sees' h)
+      (λ h. expression_gained a target r p.0 x fits.1.0 le (omega (arith, space)) low sees' h)
+      (λ h. expression_gained b target r p.0 x fits.1.1 le (omega (arith, space)) low sees' h)
 
   -- an operand's value is put into its place
   pub operand_placed : (e : ExpressionTree) (r : ℕ) (d : Data) (x : Option ℕ) → fits_on e → c.variables ≤ r → r + needs e ≤ c.registers → Sees c s d → value e s ≡ Some x → Placed (operand e r) (place e r) r d x
-  operand_placed e r d x fits le room sees is =
+  operand_placed e r d x fits le space sees is =
       let some = needs_some e in
-      placed e r d x fits sees is (expression_gained e r r d x fits le room (omega (arith, some, room)) sees is)
+      placed e r d x fits sees is (expression_gained e r r d x fits le space (omega (arith, some, space)) sees is)
 
   -- the code puts the values of arguments into their places
   abbrev pub AllPlaced : (es : List ExpressionTree) (r : ℕ) (d : Data) (xs : List (Option ℕ)) → Type 0
@@ -174,13 +174,13 @@ module _ (functions : List (Named FunctionData)) (c : Ground) (there : IsThere f
       (d'', brings_both functions c there (operand e r) (operands es (suc r)) d d' d'' leads leads', (λ k. first k ∷ hold k), kept_kept r (suc r) d d' d'' (omega arith) kept kept')
 
   pub operands_placed : (es : List ExpressionTree) (r : ℕ) (d : Data) (xs : List (Option ℕ)) → AllByRecursion (ExpressionFits c.variables) es → c.variables ≤ r → r + operands_need es ≤ c.registers → Sees c s d → values es s ≡ Some xs → AllPlaced es r d xs
-  operands_placed [] r d xs fits le room sees e = (d, brings_nothing functions c there d, no_more xs e, kept_same r d)
+  operands_placed [] r d xs fits le space sees e = (d, brings_nothing functions c there d, no_more xs e, kept_same r d)
     where
       no_more : (xs : List (Option ℕ)) → Some [] ≡ Some xs → [] ≡ xs
       no_more xs e = cc
-  operands_placed (e ∷ es) r d xs fits le room sees is =
+  operands_placed (e ∷ es) r d xs fits le space sees is =
       let y = both_needed (value e s) (values es s) xs is in
-      let p = operand_placed e r d y.0 fits.0 le (omega (arith, room)) sees y.2 in
+      let p = operand_placed e r d y.0 fits.0 le (omega (arith, space)) sees y.2 in
       let sees' = sees_kept c s r d p.0 le sees p.3 in
-      let q = operands_placed es (suc r) p.0 y.1 fits.1 (omega (arith, le)) (omega (arith, room)) sees' y.3 in
+      let q = operands_placed es (suc r) p.0 y.1 fits.1 (omega (arith, le)) (omega (arith, space)) sees' y.3 in
       subst (AllPlaced (e ∷ es) r d) y.4 (one_more_placed e es r d p.0 q.0 y.0 y.1 (place_below c.variables r e le fits.0) p.1 p.2 p.3 q.1 q.2 q.3)

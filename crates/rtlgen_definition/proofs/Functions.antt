@@ -119,7 +119,7 @@ begins_sees number f callers vs s globals output within count same_globals same_
     record {
       holds = λ v h. ap (λ l. slice_index_or l v None) is ∙ same_held vs (all - f.parameters) (f.variables - f.parameters) v;
       count = counted vs (f.variables - f.parameters) ∙ variables;
-      room = ap (λ l. length l) is ∙ counted vs (all - f.parameters) ∙ registers;
+      space = ap (λ l. length l) is ∙ counted vs (all - f.parameters) ∙ registers;
       within = omega arith;
       globals = same_globals;
       output = same_output;
@@ -204,7 +204,7 @@ module _ (fs : List (Named FunctionTree)) (fit : AllInRange fs) where
     0,
     omega arith,
     record {
-      does = λ c there t exits following count s d fits room stands sees. record { steps = 0; many = omega arith; shown = ap (λ l. record { shown = Running; output = l }) sees.output };
+      does = λ c there t exits following count s d fits space stands sees. record { steps = 0; many = omega arith; shown = ap (λ l. record { shown = Running; output = l }) sees.output };
       calls = λ f vs s u caller globals output e. record { steps = 0; many = omega arith; shown = ap (λ l. record { shown = Running; output = l }) output };
     },
   )
@@ -213,7 +213,7 @@ module _ (fs : List (Named FunctionTree)) (fit : AllInRange fs) where
         n,
         omega arith,
         record {
-          does = λ c there t exits following count s d fits room stands sees. statement_arrives functions c there n lower.0 lower.1 (M.level fs n) lower.2 t exits following count s d fits room stands sees;
+          does = λ c there t exits following count s d fits space stands sees. statement_arrives functions c there n lower.0 lower.1 (M.level fs n) lower.2 t exits following count s d fits space stands sees;
           calls = λ f vs s u caller globals output e. calls_arrive n lower.0 lower.1 lower.2 f (slice_get fs f) refl vs s u caller globals output e;
         },
       )

@@ -41,7 +41,7 @@ node_step functions c there place d i e =
 pub record Sees (c : Ground) (s : C.State) (d : Data) : Type 0 where
   pub holds : (v : ℕ) → v < c.variables → value_at v d ≡ C.held v s
   pub count : length s.variables ≡ c.variables
-  pub room : length d.registers ≡ c.registers
+  pub space : length d.registers ≡ c.registers
   pub within : c.variables ≤ c.registers
   pub globals : d.globals ≡ s.globals
   pub output : d.output ≡ s.output
@@ -49,17 +49,17 @@ pub record Sees (c : Ground) (s : C.State) (d : Data) : Type 0 where
 -- the registers below one are as they were, and so is all else but temporaries
 pub record Kept (r : ℕ) (d d' : Data) : Type 0 where
   pub below : (q : ℕ) → q < r → value_at q d' ≡ value_at q d
-  pub room : length d'.registers ≡ length d.registers
+  pub space : length d'.registers ≡ length d.registers
   pub globals : d'.globals ≡ d.globals
   pub output : d'.output ≡ d.output
 
 pub kept_same : (r : ℕ) (d : Data) → Kept r d d
-kept_same r d = record { below = λ q h. refl; room = refl; globals = refl; output = refl }
+kept_same r d = record { below = λ q h. refl; space = refl; globals = refl; output = refl }
 
 pub kept_kept : (r r' : ℕ) (d d' d'' : Data) → r ≤ r' → Kept r d d' → Kept r' d' d'' → Kept r d d''
 kept_kept r r' d d' d'' le p q = record {
   below = λ n h. q.below n (omega (arith, le, h)) ∙ p.below n h;
-  room = q.room ∙ p.room;
+  space = q.space ∙ p.space;
   globals = q.globals ∙ p.globals;
   output = q.output ∙ p.output;
 }
@@ -68,7 +68,7 @@ pub sees_kept : (c : Ground) (s : C.State) (r : ℕ) (d d' : Data) → c.variabl
 sees_kept c s r d d' le sees kept = record {
   holds = λ v h. kept.below v (omega (arith, le, h)) ∙ sees.holds v h;
   count = sees.count;
-  room = kept.room ∙ sees.room;
+  space = kept.space ∙ sees.space;
   within = sees.within;
   globals = kept.globals ∙ sees.globals;
   output = kept.output ∙ sees.output;
@@ -78,16 +78,16 @@ sees_kept c s r d d' le sees kept = record {
 pub record Gives (r target : ℕ) (x : Option ℕ) (d d' : Data) : Type 0 where
   pub value : value_at target d' ≡ x
   pub below : (q : ℕ) → q < r → q ≢ target → value_at q d' ≡ value_at q d
-  pub room : length d'.registers ≡ length d.registers
+  pub space : length d'.registers ≡ length d.registers
   pub globals : d'.globals ≡ d.globals
   pub output : d'.output ≡ d.output
 
 -- a register is set last of all
 pub gives_put : (r target : ℕ) (x : Option ℕ) (d d' : Data) → target < length d.registers → Kept r d d' → Gives r target x d (put_at target x d')
-gives_put r target x d d' room kept = record {
-  value = get_or-set_same d'.registers target x None (rw kept.room room);
+gives_put r target x d d' space kept = record {
+  value = get_or-set_same d'.registers target x None (rw kept.space space);
   below = λ q h other. get_or-set_other d'.registers target q x None other ∙ kept.below q h;
-  room = length-set d'.registers target x ∙ kept.room;
+  space = length-set d'.registers target x ∙ kept.space;
   globals = kept.globals;
   output = kept.output;
 }
@@ -97,7 +97,7 @@ pub gives_kept : (r target : ℕ) (x : Option ℕ) (d d' d'' : Data) → Kept r 
 gives_kept r target x d d' d'' kept gives = record {
   value = gives.value;
   below = λ q h other. gives.below q h other ∙ kept.below q h;
-  room = gives.room ∙ kept.room;
+  space = gives.space ∙ kept.space;
   globals = gives.globals ∙ kept.globals;
   output = gives.output ∙ kept.output;
 }
@@ -106,7 +106,7 @@ gives_kept r target x d d' d'' kept gives = record {
 pub kept_gives : (r : ℕ) (x : Option ℕ) (d d' : Data) → Gives r r x d d' → Kept r d d'
 kept_gives r x d d' gives = record {
   below = λ q h. gives.below q h (λ e. omega (arith, h, e));
-  room = gives.room;
+  space = gives.space;
   globals = gives.globals;
   output = gives.output;
 }
@@ -116,7 +116,7 @@ pub sees_gives : (c : Ground) (s : C.State) (r v : ℕ) (x : Option ℕ) (d d' :
 sees_gives c s r v x d d' le fits sees gives = record {
   holds = λ q h. ⊎_elim (λ e. same q e) (λ other. another q h other) (cases_eq q v);
   count = length-set s.variables v x ∙ sees.count;
-  room = gives.room ∙ sees.room;
+  space = gives.space ∙ sees.space;
   within = sees.within;
   globals = gives.globals ∙ sees.globals;
   output = gives.output ∙ sees.output;
@@ -131,4 +131,4 @@ sees_gives c s r v x d d' le fits sees gives = record {
 -- the same words, with other globals and another output
 pub sees_with : (c : Ground) (s : C.State) (d : Data) (globals : List (List ℕ)) (output : List ℕ) → Sees c s d →
     Sees c (record { variables = s.variables; globals = globals; output = output }) (record { registers = d.registers; globals = globals; output = output })
-sees_with c s d globals output sees = record { holds = sees.holds; count = sees.count; room = sees.room; within = sees.within; globals = refl; output = refl }
+sees_with c s d globals output sees = record { holds = sees.holds; count = sees.count; space = sees.space; within = sees.within; globals = refl; output = refl }

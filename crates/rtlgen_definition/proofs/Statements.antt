@@ -32,7 +32,7 @@ use Rattle.rtlgen_definition.proofs.Outcomes.{Reaches, Leaves, Arrives, CallArri
 sees_result : (c : Ground) (target x : Option ℕ) (s : C.State) (d : Data) → TargetFits c.variables target → Sees c s d → Sees c (C.given target x s) (with_result target x d)
 sees_result c None x s d fits sees = sees
 sees_result c (Some v) x s d fits sees =
-    let low : v < length d.registers = rw sees.room (omega (arith, fits, sees.within)) in
+    let low : v < length d.registers = rw sees.space (omega (arith, fits, sees.within)) in
     sees_gives c s c.variables v x d (put_at v x d) (omega arith) fits sees (gives_put c.variables v x d d low (kept_same c.variables d))
 
 -- a cell of a global becomes a word in both
@@ -62,7 +62,7 @@ module _ (functions : List (Named FunctionData)) (c : Ground) (there : IsThere f
   comes_back_arrives target w exits following s s' d u fits sees left =
       let back : Data = record left.last.here { registers = d.registers } in
       let sees' : Sees c (record { variables = s.variables; globals = s'.globals; output = s'.output }) back =
-      record { holds = sees.holds; count = sees.count; room = sees.room; within = sees.within; globals = left.globals; output = left.output } in
+      record { holds = sees.holds; count = sees.count; space = sees.space; within = sees.within; globals = left.globals; output = left.output } in
       (with_result target w back, comes_comes left.comes (comes_step left.step), sees_result c target w (record { variables = s.variables; globals = s'.globals; output = s'.output }) back fits sees')
 
   call_arrives : (target : Option ℕ) (exits : List ℕ) (following : ℕ) (s : C.State) (d : Data) (u : State) (o : M.Outcome) → TargetFits c.variables target → Sees c s d →
@@ -97,52 +97,52 @@ module _ (functions : List (Named FunctionData)) (c : Ground) (there : IsThere f
 
     assign_arrives : (v : ℕ) (e : ExpressionTree) → StatementFits c.variables (T.Assign v e) → c.variables + needs e ≤ c.registers → (x : Option (Option ℕ)) → value e s ≡ x →
         CodeArrives (statement (T.Assign v e) c.variables exits) (M.assigns v s x)
-    assign_arrives v e fits room None q stands = tt
-    assign_arrives v e fits room (Some x) q stands =
-        let g = expression_gained functions c there s e v c.variables d x fits.1 (omega arith) room (omega (arith, fits.0, sees.within)) sees q in
+    assign_arrives v e fits space None q stands = tt
+    assign_arrives v e fits space (Some x) q stands =
+        let g = expression_gained functions c there s e v c.variables d x fits.1 (omega arith) space (omega (arith, fits.0, sees.within)) sees q in
         (g.0, g.1 following count stands, sees_gives c s c.variables v x d g.0 (omega arith) fits.0 sees g.2)
 
     store_arrives : (g : ℕ) (i e : ExpressionTree) → StatementFits c.variables (T.Store g i e) → c.variables + statement_needs (T.Store g i e) ≤ c.registers → (x y : Option ℕ) → word i s ≡ x → word e s ≡ y →
         CodeArrives (statement (T.Store g i e) c.variables exits) (M.stores g s x y)
-    store_arrives g i e fits room None y p q stands = tt
-    store_arrives g i e fits room (Some a) None p q stands = tt
-    store_arrives g i e fits room (Some a) (Some b) p q stands = at (C.put_cell s.globals g a b) refl
+    store_arrives g i e fits space None y p q stands = tt
+    store_arrives g i e fits space (Some a) None p q stands = tt
+    store_arrives g i e fits space (Some a) (Some b) p q stands = at (C.put_cell s.globals g a b) refl
       where
         at : (globals : Option (List (List ℕ))) → C.put_cell s.globals g a b ≡ globals → Arrives functions c bound exits following (at_node c (statement (T.Store g i e) c.variables exits following count).entry d) (M.with_globals s globals)
         at None is = tt
         at (Some globals) is =
             let r = c.variables in
-            let u = operand_placed functions c there s i r d (Some a) fits.1.0 (omega arith) (omega (arith, room)) sees (word_is (value i s) a p) in
+            let u = operand_placed functions c there s i r d (Some a) fits.1.0 (omega arith) (omega (arith, space)) sees (word_is (value i s) a p) in
             let sees' = sees_kept c s r d u.0 (omega arith) sees u.3 in
-            let v = operand_placed functions c there s e (suc r) u.0 (Some b) fits.1.1 (omega arith) (omega (arith, room)) sees' (word_is (value e s) b q) in
+            let v = operand_placed functions c there s e (suc r) u.0 (Some b) fits.1.1 (omega arith) (omega (arith, space)) sees' (word_is (value e s) b q) in
             let sees'' = sees_kept c s (suc r) u.0 v.0 (omega arith) sees' v.3 in
             let globals' = ap (λ l. C.put_cell l g a b) sees''.globals ∙ is in (
               record v.0 { globals = globals },
               store_brings exits g i e a b globals d u.0 v.0 (place_below r r i (omega arith) fits.1.0) u.1 u.2 v.1 v.2 (v.3.below (place i r)) globals' following count stands,
-              record { holds = sees''.holds; count = sees''.count; room = sees''.room; within = sees''.within; globals = refl; output = sees''.output },
+              record { holds = sees''.holds; count = sees''.count; space = sees''.space; within = sees''.within; globals = refl; output = sees''.output },
             )
 
     put_arrives : (target : Option ℕ) (e : ExpressionTree) → StatementFits c.variables (T.Put target e) → c.variables + needs e ≤ c.registers → (x : Option ℕ) → word e s ≡ x →
         CodeArrives (statement (T.Put target e) c.variables exits) (M.puts target s x)
-    put_arrives target e fits room None q stands = tt
-    put_arrives target e fits room (Some w) q stands =
+    put_arrives target e fits space None q stands = tt
+    put_arrives target e fits space (Some w) q stands =
         let r = c.variables in
-        let p = operand_placed functions c there s e r d (Some w) fits.1 (omega arith) room sees (word_is (value e s) w q) in
+        let p = operand_placed functions c there s e r d (Some w) fits.1 (omega arith) space sees (word_is (value e s) w q) in
         let sees' = sees_kept c s r d p.0 (omega arith) sees p.3 in
         let act = Put (place e r) target in
         let brings = brings_both functions c there (operand e r) (one (Do act)) d p.0 (printing target p.0 w) p.1 (brings_one functions c there act p.0 (printing target p.0 w) (ap (option_map (printing target p.0)) p.2)) in
         let base : C.State = record s { output = s.output ++ w % 256 ∷ [] } in
         let printed : Data = record p.0 { output = p.0.output ++ w % 256 ∷ [] } in
         let sees'' : Sees c base printed =
-        record { holds = sees'.holds; count = sees'.count; room = sees'.room; within = sees'.within; globals = sees'.globals; output = ap (λ l. l ++ w % 256 ∷ []) sees'.output } in
+        record { holds = sees'.holds; count = sees'.count; space = sees'.space; within = sees'.within; globals = sees'.globals; output = ap (λ l. l ++ w % 256 ∷ []) sees'.output } in
         (printing target p.0 w, brings following count stands, sees_result c target (Some (w % 256)) base printed fits.0 sees'')
 
     return_arrives : (e : ExpressionTree) → ExpressionFits c.variables e → c.variables + needs e ≤ c.registers → (x : Option ℕ) → word e s ≡ x →
         CodeArrives (statement (T.Return (Some e)) c.variables exits) (M.returns s x)
-    return_arrives e fits room None q stands = tt
-    return_arrives e fits room (Some w) q stands =
+    return_arrives e fits space None q stands = tt
+    return_arrives e fits space (Some w) q stands =
         let r = c.variables in
-        let p = operand_placed functions c there s e r d (Some w) fits (omega arith) room sees (word_is (value e s) w q) in
+        let p = operand_placed functions c there s e r d (Some w) fits (omega arith) space sees (word_is (value e s) w q) in
         let sees' = sees_kept c s r d p.0 (omega arith) sees p.3 in
         let last = one (λ n. Return (Some (place e r))) following count in
         let front = operand e r last.entry (count + length last.nodes) in
@@ -161,10 +161,10 @@ module _ (functions : List (Named FunctionData)) (c : Ground) (there : IsThere f
         c.variables + statement_needs (T.Call f target arguments) ≤ c.registers → Sees c s d → (xs : Option (List (Option ℕ))) → values arguments s ≡ xs →
         Stands c.nodes count (statement (T.Call f target arguments) c.variables exits following count).nodes →
         Arrives functions c bound exits following (at_node c (statement (T.Call f target arguments) c.variables exits following count).entry d) (M.calls lower f target s xs)
-    called_arrives f target arguments exits following count s d fits room sees None q stands = tt
-    called_arrives f target arguments exits following count s d fits room sees (Some xs) q stands =
+    called_arrives f target arguments exits following count s d fits space sees None q stands = tt
+    called_arrives f target arguments exits following count s d fits space sees (Some xs) q stands =
         let r = c.variables in
-        let p = operands_placed functions c there s arguments r d xs fits.1.1.1 (omega arith) room sees q in
+        let p = operands_placed functions c there s arguments r d xs fits.1.1.1 (omega arith) space sees q in
         let sees' = sees_kept c s r d p.0 (omega arith) sees p.3 in
         let node = Call f (places arguments r) target following in
         let last = one (Call f (places arguments r) target) following count in
@@ -182,10 +182,10 @@ module _ (functions : List (Named FunctionData)) (c : Ground) (there : IsThere f
         ((d' : Data) (n : ℕ) → Sees c s d' → Stands c.nodes n (other following n).nodes → Arrives functions c bound exits following (at_node c (other following n).entry d') b) →
         (x : Option ℕ) → word e s ≡ x → Stands c.nodes count (both (operand e c.variables) (either (place e c.variables) taken other) following count).nodes →
         Arrives functions c bound exits following (at_node c (both (operand e c.variables) (either (place e c.variables) taken other) following count).entry d) (M.branches s x a b)
-    branch_arrives e taken other exits following count s d fits room sees a b first second None q stands = tt
-    branch_arrives e taken other exits following count s d fits room sees a b first second (Some w) q stands =
+    branch_arrives e taken other exits following count s d fits space sees a b first second None q stands = tt
+    branch_arrives e taken other exits following count s d fits space sees a b first second (Some w) q stands =
         let r = c.variables in
-        let p = operand_placed functions c there s e r d (Some w) fits (omega arith) room sees (word_is (value e s) w q) in
+        let p = operand_placed functions c there s e r d (Some w) fits (omega arith) space sees (word_is (value e s) w q) in
         let sees' = sees_kept c s r d p.0 (omega arith) sees p.3 in
         let last = either (place e r) taken other following count in
         let front = operand e r last.entry (count + length last.nodes) in
@@ -202,40 +202,40 @@ module _ (functions : List (Named FunctionData)) (c : Ground) (there : IsThere f
       pub statement_arrives : (t : StatementTree) (exits : List ℕ) (following count : ℕ) (s : C.State) (d : Data) → StatementFits c.variables t → c.variables + statement_needs t ≤ c.registers →
           Stands c.nodes count (statement t c.variables exits following count).nodes → Sees c s d →
           Arrives functions c bound exits following (at_node c (statement t c.variables exits following count).entry d) (M.exec lower t s)
-      statement_arrives T.Skip exits following count s d fits room stands sees = (d, comes_nowhere, sees)
-      statement_arrives (T.Assign v e) exits following count s d fits room stands sees = assign_arrives exits following count s d sees v e fits room (value e s) refl stands
-      statement_arrives (T.Store g i e) exits following count s d fits room stands sees = store_arrives exits following count s d sees g i e fits room (word i s) (word e s) refl refl stands
-      statement_arrives (T.Call f target arguments) exits following count s d fits room stands sees = called_arrives f target arguments exits following count s d fits room sees (values arguments s) refl stands
-      statement_arrives (T.Put target e) exits following count s d fits room stands sees = put_arrives exits following count s d sees target e fits room (word e s) refl stands
-      statement_arrives (T.Sequence ss) exits following count s d fits room stands sees = statements_arrive ss exits following count s d fits.1 room stands sees
-      statement_arrives (T.If e t u) exits following count s d fits room stands sees =
-          branch_arrives e (statement t c.variables exits) (statement u c.variables exits) exits following count s d fits.0 (omega (arith, room)) sees (M.exec lower t s) (M.exec lower u s)
-          (λ d' n sees' stands'. statement_arrives t exits following n s d' fits.1.0 (omega (arith, room)) stands' sees')
-          (λ d' n sees' stands'. statement_arrives u exits following n s d' fits.1.1 (omega (arith, room)) stands' sees')
+      statement_arrives T.Skip exits following count s d fits space stands sees = (d, comes_nowhere, sees)
+      statement_arrives (T.Assign v e) exits following count s d fits space stands sees = assign_arrives exits following count s d sees v e fits space (value e s) refl stands
+      statement_arrives (T.Store g i e) exits following count s d fits space stands sees = store_arrives exits following count s d sees g i e fits space (word i s) (word e s) refl refl stands
+      statement_arrives (T.Call f target arguments) exits following count s d fits space stands sees = called_arrives f target arguments exits following count s d fits space sees (values arguments s) refl stands
+      statement_arrives (T.Put target e) exits following count s d fits space stands sees = put_arrives exits following count s d sees target e fits space (word e s) refl stands
+      statement_arrives (T.Sequence ss) exits following count s d fits space stands sees = statements_arrive ss exits following count s d fits.1 space stands sees
+      statement_arrives (T.If e t u) exits following count s d fits space stands sees =
+          branch_arrives e (statement t c.variables exits) (statement u c.variables exits) exits following count s d fits.0 (omega (arith, space)) sees (M.exec lower t s) (M.exec lower u s)
+          (λ d' n sees' stands'. statement_arrives t exits following n s d' fits.1.0 (omega (arith, space)) stands' sees')
+          (λ d' n sees' stands'. statement_arrives u exits following n s d' fits.1.1 (omega (arith, space)) stands' sees')
           (word e s) refl stands
-      statement_arrives (T.Loop t) exits following count s d fits room stands sees =
+      statement_arrives (T.Loop t) exits following count s d fits space stands sees =
           let turn = statement t c.variables exits count (suc count) in
           arrives_step functions c exits following bound less (at_node c count d) (at_node c turn.entry d) (M.exec lower (T.Loop t) s) sooner
           (node_step functions c there count d (Do Nop turn.entry) stands.0)
           (arrives_goes_on functions c exits following less count (at_node c turn.entry d) (lower (M.Does (T.Loop t))) (lower (M.Does t) s)
-          (λ s' d' sees'. runs.does c there (T.Loop t) exits following count s' d' fits room stands sees')
-          (runs.does c there t exits count (suc count) s d fits room stands.1 sees))
-      statement_arrives (T.Block t) exits following count s d fits room stands sees =
+          (λ s' d' sees'. runs.does c there (T.Loop t) exits following count s' d' fits space stands sees')
+          (runs.does c there t exits count (suc count) s d fits space stands.1 sees))
+      statement_arrives (T.Block t) exits following count s d fits space stands sees =
           arrives_block functions c exits following bound (at_node c (statement t c.variables (following ∷ exits) following count).entry d) (M.exec lower t s)
-          (statement_arrives t (following ∷ exits) following count s d fits room stands sees)
-      statement_arrives (T.Exit n) exits following count s d fits room stands sees =
+          (statement_arrives t (following ∷ exits) following count s d fits space stands sees)
+      statement_arrives (T.Exit n) exits following count s d fits space stands sees =
           λ place e. (d, subst (λ q. Comes_to (at_node c (slice_index_or exits n 0) d) (at_node c q d)) (get_or_from_slice_get exits n place 0 e) comes_nowhere, sees)
-      statement_arrives (T.Return None) exits following count s d fits room stands sees =
+      statement_arrives (T.Return None) exits following count s d fits space stands sees =
           record { last = at_node c count d; comes = comes_nowhere; step = node_step functions c there count d (Return None) stands.0; globals = sees.globals; output = sees.output }
-      statement_arrives (T.Return (Some e)) exits following count s d fits room stands sees = return_arrives exits following count s d sees e fits room (word e s) refl stands
+      statement_arrives (T.Return (Some e)) exits following count s d fits space stands sees = return_arrives exits following count s d sees e fits space (word e s) refl stands
 
       statements_arrive : (ss : StatementsTree) (exits : List ℕ) (following count : ℕ) (s : C.State) (d : Data) → StatementsFit c.variables ss → c.variables + statements_need ss ≤ c.registers →
           Stands c.nodes count (statements ss c.variables exits following count).nodes → Sees c s d →
           Arrives functions c bound exits following (at_node c (statements ss c.variables exits following count).entry d) (M.exec_all lower ss s)
-      statements_arrive T.Done exits following count s d fits room stands sees = (d, comes_nowhere, sees)
-      statements_arrive (T.First t rest) exits following count s d fits room stands sees =
+      statements_arrive T.Done exits following count s d fits space stands sees = (d, comes_nowhere, sees)
+      statements_arrive (T.First t rest) exits following count s d fits space stands sees =
           let last = statements rest c.variables exits following count in
           let front = statement t c.variables exits last.entry (count + length last.nodes) in
           arrives_goes_on functions c exits following bound last.entry (at_node c front.entry d) (M.exec_all lower rest) (M.exec lower t s)
-          (λ s' d' sees'. statements_arrive rest exits following count s' d' fits.1 (omega (arith, room)) (stands_front c.nodes last.nodes front.nodes count stands) sees')
-          (statement_arrives t exits last.entry (count + length last.nodes) s d fits.0 (omega (arith, room)) (stands_behind c.nodes last.nodes front.nodes count stands) sees)
+          (λ s' d' sees'. statements_arrive rest exits following count s' d' fits.1 (omega (arith, space)) (stands_front c.nodes last.nodes front.nodes count stands) sees')
+          (statement_arrives t exits last.entry (count + length last.nodes) s d fits.0 (omega (arith, space)) (stands_behind c.nodes last.nodes front.nodes count stands) sees)

@@ -9,7 +9,7 @@
 //! | `blocks COUNT`, `skips COUNT` | what `form` says of a function of Cminor that is a skip in so many blocks, or a sequence of so many skips |
 //! | `program LANGUAGE BYTES` | `ok`, where all bytes are a program, which is written again, or `no` with the number of the fault |
 //! | `run LANGUAGE LIMIT PROGRAM` | how the run stands at the limit, and what it has printed, or `-` |
-//! | `full LANGUAGE LIMIT PROGRAM` | what a writer with room for three bytes makes of the run, and what it has |
+//! | `full LANGUAGE LIMIT PROGRAM` | what a writer with space for three bytes makes of the run, and what it has |
 //! | `nodes LIMIT BYTES` | where the nodes of a function of RTL stop, the node behind it, and what is left of the limit |
 #![tactic(auto)]
 

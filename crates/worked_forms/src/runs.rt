@@ -53,12 +53,12 @@ pub fn run_told(alloc: Global, words: &str) -> Option<String> {
     with_bytes(alloc, told.as_str(), &out)
 }
 
-/// Why the run into a writer with room for three bytes is broken off, and what is in the room.
+/// Why the run into a writer with space for three bytes is broken off, and what is in the space.
 pub fn full(alloc: Global, words: &str) -> Option<String> {
     let (language, limit, bytes) = parts_of(alloc, words)?;
-    let mut room = [0; 3];
-    let mut out = room.as_mut_slice();
+    let mut space = [0; 3];
+    let mut out = space.as_mut_slice();
     let fault = shown(alloc, language, limit, &bytes, &mut out)?.err()?;
     let told = numbered(alloc, "", u64::from(fault.number()))?;
-    with_bytes(alloc, told.as_str(), &room)
+    with_bytes(alloc, told.as_str(), &space)
 }

@@ -8,7 +8,7 @@ pub returns-in-Some : goal.returns-in-Some
 returns-in-Some c =
     let text = c.args.text.now in
     let closes = subst (λ (l : List ℕ). IsFirstClose l c.in-Some.n) (take_rest text 2) c.in-Some.ensures in
-    let room = closes.room in
+    let space = closes.space in
     (omega (arith, length-drop 2 text), block_gap text c.in-Some.n c.requires.some c.requires.first c.requires.second closes)
 
 pub returns-in-None : goal.returns-in-None

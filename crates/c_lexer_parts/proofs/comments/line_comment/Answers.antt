@@ -8,5 +8,5 @@ returns c =
     let text = c.args.text.now in
     let said = c.line_len.ensures in
     let line = subst (λ (l : List ℕ). IsLine l c.line_len.result) (take_rest text 2) (record { in_range = said.in_range; each = said.each; ends = said.ends }) in
-    let room = line.in_range in
+    let space = line.in_range in
     (omega (arith, length-drop 2 text), line_gap text c.line_len.result c.requires.some c.requires.first c.requires.second line)

@@ -46,4 +46,4 @@ add_statement-returns-in_ok-turn-in-Loop-clause-added t c =
     let tree : statement_tree c.args.statement.now ≡ T.Loop (statement_tree c.in-Loop.body.value) = ap statement_tree c.in-Loop.is in
     let body = subst (λ x. Adds (statement (statement_tree x) n exits) c.in_ok-head-in-Loop.head c.add.new.self c.add_statement-in-Loop.new.graph c.in_ok-turn-in-Loop.turn) c.deref-in-Loop.ensures c.in_ok-turn-in-Loop.ensures.added in
     subst (λ x. Adds (statement x n exits) c.args.next c.args.graph.now c.go_on.new.graph c.in_ok-head-in-Loop.head) (sym tree)
-    (loop_added c.in_ok-head-in-Loop.ensures body c.go_on.ensures.nodes c.go_on.ensures.room)
+    (loop_added c.in_ok-head-in-Loop.ensures body c.go_on.ensures.nodes c.go_on.ensures.space)

@@ -8,6 +8,6 @@ pub operands_need-requires : goal.operands_need-requires
 operands_need-requires t c =
     let all = c.args.arguments.now in
     let cut = first_others all c.first-item.result c.in-len1-up.len_at_least c.first-item.is in
-    let room = subst (λ xs. operands_need (map expression_tree xs) < 65536) cut c.requires in
+    let space = subst (λ xs. operands_need (map expression_tree xs) < 65536) cut c.requires in
     let falls : length (others all) < t = omega (arith, fewer all c.in-len1-up.len_at_least, c.decreases) in
-    (falls, omega (arith, room))
+    (falls, omega (arith, space))

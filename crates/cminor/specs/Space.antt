@@ -1,4 +1,4 @@
--- Targets whose number has room in a field of a statement of Cminor.
+-- Targets whose number has space in a field of a statement of Cminor.
 use Rattle.std.specs.Prelude.{◌<◌}
 use Rattle.c_program.specs.declared.action.Target.{Target}
 use Rattle.c_program.specs.declared.action.Target.TheVariants.{Nowhere, Local, Global, Caller}

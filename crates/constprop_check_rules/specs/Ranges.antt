@@ -1,0 +1,9 @@
+-- What is made of an instruction in range is in range.
+use Rattle.std.specs.Prelude.{ℕ, Option, IfSome}
+use Rattle.rtl_language.specs.declared.instruction.Instruction.{Instruction}
+use Rattle.rtl_language.specs.Function.{InstructionFits}
+
+-- among however many registers and nodes, if anything is made of it
+abbrev pub StaysInRange : Instruction → Option Instruction → Type 0
+StaysInRange instruction made =
+    (registers nodes : ℕ) → InstructionFits registers nodes instruction → IfSome made (InstructionFits registers nodes)
