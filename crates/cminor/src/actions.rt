@@ -9,9 +9,9 @@ ghost use Rattle.cminor_lowering.specs.Actions.{low_action};
 
 use crate::lower_term;
 use crate::parts::{boxed, turns};
+use crate::sequences::sequence_of;
 use crate::values::lower_given;
 use c_program::Action;
-use cminor_codec::sequence;
 use cminor_syntax::Statement;
 use lang_base::NoMemory;
 use owned::beside;
@@ -35,7 +35,7 @@ fn lower_action(alloc: Global, spare: u16, action: &Action) -> Result<Statement,
             let all = all.as_slice();
             are_in_range(spare, all);
             let lowered = lower_actions(alloc, spare, all)?;
-            Ok(sequence(lowered))
+            sequence_of(alloc, lowered)
         }
         Action::Give(target, value) => lower_given(alloc, spare, *target, value),
         Action::Store(global, index, word) => {

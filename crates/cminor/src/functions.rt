@@ -9,8 +9,8 @@ ghost use Rattle.cminor_lowering.specs.Programs.{ends_with_return, is_return, lo
 ghost use Rattle.cminor.specs.Bodies.{body_of, ending_of, zero_or_nothing};
 
 use crate::lower_actions;
+use crate::sequences::sequence_of;
 use c_program::{Action, Ending, Function as CFunction, Target};
-use cminor_codec::sequence;
 use cminor_language::Function;
 use cminor_syntax::{Expression, Statement};
 use lang_base::{Named, NoMemory, Row};
@@ -64,7 +64,7 @@ fn lower_function(alloc: Global, function: &CFunction) -> Result<Function, NoMem
     ensures { IfOk result (λ f. f ≡ low_function (function_tree function.now)) }
 {
     let spare = function.parameters.max(function.locals) as u16;
-    let body = sequence(lower_body(alloc, spare, function)?);
+    let body = sequence_of(alloc, lower_body(alloc, spare, function)?)?;
     Ok(Function::new(function.parameters as u8, spare + 1, body))
 }
 

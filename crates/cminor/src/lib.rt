@@ -10,6 +10,7 @@ mod globals;
 mod keeping;
 mod parts;
 mod programs;
+mod sequences;
 mod terms;
 mod values;
 

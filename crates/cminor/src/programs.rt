@@ -4,7 +4,6 @@ ghost use Rattle.std.specs.Prelude.{◌≡◌, ◌<◌, All, IfOk};
 ghost use Rattle.lang_base.specs.Keeps.{Keeps};
 ghost use Rattle.c_program.specs.Meaning.{crun};
 ghost use Rattle.c_checker_rules.specs.Checked.{program_tree};
-ghost use Rattle.cminor_lowering.specs.Short.{IsShortProgram};
 ghost use Rattle.c_program.specs.Views.{function_tree};
 ghost use Rattle.cminor_syntax.specs.Fits.{IsFunction};
 ghost use Rattle.cminor_syntax.specs.Meaning.{run};
@@ -31,16 +30,12 @@ fn lower_all(alloc: Global, program: &CProgram) -> Result<Program<Function>, NoM
 }
 
 /// The Cminor program of a checked C program, which keeps its meaning (Leroy 2009, sections 2.1 and 3.1). The
-/// time is linear in the program. A program with a sequence of 2^32 - 1 actions or more, which Cminor has no
-/// number for, is refused as one for which there is no memory.
+/// time is linear in the program.
 pub fn lower(alloc: Global, program: &CProgram) -> Result<Program<Function>, NoMemory>
     ensures same { IfOk result (λ p. p ≡ low (program_tree program.now)) }
     ensures keeps { IfOk result (λ p. Keeps (crun (program_tree program.now)) (run p)) }
-    ensures short { IfOk result (λ p. IsShortProgram (program_tree program.now)) }
 {
     lowered_keeps(program);
-    if !lowered_fits(program) {
-        return Err(NoMemory);
-    }
+    lowered_fits(program);
     lower_all(alloc, program)
 }

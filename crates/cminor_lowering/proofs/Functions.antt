@@ -17,6 +17,7 @@ use Rattle.cminor_lowering.specs.Actions.{low_actions}
 use Rattle.cminor_lowering.specs.Programs.{is_return, ends_with_return, low_ending, followed_by, spare_of, low_body, low_function, low_named}
 use Rattle.cminor_lowering.proofs.Sees.{Shares, Sees, Holds}
 use Rattle.cminor_lowering.proofs.Follows.{Follows, FollowsCall}
+use Rattle.cminor_lowering.proofs.Pieces.{goes_on_then, exec_sequence}
 use Rattle.cminor_lowering.proofs.Statements.{LowerFollows, actions_follow}
 
 -- ---- a body that ends with the `return` of a value does not reach its end
@@ -81,13 +82,6 @@ module _ (lower : C.Level) where
       goes_on_leaves (C.exec_all lower (T.First b rest)) (C.exec lower a s) u (λ v f g. body_leaves (T.First b rest) v u r g) e
 
 -- ---- statements, and others behind them
-
-goes_on_then : (f g h : V.State → M.Outcome) → ((t : V.State) → f t ≡ M.goes_on g (h t)) → (o : M.Outcome) → M.goes_on f o ≡ M.goes_on g (M.goes_on h o)
-goes_on_then f g h then (M.Falls t) = then t
-goes_on_then f g h then (M.Exits n t) = refl
-goes_on_then f g h then (M.Returns w t) = refl
-goes_on_then f g h then (M.RunsOut printed) = refl
-goes_on_then f g h then (M.Fails printed) = refl
 
 falls_on : (o : M.Outcome) → o ≡ M.goes_on (λ t. M.Falls t) o
 falls_on (M.Falls t) = refl
@@ -165,7 +159,10 @@ function_follows lower lower' follows fs n ws s t shares = at fs n
         let spare = spare_of f in
         let o = C.exec_all lower f.body (C.begins f ws s) in
         let m = M.exec_all lower' (low_actions spare f.body) (M.begins (low_function f) (map Some ws) t) in
-        subst (FollowsCall (C.ends f.ending o)) (sym (exec_followed lower' (low_actions spare f.body) (low_ending f.ending (ends_with_return f.body)) (M.begins (low_function f) (map Some ws) t)))
+        let last = low_ending f.ending (ends_with_return f.body) in
+        let begun = M.begins (low_function f) (map Some ws) t in
+        subst (FollowsCall (C.ends f.ending o))
+        (sym (exec_sequence lower' (followed_by (low_actions spare f.body) last) begun ∙ exec_followed lower' (low_actions spare f.body) last begun))
         (body_ends lower' spare f.ending (ends_with_return f.body) o m (λ u r e. body_leaves lower f.body (C.begins f ws s) u r e) (actions_follow lower lower' follows spare f.body (C.begins f ws s) (M.begins (low_function f) (map Some ws) t) sees))
 
     at : (fs : List T.FunctionTree) (n : ℕ) → FollowsCall (C.enters lower (slice_get fs n) ws s) (M.enters lower' (slice_get (map low_named fs) n) (map Some ws) t)

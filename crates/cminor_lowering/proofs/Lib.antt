@@ -1,3 +1,4 @@
+pub mod Pieces
 pub mod Sees
 pub mod InitialWords
 pub mod Follows

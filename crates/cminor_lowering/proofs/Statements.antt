@@ -1,5 +1,5 @@
 -- Each statement of Cminor follows the action of C that it was made of, where what runs with one bound less does.
-use Rattle.std.proofs.Common.{◌≡◌, ℕ, ◌==◌, Bool, true, false, cond, List, map, Option, Some, None, refl, ap}
+use Rattle.std.proofs.Common.{◌≡◌, ℕ, ◌==◌, Bool, true, false, cond, List, map, Option, Some, None, refl, sym, ap, subst}
 use Rattle.c_program.specs.declared.action.Target.{Target}
 use Rattle.c_program.specs.Trees.{TermTree, GivenTree, ActionTree, ActionsTree, FunctionTree}
 use Rattle.c_program.specs.Trees as T
@@ -14,6 +14,7 @@ use Rattle.cminor_lowering.specs.Actions.{turn, low_given, low_action, low_actio
 use Rattle.cminor_lowering.proofs.Sees.{Shares, Sees, sees_lost}
 use Rattle.cminor_lowering.proofs.InitialWords.{word_keeps, words_keep}
 use Rattle.cminor_lowering.proofs.Follows.{Follows, FollowsLoop, FollowsCall, follows_goes_on, follows_loop, body_follows}
+use Rattle.cminor_lowering.proofs.Pieces.{exec_sequence}
 use Rattle.cminor_lowering.proofs.Given.{stores_follow, back_follows, put_follows, plain_follows}
 
 -- the loops and the calls of Cminor follow those of C, one bound less
@@ -65,7 +66,8 @@ module _ (lower : C.Level) (lower' : M.Level) (follows : LowerFollows lower lowe
     pub action_follows : (a : ActionTree) (s : S.State) (t : V.State) → Sees spare s t → Follows spare (C.exec lower a s) (M.exec lower' (low_action spare a) t)
     action_follows T.Nothing s t sees = (t, refl, sees)
     action_follows (T.Declare n) s t sees = (t, refl, sees_lost spare n s t sees)
-    action_follows (T.Sequence ss) s t sees = actions_follow ss s t sees
+    action_follows (T.Sequence ss) s t sees =
+        subst (Follows spare (C.exec_all lower ss s)) (sym (exec_sequence lower' (low_actions spare ss) t)) (actions_follow ss s t sees)
     action_follows (T.Give target v) s t sees = gives_follow target v s t sees
     action_follows (T.Store g i e) s t sees = store_follows g i e s t sees (S.word i s) (S.word e s) refl refl
     action_follows (T.If c a b) s t sees =

@@ -7,6 +7,7 @@ use Rattle.c_program.specs.declared.action.Target.TheVariants.{Nowhere, Local, G
 use Rattle.c_program.specs.Trees.{TermTree, GivenTree, ActionTree, ActionsTree}
 use Rattle.c_program.specs.Trees as C
 use Rattle.cminor_syntax.specs.Trees.{ExpressionTree, StatementTree, StatementsTree, Number, Variable, Skip, Assign, Store, Call, Put, Sequence, If, Loop, Block, Exit, Return, Done, First}
+use Rattle.cminor_lowering.specs.Sequences.{sequence}
 use Rattle.cminor_lowering.specs.Terms.{low_term}
 
 abbrev pub two : StatementTree → StatementTree → StatementTree
@@ -39,7 +40,7 @@ abbrev mutual
   pub low_action : ℕ → ActionTree → StatementTree
   low_action spare C.Nothing = Skip
   low_action spare (C.Declare n) = Skip
-  low_action spare (C.Sequence ss) = Sequence (low_actions spare ss)
+  low_action spare (C.Sequence ss) = sequence (low_actions spare ss)
   low_action spare (C.Give target v) = low_given spare target v
   low_action spare (C.Store g i e) = Store g (low_term i) (low_term e)
   low_action spare (C.If c s t) = If (low_term c) (low_action spare s) (low_action spare t)

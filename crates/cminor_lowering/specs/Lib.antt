@@ -1,4 +1,5 @@
 pub mod Terms
+pub mod Sequences
 pub mod Actions
 pub mod Programs
-pub mod Short
+pub mod Held

@@ -10,7 +10,8 @@ use Rattle.c_program.specs.declared.function.Ending.TheVariants as E
 use Rattle.c_program.specs.declared.function.GlobalVariable.{GlobalVariable}
 use Rattle.c_program.specs.Trees.{ActionTree, ActionsTree, ProgramTree}
 use Rattle.c_program.specs.Trees as C
-use Rattle.cminor_syntax.specs.Trees.{StatementTree, StatementsTree, FunctionTree, Number, Sequence, Return, Done, First}
+use Rattle.cminor_syntax.specs.Trees.{StatementTree, StatementsTree, FunctionTree, Number, Return, Done, First}
+use Rattle.cminor_lowering.specs.Sequences.{sequence}
 use Rattle.cminor_lowering.specs.Actions.{low_actions}
 
 -- `return` of a value
@@ -41,7 +42,7 @@ abbrev pub spare_of : C.FunctionTree → ℕ
 spare_of f = max f.parameters f.locals
 
 abbrev pub low_body : C.FunctionTree → StatementTree
-low_body f = Sequence (followed_by (low_actions (spare_of f) f.body) (low_ending f.ending (ends_with_return f.body)))
+low_body f = sequence (followed_by (low_actions (spare_of f) f.body) (low_ending f.ending (ends_with_return f.body)))
 
 abbrev pub low_function : C.FunctionTree → FunctionTree
 low_function f = record { parameters = f.parameters; variables = suc (spare_of f); body = low_body f }

@@ -1,11 +1,10 @@
-//! The lowering of checked C programs to Cminor, as a definition on trees, and that it keeps their meaning. Which
-//! functions have no sequence so long that its length, one statement more counted, is out of 32 bits: what is
-//! lowered from such a function is in range.
+//! The lowering of checked C programs to Cminor, as a definition on trees, and that it keeps their meaning. What is true
+//! of each function in memory, so that what is lowered from it is in range.
 #![tactic(auto)]
 
+mod held;
 mod law;
-mod short;
 mod words;
 
+pub use held::function_held;
 pub use law::lowered_keeps;
-pub use short::is_short_function;

@@ -2,7 +2,7 @@
 
 ghost use Rattle.std.specs.Prelude.{All};
 ghost use Rattle.c_program.specs.Views.{term_tree, given_tree};
-ghost use Rattle.cminor_lowering.specs.Short.{HasWords, GivenHasWords};
+ghost use Rattle.cminor_lowering.specs.Held.{HasWords, GivenHasWords};
 
 use c_program::{Term, Value};
 

@@ -17,7 +17,8 @@ use Rattle.cminor_syntax.specs.Fits as F
 use Rattle.cminor_syntax.specs.Fits.{IsFunction, StatementsFit, statement_count}
 use Rattle.cminor_lowering.specs.Actions.{low_actions}
 use Rattle.cminor_lowering.specs.Programs.{ends_with_return, low_ending, followed_by, spare_of, low_function}
-use Rattle.cminor_lowering.specs.Short.{IsShortFunction}
+use Rattle.cminor_lowering.specs.Held.{IsHeldFunction}
+use Rattle.cminor_lowering.proofs.Pieces.{sequence_fits, sequence_low}
 use Rattle.cminor_lowering_ranges.proofs.Faults.{none_before, none_behind}
 use Rattle.cminor_lowering_ranges.proofs.Scopes.{MeaningFits, ScopeFits}
 use Rattle.cminor_lowering_ranges.proofs.Values.{FunctionsFit}
@@ -103,7 +104,7 @@ module _ (f : Functions) (scope : Scope) (g : FunctionTree) (known : FunctionsFi
   locals_few : (after_all 1 (entered scope g) g.body).locals ≤ most_locals
   locals_few = all_few f (outermost g.result) (entered scope g) g.body body_none (omega (arith, entered_count, parameters_few))
 
-  pub function_fits : suc (H.statements_height g.body) ≤ H.highest → IsShortFunction (function_of f scope g) → IsFunction (low_function (function_of f scope g))
+  pub function_fits : suc (H.statements_height g.body) ≤ H.highest → IsHeldFunction (function_of f scope g) → IsFunction (low_function (function_of f scope g))
   function_fits low short =
       let c = function_of f scope g in
       let spare = spare_of c in
@@ -117,6 +118,7 @@ module _ (f : Functions) (scope : Scope) (g : FunctionTree) (known : FunctionsFi
       let number_low = low_count spare c.body in
       let number_end = ending_count c.ending (ends_with_return c.body) in
       let short_body = short.0 in
+      let round = sequence_low (followed_by (low_actions spare c.body) last) in
       let height = joined_low (low_actions spare c.body) last in
       let height_low = statements_low spare f 1 (entered scope g) g.body in
       let height_end = ending_low c.ending (ends_with_return c.body) in
@@ -124,6 +126,7 @@ module _ (f : Functions) (scope : Scope) (g : FunctionTree) (known : FunctionsFi
         parameters = few;
         within = omega arith;
         variables = omega arith;
-        body = (omega arith, joined_fit (suc spare) (low_actions spare c.body) last body (ending_fits (suc spare) c.ending (ends_with_return c.body)));
+        body = sequence_fits (suc spare) (followed_by (low_actions spare c.body) last) (omega arith)
+            (joined_fit (suc spare) (low_actions spare c.body) last body (ending_fits (suc spare) c.ending (ends_with_return c.body)));
         low = omega arith;
       }

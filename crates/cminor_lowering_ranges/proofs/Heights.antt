@@ -27,6 +27,7 @@ use Rattle.c_checker_rules.specs.Actions.{target_of, declared, set_action, start
 use Rattle.cminor_syntax.specs.Fits as F
 use Rattle.cminor_lowering.specs.Terms.{low_term}
 use Rattle.cminor_lowering.specs.Actions.{low_given, low_action, low_actions}
+use Rattle.cminor_lowering.proofs.Pieces.{sequence_low}
 
 -- ---- terms
 
@@ -214,7 +215,7 @@ module _ (n : ℕ) (f : Functions) where
     statement_low : (depth : ℕ) (h : Here) (s : StatementTree) → action_height n (action_of f depth h s) ≤ 5 * H.statement_height s
     statement_low depth h T.Empty = omega arith
     statement_low depth h (T.Local l) = declared_low n f (with_local depth h l.kind l.name).scope h.locals l.value
-    statement_low depth h (T.Block s) = omega (arith, statements_low (suc depth) h s)
+    statement_low depth h (T.Block s) = omega (arith, sequence_low (low_actions n (actions_of f (suc depth) h s)), statements_low (suc depth) h s)
     statement_low depth h (T.Call c) = omega (arith, give_low n G.Nowhere (call_given f h.scope c), call_low f h.scope c)
     statement_low depth h (T.Assign x v) = omega (arith, give_value_low n (target_of (meaning_of h.scope x)) f h.scope v)
     statement_low depth h (T.Store a i e) = omega (arith, term_low h.scope i, term_low h.scope e)

@@ -16,7 +16,7 @@ use Rattle.c_checker_rules.specs.Statements.{statements_faults}
 use Rattle.c_checker_rules.specs.Units.{File, empty_file, behind, naming, prototyped, known, with_body, bodies_from, bodies_of, globals_from, functions_from, declaration_faults, declarations_faults, IsWellFormed, program_of}
 use Rattle.cminor_syntax.specs.Fits.{IsFunction, function_limit}
 use Rattle.cminor_lowering.specs.Programs.{low_named, low}
-use Rattle.cminor_lowering.specs.Short.{IsShortFunction, IsShortProgram}
+use Rattle.cminor_lowering.specs.Held.{IsHeldFunction, IsHeldProgram}
 use Rattle.cminor_lowering_ranges.proofs.Faults.{none_before, none_behind}
 use Rattle.cminor_lowering_ranges.proofs.Scopes.{ScopeFits}
 use Rattle.cminor_lowering_ranges.proofs.Values.{BodiesFit, SignatureFits}
@@ -108,7 +108,7 @@ module _ (all : List (Bound ℕ)) where
   globals_fit file (T.Prototype' p ∷ ds) none = globals_fit (behind file (T.Prototype' p)) ds (rest_none file (T.Prototype' p) ds none)
 
   functions_fit : BodiesFit all → (file : File) (ds : List DeclarationTree) → FileFits file → AllByRecursion IsLow ds → declarations_faults all file ds ≡ [] →
-      AllByRecursion IsShortFunction (functions_from all file ds) → AllByRecursion (λ f. IsFunction f.function) (map low_named (functions_from all file ds))
+      AllByRecursion IsHeldFunction (functions_from all file ds) → AllByRecursion (λ f. IsFunction f.function) (map low_named (functions_from all file ds))
   functions_fit numbers file [] fits low none short = tt
   functions_fit numbers file (T.Global g ∷ ds) fits low none short =
       functions_fit numbers (behind file (T.Global g)) ds (behind_fits file (T.Global g) fits (first_none file (T.Global g) ds none)) low.1 (rest_none file (T.Global g) ds none) short
@@ -128,7 +128,7 @@ globals_sized u well =
     let none = none_before (declarations_faults (bodies_of u) empty_file u.declarations) (unless (is_some (found (codes "main") (bodies_of u))) (NoMain u.end)) well in
     globals_fit (bodies_of u) empty_file u.declarations none
 
-pub program_fits : (u : UnitTree) → AllByRecursion IsLow u.declarations → IsWellFormed u → IsShortProgram (program_of u) → AllByRecursion (λ f. IsFunction f.function) (low (program_of u)).functions
+pub program_fits : (u : UnitTree) → AllByRecursion IsLow u.declarations → IsWellFormed u → IsHeldProgram (program_of u) → AllByRecursion (λ f. IsFunction f.function) (low (program_of u)).functions
 program_fits u low well short =
     let none = none_before (declarations_faults (bodies_of u) empty_file u.declarations) (unless (is_some (found (codes "main") (bodies_of u))) (NoMain u.end)) well in
     functions_fit (bodies_of u) (bodies_fit (bodies_of u) empty_file u.declarations [] none tt) empty_file u.declarations (record { scope = tt; signatures = tt }) low none short

@@ -5,16 +5,11 @@ use Rattle.c_program.specs.declared.function.Function.{Function}
 use Rattle.c_program.specs.Views.{function_tree}
 use Rattle.cminor_syntax.specs.Fits.{IsFunction}
 use Rattle.cminor_lowering.specs.Programs.{low_function, low_named}
-use Rattle.cminor_lowering.specs.Short.{IsShortFunction}
+use Rattle.cminor_lowering.specs.Held.{IsHeldFunction}
 
-pub functions_short : (fs : List Function) → All (λ f. IsShortFunction (function_tree f)) fs → AllByRecursion IsShortFunction (map function_tree fs)
-functions_short [] each = tt
-functions_short (f ∷ fs) each = (each 0 f (omega arith), functions_short fs (λ k d below. each (suc k) d (omega arith)))
-
-pub each_function : (fs : List Function) → AllByRecursion IsShortFunction (map function_tree fs) → All (λ f. IsShortFunction (function_tree f)) fs
-each_function [] short k d below = absurd (omega arith)
-each_function (f ∷ fs) short zero d below = short.0
-each_function (f ∷ fs) short (suc k) d below = each_function fs short.1 k d (omega arith)
+pub functions_held : (fs : List Function) → All (λ f. IsHeldFunction (function_tree f)) fs → AllByRecursion IsHeldFunction (map function_tree fs)
+functions_held [] each = tt
+functions_held (f ∷ fs) each = (each 0 f (omega arith), functions_held fs (λ k d below. each (suc k) d (omega arith)))
 
 -- ---- what is known of each by recursion
 

@@ -18,7 +18,8 @@ use Rattle.c_checker_rules.specs.Statements.{with_start, after, after_all, optio
 use Rattle.c_checker_rules.specs.Actions.{target_of, declared, set_action, start_action, condition, step_action, returned, action_of, actions_of}
 use Rattle.cminor_syntax.specs.Fits.{StatementFits, StatementsFit, statement_count}
 use Rattle.cminor_lowering.specs.Actions.{low_action, low_actions}
-use Rattle.cminor_lowering.specs.Short.{HasWords, IsShort, AreShort, action_count}
+use Rattle.cminor_lowering.specs.Held.{HasWords, IsHeld, AreHeld, action_count}
+use Rattle.cminor_lowering.proofs.Pieces.{sequence_fits}
 use Rattle.cminor_lowering_ranges.proofs.Faults.{none_before, none_behind, three_parts, four_parts}
 use Rattle.cminor_lowering_ranges.proofs.Scopes.{ScopeFits, meant_fits, array_fits, target_fits}
 use Rattle.cminor_lowering_ranges.proofs.Terms.{TermFits, term_fits}
@@ -37,14 +38,14 @@ loop_fits : (n : ℕ) (c : TermTree) (body behind : ActionTree) → TermFits n c
 loop_fits n c body behind cond inner step = (omega arith, ((cond, (tt, omega arith)), (inner, (step, tt))))
 
 set_fits : (n : ℕ) (scope : Scope) (place : PlaceTree) (value : ExpressionTree) → ScopeFits n scope →
-    IsShort (set_action scope (record { place = place; value = value })) → ActionFits n (set_action scope (record { place = place; value = value }))
+    IsHeld (set_action scope (record { place = place; value = value })) → ActionFits n (set_action scope (record { place = place; value = value }))
 set_fits n scope (T.Name x) value fits words =
     give_fits n (target_of (meaning_of scope x)) (P.Plain (term_of scope value)) (target_fits n (meaning_of scope x) (meant_fits n scope x fits)) (term_fits n scope value fits words)
 set_fits n scope (T.Cell a i) value fits words =
     (array_fits n (meaning_of scope a) (meant_fits n scope a fits), (term_fits n scope i fits words.0, term_fits n scope value fits words.1))
 
 start_fits : (n depth : ℕ) (h : Here) (start : StartTree) → ScopeFits n h.scope → (with_start depth h start).locals ≤ n →
-    IsShort (start_action depth h start) → ActionFits n (start_action depth h start)
+    IsHeld (start_action depth h start) → ActionFits n (start_action depth h start)
 start_fits n depth h T.StartNothing fits within words = tt
 start_fits n depth h (T.StartSet s) fits within words = set_fits n h.scope s.place s.value fits words
 start_fits n depth h (T.StartLocal t x e) fits within words =
@@ -55,25 +56,25 @@ condition_fits : (n : ℕ) (scope : Scope) (e : Option ExpressionTree) → Scope
 condition_fits n scope None fits words = omega arith
 condition_fits n scope (Some e) fits words = term_fits n scope e fits words
 
-step_fits : (n : ℕ) (scope : Scope) (step : Option SetTree) → ScopeFits n scope → IsShort (step_action scope step) → ActionFits n (step_action scope step)
+step_fits : (n : ℕ) (scope : Scope) (step : Option SetTree) → ScopeFits n scope → IsHeld (step_action scope step) → ActionFits n (step_action scope step)
 step_fits n scope None fits words = tt
 step_fits n scope (Some s) fits words = set_fits n scope s.place s.value fits words
 
 module _ (n : ℕ) (f : Functions) (known : FunctionsFit f) where
   declared_fits : (scope : Scope) (k : ℕ) (v : Option ValueTree) → k < n → ScopeFits n scope → optional_faults (value_faults f scope) v ≡ [] →
-      IsShort (declared f scope k v) → ActionFits n (declared f scope k v)
+      IsHeld (declared f scope k v) → ActionFits n (declared f scope k v)
   declared_fits scope k None there fits none words = tt
   declared_fits scope k (Some v) there fits none words = (omega arith, (tt, (give_fits n (G.Local k) _ there (value_fits n f scope v known fits none words.1.1.0), tt)))
 
   returned_fits : (scope : Scope) (result : ReturnType) (at : ℕ) (v : Option ValueTree) → ScopeFits n scope → return_faults f scope result at v ≡ [] →
-      IsShort (returned f scope v) → ActionFits n (returned f scope v)
+      IsHeld (returned f scope v) → ActionFits n (returned f scope v)
   returned_fits scope result at None fits none words = tt
   returned_fits scope R.Void at (Some v) fits none words = absurd cc
   returned_fits scope (R.Value t) at (Some v) fits none words = give_fits n G.Caller _ tt (value_fits n f scope v known fits none words)
 
   mutual
     statement_fits : (p : Place) (h : Here) (s : StatementTree) → ScopeFits n h.scope → (after p.depth h s).locals ≤ n → statement_faults f p h s ≡ [] →
-        IsShort (action_of f p.depth h s) → ActionFits n (action_of f p.depth h s)
+        IsHeld (action_of f p.depth h s) → ActionFits n (action_of f p.depth h s)
     statement_fits p h T.Empty fits within none words = tt
     statement_fits p h (T.Local l) fits within none words =
         let inner = (with_local p.depth h l.kind l.name).scope in
@@ -81,7 +82,7 @@ module _ (n : ℕ) (f : Functions) (known : FunctionsFit f) where
     statement_fits p h (T.Block s) fits within none words =
         let count = low_count n (actions_of f (suc p.depth) h s) in
         let few = words.0 in
-        (omega (arith, count, few), statements_fit (deeper p) h s fits within none words.1)
+        sequence_fits (suc n) (low_actions n (actions_of f (suc p.depth) h s)) (omega (arith, count, few)) (statements_fit (deeper p) h s fits within none words.1)
     statement_fits p h (T.Call c) fits within none words = give_fits n G.Nowhere _ tt (call_fits n f h.scope false c known fits none words)
     statement_fits p h (T.Assign x v) fits within none words =
         let m = meaning_of h.scope x in
@@ -121,7 +122,7 @@ module _ (n : ℕ) (f : Functions) (known : FunctionsFit f) where
     statement_fits p h (T.Return at v) fits within none words = returned_fits h.scope p.result at v fits none words
 
     pub statements_fit : (p : Place) (h : Here) (ss : StatementsTree) → ScopeFits n h.scope → (after_all p.depth h ss).locals ≤ n → statements_faults f p h ss ≡ [] →
-        AreShort (actions_of f p.depth h ss) → StatementsFit (suc n) (low_actions n (actions_of f p.depth h ss))
+        AreHeld (actions_of f p.depth h ss) → StatementsFit (suc n) (low_actions n (actions_of f p.depth h ss))
     statements_fit p h T.Done fits within none words = tt
     statements_fit p h (T.First s rest) fits within none words =
         let behind = after p.depth h s in

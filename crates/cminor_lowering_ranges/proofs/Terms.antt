@@ -20,7 +20,7 @@ use Rattle.c_checker_rules.specs.Types.{type_of, common}
 use Rattle.c_checker_rules.specs.Terms.{variable_term, by_type, unary_term, binary_term, term_of}
 use Rattle.cminor_syntax.specs.Fits.{ExpressionFits}
 use Rattle.cminor_lowering.specs.Terms.{low_term}
-use Rattle.cminor_lowering.specs.Short.{HasWords}
+use Rattle.cminor_lowering.specs.Held.{HasWords}
 use Rattle.cminor_lowering_ranges.proofs.Scopes.{ScopeFits, MeantFits, meant_fits, array_fits}
 
 -- among so many locals

@@ -24,7 +24,7 @@ use Rattle.c_checker_rules.specs.Calls.{Functions, is_putchar, called, void_faul
 use Rattle.cminor_syntax.specs.Fits.{ExpressionFits, StatementFits, function_limit}
 use Rattle.cminor_lowering.specs.Terms.{low_term}
 use Rattle.cminor_lowering.specs.Actions.{low_given}
-use Rattle.cminor_lowering.specs.Short.{HasWords, GivenHasWords}
+use Rattle.cminor_lowering.specs.Held.{HasWords, GivenHasWords}
 use Rattle.cminor_lowering_ranges.proofs.Faults.{none_before, three_parts, holds}
 use Rattle.cminor_lowering_ranges.proofs.Scopes.{ScopeFits, TargetFits}
 use Rattle.cminor_lowering_ranges.proofs.Terms.{TermFits, term_fits, terms_fit}

@@ -1,5 +1,5 @@
 -- No two functions of a well formed text have one name: each has the number that the first body of its name has.
-use Rattle.std.proofs.Common.{◌≡◌, ◌≢◌, ℕ, suc, ◌<◌, ◌≤◌, Bool, true, false, List, [], ◌∷◌, ◌++◌, length, map, Option, Some, None, refl, sym, ap, ◌∙◌, arith}
+use Rattle.std.proofs.Common.{◌≡◌, ◌≢◌, ℕ, suc, ◌<◌, ◌≤◌, Bool, true, false, List, [], ◌∷◌, ◌++◌, length, map, Option, Some, None, refl, sym, ap, subst, ◌∙◌, arith}
 use Rattle.std.specs.Prelude.{not, ◌&&◌, ◌||◌, ◌==◌}
 use Rattle.std.specs.List.{AllByRecursion}
 use Rattle.std.proofs.lemmas.Bool.{eqb-true, leb-true, and_parts}
@@ -8,6 +8,7 @@ use Rattle.lang_base.specs.declared.program.Named.{Named}
 use Rattle.lang_base.specs.Texts.{EachFits}
 use Rattle.c_lexer_parts.specs.Lexemes.{IsName}
 use Rattle.c_checker_scopes.specs.Bound.{Bound, found}
+use Rattle.c_program.specs.Trees as C
 use Rattle.c_syntax.specs.declared.identifier.Identifier.{Identifier}
 use Rattle.c_syntax.specs.Trees.{FunctionTree, DeclarationTree}
 use Rattle.c_syntax.specs.Trees as T
@@ -18,14 +19,14 @@ use Rattle.c_checker_rules.specs.Names.{Scope}
 use Rattle.c_checker_rules.specs.Calls.{Functions, is_putchar}
 use Rattle.c_checker_rules.specs.Locals.{is_short, longest_name}
 use Rattle.c_checker_rules.specs.Globals.{is_main}
-use Rattle.c_checker_rules.specs.Functions.{opened, signature_of, may_be, is_only_body, is_redeclared, is_countable, same_signature, takes_int, takes_nothing, function_name_faults, body_faults, function_of}
+use Rattle.c_checker_rules.specs.Functions.{opened, signature_of, may_be, is_only_body, is_redeclared, is_countable, same_signature, takes_int, takes_nothing, function_name_faults, body_faults}
 use Rattle.c_checker_rules.specs.Units.{File, behind, naming, known, functions_from, declarations_faults}
 use Rattle.cminor_syntax.specs.Trees as M
 use Rattle.cminor_syntax.specs.Fits.{IsFunction}
 use Rattle.cminor_lowering.specs.Programs.{low_named}
 use Rattle.cminor_lowering_ranges.proofs.Faults.{none_before, three_parts, holds}
 use Rattle.cminor_lowering_ranges.proofs.Programs.{first_none, rest_none}
-use Rattle.lang.specs.Form.{FunctionFits}
+use Rattle.lang.specs.Form.{FunctionFits, name_limit}
 
 -- the first body of a name has this number
 abbrev Owns : List (Bound ℕ) → List ℕ → ℕ → Type 0
@@ -71,12 +72,22 @@ is_named f scope x s number none =
 
 -- ---- all names
 
-module _ (all : List (Bound ℕ)) where
-  -- each of these has a number below this one
-  abbrev AreBefore : List (Named M.FunctionTree) → ℕ → Type 0
-  AreBefore before n = AllByRecursion (λ g. (k : ℕ) × (k < n) × Owns all g.name k) before
+-- each of these has a number below this one
+abbrev AreBefore : {F : Type 0} → List (Bound ℕ) → List (Named F) → ℕ → Type 0
+AreBefore all before n = AllByRecursion (λ g. (k : ℕ) × (k < n) × Owns all g.name k) before
 
-  differ : (before : List (Named M.FunctionTree)) (n : ℕ) (name : List ℕ) → AreBefore before n → Owns all name n → AllByRecursion (λ g. g.name ≢ name) before
+pub low_names : (fs : List C.FunctionTree) → map (λ f. f.name) (map low_named fs) ≡ map (λ f. f.name) fs
+low_names [] = refl
+low_names (f ∷ fs) = ap (λ names. f.name ∷ names) (low_names fs)
+
+pub first_same : (x y : List ℕ) (xs ys : List (List ℕ)) → x ∷ xs ≡ y ∷ ys → x ≡ y
+first_same x y xs ys e = cc e
+
+pub rest_same : (x y : List ℕ) (xs ys : List (List ℕ)) → x ∷ xs ≡ y ∷ ys → xs ≡ ys
+rest_same x y xs ys e = cc e
+
+module _ (all : List (Bound ℕ)) {F : Type 0} (Fits : F → Type 0) where
+  differ : (before : List (Named F)) (n : ℕ) (name : List ℕ) → AreBefore all before n → Owns all name n → AllByRecursion (λ g. g.name ≢ name) before
   differ [] n name each own = tt
   differ (g ∷ gs) n name each own = (other each.0, differ gs n name each.1 own)
     where
@@ -85,23 +96,47 @@ module _ (all : List (Bound ℕ)) where
           let equal : k ≡ n = one_owner all name k n (b, sym (ap (λ x. found x all) same) ∙ there, is) own in
           omega arith
 
-  higher : (before : List (Named M.FunctionTree)) (n : ℕ) → AreBefore before n → AreBefore before (suc n)
+  higher : (before : List (Named F)) (n : ℕ) → AreBefore all before n → AreBefore all before (suc n)
   higher [] n each = tt
   higher (g ∷ gs) n each = ((each.0.0, omega (arith, each.0.1), each.0.2), higher gs n each.1)
 
-  pub functions_named : (file : File) (ds : List DeclarationTree) (before : List (Named M.FunctionTree)) → declarations_faults all file ds ≡ [] → AreBefore before file.defined →
-      AllByRecursion (λ f. IsName f.name) (functions_from all file ds) → AllByRecursion (λ f. IsFunction f.function) (map low_named (functions_from all file ds)) →
-      EachFits (FunctionFits IsFunction) before (map low_named (functions_from all file ds))
-  functions_named file [] before none each names fits = tt
-  functions_named file (T.Global g ∷ ds) before none each names fits = functions_named (behind file (T.Global g)) ds before (rest_none all file (T.Global g) ds none) each names fits
-  functions_named file (T.Prototype' p ∷ ds) before none each names fits = functions_named (behind file (T.Prototype' p)) ds before (rest_none all file (T.Prototype' p) ds none) each names fits
-  functions_named file (T.Function g ∷ ds) before none each names fits =
+  -- a function under the name of one that is new
+  here_fits : (before : List (Named F)) (m : Named F) (name : List ℕ) (n : ℕ) → m.name ≡ name → AreBefore all before n → Owns all name n → IsName name → length name ≤ longest_name → Fits m.function
+      → FunctionFits Fits before m
+  here_fits before m name n same each own is short fits = record {
+    name = subst IsName (sym same) is;
+    short = subst (λ x. length x ≤ name_limit) (sym same) short;
+    new = subst (λ x. AllByRecursion (λ g. g.name ≢ x) before) (sym same) (differ before n name each own);
+    function = fits;
+  }
+
+  -- functions under the names of a well formed text
+  pub named_fit : (file : File) (ds : List DeclarationTree) (before made : List (Named F)) → declarations_faults all file ds ≡ [] → AreBefore all before file.defined →
+      map (λ f. f.name) made ≡ map (λ f. f.name) (functions_from all file ds) → AllByRecursion (λ f. IsName f.name) (functions_from all file ds) → AllByRecursion (λ f. Fits f.function) made →
+      EachFits (FunctionFits Fits) before made
+  named_fit file [] before [] none each same names fits = tt
+  named_fit file [] before (m ∷ made) none each same names fits = absurd (cc same)
+  named_fit file (T.Global g ∷ ds) before made none each same names fits = named_fit (behind file (T.Global g)) ds before made (rest_none all file (T.Global g) ds none) each same names fits
+  named_fit file (T.Prototype' p ∷ ds) before made none each same names fits = named_fit (behind file (T.Prototype' p)) ds before made (rest_none all file (T.Prototype' p) ds none) each same names fits
+  named_fit file (T.Function g ∷ ds) before [] none each same names fits = absurd (cc same)
+  named_fit file (T.Function g ∷ ds) before (m ∷ made) none each same names fits =
       let s = signature_of g.result (map opened g.parameters) in
       let first = none_before (function_name_faults (known all file) file.scope g.name s (Some file.defined)) (body_faults (known all (naming file g)) (naming file g).scope g) (first_none all file (T.Function g) ds none) in
       let here = is_named (known all file) file.scope g.name s file.defined first in
-      let f = low_named (function_of (known all (naming file g)) (naming file g).scope g) in
+      let made_names = map (λ f. f.name) made in
+      let text_names = map (λ f. f.name) (functions_from all (naming file g) ds) in
+      let name = first_same m.name g.name.name made_names text_names same in
+      let names_behind = rest_same m.name g.name.name made_names text_names same in
+      let own = subst (λ x. Owns all x file.defined) (sym name) here.owner in
       let lower = higher before file.defined each in (
-        record { name = names.0; short = here.short; new = differ before file.defined g.name.name each here.owner; function = fits.0 },
-        functions_named (naming file g) ds (before ++ f ∷ []) (rest_none all file (T.Function g) ds none)
-            (all_append (λ h. (k : ℕ) × (k < suc file.defined) × Owns all h.name k) before (f ∷ []) lower ((file.defined, omega arith, here.owner), tt)) names.1 fits.1,
+        here_fits before m g.name.name file.defined name each here.owner names.0 here.short fits.0,
+        named_fit (naming file g) ds (before ++ m ∷ []) made (rest_none all file (T.Function g) ds none)
+            (all_append (λ h. (k : ℕ) × (k < suc file.defined) × Owns all h.name k) before (m ∷ []) lower ((file.defined, omega arith, own), tt)) names_behind names.1 fits.1,
       )
+
+pub functions_named : (all : List (Bound ℕ)) (file : File) (ds : List DeclarationTree) (before : List (Named M.FunctionTree)) → declarations_faults all file ds ≡ [] → AreBefore all before file.defined →
+    AllByRecursion (λ f. IsName f.name) (functions_from all file ds) → AllByRecursion (λ f. IsFunction f.function) (map low_named (functions_from all file ds)) →
+    EachFits (FunctionFits IsFunction) before (map low_named (functions_from all file ds))
+functions_named all file ds before none each names fits =
+    let fs = functions_from all file ds in
+    named_fit all IsFunction file ds before (map low_named fs) none each (low_names fs) names fits

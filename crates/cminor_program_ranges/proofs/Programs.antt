@@ -3,7 +3,6 @@ use Rattle.std.proofs.Common.{◌≡◌, ◌<◌, ◌^◌, true, false, [], map,
 use Rattle.std.specs.Prelude.{is_some, codes, IsTrue}
 use Rattle.std.specs.List.{AllByRecursion}
 use Rattle.std.proofs.lemmas.List.{length-map}
-use Rattle.cminor_lowering.specs.Short.{IsShortProgram}
 use Rattle.c_checker_scopes.specs.Bound.{found}
 use Rattle.c_syntax.specs.Trees.{UnitTree}
 use Rattle.c_syntax.specs.Heights.{IsLow}
@@ -13,7 +12,7 @@ use Rattle.c_checker_rules.specs.Units.{empty_file, bodies_of, globals_from, fun
 use Rattle.cminor_syntax.specs.Fits.{IsFunction}
 use Rattle.cminor_lowering.specs.Programs.{low_global, low_named, low}
 use Rattle.cminor_lowering_ranges.proofs.Faults.{none_before, none_behind, holds}
-use Rattle.cminor_lowering_ranges.proofs.Programs.{globals_sized, program_fits}
+use Rattle.cminor_lowering_ranges.proofs.Programs.{globals_sized}
 use Rattle.lang.specs.Form.{IsProgram, has_main}
 use Rattle.cminor_program_ranges.specs.Names.{HaveNames}
 use Rattle.cminor_program_ranges.proofs.Zeros.{globals_fit}
@@ -21,9 +20,10 @@ use Rattle.cminor_program_ranges.proofs.Totals.{few_globals, few_cells, few_func
 use Rattle.cminor_program_ranges.proofs.Distinct.{functions_named}
 use Rattle.cminor_program_ranges.proofs.Mains.{main_from}
 
-pub program_in_range : (u : UnitTree) → AllByRecursion IsLow u.declarations → IsWellFormed u → IsShortProgram (program_of u) → HaveNames (program_of u) →
+pub program_in_range : (u : UnitTree) → AllByRecursion IsLow u.declarations → IsWellFormed u →
+    AllByRecursion (λ f. IsFunction f.function) (low (program_of u)).functions → HaveNames (program_of u) →
     AllByRecursion (λ g. AllByRecursion (λ w. w < 2 ^ 32) g.first_words) (program_of u).globals → IsProgram IsFunction (low (program_of u))
-program_in_range u low well short names words =
+program_in_range u flat well fit names words =
     let all = bodies_of u in
     let gs = globals_from empty_file u.declarations in
     let fs = functions_from all empty_file u.declarations in
@@ -34,7 +34,7 @@ program_in_range u low well short names words =
       few_cells = omega (arith, few_cells all empty_file u.declarations (omega arith) none);
       globals = globals_fit gs (globals_sized u well) words;
       few_functions = omega (arith, few_functions all empty_file u.declarations (omega arith) none, length-map fs low_named);
-      functions = functions_named all empty_file u.declarations [] none tt names (program_fits u low well short);
+      functions = functions_named all empty_file u.declarations [] none tt names fit;
       main = is_there (main_from all empty_file u.declarations 0 [] there);
     }
   where

@@ -2,7 +2,6 @@
 
 ghost use Rattle.std.specs.Prelude.{◌↔◌, IsTrue};
 ghost use Rattle.c_checker_rules.specs.Checked.{program_tree};
-ghost use Rattle.cminor_lowering.specs.Short.{IsShortProgram};
 ghost use Rattle.cminor_syntax.specs.Fits.{IsFunction};
 ghost use Rattle.cminor_lowering.specs.Programs.{low};
 ghost use Rattle.lang.specs.Form.{IsProgram};
@@ -13,15 +12,14 @@ use crate::words::globals_words;
 use c_checker_rules::CProgram;
 use cminor_lowering_ranges::lowered_fits;
 
-/// Whether the program of Cminor that a checked program is lowered to is in range. It is, unless some sequence of
-/// the program has 2^32 - 1 actions or more, or a function has no C name. The time is linear in the program.
+/// Whether the program of Cminor that a checked program is lowered to has a spelling. It has, unless a function has no
+/// C name. The time is linear in the program.
 pub fn lowered_program_fits(program: &CProgram) -> bool
-    ensures exact { IsTrue result ↔ (IsShortProgram (program_tree program.now) × HaveNames (program_tree program.now)) }
+    ensures exact { IsTrue result ↔ HaveNames (program_tree program.now) }
     ensures fits { IsTrue result → IsProgram IsFunction (low (program_tree program.now)) }
 {
     program.known();
     globals_words(program.globals());
-    let short = lowered_fits(program);
-    let named = have_names(program.functions());
-    short && named
+    lowered_fits(program);
+    have_names(program.functions())
 }

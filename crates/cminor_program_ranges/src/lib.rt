@@ -1,9 +1,10 @@
-//! The Cminor program that a checked program is lowered to has a spelling, wherever no sequence of the program is
-//! so long that its length has no space in 32 bits.
+//! The Cminor program that a checked program is lowered to has a spelling, wherever its functions have C names.
 #![tactic(auto)]
 
 mod fitting;
+mod laws;
 mod names;
 mod words;
 
 pub use fitting::lowered_program_fits;
+pub use laws::same_head_fits;

@@ -9,8 +9,7 @@ ghost use Rattle.cminor_syntax.specs.Meaning as C;
 ghost use Rattle.rtl_language.specs.Meaning as R;
 ghost use Rattle.rtlgen_definition.specs.Gen.{gen};
 
-/// The RTL program of a Cminor program whose functions are in range keeps its meaning: a turn of a
-/// loop and a call make at least one step.
+/// The RTL program of a Cminor program whose functions are in range keeps its meaning.
 pub fn generated_keeps()
     ensures { (p : Program FunctionTree) → AllFit IsFunction p → Keeps (C.run p) (R.run (gen p)) }
 {}

@@ -14,7 +14,7 @@
 //! | `lowered TEXT` | for each global its cells and the words that they begin with, and for each function its name and its form of Cminor |
 //! | `graphs TEXT` | for each function its form of RTL |
 //! | `translated TEXT` | how many functions of RTL there are, or the number of the fault |
-//! | `in_range TEXT` | `yes`, where each function is short and what the text is lowered to is in range |
+//! | `in_range TEXT` | `yes`, where what the text is lowered to has a spelling |
 //! | `operator CODE X Y` | the machine's answer, and whether C has one, which is then the same |
 //! | `condition CODE X Y` | whether it holds |
 //! | `code CODE` | whether there is such an operator, and such a condition |

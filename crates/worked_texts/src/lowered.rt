@@ -4,8 +4,6 @@ use c_checker_rules::CProgram;
 use cfarm_texts::accept;
 use cminor::lower;
 use cminor_language::Cminor;
-use cminor_lowering::is_short_function;
-use cminor_lowering_ranges::lowered_fits;
 use cminor_program_ranges::lowered_program_fits;
 use lang_base::{Language, Named, Program};
 use program_rows::{numbered, owned};
@@ -98,21 +96,16 @@ pub fn translated(alloc: Global, text: &[u8]) -> Option<String> {
     translated_of(alloc, &program)
 }
 
-/// Whether each function of a C program is short, and what it is lowered to is in range.
+/// Whether what a C program is lowered to has a spelling.
 fn fits_told(program: &CProgram) -> &'static str {
-    for function in program.functions() {
-        if !is_short_function(function) {
-            return "long";
-        }
-    }
-    if lowered_fits(program) && lowered_program_fits(program) {
+    if lowered_program_fits(program) {
         "yes"
     } else {
         "no"
     }
 }
 
-/// Whether each function is short, and what the text is lowered to is in range.
+/// Whether what the text is lowered to has a spelling.
 pub fn in_range(alloc: Global, text: &[u8]) -> Option<String> {
     let program = accept(alloc, text).ok()?;
     let told = fits_told(&program);

@@ -1,5 +1,8 @@
-use Rattle.cminor_lowering.proofs.Programs.{lowered_keeps}
+use Rattle.cminor_lowering.proofs.Programs.{lowered_keeps, runs_follow}
 use Rattle.cminor_lowering.proofs.law.lowered_keeps.Goals as goal
 
-pub returns : goal.returns
-returns c = lowered_keeps
+pub returns-clause-keeps : goal.returns-clause-keeps
+returns-clause-keeps c = lowered_keeps
+
+pub returns-clause-together : goal.returns-clause-together
+returns-clause-together c = runs_follow

@@ -1,6 +1,6 @@
 use Rattle.std.proofs.Common.{All, sym, subst}
 use Rattle.c_program.specs.Views.{term_tree, given_tree}
-use Rattle.cminor_lowering.specs.Short.{HasWords, GivenHasWords}
+use Rattle.cminor_lowering.specs.Held.{HasWords, GivenHasWords}
 use Rattle.cminor_lowering.proofs.Rows.{each_word}
 use Rattle.cminor_lowering.proofs.words.value_words.Goals as goal
 

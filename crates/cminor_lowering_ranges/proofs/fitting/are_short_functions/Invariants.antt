@@ -1,8 +1,0 @@
-use Rattle.std.proofs.Common.{ℕ, ◌<◌, slice_index_or}
-use Rattle.c_program.specs.declared.function.Function.{Function}
-use Rattle.c_program.specs.Views.{function_tree}
-use Rattle.cminor_lowering.specs.Short.{IsShortFunction}
-use Rattle.cminor_lowering_ranges.proofs.fitting.are_short_functions.Given as goal
-
-abbrev pub invariant-loop-function : goal.invariant-loop-function
-invariant-loop-function l = (k : ℕ) (d : Function) → k < l.function-index → IsShortFunction (function_tree (slice_index_or l.functions k d))
