@@ -1,14 +1,14 @@
--- The function in slots is accepted with every register's equation at every node.
-use Rattle.std.proofs.Common.{◌≡◌, ◌≢◌, ℕ, zero, suc, ◌<◌, ◌≤◌, List, [], ◌∷◌, length, Option, Some, None, Bool, true, false, refl, sym, ap, ◌∙◌, subst, arith, inl, inr}
-use Rattle.std.specs.Prelude.{map, replicate, All, Contains, slice_get, slice_index_or, nat_eq, ◌&&◌, if◌then◌else◌}
+-- The function in slots is accepted with lists of registers that are closed under the rules.
+use Rattle.std.proofs.Common.{◌≡◌, ◌≢◌, ℕ, zero, suc, ◌<◌, ◌≤◌, List, [], ◌∷◌, length, get_or, Option, Some, None, Bool, true, false, refl, sym, ap, ◌∙◌, subst, arith, inl, inr}
+use Rattle.std.specs.Prelude.{map, All, Contains, slice_get, nat_eq, ◌&&◌, if◌then◌else◌}
 use Rattle.std.specs.Option.{option_map}
 use Rattle.std.specs.List.{AllByRecursion}
-use Rattle.std.proofs.lemmas.Bool.{cases_eq, cases_lt, eq-eqb, and_from}
-use Rattle.std.proofs.lemmas.List.{length-map, length-replicate, get_or-replicate, get_or_past}
-use Rattle.std.proofs.lemmas.List.Elements.{All-replicate, All-from_recursion}
-use Rattle.std.proofs.lemmas.Option.{slice_get-map, get_or_from_slice_get}
-use Rattle.ints.specs.Codes.{code_of, argument_count_of}
-use Rattle.ints.specs.Conditions.{cond_code_of, cond_argument_count_of}
+use Rattle.std.proofs.lemmas.Bool.{cases_eq, eq-eqb, eqb-false, and_from}
+use Rattle.std.proofs.lemmas.List.{length-map, get_or_default}
+use Rattle.std.proofs.lemmas.List.Elements.{All-map, All-from_recursion, recursion_from_All, Contains-get_or}
+use Rattle.std.proofs.lemmas.Option.{slice_get-map, same_Some}
+use Rattle.ints.specs.Codes.{code_of}
+use Rattle.ints.specs.Conditions.{cond_code_of}
 use Rattle.locations.specs.declared.location.Location.TheVariants.{InRegister, InSlot}
 use Rattle.locations.specs.declared.location.Move as location_move
 use Rattle.locations.specs.Reading.{same_location}
@@ -16,10 +16,9 @@ use Rattle.rtl_parts.specs.declared.arguments.Arguments.{Arguments}
 use Rattle.rtl_parts.specs.declared.arguments.Arguments.TheVariants.{One, Two}
 use Rattle.rtl_parts.specs.declared.act.Act.{Act}
 use Rattle.rtl_parts.specs.declared.act.Act.TheVariants.{Nop, Constant, Move, Operate, Load, Store, Put}
-use Rattle.rtl_parts.specs.Fits.{RegisterFits, ArgumentsFit, ActFits}
 use Rattle.rtl_language.specs.declared.instruction.Instruction.{Instruction}
 use Rattle.rtl_language.specs.declared.instruction.Instruction.TheVariants.{Do, Call, Branch, Return}
-use Rattle.rtl_language.specs.Function.{FunctionData, IsFunction, InstructionFits}
+use Rattle.rtl_language.specs.Function.{FunctionData, IsFunction}
 use Rattle.ltl.specs.declared.block.Block.{Block}
 use Rattle.alloc_check_rules.specs.declared.equation.Equation.{Equation}
 use Rattle.alloc_check_rules.specs.declared.change.Change.{Change}
@@ -27,11 +26,14 @@ use Rattle.alloc_check_rules.specs.declared.change.Change.TheVariants.{Nothing, 
 use Rattle.alloc_check_rules.specs.declared.demand.Demand.{Demand}
 use Rattle.alloc_check_rules.specs.declared.demand.Demand.TheVariants.{Met, Refused, Needs}
 use Rattle.alloc_check_rules.specs.Equations.{over_call, demand}
-use Rattle.alloc_check_rules.specs.Pairs.{equations_of, arguments_used, act_uses, uses, change_of, act_change, result_change, same_number}
+use Rattle.alloc_check_rules.specs.Pairs.{equations_of, arguments_used, act_uses, uses, change_of, act_change, result_change, same_number, successors_of}
 use Rattle.alloc_check_rules.specs.Rules.{baseline_limit, equations_at, IsInOrder, IsGiven, IsAnswered, IsCarried, StandsFor, HoldsAtEntry, IsRightAs, IsAllocated}
-use Rattle.alloc_check.specs.Slots.{slot, fetch, arguments_before, arguments_in, act_before, act_in, before_in, body_in, block_in, function_in, own, owns}
+use Rattle.alloc_check_live.specs.Liveness.{named, used_by_act, used_by, defined_by_act, defined_by, used_of, defined_of, onward_of}
+use Rattle.alloc_check_live.specs.Lists.{registers_at, RisesFrom, AreLive}
+use Rattle.alloc_check_live.proofs.Lives.{live_fits}
+use Rattle.alloc_check.specs.Slots.{slot, fetch, arguments_before, arguments_in, act_before, act_in, before_in, body_in, block_in, function_in, own}
 use Rattle.alloc_check.proofs.Fits.{slot_tells}
-use Rattle.alloc_check.proofs.Owns.{owns_count, own_at, owns_has, owns_in_order}
+use Rattle.alloc_check.proofs.Owns.{own_has, own_at, own_in_order}
 
 -- ---- what a block defines
 
@@ -111,95 +113,102 @@ copied b p source =
 abbrev called : Bool → ℕ → Demand
 called b p = over_call (if b then (if b then Met else Refused) else (if b then Refused else Needs (own p)))
 
-module _ (count : ℕ) where
-  abbrev every : List Equation
-  every = owns 0 count
+other_target : (target p : ℕ) → nat_eq target p ≡ false → Some target ≢ Some p
+other_target target p e same = eqb-false target p e (same_Some target p same)
 
-  has : (r : ℕ) → r < count → Contains every (own r)
-  has r fits = owns_has count r fits
+none_defined : (p : ℕ) → None ≢ Some p
+none_defined p same = cc (same)
 
-  is_kept : (b : Bool) (p : ℕ) (before : List location_move.Move) → IsGiven every before (own p) → IsAnswered every before (kept b p)
+-- a node, with the registers that its list has
+module _ (registers : List ℕ) where
+  abbrev here : List Equation
+  here = map own registers
+
+  has : (r : ℕ) → Contains registers r → Contains here (own r)
+  has r h = own_has registers r h
+
+  is_kept : (b : Bool) (p : ℕ) (before : List location_move.Move) → (b ≡ false → IsGiven here before (own p)) → IsAnswered here before (kept b p)
   is_kept true p before given = tt
-  is_kept false p before given = given
+  is_kept false p before given = given refl
 
-  is_copied : (b : Bool) (p source : ℕ) → p < count → source < count → IsAnswered every (fetch 0 source ∷ []) (copied b p source)
-  is_copied true p source fits also = has source also
-  is_copied false p source fits also = has p fits
+  is_copied : (b : Bool) (p source : ℕ) → (b ≡ false → Contains registers p) → Contains registers source → IsAnswered here (fetch 0 source ∷ []) (copied b p source)
+  is_copied true p source there also = has source also
+  is_copied false p source there also = has p (there refl)
 
-  is_called : (b : Bool) (p : ℕ) → p < count → IsAnswered every [] (called b p)
-  is_called true p fits = tt
-  is_called false p fits = has p fits
+  is_called : (b : Bool) (p : ℕ) → (b ≡ false → Contains registers p) → IsAnswered here [] (called b p)
+  is_called true p there = tt
+  is_called false p there = has p (there refl)
 
   -- moves to registers leave slots
-  still : (names : Arguments) (p : ℕ) → p < count → IsGiven every (arguments_before names) (own p)
-  still (One a) p fits = has p fits
-  still (Two a b) p fits = has p fits
+  still : (names : Arguments) (p : ℕ) → Contains registers p → IsGiven here (arguments_before names) (own p)
+  still (One a) p there = has p there
+  still (Two a b) p there = has p there
 
-  act_answered : (a : Act) (s p : ℕ) → ActFits count a → p < count → IsAnswered every (act_before a) (demand (body_in (Do a s)) (act_defines a) (own p))
-  act_answered Nop s p fits there = has p there
-  act_answered (Constant target word) s p fits there = is_kept (nat_eq target p) p [] (has p there)
-  act_answered (Move target source) s p fits there = is_copied (nat_eq target p) p source there fits.1
-  act_answered (Operate op target names) s p fits there = is_kept (nat_eq target p) p (arguments_before names) (still names p there)
-  act_answered (Load target global index) s p fits there = is_kept (nat_eq target p) p (fetch 0 index ∷ []) (has p there)
-  act_answered (Store global index source) s p fits there = has p there
-  act_answered (Put source None) s p fits there = has p there
-  act_answered (Put source (Some target)) s p fits there = is_kept (nat_eq target p) p (fetch 0 source ∷ []) (has p there)
+  act_answered : (a : Act) (s p : ℕ) → All (Contains registers) (used_by_act a) → (defined_by_act a ≢ Some p → Contains registers p) → IsAnswered here (act_before a) (demand (body_in (Do a s)) (act_defines a) (own p))
+  act_answered Nop s p uses there = has p (there (none_defined p))
+  act_answered (Constant target word) s p uses there = is_kept (nat_eq target p) p [] (λ e. has p (there (other_target target p e)))
+  act_answered (Move target source) s p uses there = is_copied (nat_eq target p) p source (λ e. there (other_target target p e)) (uses 0 source (omega arith))
+  act_answered (Operate op target names) s p uses there = is_kept (nat_eq target p) p (arguments_before names) (λ e. still names p (there (other_target target p e)))
+  act_answered (Load target global index) s p uses there = is_kept (nat_eq target p) p (fetch 0 index ∷ []) (λ e. has p (there (other_target target p e)))
+  act_answered (Store global index source) s p uses there = has p (there (none_defined p))
+  act_answered (Put source None) s p uses there = has p (there (none_defined p))
+  act_answered (Put source (Some target)) s p uses there = is_kept (nat_eq target p) p (fetch 0 source ∷ []) (λ e. has p (there (other_target target p e)))
 
-  answered : (nodes : ℕ) (i : Instruction) (p : ℕ) → InstructionFits count nodes i → p < count → IsAnswered every (before_in i) (demand (body_in i) (defines i) (own p))
-  answered nodes (Do a s) p fits there = act_answered a s p fits.0 there
-  answered nodes (Call f names None s) p fits there = has p there
-  answered nodes (Call f names (Some target) s) p fits there = is_called (nat_eq target p) p there
-  answered nodes (Branch test s o) p fits there = still test.arguments p there
-  answered nodes (Return None) p fits there = has p there
-  answered nodes (Return (Some value)) p fits there = has p there
+  answered : (i : Instruction) (p : ℕ) → All (Contains registers) (used_by i) → (defined_by i ≢ Some p → Contains registers p) → IsAnswered here (before_in i) (demand (body_in i) (defines i) (own p))
+  answered (Do a s) p uses there = act_answered a s p uses there
+  answered (Call f names None s) p uses there = has p (there (none_defined p))
+  answered (Call f names (Some target) s) p uses there = is_called (nat_eq target p) p (λ e. there (other_target target p e))
+  answered (Branch test s o) p uses there = still test.arguments p (there (none_defined p))
+  answered (Return None) p uses there = has p (there (none_defined p))
+  answered (Return (Some value)) p uses there = has p (there (none_defined p))
 
   -- ---- what is used
 
-  arguments_have : (number : ℕ) (names : Arguments) → ArgumentsFit count number names → AllByRecursion (IsGiven every (arguments_before names)) (arguments_used names (arguments_in names))
-  arguments_have number (One a) fits = (has a fits.1, tt)
-  arguments_have number (Two a b) fits = (has a fits.1, (has b fits.2, tt))
+  arguments_have : (names : Arguments) → All (Contains registers) (named names) → AllByRecursion (IsGiven here (arguments_before names)) (arguments_used names (arguments_in names))
+  arguments_have (One a) uses = (has a (uses 0 a (omega arith)), tt)
+  arguments_have (Two a b) uses = (has a (uses 0 a (omega arith)), (has b (uses 1 b (omega arith)), tt))
 
-  act_has : (a : Act) → ActFits count a → AllByRecursion (IsGiven every (act_before a)) (act_uses a (act_in a))
-  act_has Nop fits = tt
-  act_has (Constant target word) fits = tt
-  act_has (Move target source) fits = tt
-  act_has (Operate op target names) fits = arguments_have (argument_count_of op) names fits.1
-  act_has (Load target global index) fits = (has index fits.2, tt)
-  act_has (Store global index source) fits = (has index fits.1, (has source fits.2, tt))
-  act_has (Put source None) fits = (has source fits.0, tt)
-  act_has (Put source (Some target)) fits = (has source fits.0, tt)
+  act_has : (a : Act) → All (Contains registers) (used_by_act a) → AllByRecursion (IsGiven here (act_before a)) (act_uses a (act_in a))
+  act_has Nop uses = tt
+  act_has (Constant target word) uses = tt
+  act_has (Move target source) uses = tt
+  act_has (Operate op target names) uses = arguments_have names uses
+  act_has (Load target global index) uses = (has index (uses 0 index (omega arith)), tt)
+  act_has (Store global index source) uses = (has index (uses 0 index (omega arith)), (has source (uses 1 source (omega arith)), tt))
+  act_has (Put source None) uses = (has source (uses 0 source (omega arith)), tt)
+  act_has (Put source (Some target)) uses = (has source (uses 0 source (omega arith)), tt)
 
-  call_has : (names : List ℕ) → AllByRecursion (RegisterFits count) names → AllByRecursion (IsGiven every []) (equations_of names (map slot names))
-  call_has [] fits = tt
-  call_has (r ∷ rs) fits = (has r fits.0, call_has rs fits.1)
+  call_has : (names : List ℕ) → AllByRecursion (Contains registers) names → AllByRecursion (IsGiven here []) (equations_of names (map slot names))
+  call_has [] uses = tt
+  call_has (r ∷ rs) uses = (has r uses.0, call_has rs uses.1)
 
-  uses_have : (nodes : ℕ) (i : Instruction) → InstructionFits count nodes i → AllByRecursion (IsGiven every (before_in i)) (uses i (body_in i))
-  uses_have nodes (Do a s) fits = act_has a fits.0
-  uses_have nodes (Call f names target s) fits = call_has names fits.0.arguments
-  uses_have nodes (Branch test s o) fits = arguments_have (cond_argument_count_of test.condition) test.arguments fits.0
-  uses_have nodes (Return None) fits = tt
-  uses_have nodes (Return (Some value)) fits = (has value fits, tt)
+  uses_have : (i : Instruction) → All (Contains registers) (used_by i) → AllByRecursion (IsGiven here (before_in i)) (uses i (body_in i))
+  uses_have (Do a s) there = act_has a there
+  uses_have (Call f names target s) there = call_has names (recursion_from_All (Contains registers) names there)
+  uses_have (Branch test s o) there = arguments_have test.arguments there
+  uses_have (Return None) there = tt
+  uses_have (Return (Some value)) there = (has value (there 0 value (omega arith)), tt)
 
-  -- ---- at each node
+-- ---- lists that are closed
 
-  -- what holds of each register's equation holds of those at a node
-  each_at : (P : Equation → Type 0) (nodes n : ℕ) → ((p : ℕ) → p < count → P (own p)) → All P (equations_at (replicate nodes every) n)
-  each_at P nodes n holds =
-      let none : List Equation = [] in
-      elim (cases_lt n nodes) [
-        | inl below ↦ subst (All P) (sym (get_or-replicate nodes n every none below)) (λ k d within.
-            let place : k < count = omega (arith, within, owns_count 0 count) in
-            subst P (sym (own_at count k d place)) (holds k place))
-        | inr past ↦ subst (All P) (sym (get_or_past (replicate nodes every) n none (omega (arith, length-replicate nodes every, past)))) (λ k d within. absurd (omega (arith, within)))
-      ]
+-- What a node uses is in its list, and so is what is in the list of a successor and not defined by the node; each list is
+-- of registers, and rises.
+pub record IsClosed (f : FunctionData) (lists : List (List ℕ)) : Type 0 where
+  pub count : length lists ≡ length f.nodes
+  pub fit : (n p : ℕ) → Contains (registers_at lists n) p → p < f.registers
+  pub rising : (n : ℕ) → RisesFrom 0 (registers_at lists n)
+  pub uses : (n p : ℕ) → Contains (used_of (slice_get f.nodes n)) p → Contains (registers_at lists n) p
+  pub onward : (n m p : ℕ) → defined_of (slice_get f.nodes n) ≢ Some p → Contains (onward_of (slice_get f.nodes n)) m → Contains (registers_at lists m) p → Contains (registers_at lists n) p
 
-  carried : (nodes : ℕ) (i : Instruction) → InstructionFits count nodes i → IsCarried (replicate nodes every) every i (block_in i) (defines i)
-  carried nodes i fits = record {
-    uses = All-from_recursion (IsGiven every (before_in i)) (uses i (body_in i)) (uses_have nodes i fits);
-    leads = λ k d within. record {
-      answered = each_at (λ e. IsAnswered every (before_in i) (demand (body_in i) (defines i) e)) nodes _ (λ p there. answered nodes i p fits there);
-    };
-  }
+-- the lists of live registers are
+pub closed_live : (f : FunctionData) (lists : List (List ℕ)) → IsFunction f → AreLive f.nodes lists → IsClosed f lists
+closed_live f lists fits live = record {
+  count = live.count;
+  fit = λ n p h. live_fits f fits n p ((live.exactly n p).0 h);
+  rising = live.rising;
+  uses = λ n p h. (live.exactly n p).1 (0, h);
+  onward = λ n m p other leads h. let there = (live.exactly m p).0 h in (live.exactly n p).1 (suc there.0, (m, other, leads, there.1));
+}
 
 -- ---- at the entry
 
@@ -221,29 +230,43 @@ entry_holds (r ∷ rs) p = elim (cases_eq r p) [
     behind P x xs here all zero d within = here
     behind P x xs here all (suc k) d within = all k d (omega (arith, within))
 
-pub accepted : (f : FunctionData) → IsFunction f → f.registers ≤ baseline_limit → IsAllocated f (function_in f) (replicate (length f.nodes) (owns 0 f.registers))
-accepted f fits few = record {
+-- ---- at each node
+
+-- what holds of the own equation of each register in a list holds of those at the node
+each_at : (P : Equation → Type 0) (lists : List (List ℕ)) (n : ℕ) → ((p : ℕ) → Contains (registers_at lists n) p → P (own p)) → All P (equations_at (map (map own) lists) n)
+each_at P lists n holds =
+    subst (All P) (sym (own_at lists n)) (All-map P own (registers_at lists n) (λ k d below. holds (get_or (registers_at lists n) k d) (Contains-get_or (registers_at lists n) k d below)))
+
+pub accepted : (f : FunctionData) (lists : List (List ℕ)) → f.registers ≤ baseline_limit → IsClosed f lists → IsAllocated f (function_in f) (map (map own) lists)
+accepted f lists few closed = record {
   shape = record {
     parameters = length-map f.parameters slot;
     entry = refl;
     nodes = length-map f.nodes block_in;
-    count = length-replicate (length f.nodes) (owns 0 f.registers);
-    each = All-replicate (IsInOrder f.registers f.registers) (length f.nodes) (owns 0 f.registers) (owns_in_order f.registers (omega (arith, few)));
+    count = length-map lists (map own) ∙ closed.count;
+    each = All-map (IsInOrder f.registers f.registers) (map own) lists
+        (λ k d below. subst (λ rs. IsInOrder f.registers f.registers (map own rs)) (get_or_default lists k [] d below) (own_in_order f.registers (registers_at lists k) (omega (arith, few)) (closed.fit k) (closed.rising k)));
   };
   nodes = λ n below i b e e'. right n below i b e e';
 }
   where
-    right : (n : ℕ) → n < length f.nodes → (i : Instruction) (b : Block) → slice_get f.nodes n ≡ Some i → slice_get (map block_in f.nodes) n ≡ Some b → IsRightAs f (function_in f) (replicate (length f.nodes) (owns 0 f.registers)) n i b
+    right : (n : ℕ) → n < length f.nodes → (i : Instruction) (b : Block) → slice_get f.nodes n ≡ Some i → slice_get (map block_in f.nodes) n ≡ Some b → IsRightAs f (function_in f) (map (map own) lists) n i b
     right n below i b e e' =
         let mapped = slice_get-map block_in f.nodes n in
         let made : option_map block_in (slice_get f.nodes n) ≡ Some (block_in i) = ap (option_map block_in) e in
         let same : block_in i ≡ b = cc in
-        let none : List Equation = [] in
-        let here : slice_index_or (replicate (length f.nodes) (owns 0 f.registers)) n none ≡ owns 0 f.registers = get_or-replicate (length f.nodes) n (owns 0 f.registers) none below in
-        let in_range : InstructionFits f.registers (length f.nodes) i = subst (InstructionFits f.registers (length f.nodes)) (get_or_from_slice_get f.nodes n i i e) (All-from_recursion (InstructionFits f.registers (length f.nodes)) f.nodes fits.each n i below) in
-        let stands = subst (StandsFor (replicate (length f.nodes) (owns 0 f.registers)) (owns 0 f.registers) i (block_in i)) (sym (change_is i)) (carried f.registers (length f.nodes) i in_range) in
-        subst (λ c. IsRightAs f (function_in f) (replicate (length f.nodes) (owns 0 f.registers)) n i c) same
+        let there : All (Contains (registers_at lists n)) (used_by i) = λ k d within. closed.uses n (get_or (used_by i) k d) (subst (λ o. Contains (used_of o) (get_or (used_by i) k d)) (sym e) (Contains-get_or (used_by i) k d within)) in
+        let leads : (k d p : ℕ) → k < length (successors_of i) → Contains (registers_at lists (get_or (successors_of i) k d)) p → defined_by i ≢ Some p → Contains (registers_at lists n) p =
+        λ k d p within h other. closed.onward n (get_or (successors_of i) k d) p (subst (λ o. defined_of o ≢ Some p) (sym e) other) (subst (λ o. Contains (onward_of o) (get_or (successors_of i) k d)) (sym e) (Contains-get_or (successors_of i) k d within)) h in
+        let carried : IsCarried (map (map own) lists) (map own (registers_at lists n)) i (block_in i) (defines i) = record {
+          uses = All-from_recursion (IsGiven (map own (registers_at lists n)) (before_in i)) (uses i (body_in i)) (uses_have (registers_at lists n) i there);
+          leads = λ k d within. record {
+            answered = each_at (λ q. IsAnswered (map own (registers_at lists n)) (before_in i) (demand (body_in i) (defines i) q)) lists (get_or (successors_of i) k d) (λ p h. answered (registers_at lists n) i p there (λ other. leads k d p within h other));
+          };
+        } in
+        let stands = subst (StandsFor (map (map own) lists) (map own (registers_at lists n)) i (block_in i)) (sym (change_is i)) carried in
+        subst (λ c. IsRightAs f (function_in f) (map (map own) lists) n i c) same
         (record {
-          entry = λ first. each_at f.registers (HoldsAtEntry f.parameters (map slot f.parameters)) (length f.nodes) n (λ p there. entry_holds f.parameters p);
-          stands = subst (λ es. StandsFor (replicate (length f.nodes) (owns 0 f.registers)) es i (block_in i) (change_of i (body_in i))) (sym here) stands;
+          entry = λ first. each_at (HoldsAtEntry f.parameters (map slot f.parameters)) lists n (λ p there. entry_holds f.parameters p);
+          stands = subst (λ es. StandsFor (map (map own) lists) es i (block_in i) (change_of i (body_in i))) (sym (own_at lists n)) stands;
         })

@@ -1,41 +1,53 @@
--- Equations of registers and their slots, in order.
-use Rattle.std.proofs.Common.{◌≡◌, ℕ, zero, suc, ◌+◌, ◌<◌, ◌^◌, [], ◌∷◌, ◌++◌, length, get_or, refl, sym, ap, ◌∙◌, subst, arith, inl}
-use Rattle.std.specs.Prelude.{Contains}
+-- Equations of registers and their own slots, in order.
+use Rattle.std.proofs.Common.{◌≡◌, ℕ, zero, suc, ◌<◌, ◌^◌, List, [], ◌∷◌, length, get_or, refl, sym, ap, ◌∙◌, subst, arith, inl}
+use Rattle.std.specs.Prelude.{map, Contains}
+use Rattle.std.proofs.lemmas.List.{length-map, get_or-map}
+use Rattle.std.proofs.lemmas.List.Elements.{All-map, Contains-get_or}
+use Rattle.rtl_language.specs.declared.instruction.Instruction.{Instruction}
 use Rattle.alloc_check_rules.specs.declared.equation.Equation.{Equation}
-use Rattle.alloc_check_rules.specs.Rules.{EquationFits, Rise, IsInOrder}
-use Rattle.alloc_check.specs.Slots.{own, owns}
+use Rattle.alloc_check_rules.specs.Rules.{EquationFits, equations_at, Rise, IsInOrder}
+use Rattle.alloc_check_live.specs.Lists.{registers_at, RisesFrom, AreLive}
+use Rattle.alloc_check_live.proofs.Risings.{rises_few}
+use Rattle.alloc_check.specs.Slots.{own}
+use Rattle.alloc_check.specs.Baseline.{IsLiveList, AreLiveLists}
 
-pub owns_count : (r count : ℕ) → length (owns r count) ≡ count
-owns_count r zero = refl
-owns_count r (suc count) = ap suc (owns_count (suc r) count)
+pub own_at : (lists : List (List ℕ)) (n : ℕ) → equations_at (map (map own) lists) n ≡ map own (registers_at lists n)
+own_at [] n = refl
+own_at (rs ∷ lists) zero = refl
+own_at (rs ∷ lists) (suc n) = own_at lists n
 
-pub owns_at : (r count k : ℕ) (d : Equation) → k < count → get_or (owns r count) k d ≡ own (r + k)
-owns_at r zero k d below = absurd (omega (arith, below))
-owns_at r (suc count) zero d below = ap own (let e : r ≡ r + 0 = omega arith in e)
-owns_at r (suc count) (suc k) d below = owns_at (suc r) count k d (omega (arith, below)) ∙ ap own (let e : suc r + k ≡ r + suc k = omega arith in e)
+pub own_has : (rs : List ℕ) (r : ℕ) → Contains rs r → Contains (map own rs) (own r)
+own_has rs r h = (h.0, omega (arith, h.1, length-map rs own), get_or-map own rs h.0 r (own r) h.1 ∙ ap own h.2)
 
--- one more
-pub owns_more : (r count : ℕ) → owns r count ++ own (r + count) ∷ [] ≡ owns r (suc count)
-owns_more r zero = ap (λ n. own n ∷ []) (let e : r + 0 ≡ r = omega arith in e)
-owns_more r (suc count) = ap (λ es. own r ∷ es) (ap (λ n. owns (suc r) count ++ own n ∷ []) (let e : r + suc count ≡ suc r + count = omega arith in e) ∙ owns_more (suc r) count)
+-- an equation among them is of a register and its own slot
+own_is : (rs : List ℕ) (e : Equation) → Contains (map own rs) e → (e ≡ own e.register) × Contains rs e.register
+own_is rs e h =
+    let below : h.0 < length rs = omega (arith, h.1, length-map rs own) in
+    let is : own (get_or rs h.0 0) ≡ e = sym (get_or-map own rs h.0 0 e below) ∙ h.2 in
+    let register : get_or rs h.0 0 ≡ e.register = ap (λ (q : Equation). q.register) is in
+    (sym is ∙ ap own register, subst (Contains rs) register (Contains-get_or rs h.0 0 below))
 
--- from the first on, each at its own place
-pub own_at : (count k : ℕ) (d : Equation) → k < count → get_or (owns 0 count) k d ≡ own k
-own_at count k d below = owns_at 0 count k d below ∙ ap own (let e : 0 + k ≡ k = omega arith in e)
+own_rises : (low : ℕ) (rs : List ℕ) → RisesFrom low rs → Rise (map own rs)
+own_rises low [] rises = tt
+own_rises low (r ∷ []) rises = tt
+own_rises low (r ∷ (q ∷ rs)) rises = (inl (omega (arith, rises.1.0)), own_rises (suc r) (q ∷ rs) rises.1)
 
-pub owns_has : (count r : ℕ) → r < count → Contains (owns 0 count) (own r)
-owns_has count r below = (r, omega (arith, below, owns_count 0 count), own_at count r (own r) below)
+pub own_in_order : (count : ℕ) (rs : List ℕ) → count < 2 ^ 16 → ((p : ℕ) → Contains rs p → p < count) → RisesFrom 0 rs → IsInOrder count count (map own rs)
+own_in_order count rs few fit rises = record {
+  few = omega (arith, few, length-map rs own, rises_few 0 count rs rises (omega arith) fit);
+  each = All-map (EquationFits count count) own rs (λ k d below. let fits = fit (get_or rs k d) (Contains-get_or rs k d below) in (fits, fits));
+  rising = own_rises 0 rs rises;
+}
 
-owns_rise : (r count : ℕ) → Rise (owns r count)
-owns_rise r zero = tt
-owns_rise r (suc zero) = tt
-owns_rise r (suc (suc count)) = (inl (omega arith), owns_rise (suc r) (suc count))
-
-pub owns_in_order : (count : ℕ) → count < 2 ^ 16 → IsInOrder count count (owns 0 count)
-owns_in_order count few = record {
-  few = omega (arith, few, owns_count 0 count);
-  each = λ k d below.
-      let within : k < count = omega (arith, below, owns_count 0 count) in
-      subst (EquationFits count count) (sym (own_at count k d within)) (within, within);
-  rising = owns_rise 0 count;
+-- the lists of live registers, with their slots
+pub own_live : (nodes : List Instruction) (lists : List (List ℕ)) → AreLive nodes lists → AreLiveLists nodes (map (map own) lists)
+own_live nodes lists live = record {
+  count = length-map lists (map own) ∙ live.count;
+  each = λ n. subst (IsLiveList nodes n) (sym (own_at lists n)) (record {
+    rising = own_rises 0 (registers_at lists n) (live.rising n);
+    exactly = λ e. (
+      λ h. let is = own_is (registers_at lists n) e h in (is.0, (live.exactly n e.register).0 is.1),
+      λ h. subst (Contains (map own (registers_at lists n))) (sym h.0) (own_has (registers_at lists n) e.register ((live.exactly n e.register).1 h.1)),
+    );
+  });
 }

@@ -1,6 +1,6 @@
 -- Each register in a slot of its own: what is done for an instruction, with words moved to r0 and r1
 -- before it and from r0 behind it.
-use Rattle.std.specs.Prelude.{ℕ, zero, suc, List, [], ◌∷◌, Option, Some, None, map}
+use Rattle.std.specs.Prelude.{ℕ, List, [], ◌∷◌, Option, Some, None, map}
 use Rattle.std.specs.Option.{option_map}
 use Rattle.locations.specs.declared.location.Location.{Location}
 use Rattle.locations.specs.declared.location.Location.TheVariants.{InRegister, InSlot}
@@ -95,13 +95,6 @@ block_in i = record { before = before_in i; body = body_in i }
 abbrev pub function_in : rtl.FunctionData → ltl.FunctionData
 function_in f = record { parameters = map slot f.parameters; slots = f.registers; entry = f.entry; blocks = map block_in f.nodes }
 
--- ---- equations
-
 -- a register lies in its slot
 abbrev pub own : ℕ → Equation
 own register = record { register = register; location = slot register }
-
--- so many registers from this on
-abbrev pub owns : ℕ → ℕ → List Equation
-owns register zero = []
-owns register (suc count) = own register ∷ owns (suc register) count

@@ -1,40 +1,36 @@
 ghost use Rattle.std.specs.Prelude.{◌≡◌, ◌≢◌, ◌≤◌, IfOk, IfErr};
 ghost use Rattle.alloc_check_rules.specs.Rules.{baseline_limit, IsTooLarge, IsAllocated};
+ghost use Rattle.alloc_check.specs.Baseline.{AreLiveLists};
 ghost use Rattle.alloc_check.specs.Slots.{function_in};
 
-use crate::every::everywhere;
 use crate::function::function_in;
-use crate::live::live_lists;
-use alloc_check_verdict::{EquationLists, check};
+use crate::lists::own_lists;
+use alloc_check_live::live_registers;
+use alloc_check_verdict::EquationLists;
 use lang_base::{NoMemory, PassError};
 use owned::beside;
 use std::alloc::Global;
 
-/// The equations of the registers that are live; were these not accepted, those of every register.
-fn equations_for(
-    alloc: Global,
-    input: &rtl_language::Function,
-    output: &ltl::Function,
-) -> Result<EquationLists, NoMemory>
-    requires few { input.now.registers ≤ baseline_limit }
-    requires slots { output.now ≡ function_in input.now }
-    ensures { IfOk result (IsAllocated input.now output.now) }
+/// The equations of the registers that are live.
+fn live_equations(alloc: Global, input: &rtl_language::Function) -> Result<EquationLists, NoMemory>
+    requires { input.now.registers ≤ baseline_limit }
+    ensures live { IfOk result (λ lists. AreLiveLists input.now.nodes lists) }
+    ensures accepted { IfOk result (λ lists. IsAllocated input.now (function_in input.now) lists) }
 {
-    let few = live_lists(alloc, input)?;
-    if check(alloc, input, output, &few)? {
-        return Ok(few);
-    }
-    let all = everywhere(alloc, input.registers(), input.nodes().len())?;
-    Ok(all)
+    let live = live_registers(alloc, input)?;
+    let _nodes = input.nodes();
+    let lists = own_lists(alloc, live.as_slice())?;
+    Ok(lists)
 }
 
-/// The registers in slots of their own, with the equations of those that are live; were these not
-/// accepted, with those of every register. Refuses more than 2,048 registers.
+/// The registers in slots of their own, with the equations of those that are live. Refuses more than
+/// 2,048 registers.
 pub fn baseline(
     alloc: Global,
     input: &rtl_language::Function,
 ) -> Result<(ltl::Function, EquationLists), PassError>
     ensures output { IfOk result (λ made. made.0 ≡ function_in input.now) }
+    ensures live { IfOk result (λ made. AreLiveLists input.now.nodes made.1) }
     ensures accepted { IfOk result (λ made. IsAllocated input.now made.0 made.1) }
     ensures refused { IfErr result (λ e. e ≢ PassError.NoMemory → IsTooLarge input.now) }
 {
@@ -42,6 +38,6 @@ pub fn baseline(
         return Err(PassError::TooManyRegisters);
     }
     let output = function_in(alloc, input)?;
-    let equations = equations_for(alloc, input, &output);
+    let equations = live_equations(alloc, input);
     Ok(beside(output, equations)?)
 }

@@ -5,9 +5,8 @@
 
 mod base;
 mod blocks;
-mod every;
 mod function;
-mod live;
+mod lists;
 mod nodes;
 mod pass;
 

@@ -1,0 +1,4 @@
+pub mod Tables
+pub mod Risings
+pub mod Walks
+pub mod Lives
