@@ -3,7 +3,7 @@ use Rattle.std.proofs.Common.{◌≡◌, ℕ, zero, suc, ◌<◌, List, [], ◌�
 use Rattle.lang_base.specs.declared.program.Named as code
 use Rattle.rtl_language.specs.Function.{FunctionData}
 use Rattle.linear_language.specs.Function as linear
-use Rattle.linker_passes.specs.Chains.{HasChain, AllChained, made_of, all_made_of, names_of, names_beside}
+use Rattle.linker.specs.Chains.{HasChain, AllChained, made_of, all_made_of, names_of, names_beside}
 use Rattle.chains.specs.declared.offering.Offers.{Offers}
 use Rattle.chains.specs.Lent.{Chain, Named, LendsTo, IsBeside, AreBeside}
 use Rattle.chains.specs.Offered.{GoOnFrom, AllGoOn, ends_of}

@@ -3,9 +3,9 @@ use Rattle.std.proofs.Common.{◌≡◌, ℕ, zero, suc, List, [], ◌∷◌, ta
 use Rattle.std.specs.Prelude.{slice_get}
 use Rattle.lang_base.specs.declared.program.Named as code
 use Rattle.rtl_language.specs.Function.{FunctionData}
-use Rattle.linker_passes.specs.declared.errors.LinkError as chains
-use Rattle.linker_passes.specs.declared.errors.LinkError.TheVariants as chain
-use Rattle.linker_passes.specs.Chains.{HasChain, IsChain, AllChained, Refusal}
+use Rattle.linker.specs.declared.errors.LinkError as chains
+use Rattle.linker.specs.declared.errors.LinkError.TheVariants as chain
+use Rattle.linker.specs.Chains.{HasChain, IsChain, AllChained, Refusal}
 use Rattle.chains.specs.declared.offering.Offers.{Offers}
 use Rattle.chains.specs.Lent.{Chain, Named, LendsTo, AreBeside}
 use Rattle.chains.specs.Offered.{GoOnFrom}

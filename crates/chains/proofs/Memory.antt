@@ -1,4 +1,4 @@
--- Refusals that are for want of memory.
+-- Refusals that say that memory is out.
 use Rattle.std.proofs.Common.{◌≡◌, ◌≢◌, refl, sym, subst}
 use Rattle.lang_base.specs.declared.program.Program.{Program}
 use Rattle.lang_base.specs.declared.errors.PassError.{PassError}
@@ -14,7 +14,7 @@ pub only_memory : (e : PassError) → (e ≢ NoMemory → ⊥) → e ≡ NoMemor
 only_memory NoMemory never = refl
 only_memory TooManyRegisters never = absurd (never (λ e. absurd (cc e)))
 
--- want of memory may be told of any program
+-- out of memory may be told of any program
 pub memory_refused : (program : Program FunctionTree) (e : CompileError) → IsNoMemory e → IsRefused program e
 memory_refused program (Link fault) told = subst (λ g. HasNoTranslation program g) (sym told) tt
 memory_refused program (Pass fault) told = told

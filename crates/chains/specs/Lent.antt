@@ -8,8 +8,8 @@ use Rattle.linear_language.specs.Function as linear
 use Rattle.constprop_check_rules.specs.declared.fact.Fact.{Fact}
 use Rattle.cse_check_rules.specs.declared.equation.Equation as cse
 use Rattle.alloc_check_rules.specs.declared.equation.Equation as alloc
-use Rattle.linker_passes.specs.declared.chain.Chain as linking_chain
-use Rattle.linker_passes.specs.declared.chain.Named as linking_named
+use Rattle.linker.specs.declared.chain.Chain as linking_chain
+use Rattle.linker.specs.declared.chain.Named as linking_named
 use Rattle.chains.specs.declared.offering.Offers.{Offers}
 
 -- the parts of an offer of each pass

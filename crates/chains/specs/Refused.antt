@@ -5,8 +5,8 @@ use Rattle.lang_base.specs.declared.program.Program.{Program}
 use Rattle.lang_base.specs.declared.errors.PassError.TheVariants as pass
 use Rattle.cminor_syntax.specs.Trees.{FunctionTree}
 use Rattle.rtl_language.specs.Function.{FunctionData}
-use Rattle.linker_passes.specs.declared.errors.LinkError.{LinkError}
-use Rattle.linker_passes.specs.declared.errors.LinkError.TheVariants as link
+use Rattle.linker.specs.declared.errors.LinkError.{LinkError}
+use Rattle.linker.specs.declared.errors.LinkError.TheVariants as link
 use Rattle.linker.specs.Refused.{HasNoTranslation}
 use Rattle.chains.specs.declared.errors.CompileError.{CompileError}
 use Rattle.chains.specs.declared.errors.CompileError.TheVariants.{Link, Pass}

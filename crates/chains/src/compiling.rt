@@ -4,8 +4,11 @@ ghost use Rattle.c_program.specs.Meaning.{crun};
 ghost use Rattle.c_checker_rules.specs.Checked.{program_tree};
 ghost use Rattle.cminor_lowering.specs.Programs.{low};
 ghost use Rattle.rtlgen.specs.Refused.{HasFewNodes};
+ghost use Rattle.cminor_program_ranges.specs.Names.{HaveNames};
+ghost use Rattle.lang.specs.Form.{IsProgram};
+ghost use Rattle.linear_language.specs.Function.{IsFunction};
 ghost use Rattle.linear_language.specs.Meaning as linear;
-ghost use Rattle.linker_passes.specs.Chains.{names_of};
+ghost use Rattle.linker.specs.Chains.{names_of, HasNamesOf};
 ghost use Rattle.rtl_language.specs.Meaning as rtl;
 ghost use Rattle.chains.specs.Lent.{AreBeside};
 ghost use Rattle.chains.specs.Offered.{AllGoOn, linked_offers};
@@ -15,8 +18,9 @@ use crate::errors::CompileError;
 use crate::makers::{Maker, offers_of};
 use crate::offering::Offers;
 use c_checker_rules::CProgram;
+use cminor_program_ranges::same_head_fits;
 use lang_base::{Named, NoMemory, Program, keeps_composes};
-use linear_language::Function;
+use linear_language::{Function, Linear};
 use linker::{LinkError, link_translated, translated};
 use std::alloc::Global;
 
@@ -87,7 +91,8 @@ pub fn compile(
     maker: &mut Maker,
 ) -> Result<Program<Function>, CompileError>
     ensures keeps { IfOk result (λ made. Keeps (crun (program_tree program.now)) (linear.run made)) }
-    ensures same_names { IfOk result (λ made. names_of made.functions ≡ names_of (low (program_tree program.now)).functions) }
+    ensures same_names { IfOk result (HasNamesOf (low (program_tree program.now))) }
+    ensures spelled { HaveNames (program_tree program.now) → IfOk result (IsProgram IsFunction) }
 
     // Where memory is not wanting, it is refused exactly where a function needs too many nodes.
     ensures few { OnOk result (All HasFewNodes (low (program_tree program.now)).functions) }
@@ -97,5 +102,6 @@ pub fn compile(
     let begun = translated(alloc, program)?;
     let offers = all_offers(alloc, begun.functions.as_slice(), maker)?;
     let made = link_offers(alloc, &begun, &offers)?;
+    same_head_fits::<Linear>(program, &made);
     Ok(made)
 }

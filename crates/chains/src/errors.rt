@@ -47,7 +47,7 @@ impl From<PassError> for CompileError {
 
 impl From<NoMemory> for CompileError {
     ghost use Rattle.std.specs.Prelude.{◌≡◌};
-    ghost use Rattle.linker_passes.specs.declared.errors.LinkError.TheVariants.{NoMemory};
+    ghost use Rattle.linker.specs.declared.errors.LinkError.TheVariants.{NoMemory};
     ghost use Rattle.chains.specs.declared.errors.CompileError.TheVariants.{Link};
 
     ghost from_gives = { λ _ e. e ≡ Link NoMemory };
@@ -59,7 +59,7 @@ impl From<NoMemory> for CompileError {
 
 impl From<AllocError> for CompileError {
     ghost use Rattle.std.specs.Prelude.{◌≡◌};
-    ghost use Rattle.linker_passes.specs.declared.errors.LinkError.TheVariants.{NoMemory};
+    ghost use Rattle.linker.specs.declared.errors.LinkError.TheVariants.{NoMemory};
     ghost use Rattle.chains.specs.declared.errors.CompileError.TheVariants.{Link};
 
     ghost from_gives = { λ _ e. e ≡ Link NoMemory };
@@ -71,7 +71,7 @@ impl From<AllocError> for CompileError {
 
 impl<T: Drop> From<AllocFailed<T>> for CompileError {
     ghost use Rattle.std.specs.Prelude.{◌≡◌};
-    ghost use Rattle.linker_passes.specs.declared.errors.LinkError.TheVariants.{NoMemory};
+    ghost use Rattle.linker.specs.declared.errors.LinkError.TheVariants.{NoMemory};
     ghost use Rattle.chains.specs.declared.errors.CompileError.TheVariants.{Link};
 
     ghost from_gives = { λ _ e. e ≡ Link NoMemory };

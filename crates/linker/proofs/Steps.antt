@@ -10,10 +10,10 @@ use Rattle.rtlgen.specs.declared.errors.GenError.{GenError}
 use Rattle.rtlgen.specs.declared.errors.GenError.TheVariants as gen_error
 use Rattle.offers.specs.declared.parts.Parts.{Parts}
 use Rattle.rtl_language.specs.Function.{FunctionData}
-use Rattle.linker_passes.specs.declared.chain.Named.{Named}
-use Rattle.linker_passes.specs.declared.errors.LinkError.{LinkError}
-use Rattle.linker_passes.specs.declared.errors.LinkError.TheVariants.{NoMemory, TooManyNodes, Missing, Unchained, Names}
-use Rattle.linker_passes.specs.Chains.{names_of, Refusal}
+use Rattle.linker.specs.declared.chain.Named.{Named}
+use Rattle.linker.specs.declared.errors.LinkError.{LinkError}
+use Rattle.linker.specs.declared.errors.LinkError.TheVariants.{NoMemory, TooManyNodes, Missing, Unchained, Names}
+use Rattle.linker.specs.Chains.{names_of, Refusal}
 use Rattle.linker.specs.Refused.{IsRefused, HasNoTranslation, refusal_to_translate}
 
 -- the translation keeps the names

@@ -1,7 +1,11 @@
+pub mod Chains
+pub mod Linked
+pub mod Numbers
 pub mod Refused
+pub mod Texts
+pub mod Valid
 pub use Rattle.rtlgen_definition.specs.Gen
 pub use Rattle.cminor_lowering.specs.Programs
-pub use Rattle.linker_passes.specs.Chains
-pub use Rattle.linker_passes.specs.Numbers
-pub use Rattle.linker_passes.specs.Texts
+pub use Rattle.cminor_program_ranges.specs.Names
+pub use Rattle.lang.specs.Form
 pub use Rattle.lang_base.specs.Keeps

@@ -8,10 +8,10 @@ use Rattle.rtl_language.specs.Function.{FunctionData}
 use Rattle.rtlgen.specs.Refused.{IsFirstTooLarge}
 use Rattle.rtlgen.specs.declared.errors.GenError.{GenError}
 use Rattle.rtlgen.specs.declared.errors.GenError.TheVariants as gen_error
-use Rattle.linker_passes.specs.declared.chain.Named.{Named}
-use Rattle.linker_passes.specs.Chains.{names_beside, names_of, IsMissing, IsUnchained}
-use Rattle.linker_passes.specs.declared.errors.LinkError.{LinkError}
-use Rattle.linker_passes.specs.declared.errors.LinkError.TheVariants.{NoMemory, TooManyNodes, Missing, Unchained, Names}
+use Rattle.linker.specs.declared.chain.Named.{Named}
+use Rattle.linker.specs.Chains.{names_beside, names_of, IsMissing, IsUnchained}
+use Rattle.linker.specs.declared.errors.LinkError.{LinkError}
+use Rattle.linker.specs.declared.errors.LinkError.TheVariants.{NoMemory, TooManyNodes, Missing, Unchained, Names}
 
 abbrev pub IsRefused : {A2 A3 A4 A5 C1 C2 C3 C4 : Type 0} → Program FunctionTree → List (Named (Parts FunctionData A2 C1) (Parts A2 A3 C2) (Parts A3 A4 C3) (Parts A4 A5 C4)) → LinkError → Type 0
 IsRefused program named NoMemory = Unit {0}

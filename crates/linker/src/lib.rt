@@ -1,9 +1,20 @@
 //! The linker: from a checked C program and four accepted offers of each of its functions, one for each
-//! pass, to one Linear program, which keeps the meaning of the C program.
+//! pass, to one Linear program, which keeps the meaning of the C program. The same over any four passes that
+//! fit one behind another.
 #![tactic(auto)]
 
+mod chain;
+mod errors;
+mod functions;
+mod laws;
+mod linking;
+mod names;
 mod programs;
 mod refusals;
 
-pub use linker_passes::{LinkError, text_chain, text_chains};
+pub use chain::{ChainOf, NamedOf};
+pub use errors::LinkError;
+pub use laws::{text_chain, text_chains};
+pub use linking::link as link_passes;
+pub use names::are_names;
 pub use programs::{Chain, Named, link, link_translated, translated};

@@ -5,21 +5,27 @@ ghost use Rattle.c_checker_rules.specs.Checked.{program_tree};
 ghost use Rattle.cminor_lowering.specs.Programs.{low};
 ghost use Rattle.rtlgen_definition.specs.Gen.{gen};
 ghost use Rattle.rtlgen.specs.Refused.{HasFewNodes};
+ghost use Rattle.cminor_program_ranges.specs.Names.{HaveNames};
+ghost use Rattle.lang.specs.Form.{IsProgram};
+ghost use Rattle.linear_language.specs.Function.{IsFunction};
 ghost use Rattle.linear_language.specs.Meaning as linear;
-ghost use Rattle.linker_passes.specs.Chains.{linked, names_beside, names_of, AllChained, Refusal};
+ghost use Rattle.linker.specs.Chains.{linked, names_beside, names_of, AllChained, HasNamesOf, Refusal};
 ghost use Rattle.linker.specs.Refused.{IsRefused, HasNoTranslation};
 ghost use Rattle.rtl_language.specs.Meaning as rtl;
 
+use crate::chain::{ChainOf, NamedOf};
+use crate::errors::LinkError;
+use crate::names::are_names;
 use crate::refusals::rtl_of;
 use alloc_check::Alloc;
 use c_checker_rules::CProgram;
 use cminor::lower;
+use cminor_program_ranges::same_head_fits;
 use constprop_check::ConstProp;
 use cse_check::Cse;
 use lang_base::{Program, keeps_composes};
-use linear_language::Function;
+use linear_language::{Function, Linear};
 use linearize_check::Linearize;
-use linker_passes::{ChainOf, LinkError, NamedOf, are_names};
 use std::alloc::Global;
 
 /// The offers of one function, one for each pass, in the order of the passes.
@@ -35,7 +41,7 @@ pub fn translated(
     program: &CProgram,
 ) -> Result<Program<rtl_language::Function>, LinkError>
     ensures same { IfOk result (λ made. made ≡ gen (low (program_tree program.now))) }
-    ensures same_names { IfOk result (λ made. names_of made.functions ≡ names_of (low (program_tree program.now)).functions) }
+    ensures same_names { IfOk result (HasNamesOf (low (program_tree program.now))) }
     ensures small { IfOk result (λ made. All (λ f. f.function.registers ≤ 2048) made.functions) }
     ensures keeps { IfOk result (λ made. Keeps (crun (program_tree program.now)) (rtl.run made)) }
 
@@ -68,7 +74,7 @@ pub fn link_translated(
     ensures whole { names_beside named.now ≡ names_of program.now.functions →
         AllChained program.now.functions named.now → IfErr result (λ e. e ≡ LinkError.NoMemory) }
 {
-    linker_passes::link::<ConstProp, Cse, Alloc, Linearize>(alloc, program, named)
+    crate::linking::link::<ConstProp, Cse, Alloc, Linearize>(alloc, program, named)
 }
 
 /// The Linear program of the last outputs, which keeps the meaning of the C program: each function is the
@@ -79,9 +85,12 @@ pub fn link(
     named: &[Named<'_>],
 ) -> Result<Program<Function>, LinkError>
     ensures ok { IfOk result (λ made. made ≡ linked (gen (low (program_tree program.now))) named.now) }
-    ensures same_names { IfOk result (λ made. names_of made.functions ≡ names_of (low (program_tree program.now)).functions) }
+    ensures same_names { IfOk result (HasNamesOf (low (program_tree program.now))) }
     ensures chained { OnOk result (AllChained (gen (low (program_tree program.now))).functions named.now) }
     ensures keeps { IfOk result (λ made. Keeps (crun (program_tree program.now)) (linear.run made)) }
+
+    // Where the C program's functions have C names, as those of a text do, what is linked may be written.
+    ensures spelled { HaveNames (program_tree program.now) → IfOk result (IsProgram IsFunction) }
 
     // Tested first: the names are others, or not as many.
     ensures names { names_beside named.now ≢ names_of (low (program_tree program.now)).functions →
@@ -102,5 +111,6 @@ pub fn link(
     }
     let translated = rtl_of(alloc, &lowered)?;
     let made = link_translated(alloc, &translated, named)?;
+    same_head_fits::<Linear>(program, &made);
     Ok(made)
 }

@@ -8,8 +8,8 @@ ghost use Rattle.rtlgen_definition.specs.Gen.{gen};
 ghost use Rattle.rtlgen.specs.Refused.{HasFewNodes};
 ghost use Rattle.linker.specs.Refused.{refusal_to_translate, HasNoTranslation};
 
+use crate::errors::LinkError;
 use lang_base::Program;
-use linker_passes::LinkError;
 use rtlgen::{GenError, translate};
 use std::alloc::Global;
 

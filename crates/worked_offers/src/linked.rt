@@ -2,7 +2,7 @@
 
 use crate::proposing::{function_of, text_of};
 use lang_base::{Language, Pass, Program, Row};
-use linker_passes::{Chain, ChainOf, LinkError, Named, NamedOf, are_names, link};
+use linker::{ChainOf, LinkError, NamedOf, are_names, link_passes};
 use offers::Offer;
 use program_rows::{bytes_of, numbered};
 use std::alloc::Global;
@@ -53,7 +53,7 @@ fn chain_of<P: Pass>(offers: &Offers<P>) -> Option<ChainOf<'_, P, P, P, P>> {
     let [first, second, third, fourth] = offers.as_slice() else {
         return None;
     };
-    Some(Chain {
+    Some(ChainOf {
         first,
         second,
         third,
@@ -91,7 +91,7 @@ fn beside<'a, P: Pass>(
         let (_name, _input, beside, _texts) = parts_of(word)?;
         let name = beside.as_bytes();
         let chain = chain_of::<P>(offers);
-        named.push(Named { name, chain }).ok()?;
+        named.push(NamedOf { name, chain }).ok()?;
     }
     Some(named)
 }
@@ -107,7 +107,7 @@ pub fn linked_told<L: Language, P: Pass<In = L, Out = L>>(
     let offers = all_offers::<P>(alloc, words.as_slice())?;
     let named = beside::<P>(alloc, words.as_slice(), offers.as_slice())?;
     let are_names = are_names(program.functions.as_slice(), &named);
-    match link::<P, P, P, P>(alloc, &program, &named) {
+    match link_passes::<P, P, P, P>(alloc, &program, &named) {
         Ok(made) if are_names => outputs_told::<L>(alloc, &made),
         Ok(_made) => None,
         Err(fault) => refusal_told(alloc, fault),

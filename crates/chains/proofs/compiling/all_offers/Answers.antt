@@ -1,4 +1,4 @@
--- One more function's offers; those of a function of few registers are refused for want of memory alone.
+-- One more function's offers; those of a function of few registers are refused only where memory is out.
 use Rattle.std.proofs.Common.{◌<◌, sym, subst, arith}
 use native.Mathlib.Numerals.{unary_clauses}
 use Rattle.std.proofs.lemmas.Result.{err_from_is_err_and}

@@ -1,5 +1,5 @@
 -- The translation and the linking, one behind the other; where the program is translated, only memory can be refused.
-use Rattle.std.proofs.Common.{◌≤◌, sym, subst, ◌∙◌}
+use Rattle.std.proofs.Common.{◌≤◌, ap, sym, subst, ◌∙◌}
 use Rattle.std.specs.Prelude.{All}
 use Rattle.std.proofs.lemmas.Result.{err_from_is_err_and}
 use Rattle.c_checker_rules.specs.Checked.{program_tree}
@@ -27,3 +27,11 @@ returns-in_err-made-clause-refused c =
     let all = subst (λ os. AllGoOn c.in_ok-begun.begun.functions os) (sym c.deref.ensures.value) begun in
     let p = err_from_is_err_and c.from_residual-in_err-made.result c.from_residual-in_err-made.ensures.1 in
     rw (p.1, p.2) (memory_refused (low (program_tree c.args.program.now)) (Link c.in_err-made.field-0.0) (c.in_err-made.ensures.whole all))
+
+pub returns-clause-spelled : goal.returns-clause-spelled
+returns-clause-spelled c = λ names.
+    let same = c.in_ok-begun.ensures.same in
+    c.same_head_fits.ensures (record {
+      globals = ap (λ p. p.globals) c.in_ok-made.ensures.ok ∙ ap (λ p. p.globals) same;
+      names = c.in_ok-made.ensures.same_names ∙ c.in_ok-begun.ensures.same_names;
+    }) names

@@ -4,7 +4,7 @@ use Rattle.std.proofs.lemmas.Result.{err_from_is_err_and}
 use Rattle.c_checker_rules.specs.Checked.{program_tree}
 use Rattle.cminor_lowering.specs.Programs.{low}
 use Rattle.rtlgen_definition.specs.Gen.{gen}
-use Rattle.linker_passes.specs.Chains.{names_of, AllChained}
+use Rattle.linker.specs.Chains.{names_of, AllChained}
 use Rattle.linker.specs.Refused.{HasNoTranslation}
 use Rattle.linker.proofs.Steps.{names_translated, refused_along, few_translate, untranslated}
 use Rattle.linker.proofs.programs.link.Goals as goal
@@ -44,3 +44,11 @@ returns-in_err-made-clause-whole c = λ names few chained.
     let chains_are = subst (λ p. AllChained p.functions c.args.named.now) (sym same) chained in
     let p = err_from_is_err_and c.from_residual-in_err-made.result c.from_residual-in_err-made.ensures.1 in
     rw (p.1, p.2) (c.in_err-made.ensures.whole names_are chains_are)
+
+pub returns-clause-spelled : goal.returns-clause-spelled
+returns-clause-spelled c = λ names.
+    let same = c.in_ok-translated.ensures.same ∙ ap gen c.in_ok-lowered.ensures.same in
+    c.same_head_fits.ensures (record {
+      globals = ap (λ p. p.globals) c.in_ok-made.ensures.ok ∙ ap (λ p. p.globals) same;
+      names = c.in_ok-made.ensures.same_names ∙ ap (λ p. names_of p.functions) same ∙ names_translated (low (program_tree c.args.program.now)).functions;
+    }) names

@@ -3,7 +3,7 @@ use Rattle.std.proofs.Common.{ap, ◌∙◌}
 use Rattle.c_checker_rules.specs.Checked.{program_tree}
 use Rattle.cminor_lowering.specs.Programs.{low}
 use Rattle.rtlgen_definition.specs.Gen.{gen}
-use Rattle.linker_passes.specs.Chains.{names_of}
+use Rattle.linker.specs.Chains.{names_of}
 use Rattle.linker.proofs.Steps.{names_translated}
 use Rattle.linker.proofs.programs.translated.Goals as goal
 

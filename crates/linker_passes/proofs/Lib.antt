@@ -1,5 +1,0 @@
-mod EqualNames
-mod Fronts
-mod Keeping
-mod SameTexts
-mod Whole
