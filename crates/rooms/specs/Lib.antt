@@ -1,1 +1,3 @@
 pub mod SeatValue
+pub mod Opened
+pub mod Refusals

@@ -1,13 +1,12 @@
 -- A seat of a room: its words, and what it has seen of the cells.
-use Rattle.std.specs.Prelude.{◌≡◌, ◌≢◌, ℕ, zero, suc, false, List, [], ◌∷◌, ◌++◌, Option, Some, None}
-use Rattle.atomic_table.specs.Seated.{TableId}
+use Rattle.std.specs.Prelude.{◌≡◌, ◌≢◌, ℕ, false, List, Option, Some, None}
 use Rattle.paxos_core_law.specs.NodeState.{offered}
 use Rattle.rooms_cells.specs.declared.sight.Put.{Put}
 use Rattle.rooms_cells.specs.declared.sight.Put.TheVariants as put
-use Rattle.rooms_cells.specs.Seen.{SightOf, names_of, unseen, value_at}
+use Rattle.rooms_cells.specs.Seen.{SightOf, names_of, value_at}
 use Rattle.rooms_seat.specs.declared.meeting.Meeting.{Meeting}
 use Rattle.rooms_seat.specs.declared.meeting.Meeting.TheVariants.{Same}
-use Rattle.rooms_state.specs.SeatState.{SeatState, fresh_seat}
+use Rattle.rooms_state.specs.SeatState.{SeatState}
 
 -- T is what an offer is
 pub record SeatValue (T : Type 0) : Type 0 where
@@ -22,19 +21,6 @@ offer_of s j = value_at s.sights j
 pub record IsOneRoom {T : Type 0} (a b : SeatValue T) : Type 0 where
   pub table : a.words.table ≡ b.words.table
   pub cells : names_of a.sights ≡ names_of b.sights
-
--- node i's seat of a room where nobody has kept anything: which table and which cells the room has
-abbrev pub fresh : {T : Type 0} → TableId → List ℕ → ℕ → ℕ → SeatValue T
-fresh table cells count i = record { words = fresh_seat table count i; sights = unseen cells }
-
--- the seats of the first k nodes, in their order
-abbrev pub fresh_first : {T : Type 0} → TableId → List ℕ → ℕ → ℕ → List (SeatValue T)
-fresh_first table cells count zero = []
-fresh_first table cells count (suc k) = fresh_first table cells count k ++ fresh table cells count k ∷ []
-
--- they are the seats of all nodes of such a room
-abbrev pub AreFresh : {T : Type 0} → ℕ → List (SeatValue T) → Type 0
-AreFresh count seats = (table : TableId) × (cells : List ℕ) × (seats ≡ fresh_first table cells count count)
 
 -- what became of the offer b, that is x: it stands, and the seat has seen it; or it came back, and the seat is as it was
 abbrev pub IsOffered : {B T : Type 0} → Put B → B → T → SeatValue T → SeatValue T → Type 0

@@ -3,12 +3,14 @@
 //! all but `offer` take no memory. What a seat learns is learned in a run of the protocol that has the room's words.
 #![tactic(auto)]
 
+mod error;
 mod meeting;
 mod room;
 mod seat;
 
+pub use error::RoomError;
 pub use meeting::meet;
-pub use room::open;
+pub use room::Room;
 pub use rooms_cells::Put;
 pub use rooms_seat::Meeting;
 pub use rooms_state::act::Act;

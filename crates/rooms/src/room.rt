@@ -1,41 +1,111 @@
-ghost use Rattle.std.specs.Prelude.{IfOk};
+ghost use Rattle.std.specs.Prelude.{◌≡◌, ◌≢◌, ◌<◌, ◌+◌, ◌↔◌, length, IfOk, OnOk, OnErr, Err, is_some, true};
+ghost use Rattle.std.specs.Arc.{arc_value};
 ghost use Rattle.paxos_core_law.specs.NodeState.{IsRoomSize};
-ghost use Rattle.rooms.specs.SeatValue.{AreFresh};
+ghost use Rattle.paxos_core_world.specs.Settled.{Settled};
+ghost use Rattle.paxos_core_world.specs.World.{nodes_of};
+ghost use Rattle.rooms_cells.specs.Seen.{names_of};
+ghost use Rattle.rooms.specs.Opened.{opened, with_seen, AnyOffered, AreOffersOf, AreOpened};
+ghost use Rattle.rooms.specs.declared.error.RoomError.TheVariants as error;
 
+use crate::error::RoomError;
 use crate::seat::Seat;
 use lang_base::Pass;
-use rooms_cells::{Shelf, Sights};
+use offers::Offer;
+use paxos_core::{Kept, settled};
+use rooms_cells::{Put, Shelf, Sights};
 use rooms_seat::Dealer;
-use std::alloc::{AllocError, Global};
+use std::alloc::Global;
 use std::sync::Arc;
 
-/// The seats of a room of `count` nodes that have kept nothing, in the order of the nodes.
-pub fn open<P: Pass>(alloc: Global, count: u8) -> Result<Vec<Seat<P>>, AllocError>
-    requires { IsRoomSize count }
-    ensures { IfOk result (λ seats. AreFresh count seats.items) }
-{
-    let Ok(mut dealer) = Dealer::open(alloc, count) else {
-        return Err(AllocError);
-    };
-    let Ok(shelf) = Arc::new(alloc, Shelf::new(alloc)) else {
-        return Err(AllocError);
-    };
-    let mut seats = Vec::new(alloc);
-    for me in 0..count {
-        let Ok(words) = dealer.deal() else {
-            return Err(AllocError);
-        };
-        let Ok(mine) = Arc::try_clone(&shelf) else {
-            return Err(AllocError);
-        };
-        let _node = me;
-        let seat = Seat {
-            words,
-            sights: Sights::of(mine),
-        };
-        if seats.push(seat).is_err() {
-            return Err(AllocError);
+/// Opens rooms. A room itself is no value: it lasts as long as one of its seats does.
+pub struct Room;
+
+impl Room {
+    /// The seats of a room whose nodes have kept these parts and made these offers, in the order of the nodes.
+    #[tactic(auto, using(crate::proofs::Openings::take_left, crate::proofs::Openings::any_offer))]
+    pub fn open<P: Pass>(
+        alloc: Global,
+        kept: &[Kept],
+        mut offers: Vec<Option<Offer<P>>>,
+    ) -> Result<Vec<Seat<P>>, RoomError>
+        requires size { IsRoomSize (length kept.now) }
+        requires offers { AreOffersOf kept.now offers.items }
+        ensures ok { IfOk result (λ seats. AreOpened kept.now offers.items seats.items) }
+        ensures settled { OnOk result (Settled (length kept.now) (nodes_of kept.now)) }
+        ensures unsettled { (result ≡ Err error.Unsettled) ↔ (¬ Settled (length kept.now) (nodes_of kept.now)) }
+        ensures refused { result ≡ Err error.CellRefused → AnyOffered offers.items }
+    {
+        if !settled(kept) {
+            return Err(RoomError::Unsettled);
         }
+        let Ok(mut dealer) = Dealer::open(alloc, kept) else {
+            return Err(RoomError::NoMemory);
+        };
+        let Ok(shelf) = Arc::new(alloc, Shelf::new(alloc)) else {
+            return Err(RoomError::NoMemory);
+        };
+        let mut seats = Vec::new(alloc);
+        for node in 0..kept.len() {
+            let offer = offers[node].take();
+            let seat = match next_seat(alloc, &mut dealer, &shelf, offer) {
+                Ok(seat) => seat,
+                Err(error) => return Err(error),
+            };
+            if seats.push(seat).is_err() {
+                return Err(RoomError::NoMemory);
+            }
+        }
+        Ok(seats)
     }
-    Ok(seats)
+}
+
+/// The next node's seat, which has put the node's offer into its cell.
+fn next_seat<P: Pass>(
+    alloc: Global,
+    dealer: &mut Dealer,
+    shelf: &Arc<Shelf<Offer<P>>>,
+    offer: Option<Offer<P>>,
+) -> Result<Seat<P>, RoomError>
+    requires size { IsRoomSize dealer.old.opening.count }
+    requires next { dealer.old.next < dealer.old.opening.count }
+    ensures seat { IfOk result (λ seat.
+        seat ≡ opened dealer.old.table (arc_value shelf.now) dealer.old.opening dealer.old.next offer) }
+    ensures ok { OnOk result (dealer.new ≡ record dealer.old { next = dealer.old.next + 1 }) }
+    ensures settled { result ≢ Err error.Unsettled }
+    ensures refused { result ≡ Err error.CellRefused → is_some offer ≡ true }
+{
+    let Ok(words) = dealer.deal() else {
+        return Err(RoomError::NoMemory);
+    };
+    let Ok(shelf) = Arc::try_clone(shelf) else {
+        return Err(RoomError::NoMemory);
+    };
+    let mut sights = Sights::of(shelf);
+    let place = usize::from(words.me());
+    if let Some(offer) = offer {
+        fill(alloc, &mut sights, place, offer)?;
+    }
+    Ok(Seat { words, sights })
+}
+
+/// Puts a node's offer into its cell.
+#[tactic(auto, using(crate::proofs::Openings::put_seen))]
+fn fill<P: Pass>(
+    alloc: Global,
+    sights: &mut Sights<Offer<P>>,
+    node: usize,
+    offer: Offer<P>,
+) -> Result<(), RoomError>
+    requires { node < 7 }
+    ensures ok { OnOk result (sights.new ≡ with_seen node (Some offer) sights.old) }
+    ensures settled { result ≢ Err error.Unsettled }
+{
+    let Ok(offer) = Arc::new(alloc, offer) else {
+        return Err(RoomError::NoMemory);
+    };
+    match sights.put(alloc, node, offer) {
+        Put::Yes => Ok(()),
+        Put::No(_) => Err(RoomError::CellRefused),
+        Put::NoMemory(_) => Err(RoomError::NoMemory),
+    }
 }

@@ -30,7 +30,7 @@ use std::sync::Arc;
 /// holds a proof that the pass's rules hold of it.
 #[derive(Drop)]
 pub struct Seat<P: Pass> {
-    pub(crate) words: WordSeat,
+    pub words: WordSeat,
     pub(crate) sights: Sights<Offer<P>>,
 }
 
@@ -144,7 +144,7 @@ impl<P: Pass> Seat<P> {
         ensures sights { self.new.sights ≡ self.old.sights }
         ensures room { IsOneRoom self.old self.new }
     {
-        self.words.forget();
+        let _found = self.words.forget();
     }
 
     /// The value that the node has learned, the number of the node whose offer it is.
@@ -168,6 +168,13 @@ impl<P: Pass> Seat<P> {
         ensures { result ≡ self.now.words.node.kept }
     {
         self.words.kept()
+    }
+
+    /// The ballot under way, that the node started last since it forgot last.
+    pub fn ballot(&self) -> Option<u16>
+        ensures { result ≡ self.now.words.node.ballot }
+    {
+        self.words.ballot()
     }
 
     /// The number of its node.

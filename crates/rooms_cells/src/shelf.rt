@@ -28,7 +28,9 @@ impl<T: Drop> Model for Shelf<T> {
 
 impl<T: Drop> Shelf<T> {
     /// Seven empty cells. They take no memory until a value is put.
-    pub fn new(alloc: Global) -> Self {
+    pub fn new(alloc: Global) -> Self
+        ensures { length result ≡ 7 }
+    {
         Shelf {
             cells: [
                 OnceBox::new(alloc),

@@ -1,5 +1,5 @@
 -- The rule holds as a room opens, and while its seats are dealt out and tell each other what they have seen.
-use Rattle.std.proofs.Common.{◌≡◌, ◌≢◌, ℕ, zero, suc, ◌+◌, ◌*◌, ◌<◌, ◌≤◌, ◌⊎◌, true, List, [], ◌∷◌, ◌++◌, length, set, get_or, append-nil, None, refl, sym, ap, ◌∙◌, subst, inl, inr, arith}
+use Rattle.std.proofs.Common.{◌≡◌, ◌≢◌, ℕ, zero, suc, ◌+◌, ◌*◌, ◌<◌, ◌≤◌, ◌⊎◌, true, List, [], ◌∷◌, ◌++◌, length, set, get_or, append-nil, Option, Some, None, refl, sym, ap, ◌∙◌, subst, inl, inr, arith}
 use mathlib.Core.Option.{some, some-injective, some-ne-none}
 use lib.ListN.{get_elem?}
 use Rattle.atomic_table.specs.Table.{State, Splits, Joins}
@@ -8,14 +8,14 @@ use Rattle.atomic_table.proofs.Lists.{at_set}
 use Rattle.paxos_core_world.specs.KeptPart.{KeptPart}
 use Rattle.paxos_core_world.specs.Run.{reached}
 use Rattle.paxos_core_world.specs.Settled.{Settled}
-use Rattle.paxos_core_world.specs.World.{World, opening, nodes_of, no_nodes, shown}
+use Rattle.paxos_core_world.specs.World.{World, nodes_of, shown, shown_start, shown_vote}
 use Rattle.paxos_core_world.specs.declared.msg.Msg.{Msg}
-use Rattle.paxos_core_model.proofs.Theorem.{nothing_settled}
+use Rattle.paxos_core_world.specs.declared.vote.Vote.{Vote}
 use Rattle.paxos_core_law.specs.NodeState.{node_with}
 use Rattle.paxos_core_law.proofs.BelongsLemmas.{belongs_with}
 use Rattle.paxos_core_late_offers.specs.LateOffer.{BelongsButOffer}
 use Rattle.paxos_core_late_offers.proofs.LateLemmas.{offers_may_be_late}
-use Rattle.rooms_rule.specs.Words.{IsProposerWord, IsAcceptorWord}
+use Rattle.rooms_rule.specs.Words.{IsProposerWord}
 use Rattle.rooms_rule.specs.declared.event.Event.{Event}
 use Rattle.rooms_rule.specs.declared.view.Opening.{Opening}
 use Rattle.rooms_rule.specs.declared.view.View.{View}
@@ -23,7 +23,7 @@ use Rattle.rooms_rule.specs.Deal.{dealt_node, dealt_to, dealing, dealt, witness,
 use Rattle.rooms_rule.specs.Events.{labels_of}
 use Rattle.rooms_rule.specs.Rule.{AreApart, RoomRule}
 use Rattle.rooms_rule.specs.Views.{world_after, IsLegal, IsMine, Fits}
-use Rattle.rooms_rule.specs.WordsOf.{proposed_under, proposer_at, acceptor_at, IsProposerOf, ShowsWorld}
+use Rattle.rooms_rule.specs.WordsOf.{proposed_under, proposed_by, IsProposerOf, ShowsKept}
 use Rattle.rooms_rule.proofs.RunLemmas.{world_after-append, legal_reached, others_leave}
 
 -- ---- dealing out
@@ -213,36 +213,38 @@ takes_witness {S} o id v other w lives s rule at away there =
 
 -- ---- opening
 
-shown_nothing : (n : ℕ) → shown n no_nodes ≡ []
-shown_nothing zero = refl
-shown_nothing (suc n) = shown_nothing n
+-- no kept part shows a proposal
+shows_none : (b i started : ℕ) (x : Option Vote) (ms : List Msg) → proposed_under b ((shown_start started ++ shown_vote i x) ++ ms) ≡ proposed_under b ms
+shows_none b i zero None ms = refl
+shows_none b i zero (Some x) ms = refl
+shows_none b i (suc s) None ms = refl
+shows_none b i (suc s) (Some x) ms = refl
 
--- a room whose nodes have kept nothing opens with zeros
-pub opens : (o : Opening) (words : List ℕ) → nodes_of o.kept ≡ no_nodes → length words ≡ 2 * o.count → ((k : ℕ) → get_or words k 0 ≡ 0)
+none_proposed : (b n : ℕ) (nodes : ℕ → KeptPart) → proposed_under b (shown n nodes) ≡ None
+none_proposed b zero nodes = refl
+none_proposed b (suc n) nodes = shows_none b n (nodes n).started (nodes n).accepted (shown n nodes) ∙ none_proposed b n nodes
+
+-- the word of a proposer as the room opens is that without a proposal
+pub opening_word : (o : Opening) (i number : ℕ) → IsProposerWord number (nodes_of o.kept i).started None → IsProposerOf (world_after o []) i number
+opening_word o i number h =
+    subst (λ (p : Option ℕ). IsProposerWord number (nodes_of o.kept i).started p) (sym (none_proposed (nodes_of o.kept i).started o.count (nodes_of o.kept))) h
+
+-- nothing is proposed as the room opens
+pub none_proposed_yet : (o : Opening) (i : ℕ) → proposed_by (world_after o []) i ≡ None
+none_proposed_yet o i = none_proposed (nodes_of o.kept i).started o.count (nodes_of o.kept)
+
+-- a room of settled kept parts opens with the words that show them
+pub opens : (o : Opening) (words : List ℕ) → Settled o.count (nodes_of o.kept) → length words ≡ 2 * o.count → ((i : ℕ) → i < o.count → ShowsKept (nodes_of o.kept i) i words)
     → RoomRule o (table.opening {S = Unit {0}} words [] (dealing o 0))
-opens o words empty size zeros =
+opens o words settled size kept =
     record {
       run = [];
       legal = record { settled = settled; run = tt };
-      words = subst (λ (nodes : ℕ → KeptPart). ShowsWorld o.count (opening o.count nodes) words) (sym empty) shows;
+      words = record { size = size; proposers = λ i lt. opening_word o i _ (kept i lt).proposer; acceptors = λ i lt. (kept i lt).acceptor };
       views = λ j u e. at_first j u e (λ x. Fits o [] x) fits;
       apart = λ p q i u w e f mu mw. first_only p u e ∙ sym (first_only q w f);
     }
   where
-    settled : Settled o.count (nodes_of o.kept)
-    settled = subst (λ (nodes : ℕ → KeptPart). Settled o.count nodes) (sym empty) (nothing_settled o.count)
-
-    shows : ShowsWorld o.count (opening o.count no_nodes) words
-    shows =
-        record {
-          size = size;
-          proposers = λ i lt.
-              subst (λ (m : ℕ). IsProposerWord m 0 (proposed_under 0 (shown o.count no_nodes))) (sym (zeros (proposer_at i)))
-              (subst (λ (ms : List Msg). IsProposerWord 0 0 (proposed_under 0 ms)) (sym (shown_nothing o.count)) record { packed = refl; tells_started = refl; tells_proposed = refl });
-          acceptors = λ i lt.
-              subst (λ (m : ℕ). IsAcceptorWord m 0 None) (sym (zeros (acceptor_at i))) record { packed = refl; tells_promised = refl; tells_accepted = refl };
-        }
-
     fits : Fits o [] (dealing o 0)
     fits =
         record {
@@ -262,9 +264,3 @@ opens o words empty size zeros =
     first_only : (j : ℕ) (u : View) → get_elem? (dealing o 0 ∷ []) j ≡ some u → j ≡ 0
     first_only zero u e = refl
     first_only (suc j) u e = absurd (some-ne-none u (sym e))
-
--- 0 is the word of a proposer that has done nothing
-pub zero_words : (o : Opening) (i : ℕ) → nodes_of o.kept ≡ no_nodes → IsProposerOf (world_after o []) i 0
-zero_words o i empty =
-    subst (λ (nodes : ℕ → KeptPart). IsProposerOf (opening o.count nodes) i 0) (sym empty)
-    (subst (λ (ms : List Msg). IsProposerWord 0 0 (proposed_under 0 ms)) (sym (shown_nothing o.count)) record { packed = refl; tells_started = refl; tells_proposed = refl })

@@ -66,6 +66,12 @@ pub record StoresAcceptor (a : Act) (number : ℕ) (v w : View) : Type 0 where
 abbrev pub Forgot : View → View → Type 0
 Forgot v w = Advances v (taken_by_restart v.node) (restarted v.node v.node.kept) w
 
+-- the same, and the number found at this place is the word that stands there in the world then seen
+pub record ForgotAt (place number : ℕ) (v w : View) : Type 0 where
+  pub forgot : Forgot v w
+  pub proposer : (j : ℕ) → place ≡ proposer_at j → j < v.opening.count → IsProposerOf (world_after v.opening w.seen) j number
+  pub acceptor : (j : ℕ) → place ≡ acceptor_at j → j < v.opening.count → IsAcceptorOf (world_after v.opening w.seen) j number
+
 module _ {S : Type 0} where
   -- what the plays tell: of the step, the seat before, the number found or stored, and the seat after
   abbrev pub ProposerLook : Step S → Me S View → ℕ → Me S View → Type 0
@@ -87,4 +93,4 @@ module _ {S : Type 0} where
   AcceptStore s v n w = IfSome (accepted_in n) (λ x. StoresAcceptor (act.Accept x.ballot x.value) n v.0 w.0)
 
   abbrev pub ForgetLook : Step S → Me S View → ℕ → Me S View → Type 0
-  ForgetLook s v n w = Forgot v.0 w.0
+  ForgetLook s v n w = ForgotAt s.word n v.0 w.0

@@ -1,5 +1,6 @@
 -- The words of a world: each node has two, side by side, its proposer's before its acceptor's.
 use Rattle.std.specs.Prelude.{◌≡◌, ℕ, ◌+◌, ◌*◌, ◌<◌, ◌==◌, if◌then◌else◌, List, [], ◌∷◌, Option, Some, None, length, slice_index}
+use Rattle.paxos_core_world.specs.KeptPart.{KeptPart}
 use Rattle.paxos_core_world.specs.World.{World}
 use Rattle.paxos_core_world.specs.declared.msg.Msg.{Msg}
 use Rattle.paxos_core_world.specs.declared.msg.Msg.TheVariants.{Prepare, Promise, Propose, Accepted}
@@ -37,3 +38,8 @@ pub record ShowsWorld (n : ℕ) (w : World) (words : List ℕ) : Type 0 where
   pub size : length words ≡ 2 * n
   pub proposers : (i : ℕ) → i < n → IsProposerOf w i (slice_index words (proposer_at i))
   pub acceptors : (i : ℕ) → i < n → IsAcceptorOf w i (slice_index words (acceptor_at i))
+
+-- among the numbers are the words of node i that show what it has kept: it has proposed nothing yet
+pub record ShowsKept (k : KeptPart) (i : ℕ) (words : List ℕ) : Type 0 where
+  pub proposer : IsProposerWord (slice_index words (proposer_at i)) k.started None
+  pub acceptor : IsAcceptorWord (slice_index words (acceptor_at i)) k.promised k.accepted

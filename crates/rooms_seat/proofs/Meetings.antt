@@ -130,8 +130,8 @@ have_met a b b1 b2 a1 a2 eb lb ea la =
       second_own = kb.seen;
       second_other = kb.told;
       one_run = ka.told;
-      first = record { table = ka.table; me = ka.me; count = ka.count; kept = ka.kept; learned = ka.learned };
-      second = record { table = kb.table; me = kb.me; count = kb.count; kept = kb.kept; learned = kb.learned };
+      first = record { opening = ka.opening; table = ka.table; me = ka.me; count = ka.count; kept = ka.kept; learned = ka.learned };
+      second = record { opening = kb.opening; table = kb.table; me = kb.me; count = kb.count; kept = kb.kept; learned = kb.learned };
     }
 
 pub met_agree : (a b a' b' : SeatState) → HaveMet a b a' b' → IsKnown a' → IsKnown b' → (v u : ℕ) → a'.node.learned ≡ Some v → b'.node.learned ≡ Some u → v ≡ u

@@ -4,6 +4,7 @@ use Rattle.paxos_core_world.specs.Ballot.{Owns}
 use Rattle.paxos_core_world.specs.KeptPart.{IsWithinPromise}
 use Rattle.paxos_core_world.specs.World.{Has}
 use Rattle.paxos_core_late_offers.specs.LateOffer.{BelongsButOffer}
+use Rattle.paxos_core_law.specs.Proposer.{next_proposal}
 use Rattle.rooms_rule.specs.Views.{IsLegal, BeginsWith}
 use Rattle.rooms_state.specs.SeatState.{SeatState, seen_world, proposer_of}
 use Rattle.rooms_seat.specs.declared.meeting.Meeting.{Meeting}
@@ -16,12 +17,14 @@ pub record IsKnown (s : SeatState) : Type 0 where
   pub belongs : BelongsButOffer s.view.opening.count (seen_world s) s.view.node
   pub learned : (v : ℕ) → s.node.learned ≡ Some v → Has (s.node.me, v) (seen_world s).learned
 
--- its numbers: its node is one of the room, a vote is within the promise, and what was seen started is that node's own
+-- its numbers: its node is one of the room, a vote is within the promise, what was seen started is that node's own, and the
+-- value of a proposal fits a word
 pub record IsBounded (s : SeatState) : Type 0 where
   pub number : s.node.me < s.node.count
   pub most : s.node.count ≤ 7
   pub within : IsWithinPromise s.node.kept.promised s.node.kept.accepted
   pub owned : (j : ℕ) → j < s.node.count → ((proposer_of s j).started ≡ 0) ⊎ Owns s.node.count j (proposer_of s j).started
+  pub proposal : (b v : ℕ) → next_proposal s.node ≡ Some (b, v) → v < 256
 
 -- the seat has looked, which left all that it keeps: it has seen what it had seen, and what it was told
 pub record LookedOn (old new : SeatState) : Type 0 where
@@ -38,6 +41,7 @@ pub record LookedOn (old new : SeatState) : Type 0 where
 
 -- what a meeting leaves of a seat
 pub record Remains (old new : SeatState) : Type 0 where
+  pub opening : new.view.opening ≡ old.view.opening
   pub table : new.table ≡ old.table
   pub me : new.node.me ≡ old.node.me
   pub count : new.node.count ≡ old.node.count

@@ -5,13 +5,14 @@ ghost use Rattle.rooms_state.specs.Did.{Did, Forgotten, LookedAtAcceptor, Looked
 ghost use Rattle.rooms_state.specs.Would.{would, IsAmong};
 ghost use Rattle.paxos_core_law.specs.NodeState.{offered};
 ghost use Rattle.rooms_seat.specs.Meeting.{IsBounded, IsKnown};
-ghost use Rattle.rooms_state.specs.SeatState.{empty_opening, fresh_seat, promise_of, seen_world, vote_by, vote_of};
+ghost use Rattle.rooms_state.specs.SeatState.{opened_seat, own_words, CanOpen, promise_of, seen_world, vote_by, vote_of};
 ghost use Rattle.std.specs.Arc.{arc_value};
 ghost use Rattle.paxos_core_law.specs.NodeState.{IsRoomSize};
 ghost use Rattle.rooms_rule.specs.Deal.{dealt, informed};
 ghost use Rattle.rooms_rule.specs.Heard.{after_hearing};
 ghost use Rattle.paxos_core_world.specs.World.{Has};
 
+use crate::opening::{opened_acceptor, opened_proposer};
 use atomic_table::{Seat as Token, Table};
 use paxos_core::{CoreError, Kept, Msg, Node, Step, Vote};
 use rooms_rule::acceptor::AcceptorWord;
@@ -67,30 +68,39 @@ impl Model for WordSeat {
 }
 
 impl WordSeat {
-    /// Node `me`'s seat of a room of `count` nodes that have kept nothing, at the table that its token fits.
-    pub(crate) fn new(board: Arc<Board>, token: Token<(), View>, me: u8, count: u8) -> Self
-        requires size { IsRoomSize count }
-        requires number { me < count }
-        requires table { (token.table_id ≡ (arc_value board).shared.table_id) × (token.table_id.words ≡ 2 * count) }
-        requires view { token.me.0 ≡ dealt (empty_opening count) me }
-        ensures { result ≡ fresh_seat token.table_id count me }
+    /// Node `me`'s seat of a room that opens so, at the table that its token fits.
+    pub(crate) fn new(board: Arc<Board>, token: Token<(), View>, opening: &Opening, me: u8) -> Self
+        requires opening { CanOpen opening.now }
+        requires number { me < opening.now.count }
+        requires table { (token.table_id ≡ (arc_value board).shared.table_id) × (token.table_id.words ≡ 2 * opening.now.count) }
+        requires view { token.me.0 ≡ dealt opening.now me }
+        ensures { result ≡ opened_seat token.table_id opening.now me }
     {
-        let node = Node::new(me, count);
-        let fresh_proposer = ProposerWord {
-            started: 0,
-            proposed: None,
-        };
-        let fresh_acceptor = AcceptorWord {
-            promised: 0,
-            accepted: None,
-        };
+        let kept = opening.kept;
+        let node = Node::new(me, opening.count).restart(kept[usize::from(me)]);
         WordSeat {
             board,
             token,
             node,
             proposed: None,
-            proposers: [fresh_proposer; 7],
-            acceptors: [fresh_acceptor; 7],
+            proposers: [
+                opened_proposer(kept[0]),
+                opened_proposer(kept[1]),
+                opened_proposer(kept[2]),
+                opened_proposer(kept[3]),
+                opened_proposer(kept[4]),
+                opened_proposer(kept[5]),
+                opened_proposer(kept[6]),
+            ],
+            acceptors: [
+                opened_acceptor(kept[0]),
+                opened_acceptor(kept[1]),
+                opened_acceptor(kept[2]),
+                opened_acceptor(kept[3]),
+                opened_acceptor(kept[4]),
+                opened_acceptor(kept[5]),
+                opened_acceptor(kept[6]),
+            ],
         }
     }
 
@@ -243,20 +253,26 @@ impl WordSeat {
         }
     }
 
-    /// Forgets all but what its node keeps and what was last seen of the words, as at a restart: loads its two own words.
-    pub fn forget(&mut self)
-        ensures { Forgotten self.old self.new }
+    /// Forgets all but what its node keeps and what was last seen of the words, as at a restart: loads its two own words,
+    /// and answers what it found there.
+    pub fn forget(&mut self) -> (ProposerWord, AcceptorWord)
+        ensures forgotten { Forgotten self.old self.new }
+        ensures found { result ≡ own_words self.old }
     {
         let place = usize::from(self.node.me());
-        let _proposer = self
+        let proposer = self
             .board
             .shared
             .load::<Forgets>(&mut self.token, 2 * place);
-        let _acceptor = self
+        let acceptor = self
             .board
             .shared
             .load::<Forgets>(&mut self.token, 2 * place + 1);
         self.node.forget();
+        (
+            ProposerWord::unpack(proposer),
+            AcceptorWord::unpack(acceptor),
+        )
     }
 
     /// Notes that the node has offered: its offer stands in a cell, and no word shows it.
@@ -271,6 +287,13 @@ impl WordSeat {
         ensures { result ≡ self.now.node.kept }
     {
         self.node.kept()
+    }
+
+    /// The ballot under way, that the node started last since it forgot last.
+    pub fn ballot(&self) -> Option<u16>
+        ensures { result ≡ self.now.node.ballot }
+    {
+        self.node.ballot()
     }
 
     /// The number of its node.

@@ -1,4 +1,4 @@
 pub mod Moves
 pub mod Acts
-pub mod Fresh
+pub mod Opened
 pub mod Told

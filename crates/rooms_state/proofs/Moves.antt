@@ -17,12 +17,13 @@ use Rattle.rooms_rule.specs.Words.{started_in, proposed_in, promised_in, accepte
 use Rattle.rooms_rule.specs.declared.acceptor.AcceptorWord.{AcceptorWord}
 use Rattle.rooms_rule.specs.declared.proposer.ProposerWord.{ProposerWord}
 use Rattle.rooms_rule.specs.declared.event.Event.{Event}
+use Rattle.rooms_rule.specs.declared.view.Opening.{Opening}
 use Rattle.rooms_rule.specs.declared.view.View.{View}
 use Rattle.rooms_rule.specs.Events.{labels_of, events_of}
 use Rattle.rooms_rule.specs.Heard.{after_hearing, after_shown_vote, taken_by_hearing}
 use Rattle.rooms_rule.specs.NotBelow.{ProposerNotBelow, AcceptorNotBelow}
 use Rattle.rooms_rule.specs.Sight.{ProposerSeen, AcceptorSeen}
-use Rattle.rooms_rule.specs.Steps.{Advances, LooksAtProposer, LooksAtAcceptor, Forgot}
+use Rattle.rooms_rule.specs.Steps.{Advances, LooksAtProposer, LooksAtAcceptor, Forgot, ForgotAt}
 use Rattle.rooms_rule.specs.Views.{world_after, IsLegal}
 use Rattle.rooms_rule.specs.WordsOf.{proposed_by, IsProposerOf, IsAcceptorOf}
 use Rattle.rooms_rule.proofs.Advance.{view_with}
@@ -33,7 +34,7 @@ use Rattle.rooms_rule.proofs.RunLemmas.{world_after-events, world_after-append, 
 use Rattle.rooms_steps.proofs.Stays.{proposer_seen_later, acceptor_seen_later, proposer_seen, acceptor_seen}
 use Rattle.rooms_rule.proofs.WordLemmas.{proposer_of_others}
 use Rattle.rooms_state.specs.Did.{LookedAtAcceptor, LookedAtProposer, Forgotten}
-use Rattle.rooms_state.specs.SeatState.{SeatState, no_proposer, no_acceptor, proposer_of, acceptor_of, seen_world}
+use Rattle.rooms_state.specs.SeatState.{SeatState, no_proposer, no_acceptor, proposer_of, acceptor_of, own_words, seen_world}
 use Rattle.rooms_state.specs.Sound.{IsSound}
 
 pub number_below : (n : ℕ) (w : World) (s : NodeState) → BelongsButOffer n w s → s.me < n
@@ -392,6 +393,43 @@ forgotten table old sound t u et eu mid w h k node en =
       subst (λ (x : TableId). Forgotten old (record old { table = x; view = w; node = restarted old.node old.node.kept })) (sym (eu ∙ et))
           record { between = mid; first = h; second = k; after = refl },
     )
+
+-- what stands in the own words is what the node keeps, and what it has proposed
+pub own_proposer : (table : TableId) (s : SeatState) → IsSound table s → (number : ℕ) → IsProposerOf (seen_world s) s.node.me number → (started_in number ≡ s.node.kept.started) × (proposed_in number ≡ s.proposed)
+own_proposer table s h number p =
+    let mine : s.view.node.me ≡ s.node.me = ap (λ (t : NodeState). t.me) h.node in (
+      p.tells_started
+          ∙ (ap (λ (i : ℕ). ((seen_world s).nodes i).started) (sym mine)
+          ∙ (kept_of s.view.opening.count (seen_world s) s.view.node (λ (k : KeptPart). k.started) (λ k. refl) h.belongs ∙ ap (λ (t : NodeState). t.kept.started) h.node)),
+      p.tells_proposed ∙ (sym h.own.tells_proposed ∙ h.proposed),
+    )
+
+pub own_acceptor : (table : TableId) (s : SeatState) → IsSound table s → (number : ℕ) → IsAcceptorOf (seen_world s) s.node.me number → (promised_in number ≡ s.node.kept.promised) × (accepted_in number ≡ s.node.kept.accepted)
+own_acceptor table s h number p =
+    let mine : s.view.node.me ≡ s.node.me = ap (λ (t : NodeState). t.me) h.node in (
+      p.tells_promised
+          ∙ (ap (λ (i : ℕ). ((seen_world s).nodes i).promised) (sym mine)
+          ∙ (kept_of s.view.opening.count (seen_world s) s.view.node (λ (k : KeptPart). k.promised) (λ k. refl) h.belongs ∙ ap (λ (t : NodeState). t.kept.promised) h.node)),
+      p.tells_accepted
+          ∙ (ap (λ (i : ℕ). ((seen_world s).nodes i).accepted) (sym mine)
+          ∙ (kept_of s.view.opening.count (seen_world s) s.view.node (λ (k : KeptPart). k.accepted) (λ k. refl) h.belongs ∙ ap (λ (t : NodeState). t.kept.accepted) h.node)),
+    )
+
+-- the two loads of a seat that forgets find its own words
+pub found_own : (table : TableId) (old : SeatState) → IsSound table old → (t u : TableId) → t ≡ old.table → u ≡ t → (mid w : View) (place : ℕ) → place ≡ old.node.me → place < old.node.count → (m n : ℕ)
+    → ForgotAt (2 * place) m old.view mid → ForgotAt (2 * place + 1) n mid w → (x : ProposerWord) (y : AcceptorWord)
+    → x.started ≡ started_in m → x.proposed ≡ proposed_in m → y.promised ≡ promised_in n → y.accepted ≡ accepted_in n → (x, y) ≡ own_words old
+found_own table old sound t u et eu mid w place at lt m n h k x y es ep em ea =
+    let first = forgot_sound table old sound t et mid h.forgot in
+    let second = forgot_sound table (record old { table = t; view = mid; node = restarted old.node old.node.kept }) first u eu w k.forgot in
+    let low : place < old.view.opening.count = subst (λ (c : ℕ). place < c) sound.count lt in
+    let opening : mid.opening ≡ old.view.opening = ap (λ (v : View). v.opening) h.forgot.stays in
+    let last : w.opening ≡ mid.opening = ap (λ (v : View). v.opening) k.forgot.stays in
+    let p = own_proposer table (record old { table = t; view = mid; node = restarted old.node old.node.kept }) first m
+    (subst (λ (o : Opening). IsProposerOf (world_after o mid.seen) old.node.me m) (sym opening) (subst (λ (i : ℕ). IsProposerOf (world_after old.view.opening mid.seen) i m) at (h.proposer place refl low))) in
+    let a = own_acceptor table (record old { table = u; view = w; node = restarted old.node old.node.kept }) second n
+    (subst (λ (o : Opening). IsAcceptorOf (world_after o w.seen) old.node.me n) (sym last) (subst (λ (i : ℕ). IsAcceptorOf (world_after mid.opening w.seen) i n) at (k.acceptor place refl (subst (λ (o : Opening). place < o.count) (sym opening) low)))) in
+    λ i. (record { started = (es ∙ p.0) i; proposed = (ep ∙ p.1) i }, record { promised = (em ∙ a.0) i; accepted = (ea ∙ a.1) i })
 
 -- after the node's offer
 pub offer_sound : (table : TableId) (old : SeatState) → IsSound table old → IsSound table (record old { node = offered old.node })

@@ -2,3 +2,4 @@ pub mod SeatState
 pub mod Sound
 pub mod Did
 pub mod Would
+pub mod Opened

@@ -1,11 +1,11 @@
 -- A seat at one moment: what it knows of its room, its node, and what it has last seen of the words.
-use Rattle.std.specs.Prelude.{◌≡◌, ℕ, zero, suc, List, [], ◌∷◌, ◌++◌, replicate, if◌then◌else◌, Option, Some, None, slice_index_or}
+use Rattle.std.specs.Prelude.{◌≡◌, ℕ, List, [], ◌∷◌, length, map, if◌then◌else◌, Option, Some, None, slice_index_or}
 use Rattle.atomic_table.specs.Seated.{TableId}
-use Rattle.paxos_core_world.specs.KeptPart.{nothing_kept, vote}
-use Rattle.paxos_core_world.specs.Settled.{is_given}
-use Rattle.paxos_core_world.specs.World.{World}
+use Rattle.paxos_core_world.specs.KeptPart.{KeptPart, vote}
+use Rattle.paxos_core_world.specs.Settled.{Settled, is_given}
+use Rattle.paxos_core_world.specs.World.{World, nodes_of}
 use Rattle.paxos_core_world.specs.declared.vote.Vote.{Vote}
-use Rattle.paxos_core_law.specs.NodeState.{NodeState, new_node}
+use Rattle.paxos_core_law.specs.NodeState.{NodeState, IsRoomSize, node_with}
 use Rattle.paxos_core_law.specs.Would.{next_promise, next_vote}
 use Rattle.rooms_rule.specs.declared.acceptor.AcceptorWord.{AcceptorWord}
 use Rattle.rooms_rule.specs.declared.proposer.ProposerWord.{ProposerWord}
@@ -31,30 +31,38 @@ no_proposer = record { started = 0; proposed = None }
 abbrev pub no_acceptor : AcceptorWord
 no_acceptor = record { promised = 0; accepted = None }
 
--- a room of so many nodes that have kept nothing
-abbrev pub empty_opening : ℕ → Opening
-empty_opening count = record { count = count; kept = replicate 7 nothing_kept }
-
--- node i's seat of such a room, at this table
-abbrev pub fresh_seat : TableId → ℕ → ℕ → SeatState
-fresh_seat table count i =
+-- a room opened from these kept parts; beyond its nodes nothing is kept
+abbrev pub opening_of : List KeptPart → Opening
+opening_of kept =
     record {
-      table = table;
-      view = dealt (empty_opening count) i;
-      node = new_node i count;
-      proposed = None;
-      proposers = replicate 7 no_proposer;
-      acceptors = replicate 7 no_acceptor;
+      count = length kept;
+      kept = nodes_of kept 0 ∷ nodes_of kept 1 ∷ nodes_of kept 2 ∷ nodes_of kept 3 ∷ nodes_of kept 4 ∷ nodes_of kept 5 ∷ nodes_of kept 6 ∷ [];
     }
 
--- the seats of the first k nodes of such a room, in their order
-abbrev pub fresh_seats : TableId → ℕ → ℕ → List SeatState
-fresh_seats table count zero = []
-fresh_seats table count (suc k) = fresh_seats table count k ++ fresh_seat table count k ∷ []
+-- a room is opened from kept parts of 3, 5 or 7 nodes that are settled
+pub record CanOpen (o : Opening) : Type 0 where
+  pub size : IsRoomSize o.count
+  pub settled : Settled o.count (nodes_of o.kept)
+  pub row : length o.kept ≡ 7
 
--- they are the seats of all nodes of such a room
-abbrev pub AreFresh : ℕ → List SeatState → Type 0
-AreFresh count seats = (table : TableId) × (seats ≡ fresh_seats table count count)
+-- the words of a node as its room opens
+abbrev pub opened_proposer : KeptPart → ProposerWord
+opened_proposer k = record { started = k.started; proposed = None }
+
+abbrev pub opened_acceptor : KeptPart → AcceptorWord
+opened_acceptor k = record { promised = k.promised; accepted = k.accepted }
+
+-- node i's seat as the room opens, at this table: it knows what its node has kept, and has seen all words as they were opened
+abbrev pub opened_seat : TableId → Opening → ℕ → SeatState
+opened_seat table o i =
+    record {
+      table = table;
+      view = dealt o i;
+      node = node_with i o.count (nodes_of o.kept i);
+      proposed = None;
+      proposers = map opened_proposer o.kept;
+      acceptors = map opened_acceptor o.kept;
+    }
 
 -- what was last seen of node j
 abbrev pub proposer_of : SeatState → ℕ → ProposerWord
@@ -80,3 +88,10 @@ vote_by s ballot (Some value) =
 -- the vote for what was last seen proposed by j
 abbrev pub vote_of : SeatState → ℕ → Option Vote
 vote_of s j = vote_by s.node (proposer_of s j).started (proposer_of s j).proposed
+
+-- the two words of the seat's own node
+abbrev pub own_words : SeatState → ProposerWord × AcceptorWord
+own_words s = (
+  record { started = s.node.kept.started; proposed = s.proposed },
+  record { promised = s.node.kept.promised; accepted = s.node.kept.accepted },
+)

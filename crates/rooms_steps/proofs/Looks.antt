@@ -40,7 +40,11 @@ forgets {S} o slots id me k seated =
       takes = offers_may_be_late.forget me.0.node me.0.opening.count (world_after me.0.opening rule.run) (reached_now s id me.0 rule at seated) (belongs_now s id me.0 rule at seated);
       me = refl;
       shows = subst (λ (ws : List ℕ). ShowsWorld me.0.opening.count (world_after me.0.opening rule.run) ws) (sym (set-get_or s.words k 0)) rule.words;
-      told = λ a. a;
+      told = λ a. record {
+        forgot = a;
+        proposer = λ j e lt. subst (λ (p : ℕ). IsProposerOf (world_after me.0.opening rule.run) j (get_or s.words p 0)) (sym e) (rule.words.proposers j lt);
+        acceptor = λ j e lt. subst (λ (p : ℕ). IsAcceptorOf (world_after me.0.opening rule.run) j (get_or s.words p 0)) (sym e) (rule.words.acceptors j lt);
+      };
     })
 
 -- ---- a proposer's word

@@ -1,6 +1,12 @@
-//! Worked runs of rooms: the numbers that words are, and two seats on two threads that see each other's steps.
+//! Worked runs of rooms: the numbers that words are, two seats on two threads that see each other's steps, last ballots, and
+//! random schedules of seats beside the protocol's slow reference.
 #![tactic(auto)]
 
+pub mod opened;
+#[cfg(test)]
+mod schedules;
+#[cfg(test)]
+mod spent;
 #[cfg(test)]
 mod threads;
 #[cfg(test)]

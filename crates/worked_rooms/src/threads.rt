@@ -1,6 +1,8 @@
 //! Two seats of a room of three on two threads: a look that loads nothing would never see the other's step.
 
-use rooms_seat::{Dealer, WordSeat};
+use crate::opened::fresh_three;
+use rooms_seat::WordSeat;
+use std::alloc::Global;
 use std::test::Fail;
 use std::thread;
 
@@ -42,13 +44,21 @@ fn promises(mut seat: WordSeat) -> bool {
     false
 }
 
+/// The seats of nodes 0 and 1.
+fn two_seats(alloc: Global) -> Option<(WordSeat, WordSeat)> {
+    let mut seats = fresh_three(alloc)?;
+    let _third = seats.pop()?;
+    let second = seats.pop()?;
+    Some((seats.pop()?, second))
+}
+
 #[test]
 fn two_threads_see_each_other(rt: HostRuntime) -> Result<(), Fail> {
-    let mut dealer = Dealer::open(rt.alloc(), 3)?;
-    let first = dealer.deal()?;
-    let second = dealer.deal()?;
-    let (led, followed) = thread::join(&rt, move || is_promised(first), move || promises(second));
-    assert!(rt; led);
-    assert!(rt; followed);
+    let mut both = (false, false);
+    if let Some((first, second)) = two_seats(rt.alloc()) {
+        both = thread::join(&rt, move || is_promised(first), move || promises(second));
+    }
+    assert!(rt; both.0);
+    assert!(rt; both.1);
     Ok(())
 }

@@ -1,8 +1,9 @@
-use Rattle.std.proofs.Common.{◌≡◌, ℕ, ◌<◌, ◌⊎◌, get_or, sym, subst}
+use Rattle.std.proofs.Common.{◌≡◌, ℕ, ◌<◌, ◌⊎◌, get_or, sym, subst, arith}
 use Rattle.paxos_core_world.specs.Ballot.{Owns}
 use Rattle.paxos_core_world.specs.KeptPart.{KeptPart, IsWithinPromise}
 use Rattle.rooms_state.specs.SeatState.{SeatState, no_proposer}
 use Rattle.rooms_seat.specs.Meeting.{IsBounded}
+use Rattle.rooms_state.proofs.Acts.{proposed_value}
 use Rattle.rooms_seat.proofs.seat.WordSeat.bounds.Goals as goal
 
 pub returns : goal.returns
@@ -16,4 +17,5 @@ returns c =
       owned = λ j lt.
           subst (λ (n : ℕ). ((get_or c.self.inside.proposers j no_proposer).started ≡ 0) ⊎ Owns n j (get_or c.self.inside.proposers j no_proposer).started) (sym sound.count)
           (sound.owned j (subst (λ (n : ℕ). j < n) sound.count lt));
+      proposal = λ b v e. let low : v < 255 = proposed_value _ _ sound b v e in omega arith;
     }

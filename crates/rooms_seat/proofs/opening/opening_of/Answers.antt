@@ -1,0 +1,5 @@
+use Rattle.rooms_state.proofs.Opened.{can_open}
+use Rattle.rooms_seat.proofs.opening.opening_of.Goals as goal
+
+pub returns-clause-can : goal.returns-clause-can
+returns-clause-can c = rw c.padded-opening.ensures (can_open c.args.kept.now c.requires.size c.requires.settled)

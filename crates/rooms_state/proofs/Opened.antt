@@ -1,0 +1,200 @@
+-- The seats of a room that has just been opened.
+use Rattle.std.proofs.Common.{◌≡◌, ℕ, zero, suc, ◌+◌, ◌*◌, ◌/◌, ◌%◌, ◌<◌, ◌≤◌, ◌⊎◌, List, [], ◌∷◌, ◌++◌, length, map, get_or, set, take, min, length-take, length-set, get_or-set_same, get_or-set_other, Option, Some, None, IfSome, refl, sym, ap, ◌∙◌, subst, inl, inr, arith}
+use native.Mathlib.Decide.{ℕ_discrete}
+use Rattle.atomic_table.specs.Seated.{TableId}
+use Rattle.atomic_table.specs.Table as table
+use Rattle.paxos_core_world.specs.Ballot.{Owns}
+use Rattle.paxos_core_world.specs.KeptPart.{KeptPart, nothing_kept}
+use Rattle.paxos_core_world.specs.Settled.{Settled}
+use Rattle.paxos_core_world.specs.World.{World, nodes_of}
+use Rattle.paxos_core_world.specs.declared.vote.Vote.{Vote}
+use Rattle.paxos_core_law.specs.NodeState.{IsRoomSize}
+use Rattle.rooms_rule.specs.declared.acceptor.AcceptorWord.{AcceptorWord}
+use Rattle.rooms_rule.specs.declared.proposer.ProposerWord.{ProposerWord}
+use Rattle.rooms_rule.specs.declared.view.Opening.{Opening}
+use Rattle.rooms_rule.specs.Deal.{dealing}
+use Rattle.rooms_rule.specs.Rule.{RoomRule}
+use Rattle.rooms_rule.specs.Sight.{ProposerSeen, AcceptorSeen}
+use Rattle.rooms_rule.specs.Views.{world_after, IsLegal}
+use Rattle.rooms_rule.specs.Words.{IsProposerWord, IsAcceptorWord, IsVoteInWord, decoded}
+use Rattle.rooms_rule.specs.WordsOf.{ShowsKept}
+use Rattle.rooms_rule.proofs.Deal.{opens_with, opens, opening_word, none_proposed_yet}
+use Rattle.rooms_rule.proofs.RunLemmas.{legal_reached}
+use Rattle.rooms_steps.proofs.Stays.{proposer_seen, acceptor_seen}
+use Rattle.rooms_state.specs.Opened.{ShowFirst}
+use Rattle.rooms_state.specs.SeatState.{CanOpen, opening_of, opened_proposer, opened_acceptor, opened_seat, no_proposer, no_acceptor}
+use Rattle.rooms_state.specs.Sound.{IsSound}
+
+pub room_size : (n : ℕ) → IsRoomSize n → n ≤ 7
+room_size n (inl e) = omega arith
+room_size n (inr (inl e)) = omega arith
+room_size n (inr (inr e)) = omega arith
+
+-- ---- the kept parts
+
+beyond : {A : Type 0} (xs : List A) (j : ℕ) (d : A) → length xs ≤ j → get_or xs j d ≡ d
+beyond [] j d h = refl
+beyond (x ∷ xs) zero d h = absurd (omega arith)
+beyond (x ∷ xs) (suc j) d h = beyond xs j d (omega arith)
+
+same_node : (kept : List KeptPart) → length kept ≤ 7 → (i : ℕ) → nodes_of (opening_of kept).kept i ≡ nodes_of kept i
+same_node kept most zero = refl
+same_node kept most (suc zero) = refl
+same_node kept most (suc (suc zero)) = refl
+same_node kept most (suc (suc (suc zero))) = refl
+same_node kept most (suc (suc (suc (suc zero)))) = refl
+same_node kept most (suc (suc (suc (suc (suc zero))))) = refl
+same_node kept most (suc (suc (suc (suc (suc (suc zero)))))) = refl
+same_node kept most (suc (suc (suc (suc (suc (suc (suc i))))))) = sym (beyond kept (suc (suc (suc (suc (suc (suc (suc i))))))) nothing_kept (omega arith))
+
+-- the room that is opened has the nodes whose parts were given
+pub same_nodes : (kept : List KeptPart) → IsRoomSize (length kept) → nodes_of (opening_of kept).kept ≡ nodes_of kept
+same_nodes kept size = λ k i. same_node kept (room_size (length kept) size) i k
+
+pub can_open : (kept : List KeptPart) → IsRoomSize (length kept) → Settled (length kept) (nodes_of kept) → CanOpen (opening_of kept)
+can_open kept size settled =
+    record { size = size; settled = subst (λ (nodes : ℕ → KeptPart). Settled (length kept) nodes) (sym (same_nodes kept size)) settled; row = refl }
+
+-- what is seen of node j, in the row of all
+at_map : {A B : Type 0} (f : A → B) (xs : List A) (j : ℕ) (d : A) (e : B) → j < length xs → get_or (map f xs) j e ≡ f (get_or xs j d)
+at_map f [] j d e lt = absurd (omega arith)
+at_map f (x ∷ xs) zero d e lt = refl
+at_map f (x ∷ xs) (suc j) d e lt = at_map f xs j d e (omega arith)
+
+length-map : {A B : Type 0} (f : A → B) (xs : List A) → length (map f xs) ≡ length xs
+length-map f [] = refl
+length-map f (x ∷ xs) = ap suc (length-map f xs)
+
+-- a row of seven, one by one
+pub seven : {A B : Type 0} (f : A → B) (d : A) (xs : List A) → length xs ≡ 7
+    → f (get_or xs 0 d) ∷ f (get_or xs 1 d) ∷ f (get_or xs 2 d) ∷ f (get_or xs 3 d) ∷ f (get_or xs 4 d) ∷ f (get_or xs 5 d) ∷ f (get_or xs 6 d) ∷ [] ≡ map f xs
+seven f d [] e = absurd (omega arith)
+seven f d (x0 ∷ []) e = absurd (omega arith)
+seven f d (x0 ∷ x1 ∷ []) e = absurd (omega arith)
+seven f d (x0 ∷ x1 ∷ x2 ∷ []) e = absurd (omega arith)
+seven f d (x0 ∷ x1 ∷ x2 ∷ x3 ∷ []) e = absurd (omega arith)
+seven f d (x0 ∷ x1 ∷ x2 ∷ x3 ∷ x4 ∷ []) e = absurd (omega arith)
+seven f d (x0 ∷ x1 ∷ x2 ∷ x3 ∷ x4 ∷ x5 ∷ []) e = absurd (omega arith)
+seven f d (x0 ∷ x1 ∷ x2 ∷ x3 ∷ x4 ∷ x5 ∷ x6 ∷ []) e = refl
+seven f d (x0 ∷ x1 ∷ x2 ∷ x3 ∷ x4 ∷ x5 ∷ x6 ∷ x7 ∷ xs) e = absurd (omega arith)
+
+-- ---- a seat
+
+-- the ballot itself is the word of a proposer without a proposal
+bare_word : (started : ℕ) → started ≤ 65535 → IsProposerWord started started None
+bare_word started low =
+    let rest : started % 65536 ≡ started = omega arith in
+    let none : started / 65536 ≡ 0 = omega arith in
+    record {
+      packed = omega arith;
+      tells_started = rest;
+      tells_proposed = ap (λ (code : ℕ). decoded (code % 256)) none;
+    }
+
+low_ballot : (n i b : ℕ) → (b ≡ 0) ⊎ Owns n i b → b ≤ 65535
+low_ballot n i b (inl e) = omega arith
+low_ballot n i b (inr own) = own.last
+
+pub opened_sound : (table t : TableId) (o : Opening) (i : ℕ) → t ≡ table → t.words ≡ 2 * o.count → CanOpen o → i < o.count → IsSound table (opened_seat t o i)
+opened_sound table t o i same words can lt =
+    record {
+      same = same;
+      words = words;
+      count = refl;
+      most = room_size o.count can.size;
+      proposer_row = length-map opened_proposer o.kept ∙ can.row;
+      acceptor_row = length-map opened_acceptor o.kept ∙ can.row;
+      seated = record { live = refl; first = refl; last = refl };
+      node = refl;
+      legal = legal;
+      belongs = opens_with o i can.settled lt;
+      own_word = (nodes_of o.kept i).started;
+      own = opening_word o i (nodes_of o.kept i).started (bare_word (nodes_of o.kept i).started (low_ballot o.count i (nodes_of o.kept i).started (can.settled.ballots i lt).own));
+      proposed = (bare_word (nodes_of o.kept i).started (low_ballot o.count i (nodes_of o.kept i).started (can.settled.ballots i lt).own)).tells_proposed;
+      proposers = λ j jl.
+          proposer_seen o.count (world_after o []) j (get_or (map opened_proposer o.kept) j no_proposer) (legal_reached o [] legal) jl
+          (ap (λ (x : ProposerWord). x.started) (proposer_at_j j jl)) (ap (λ (x : ProposerWord). x.proposed) (proposer_at_j j jl) ∙ sym (none_proposed_yet o j));
+      acceptors = λ j jl.
+          acceptor_seen o.count (world_after o []) j (get_or (map opened_acceptor o.kept) j no_acceptor) (legal_reached o [] legal) jl
+          (ap (λ (x : AcceptorWord). x.promised) (acceptor_at_j j jl)) (ap (λ (x : AcceptorWord). x.accepted) (acceptor_at_j j jl));
+      owned = λ j jl. subst (λ (x : ProposerWord). (x.started ≡ 0) ⊎ Owns o.count j x.started) (sym (proposer_at_j j jl)) (can.settled.ballots j jl).own;
+    }
+  where
+    legal : IsLegal o []
+    legal = record { settled = can.settled; run = tt }
+
+    below : (j : ℕ) → j < o.count → j < length o.kept
+    below j jl = let most : o.count ≤ 7 = room_size o.count can.size in let row : length o.kept ≡ 7 = can.row in omega arith
+
+    proposer_at_j : (j : ℕ) → j < o.count → get_or (map opened_proposer o.kept) j no_proposer ≡ opened_proposer (nodes_of o.kept j)
+    proposer_at_j j jl = at_map opened_proposer o.kept j nothing_kept no_proposer (below j jl)
+
+    acceptor_at_j : (j : ℕ) → j < o.count → get_or (map opened_acceptor o.kept) j no_acceptor ≡ opened_acceptor (nodes_of o.kept j)
+    acceptor_at_j j jl = at_map opened_acceptor o.kept j nothing_kept no_acceptor (below j jl)
+
+-- ---- the words
+
+-- a vote of settled kept parts fits a word
+pub vote_fits : (o : Opening) → CanOpen o → (i : ℕ) → i < o.count → IfSome (nodes_of o.kept i).accepted IsVoteInWord
+vote_fits o can i lt = fits (nodes_of o.kept i).accepted refl
+  where
+    fits : (a : Option Vote) → (nodes_of o.kept i).accepted ≡ a → IfSome a IsVoteInWord
+    fits None e = tt
+    fits (Some x) e =
+        let most : o.count ≤ 7 = room_size o.count can.size in
+        let number : x.value < o.count = (can.settled.vote i x lt e).offered.0 in
+        let within = subst (λ (a : Option Vote). IfSome a (λ y. (1 ≤ y.ballot) × (y.ballot ≤ (nodes_of o.kept i).promised))) e (can.settled.within i lt) in (within.0, omega arith)
+
+-- the words of one node more
+pub one_more : (o : Opening) (i : ℕ) (words : List ℕ) (p a : ℕ) → i < 7 → ShowFirst o i words → IsProposerWord p (nodes_of o.kept i).started None
+    → IsAcceptorWord a (nodes_of o.kept i).promised (nodes_of o.kept i).accepted → ShowFirst o (i + 1) (set (set words (2 * i) p) (2 * i + 1) a)
+one_more o i words p a lt h hp ha =
+    record {
+      size = length-set (set words (2 * i) p) (2 * i + 1) a ∙ (length-set words (2 * i) p ∙ h.size);
+      shown = λ j jl. at j jl (ℕ_discrete j i);
+    }
+  where
+    room : 2 * i < length words
+    room = let e : length words ≡ 14 = h.size in omega arith
+
+    room2 : 2 * i + 1 < length (set words (2 * i) p)
+    room2 = let e : length (set words (2 * i) p) ≡ 14 = length-set words (2 * i) p ∙ h.size in omega arith
+
+    elsewhere : (k : ℕ) → (k ≡ 2 * i → ⊥) → (k ≡ 2 * i + 1 → ⊥) → get_or (set (set words (2 * i) p) (2 * i + 1) a) k 0 ≡ get_or words k 0
+    elsewhere k d e = get_or-set_other (set words (2 * i) p) (2 * i + 1) k a 0 e ∙ get_or-set_other words (2 * i) k p 0 d
+
+    at_i : ShowsKept (nodes_of o.kept i) i (set (set words (2 * i) p) (2 * i + 1) a)
+    at_i =
+        record {
+          proposer = subst (λ (n : ℕ). IsProposerWord n (nodes_of o.kept i).started None) (sym (get_or-set_other (set words (2 * i) p) (2 * i + 1) (2 * i) a 0 (λ e. omega arith) ∙ get_or-set_same words (2 * i) p 0 room)) hp;
+          acceptor = subst (λ (n : ℕ). IsAcceptorWord n (nodes_of o.kept i).promised (nodes_of o.kept i).accepted) (sym (get_or-set_same (set words (2 * i) p) (2 * i + 1) a 0 room2)) ha;
+        }
+
+    at : (j : ℕ) → j < i + 1 → Dec (j ≡ i) → ShowsKept (nodes_of o.kept j) j (set (set words (2 * i) p) (2 * i + 1) a)
+    at j jl (yes e) = subst (λ (k : ℕ). ShowsKept (nodes_of o.kept k) k (set (set words (2 * i) p) (2 * i + 1) a)) (sym e) at_i
+    at j jl (no d) =
+        let old = h.shown j (let less : j ≡ i → ⊥ = d in omega arith) in
+        record {
+          proposer = subst (λ (n : ℕ). IsProposerWord n (nodes_of o.kept j).started None) (sym (elsewhere (2 * j) (λ e. d (omega arith)) (λ e. omega arith))) old.proposer;
+          acceptor = subst (λ (n : ℕ). IsAcceptorWord n (nodes_of o.kept j).promised (nodes_of o.kept j).accepted) (sym (elsewhere (2 * j + 1) (λ e. omega arith) (λ e. d (omega arith)))) old.acceptor;
+        }
+
+at_take : (m k : ℕ) (xs : List ℕ) → k < m → get_or (take m xs) k 0 ≡ get_or xs k 0
+at_take zero k xs lt = absurd (omega arith)
+at_take (suc m) k [] lt = refl
+at_take (suc m) zero (x ∷ xs) lt = refl
+at_take (suc m) (suc k) (x ∷ xs) lt = at_take m k xs (omega arith)
+
+-- the rule holds as the room opens
+pub opens_so : (o : Opening) (m : ℕ) (words : List ℕ) → m ≡ o.count → CanOpen o → ShowFirst o o.count words → RoomRule o (table.opening {S = Unit {0}} (take (2 * m) words) [] (dealing o 0))
+opens_so o m words e can h =
+    subst (λ (n : ℕ). RoomRule o (table.opening {S = Unit {0}} (take (2 * n) words) [] (dealing o 0))) (sym e)
+    (opens o (take (2 * o.count) words) can.settled (length-take (2 * o.count) words ∙ short)
+    (λ i lt. let old = h.shown i lt in
+    record {
+      proposer = subst (λ (n : ℕ). IsProposerWord n (nodes_of o.kept i).started None) (sym (at_take (2 * o.count) (2 * i) words (omega arith))) old.proposer;
+      acceptor = subst (λ (n : ℕ). IsAcceptorWord n (nodes_of o.kept i).promised (nodes_of o.kept i).accepted) (sym (at_take (2 * o.count) (2 * i + 1) words (omega arith))) old.acceptor;
+    }))
+  where
+    short : min (2 * o.count) (length words) ≡ 2 * o.count
+    short = let most : o.count ≤ 7 = room_size o.count can.size in let row : length words ≡ 14 = h.size in omega arith

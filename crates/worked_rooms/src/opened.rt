@@ -1,0 +1,70 @@
+//! The seats of rooms of three and of five nodes.
+
+use paxos_core::{Kept, settled};
+use rooms_seat::{Dealer, WordSeat};
+use std::alloc::Global;
+
+/// The seats of a room whose nodes have kept these parts, if it opens.
+pub fn three(alloc: Global, first: Kept, second: Kept, third: Kept) -> Option<Vec<WordSeat>> {
+    let kept = [first, second, third];
+    if !settled(&kept) {
+        return None;
+    }
+    let Ok(mut dealer) = Dealer::open(alloc, &kept) else {
+        return None;
+    };
+    let Ok(first) = dealer.deal() else {
+        return None;
+    };
+    let Ok(second) = dealer.deal() else {
+        return None;
+    };
+    let Ok(third) = dealer.deal() else {
+        return None;
+    };
+    let mut seats = Vec::new(alloc);
+    seats.push(first).ok()?;
+    seats.push(second).ok()?;
+    seats.push(third).ok()?;
+    Some(seats)
+}
+
+/// The seats of a room of three nodes that have kept nothing.
+pub fn fresh_three(alloc: Global) -> Option<Vec<WordSeat>> {
+    let nothing = Kept::nothing();
+    three(alloc, nothing, nothing, nothing)
+}
+
+/// The seats of a room of five nodes that have kept nothing.
+pub fn fresh_five(alloc: Global) -> Option<Vec<WordSeat>> {
+    let nothing = Kept::nothing();
+    let kept = [nothing, nothing, nothing, nothing, nothing];
+    if !settled(&kept) {
+        return None;
+    }
+    let Ok(mut dealer) = Dealer::open(alloc, &kept) else {
+        return None;
+    };
+    let Ok(first) = dealer.deal() else {
+        return None;
+    };
+    let Ok(second) = dealer.deal() else {
+        return None;
+    };
+    let Ok(third) = dealer.deal() else {
+        return None;
+    };
+    let Ok(fourth) = dealer.deal() else {
+        return None;
+    };
+    let Ok(fifth) = dealer.deal() else {
+        return None;
+    };
+    let mut seats = Vec::new(alloc);
+    seats.push(first).ok()?;
+    seats.push(second).ok()?;
+    seats.push(third).ok()?;
+    seats.push(fourth).ok()?;
+    seats.push(fifth).ok()?;
+    Some(seats)
+}
