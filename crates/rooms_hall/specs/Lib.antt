@@ -1,0 +1,4 @@
+pub mod RoomId
+pub mod Rule
+pub mod Steps
+pub mod Claimed

@@ -1,0 +1,27 @@
+use std::collections::LinkedList;
+use std::marker::Model;
+
+/// Which room it is, as proofs know it: the table of its words, and the names of its cells. No value of it is made.
+pub struct Room {}
+
+impl Model for Room {
+    ghost use Rattle.rooms_hall.specs.RoomId.{RoomId, nowhere, room_id_coded};
+
+    ghost Value = { RoomId };
+
+    ghost coded = { room_id_coded };
+
+    ghost view = { λ r. nowhere };
+}
+
+/// A number that was given, and the room that drew it. No value of it is made.
+pub struct Given {
+    pub number: u64,
+    pub room: Room,
+}
+
+/// What a claim knows of its hall. No value of it is made.
+pub struct View {
+    /// The numbers that it knows of, its own first.
+    pub claims: LinkedList<Given>,
+}

@@ -1,0 +1,2 @@
+pub mod RoomOf
+pub mod Told
