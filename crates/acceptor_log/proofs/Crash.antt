@@ -3,17 +3,17 @@ use Rattle.std.proofs.Common.{◌≡◌, ◌≢◌, inl, inr, ⊎_elim, ℕ, ◌
 use Rattle.std.proofs.Common.{drop, refl, sym, ◌∙◌, ap, subst, append_assoc, append-nil, arith}
 use Rattle.std.specs.Prelude.{All}
 use Rattle.std.proofs.lemmas.Bool.{cases_eq}
-use Rattle.std.proofs.lemmas.List.{take_at, drop_at, drop_more, length-append, take-append-drop}
+use Rattle.std.proofs.lemmas.List.{take_at, drop_at, drop_all, drop_more, length-append, take-append-drop}
 use Rattle.std.proofs.lemmas.List.Elements.{All-push, All-nil}
 use Rattle.durable_model.specs.Writes.{Torn, overwritten, overwritten_within, torn_before}
 use Rattle.durable_model.specs.Honest.{Only}
 use Rattle.acceptor_log_form.specs.declared.header.Header.{Header}
 use Rattle.acceptor_log_form.specs.declared.record.Record.{Record}
-use Rattle.acceptor_log_form.specs.Text.{header_text, block_text, blocks, Fits, StandsFor}
+use Rattle.acceptor_log_form.specs.Text.{header_text, block_text, blocks, journal_text, Fits, StandsFor}
 use Rattle.acceptor_log_form.specs.Lists.{Between}
 use Rattle.acceptor_log_form.proofs.Blocks.{blocks-push_rest}
-use Rattle.acceptor_log_form.proofs.Texts.{before_gate, stands-pieces, pieces-stand, length-header_stands}
-use Rattle.acceptor_log.specs.Rest.{MayTear, IsBlock}
+use Rattle.acceptor_log_form.proofs.Texts.{before_gate, stands-pieces, pieces-stand, length-header_stands, length-header_text, text-stands}
+use Rattle.acceptor_log.specs.Rest.{MayTear, IsBlock, with_record}
 
 module _ (h : Header) (rs : List Record) (bytes : List ℕ) (gate : ℕ) (stands : StandsFor h rs bytes) (at_gate : gate ≡ 38 + length (blocks rs)) where
   abbrev Front : List ℕ
@@ -119,8 +119,8 @@ module _ (h : Header) (rs : List Record) (bytes : List ℕ) (gate : ℕ) (stands
         before_or_after at c (sym (take-append-drop gate c) ∙ ap (λ (l : List ℕ). l ++ drop gate c) front ∙ ap (λ (l : List ℕ). Front ++ l) rest)
 
     -- once the gate is open
-    pub stands-written : (written c : List ℕ) → written ≡ overwritten bytes (gate + 1) block → c ≡ overwritten written gate (1 ∷ []) → StandsFor h (rs ++ r ∷ []) c
-    stands-written written c is opened =
+    opened_is : (written c : List ℕ) → written ≡ overwritten bytes (gate + 1) block → c ≡ overwritten written gate (1 ∷ []) → c ≡ Staged 1
+    opened_is written c is opened =
         let g = stands.records.gate in
         let was : written ≡ Staged g = is ∙ staged in
         let longer : gate < length written = omega (arith, ap length was, length-staged g) in
@@ -128,11 +128,13 @@ module _ (h : Header) (rs : List Record) (bytes : List ℕ) (gate : ℕ) (stands
         let behind : drop (gate + 1) written ≡ block_text r ++ 0 ∷ Rest =
         ap (drop (gate + 1)) (was ∙ sym (append_assoc Front (g ∷ []) (block_text r ++ 0 ∷ Rest)))
         ∙ drop_at (Front ++ g ∷ []) (block_text r ++ 0 ∷ Rest) (gate + 1) size_through in
-        stands-open c
-        (opened ∙ overwritten_within written gate (1 ∷ []) (omega (arith, longer))
+        opened ∙ overwritten_within written gate (1 ∷ []) (omega (arith, longer))
         ∙ ap (λ (l : List ℕ). l ++ (1 ∷ []) ++ drop (gate + 1) written) front
         ∙ ap (λ (l : List ℕ). Front ++ (1 ∷ []) ++ l) behind
-        ∙ append_assoc Front (1 ∷ []) (block_text r ++ 0 ∷ Rest))
+        ∙ append_assoc Front (1 ∷ []) (block_text r ++ 0 ∷ Rest)
+
+    pub stands-written : (written c : List ℕ) → written ≡ overwritten bytes (gate + 1) block → c ≡ overwritten written gate (1 ∷ []) → StandsFor h (rs ++ r ∷ []) c
+    stands-written written c is opened = stands-open c (opened_is written c is opened)
 
     -- where the next gate stands
     pub next-gate : gate + length block ≡ 38 + length (blocks (rs ++ r ∷ []))
@@ -164,6 +166,30 @@ stands-created h old bytes new long are is =
     (is ∙ overwritten_within old 0 bytes (omega arith) ∙ ap (λ (l : List ℕ). l ++ drop (0 + length bytes) old) are
     ∙ append_assoc (header_text h) (0 ∷ []) (drop (0 + length bytes) old)
     ∙ ap (λ (l : List ℕ). l ++ 0 ∷ drop (0 + length bytes) old) (sym (append-nil (header_text h))))
+
+-- on an empty disk
+pub text-created : (h : Header) → overwritten [] 0 (journal_text h []) ≡ journal_text h []
+text-created h =
+    let text = journal_text h [] in
+    overwritten_within [] 0 text (omega arith)
+    ∙ ap (λ (l : List ℕ). text ++ l) (drop_all (0 + length text) [] (omega arith))
+    ∙ append-nil text
+
+-- where nothing stands behind the closed gate, one record more makes the text of the list with it
+pub text-grown : (h : Header) (rs : List Record) (r : Record) → length h.digest ≡ 32 → All Fits rs → Fits r → with_record (journal_text h rs) (38 + length (blocks rs)) r ≡ journal_text h (rs ++ r ∷ [])
+text-grown h rs r long fit fits =
+    let text = journal_text h rs in
+    let gate = 38 + length (blocks rs) in
+    let block = block_text r ++ 0 ∷ [] in
+    let is_block : IsBlock r block = record { fits = fits; text = refl } in
+    let written = overwritten text (gate + 1) block in
+    let staged = opened_is h rs text gate (text-stands h rs long fit) refl r block is_block written (overwritten written gate (1 ∷ [])) refl refl in
+    let none : drop (gate + 1 + length block) text ≡ [] =
+    drop_all (gate + 1 + length block) text (omega (arith, length-header_text h long, length-append (header_text h) (blocks rs ++ 0 ∷ []), length-append (blocks rs) (0 ∷ []))) in
+    staged
+    ∙ ap (λ (l : List ℕ). before_gate h rs ++ 1 ∷ (block_text r ++ 0 ∷ l)) none
+    ∙ append_assoc (header_text h) (blocks rs) (1 ∷ (block_text r ++ 0 ∷ []))
+    ∙ ap (λ (l : List ℕ). header_text h ++ l) (sym (blocks-push_rest rs r (0 ∷ [])))
 
 -- there are at least as many bytes as records
 pub length-blocks : (rs : List Record) → length rs ≤ length (blocks rs)

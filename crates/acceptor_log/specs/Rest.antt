@@ -1,6 +1,6 @@
 -- A disk with a journal on it, between two calls.
 use Rattle.std.specs.Prelude.{◌≡◌, ◌⊎◌, ℕ, ◌+◌, List, [], ◌∷◌, ◌++◌, length}
-use Rattle.durable_model.specs.Writes.{Torn}
+use Rattle.durable_model.specs.Writes.{overwritten, Torn}
 use Rattle.durable_model.specs.Honest.{Only}
 use Rattle.acceptor_log_form.specs.declared.header.Header.{Header}
 use Rattle.acceptor_log_form.specs.declared.record.Record.{Record}
@@ -23,3 +23,11 @@ pub record Rests {D : Type 0} (is_honest : D → Type 0) (seen : D → List ℕ)
 pub record IsBlock (r : Record) (block : List ℕ) : Type 0 where
   pub fits : Fits r
   pub text : block ≡ block_text r ++ 0 ∷ []
+
+-- the bytes, once these stand behind the gate at `gate`, and it is open
+abbrev pub with_block : List ℕ → ℕ → List ℕ → List ℕ
+with_block bytes gate block = overwritten (overwritten bytes (gate + 1) block) gate (1 ∷ [])
+
+-- the bytes, once a record is put down behind the gate at `gate`: its block and a closed gate, and then that gate open
+abbrev pub with_record : List ℕ → ℕ → Record → List ℕ
+with_record bytes gate r = with_block bytes gate (block_text r ++ 0 ∷ [])

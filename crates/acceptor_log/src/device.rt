@@ -7,7 +7,7 @@ ghost use Rattle.durable_model.specs.Moments.{LeavesOnly};
 ghost use Rattle.acceptor_log_form.specs.declared.header.Header.{Header};
 ghost use Rattle.acceptor_log_form.specs.declared.record.Record.{Record};
 ghost use Rattle.acceptor_log_form.specs.Lists.{Between};
-ghost use Rattle.acceptor_log.specs.Rest.{MayTear, Rests, IsBlock};
+ghost use Rattle.acceptor_log.specs.Rest.{MayTear, Rests, IsBlock, with_block};
 
 use durable_model::{Disk, DiskError};
 
@@ -47,6 +47,8 @@ pub fn put<D: Disk>(disk: &mut D, gate: u64, block: &[u8]) -> Result<(), DiskErr
     ensures unwritten { (h : Header) (rs : List Record) (r : Record)
         → Rests D.is_honest D.seen D.may_leave h rs gate disk.old → IsBlock r block.now
         → IsErrOf result DiskError.NoMemory → Unchanged D.seen D.may_leave disk.old disk.new }
+    ensures bytes { D.is_honest disk.old
+        → OnOk result (D.seen disk.new ≡ with_block (D.seen disk.old) gate block.now) }
     ensures later { D.faults disk.old ≤ D.faults disk.new }
     ensures failed { IsErrOf result DiskError.Device → Risen (D.faults disk.old) (D.faults disk.new) }
     ensures unfailed { (IsErrOf result DiskError.Device → ⊥) → D.faults disk.new ≡ D.faults disk.old }

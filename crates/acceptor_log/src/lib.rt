@@ -10,7 +10,7 @@ mod opening;
 
 pub use acceptor_log_form::{
     Header, Listed, LogError, Record, header_bytes, journal_bytes, kept_parts, no_fault, one_list,
-    read, record_bytes, text_stands,
+    read, read_between, record_bytes, text_stands, with_or_without,
 };
-pub use laws::file_survives;
+pub use laws::{at_rest, behind_call, file_survives, text_grows};
 pub use log::Log;

@@ -2,10 +2,11 @@ ghost use Rattle.std.specs.Prelude.{◌≡◌, ◌≢◌, ◌≤◌, ◌<◌, �
 ghost use Rattle.std.specs.Prelude.{IfOk, IfErr, MatchResult};
 ghost use Rattle.durable_model.specs.Honest.{Unchanged, Risen};
 ghost use Rattle.durable_model.specs.Moments.{LeavesOnly};
-ghost use Rattle.acceptor_log_form.specs.Text.{body_text, StandsFor};
+ghost use Rattle.durable_model.specs.Writes.{overwritten};
+ghost use Rattle.acceptor_log_form.specs.Text.{body_text, journal_text, StandsFor};
 ghost use Rattle.acceptor_log_form.specs.Fault.{HasFault};
 ghost use Rattle.acceptor_log_form.specs.Lists.{Between};
-ghost use Rattle.acceptor_log.specs.Rest.{IsBlock};
+ghost use Rattle.acceptor_log.specs.Rest.{IsBlock, with_record};
 
 use crate::device::put;
 use crate::opening::{lay, load};
@@ -42,6 +43,8 @@ impl<D: Disk> Log<D> {
         ensures honest { MatchResult result (λ log. D.is_honest log.disk ↔ D.is_honest disk)
             (λ refused. D.is_honest refused.0 ↔ D.is_honest disk) }
         ensures none { D.is_honest disk → IfOk result (λ log. acknowledged D.seen log ≡ []) }
+        ensures bytes { D.is_honest disk
+            → IfOk result (λ log. D.seen log.disk ≡ overwritten (D.seen disk) 0 (journal_text header.now [])) }
 
         // It does not give up by itself.
         ensures unwritten { D.is_honest disk → IfErr result (λ refused. refused.1 ≢ LogError.Device
@@ -135,6 +138,8 @@ impl<D: Disk> Log<D> {
         ensures err { D.is_honest self.old.disk
             → OnErr result (acknowledged D.seen self.new ≡ acknowledged D.seen self.old) }
         ensures ok { OnOk result ((self.old.going ≡ true) × (self.new.going ≡ true)) }
+        ensures bytes { D.is_honest self.old.disk → OnOk result
+            (D.seen self.new.disk ≡ with_record (D.seen self.old.disk) self.old.gate entry.now) }
 
         // A crash at any moment of the call leaves what was acknowledged before it, with the record or without.
         ensures any_moment { D.is_honest self.old.disk → self.old.going ≡ true
@@ -151,7 +156,8 @@ impl<D: Disk> Log<D> {
         ensures unwritten { D.is_honest self.old.disk
             → IfErr result (λ e. e ≢ LogError.Device → IsUnwritten D.seen D.may_leave self.old self.new) }
         ensures full { result ≡ Err LogError.Full → MOST_BYTES < file_with self.old entry.now }
-        ensures too_long { self.old.going ≡ true → MOST_BYTES < file_with self.old entry.now → result ≡ Err LogError.Full }
+        ensures too_long { self.old.going ≡ true → MOST_BYTES < file_with self.old entry.now
+            → result ≡ Err LogError.Full }
         ensures no_fault { IfErr result IsNoFault }
     {
         if !self.going {
@@ -192,10 +198,10 @@ impl<D: Disk> Log<D> {
 }
 
 /// What is written for a record behind a gate that stands there: its block and a next gate, closed, where the file
-/// has room for it.
+/// has space for it.
 fn block_behind(alloc: Global, gate: u64, entry: &Record) -> Result<Vec<u8>, LogError>
     ensures block { IfOk result (λ block. IsBlock entry.now block.items) }
-    ensures room { IfOk result (λ block. gate + 1 + length block.items ≤ MOST_BYTES) }
+    ensures space { IfOk result (λ block. gate + 1 + length block.items ≤ MOST_BYTES) }
     ensures size { OnOk result (gate + 6 + length (body_text entry.now) ≤ MOST_BYTES) }
     ensures refused { IfErr result (λ e. e ≢ LogError.NoMemory →
         (e ≡ LogError.Full) × (MOST_BYTES < gate + 6 + length (body_text entry.now))) }

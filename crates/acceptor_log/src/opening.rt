@@ -3,7 +3,8 @@
 ghost use Rattle.std.specs.Prelude.{◌≡◌, ◌≢◌, ◌≤◌, ◌+◌, ◌↔◌, [], true, length, OnOk, IfOk, IfErr, MatchResult};
 ghost use Rattle.durable_model.specs.Honest.{Only, Unchanged, Risen};
 ghost use Rattle.durable_model.specs.Moments.{LeavesOnly};
-ghost use Rattle.acceptor_log_form.specs.Text.{blocks, StandsFor};
+ghost use Rattle.durable_model.specs.Writes.{overwritten};
+ghost use Rattle.acceptor_log_form.specs.Text.{blocks, journal_text, StandsFor};
 ghost use Rattle.acceptor_log_form.specs.Fault.{HasFault};
 ghost use Rattle.acceptor_log.specs.Rest.{Rests};
 ghost use Rattle.acceptor_log.specs.Faults.{fault_of};
@@ -18,6 +19,8 @@ pub fn lay<D: Disk>(alloc: Global, header: &Header, disk: &mut D) -> Result<(), 
     ensures honest { D.is_honest disk.new ↔ D.is_honest disk.old }
     ensures rests { D.is_honest disk.old
         → OnOk result (Rests D.is_honest D.seen D.may_leave header.now [] 38 disk.new) }
+    ensures bytes { D.is_honest disk.old
+        → OnOk result (D.seen disk.new ≡ overwritten (D.seen disk.old) 0 (journal_text header.now [])) }
     ensures unwritten { D.is_honest disk.old
         → IfErr result (λ e. e ≢ LogError.Device → Unchanged D.seen D.may_leave disk.old disk.new) }
     ensures faults { IfErr result (λ e. e ≢ LogError.Device → e ≡ LogError.NoMemory) }

@@ -2,3 +2,4 @@ pub mod Blocks
 pub mod Bodies
 pub mod LeavesLemmas
 pub mod Texts
+pub mod Between

@@ -1,12 +1,13 @@
 //! What texts of journals are worth, as contracts of calls that do nothing else.
 
-ghost use Rattle.std.specs.Prelude.{◌≡◌, ◌≢◌, ◌<◌, ◌≤◌, ◌∷◌, ◌++◌, ℕ, List, Some, None, All, length, take};
+ghost use Rattle.std.specs.Prelude.{◌≡◌, ◌⊎◌, [], ◌∷◌, ◌++◌, ℕ, List, Some, All, length};
 ghost use Rattle.acceptor_log_form.specs.declared.header.Header.{Header};
 ghost use Rattle.acceptor_log_form.specs.declared.record.Record.{Record};
-ghost use Rattle.acceptor_log_form.specs.Text.{header_text, journal_text, Fits, StandsFor};
+ghost use Rattle.acceptor_log_form.specs.Text.{journal_text, Fits, StandsFor};
 ghost use Rattle.acceptor_log_form.specs.declared.errors.LogError.{LogError};
 ghost use Rattle.acceptor_log_form.specs.Reading.{listed};
 ghost use Rattle.acceptor_log_form.specs.Fault.{HasFault};
+ghost use Rattle.acceptor_log_form.specs.Lists.{Begins, Between};
 
 /// The list that bytes stand for is the one that they are read as, so they stand for no other.
 pub fn one_list()
@@ -23,4 +24,19 @@ pub fn text_stands()
 pub fn no_fault()
     ensures { (h : Header) (rs : List Record) (bytes : List ℕ) (e : LogError) → StandsFor h rs bytes
         → HasFault h bytes e → ⊥ }
+{}
+
+/// What is read of bytes that are between two lists, as those that a crash leaves: a list that begins with the first and
+/// begins the second. They are not refused.
+pub fn read_between()
+    ensures lists { (h : Header) (low high rs : List Record) (bytes : List ℕ) → Between h low high bytes
+        → StandsFor h rs bytes → Begins low rs × Begins rs high }
+    ensures no_fault { (h : Header) (low high : List Record) (bytes : List ℕ) (e : LogError) → Between h low high bytes
+        → HasFault h bytes e → ⊥ }
+{}
+
+/// Between a list and that with one record more there is no other.
+pub fn with_or_without()
+    ensures { (h : Header) (rs : List Record) (r : Record) (bytes : List ℕ) → Between h rs (rs ++ r ∷ []) bytes
+        → StandsFor h rs bytes ⊎ StandsFor h (rs ++ r ∷ []) bytes }
 {}

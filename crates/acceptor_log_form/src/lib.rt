@@ -13,7 +13,7 @@ mod writing;
 
 pub use errors::LogError;
 pub use header::Header;
-pub use laws::{no_fault, one_list, text_stands};
+pub use laws::{no_fault, one_list, read_between, text_stands, with_or_without};
 pub use reading::{Listed, read};
 pub use record::Record;
 pub use rooms::kept_parts;

@@ -1,10 +1,12 @@
 -- What a disk in memory stands for.
-use Rattle.std.specs.Prelude.{◌≡◌, ◌≤◌, ℕ, List, [], ◌∷◌, ◌++◌, length, refl, ◌⊎◌, ◌<◌, ◌+◌}
+use Rattle.std.specs.Prelude.{◌≡◌, ◌≤◌, ℕ, List, [], ◌∷◌, ◌++◌, length, refl, ◌⊎◌, ◌<◌, ◌+◌, Result, OnOk, IsErrOf}
 use Rattle.std.proofs.Common.{sym, ◌∙◌, ap, subst, arith, length-append}
 use Rattle.std.proofs.lemmas.List.{nil_from_length}
 use Rattle.durable_model.specs.declared.call.Call.{Call}
 use Rattle.durable_model.specs.declared.call.Call.TheVariants.{Wrote, Tore, Synced, Left}
 use Rattle.durable_model.specs.declared.memory.MemoryDisk.{MemoryDisk}
+use Rattle.durable_model.specs.declared.error.DiskError.{DiskError}
+use Rattle.durable_model.specs.declared.error.DiskError.TheVariants.{Device, NoMemory}
 use Rattle.durable_model_writes.specs.Writes.{torn_overwritten, torn_nothing}
 use Rattle.durable_model.specs.History.{noted, after, seen_after, Leaves, MayLeave, LeftSince}
 
@@ -61,6 +63,16 @@ FailsAt n disk = disk.fails ≡ n
 abbrev pub MustFail : ℕ → MemoryDisk → Type 0
 MustFail bytes disk = IsPastCapacity bytes disk ⊎ FailsAt (calls_made disk + 1) disk
 
+-- one call more was counted, which wrote so many bytes
+pub record HasCounted (bytes : ℕ) (old new : MemoryDisk) : Type 0 where
+  pub calls : calls_made new ≡ calls_made old + 1
+  pub written : bytes_noted new ≡ bytes_noted old + bytes
+
+-- no call more was counted
+pub record HasNotCounted (old new : MemoryDisk) : Type 0 where
+  pub calls : calls_made new ≡ calls_made old
+  pub written : bytes_noted new ≡ bytes_noted old
+
 -- the same, where call number n is to fail
 abbrev pub told_to_fail : MemoryDisk → ℕ → MemoryDisk
 told_to_fail disk n = record disk { fails = n }
@@ -68,6 +80,16 @@ told_to_fail disk n = record disk { fails = n }
 -- the capacities are as they were
 abbrev pub KeepsCapacity : MemoryDisk → MemoryDisk → Type 0
 KeepsCapacity old = HasCapacity old.call_capacity old.byte_capacity
+
+-- What a call that was to write so many bytes leaves of what the next ones fail by: the capacities, and which call is to
+-- fail. It is counted, with no bytes where the device failed, unless it was past the capacity or found no memory.
+pub record KeepsCount {T : Type 0} (bytes : ℕ) (result : Result T DiskError) (old new : MemoryDisk) : Type 0 where
+  pub capacity : KeepsCapacity old new
+  pub told : new.fails ≡ old.fails
+  pub ok : OnOk result (HasCounted bytes old new)
+  pub memory : IsErrOf result NoMemory → HasNotCounted old new
+  pub past : IsPastCapacity bytes old → HasNotCounted old new
+  pub failed : IsErrOf result Device → (IsPastCapacity bytes old → ⊥) → HasCounted 0 old new
 
 -- it has noted this call, with what it wrote, and nothing else
 pub record Notes (call : Call) (bytes : List ℕ) (old new : MemoryDisk) : Type 0 where

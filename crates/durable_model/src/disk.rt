@@ -48,13 +48,13 @@ pub trait Disk {
         ensures crash { is_honest self.old
             → Follows (Torn at (length bytes.now)) (may_leave self.old) (may_leave self.new) }
         ensures time { is_honest self.old → Elapses moment left_since may_leave self.old self.new }
-        // Only a write that makes the disk longer wants memory, and then nothing was written.
+        // Only a write that makes the disk longer can be out of memory, and then nothing was written.
         ensures memory { is_honest self.old
             → IsErrOf result NoMemory → Lengthens at (length bytes.now) (seen self.old) }
         ensures unwritten { is_honest self.old → IsErrOf result NoMemory → Unchanged seen may_leave self.old self.new }
         ensures failures { Counts result (faults self.old) (faults self.new) };
 
-    /// After it, where it succeeds, a crash leaves what a read gives. It wants no memory.
+    /// After it, where it succeeds, a crash leaves what a read gives. It takes no memory.
     fn sync(&mut self) -> Result<(), DiskError>
         ensures honest { is_honest self.new ↔ is_honest self.old }
         ensures durable { is_honest self.old → OnOk result (Only (seen self.new) (may_leave self.new)) }

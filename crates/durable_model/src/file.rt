@@ -15,12 +15,10 @@ use std::os::unix::fs::FileExt;
 use std::path::Path;
 
 /// A disk over a file of the operating system, which nobody else writes. A call of the system that fails is a failure
-/// of the device; one that a signal interrupts is made again. Nothing in the language says what a file holds, so the
-/// disk keeps beside it what the file must hold, and each call on it: a read of anything else is a failure of the
-/// device too, also after a write that failed, unless all of it was written. So all that the contract says of reads,
-/// writes and syncs is proved. What is left of the premise that a file is honest is one thing, `WasHonest`: that a crash
-/// leaves of it what the contract allows. A sync that failed may have lost what was written, which no later sync would
-/// tell: so each later one fails too, until the file is opened again.
+/// of the device. Nothing in the language says what a file holds, so the disk keeps beside it what the file must hold,
+/// and each call on it: a read of anything else is a failure of the device too. So all that the contract says is proved,
+/// and one premise is left, `WasHonest`: that a crash leaves of the file what the contract allows. A sync that failed may
+/// have lost what was written, which no later one would tell: so each later one fails, until the file is opened again.
 ///
 /// A sync takes no memory: a write takes what the note of the sync behind it needs. One that makes the file longer takes
 /// beside this what a write of one byte and its sync need, such as opens a gate.

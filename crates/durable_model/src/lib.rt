@@ -1,7 +1,6 @@
 //! A disk as a journal sees it: what a read gives, what a crash at any moment may leave, and how often the device
 //! failed. [`Disk`] is the contract of an honest disk, [`MemoryDisk`] one that fails and crashes as it is told, and
-//! [`FileDisk`] one over a real file: it is honest as far as a program can see, and what a crash leaves of the file is a
-//! premise with a name.
+//! [`FileDisk`] one over a real file, of which what a crash leaves is a premise with a name.
 #![tactic(auto)]
 
 mod call;

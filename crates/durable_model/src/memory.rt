@@ -42,10 +42,10 @@ impl MemoryDisk {
     ghost use Rattle.std.specs.Prelude.{◌≡◌, ◌<◌, ◌≤◌, ◌↔◌, ◌+◌, [], false, length, IsTrue, IfOk, OnOk, OnErr};
     ghost use Rattle.durable_model.specs.Honest.{Only, Follows, Unchanged, Elapses};
     ghost use Rattle.durable_model.specs.History.{size_of};
-    ghost use Rattle.durable_model.specs.Memory.{seen_by_memory, memory_may_leave, memory_faults};
-    ghost use Rattle.durable_model.specs.Memory.{memory_moment, memory_left_since};
-    ghost use Rattle.durable_model.specs.Memory.{calls_made, bytes_noted, told_to_fail, FailsAt, IsPastCapacity};
-    ghost use Rattle.durable_model.specs.Memory.{IsSettled, HasCapacity, KeepsCapacity, Notes, StandsAs};
+    ghost use Rattle.durable_model.specs.Memory.{seen_by_memory, memory_may_leave, memory_faults, memory_moment};
+    ghost use Rattle.durable_model.specs.Memory.{memory_left_since, calls_made, bytes_noted, told_to_fail, FailsAt};
+    ghost use Rattle.durable_model.specs.Memory.{IsPastCapacity, IsSettled, HasCapacity, KeepsCapacity, HasCounted};
+    ghost use Rattle.durable_model.specs.Memory.{HasNotCounted, Notes, StandsAs};
     ghost use Rattle.durable_model_writes.specs.Writes.{overwritten, Lengthens, Torn};
 
     /// An empty disk that can note so many calls, and so many bytes in its writes. A call past that is a failure
@@ -54,6 +54,7 @@ impl MemoryDisk {
         ensures empty { IfOk result (λ disk. seen_by_memory disk ≡ []) }
         ensures settled { IfOk result IsSettled }
         ensures capacity { IfOk result (HasCapacity calls bytes) }
+        ensures none_fails { IfOk result (FailsAt 0) }
         ensures whole { IfOk result (λ disk. memory_faults disk ≡ 0) }
     {
         MemoryDisk::holding(alloc, Vec::new(alloc), calls, bytes)
@@ -69,6 +70,7 @@ impl MemoryDisk {
         ensures seen { IfOk result (λ disk. seen_by_memory disk ≡ content.items) }
         ensures settled { IfOk result IsSettled }
         ensures capacity { IfOk result (HasCapacity calls bytes) }
+        ensures none_fails { IfOk result (FailsAt 0) }
         ensures whole { IfOk result (λ disk. memory_faults disk ≡ 0) }
     {
         Ok(MemoryDisk {
@@ -98,6 +100,7 @@ impl MemoryDisk {
         ensures image { IfOk result (λ disk. memory_may_leave self.now (seen_by_memory disk)) }
         ensures settled { IfOk result IsSettled }
         ensures capacity { IfOk result (KeepsCapacity self.now) }
+        ensures none_fails { IfOk result (FailsAt 0) }
         ensures whole { IfOk result (λ disk. memory_faults disk ≡ 0) }
     {
         let image = torn_image(
@@ -150,6 +153,9 @@ impl MemoryDisk {
         ensures memory { OnErr result (Lengthens at (length bytes.now) (seen_by_memory self.old)) }
         ensures unwritten { OnErr result (Unchanged seen_by_memory memory_may_leave self.old self.new) }
         ensures capacity { KeepsCapacity self.old self.new }
+        ensures told { self.new.fails ≡ self.old.fails }
+        ensures counted { OnOk result (HasCounted (length bytes.now) self.old self.new) }
+        ensures uncounted { OnErr result (HasNotCounted self.old self.new) }
         ensures calls { calls_made self.new ≤ calls_made self.old + 1 }
         ensures failures { self.new.failures ≡ self.old.failures }
     {
@@ -165,6 +171,9 @@ impl MemoryDisk {
         ensures durable { Only (seen_by_memory self.new) (memory_may_leave self.new) }
         ensures unchanged { Unchanged seen_by_memory memory_may_leave self.old self.new }
         ensures time { Elapses memory_moment memory_left_since memory_may_leave self.old self.new }
+        ensures capacity { KeepsCapacity self.old self.new }
+        ensures told { self.new.fails ≡ self.old.fails }
+        ensures counted { HasCounted 0 self.old self.new }
         ensures failures { self.new.failures ≡ self.old.failures }
     {
         self.note_call(Call::Synced);
@@ -177,6 +186,9 @@ impl MemoryDisk {
         requires nothing { size_of call ≡ 0 }
         ensures notes { Notes call [] self.old self.new }
         ensures bytes { self.new.bytes ≡ self.old.bytes }
+        ensures capacity { KeepsCapacity self.old self.new }
+        ensures told { self.new.fails ≡ self.old.fails }
+        ensures counted { HasCounted 0 self.old self.new }
         ensures failures { self.new.failures ≡ self.old.failures }
     {
         note(&mut self.calls, call);
@@ -205,9 +217,9 @@ impl Disk for MemoryDisk {
     ghost use Rattle.std.specs.Prelude.{◌≡◌, ◌↔◌, length, ⊤, IfOk, OnOk, IsErrOf};
     ghost use Rattle.durable_model_writes.specs.Writes.{overwritten, Lengthens, Torn};
     ghost use Rattle.durable_model.specs.Honest.{Only, Follows, Unchanged, Elapses, Counts};
-    ghost use Rattle.durable_model.specs.Memory.{seen_by_memory, memory_faults, MustFail};
-    ghost use Rattle.durable_model.specs.Memory.{memory_may_leave, memory_moment, memory_left_since};
-    ghost use Rattle.durable_model.specs.Memory.{left_as_kept, counts_as_kept, only_as_kept};
+    ghost use Rattle.durable_model.specs.Memory.{seen_by_memory, memory_faults, memory_may_leave, memory_moment};
+    ghost use Rattle.durable_model.specs.Memory.{memory_left_since, MustFail, KeepsCount, left_as_kept};
+    ghost use Rattle.durable_model.specs.Memory.{counts_as_kept, only_as_kept};
 
     ghost is_honest = { λ _. ⊤ };
 
@@ -233,6 +245,7 @@ impl Disk for MemoryDisk {
         ensures time { Elapses memory_moment memory_left_since memory_may_leave self.old self.new }
         ensures failures { Counts result (memory_faults self.old) (memory_faults self.new) }
         ensures fails { IsErrOf result DiskError.Device ↔ MustFail 0 self.old }
+        ensures count { KeepsCount 0 result self.old self.new }
     {
         if !self.has_capacity(0) {
             return Err(failed(&mut self.failures));
@@ -256,6 +269,7 @@ impl Disk for MemoryDisk {
             → Unchanged seen_by_memory memory_may_leave self.old self.new }
         ensures failures { Counts result (memory_faults self.old) (memory_faults self.new) }
         ensures fails { IsErrOf result DiskError.Device ↔ MustFail (length bytes.now) self.old }
+        ensures count { KeepsCount (length bytes.now) result self.old self.new }
     {
         let at = at as usize;
         if !self.has_capacity(bytes.len()) {
@@ -276,6 +290,7 @@ impl Disk for MemoryDisk {
         ensures memory { IsErrOf result DiskError.NoMemory → ⊥ }
         ensures failures { Counts result (memory_faults self.old) (memory_faults self.new) }
         ensures fails { IsErrOf result DiskError.Device ↔ MustFail 0 self.old }
+        ensures count { KeepsCount 0 result self.old self.new }
     {
         if !self.has_capacity(0) {
             return Err(failed(&mut self.failures));

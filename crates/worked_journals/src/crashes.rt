@@ -1,6 +1,8 @@
 //! Appends on disks that fail and crash.
 
-use acceptor_log::{Header, Log, Record};
+ghost use Rattle.acceptor_log.specs.Acknowledged.{IsSound};
+
+use acceptor_log::{Header, Log, LogError, Record};
 use durable_model::{Disk, MemoryDisk};
 use lang_base::Row;
 use rand_pcg::Pcg32;
@@ -30,8 +32,9 @@ pub fn all_survive(alloc: Global, appends: u16, calls: usize) -> Option<bool> {
     Some(true)
 }
 
-/// Makes a journal and appends so many records, up to the first that is refused; tells how many were acknowledged.
-fn filled<D: Disk>(alloc: Global, disk: D, appends: u16) -> Option<(D, Option<u16>)> {
+/// Makes a journal and appends so many records, up to the first that is refused; tells how many were acknowledged. What is
+/// refused is refused since the device failed, and from then on the journal has stopped; else there is no answer.
+fn filled<D: Disk + Drop>(alloc: Global, disk: D, appends: u16) -> Option<(D, Option<u16>)> {
     let mut log = match Log::create(alloc, disk, &HEADER) {
         Ok(log) => log,
         Err((disk, _refused)) => return Some((disk, None)),
@@ -41,12 +44,25 @@ fn filled<D: Disk>(alloc: Global, disk: D, appends: u16) -> Option<(D, Option<u1
         let Some(entry) = entry_of(alloc, number) else {
             break;
         };
-        if log.append(&entry).is_err() {
-            break;
+        match log.append(&entry) {
+            Ok(()) => done = number + 1,
+            Err(LogError::Device) => {
+                if !has_stopped(&mut log, &entry) {
+                    return None;
+                }
+                break;
+            }
+            Err(_) => return None,
         }
-        done = number + 1;
     }
     Some((log.into_disk(), Some(done)))
+}
+
+/// Whether the journal answers that it has stopped.
+fn has_stopped<D: Disk>(log: &mut Log<D>, entry: &Record) -> bool
+    requires { IsSound D.is_honest D.seen D.may_leave log.old }
+{
+    matches!(log.append(entry), Err(LogError::Stopped))
 }
 
 /// Whether a crash leaves a journal of the first so many records, or of one more.

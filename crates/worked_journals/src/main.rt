@@ -7,9 +7,11 @@
 //! | `open HEADER JOURNAL` | how many records are listed where the bytes lie on a disk, or the number of the fault |
 //! | `cuts HEADER JOURNAL` | what each front of the journal stands for, from no bytes to all: the records or the name of the fault, with how often it comes in a row |
 //! | `changed-AT HEADER JOURNAL` | the same with the byte at that place set to 0, 1, .. 255 |
-//! | `crashes APPENDS CALLS` | `yes`, where with each of so many calls of the disk failing in turn, and 16 crashes behind each, a journal opens with what was acknowledged, with one record more or without |
+//! | `again HEADER JOURNAL` | `yes`, where the records that the bytes stand for, appended to a new journal, make those bytes |
+//! | `crashes APPENDS CALLS` | `yes`, where with each of so many calls of the disk failing in turn, and 16 crashes behind each, a journal that tells the failure and then that it has stopped opens with what was acknowledged, with one record more or without |
 #![tactic(auto)]
 
+mod again;
 mod changes;
 mod crashes;
 mod rows;

@@ -1,3 +1,4 @@
+use crate::again::is_made_again;
 use crate::changes::{changed, cut};
 use crate::crashes::all_survive;
 use acceptor_log::{Header, Log, LogError, Record, read};
@@ -36,6 +37,10 @@ fn asked(alloc: Global, word: &str, header: &str, journal: &str) -> Option<Strin
             Err(fault) => refused(alloc, fault),
         },
         "open" => opened(alloc, &header, bytes.as_slice()),
+        "again" => {
+            let is_same = is_made_again(alloc, &header, bytes.as_slice())?;
+            owned(alloc, if is_same { "yes" } else { "no" })
+        }
         "cuts" => cut(alloc, &header, bytes.as_slice()),
         _ => {
             let at = word.strip_prefix("changed-")?.parse().ok()?;

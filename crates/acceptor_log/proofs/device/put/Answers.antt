@@ -1,5 +1,7 @@
 -- Behind a closed gate nothing counts, and once the block is whole behind it either gate is right.
-use Rattle.std.proofs.Common.{◌+◌, [], ◌∷◌, ◌++◌, length}
+use Rattle.std.proofs.Common.{◌≡◌, ◌+◌, [], ◌∷◌, ◌++◌, List, ℕ, length, subst}
+use Rattle.std.specs.Result.{OnOk}
+use Rattle.durable_model.specs.Writes.{overwritten}
 use Rattle.durable_model.specs.Moments.{composed, weaker}
 use Rattle.acceptor_log_form.specs.Lists.{Between}
 use Rattle.acceptor_log.specs.Rest.{MayTear}
@@ -26,6 +28,12 @@ returns-in-Ok-clause-any_moment g c h rs r rests is_block =
     (between-first h rs (disk.seen old) c.args.gate rests.stands rests.at_gate r c.args.block.now is_block (disk.may_leave old) rests.durable (length c.args.block.now))
     (between-second h rs (disk.seen old) c.args.gate rests.stands rests.at_gate r c.args.block.now is_block (disk.seen mid) (disk.may_leave mid)
     (c.in-Ok.ensures.written rests.honest) (c.in-Ok.ensures.durable rests.honest))
+
+pub returns-in-Ok-clause-bytes : goal.returns-in-Ok-clause-bytes
+returns-in-Ok-clause-bytes g c honest =
+    let seen = g.D.Disk.seen in
+    subst (λ (l : List ℕ). OnOk c.write_durably-in-Ok.result (seen c.write_durably-in-Ok.new.disk ≡ overwritten l c.args.gate (1 ∷ [])))
+    (c.in-Ok.ensures.written honest) (c.write_durably-in-Ok.ensures.written (c.write_durably.ensures.honest.1 honest))
 
 pub returns-in-Ok-clause-written : goal.returns-in-Ok-clause-written
 returns-in-Ok-clause-written g c h rs r rests is_block =

@@ -1,8 +1,14 @@
 -- What was written stands at the front, and a closed gate behind it.
 use Rattle.std.proofs.Common.{◌≡◌, ℕ, List, [], ◌∷◌, ◌++◌, length, sym, ap, ◌∙◌, arith}
+use Rattle.durable_model.specs.Writes.{overwritten}
 use Rattle.acceptor_log_form.specs.Text.{header_text}
 use Rattle.acceptor_log.proofs.Crash.{stands-created}
 use Rattle.acceptor_log.proofs.opening.lay.Goals as goal
+
+pub returns-in-Ok-clause-bytes : goal.returns-in-Ok-clause-bytes
+returns-in-Ok-clause-bytes g c honest =
+    let are : c.as_slice.result.now ≡ header_text c.args.header.now ++ 0 ∷ [] = c.as_slice.ensures.value ∙ c.in_ok-push.ensures.items ∙ ap (λ (l : List ℕ). l ++ 0 ∷ []) c.in_ok-bytes.ensures.text in
+    c.in-Ok.ensures.written honest ∙ ap (λ (l : List ℕ). overwritten (g.D.Disk.seen c.args.disk.now) 0 l) are
 
 pub returns-in-Ok-clause-rests : goal.returns-in-Ok-clause-rests
 returns-in-Ok-clause-rests g c honest =

@@ -1,8 +1,8 @@
 -- The disk rests on what is acknowledged, and after the two writes on one record more.
-use Rattle.std.proofs.Common.{◌≡◌, ◌≢◌, ◌+◌, [], ◌∷◌, ◌++◌, length, Err, refl, sym, ap, subst, arith}
+use Rattle.std.proofs.Common.{◌≡◌, ◌≢◌, ◌+◌, ℕ, List, [], ◌∷◌, ◌++◌, ◌∙◌, length, Err, refl, sym, ap, subst, arith}
 use Rattle.std.proofs.lemmas.List.{length_push}
 use Rattle.acceptor_log_form.specs.declared.errors.LogError.TheVariants.{NoMemory, Device}
-use Rattle.acceptor_log.specs.Rest.{Rests, IsBlock}
+use Rattle.acceptor_log.specs.Rest.{Rests, IsBlock, with_block}
 use Rattle.acceptor_log.specs.Acknowledged.{acknowledged}
 use Rattle.acceptor_log.proofs.Ready.{first_of, first_of-between, first_of-rests, rests-first_of, counted-first_of}
 use Rattle.acceptor_log.proofs.Ready.{rests-unchanged}
@@ -98,3 +98,8 @@ returns-in-Ok-put-clause-sound g c honest going =
           (rests-first_of disk.is_honest disk.seen disk.may_leave old.header more gate (old.count + 1) new rests counted);
       counted = counted-first_of disk.is_honest disk.seen disk.may_leave old.header more gate (old.count + 1) new rests counted;
     }
+
+pub returns-in-Ok-put-clause-bytes : goal.returns-in-Ok-put-clause-bytes
+returns-in-Ok-put-clause-bytes g c honest =
+    c.in-Ok-put.ensures.bytes honest
+    ∙ ap (λ (l : List ℕ). with_block (g.D.Disk.seen c.args.self.now.disk) c.args.self.now.gate l) (c.as_slice.ensures.value ∙ c.in-Ok.ensures.block.text)

@@ -3,5 +3,4 @@ use Rattle.durable_model.proofs.memory.MemoryDiskDisk.write_at.Goals as goal
 
 pub returns-then-fails_now-clause-time : goal.returns-then-fails_now-clause-time
 returns-then-fails_now-clause-time c =
-    let notes = c.note_call.ensures.notes in
-    noted_elapses _ _ _ _ (record { history_is = notes.history_is; first_is = notes.first_is })
+    noted_elapses _ _ _ _ (record { history_is = c.note_call.ensures.notes.history_is; first_is = c.note_call.ensures.notes.first_is })
