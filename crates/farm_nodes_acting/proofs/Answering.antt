@@ -25,7 +25,7 @@ use Rattle.farm_nodes_acting.specs.Quiet.{IsQuiet, HasHeard}
 
 -- ---- the same in plain words
 
-map_none : {A B : Type 0} (f : A → B) (o : Option A) → option_map f o ≡ None → o ≡ None
+pub map_none : {A B : Type 0} (f : A → B) (o : Option A) → option_map f o ≡ None → o ≡ None
 map_none f None e = refl
 map_none f (Some x) e = absurd (cc)
 
@@ -104,7 +104,7 @@ left_quiet j s left = record {
   promise = ap (λ (t : Bool). option_map step.Promise (cond t (Some (proposer_of s j).started) None)) (le-ltb s.node.kept.promised (proposer_of s j).started left.ballot);
 }
 
-vote_left : (j : ℕ) (s : SeatState) → would s (act.Accept j) ≡ None → VotePast s.node (proposer_of s j).started (proposer_of s j).proposed
+pub vote_left : (j : ℕ) (s : SeatState) → would s (act.Accept j) ≡ None → VotePast s.node (proposer_of s j).started (proposer_of s j).proposed
 vote_left j s e = told_past s.node (proposer_of s j).started (proposer_of s j).proposed (map_none (λ (x : Vote). step.Accept x.ballot x.value) (vote_of s j) e)
 
 ballot_left : (j : ℕ) (s : SeatState) → would s (act.Promise j) ≡ None → (proposer_of s j).started ≤ s.node.kept.promised
@@ -147,7 +147,7 @@ ballot_if : (t : Bool) (s u : NodeState) → u.ballot ≡ s.ballot → (cond t u
 ballot_if true s u e = e
 ballot_if false s u e = refl
 
-did_of : (a : Act) (s t : SeatState) (x : Step) → Acted a s t → would s a ≡ Some x → Did (act_of x) (proposed_by_step x s.proposed) s t
+pub did_of : (a : Act) (s t : SeatState) (x : Step) → Acted a s t → would s a ≡ Some x → Did (act_of x) (proposed_by_step x s.proposed) s t
 did_of a s t x acted e = subst (λ (o : Option Step). IfSome o (λ y. Did (act_of y) (proposed_by_step y s.proposed) s t)) e acted.stepped
 
 voted_if : (j : ℕ) (s t : SeatState) (o : Option Vote) → Acted (act.Accept j) s t → o ≡ vote_of s j → (would s (act.Accept j) ≡ None) ⊎ HasVoted j s t
@@ -183,7 +183,7 @@ promised_if j s t true e acted =
 pub promised_or : (j : ℕ) (s t : SeatState) → Acted (act.Promise j) s t → (would s (act.Promise j) ≡ None) ⊎ HasPromised j s t
 promised_or j s t acted = promised_if j s t (ltb s.node.kept.promised (proposer_of s j).started) refl acted
 
-word_same : (j : ℕ) (s t : SeatState) → t.proposers ≡ s.proposers → proposer_of t j ≡ proposer_of s j
+pub word_same : (j : ℕ) (s t : SeatState) → t.proposers ≡ s.proposers → proposer_of t j ≡ proposer_of s j
 word_same j s t e = ap (λ (xs : List ProposerWord). get_or xs j no_proposer) e
 
 -- ---- what it leaves

@@ -1,0 +1,38 @@
+use Rattle.std.proofs.Common.{rules, Bool, sym, ◌∙◌, subst}
+use Rattle.farm_nodes_acting.proofs.Results.{Grown, grown_on, stops_after}
+use Rattle.farm_nodes_leading.proofs.Ballots.{quiet_led, leaves_proposing, leaves_starting, start_proposing}
+use Rattle.farm_nodes_leading.proofs.leading.lead.Goals as goal
+
+pub returns-then-not-may_start-clause-quiet : goal.returns-then-not-may_start-clause-quiet
+returns-then-not-may_start-clause-quiet g c j quiet =
+    quiet_led j c.args.seat.now c.act.new.seat (leaves_proposing c.args.seat.now c.act.new.seat c.in-Ok.ensures.ok.1) quiet
+
+pub returns-then-next_word-ne0-clause-quiet : goal.returns-then-next_word-ne0-clause-quiet
+returns-then-next_word-ne0-clause-quiet g c j quiet =
+    quiet_led j c.args.seat.now c.act.new.seat (leaves_proposing c.args.seat.now c.act.new.seat c.in-Ok.ensures.ok.1) quiet
+
+pub returns-in-Ok-act-clause-quiet : goal.returns-in-Ok-act-clause-quiet
+returns-in-Ok-act-clause-quiet g c j quiet =
+    quiet_led j c.act.new.seat c.act-2.new.seat (leaves_starting c.act.new.seat c.act-2.new.seat c.in-Ok-act.ensures.ok.1)
+    (quiet_led j c.args.seat.now c.act.new.seat (leaves_proposing c.args.seat.now c.act.new.seat c.in-Ok.ensures.ok.1) quiet)
+
+pub returns-in-Ok-act-clause-started : goal.returns-in-Ok-act-clause-started
+returns-in-Ok-act-clause-started g c changed = (
+  sym (start_proposing c.args.seat.now c.act.new.seat c.in-Ok.ensures.ok.1) ∙ (sym c.may_start.ensures ∙ c.if-not-may_start.false),
+  search rules,
+)
+
+pub returns-in-Ok-act-clause-journal : goal.returns-in-Ok-act-clause-journal
+returns-in-Ok-act-clause-journal g c honest going =
+    let disk = g.D.Disk in
+    subst (λ (t : Bool). Grown disk.is_honest disk.seen disk.may_leave disk.moment disk.left_since c.args.log.now c.act-2.new.log c.args.room c.args.seat.now c.act-2.new.seat t) (sym c.either.ensures)
+    (grown_on disk.is_honest disk.seen disk.may_leave disk.moment disk.left_since c.args.log.now c.act.new.log c.act-2.new.log c.args.room c.args.seat.now c.act.new.seat c.act-2.new.seat c.in-Ok.proposed c.in-Ok-act.started
+    c.act.ensures.served.header (c.in-Ok.ensures.journal honest going)
+    (c.in-Ok-act.ensures.journal (c.act.ensures.served.honest.1 honest) (c.in-Ok.ensures.going ∙ going)))
+
+pub returns-in-Err-act-clause-journal : goal.returns-in-Err-act-clause-journal
+returns-in-Err-act-clause-journal g c honest going =
+    let disk = g.D.Disk in
+    stops_after disk.is_honest disk.seen disk.may_leave disk.moment disk.left_since c.args.log.now c.act.new.log c.act-2.new.log c.args.room c.args.seat.now c.act.new.seat c.act-2.new.seat c.in-Ok.proposed c.in-Err-act.stop
+    c.act.ensures.served.header (c.in-Ok.ensures.journal honest going)
+    (c.in-Err-act.ensures.journal (c.act.ensures.served.honest.1 honest) (c.in-Ok.ensures.going ∙ going))

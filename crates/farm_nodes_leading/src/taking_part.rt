@@ -1,0 +1,50 @@
+ghost use Rattle.std.specs.Prelude.{◌≡◌, ◌<◌, ◌%◌, ℕ, true, None, Some, IfOk, IfErr, OnOk};
+ghost use Rattle.rand_pcg.specs.Pcg.{pcg32};
+ghost use Rattle.acceptor_log.specs.Acknowledged.{IsSound};
+ghost use Rattle.rooms_state.specs.declared.act.Act.TheVariants as asked;
+ghost use Rattle.rooms_state.specs.Would.{would};
+ghost use Rattle.farm_nodes_acting.specs.Noted.{pending_of};
+ghost use Rattle.farm_nodes_acting.specs.Served.{IsServed};
+ghost use Rattle.farm_nodes_acting.specs.Journalled.{Journalled};
+ghost use Rattle.farm_nodes_acting.specs.Cause.{HasCause};
+ghost use Rattle.farm_nodes_acting.specs.Quiet.{IsQuiet};
+ghost use Rattle.farm_nodes_leading.specs.Leading.{HasLed, Remains};
+
+use crate::leading::{either, lead};
+use acceptor_log::Log;
+use durable_model::Disk;
+use farm_nodes_acting::{Stop, hear_all};
+use rand_pcg::Pcg32;
+use rooms_seat::WordSeat;
+
+/// Hears every node, and then leads. Answers whether it took a step.
+pub fn take_part<D: Disk>(
+    log: &mut Log<D>,
+    seat: &mut WordSeat,
+    room: u16,
+    words: &mut Pcg32,
+) -> Result<bool, Stop>
+    requires { IsSound D.is_honest D.seen D.may_leave log.old }
+    ensures served { IsServed D.is_honest D.seen D.may_leave D.faults log.old log.new }
+    ensures going { IfOk result (λ moved. log.new.going ≡ log.old.going) }
+    ensures remains { Remains seat.old seat.new }
+
+    // Nothing is left to accept, to promise or to propose, and it has led if it was to.
+    ensures quiet { OnOk result ((j : ℕ) → j < seat.new.node.count → IsQuiet j seat.new) }
+    ensures proposed { OnOk result (would seat.new asked.Propose ≡ None) }
+    ensures led { OnOk result (seat.old.node.kept.offered ≡ true → (pcg32 words.old).0 % 4 ≡ 0 → HasLed seat.new) }
+
+    ensures journal { D.is_honest log.old.disk → log.old.going ≡ true → Journalled
+        D.is_honest D.seen D.may_leave D.moment D.left_since log.old log.new room seat.old seat.new result }
+    ensures cause { log.old.going ≡ true → IfErr result (λ stop. HasCause D.is_honest D.faults
+        log.old log.new (pending_of room seat.new stop.pending) stop.error) }
+{
+    let heard = match hear_all(log, seat, room) {
+        Ok(heard) => heard,
+        Err(stop) => return Err(stop),
+    };
+    match lead(log, seat, room, words) {
+        Ok(led) => Ok(either(heard, led)),
+        Err(stop) => Err(stop),
+    }
+}

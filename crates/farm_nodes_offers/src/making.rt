@@ -1,0 +1,92 @@
+ghost use Rattle.std.specs.Prelude.{◌≡◌, ◌⊎◌, ◌++◌, [], ◌∷◌, true, false, Some, IfOk, IfErr, OnOk, OnErr};
+ghost use Rattle.std.specs.Arc.{arc_value};
+ghost use Rattle.offers.specs.Text.{text_of};
+ghost use Rattle.acceptor_log_form.specs.declared.record.Record.TheVariants as entry;
+ghost use Rattle.acceptor_log.specs.Acknowledged.{acknowledged, IsSound};
+ghost use Rattle.farm_nodes_acting.specs.Served.{IsServed};
+ghost use Rattle.rooms.specs.SeatValue.{IsOneRoom};
+ghost use Rattle.farm_nodes_offers.specs.Halted.{left_over, Recorded, HasHaltCause};
+ghost use Rattle.farm_nodes_offers.specs.Offered.{HasOffered, IsOfferPending};
+
+use crate::halt::{Fault, Halt};
+use acceptor_log::{Log, Record};
+use durable_model::Disk;
+use lang_base::{NoMemory, Pass, Row};
+use offers::Offer;
+use rooms::{Put, Seat};
+use std::alloc::Global;
+use std::sync::Arc;
+
+/// Makes the node's offer: puts down its record, and then lays it into the node's cell. Where the node halts over it,
+/// what is pending has the offer's bytes.
+pub fn make_offer<D: Disk, P: Pass>(
+    alloc: Global,
+    log: &mut Log<D>,
+    seat: &mut Seat<P>,
+    room: u16,
+    offer: Offer<P>,
+) -> Result<bool, Halt>
+    requires sound { IsSound D.is_honest D.seen D.may_leave log.old }
+    requires first { seat.old.words.node.kept.offered ≡ false }
+    ensures served { IsServed D.is_honest D.seen D.may_leave D.faults log.old log.new }
+    ensures going { IfOk result (λ moved. log.new.going ≡ log.old.going) }
+    ensures ok { OnOk result (HasOffered offer seat.old seat.new) }
+    ensures room { IsOneRoom seat.old seat.new }
+
+    // It has not offered where the record may be missing, nor where its cell refuses the offer behind the record.
+    ensures err { OnErr result (seat.new ≡ seat.old) }
+    ensures pending { IfErr result (λ halt. IsOfferPending room
+        (text_of P.In.Language P.Out.Language P.Pass offer) halt.pending) }
+    ensures refused { D.is_honest log.old.disk → log.old.going ≡ true → IfErr result (λ halt. halt.fault ≡ Fault.CellRefused
+        → acknowledged D.seen log.new ≡ acknowledged D.seen log.old ++ left_over room seat.new.words halt.pending) }
+
+    ensures journal { D.is_honest log.old.disk → log.old.going ≡ true → Recorded
+        D.is_honest D.seen D.may_leave D.moment D.left_since log.old log.new room seat.old.words seat.new.words result }
+    ensures cause { log.old.going ≡ true → IfErr result (λ halt. HasHaltCause D.is_honest D.faults ⊥
+        log.old log.new (left_over room seat.new.words halt.pending) halt.fault) }
+{
+    let (entry, shared) = match prepared(alloc, room, offer) {
+        Ok(made) => made,
+        Err(_) => return Err(Halt::idle(Fault::NoMemory)),
+    };
+    match log.append(&entry) {
+        Ok(()) => match lay(alloc, seat, shared) {
+            Ok(()) => Ok(true),
+            Err(fault) => Err(Halt::offering(fault, entry)),
+        },
+        Err(error) => Err(Halt::offering(Fault::of(error), entry)),
+    }
+}
+
+/// The record of an offer, and the offer where all seats of the room can read it.
+fn prepared<P: Pass>(
+    alloc: Global,
+    room: u16,
+    offer: Offer<P>,
+) -> Result<(Record, Arc<Offer<P>>), NoMemory>
+    ensures entry { IfOk result (λ made.
+        made.0 ≡ entry.Offered room (text_of P.In.Language P.Out.Language P.Pass offer)) }
+    ensures shared { IfOk result (λ made. arc_value made.1 ≡ offer) }
+{
+    let mut text = Vec::new(alloc);
+    offer.write(&mut text)?;
+    let Ok(shared) = Arc::new(alloc, offer) else {
+        return Err(NoMemory);
+    };
+    Ok((Record::Offered(room, Row::from_vec(text)), shared))
+}
+
+/// Lays an offer into the node's cell.
+fn lay<P: Pass>(alloc: Global, seat: &mut Seat<P>, offer: Arc<Offer<P>>) -> Result<(), Fault>
+    requires { seat.old.words.node.kept.offered ≡ false }
+    ensures ok { OnOk result (HasOffered (arc_value offer) seat.old seat.new) }
+    ensures err { OnErr result (seat.new ≡ seat.old) }
+    ensures faults { IfErr result (λ fault. (fault ≡ Fault.CellRefused) ⊎ (fault ≡ Fault.NoMemory)) }
+    ensures room { IsOneRoom seat.old seat.new }
+{
+    match seat.offer(alloc, offer) {
+        Put::Yes => Ok(()),
+        Put::No(_back) => Err(Fault::CellRefused),
+        Put::NoMemory(_back) => Err(Fault::NoMemory),
+    }
+}

@@ -1,0 +1,20 @@
+use Rattle.std.proofs.Common.{option_copied, sym, ap, subst}
+use Rattle.farm_nodes_offers.specs.declared.halt.Halt.{Halt}
+use Rattle.farm_nodes_offers.specs.Halted.{HasLeft, left_over}
+use Rattle.farm_nodes_offers.proofs.Leavings.{nothing_left}
+use Rattle.farm_nodes_playing.proofs.Turns.{made_either}
+use Rattle.farm_nodes_playing.proofs.offering.offer_on.Goals as goal
+
+pub returns-in-Ok-clause-made : goal.returns-in-Ok-clause-made
+returns-in-Ok-clause-made g c =
+    made_either c.make_offer.result (option_copied c.args.input) c.in-Some.input.now c.in-Ok.offer c.args.seat.now c.make_offer.new.seat
+    (ap option_copied c.in-Some.is) c.in-Ok.ensures.input c.make_offer.ensures.ok c.make_offer.ensures.err
+
+pub returns-in-Err-clause-journal : goal.returns-in-Err-clause-journal
+returns-in-Err-clause-journal g c honest going =
+    let disk = g.D.Disk in
+    let log = c.args.log.now in
+    let words = c.args.seat.now.words in
+    subst (λ (h : Halt). HasLeft disk.seen disk.may_leave disk.moment disk.left_since log log c.args.room words words (left_over c.args.room words h.pending)) (sym c.idle.ensures)
+    (nothing_left disk.is_honest disk.seen disk.may_leave disk.moment disk.left_since log c.args.room words (c.requires honest going)
+    (λ b left. g.met.D.Disk.only_now log.disk b honest left))

@@ -1,0 +1,45 @@
+use Rattle.std.proofs.Common.{◌||◌, option_copied, Some, sym, ◌∙◌, subst}
+use Rattle.rooms_state.specs.SeatState.{SeatState}
+use Rattle.farm_nodes_acting.proofs.Results.{Grown, grown_on}
+use Rattle.farm_nodes_offers.specs.Halted.{fault_of}
+use Rattle.farm_nodes_offers.proofs.Leavings.{left_after, same_words}
+use Rattle.farm_nodes_playing.proofs.Turns.{made_taking, recorded_err, recorded_ok, stays_taking}
+use Rattle.farm_nodes_playing.proofs.playing.take_steps.Goals as goal
+use Rattle.farm_nodes_playing.proofs.playing.take_steps.Goals.{in-Ok-take_part, in-Err-take_part}
+
+pub returns-clause-stays : goal.returns-clause-stays
+returns-clause-stays g c =
+    stays_taking c.args.seat.now c.offer_on.new.seat c.seat.inside.words c.take_part.new.seat c.seat.inside.sights c.seat.view_is
+    c.offer_on.ensures.seat c.take_part.ensures.remains
+
+pub returns-clause-made : goal.returns-clause-made
+returns-clause-made g c =
+    made_taking (option_copied c.args.input) c.args.seat.now c.offer_on.new.seat c.seat.inside.words c.take_part.new.seat c.seat.inside.sights c.seat.view_is
+    c.offer_on.ensures.made c.take_part.ensures.remains
+
+pub returns-clause-journal : goal.returns-clause-journal
+returns-clause-journal g c honest going =
+    let disk = g.D.Disk in
+    let old = c.args.log.now in
+    let mid = c.offer_on.new.log in
+    let new = c.take_part.new.log in
+    let s = c.args.seat.now.words in
+    let m = c.seat.inside.words in
+    let t = c.take_part.new.seat in
+    let same = same_words c.offer_on.new.seat record { words = m; sights = c.seat.inside.sights } c.seat.view_is in
+    let first = subst (λ (u : SeatState). Grown disk.is_honest disk.seen disk.may_leave disk.moment disk.left_since old mid c.args.room s u c.in-Ok.offered) (sym same) (c.in-Ok.ensures.journal honest going) in
+    let honest_mid = c.offer_on.ensures.served.honest.1 honest in
+    let going_mid = c.in-Ok.ensures.going ∙ going in
+    elim c.match-take_part.branch [
+      | in-Ok-take_part w ↦
+          recorded_ok disk.is_honest disk.seen disk.may_leave disk.moment disk.left_since old new c.args.room s t c.match-take_part.result w.either.result (c.in-Ok.offered || w.in-Ok-take_part.moved)
+          w.result-is w.either.ensures
+          (grown_on disk.is_honest disk.seen disk.may_leave disk.moment disk.left_since old mid new c.args.room s m t c.in-Ok.offered w.in-Ok-take_part.moved
+          c.offer_on.ensures.served.header first (w.in-Ok-take_part.ensures.journal honest_mid going_mid))
+      | in-Err-take_part w ↦
+          recorded_err disk.is_honest disk.seen disk.may_leave disk.moment disk.left_since old new c.args.room s t c.match-take_part.result w.stopped.result
+          record { fault = fault_of w.in-Err-take_part.stop.error; pending = Some w.in-Err-take_part.stop.pending }
+          w.result-is w.stopped.ensures
+          (left_after disk.is_honest disk.seen disk.may_leave disk.moment disk.left_since old mid new c.args.room s m t c.in-Ok.offered _
+          c.offer_on.ensures.served.header first (w.in-Err-take_part.ensures.journal honest_mid going_mid))
+    ]

@@ -1,0 +1,52 @@
+ghost use Rattle.std.specs.Prelude.{◌≡◌, true, IfOk, IfErr, OnOk, IsSome, option_copied};
+ghost use Rattle.acceptor_log.specs.Acknowledged.{IsSound};
+ghost use Rattle.farm_nodes_acting.specs.Served.{IsServed};
+ghost use Rattle.farm_nodes_offers.specs.Halted.{left_over, Recorded, HasHaltCause};
+ghost use Rattle.farm_nodes_playing.specs.Played.{HeldOffer, IsMadeOn, IsTooLarge};
+
+use crate::choosing::choose;
+use acceptor_log::Log;
+use durable_model::Disk;
+use farm_nodes_offers::{Halt, make_offer};
+use lang_base::{Language, Oracle, Pass};
+use rand_pcg::Pcg32;
+use rooms::Seat;
+use std::alloc::Global;
+
+/// Makes the node's offer where it has made none in the room and knows the input. Answers whether it did.
+pub fn offer_on<D: Disk, P: Pass, O: Oracle<P = P>>(
+    alloc: Global,
+    log: &mut Log<D>,
+    seat: &mut Seat<P>,
+    room: u16,
+    input: Option<&<P::In as Language>::Fun>,
+    oracle: &mut O,
+    words: &mut Pcg32,
+) -> Result<bool, Halt>
+    requires { IsSound D.is_honest D.seen D.may_leave log.old }
+    ensures served { IsServed D.is_honest D.seen D.may_leave D.faults log.old log.new }
+    ensures going { IfOk result (λ moved. log.new.going ≡ log.old.going) }
+    ensures seat { HeldOffer seat.old seat.new }
+    ensures words { seat.old.words.node.kept.offered ≡ true → words.new ≡ words.old }
+
+    // The offer has the input, and it is made wherever there is one.
+    ensures made { IsMadeOn (option_copied input.entry) seat.old seat.new }
+    ensures offered { OnOk result (IsSome input.entry → seat.new.words.node.kept.offered ≡ true) }
+
+    ensures journal { D.is_honest log.old.disk → log.old.going ≡ true → Recorded
+        D.is_honest D.seen D.may_leave D.moment D.left_since log.old log.new room seat.old.words seat.new.words result }
+    ensures cause { log.old.going ≡ true → IfErr result (λ halt. HasHaltCause D.is_honest D.faults
+        (IsTooLarge P.too_large (option_copied input.entry))
+        log.old log.new (left_over room seat.new.words halt.pending) halt.fault) }
+{
+    if seat.kept().offered() {
+        return Ok(false);
+    }
+    let Some(input) = input else {
+        return Ok(false);
+    };
+    match choose(alloc, oracle, input, words) {
+        Ok(offer) => make_offer(alloc, log, seat, room, offer),
+        Err(fault) => Err(Halt::idle(fault)),
+    }
+}
