@@ -1,49 +1,37 @@
-//! `cfarm`: a farm of compiler nodes in one process. `main` reads the command line and the files, and
-//! calls the crates `text_commands`, `program_commands` and `commands`.
+//! `cfarm`: a farm of compiler nodes in one process. `main` hands the words of the command line, the files and the standard
+//! streams to [`cfarm_program::run`].
 #![tactic(auto)]
 
-ghost use Rattle.std.specs.Prelude.{IfOk};
-ghost use Rattle.cfarm.specs.Statuses.{IsStatus};
+ghost use Rattle.std.specs.Prelude.{◌≤◌};
 
-mod checking;
-mod command_line;
-mod executing;
-mod files;
-mod interpreting;
-mod settling;
-
+use cfarm_program::{HostFiles, run, tell_no_memory, tell_no_text};
+use std::io::{BufWriter, ErrorKind};
 use std::process::ExitCode;
 use std::{env, io};
 
-/// The status for want of memory outside a command.
-const NO_MEMORY: u8 = 7;
+/// The words of the command line.
+fn words_of(rt: &HostRuntime) -> io::Result<Vec<String>> {
+    Ok(env::args(rt)?.collect(rt.alloc())?)
+}
 
-fn main(rt: HostRuntime) -> ExitCode {
-    match run(&rt) {
-        Ok(status) => ExitCode::from(status),
-        Err(_) => ExitCode::from(NO_MEMORY),
+/// Runs the program on the real files and streams. The output is kept until it is flushed, or much of it is there.
+fn run_here(rt: &HostRuntime) -> u8
+    ensures table { result ≤ 7 }
+{
+    let alloc = rt.alloc();
+    let standard_error = rt.stderr();
+    let mut err = io::writer(&standard_error);
+    let words = match words_of(rt) {
+        Ok(words) => words,
+        Err(fault) if fault.kind() == ErrorKind::InvalidData => return tell_no_text(&mut err),
+        Err(_) => return tell_no_memory(&mut err),
+    };
+    match BufWriter::new(alloc, io::writer(rt)) {
+        Ok(mut out) => run(alloc, &words, &HostFiles(rt), &mut out, &mut err),
+        Err(_) => tell_no_memory(&mut err),
     }
 }
 
-/// Does what the command line asks, and gives the status. An error is want of memory for the command
-/// line itself, or a standard error that takes nothing.
-fn run(rt: &HostRuntime) -> io::Result<u8>
-    ensures { IfOk result (λ status. IsStatus status) }
-{
-    let alloc = rt.alloc();
-    let words: Vec<String> = env::args(rt)?.collect(alloc)?;
-    let command = command_line::command(alloc)?;
-    match command.try_get_matches_from(words.as_slice()) {
-        Ok(matches) => match matches.subcommand() {
-            Some(("check", words)) => checking::run(rt, words),
-            Some(("interpret", words)) => interpreting::run(rt, words),
-            Some(("exec", words)) => executing::run(rt, words),
-            Some(("settle", words)) => settling::run(rt, words),
-            _ => Ok(0),
-        },
-        Err(error) => {
-            error.print(rt)?;
-            Ok(if error.exit_code() == 0 { 0 } else { 2 })
-        }
-    }
+fn main(rt: HostRuntime) -> ExitCode {
+    ExitCode::from(run_here(&rt))
 }

@@ -1,11 +1,9 @@
 pub mod HandedOn
 pub mod Played
 pub mod Statuses
+pub mod Lines
 pub mod NodeOrders
+pub mod Visits
 pub mod Settled
-pub mod ExecTold
-pub mod ExecStatuses
 pub use Rattle.paxos_core.specs.Schedule
-pub use Rattle.lang_programs.specs.Written
-pub use Rattle.lang.specs.Form
 pub use Rattle.linear_language.specs.Meaning

@@ -4,6 +4,10 @@ use Rattle.machine.specs.Fits.{AreDistinct}
 use Rattle.ltl.specs.Function.{FunctionData}
 use Rattle.linearize_check.specs.Reach.{IsReached, IsRising}
 
+-- the first node stays, and the others are turned round
+abbrev pub IsTurned : List ℕ → List ℕ → Type 0
+IsTurned nodes order = (first : ℕ) (others : List ℕ) → nodes ≡ first ∷ others → order ≡ first ∷ reverse others
+
 -- the entry first, and the others falling
 pub record IsFalling (f : FunctionData) (order : List ℕ) : Type 0 where
   pub others : List ℕ

@@ -1,7 +1,10 @@
 -- What `settle` prints, and what it refuses.
-use Rattle.std.specs.Prelude.{◌≡◌, ℕ, List, [], ◌∷◌, ◌++◌}
+use Rattle.std.specs.Prelude.{◌≡◌, ◌≢◌, ℕ, List, [], ◌∷◌, ◌++◌, Option}
+use Rattle.std.specs.Io.KnownBytes.{Appends}
 use Rattle.hex.specs.Hex.{encode_lower}
 use Rattle.lang_base.specs.Keeps.{Keeps}
+use Rattle.lang_base.specs.declared.errors.FormError.{FormError}
+use Rattle.lang_base.specs.declared.errors.FormError.TheVariants as form
 use Rattle.lang_base.specs.declared.program.Global.{Global}
 use Rattle.offers.specs.OneFunction.{program_of_one}
 use Rattle.ltl.specs.Function as ltl
@@ -11,6 +14,7 @@ use Rattle.linear_language.specs.Function as linear
 use Rattle.linear_language.specs.Meaning as linear_meaning
 use Rattle.linear_language.specs.Spelling as linear_spelling
 use Rattle.linearize_check.specs.Rules.{IsLaidOut}
+use Rattle.cfarm_output.specs.Begun.{IsBegun}
 use Rattle.cfarm_commands.specs.Played.{IsLearnedByAll}
 use Rattle.cfarm_commands.specs.NodeOrders.{IsOrderOf}
 use Rattle.cfarm_commands.specs.declared.error.SettleError.{SettleError}
@@ -36,13 +40,23 @@ pub record IsSettled (bytes printed : List ℕ) : Type 0 where
       Keeps (ltl_meaning.run (program_of_one globals name input)) (linear_meaning.run (program_of_one globals name output))
   pub prints : printed ≡ encode_lower (linear_spelling.spelling output) ++ ending
 
+-- what three nodes agreed on was printed
+abbrev pub HasSettled : List ℕ → Option (List ℕ) → Option (List ℕ) → Type 0
+HasSettled bytes before after = (printed : List ℕ) × IsSettled bytes printed × Appends before after printed
+
 -- The bytes are not those of one LTL function.
 abbrev pub IsNoFunction : List ℕ → Type 0
 IsNoFunction bytes = (f : ltl.FunctionData) → ltl.IsFunction f → bytes ≡ ltl_spelling.spelling f → ⊥
 
--- what each refusal says of the bytes; in a room whose messages all arrive, nothing stays undecided
-abbrev pub IsRefused : List ℕ → SettleError → Type 0
-IsRefused bytes NoMemory = Unit {0}
-IsRefused bytes (Form fault) = IsNoFunction bytes
-IsRefused bytes Undecided = ⊥
-IsRefused bytes Write = Unit {0}
+-- Where bytes stand behind those of a function, that is the fault.
+abbrev pub IsBehindTold : List ℕ → FormError → Type 0
+IsBehindTold bytes fault = fault ≢ form.NoMemory → (f : ltl.FunctionData) (first : ℕ) (rest : List ℕ) →
+    ltl.IsFunction f → bytes ≡ ltl_spelling.spelling f ++ first ∷ rest → fault ≡ form.NotCanonical
+
+-- What each refusal says of the bytes, and what was printed then: nothing, or where the writer failed a beginning of what is
+-- agreed on. In a room whose messages all arrive nothing stays undecided.
+abbrev pub IsRefused : List ℕ → SettleError → Option (List ℕ) → Option (List ℕ) → Type 0
+IsRefused bytes NoMemory before after = after ≡ before
+IsRefused bytes (Form fault) before after = IsNoFunction bytes × IsBehindTold bytes fault × (after ≡ before)
+IsRefused bytes Undecided before after = ⊥
+IsRefused bytes Write before after = (printed : List ℕ) × IsSettled bytes printed × IsBegun printed before after

@@ -11,7 +11,7 @@ status_of (Form fault) = 1
 status_of Undecided = 3
 status_of Write = 4
 
--- Why a function is not settled where its bytes are refused: want of memory is no fault of the bytes.
+-- Why a function is not settled where its bytes are refused: that memory was refused is no fault of the bytes.
 abbrev pub refusal_of : FormError → SettleError
 refusal_of F.NoMemory = NoMemory
 refusal_of F.Short = Form F.Short

@@ -1,6 +1,7 @@
 ghost use Rattle.std.specs.Prelude.{◌≡◌};
 ghost use Rattle.cfarm_commands.specs.Statuses.{status_of};
 
+use cfarm_output::FormLine;
 use lang_base::{FormError, NoMemory};
 use std::alloc::AllocError;
 use std::fmt;
@@ -32,12 +33,17 @@ impl SettleError {
 }
 
 impl fmt::Display for SettleError {
+    ghost use Rattle.std.specs.Prelude.{Some};
+    ghost use Rattle.cfarm_commands.specs.Lines.{settle_line};
+
+    ghost output = { λ fault. Some (settle_line fault) };
+
     fn fmt<W: fmt::Write>(&self, f: &mut fmt::Formatter<W>) -> fmt::Result {
         match self {
             SettleError::NoMemory => write!(f, "memory"),
             SettleError::Form(fault) => {
-                let number = fault.number();
-                write!(f, "refused {number} {fault}")
+                let line = FormLine(*fault);
+                write!(f, "{line}")
             }
             SettleError::Undecided => write!(f, "undecided"),
             SettleError::Write => write!(f, "write 701"),

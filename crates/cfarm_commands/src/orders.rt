@@ -1,9 +1,10 @@
 //! The orders in which the three nodes list a function's reachable nodes, the entry first.
 
-ghost use Rattle.std.specs.Prelude.{◌≡◌, ◌<◌, ℕ, List, [], ◌∷◌, ◌++◌, length, reverse, Some, true, false, slice_get, slice_set, IfOk, OnOk};
-ghost use Rattle.linearize_check.specs.Layout.{successors, successors_of};
+ghost use Rattle.std.specs.Prelude.{◌≡◌, ◌<◌, [], ◌∷◌, ◌++◌, length, Some, true, slice_get, slice_set, IfOk, OnOk};
+ghost use Rattle.linearize_check.specs.Layout.{successors};
 ghost use Rattle.linearize_check.specs.Orders.{IsOrder};
-ghost use Rattle.cfarm_commands.specs.NodeOrders.{IsFalling, IsListOfReached};
+ghost use Rattle.cfarm_commands.specs.NodeOrders.{IsFalling, IsListOfReached, IsTurned};
+ghost use Rattle.cfarm_commands.specs.Visits.{Follow, IsNew};
 
 use lang_base::NoMemory;
 use linearize_check::rising;
@@ -21,7 +22,7 @@ pub fn falling(alloc: Global, function: &Function) -> Result<Vec<u16>, NoMemory>
 
 /// The first stays where it is.
 fn with_others_reversed(alloc: Global, nodes: &[u16]) -> Result<Vec<u16>, AllocError>
-    ensures { IfOk result (λ order. (first : ℕ) (others : List ℕ) → nodes.now ≡ first ∷ others → order.items ≡ first ∷ reverse others) }
+    ensures { IfOk result (λ order. IsTurned nodes.now order.items) }
 {
     let [first, others @ ..] = nodes else {
         return Ok(Vec::new(alloc));
@@ -61,8 +62,9 @@ fn visit(
     requires marks { length marks.old.items ≡ length blocks.now }
     ensures seen { slice_get marks.old.items node ≡ Some true → OnOk result ((marks.new.items ≡ marks.old.items)
         × (pending.new.items ≡ pending.old.items) × (order.new.items ≡ order.old.items)) }
-    ensures first { slice_get marks.old.items node ≡ Some false → OnOk result ((marks.new.items ≡ slice_set marks.old.items node true)
-        × (pending.new.items ≡ pending.old.items ++ successors_of (slice_get blocks.now node)) × (order.new.items ≡ order.old.items ++ node ∷ [])) }
+    ensures marked { IsNew marks.old.items node → OnOk result (marks.new.items ≡ slice_set marks.old.items node true) }
+    ensures next { IsNew marks.old.items node → OnOk result (Follow blocks.now node pending.old.items pending.new.items) }
+    ensures listed { IsNew marks.old.items node → OnOk result (order.new.items ≡ order.old.items ++ node ∷ []) }
 {
     let place = usize::from(node);
     if !marks[place] {

@@ -1,14 +1,15 @@
-ghost use Rattle.std.specs.Prelude.{◌≡◌, ◌≢◌, ℕ, List, ◌++◌, OnOk, IfOk, IfErr};
-ghost use Rattle.std.specs.Io.KnownBytes.{Appends};
+ghost use Rattle.std.specs.Prelude.{◌≡◌, ◌≢◌, ◌++◌, OnOk, IfOk, IfErr};
 ghost use Rattle.std.specs.String.{string_bytes};
+ghost use Rattle.ltl.specs.Function.{IsFunction};
 ghost use Rattle.ltl.specs.Spelling as ltl_spelling;
 ghost use Rattle.hex.specs.Hex.{encode_lower};
 ghost use Rattle.linear_language.specs.Spelling as linear_spelling;
-ghost use Rattle.cfarm_commands.specs.Settled.{IsNoFunction, IsRefused, IsSettled, ending};
+ghost use Rattle.cfarm_commands.specs.Settled.{HasSettled, IsBehindTold, IsNoFunction, IsRefused, ending};
 
 use crate::agreed::agreed_layout;
 use crate::error::SettleError;
 use crate::keeping::settled_keeps;
+use cfarm_output::print_whole;
 use lang_base::{FormError, Language, NoMemory};
 use linear_language::Linear;
 use linearize_check::Linearize;
@@ -20,7 +21,9 @@ use std::io::Write;
 /// The one function that the bytes spell: bytes behind it are a fault.
 fn read_function(alloc: Global, bytes: &[u8]) -> Result<Function, FormError>
     ensures read { IfOk result (λ function. bytes.now ≡ ltl_spelling.spelling function) }
+    ensures fits { IfOk result (λ function. IsFunction function) }
     ensures refused { IfErr result (λ fault. fault ≢ FormError.NoMemory → IsNoFunction bytes.now) }
+    ensures behind { IfErr result (λ fault. IsBehindTold bytes.now fault) }
 {
     let (function, length) = Ltl::read(alloc, bytes)?;
     if length < bytes.len() {
@@ -30,13 +33,11 @@ fn read_function(alloc: Global, bytes: &[u8]) -> Result<Function, FormError>
 }
 
 /// Settles one LTL function: three nodes agree on an order of its blocks, and the Linear code in that
-/// order is written in lower case hex on one line, and then `agreed 3`.
+/// order is written in lower case hex on one line, and then `agreed 3`, and flushed.
 pub fn settle<W: Write>(alloc: Global, bytes: &[u8], out: &mut W) -> Result<(), SettleError>
-    ensures settled { OnOk result ((printed : List ℕ) × IsSettled bytes.now printed × Appends (W.contents out.old) (W.contents out.new) printed) }
-    ensures refused { IfErr result (λ fault. IsRefused bytes.now fault) }
-
-    // What is refused prints nothing; a writer that fails may hold a beginning of the output.
-    ensures silent { IfErr result (λ fault. fault ≢ SettleError.Write → W.contents out.new ≡ W.contents out.old) }
+    ensures settled { OnOk result (HasSettled bytes.now (W.contents out.old) (W.contents out.new)) }
+    // What is refused prints nothing; a writer that fails holds a beginning of the output.
+    ensures refused { IfErr result (λ fault. IsRefused bytes.now fault (W.contents out.old) (W.contents out.new)) }
 {
     let function = read_function(alloc, bytes)?;
     let Some((output, order)) = agreed_layout(alloc, &function)? else {
@@ -45,7 +46,7 @@ pub fn settle<W: Write>(alloc: Global, bytes: &[u8], out: &mut W) -> Result<(), 
     let agreed = Offer::<Linearize>::known(function, output, order);
     settled_keeps(&agreed);
     let text = printed(alloc, agreed.output())?;
-    match out.write_all(text.as_bytes()) {
+    match print_whole(out, text.as_bytes()) {
         Ok(()) => Ok(()),
         Err(_) => Err(SettleError::Write),
     }

@@ -5,8 +5,10 @@ use Rattle.std.proofs.KnownBytes.{Appends-kept, Appends-nil, Appends-trans}
 use Rattle.lang_base.specs.Behaviour.{IsBeginningOf}
 use Rattle.lang_base.proofs.Beginnings.{IsBeginningOf-refl, IsBeginningOf-trans}
 use Rattle.paxos_core.specs.Schedule.{Room, NodeCall, played}
+use Rattle.cfarm_output.specs.Begun.{IsBegun}
+use Rattle.cfarm_output.proofs.Beginnings.{begun_by}
 use Rattle.cfarm_schedules_lines.specs.Commands.{line_of}
-use Rattle.cfarm_schedules.specs.Plays.{HasObeyed, IsAsked, IsBegun, IsCutOff, IsStopped, StopsAt, closing, printed, shown_of}
+use Rattle.cfarm_schedules.specs.Plays.{HasObeyed, IsAsked, IsCutOff, IsLine, IsStopped, StopsAt, closing, printed, shown_of}
 use Rattle.cfarm_schedules.specs.Rooms.{start, told_by}
 use Rattle.cfarm_schedules_lines.specs.Texts.{IsLeft}
 use Rattle.cfarm_schedules.specs.Told.{told_text}
@@ -14,13 +16,7 @@ use Rattle.cfarm_schedules_lines.specs.declared.command.Command.{Command}
 use Rattle.cfarm_schedules.specs.declared.error.ScheduleError.{ScheduleError}
 use Rattle.cfarm_schedules.specs.declared.error.ScheduleError.TheVariants.{NoMemory, Schedule, Write}
 use Rattle.cfarm_schedules.specs.declared.told.Told.{Told}
-use Rattle.cfarm_schedules.proofs.Going.{IsGoing, IsLine, next_left}
-
-pub begun_by : (text : List ℕ) (before after : Option (List ℕ)) → Appends before after text → IsBegun text before after
-begun_by text before after more = (text, IsBeginningOf-refl text, more)
-
-pub begun_kept : (text : List ℕ) (before mid after : Option (List ℕ)) → IsBegun text before mid → Keeps mid after → IsBegun text before after
-begun_kept text before mid after begun kept = (begun.0, begun.1, Appends-kept before mid after begun.0 begun.2 kept)
+use Rattle.cfarm_schedules.proofs.Going.{IsGoing, next_left}
 
 -- nothing is a beginning of all
 pub none_begun : (text : List ℕ) (known : Option (List ℕ)) → IsBegun text known known

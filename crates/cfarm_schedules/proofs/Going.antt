@@ -13,17 +13,13 @@ use Rattle.paxos_core_law.specs.NodeState.{IsRoomSize}
 use Rattle.paxos_core.specs.Call.{Call, On}
 use Rattle.paxos_core.specs.Schedule.{Room, NodeCall, played, room_after, IsSchedule, SchedulesAreRuns, WasSent}
 use Rattle.cfarm_schedules_lines.specs.Commands.{head_of, line_of, IsInWords}
-use Rattle.cfarm_schedules.specs.Plays.{asked, IsAsked, AreDone, printed, closing, HasObeyed, IsNoCommand, IsShown, StopsAt}
+use Rattle.cfarm_schedules.specs.Plays.{asked, IsAsked, AreDone, printed, closing, HasObeyed, IsLine, IsNoCommand, IsShown, StopsAt}
 use Rattle.cfarm_schedules.specs.Rooms.{start, told_by}
 use Rattle.cfarm_schedules_lines.specs.Texts.{text_of, IsLeft, IsTextOf, first_line}
 use Rattle.cfarm_schedules.specs.Told.{told_text}
 use Rattle.cfarm_schedules_lines.specs.declared.command.Command.{Command}
 use Rattle.cfarm_schedules_lines.specs.declared.command.Command.TheVariants as command
 use Rattle.cfarm_schedules.specs.declared.told.Told.{Told}
-
--- a line, and what stands behind it
-abbrev pub IsLine : List ℕ → List ℕ → List ℕ → Type 0
-IsLine rest line behind = (rest ≡ line ++ 10 ∷ behind) ⊎ ((rest ≡ line) × (behind ≡ []))
 
 pub record IsGoing (text : List ℕ) (count number : ℕ) (rest : List ℕ) (room : Room) (before now : Option (List ℕ)) : Type 0 where
   pub commands : List Command

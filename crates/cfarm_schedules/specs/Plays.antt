@@ -3,7 +3,7 @@ use Rattle.std.specs.Prelude.{◌≡◌, ◌≢◌, ℕ, zero, suc, ◌<◌, ◌
 use Rattle.std.specs.Io.KnownBytes.{Appends}
 use Rattle.std.specs.Option.{option_map}
 use Rattle.std.specs.Fmt.{decimal}
-use Rattle.lang_base.specs.Behaviour.{IsBeginningOf}
+use Rattle.cfarm_output.specs.Begun.{IsBegun}
 use Rattle.paxos_core_world.specs.declared.msg.Msg.{Msg}
 use Rattle.paxos_core_world.specs.World.{no_nodes}
 use Rattle.paxos_core_law.specs.NodeState.{NodeState, IsRoomSize}
@@ -61,6 +61,10 @@ values (suc n) nodes = values n nodes ++ value_word (nodes n).learned
 abbrev pub closing : ℕ → Room → List ℕ
 closing count room = codes "learned:" ++ (values count room.nodes ++ codes "\n")
 
+-- the last line of a room as the program holds it
+abbrev pub last_line : Listed → List ℕ
+last_line room = closing room.count (room_of room)
+
 -- the whole schedule was played: what is shown is a run of the protocol from the empty opening
 pub record IsShown (text : List ℕ) (before after : Option (List ℕ)) : Type 0 where
   pub count : ℕ
@@ -87,9 +91,16 @@ Obeyed old c new told = HasObeyed old.count (room_of old) c told (room_of new)
 abbrev pub ObeyedLine : Listed → List ℕ → Listed → Told → Type 0
 ObeyedLine old line new told = HasObeyedLine old.count (room_of old) line told (room_of new)
 
+-- a line, and what stands behind it
+abbrev pub IsLine : List ℕ → List ℕ → List ℕ → Type 0
+IsLine rest line behind = (rest ≡ line ++ 10 ∷ behind) ⊎ ((rest ≡ line) × (behind ≡ []))
+
 -- the command cannot be done there
 abbrev pub IsRefused : ℕ → Room → Command → Type 0
 IsRefused count room c = (k : NodeCall) → IsAsked count room c k → ⊥
+
+abbrev pub Refuses : Listed → Command → Type 0
+Refuses room c = IsRefused room.count (room_of room) c
 
 -- no command that can be done there is spelled so
 abbrev pub IsNoCommand : ℕ → Room → List ℕ → Type 0
@@ -120,10 +131,6 @@ StopsAt text line before after = ((line ≡ 1) × HasNoHead text × Appends befo
 abbrev pub shown_of : ℕ → List NodeCall → List ℕ → List ℕ
 shown_of count calls [] = printed count calls ++ closing count (played (start count) calls)
 shown_of count calls (b ∷ rest) = printed count calls
-
--- a beginning of the text was printed
-abbrev pub IsBegun : List ℕ → Option (List ℕ) → Option (List ℕ) → Type 0
-IsBegun text before after = (front : List ℕ) × IsBeginningOf front text × Appends before after front
 
 -- The first lines were played, and a beginning of what they show was printed.
 pub record IsCutOff (text : List ℕ) (before after : Option (List ℕ)) : Type 0 where

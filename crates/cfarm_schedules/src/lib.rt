@@ -4,7 +4,6 @@
 
 mod error;
 mod playing;
-mod printing;
 mod room;
 mod told;
 

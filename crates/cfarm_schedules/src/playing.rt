@@ -1,4 +1,4 @@
-ghost use Rattle.std.specs.Prelude.{◌≡◌, ◌<◌, ℕ, ◌+◌, ◌++◌, ◌∷◌, ◌⊎◌, [], OnOk, OnErr, IfOk, IfErr, IfSome, IsNone, length};
+ghost use Rattle.std.specs.Prelude.{◌≡◌, ◌⊎◌, OnOk, OnErr, IfOk, IfErr, IfSome, IsNone};
 ghost use Rattle.std.specs.Io.KnownBytes.{Appends, Keeps};
 ghost use Rattle.std.specs.String.{string_bytes};
 ghost use Rattle.cfarm_schedules.specs.Rooms.{room_of};
@@ -6,12 +6,13 @@ ghost use Rattle.cfarm_schedules.specs.Told.{told_text};
 ghost use Rattle.cfarm_schedules_lines.specs.Texts.{first_line};
 ghost use Rattle.cfarm_schedules_lines.specs.declared.command.Command.TheVariants as Command;
 ghost use Rattle.cfarm_schedules.specs.declared.error.ScheduleError.TheVariants as ScheduleError;
-ghost use Rattle.cfarm_schedules.specs.Plays.{IsBegun, IsNoCommand, IsRefused, IsShown, IsStopped, Obeyed, ObeyedLine, closing};
+ghost use Rattle.cfarm_schedules.specs.Plays.{IsLine, IsNoCommand, IsShown, IsStopped, Obeyed, ObeyedLine, Refuses, last_line};
+ghost use Rattle.cfarm_output.specs.Begun.{IsBegun};
 
 use crate::error::ScheduleError;
-use crate::printing::print_all;
 use crate::room::Room;
 use crate::told::Told;
+use cfarm_output::{print_all, print_whole};
 use cfarm_schedules_lines::{Command, command_of, count_of, split_at_byte};
 use lang_base::NoMemory;
 use paxos_core::agreement;
@@ -21,7 +22,7 @@ use std::io::Write;
 /// The first line of a text, and what stands behind it.
 fn next_line(text: &[u8]) -> (&[u8], &[u8])
     ensures line { result.0.now ≡ first_line text.now }
-    ensures text { (text.now ≡ result.0.now ++ 10 ∷ result.1.now) ⊎ ((text.now ≡ result.0.now) × (result.1.now ≡ [])) }
+    ensures text { IsLine text.now result.0.now result.1.now }
 {
     split_at_byte(text, b'\n').unwrap_or((text, &[]))
 }
@@ -29,7 +30,7 @@ fn next_line(text: &[u8]) -> (&[u8], &[u8])
 /// Does what a command asks; none where its node is none, or its message was not sent yet.
 fn obey(room: &mut Room, command: Command) -> Result<Option<Told>, NoMemory>
     ensures some { IfOk result (λ told. IfSome told (Obeyed room.old command room.new)) }
-    ensures none { IfOk result (λ told. IsNone told → IsRefused room.old.count (room_of room.old) command) }
+    ensures none { IfOk result (λ told. IsNone told → Refuses room.old command) }
     ensures count { room.new.count ≡ room.old.count }
 {
     let count = room.count();
@@ -46,7 +47,7 @@ fn obey(room: &mut Room, command: Command) -> Result<Option<Told>, NoMemory>
 /// Hands the message with this number, from 1, to the node; none where there is no such node, or no such message yet.
 fn deliver(room: &mut Room, node: u8, number: u64) -> Result<Option<Told>, NoMemory>
     ensures some { IfOk result (λ told. IfSome told (Obeyed room.old (Command.Deliver node number) room.new)) }
-    ensures none { IfOk result (λ told. IsNone told → IsRefused room.old.count (room_of room.old) (Command.Deliver node number)) }
+    ensures none { IfOk result (λ told. IsNone told → Refuses room.old (Command.Deliver node number)) }
     ensures count { room.new.count ≡ room.old.count }
 {
     if number == 0 || node >= room.count() {
@@ -78,14 +79,17 @@ fn print<W: Write>(alloc: Global, told: Told, out: &mut W) -> Result<(), Schedul
     ensures begun { OnErr result (IsBegun (told_text told) (W.contents out.old) (W.contents out.new)) }
 {
     match format!(in alloc; "{told}") {
-        Ok(text) => print_all(text.as_bytes(), out),
+        Ok(text) => match print_all(out, text.as_bytes()) {
+            Ok(()) => Ok(()),
+            Err(_) => Err(ScheduleError::Write),
+        },
         Err(_) => Err(ScheduleError::NoMemory),
     }
 }
 
 /// The last line: what each node has learned.
 fn closing_of(alloc: Global, room: &Room) -> Result<String, NoMemory>
-    ensures { IfOk result (λ text. string_bytes text ≡ closing room.now.count (room_of room.now)) }
+    ensures { IfOk result (λ text. string_bytes text ≡ last_line room.now) }
 {
     let mut text = "learned:".to_string(alloc)?;
     for node in 0..room.count() {
@@ -111,15 +115,14 @@ fn stop_at<W: Write>(number: u64, out: &mut W) -> ScheduleError
 
 /// Prints the last line, and flushes all.
 fn close<W: Write>(alloc: Global, room: &Room, out: &mut W) -> Result<(), ScheduleError>
-    ensures ok { OnOk result (Appends (W.contents out.old) (W.contents out.new) (closing room.now.count (room_of room.now))) }
+    ensures ok { OnOk result (Appends (W.contents out.old) (W.contents out.new) (last_line room.now)) }
     ensures err { IfErr result (λ e. (e ≡ ScheduleError.NoMemory) ⊎ (e ≡ ScheduleError.Write)) }
-    ensures begun { OnErr result (IsBegun (closing room.now.count (room_of room.now)) (W.contents out.old) (W.contents out.new)) }
+    ensures begun { OnErr result (IsBegun (last_line room.now) (W.contents out.old) (W.contents out.new)) }
 {
     let Ok(text) = closing_of(alloc, room) else {
         return Err(ScheduleError::NoMemory);
     };
-    print_all(text.as_bytes(), out)?;
-    match out.flush() {
+    match print_whole(out, text.as_bytes()) {
         Ok(()) => Ok(()),
         Err(_) => Err(ScheduleError::Write),
     }

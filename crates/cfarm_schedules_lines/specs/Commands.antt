@@ -1,5 +1,5 @@
 -- The lines of a schedule: words parted by one blank, numbers in decimal without leading zeros.
-use Rattle.std.specs.Prelude.{ℕ, ◌<◌, ◌^◌, List, ◌++◌, codes}
+use Rattle.std.specs.Prelude.{◌≡◌, ℕ, ◌<◌, ◌^◌, List, ◌++◌, Option, Some, codes}
 use Rattle.std.specs.Fmt.{decimal}
 use Rattle.cfarm_schedules_lines.specs.declared.command.Command.{Command}
 use Rattle.cfarm_schedules_lines.specs.declared.command.Command.TheVariants.{Offer, Start, Propose, Restart, Deliver}
@@ -11,6 +11,10 @@ head_of count = codes "nodes " ++ decimal count
 -- the node and the message of a delivery
 abbrev pub delivery_of : ℕ → ℕ → List ℕ
 delivery_of node message = decimal node ++ (codes " " ++ decimal message)
+
+-- what the words of a delivery are read as
+abbrev pub IsReadAsDelivery : List ℕ → Option Command → Type 0
+IsReadAsDelivery words read = (i k : ℕ) → i < 256 → k < 2 ^ 64 → words ≡ delivery_of i k → read ≡ Some (Deliver i k)
 
 -- each other line asks a node for one call
 abbrev pub line_of : Command → List ℕ

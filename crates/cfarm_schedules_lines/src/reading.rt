@@ -3,7 +3,7 @@
 ghost use Rattle.std.specs.Prelude.{◌≡◌, ◌<◌, ◌^◌, ℕ, ◌++◌, Some, IsNone, IfSome, IfOk, OnOk, codes};
 ghost use Rattle.std.specs.Fmt.{decimal};
 ghost use Rattle.paxos_core_law.specs.NodeState.{IsRoomSize};
-ghost use Rattle.cfarm_schedules_lines.specs.Commands.{IsInWords, delivery_of, head_of, line_of};
+ghost use Rattle.cfarm_schedules_lines.specs.Commands.{IsInWords, IsReadAsDelivery, head_of, line_of};
 ghost use Rattle.cfarm_schedules_lines.specs.declared.command.Command.{Command};
 ghost use Rattle.cfarm_schedules_lines.specs.declared.command.Command.TheVariants as Command;
 
@@ -21,7 +21,7 @@ fn node_in(digits: &[u8]) -> Option<u8>
 
 /// The node and the message of a delivery.
 fn delivery_in(words: &[u8]) -> Option<Command>
-    ensures { (i k : ℕ) → i < 256 → k < 2 ^ 64 → words.now ≡ delivery_of i k → result ≡ Some (Command.Deliver i k) }
+    ensures { IsReadAsDelivery words.now result }
 {
     let (node, message) = split_at_byte(words, b' ')?;
     Some(Command::Deliver(node_in(node)?, number_in(message)?))

@@ -1,4 +1,4 @@
--- A text that is accepted is refused for want of memory alone.
+-- A text that is accepted is refused only where memory is.
 use Rattle.std.proofs.Common.{◌≡◌, refl, List, [], Some}
 use Rattle.std.specs.List.{AllByRecursion}
 use Rattle.c_syntax.specs.declared.token.Token.{Token}

@@ -3,6 +3,7 @@ pub mod Refusals
 pub mod Statuses
 pub mod Counts
 pub mod Closings
+pub mod Lines
 pub mod Told
 pub use Rattle.c_checker_rules.specs.Units
 pub use Rattle.c_program.specs.Trees

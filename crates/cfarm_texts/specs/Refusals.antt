@@ -31,10 +31,10 @@ offset_of (Read fault) = offset_of_read_error fault
 offset_of (Check fault) = offset_of_check_error fault
 
 -- a growth of memory was refused, which says nothing of the text
-abbrev pub IsWantOfMemory : TextError → Type 0
-IsWantOfMemory (Lex fault) = fault ≡ L.NoMemory
-IsWantOfMemory (Read fault) = fault ≡ R.NoMemory
-IsWantOfMemory (Check fault) = fault ≡ C.NoMemory
+abbrev pub IsOutOfMemory : TextError → Type 0
+IsOutOfMemory (Lex fault) = fault ≡ L.NoMemory
+IsOutOfMemory (Read fault) = fault ≡ R.NoMemory
+IsOutOfMemory (Check fault) = fault ≡ C.NoMemory
 
 -- The tokens of a text spell no tree, or none that is not too high.
 pub record IsMisread (text : List ℕ) (fault : ReadError) : Type 0 where
@@ -51,7 +51,7 @@ pub record IsIllFormed (text : List ℕ) (fault : CheckError) : Type 0 where
   pub low : AllByRecursion IsLow tree.declarations
   pub told : Tells fault (unit_faults tree)
 
--- What a refusal says of a text: its first fault. A want of memory says nothing of it.
+-- What a refusal says of a text: its first fault. That memory was refused says nothing of it.
 abbrev pub IsRefused : List ℕ → TextError → Type 0
 IsRefused text (Lex fault) = fault ≢ L.NoMemory → HasFault text fault
 IsRefused text (Read fault) = IsMisread text fault

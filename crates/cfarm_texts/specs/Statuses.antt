@@ -13,7 +13,7 @@ status_of_shown (Ended result) = 0
 status_of_shown Wrong = 5
 status_of_shown Running = 6
 
--- where a command is not done: 7 for want of memory, whose number is 1
+-- where a command is not done: 7 where memory was refused, whose number is 1
 abbrev pub status_of_error : CommandError → ℕ
 status_of_error (Text fault) = if number_of fault == 1 then 7 else 1
 status_of_error (Run R.NoMemory) = 7

@@ -1,9 +1,7 @@
-ghost use Rattle.std.specs.Prelude.{◌≡◌, IfOk, IfErr, MatchResult};
+ghost use Rattle.std.specs.Prelude.{IfOk, IfErr, MatchResult};
 ghost use Rattle.c_syntax.specs.Trees.{UnitTree};
-ghost use Rattle.c_checker_rules.specs.Units.{program_of};
-ghost use Rattle.c_checker_rules.specs.Checked.{program_tree};
-ghost use Rattle.cfarm_texts.specs.Accepted.{IsAccepted};
-ghost use Rattle.cfarm_texts.specs.Refusals.{IsRefused, IsWantOfMemory};
+ghost use Rattle.cfarm_texts.specs.Accepted.{IsAccepted, IsProgramOf};
+ghost use Rattle.cfarm_texts.specs.Refusals.{IsOutOfMemory, IsRefused};
 
 use crate::text_error::TextError;
 use c_checker::{CProgram, check};
@@ -15,11 +13,11 @@ use std::alloc::Global;
 /// tree declares. The time is linear in the text.
 pub fn accept(alloc: Global, text: &[u8]) -> Result<CProgram, TextError>
     // The text is accepted, and this is its program.
-    ensures accepted { IfOk result (λ p. (u : UnitTree) × IsAccepted text.now u × (program_tree p ≡ program_of u)) }
+    ensures accepted { IfOk result (λ p. (u : UnitTree) × IsAccepted text.now u × IsProgramOf u p) }
     // A refusal says why the text is not accepted.
     ensures refused { IfErr result (λ fault. IsRefused text.now fault) }
     // A text that is accepted is given its program, unless memory runs out.
-    ensures only { (u : UnitTree) → IsAccepted text.now u → MatchResult result (λ p. program_tree p ≡ program_of u) IsWantOfMemory }
+    ensures only { (u : UnitTree) → IsAccepted text.now u → MatchResult result (IsProgramOf u) IsOutOfMemory }
 {
     let tokens = lex(alloc, text)?;
     let unit = read(alloc, tokens.as_slice())?;

@@ -1,18 +1,13 @@
-ghost use Rattle.std.specs.Prelude.{◌≡◌, ◌≢◌, OnOk, IfOk, IfErr, Err};
-ghost use Rattle.std.specs.Io.KnownBytes.{Appends};
+ghost use Rattle.std.specs.Prelude.{◌≡◌, OnOk, IfOk, IfErr};
 ghost use Rattle.std.specs.String.{string_bytes};
-ghost use Rattle.c_syntax.specs.Trees.{UnitTree};
-ghost use Rattle.c_checker_rules.specs.Units.{program_of};
-ghost use Rattle.cfarm_texts.specs.Accepted.{IsAccepted};
-ghost use Rattle.cfarm_texts.specs.Refusals.{IsRefused};
 ghost use Rattle.c_checker_rules.specs.Checked.{program_tree};
 ghost use Rattle.cfarm_texts.specs.Counts.{counts_line};
-ghost use Rattle.cfarm_texts.specs.declared.error.CommandError.{CommandError};
-ghost use Rattle.cfarm_texts.specs.Told.{IsTold};
+ghost use Rattle.cfarm_texts.specs.Told.{HasCounted, IsTold, Printed};
 
 use crate::accept;
 use crate::error::CommandError;
 use c_checker_rules::CProgram;
+use cfarm_output::print_whole;
 use lang_programs::RunError;
 use std::alloc::{AllocError, Global};
 use std::io::Write;
@@ -26,21 +21,22 @@ fn counted(alloc: Global, program: &CProgram) -> Result<String, AllocError>
     format!(in alloc; "ok {functions} functions {globals} globals\n")
 }
 
-/// Checks a text, and prints `ok F functions G globals`: how many functions have bodies, and how many
-/// globals it declares, where an array is one.
+/// Checks a text, and prints `ok F functions G globals`, which is flushed: how many functions have bodies, and how
+/// many globals it declares, where an array is one.
 pub fn check_text<W: Write>(alloc: Global, text: &[u8], out: &mut W) -> Result<(), CommandError>
     // The text is accepted, and its counts are printed.
-    ensures accepted { OnOk result ((u : UnitTree) × IsAccepted text.now u × Appends (W.contents out.old) (W.contents out.new) (counts_line (program_of u))) }
+    ensures accepted { OnOk result (HasCounted text.now (W.contents out.old) (W.contents out.new)) }
     // A refusal tells the first fault of the text.
     ensures refused { IfErr result (λ fault. IsTold text.now fault) }
-    // Where the text is refused, or there is no memory, nothing is printed.
-    ensures silent { IfErr result (λ fault. fault ≢ CommandError.Run RunError.Write → W.contents out.new ≡ W.contents out.old) }
+    // Where the text is refused, or there is no memory, nothing is printed; a writer that fails holds a beginning of what
+    // an accepted text prints.
+    ensures printed { IfErr result (λ fault. Printed text.now fault (W.contents out.old) (W.contents out.new)) }
 {
     let program = accept(alloc, text)?;
     let Ok(line) = counted(alloc, &program) else {
         return Err(CommandError::Run(RunError::NoMemory));
     };
-    match out.write_all(line.as_bytes()) {
+    match print_whole(out, line.as_bytes()) {
         Ok(()) => Ok(()),
         Err(_) => Err(CommandError::Run(RunError::Write)),
     }

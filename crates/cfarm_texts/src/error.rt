@@ -28,6 +28,11 @@ impl CommandError {
 }
 
 impl fmt::Display for CommandError {
+    ghost use Rattle.std.specs.Prelude.{Some};
+    ghost use Rattle.cfarm_texts.specs.Lines.{error_line};
+
+    ghost output = { λ fault. Some (error_line fault) };
+
     fn fmt<W: fmt::Write>(&self, f: &mut fmt::Formatter<W>) -> fmt::Result {
         match self {
             CommandError::Text(fault) => write!(f, "{fault}"),

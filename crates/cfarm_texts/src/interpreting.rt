@@ -1,21 +1,16 @@
-ghost use Rattle.std.specs.Prelude.{◌≡◌, IfOk, IfErr, Ok};
-ghost use Rattle.c_syntax.specs.Trees.{UnitTree};
-ghost use Rattle.c_checker_rules.specs.Units.{program_of};
-ghost use Rattle.cfarm_texts.specs.Accepted.{IsAccepted};
-ghost use Rattle.lang_programs.specs.Written.{Wrote};
-ghost use Rattle.c_program.specs.Meaning.{crun};
-ghost use Rattle.cfarm_texts.specs.declared.error.CommandError.{CommandError};
-ghost use Rattle.cfarm_texts.specs.Told.{IsTold, Ran};
+ghost use Rattle.std.specs.Prelude.{IfOk, IfErr};
+ghost use Rattle.cfarm_texts.specs.Told.{HasRun, IsTold, Ran};
 
 use crate::accept;
 use crate::error::CommandError;
 use c_meaning::run;
 use lang_base::Shown;
+use lang_programs::RunError;
 use std::alloc::Global;
 use std::io::Write;
 
-/// Runs the program of a text with this bound: writes its output, and tells whether it ended, went wrong or
-/// is still running.
+/// Runs the program of a text with this bound: writes its output and flushes it, and tells whether it ended, went
+/// wrong or is still running.
 pub fn interpret<W: Write>(
     alloc: Global,
     text: &[u8],
@@ -23,7 +18,7 @@ pub fn interpret<W: Write>(
     out: &mut W,
 ) -> Result<Shown, CommandError>
     // The text is accepted, and what its program does at the bound was written and is told.
-    ensures ran { IfOk result (λ shown. (u : UnitTree) × IsAccepted text.now u × Wrote (crun (program_of u) depth) (Ok shown) (W.contents out.old) (W.contents out.new)) }
+    ensures ran { IfOk result (λ shown. HasRun text.now depth shown (W.contents out.old) (W.contents out.new)) }
     // A refusal tells the first fault of the text, and prints nothing; a run that is broken off wrote a
     // beginning of the output.
     ensures refused { IfErr result (λ fault. IsTold text.now fault) }
@@ -31,5 +26,8 @@ pub fn interpret<W: Write>(
 {
     let program = accept(alloc, text)?;
     let shown = run(alloc, &program, depth, out)?;
-    Ok(shown)
+    match out.flush() {
+        Ok(()) => Ok(shown),
+        Err(_) => Err(CommandError::Run(RunError::Write)),
+    }
 }

@@ -1,4 +1,5 @@
 ghost use Rattle.std.specs.Prelude.{◌≡◌};
+ghost use Rattle.cfarm_texts.specs.Lines.{check_name, lex_name, name_of, read_name};
 ghost use Rattle.cfarm_texts.specs.Refusals.{number_of, offset_of};
 
 use c_checker_rules::CheckError;
@@ -39,18 +40,72 @@ impl TextError {
             TextError::Check(fault) => fault.offset(),
         }
     }
+
+    /// The name that a user is shown.
+    pub fn name(self) -> &'static str
+        ensures { result.now ≡ name_of self }
+    {
+        match self {
+            TextError::Lex(fault) => lex_name(fault),
+            TextError::Read(fault) => read_name(fault),
+            TextError::Check(fault) => check_name(fault),
+        }
+    }
+}
+
+fn lex_name(fault: LexError) -> &'static str
+    ensures { result.now ≡ lex_name fault }
+{
+    match fault {
+        LexError::NoMemory => "NoMemory",
+        LexError::BadByte(_) => "BadByte",
+        LexError::OpenComment(_) => "OpenComment",
+        LexError::LiteralRange(_) => "LiteralRange",
+        LexError::BadChar(_) => "BadChar",
+    }
+}
+
+fn read_name(fault: ReadError) -> &'static str
+    ensures { result.now ≡ read_name fault }
+{
+    match fault {
+        ReadError::NoMemory => "NoMemory",
+        ReadError::Syntax(_) => "Syntax",
+        ReadError::TooDeep(_) => "TooDeep",
+    }
+}
+
+fn check_name(fault: CheckError) -> &'static str
+    ensures { result.now ≡ check_name fault }
+{
+    match fault {
+        CheckError::NoMemory => "NoMemory",
+        CheckError::Undeclared(_) => "Undeclared",
+        CheckError::Redeclared(_) => "Redeclared",
+        CheckError::WrongArity(_) => "WrongArity",
+        CheckError::VoidValue(_) => "VoidValue",
+        CheckError::NoMain(_) => "NoMain",
+        CheckError::BadMain(_) => "BadMain",
+        CheckError::NotConstant(_) => "NotConstant",
+        CheckError::NoBody(_) => "NoBody",
+        CheckError::Limit(_) => "Limit",
+        CheckError::StrayBreak(_) => "StrayBreak",
+        CheckError::ArrayUse(_) => "ArrayUse",
+    }
 }
 
 impl fmt::Display for TextError {
+    ghost use Rattle.std.specs.Prelude.{Some};
+    ghost use Rattle.cfarm_texts.specs.Lines.{text_line};
+
+    ghost output = { λ fault. Some (text_line fault) };
+
     fn fmt<W: fmt::Write>(&self, f: &mut fmt::Formatter<W>) -> fmt::Result {
         let number = self.number();
-        let Some(at) = self.offset() else {
-            return write!(f, "memory");
-        };
-        match self {
-            TextError::Lex(fault) => write!(f, "refused {number} {fault} at {at}"),
-            TextError::Read(fault) => write!(f, "refused {number} {fault} at {at}"),
-            TextError::Check(fault) => write!(f, "refused {number} {fault} at {at}"),
+        let name = self.name();
+        match self.offset() {
+            Some(at) => write!(f, "refused {number} {name} at {at}"),
+            None => write!(f, "memory"),
         }
     }
 }

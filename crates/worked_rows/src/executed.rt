@@ -1,7 +1,7 @@
 //! What `exec` tells of the bytes of a linked program.
 
 use crate::told::Told;
-use cfarm_commands::exec;
+use cfarm_exec::exec;
 use cfarm_texts::{Closing, status_of};
 use std::alloc::{AllocError, Global};
 

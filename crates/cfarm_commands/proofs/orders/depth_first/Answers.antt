@@ -30,14 +30,14 @@ loop-node-smaller c =
     rw c.in-Some.ensures.items
     (left_over-falls c.args.function.now c.blocks-2.ensures.in_range c.loop-node.marks.items c.pop.new.self.items c.in-Some.node before.searching c.visit.new.marks.items c.visit.new.pending.items
     (λ m. let s = c.in_ok-visit.ensures.seen m in (s.0, s.1))
-    (λ e. let s = c.in_ok-visit.ensures.first e in (s.0, s.1 ∙ ap (λ bs. c.pop.new.self.items ++ successors_of (slice_get bs c.in-Some.node)) blocks)))
+    (λ e. (c.in_ok-visit.ensures.marked e, c.in_ok-visit.ensures.next e ∙ ap (λ bs. c.pop.new.self.items ++ successors_of (slice_get bs c.in-Some.node)) blocks)))
 
 pub loop-node-preserved : goal.loop-node-preserved
 loop-node-preserved c =
     let blocks = c.as_slice-blocks.ensures ∙ c.blocks-2.ensures.blocks in
     let before = subst (λ p. Listing c.args.function.now c.loop-node.marks.items p c.loop-node.order.items) c.in-Some.ensures.items c.loop-node.invariant in
     listing_after c.args.function.now c.blocks-2.ensures.in_range c.loop-node.marks.items c.pop.new.self.items c.in-Some.node c.loop-node.order.items before c.visit.new.marks.items c.visit.new.pending.items c.visit.new.order.items c.in_ok-visit.ensures.seen
-    (λ e. let s = c.in_ok-visit.ensures.first e in (s.0, s.1 ∙ ap (λ bs. c.pop.new.self.items ++ successors_of (slice_get bs c.in-Some.node)) blocks, s.2))
+    (λ e. (c.in_ok-visit.ensures.marked e, c.in_ok-visit.ensures.next e ∙ ap (λ bs. c.pop.new.self.items ++ successors_of (slice_get bs c.in-Some.node)) blocks, c.in_ok-visit.ensures.listed e))
 
 pub returns-clause-reached : goal.returns-clause-reached
 returns-clause-reached c =

@@ -2,7 +2,8 @@ use Rattle.std.proofs.Common.{◌≢◌, [], ◌+◌, Option, IfSome, is_some, r
 use Rattle.std.specs.Io.KnownBytes.{Appends}
 use Rattle.std.proofs.KnownBytes.{Keeps-refl}
 use Rattle.std.proofs.lemmas.Result.{err_from_is_err_and}
-use Rattle.cfarm_schedules.specs.Plays.{HasObeyed, HasObeyedLine, IsBegun, IsNoCommand, IsShown, closing}
+use Rattle.cfarm_schedules.specs.Plays.{HasObeyed, HasObeyedLine, IsNoCommand, IsShown, closing}
+use Rattle.cfarm_output.specs.Begun.{IsBegun}
 use Rattle.cfarm_schedules.specs.Rooms.{room_of, start}
 use Rattle.cfarm_schedules.specs.declared.told.Told.{Told}
 use Rattle.cfarm_schedules.proofs.Cut.{cut, cut_by, cut_going, cut_last, cut_within, shown_by, stopped_at}

@@ -1,0 +1,5 @@
+pub mod Reading
+pub mod Telling
+pub mod Outcomes
+pub mod Performed
+pub mod Runs

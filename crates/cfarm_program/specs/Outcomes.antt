@@ -1,0 +1,67 @@
+-- What each command comes to, on the bytes of its file: what it wrote, and what it answers.
+use Rattle.std.specs.Prelude.{◌≡◌, ◌⊎◌, ℕ, List, Option}
+use Rattle.lang_base.specs.declared.shown.Shown.{Shown}
+use Rattle.cfarm_texts.specs.declared.error.CommandError.{CommandError}
+use Rattle.cfarm_texts.specs.Closings.{closing_line}
+use Rattle.cfarm_texts.specs.Lines.{error_line}
+use Rattle.cfarm_texts.specs.Statuses.{status_of_error, status_of_shown}
+use Rattle.cfarm_texts.specs.Told as text
+use Rattle.cfarm_exec.specs.declared.error.ExecError.{ExecError}
+use Rattle.cfarm_commands.specs.declared.error.SettleError.{SettleError}
+use Rattle.cfarm_exec.specs.Statuses as exec_status
+use Rattle.cfarm_exec.specs.Told as exec
+use Rattle.cfarm_exec.specs.Lines.{exec_line}
+use Rattle.cfarm_commands.specs.Lines.{settle_line}
+use Rattle.cfarm_commands.specs.Settled.{HasSettled}
+use Rattle.cfarm_commands.specs.Settled as settled
+use Rattle.cfarm_commands.specs.Statuses as settle_status
+use Rattle.cfarm_schedules.specs.declared.error.ScheduleError.{ScheduleError}
+use Rattle.cfarm_schedules.specs.Lines as schedule
+use Rattle.cfarm_schedules.specs.Plays.{IsShown, IsStopped}
+use Rattle.cfarm_program.specs.Telling.{Answer, quiet, told}
+
+-- the answer after a run, and after each command that is not done
+abbrev pub closed : Shown → Answer
+closed shown = told (status_of_shown shown) (closing_line shown)
+
+abbrev pub text_fault : CommandError → Answer
+text_fault fault = told (status_of_error fault) (error_line fault)
+
+abbrev pub exec_fault : ExecError → Answer
+exec_fault fault = told (exec_status.status_of fault) (exec_line fault)
+
+abbrev pub settle_fault : SettleError → Answer
+settle_fault fault = told (settle_status.status_of fault) (settle_line fault)
+
+abbrev pub schedule_fault : ScheduleError → Answer
+schedule_fault fault = told (schedule.status_of fault) (schedule.schedule_line fault)
+
+-- `check`: an accepted text's counts are printed, or its first fault is told
+abbrev pub Checked : List ℕ → Answer → Option (List ℕ) → Option (List ℕ) → Type 0
+Checked bytes answer before after =
+    (text.HasCounted bytes before after × (answer ≡ quiet))
+    ⊎ ((fault : CommandError) × text.IsTold bytes fault × text.Printed bytes fault before after × (answer ≡ text_fault fault))
+
+-- `interpret`: what an accepted text's program does at the bound is written and told, or its first fault is
+abbrev pub Interpreted : List ℕ → ℕ → Answer → Option (List ℕ) → Option (List ℕ) → Type 0
+Interpreted bytes depth answer before after =
+    ((shown : Shown) × text.HasRun bytes depth shown before after × (answer ≡ closed shown))
+    ⊎ ((fault : CommandError) × text.IsTold bytes fault × text.Ran bytes depth fault before after × (answer ≡ text_fault fault))
+
+-- `exec`: what the program of Linear that the bytes spell does within the bound is written and told, or why there is none
+abbrev pub Executed : List ℕ → ℕ → Answer → Option (List ℕ) → Option (List ℕ) → Type 0
+Executed bytes limit answer before after =
+    ((shown : Shown) × exec.HasRun bytes limit shown before after × (answer ≡ closed shown))
+    ⊎ ((fault : ExecError) × exec.IsTold bytes fault × exec.Ran bytes limit fault before after × (answer ≡ exec_fault fault))
+
+-- `settle`: what three nodes agree on is printed, or why the bytes are refused is told
+abbrev pub Settled : List ℕ → Answer → Option (List ℕ) → Option (List ℕ) → Type 0
+Settled bytes answer before after =
+    (HasSettled bytes before after × (answer ≡ quiet))
+    ⊎ ((fault : SettleError) × settled.IsRefused bytes fault before after × (answer ≡ settle_fault fault))
+
+-- `sim`: what the lines of a schedule show is printed, or the first line that is none is told
+abbrev pub Simulated : List ℕ → Answer → Option (List ℕ) → Option (List ℕ) → Type 0
+Simulated bytes answer before after =
+    (IsShown bytes before after × (answer ≡ quiet))
+    ⊎ ((fault : ScheduleError) × IsStopped bytes fault before after × (answer ≡ schedule_fault fault))

@@ -1,0 +1,109 @@
+//! The commands, with what each tells.
+
+ghost use Rattle.std.specs.Prelude.{◌≤◌};
+ghost use Rattle.cfarm_program.specs.Telling.{Answer, IsTold};
+ghost use Rattle.cfarm_program.specs.Outcomes.{Checked, Executed, Interpreted, Settled, Simulated};
+ghost use Rattle.cfarm_program.specs.Performed.{Performs};
+
+use crate::telling::tell;
+use cfarm_commands::settle;
+use cfarm_exec::exec;
+use cfarm_schedules::simulate;
+use cfarm_texts::{Closing, check_text, interpret, status_of};
+use cfarm_words::Task;
+use std::alloc::Global;
+use std::io::Write;
+
+#[tactic(auto, using(crate::proofs::Tables::error_in_table))]
+fn check<W: Write, E: Write>(alloc: Global, text: &[u8], out: &mut W, err: &mut E) -> u8
+    ensures does { (answer : Answer) × Checked text.now answer (W.contents out.old) (W.contents out.new)
+        × IsTold answer result (E.contents err.old) (E.contents err.new) }
+    ensures table { result ≤ 7 }
+{
+    match check_text(alloc, text, out) {
+        Ok(()) => 0,
+        Err(fault) => tell(err, fault, fault.status()),
+    }
+}
+
+#[tactic(auto, using(crate::proofs::Tables::error_in_table, crate::proofs::Tables::shown_in_table))]
+fn run_text<W: Write, E: Write>(
+    alloc: Global,
+    text: &[u8],
+    depth: u32,
+    out: &mut W,
+    err: &mut E,
+) -> u8
+    ensures does { (answer : Answer) × Interpreted text.now depth answer (W.contents out.old) (W.contents out.new)
+        × IsTold answer result (E.contents err.old) (E.contents err.new) }
+    ensures table { result ≤ 7 }
+{
+    match interpret(alloc, text, depth, out) {
+        Ok(shown) => tell(err, Closing(shown), status_of(shown)),
+        Err(fault) => tell(err, fault, fault.status()),
+    }
+}
+
+#[tactic(auto, using(crate::proofs::Tables::exec_in_table, crate::proofs::Tables::shown_in_table))]
+fn run_bytes<W: Write, E: Write>(
+    alloc: Global,
+    bytes: &[u8],
+    limit: u64,
+    out: &mut W,
+    err: &mut E,
+) -> u8
+    ensures does { (answer : Answer) × Executed bytes.now limit answer (W.contents out.old) (W.contents out.new)
+        × IsTold answer result (E.contents err.old) (E.contents err.new) }
+    ensures table { result ≤ 7 }
+{
+    match exec(alloc, bytes, limit, out) {
+        Ok(shown) => tell(err, Closing(shown), status_of(shown)),
+        Err(fault) => tell(err, fault, fault.status()),
+    }
+}
+
+#[tactic(auto, using(crate::proofs::Tables::settle_in_table))]
+fn lay_out<W: Write, E: Write>(alloc: Global, bytes: &[u8], out: &mut W, err: &mut E) -> u8
+    ensures does { (answer : Answer) × Settled bytes.now answer (W.contents out.old) (W.contents out.new)
+        × IsTold answer result (E.contents err.old) (E.contents err.new) }
+    ensures table { result ≤ 7 }
+{
+    match settle(alloc, bytes, out) {
+        Ok(()) => 0,
+        Err(fault) => tell(err, fault, fault.status()),
+    }
+}
+
+#[tactic(auto, using(crate::proofs::Tables::schedule_in_table))]
+fn play<W: Write, E: Write>(alloc: Global, schedule: &[u8], out: &mut W, err: &mut E) -> u8
+    ensures does { (answer : Answer) × Simulated schedule.now answer (W.contents out.old) (W.contents out.new)
+        × IsTold answer result (E.contents err.old) (E.contents err.new) }
+    ensures table { result ≤ 7 }
+{
+    match simulate(alloc, schedule, out) {
+        Ok(()) => 0,
+        Err(fault) => tell(err, fault, fault.status()),
+    }
+}
+
+/// Does the task on the bytes of its file: writes the output, tells a line on standard error where there is one, and
+/// gives the exit status.
+pub(crate) fn perform<W: Write, E: Write>(
+    alloc: Global,
+    task: Task,
+    bytes: &[u8],
+    out: &mut W,
+    err: &mut E,
+) -> u8
+    ensures does { Performs task bytes.now result (W.contents out.old) (W.contents out.new)
+        (E.contents err.old) (E.contents err.new) }
+    ensures table { result ≤ 7 }
+{
+    match task {
+        Task::Check => check(alloc, bytes, out, err),
+        Task::Interpret(depth) => run_text(alloc, bytes, depth, out, err),
+        Task::Exec(limit) => run_bytes(alloc, bytes, limit, out, err),
+        Task::Settle => lay_out(alloc, bytes, out, err),
+        Task::Simulate => play(alloc, bytes, out, err),
+    }
+}

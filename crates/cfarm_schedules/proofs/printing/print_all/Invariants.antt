@@ -1,6 +1,0 @@
-use Rattle.std.proofs.Common.{take}
-use Rattle.std.specs.Io.KnownBytes.{Appends}
-use Rattle.cfarm_schedules.proofs.printing.print_all.Given as goal
-
-abbrev pub invariant-loop-count : goal.invariant-loop-count
-invariant-loop-count g l = Appends (g.W.Write.contents l.fn.out) (g.W.Write.contents l.out) (take l.count l.bytes)
