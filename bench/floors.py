@@ -23,7 +23,7 @@ FLOORS = [
     ("C: tokens and trees, the reader, the checker, the meaning",
      "c_syntax c_lexer_spellings c_lexer_parts c_lexer c_reader_tokens c_reader_expression_laws c_reader_expressions "
      "c_reader_productions c_reader_statement_laws c_reader_statements c_reader_declaration_laws c_reader c_program "
-     "c_checker_scopes c_checker_rules c_checker_terms c_checker_bodies c_checker_declarations c_checker "
+     "c_checker_scopes c_checker_rules c_checker_names c_checker_terms c_checker_bodies c_checker_declarations c_checker "
      "c_meaning_machine c_meaning"),
     ("Languages: whole programs of any, Cminor, RTL, LTL, Linear",
      "lang locations machine cminor_syntax cminor_form cminor_codec cminor_language rtl_parts rtl_language rtl_decoded "
@@ -33,19 +33,19 @@ FLOORS = [
      "rtlgen_code rtlgen"),
     ("Passes: the rules of each, that they keep the meaning, the check",
      "rtl_passes constprop_check_rules constprop_check cse_check_rules cse_check_codec cse_check alloc_check_rules "
-     "alloc_check_laws alloc_check_blocks alloc_check_verdict alloc_check linearize_check_proof "
+     "alloc_check_laws alloc_check_blocks alloc_check_verdict alloc_check_live alloc_check linearize_check_proof "
      "linearize_check_layout linearize_check"),
     ("Optimisers: they propose, and nothing is claimed of them",
      "oracle_const oracle_cse oracle_alloc_blocks oracle_alloc oracle_order"),
     ("Offers, chains of them, and the linked program",
-     "offers parallel_validate linker_passes linker chains"),
+     "offers parallel_validate linker chains"),
     ("Agreement: the protocol, rooms on shared words",
      "paxos_core_world paxos_core_invariant paxos_core_model paxos_core_law paxos_core_late_offers paxos_core rooms_rule "
-     "rooms_steps rooms_state rooms_seat rooms_cells rooms"),
+     "rooms_steps rooms_state rooms_seat rooms_cells rooms_hall rooms rooms_numbered"),
     ("Journals", "durable_model_writes durable_model acceptor_log_form acceptor_log"),
-    ("The farm", "farm_nodes_acting"),
-    ("The program", "cfarm_texts cfarm_commands cfarm_schedules_lines cfarm_schedules cfarm"),
-    ("Tests", "program_rows paxos_reference worked_agreement worked_texts worked_forms worked_offers worked_rows worked_disk "
+    ("The farm", "farm_nodes_acting farm_nodes_leading farm_nodes_offers farm_nodes_playing"),
+    ("The program", "cfarm_output cfarm_texts cfarm_exec cfarm_commands cfarm_schedules_lines cfarm_schedules cfarm_words cfarm_program cfarm"),
+    ("Tests", "program_rows paxos_reference worked_commands worked_agreement worked_texts worked_forms worked_offers worked_rows worked_disk "
      "worked_journals worked_rooms"),
 ]
 ORDER = [crate for _, crates in FLOORS for crate in crates.split()]
