@@ -10,10 +10,11 @@
 A crate names another where its code (`name::`), its definitions, its proofs (`Rattle.name.`) or its edits do."""
 import os
 import re
+import subprocess
 import sys
 
 ROOT = os.path.dirname(os.path.dirname(os.path.realpath(__file__)))
-KIT = "/opt/rattle/rlibs"
+KIT = f"{os.path.dirname(subprocess.run(['rt', 'doc'], stdout=subprocess.PIPE, text=True, check=True).stdout.strip())}/rlibs"
 LINES, FUNCTIONS, CLAUSE = 1500, 100, 120
 TOLD = ("specs", "proofs", "src", "must-fail", "planted")
 
