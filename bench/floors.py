@@ -44,7 +44,7 @@ FLOORS = [
      "paxos_core_world paxos_core_invariant paxos_core_model paxos_core_law paxos_core_late_offers paxos_core rooms_rule "
      "rooms_steps rooms_state rooms_seat rooms_cells rooms_hall rooms rooms_numbered"),
     ("Journals", "durable_model_writes durable_model acceptor_log_form acceptor_log"),
-    ("The farm", "farm_nodes_acting farm_nodes_leading farm_nodes_offers farm_nodes_playing"),
+    ("The farm", "farm_nodes_acting farm_nodes_leading farm_nodes_offers farm_nodes_playing farm_nodes_passes"),
     ("The program", "cfarm_output cfarm_texts cfarm_exec cfarm_commands cfarm_schedules_lines cfarm_schedules cfarm_words cfarm_program cfarm"),
     ("Tests", "program_rows paxos_reference worked_commands worked_agreement worked_texts worked_forms worked_offers worked_rows worked_disk "
      "worked_journals worked_rooms"),
