@@ -5,9 +5,9 @@ use Rattle.farm_nodes_passes.specs.declared.which.Which.TheVariants.{First, Seco
 
 -- the pass at this place, the first being 0
 abbrev pub pass_at : ℕ → Which
-pass_at 0 = First
-pass_at 1 = Second
-pass_at 2 = Third
+pass_at zero = First
+pass_at (suc zero) = Second
+pass_at (suc (suc zero)) = Third
 pass_at (suc (suc (suc _))) = Fourth
 
 -- its place

@@ -1,5 +1,5 @@
 ghost use Rattle.std.specs.Prelude.{◌≡◌};
-ghost use Rattle.farm_nodes_passes.specs.Numbers.{pass_of};
+ghost use Rattle.farm_nodes_passes.specs.Numbers.{pass_of, place_of};
 
 /// A pass by its place in the order.
 #[derive(Clone, Copy, Debug, PartialEq, Eq)]
@@ -20,6 +20,17 @@ impl Which {
             1 => Which::Second,
             2 => Which::Third,
             _ => Which::Fourth,
+        }
+    }
+    /// Its place in the order, the first pass's being 0.
+    pub fn place(self) -> u16
+        ensures { result ≡ place_of self }
+    {
+        match self {
+            Which::First => 0,
+            Which::Second => 1,
+            Which::Third => 2,
+            Which::Fourth => 3,
         }
     }
 }
