@@ -20,7 +20,7 @@ TOLD = ("specs", "proofs", "src", "must-fail", "planted")
 
 # Each floor: its name, and its crates, lowest first.
 FLOORS = [
-    ("Base: machine words, languages, passes, programs", "ints lang_base lang_programs owned"),
+    ("Base: machine words, languages, passes, programs", "ints lang_base lang_parts lang_programs owned"),
     ("C: tokens and trees, the reader, the checker, the meaning",
      "c_syntax c_lexer_spellings c_lexer_parts c_lexer c_reader_tokens c_reader_expression_laws c_reader_expressions "
      "c_reader_productions c_reader_statement_laws c_reader_statements c_reader_declaration_laws c_reader c_program "

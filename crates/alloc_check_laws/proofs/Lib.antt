@@ -1,4 +1,3 @@
 pub mod Forms
-pub mod Written
 pub mod Steps
 pub mod Sound

@@ -1,15 +1,10 @@
 -- How equations are read.
-use Rattle.std.specs.Prelude.{ℕ, List, []}
-use Rattle.lang_base.specs.Reading.{Reading, made, both, more}
+use Rattle.std.specs.Prelude.{ℕ}
+use Rattle.lang_base.specs.Reading.{Reading, made, both}
 use Rattle.locations.specs.Reading.{location}
 use Rattle.rtl_parts.specs.Reading.{register}
-use Rattle.rtl_passes.specs.ListForm.{list}
 use Rattle.alloc_check_rules.specs.declared.equation.Equation.{Equation}
 
 -- one of so many registers, and a location among so many slots
 unfoldable pub equation : ℕ → ℕ → Reading Equation
 equation registers slots bytes = made (λ p. record { register = p.0; location = p.1 }) (both (register registers) (λ r. location slots)) bytes
-
--- a list of them for each of so many nodes
-abbrev pub lists_for : (nodes registers slots : ℕ) → Reading (List (List Equation))
-lists_for nodes registers slots bytes = more (λ before. list (equation registers slots)) [] nodes bytes

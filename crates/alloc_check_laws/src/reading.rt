@@ -1,14 +1,14 @@
 //! Readers of equations: for each node their number and the equations, each a register and a
 //! location.
 
-ghost use Rattle.std.specs.Prelude.{◌≡◌, []};
-ghost use Rattle.lang_base.specs.Reading.{IsRead, Reads, items_of, more};
+ghost use Rattle.lang_base.specs.Reading.{IsRead, Reads, items_of};
 ghost use Rattle.locations.specs.Reading.{location};
 ghost use Rattle.rtl_passes.specs.ListForm.{list, lists};
-ghost use Rattle.alloc_check_laws.specs.Reading.{equation, lists_for};
+ghost use Rattle.alloc_check_laws.specs.Reading.{equation};
 
 use alloc_check_rules::Equation;
 use lang_base::{FormError, Row, read_byte, read_u16, read_u16_below};
+use lang_parts::{ReadOne, read_so_many};
 use locations::{Location, read_register as read_place};
 use rtl_parts::read_register;
 use std::alloc::Global;
@@ -35,21 +35,26 @@ fn read_equation(registers: u32, slots: u32, bytes: &mut &[u8]) -> Result<Equati
     Ok(Equation { register, location })
 }
 
-fn read_so_many(
-    alloc: Global,
+/// Reads equations among so many registers and slots.
+#[derive(Drop)]
+struct Equations {
     registers: u32,
     slots: u32,
-    count: u16,
-    bytes: &mut &[u8],
-) -> Result<Vec<Equation>, FormError>
-    ensures { Reads (more (λ before. equation registers slots) [] count bytes.old.now) (items_of result) bytes.new.now }
-{
-    let mut equations = Vec::new(alloc);
-    for _ in 0..count {
-        let equation = read_equation(registers, slots, bytes)?;
-        equations.push(equation)?;
+}
+
+impl ReadOne for Equations {
+    type Item = Equation;
+
+    ghost part = { λ reader _. equation reader.registers reader.slots };
+
+    fn read(
+        &mut self,
+        _alloc: Global,
+        _before: &[Equation],
+        bytes: &mut &[u8],
+    ) -> Result<Equation, FormError> {
+        read_equation(self.registers, self.slots, bytes)
     }
-    Ok(equations)
 }
 
 /// The equations of a node.
@@ -63,25 +68,35 @@ fn read_list(
     ensures { Reads (list (equation registers slots) bytes.old.now) result bytes.new.now }
 {
     let count = read_u16(bytes)?;
-    let equations = read_so_many(alloc, registers, slots, count, bytes)?;
+    let equations = read_so_many(
+        alloc,
+        Equations { registers, slots },
+        u32::from(count),
+        bytes,
+    )?;
     Ok(Row::from_vec(equations))
 }
 
-fn read_each(
-    alloc: Global,
+/// Reads the equations of nodes, among so many registers and slots.
+#[derive(Drop)]
+struct Lists {
     registers: u32,
     slots: u32,
-    nodes: u32,
-    bytes: &mut &[u8],
-) -> Result<Vec<Row<Equation>>, FormError>
-    ensures { Reads (lists_for nodes registers slots bytes.old.now) (items_of result) bytes.new.now }
-{
-    let mut read = Vec::new(alloc);
-    for _ in 0..nodes {
-        let equations = read_list(alloc, registers, slots, bytes)?;
-        read.push(equations)?;
+}
+
+impl ReadOne for Lists {
+    type Item = Row<Equation>;
+
+    ghost part = { λ reader _. list (equation reader.registers reader.slots) };
+
+    fn read(
+        &mut self,
+        alloc: Global,
+        _before: &[Row<Equation>],
+        bytes: &mut &[u8],
+    ) -> Result<Row<Equation>, FormError> {
+        read_list(alloc, self.registers, self.slots, bytes)
     }
-    Ok(read)
 }
 
 /// The equations of so many nodes, among so many registers and slots.
@@ -95,5 +110,5 @@ pub fn read_lists(
 ) -> Result<Vec<Row<Equation>>, FormError>
     ensures { Reads (lists (equation registers slots) nodes bytes.old.now) (items_of result) bytes.new.now }
 {
-    read_each(alloc, registers, slots, nodes, bytes)
+    read_so_many(alloc, Lists { registers, slots }, nodes, bytes)
 }

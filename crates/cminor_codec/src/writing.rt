@@ -8,10 +8,11 @@ ghost use Rattle.cminor_syntax.specs.Views.{expression_tree, statement_tree, sta
 ghost use Rattle.cminor_form.specs.Spelling.{expression_text, target_text, arguments_text, statement_text};
 ghost use Rattle.cminor_codec.specs.Codes.{expression_code, statement_code, call_text};
 ghost use Rattle.cminor_codec.specs.Short.{HasShortLists};
-ghost use Rattle.cminor_codec.specs.Parts.{expressions_text, returned_text, count_text, stored_text, statements_text};
+ghost use Rattle.cminor_codec.specs.Parts.{returned_text, count_text, stored_text, statements_text};
 
 use cminor_syntax::{Expression, Statement};
 use lang_base::{NoMemory, push_byte, push_u16, push_u32};
+use lang_parts::{WriteOne, push_each as push_each_of};
 
 /// The first byte of an expression.
 fn code_of_expression(expression: &Expression) -> u8
@@ -68,13 +69,17 @@ fn push_target(out: &mut Vec<u8>, target: Option<u16>) -> Result<(), NoMemory>
     }
 }
 
-fn push_each_expression(out: &mut Vec<u8>, expressions: &[Expression]) -> Result<(), NoMemory>
-    ensures { Appends result (expressions_text expressions.now) out.old.items out.new.items }
-{
-    for expression in expressions {
-        push_expression(out, expression)?;
+/// Writes expressions.
+struct Expressions;
+
+impl WriteOne for Expressions {
+    type Item = Expression;
+
+    ghost text = { λ e. expression_text (expression_tree e) };
+
+    fn push(out: &mut Vec<u8>, item: &Expression) -> Result<(), NoMemory> {
+        push_expression(out, item)
     }
-    Ok(())
 }
 
 /// The number of the arguments, and the arguments.
@@ -84,7 +89,7 @@ fn push_arguments(out: &mut Vec<u8>, arguments: &[Expression]) -> Result<(), NoM
     ensures { Appends result (arguments_text (map expression_tree arguments.now)) out.old.items out.new.items }
 {
     push_byte(out, arguments.len() as u8)?;
-    push_each_expression(out, arguments)
+    push_each_of::<Expressions>(out, arguments)
 }
 
 /// What a return gives, if anything.

@@ -1,13 +1,13 @@
 //! Readers of globals. Each is one function on lists, which says the value and the bytes behind it,
 //! or the first fault.
 
-ghost use Rattle.std.specs.Prelude.{◌≡◌, ◌+◌, ◌≤◌, [], IfOk};
-ghost use Rattle.lang_base.specs.Reading.{IsRead, Reads, items_of, more, number};
-ghost use Rattle.std.specs.Int.{w32};
+ghost use Rattle.std.specs.Prelude.{◌≡◌, ◌+◌, ◌≤◌, IfOk};
+ghost use Rattle.lang_base.specs.Reading.{IsRead, Reads, items_of};
 ghost use Rattle.lang.specs.Form.{ends_well, cell_limit, cells_of_all};
 ghost use Rattle.lang.specs.Reading.{cells, words, global, globals};
 
 use lang_base::{FormError, Row, read_u16, read_u32};
+use lang_parts::{ReadOne, Word, read_so_many};
 use std::alloc;
 
 /// The number of a global's cells, behind globals of so many.
@@ -26,21 +26,6 @@ fn read_cells(total: u32, bytes: &mut &[u8]) -> Result<u32, FormError>
     Ok(cells)
 }
 
-fn read_so_many_words(
-    alloc: alloc::Global,
-    count: u32,
-    bytes: &mut &[u8],
-) -> Result<Vec<u32>, FormError>
-    ensures { Reads (more (λ before. number w32) [] count bytes.old.now) (items_of result) bytes.new.now }
-{
-    let mut words = Vec::new(alloc);
-    for _ in 0..count {
-        let word = read_u32(bytes)?;
-        words.push(word)?;
-    }
-    Ok(words)
-}
-
 /// Whether the last word is not 0, where there are any.
 fn ends_well(words: &[u32]) -> bool
     ensures { result ≡ ends_well words.now }
@@ -57,7 +42,7 @@ fn read_words(alloc: alloc::Global, cells: u32, bytes: &mut &[u8]) -> Result<Vec
     if count > cells {
         return Err(FormError::NotCanonical);
     }
-    let words = read_so_many_words(alloc, count, bytes)?;
+    let words = read_so_many(alloc, Word, count, bytes)?;
     if ends_well(&words) {
         Ok(words)
     } else {
@@ -83,21 +68,29 @@ fn read_global(
     })
 }
 
-fn read_so_many_globals(
-    alloc: alloc::Global,
-    count: u16,
-    bytes: &mut &[u8],
-) -> Result<Vec<lang_base::Global>, FormError>
-    ensures { Reads (more (λ before. global (cells_of_all before)) [] count bytes.old.now) (items_of result) bytes.new.now }
-{
-    let mut globals = Vec::new(alloc);
-    let mut total = 0;
-    for _ in 0..count {
-        let global = read_global(alloc, total, bytes)?;
-        total += global.cells;
-        globals.push(global)?;
+/// Reads globals, and counts the cells of those before.
+#[derive(Drop)]
+struct Globals {
+    total: u32,
+}
+
+impl ReadOne for Globals {
+    type Item = lang_base::Global;
+
+    ghost part = { λ _ before. global (cells_of_all before) };
+
+    ghost keeps = { λ reader before. (reader.total ≡ cells_of_all before) × (reader.total ≤ cell_limit) };
+
+    fn read(
+        &mut self,
+        alloc: alloc::Global,
+        _before: &[lang_base::Global],
+        bytes: &mut &[u8],
+    ) -> Result<lang_base::Global, FormError> {
+        let global = read_global(alloc, self.total, bytes)?;
+        self.total += global.cells;
+        Ok(global)
     }
-    Ok(globals)
 }
 
 /// The globals, behind their number.
@@ -112,6 +105,6 @@ pub fn read_globals(
     if count > 1024 {
         return Err(FormError::TooLarge);
     }
-    let globals = read_so_many_globals(alloc, count, bytes)?;
+    let globals = read_so_many(alloc, Globals { total: 0 }, u32::from(count), bytes)?;
     Ok(Row::from_vec(globals))
 }

@@ -1,14 +1,15 @@
 //! Names of functions.
 
-ghost use Rattle.std.specs.Prelude.{◌≡◌, ◌↔◌, [], IsTrue};
+ghost use Rattle.std.specs.Prelude.{◌≡◌, ◌↔◌, IsTrue};
 ghost use Rattle.std.specs.List.{list_all};
-ghost use Rattle.lang_base.specs.Reading.{Reads, items_of, more, byte};
+ghost use Rattle.lang_base.specs.Reading.{Reads, items_of};
 ghost use Rattle.c_lexer_spellings.specs.Bytes.{is_word_byte, begins_with_digit};
 ghost use Rattle.c_lexer_parts.specs.Lexemes.{IsName};
 ghost use Rattle.lang.specs.Reading.{is_word, is_name, name};
 
 use c_lexer_spellings::{byte_at, is_word_byte, keyword};
 use lang_base::{FormError, read_byte};
+use lang_parts::{Byte, read_so_many};
 use std::alloc::Global;
 
 fn has_word_bytes(bytes: &[u8]) -> bool
@@ -47,24 +48,13 @@ pub fn is_name(bytes: &[u8]) -> bool
     passes(bytes)
 }
 
-fn read_so_many_bytes(alloc: Global, count: u8, bytes: &mut &[u8]) -> Result<Vec<u8>, FormError>
-    ensures { Reads (more (λ before. byte) [] count bytes.old.now) (items_of result) bytes.new.now }
-{
-    let mut name = Vec::new(alloc);
-    for _ in 0..count {
-        let byte = read_byte(bytes)?;
-        name.push(byte)?;
-    }
-    Ok(name)
-}
-
 /// A name behind its length.
 #[tactic(auto, unfolding(crate::specs::Reading::name))]
 pub fn read_name(alloc: Global, bytes: &mut &[u8]) -> Result<Vec<u8>, FormError>
     ensures { Reads (name bytes.old.now) (items_of result) bytes.new.now }
 {
     let count = read_byte(bytes)?;
-    let name = read_so_many_bytes(alloc, count, bytes)?;
+    let name = read_so_many(alloc, Byte, u32::from(count), bytes)?;
     if passes(&name) {
         Ok(name)
     } else {

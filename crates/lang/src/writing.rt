@@ -1,23 +1,13 @@
 //! Writers of the parts of a program: each appends the text.
 
 ghost use Rattle.std.specs.Prelude.{◌≤◌, length, All};
-ghost use Rattle.std.specs.List.{flat_map};
-ghost use Rattle.std.specs.Int.{w32, to_be_bytes};
 ghost use Rattle.lang_base.specs.Texts.{Appends};
 ghost use Rattle.lang.specs.Form.{name_text, named_text, global_text, globals_text, head_text};
 ghost use Rattle.lang.specs.Fronts.{functions_text};
 ghost use Rattle.lang.specs.Shorts.{IsShortNamed, IsShortGlobal};
 
 use lang_base::{Language, Named, NoMemory, push_byte, push_u16, push_u32};
-
-fn push_each_word(out: &mut Vec<u8>, words: &[u32]) -> Result<(), NoMemory>
-    ensures { Appends result (flat_map (to_be_bytes w32) words.now) out.old.items out.new.items }
-{
-    for word in words {
-        push_u32(out, *word)?;
-    }
-    Ok(())
-}
+use lang_parts::{Word, WriteOne, push_each};
 
 fn push_global(out: &mut Vec<u8>, global: &lang_base::Global) -> Result<(), NoMemory>
     requires { IsShortGlobal global.now }
@@ -25,17 +15,22 @@ fn push_global(out: &mut Vec<u8>, global: &lang_base::Global) -> Result<(), NoMe
 {
     push_u32(out, global.cells)?;
     push_u32(out, global.first_words.len() as u32)?;
-    push_each_word(out, global.first_words.as_slice())
+    push_each::<Word>(out, global.first_words.as_slice())
 }
 
-fn push_each_global(out: &mut Vec<u8>, globals: &[lang_base::Global]) -> Result<(), NoMemory>
-    requires { All IsShortGlobal globals.now }
-    ensures { Appends result (flat_map global_text globals.now) out.old.items out.new.items }
-{
-    for global in globals {
-        push_global(out, global)?;
+/// Writes globals.
+struct Globals;
+
+impl WriteOne for Globals {
+    type Item = lang_base::Global;
+
+    ghost text = { global_text };
+
+    ghost is_short = { IsShortGlobal };
+
+    fn push(out: &mut Vec<u8>, item: &lang_base::Global) -> Result<(), NoMemory> {
+        push_global(out, item)
     }
-    Ok(())
 }
 
 fn push_globals(out: &mut Vec<u8>, globals: &[lang_base::Global]) -> Result<(), NoMemory>
@@ -44,7 +39,7 @@ fn push_globals(out: &mut Vec<u8>, globals: &[lang_base::Global]) -> Result<(), 
     ensures { Appends result (globals_text globals.now) out.old.items out.new.items }
 {
     push_u16(out, globals.len() as u16)?;
-    push_each_global(out, globals)
+    push_each::<Globals>(out, globals)
 }
 
 /// What stands before the functions.

@@ -1,5 +1,5 @@
 -- Two functions are equal where their parts are, and then they are one.
-use Rattle.std.proofs.Common.{◌≡◌, ℕ, Bool, true, false, List, [], ◌∷◌, Option, Some, None, refl, ap}
+use Rattle.std.proofs.Common.{◌≡◌, ℕ, Bool, true, false, List, Option, Some, None, refl, ap}
 use Rattle.std.specs.Prelude.{◌&&◌, nat_eq}
 use Rattle.std.specs.Cmp.{IsEquivalence}
 use Rattle.std.specs.Cmp.Lexicographic.{pointwise}
@@ -9,7 +9,8 @@ use Rattle.locations.specs.declared.location.Location.{Location}
 use Rattle.locations.specs.contracts.location.LocationPartialEq.TheImpl as location_eq
 use Rattle.locations.specs.contracts.location.LocationEq.TheImpl.Laws as location_laws
 use Rattle.machine.specs.contracts.test.TestPartialEq.TheImpl as test_eq
-use Rattle.machine.proofs.Equal.{Tells, location_tells, move_tells, act_tells, test_tells}
+use Rattle.lang_parts.proofs.Equal.{Tells, lists_tell}
+use Rattle.machine.proofs.Equal.{location_tells, move_tells, act_tells, test_tells}
 use Rattle.linear_language.specs.contracts.instruction.InstructionPartialEq.TheImpl as instruction_eq
 use Rattle.linear_language.specs.contracts.instruction.InstructionEq.TheImpl.Laws as instruction_laws
 use Rattle.linear_language.specs.declared.instruction.Instruction.TheVariants.{Do, Copy, Call, Branch, Return, Label, Goto}
@@ -23,12 +24,6 @@ same_laws =
     and_equiv
     (and_equiv (on_equiv (λ (f : FunctionData). f.parameters) (lists_equiv location_laws.laws-law)) (on_equiv (λ (f : FunctionData). f.slots) nat_eq_equiv))
     (on_equiv (λ (f : FunctionData). f.code) (lists_equiv instruction_laws.laws-law))
-
-pub lists_tell : {A : Type 0} (eq : A → A → Bool) → Tells eq → Tells (pointwise eq)
-lists_tell eq tells [] [] e = refl
-lists_tell eq tells [] (y ∷ ys) e = absurd cc
-lists_tell eq tells (x ∷ xs) [] e = absurd cc
-lists_tell eq tells (x ∷ xs) (y ∷ ys) e = let p = and_parts (eq x y) (pointwise eq xs ys) e in λ i. tells x y p.0 i ∷ lists_tell eq tells xs ys p.1 i
 
 value_tells : (v w : Option ℕ) → (instruction_eq.ghosts).eq (Return v) (Return w) ≡ true → v ≡ w
 value_tells None None e = refl

@@ -1,15 +1,17 @@
 //! Readers of the parts of a function. Each is one function on lists, which says the value and the
 //! bytes behind it, or the first fault.
 
-ghost use Rattle.std.specs.Prelude.{◌≡◌, ℕ, ◌^◌, ◌<◌, [], IfOk, length, slice_index};
-ghost use Rattle.lang_base.specs.Reading.{IsRead, Reads, items_of, more};
-ghost use Rattle.linear_language.specs.Noting.{IsNoted, ReadsPlaced};
+ghost use Rattle.std.specs.Prelude.{ℕ, ◌<◌, slice_index};
+ghost use Rattle.lang_base.specs.Reading.{Reads, items_of};
+ghost use Rattle.linear_language.specs.Flags.{Flags};
+ghost use Rattle.linear_language.specs.Labels.{labels_of};
 ghost use Rattle.linear_language.specs.Reading.{instruction, calling, placed, code, parts, function};
 
 use crate::function::Function;
 use crate::instruction::Instruction;
 use crate::labels::{no_labels, note};
 use lang_base::{FormError, Row, read_byte, read_u16, read_u32};
+use lang_parts::{ReadOne, read_so_many};
 use machine::{Location, read_act, read_call, read_frame, read_move, read_test, read_value};
 use std::alloc::Global;
 
@@ -55,41 +57,35 @@ fn read_instruction(alloc: Global, slots: u32, bytes: &mut &[u8]) -> Result<Inst
     }
 }
 
-/// An instruction behind others, whose labels the flags say: no label that stands before.
-#[tactic(auto, unfolding(crate::specs::Reading::placed))]
-fn read_placed(
-    alloc: Global,
+/// Reads instructions among so many slots. The flags say which labels stand before, and none stands
+/// twice.
+#[derive(Drop)]
+struct Instructions {
     slots: u32,
-    flags: &mut Vec<bool>,
-    bytes: &mut &[u8],
-) -> Result<Instruction, FormError>
-    requires { length flags.old.items ≡ 2 ^ 16 }
-    ensures read { ReadsPlaced slots flags.old.items bytes.old.now result bytes.new.now }
-    ensures flags { IfOk result (λ i. IsNoted flags.old.items i flags.new.items) }
-{
-    let instruction = read_instruction(alloc, slots, bytes)?;
-    if note(flags, &instruction) {
-        Ok(instruction)
-    } else {
-        Err(FormError::NotCanonical)
-    }
+    flags: Vec<bool>,
 }
 
-fn read_so_many(
-    alloc: Global,
-    count: u32,
-    slots: u32,
-    bytes: &mut &[u8],
-) -> Result<Vec<Instruction>, FormError>
-    ensures { Reads (more (placed slots) [] count bytes.old.now) (items_of result) bytes.new.now }
-{
-    let mut code = Vec::new(alloc);
-    let mut flags = no_labels(alloc)?;
-    for _ in 0..count {
-        let instruction = read_placed(alloc, slots, &mut flags, bytes)?;
-        code.push(instruction)?;
+impl ReadOne for Instructions {
+    type Item = Instruction;
+
+    ghost part = { λ reader. placed reader.slots };
+
+    ghost keeps = { λ reader before. Flags reader.flags.items (labels_of before) };
+
+    #[tactic(auto, unfolding(crate::specs::Reading::placed))]
+    fn read(
+        &mut self,
+        alloc: Global,
+        _before: &[Instruction],
+        bytes: &mut &[u8],
+    ) -> Result<Instruction, FormError> {
+        let instruction = read_instruction(alloc, self.slots, bytes)?;
+        if note(&mut self.flags, &instruction) {
+            Ok(instruction)
+        } else {
+            Err(FormError::NotCanonical)
+        }
     }
-    Ok(code)
 }
 
 /// The number of instructions, and the instructions.
@@ -98,7 +94,11 @@ fn read_code(alloc: Global, slots: u16, bytes: &mut &[u8]) -> Result<Vec<Instruc
     ensures { Reads (code slots bytes.old.now) (items_of result) bytes.new.now }
 {
     let count = read_u32(bytes)?;
-    read_so_many(alloc, count, u32::from(slots), bytes)
+    let reader = Instructions {
+        slots: u32::from(slots),
+        flags: no_labels(alloc)?,
+    };
+    read_so_many(alloc, reader, count, bytes)
 }
 
 /// The parameters, the slots, and the code.

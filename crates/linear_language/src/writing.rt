@@ -1,7 +1,5 @@
 //! Writers of the parts of a function: each appends the text.
 
-ghost use Rattle.std.specs.Prelude.{All};
-ghost use Rattle.std.specs.List.{flat_map};
 ghost use Rattle.lang_base.specs.Texts.{Appends};
 ghost use Rattle.linear_language.specs.Function.{HasShortList};
 ghost use Rattle.linear_language.specs.Spelling.{instruction_text, spelling};
@@ -9,6 +7,7 @@ ghost use Rattle.linear_language.specs.Spelling.{instruction_text, spelling};
 use crate::function::Function;
 use crate::instruction::Instruction;
 use lang_base::{NoMemory, push_byte, push_u16, push_u32};
+use lang_parts::{WriteOne, push_each};
 use machine::{push_act, push_call, push_frame, push_move, push_test, push_value};
 
 fn push_instruction(out: &mut Vec<u8>, instruction: &Instruction) -> Result<(), NoMemory>
@@ -49,14 +48,16 @@ fn push_instruction(out: &mut Vec<u8>, instruction: &Instruction) -> Result<(), 
     }
 }
 
-fn push_each(out: &mut Vec<u8>, code: &[Instruction]) -> Result<(), NoMemory>
-    requires { All HasShortList code.now }
-    ensures { Appends result (flat_map instruction_text code.now) out.old.items out.new.items }
-{
-    for instruction in code {
-        push_instruction(out, instruction)?;
+impl WriteOne for Instruction {
+    type Item = Instruction;
+
+    ghost text = { instruction_text };
+
+    ghost is_short = { HasShortList };
+
+    fn push(out: &mut Vec<u8>, item: &Instruction) -> Result<(), NoMemory> {
+        push_instruction(out, item)
     }
-    Ok(())
 }
 
 /// A function, its tag first.
@@ -67,5 +68,5 @@ pub fn push_function(out: &mut Vec<u8>, function: &Function) -> Result<(), NoMem
     push_byte(out, 4)?;
     push_frame(out, function.parameters().as_slice(), function.slots())?;
     push_u32(out, code.len() as u32)?;
-    push_each(out, code)
+    push_each::<Instruction>(out, code)
 }

@@ -1,19 +1,10 @@
 -- Derived equalities tell values apart exactly.
-use Rattle.std.proofs.Common.{◌≡◌, Bool, true, ap, subst}
-use Rattle.std.specs.Prelude.{◌↔◌}
-use Rattle.std.specs.Cmp.{IsEquivalence}
+use Rattle.std.proofs.Common.{ap}
 use Rattle.std.proofs.lemmas.Bool.{eqb-true, and_parts, false≢true}
 use Rattle.locations.specs.declared.location.Location.TheVariants.{InRegister, InSlot}
 use Rattle.locations.specs.contracts.location.LocationPartialEq.TheImpl as location_eq
 use Rattle.locations.specs.contracts.location.MovePartialEq.TheImpl as move_eq
-
--- what is called equal is one
-abbrev pub Tells : {A : Type 0} → (A → A → Bool) → Type 0
-Tells {A} eq = (a b : A) → eq a b ≡ true → a ≡ b
-
--- and so an equality decides
-pub tells_decides : {A : Type 0} {eq : A → A → Bool} → IsEquivalence eq → Tells eq → (a b : A) → (eq a b ≡ true) ↔ (a ≡ b)
-tells_decides {eq = eq} laws tells a b = (tells a b, λ same. subst (λ x. eq a x ≡ true) same (laws.refl a))
+pub use Rattle.lang_parts.proofs.Equal.{Tells, tells_decides}
 
 pub location_tells : Tells (location_eq.ghosts).eq
 location_tells (InRegister r) (InRegister q) e = ap (λ n. InRegister n) (eqb-true r q e)

@@ -1,14 +1,15 @@
 //! Readers of locations and of what is made of them. Each is one function on lists, which says the
 //! value and the bytes behind it, or the first fault.
 
-ghost use Rattle.std.specs.Prelude.{◌≡◌, [], ◌^◌, ◌&&◌};
+ghost use Rattle.std.specs.Prelude.{◌≡◌, ◌^◌, ◌&&◌};
 ghost use Rattle.std.specs.List.{list_all};
-ghost use Rattle.lang_base.specs.Reading.{IsRead, Reads, items_of, more};
+ghost use Rattle.lang_base.specs.Reading.{IsRead, Reads, items_of};
 ghost use Rattle.locations.specs.Reading.{register, value, location, is_slot, one_move, moves, function_number, target, arguments, call, parameter, parameters, lies_within, frame};
 
 use crate::location::{Location, Move};
 use crate::register::{REGISTER_COUNT, Register};
 use lang_base::{FormError, Row, read_byte, read_count, read_u16, read_u16_below};
+use lang_parts::{ReadOne, read_so_many};
 use std::alloc::Global;
 
 /// A register.
@@ -67,30 +68,35 @@ pub fn read_move(slots: u32, bytes: &mut &[u8]) -> Result<Move, FormError>
     Ok(Move { target, source })
 }
 
+/// Reads moves among so many slots.
+#[derive(Drop)]
+struct Moves {
+    slots: u32,
+}
+
+impl ReadOne for Moves {
+    type Item = Move;
+
+    ghost part = { λ reader _. one_move reader.slots };
+
+    fn read(
+        &mut self,
+        _alloc: Global,
+        _before: &[Move],
+        bytes: &mut &[u8],
+    ) -> Result<Move, FormError> {
+        read_move(self.slots, bytes)
+    }
+}
+
 /// The moves of one list.
 #[tactic(auto, unfolding(crate::specs::Reading::moves))]
 pub fn read_moves(alloc: Global, slots: u32, bytes: &mut &[u8]) -> Result<Row<Move>, FormError>
     ensures { Reads (moves slots bytes.old.now) result bytes.new.now }
 {
     let count = read_byte(bytes)?;
-    let moves = read_so_many_moves(alloc, count, slots, bytes)?;
+    let moves = read_so_many(alloc, Moves { slots }, u32::from(count), bytes)?;
     Ok(Row::from_vec(moves))
-}
-
-fn read_so_many_moves(
-    alloc: Global,
-    count: u8,
-    slots: u32,
-    bytes: &mut &[u8],
-) -> Result<Vec<Move>, FormError>
-    ensures { Reads (more (λ before. one_move slots) [] count bytes.old.now) (items_of result) bytes.new.now }
-{
-    let mut moves = Vec::new(alloc);
-    for _ in 0..count {
-        let step = read_move(slots, bytes)?;
-        moves.push(step)?;
-    }
-    Ok(moves)
 }
 
 /// The number of a function.
@@ -118,30 +124,35 @@ fn read_target(slots: u32, bytes: &mut &[u8]) -> Result<Option<Location>, FormEr
     }
 }
 
+/// Reads locations among so many slots.
+#[derive(Drop)]
+struct Locations {
+    slots: u32,
+}
+
+impl ReadOne for Locations {
+    type Item = Location;
+
+    ghost part = { λ reader _. location reader.slots };
+
+    fn read(
+        &mut self,
+        _alloc: Global,
+        _before: &[Location],
+        bytes: &mut &[u8],
+    ) -> Result<Location, FormError> {
+        read_location(self.slots, bytes)
+    }
+}
+
 /// The number of a call's arguments, and where they lie.
 #[tactic(auto, unfolding(crate::specs::Reading::arguments))]
 fn read_arguments(alloc: Global, slots: u32, bytes: &mut &[u8]) -> Result<Row<Location>, FormError>
     ensures { Reads (arguments slots bytes.old.now) result bytes.new.now }
 {
     let count = read_byte(bytes)?;
-    let arguments = read_so_many_arguments(alloc, count, slots, bytes)?;
+    let arguments = read_so_many(alloc, Locations { slots }, u32::from(count), bytes)?;
     Ok(Row::from_vec(arguments))
-}
-
-fn read_so_many_arguments(
-    alloc: Global,
-    count: u8,
-    slots: u32,
-    bytes: &mut &[u8],
-) -> Result<Vec<Location>, FormError>
-    ensures { Reads (more (λ before. location slots) [] count bytes.old.now) (items_of result) bytes.new.now }
-{
-    let mut arguments = Vec::new(alloc);
-    for _ in 0..count {
-        let argument = read_location(slots, bytes)?;
-        arguments.push(argument)?;
-    }
-    Ok(arguments)
 }
 
 /// What a call names: a function, where the arguments lie, and where the result goes.
@@ -171,19 +182,23 @@ fn read_parameter(before: &[Location], bytes: &mut &[u8]) -> Result<Location, Fo
     Ok(location)
 }
 
-fn read_so_many_parameters(
-    alloc: Global,
-    count: u8,
-    bytes: &mut &[u8],
-) -> Result<Vec<Location>, FormError>
-    ensures { Reads (more parameter [] count bytes.old.now) (items_of result) bytes.new.now }
-{
-    let mut parameters = Vec::new(alloc);
-    for _ in 0..count {
-        let location = read_parameter(&parameters, bytes)?;
-        parameters.push(location)?;
+/// Reads parameters.
+#[derive(Drop)]
+struct Parameters;
+
+impl ReadOne for Parameters {
+    type Item = Location;
+
+    ghost part = { λ _. parameter };
+
+    fn read(
+        &mut self,
+        _alloc: Global,
+        before: &[Location],
+        bytes: &mut &[u8],
+    ) -> Result<Location, FormError> {
+        read_parameter(before, bytes)
     }
-    Ok(parameters)
 }
 
 #[tactic(auto, unfolding(crate::specs::Reading::parameters))]
@@ -191,7 +206,7 @@ fn read_parameters(alloc: Global, bytes: &mut &[u8]) -> Result<Vec<Location>, Fo
     ensures { Reads (parameters bytes.old.now) (items_of result) bytes.new.now }
 {
     let count = read_count(16, bytes)?;
-    read_so_many_parameters(alloc, count, bytes)
+    read_so_many(alloc, Parameters, u32::from(count), bytes)
 }
 
 /// Whether each of the locations is a register or one of so many slots.

@@ -1,7 +1,6 @@
 //! Writers of locations and of what is made of them: each appends the text.
 
 ghost use Rattle.std.specs.Prelude.{◌≤◌, length};
-ghost use Rattle.std.specs.List.{flat_map};
 ghost use Rattle.lang_base.specs.Texts.{Appends};
 ghost use Rattle.locations.specs.Fits.{move_limit, argument_limit, parameter_limit};
 ghost use Rattle.locations.specs.Spelling.{location_text, locations_text, move_text, moves_text, value_text, target_text, call_text, frame_text};
@@ -9,6 +8,7 @@ ghost use Rattle.locations.specs.Spelling.{location_text, locations_text, move_t
 use crate::location::{Location, Move};
 use crate::register::Register;
 use lang_base::{NoMemory, push_byte, push_u16};
+use lang_parts::{WriteOne, push_each};
 
 /// A register, or none.
 pub fn push_value(out: &mut Vec<u8>, value: Option<Register>) -> Result<(), NoMemory>
@@ -46,13 +46,14 @@ pub fn push_move(out: &mut Vec<u8>, step: &Move) -> Result<(), NoMemory>
     push_location(out, &step.source)
 }
 
-fn push_each_move(out: &mut Vec<u8>, moves: &[Move]) -> Result<(), NoMemory>
-    ensures { Appends result (flat_map move_text moves.now) out.old.items out.new.items }
-{
-    for step in moves {
-        push_move(out, step)?;
+impl WriteOne for Move {
+    type Item = Move;
+
+    ghost text = { move_text };
+
+    fn push(out: &mut Vec<u8>, item: &Move) -> Result<(), NoMemory> {
+        push_move(out, item)
     }
-    Ok(())
 }
 
 /// The moves of one list.
@@ -61,16 +62,17 @@ pub fn push_moves(out: &mut Vec<u8>, moves: &[Move]) -> Result<(), NoMemory>
     ensures { Appends result (moves_text moves.now) out.old.items out.new.items }
 {
     push_byte(out, moves.len() as u8)?;
-    push_each_move(out, moves)
+    push_each::<Move>(out, moves)
 }
 
-fn push_each_location(out: &mut Vec<u8>, locations: &[Location]) -> Result<(), NoMemory>
-    ensures { Appends result (flat_map location_text locations.now) out.old.items out.new.items }
-{
-    for location in locations {
-        push_location(out, location)?;
+impl WriteOne for Location {
+    type Item = Location;
+
+    ghost text = { location_text };
+
+    fn push(out: &mut Vec<u8>, item: &Location) -> Result<(), NoMemory> {
+        push_location(out, item)
     }
-    Ok(())
 }
 
 fn push_locations(out: &mut Vec<u8>, locations: &[Location]) -> Result<(), NoMemory>
@@ -78,7 +80,7 @@ fn push_locations(out: &mut Vec<u8>, locations: &[Location]) -> Result<(), NoMem
     ensures { Appends result (locations_text locations.now) out.old.items out.new.items }
 {
     push_byte(out, locations.len() as u8)?;
-    push_each_location(out, locations)
+    push_each::<Location>(out, locations)
 }
 
 /// A location, or none.

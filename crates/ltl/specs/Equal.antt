@@ -1,5 +1,5 @@
 -- Two functions are equal where their parts are, and then they are one.
-use Rattle.std.proofs.Common.{◌≡◌, ℕ, Bool, true, false, List, [], ◌∷◌, Option, Some, None, refl, ap}
+use Rattle.std.proofs.Common.{◌≡◌, ℕ, Bool, true, false, List, Option, Some, None, refl, ap}
 use Rattle.std.specs.Prelude.{◌&&◌, nat_eq}
 use Rattle.std.specs.Cmp.{IsEquivalence}
 use Rattle.std.specs.Cmp.Lexicographic.{pointwise}
@@ -12,7 +12,8 @@ use Rattle.locations.specs.contracts.location.LocationEq.TheImpl.Laws as locatio
 use Rattle.locations.specs.contracts.location.MovePartialEq.TheImpl as move_eq
 use Rattle.machine.specs.contracts.act.ActPartialEq.TheImpl as act_eq
 use Rattle.machine.specs.contracts.test.TestPartialEq.TheImpl as test_eq
-use Rattle.machine.proofs.Equal.{Tells, location_tells, move_tells, act_tells, test_tells}
+use Rattle.lang_parts.proofs.Equal.{Tells, lists_tell}
+use Rattle.machine.proofs.Equal.{location_tells, move_tells, act_tells, test_tells}
 use Rattle.ltl.specs.contracts.block.BodyPartialEq.TheImpl as body_eq
 use Rattle.ltl.specs.contracts.block.BlockPartialEq.TheImpl as block_eq
 use Rattle.ltl.specs.contracts.block.BlockEq.TheImpl.Laws as block_laws
@@ -29,12 +30,6 @@ same_laws =
     (and_equiv (on_equiv (λ (f : FunctionData). f.parameters) (lists_equiv location_laws.laws-law)) (on_equiv (λ (f : FunctionData). f.slots) nat_eq_equiv))
     (on_equiv (λ (f : FunctionData). f.entry) nat_eq_equiv))
     (on_equiv (λ (f : FunctionData). f.blocks) (lists_equiv block_laws.laws-law))
-
-lists_tell : {A : Type 0} (eq : A → A → Bool) → Tells eq → Tells (pointwise eq)
-lists_tell eq tells [] [] e = refl
-lists_tell eq tells [] (y ∷ ys) e = absurd (false≢true e)
-lists_tell eq tells (x ∷ xs) [] e = absurd (false≢true e)
-lists_tell eq tells (x ∷ xs) (y ∷ ys) e = let p = and_parts (eq x y) (pointwise eq xs ys) e in λ i. tells x y p.0 i ∷ lists_tell eq tells xs ys p.1 i
 
 moves_tell : Tells (pointwise (move_eq.ghosts).eq)
 moves_tell = lists_tell (move_eq.ghosts).eq move_tells

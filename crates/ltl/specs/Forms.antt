@@ -1,13 +1,11 @@
 -- The reading of LTL is a form: each spelling is read again, and nothing else is read.
-use Rattle.std.proofs.Common.{◌≡◌, ℕ, ◌<◌, ◌≤◌, ◌^◌, List, [], ◌++◌, length, Some, None, Ok, refl, sym, ap, subst, ◌∙◌, arith, append_assoc}
-use Rattle.std.specs.Prelude.{nat_lt}
+use Rattle.std.proofs.Common.{◌≡◌, ℕ, ◌<◌, ◌≤◌, ◌^◌, List, [], ◌++◌, Some, None, Ok, refl, arith}
 use Rattle.std.specs.Int.{w16, to_be_bytes}
-use Rattle.std.specs.List.{AllByRecursion, flat_map}
-use Rattle.std.proofs.lemmas.Bool.{ltb-true, lt-ltb}
-use Rattle.lang_base.specs.declared.errors.FormError.TheVariants.{NotCanonical}
-use Rattle.lang_base.specs.Reading.{number, both, follow}
+use Rattle.std.specs.List.{flat_map}
+use Rattle.lang_base.specs.Reading.{both, follow}
 use Rattle.lang_base.proofs.Forms.{IsForm}
-use Rattle.lang_base.proofs.Parts.{number16_form, made_takes, made_again, made_form, tested_form, fits_form, below_form, both_form}
+use Rattle.lang_parts.proofs.Graphs.{AllNodesFit, GraphFits, graph_of_form}
+use Rattle.lang_base.proofs.Parts.{number16_form, made_takes, made_again, made_form, fits_form, below_form, both_form}
 use Rattle.lang_base.proofs.Lists.{more_form, each_fits, fits_each, HasCode, TakesBehind, follow_form, coded_form, tagged_form}
 use Rattle.locations.specs.declared.location.Location.{Location}
 use Rattle.locations.specs.declared.location.Move.{Move}
@@ -23,7 +21,7 @@ use Rattle.ltl.specs.declared.block.Body.{Body}
 use Rattle.ltl.specs.declared.block.Body.TheVariants.{Go, Call, Branch, Return}
 use Rattle.ltl.specs.Function.{FunctionData, BodyFits, BlockFits, IsFunction}
 use Rattle.ltl.specs.Spelling.{going_text, body_code, body_body, body_text, block_text, graph_text, tag, spelling}
-use Rattle.ltl.specs.Reading.{node, going, calling, branch, bodies, plain, body, block, ends, blocks, graph, parts, function}
+use Rattle.ltl.specs.Reading.{node, going, calling, branch, bodies, plain, body, block, blocks, graph, parts, function}
 
 -- ---- a body
 
@@ -155,54 +153,16 @@ block_form slots nodes few_slots few =
 
 -- ---- the graph
 
-abbrev EndsFit : ℕ × ℕ → Type 0
-EndsFit p = (p.0 < p.1) × (p.1 < 2 ^ 16)
-
-ends_form : IsForm ends (λ p. to_be_bytes w16 p.0 ++ to_be_bytes w16 p.1) EndsFit
-unfolding ends
-ends_form =
-    tested_form (λ p. nat_lt p.0 p.1) NotCanonical
-    (both_form (number w16) (to_be_bytes w16) (λ n. n < 2 ^ 16) number16_form (λ e. number w16) (λ e. to_be_bytes w16) (λ e n. n < 2 ^ 16) (λ e fits. number16_form))
-    EndsFit
-    (λ p fits passes. (ltb-true p.0 p.1 passes, fits.1))
-    (λ p fits. let lt : p.0 < 2 ^ 16 = omega (arith, fits.0, fits.1) in ((lt, fits.1), lt-ltb p.0 p.1 fits.0))
-
-abbrev BlocksFit : ℕ → ℕ → List Block → Type 0
-BlocksFit slots nodes bs = (length bs ≡ nodes) × AllByRecursion (BlockFits slots nodes) bs
-
-blocks_form : (slots nodes : ℕ) → slots ≤ 2 ^ 16 → nodes ≤ 2 ^ 16 → IsForm (blocks slots nodes) (flat_map block_text) (BlocksFit slots nodes)
+blocks_form : (slots nodes : ℕ) → slots ≤ 2 ^ 16 → nodes ≤ 2 ^ 16 → IsForm (blocks slots nodes) (flat_map block_text) (AllNodesFit (BlockFits slots) nodes)
 unfolding blocks
 blocks_form slots nodes few_slots few =
     fits_form (more_form (λ before. block slots nodes) block_text (λ before. BlockFits slots nodes) (λ before. block_form slots nodes few_slots few) nodes)
     (λ bs fits. (fits.0, each_fits (BlockFits slots nodes) [] bs fits.1))
     (λ bs fits. (fits.0, fits_each (BlockFits slots nodes) [] bs fits.1))
 
--- the entry is one of the blocks, which are not too many, and each is in range
-pub record GraphFits (slots : ℕ) (g : ℕ × List Block) : Type 0 where
-  pub entry : g.0 < length g.1
-  pub nodes : length g.1 < 2 ^ 16
-  pub each : AllByRecursion (BlockFits slots (length g.1)) g.1
-
-abbrev Ends : Type 0
-Ends = (ℕ × ℕ) × List Block
-
-graph_form : (slots : ℕ) → slots ≤ 2 ^ 16 → IsForm (graph slots) graph_text (GraphFits slots)
+graph_form : (slots : ℕ) → slots ≤ 2 ^ 16 → IsForm (graph slots) graph_text (GraphFits (BlockFits slots))
 unfolding graph
-graph_form slots few_slots =
-    made_form (λ (p : Ends). (p.0.0, p.1))
-    (both_form ends (λ p. to_be_bytes w16 p.0 ++ to_be_bytes w16 p.1) EndsFit ends_form (λ p. blocks slots p.1) (λ p. flat_map block_text) (λ p. BlocksFit slots p.1)
-    (λ p fits. let few : p.1 ≤ 2 ^ 16 = omega (arith, fits.1) in blocks_form slots p.1 few_slots few))
-    graph_text (GraphFits slots)
-    (λ p fits.
-    let len : length p.1 ≡ p.0.1 = fits.1.0 in (
-      ap (λ n. to_be_bytes w16 p.0.0 ++ (to_be_bytes w16 n ++ flat_map block_text p.1)) len ∙ sym (append_assoc (to_be_bytes w16 p.0.0) (to_be_bytes w16 p.0.1) (flat_map block_text p.1)),
-      record {
-        entry = subst (λ n. p.0.0 < n) (sym len) fits.0.0;
-        nodes = subst (λ n. n < 2 ^ 16) (sym len) fits.0.1;
-        each = subst (λ n. AllByRecursion (BlockFits slots n) p.1) (sym len) fits.1.1;
-      },
-    ))
-    (λ g fits. (((g.0, length g.1), g.1), ((fits.entry, fits.nodes), (refl, fits.each)), refl))
+graph_form slots few_slots = graph_of_form (blocks slots) block_text (BlockFits slots) (λ nodes few. blocks_form slots nodes few_slots few)
 
 -- ---- the function
 
@@ -213,14 +173,14 @@ abbrev pub function_of : Parts → FunctionData
 function_of p = record { parameters = p.0.0; slots = p.0.1; entry = p.1.0; blocks = p.1.1 }
 
 abbrev PartsFit : Parts → Type 0
-PartsFit p = FrameFits p.0 × GraphFits p.0.1 p.1
+PartsFit p = FrameFits p.0 × GraphFits (BlockFits p.0.1) p.1
 
 abbrev parts_text : Parts → List ℕ
 parts_text p = frame_text p.0 ++ graph_text p.1
 
 pub parts_form : IsForm parts parts_text PartsFit
 unfolding parts
-parts_form = both_form frame frame_text FrameFits frame_form (λ f. graph f.1) (λ f. graph_text) (λ f. GraphFits f.1) (λ f fits. let few : f.1 ≤ 2 ^ 16 = omega (arith, fits.1) in graph_form f.1 few)
+parts_form = both_form frame frame_text FrameFits frame_form (λ f. graph f.1) (λ f. graph_text) (λ f. GraphFits (BlockFits f.1)) (λ f fits. let few : f.1 ≤ 2 ^ 16 = omega (arith, fits.1) in graph_form f.1 few)
 
 pub parts_fit : (p : Parts) → PartsFit p → IsFunction (function_of p)
 parts_fit p fits = record { parameters = fits.0.0; slots = fits.0.1; entry = fits.1.entry; nodes = omega (arith, fits.1.nodes); each = fits.1.each }

@@ -1,8 +1,8 @@
 -- How a function of LTL is read.
-use Rattle.std.specs.Prelude.{ℕ, List, [], ◌∷◌, Some, None, nat_lt}
+use Rattle.std.specs.Prelude.{ℕ, List, [], ◌∷◌, Some, None}
 use Rattle.std.specs.Int.{w16}
-use Rattle.lang_base.specs.declared.errors.FormError.TheVariants.{NotCanonical}
-use Rattle.lang_base.specs.Reading.{Reading, number, made, tested, below, both, more, Table, follow, coded, tagged}
+use Rattle.lang_parts.specs.Graphs.{graph_of}
+use Rattle.lang_base.specs.Reading.{Reading, number, made, below, both, more, Table, follow, coded, tagged}
 use Rattle.locations.specs.declared.location.Location.{Location}
 use Rattle.locations.specs.declared.location.Move.{Move}
 use Rattle.machine.specs.Reading.{moves, call, asked, value, act, frame}
@@ -46,17 +46,13 @@ body slots nodes bytes = coded (follow (bodies slots nodes) (plain slots nodes))
 unfoldable pub block : ℕ → ℕ → Reading Block
 block slots nodes bytes = made (λ p. record { before = p.0; body = p.1 }) (both (moves slots) (λ before. body slots nodes)) bytes
 
--- the entry and the number of nodes, of which it is one
-unfoldable pub ends : Reading (ℕ × ℕ)
-ends bytes = tested (λ p. nat_lt p.0 p.1) NotCanonical (both (number w16) (λ entry. number w16)) bytes
-
 -- as many blocks as there are nodes
 unfoldable pub blocks : ℕ → ℕ → Reading (List Block)
 blocks slots nodes bytes = more (λ before. block slots nodes) [] nodes bytes
 
 -- the entry and the blocks
 unfoldable pub graph : ℕ → Reading (ℕ × List Block)
-graph slots bytes = made (λ p. (p.0.0, p.1)) (both ends (λ p. blocks slots p.1)) bytes
+graph slots bytes = graph_of (blocks slots) bytes
 
 -- what stands behind the tag
 unfoldable pub parts : Reading ((List Location × ℕ) × (ℕ × List Block))

@@ -1,13 +1,14 @@
 //! Readers of the parts of a function. Each is one function on lists, which says the value and the
 //! bytes behind it, or the first fault.
 
-ghost use Rattle.std.specs.Prelude.{ℕ, ◌<◌, [], slice_index};
-ghost use Rattle.lang_base.specs.Reading.{IsRead, Reads, items_of, more};
-ghost use Rattle.ltl.specs.Reading.{node, going, calling, branch, plain, body, block, ends, blocks, graph, parts, function};
+ghost use Rattle.std.specs.Prelude.{ℕ, ◌<◌, slice_index};
+ghost use Rattle.lang_base.specs.Reading.{IsRead, Reads, items_of};
+ghost use Rattle.ltl.specs.Reading.{node, going, calling, branch, plain, body, block, blocks, graph, parts, function};
 
 use crate::block::{Block, Body};
 use crate::function::Function;
-use lang_base::{FormError, Row, read_byte, read_u16, read_u16_below};
+use lang_base::{FormError, Row, read_byte, read_u16_below};
+use lang_parts::{ReadOne, read_ends, read_so_many};
 use machine::{Location, Move, read_act, read_call, read_frame, read_moves, read_test, read_value};
 use std::alloc::Global;
 
@@ -111,17 +112,25 @@ fn read_block(alloc: Global, slots: u32, nodes: u32, bytes: &mut &[u8]) -> Resul
     Ok(Block { before, body })
 }
 
-/// The entry and the number of nodes, of which it is one.
-#[tactic(auto, unfolding(crate::specs::Reading::ends))]
-fn read_ends(bytes: &mut &[u8]) -> Result<(u16, u16), FormError>
-    ensures { IsRead (ends bytes.old.now) result bytes.new.now }
-{
-    let entry = read_u16(bytes)?;
-    let nodes = read_u16(bytes)?;
-    if entry < nodes {
-        Ok((entry, nodes))
-    } else {
-        Err(FormError::NotCanonical)
+/// Reads blocks among so many slots and nodes.
+#[derive(Drop)]
+struct Blocks {
+    slots: u32,
+    nodes: u32,
+}
+
+impl ReadOne for Blocks {
+    type Item = Block;
+
+    ghost part = { λ reader _. block reader.slots reader.nodes };
+
+    fn read(
+        &mut self,
+        alloc: Global,
+        _before: &[Block],
+        bytes: &mut &[u8],
+    ) -> Result<Block, FormError> {
+        read_block(alloc, self.slots, self.nodes, bytes)
     }
 }
 
@@ -135,23 +144,7 @@ fn read_blocks(
 ) -> Result<Vec<Block>, FormError>
     ensures { Reads (blocks slots nodes bytes.old.now) (items_of result) bytes.new.now }
 {
-    read_so_many(alloc, slots, nodes, bytes)
-}
-
-fn read_so_many(
-    alloc: Global,
-    slots: u32,
-    nodes: u32,
-    bytes: &mut &[u8],
-) -> Result<Vec<Block>, FormError>
-    ensures { Reads (more (λ before. block slots nodes) [] nodes bytes.old.now) (items_of result) bytes.new.now }
-{
-    let mut blocks = Vec::new(alloc);
-    for _ in 0..nodes {
-        let block = read_block(alloc, slots, nodes, bytes)?;
-        blocks.push(block)?;
-    }
-    Ok(blocks)
+    read_so_many(alloc, Blocks { slots, nodes }, nodes, bytes)
 }
 
 /// The entry and the blocks.

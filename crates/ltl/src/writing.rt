@@ -1,7 +1,6 @@
 //! Writers of the parts of a function: each appends the text.
 
-ghost use Rattle.std.specs.Prelude.{◌≤◌, ◌∷◌, All, length};
-ghost use Rattle.std.specs.List.{flat_map};
+ghost use Rattle.std.specs.Prelude.{◌≤◌, ◌∷◌, length};
 ghost use Rattle.lang_base.specs.Texts.{Appends};
 ghost use Rattle.machine.specs.Fits.{move_limit, argument_limit};
 ghost use Rattle.ltl.specs.declared.block.Body.TheVariants.{Branch};
@@ -11,6 +10,7 @@ ghost use Rattle.ltl.specs.Spelling.{any_code, any_body, going_text, body_text, 
 use crate::block::{Block, Body};
 use crate::function::Function;
 use lang_base::{NoMemory, push_byte, push_u16};
+use lang_parts::{WriteOne, push_each};
 use machine::{
     Act, Move, Test, push_act, push_call, push_frame, push_moves, push_test, push_value,
 };
@@ -85,14 +85,16 @@ fn push_block(out: &mut Vec<u8>, block: &Block) -> Result<(), NoMemory>
     push_body(out, &block.body)
 }
 
-fn push_each(out: &mut Vec<u8>, blocks: &[Block]) -> Result<(), NoMemory>
-    requires { All HasShortLists blocks.now }
-    ensures { Appends result (flat_map block_text blocks.now) out.old.items out.new.items }
-{
-    for block in blocks {
-        push_block(out, block)?;
+impl WriteOne for Block {
+    type Item = Block;
+
+    ghost text = { block_text };
+
+    ghost is_short = { HasShortLists };
+
+    fn push(out: &mut Vec<u8>, item: &Block) -> Result<(), NoMemory> {
+        push_block(out, item)
     }
-    Ok(())
 }
 
 /// A function, its tag first.
@@ -104,5 +106,5 @@ pub fn push_function(out: &mut Vec<u8>, function: &Function) -> Result<(), NoMem
     push_frame(out, function.parameters().as_slice(), function.slots())?;
     push_u16(out, function.entry())?;
     push_u16(out, blocks.len() as u16)?;
-    push_each(out, blocks)
+    push_each::<Block>(out, blocks)
 }

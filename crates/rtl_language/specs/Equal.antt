@@ -1,11 +1,11 @@
 -- Two functions are equal where their parts are, and then they are one.
-use Rattle.std.proofs.Common.{◌≡◌, ℕ, Bool, true, [], ◌∷◌, Option, Some, None, refl, ap}
+use Rattle.std.proofs.Common.{◌≡◌, ℕ, Bool, true, Option, Some, None, refl, ap}
 use Rattle.std.specs.Prelude.{◌&&◌, nat_eq}
 use Rattle.std.specs.Cmp.{IsEquivalence}
 use Rattle.std.specs.Cmp.Lexicographic.{pointwise}
 use Rattle.std.proofs.lemmas.Bool.{eqb-true, and_parts, false≢true}
 use Rattle.std.proofs.lemmas.Cmp.{nat_eq_equiv, on_equiv, and_equiv, lists_equiv}
-use Rattle.machine.proofs.Equal.{Tells}
+use Rattle.lang_parts.proofs.Equal.{Tells, lists_tell, number_tells}
 use Rattle.rtl_parts.specs.contracts.act.ActPartialEq.TheImpl as act_eq
 use Rattle.rtl_parts.specs.contracts.test.TestPartialEq.TheImpl as test_eq
 use Rattle.rtl_parts.proofs.Equal.{act_tells, test_tells}
@@ -24,15 +24,6 @@ same_laws =
     (and_equiv (on_equiv (λ (f : FunctionData). f.parameters) (lists_equiv nat_eq_equiv)) (on_equiv (λ (f : FunctionData). f.registers) nat_eq_equiv))
     (on_equiv (λ (f : FunctionData). f.entry) nat_eq_equiv))
     (on_equiv (λ (f : FunctionData). f.nodes) (lists_equiv instruction_laws.laws-law))
-
-lists_tell : {A : Type 0} (eq : A → A → Bool) → Tells eq → Tells (pointwise eq)
-lists_tell eq tells [] [] e = refl
-lists_tell eq tells [] (y ∷ ys) e = absurd (false≢true e)
-lists_tell eq tells (x ∷ xs) [] e = absurd (false≢true e)
-lists_tell eq tells (x ∷ xs) (y ∷ ys) e = let p = and_parts (eq x y) (pointwise eq xs ys) e in λ i. tells x y p.0 i ∷ lists_tell eq tells xs ys p.1 i
-
-number_tells : Tells nat_eq
-number_tells a b e = eqb-true a b e
 
 registers_tell : Tells (pointwise nat_eq)
 registers_tell = lists_tell nat_eq number_tells

@@ -1,13 +1,10 @@
 -- The reading of RTL is a form: each spelling is read again, and nothing else is read.
-use Rattle.std.proofs.Common.{◌≡◌, ℕ, ◌<◌, ◌≤◌, ◌^◌, List, [], ◌++◌, length, Option, Ok, refl, sym, ap, subst, ◌∙◌, arith, append_assoc}
-use Rattle.std.specs.Prelude.{nat_lt}
-use Rattle.std.specs.Int.{w16}
+use Rattle.std.proofs.Common.{◌≡◌, ℕ, ◌<◌, ◌≤◌, ◌^◌, List, [], ◌++◌, length, Option, Ok, refl, arith}
 use Rattle.std.specs.List.{AllByRecursion, flat_map}
-use Rattle.std.proofs.lemmas.Bool.{ltb-true, lt-ltb}
-use Rattle.lang_base.specs.declared.errors.FormError.TheVariants.{NotCanonical}
-use Rattle.lang_base.specs.Reading.{byte, number, both, follow}
+use Rattle.lang_base.specs.Reading.{byte, both, follow}
 use Rattle.lang_base.proofs.Forms.{IsForm}
-use Rattle.lang_base.proofs.Parts.{byte_form, number16_form, made_takes, made_again, made_form, tested_form, fits_form, below_form, both_form}
+use Rattle.lang_parts.proofs.Graphs.{AllNodesFit, GraphFits, graph_of_form}
+use Rattle.lang_base.proofs.Parts.{byte_form, number16_form, made_takes, made_again, made_form, fits_form, below_form, both_form}
 use Rattle.lang_base.proofs.Lists.{counted_form, more_form, each_fits, fits_each, HasCode, TakesBehind, follow_form, coded_form, tagged_form}
 use Rattle.rtl_parts.specs.declared.act.Act.{Act}
 use Rattle.rtl_parts.specs.declared.act.Act.TheVariants.{Nop, Constant, Move, Operate, Load, Store, Put}
@@ -20,17 +17,13 @@ use Rattle.rtl_language.specs.declared.instruction.Instruction.{Instruction}
 use Rattle.rtl_language.specs.declared.instruction.Instruction.TheVariants.{Do, Call, Branch, Return}
 use Rattle.rtl_language.specs.Function.{FunctionData, InstructionFits, IsFunction, function_limit}
 use Rattle.rtl_language.specs.Spelling.{node_text, instruction_code, instruction_body, instruction_text, graph_text, tag, spelling}
-use Rattle.rtl_language.specs.Reading.{node, function_number, call_arguments, call, branch, instructions, plain, instruction, ends, nodes, graph, parts, function}
+use Rattle.rtl_language.specs.Reading.{node, function_number, call_arguments, call, branch, instructions, plain, instruction, nodes, graph, parts, function}
 
 -- ---- an instruction
 
 function_number_form : IsForm function_number byte_text (λ n. n < function_limit)
 unfolding function_number
 function_number_form = below_form function_limit byte_form (λ n lt. omega arith)
-
--- as many instructions as there are nodes
-abbrev NodeListFits : ℕ → ℕ → List Instruction → Type 0
-NodeListFits registers count is = (length is ≡ count) × AllByRecursion (InstructionFits registers count) is
 
 module _ (registers count : ℕ) (few_registers : registers ≤ 2 ^ 16) (few : count ≤ 2 ^ 16) where
   node_form : IsForm (node count) node_text (λ n. n < count)
@@ -142,7 +135,7 @@ module _ (registers count : ℕ) (few_registers : registers ≤ 2 ^ 16) (few : c
       (call_takes, (branch_takes, (made_takes (λ v. Return v) (target_form registers few_registers) instruction_body (At 9) (λ v fits. (refl, (fits, refl))), tt)))
       plain_takes instruction_again)
 
-  node_list_form : IsForm (nodes registers count) (flat_map instruction_text) (NodeListFits registers count)
+  node_list_form : IsForm (nodes registers count) (flat_map instruction_text) (AllNodesFit (InstructionFits registers) count)
   unfolding nodes
   node_list_form =
       fits_form (more_form (λ before. instruction registers count) instruction_text (λ before. InstructionFits registers count) (λ before. instruction_form) count)
@@ -151,44 +144,9 @@ module _ (registers count : ℕ) (few_registers : registers ≤ 2 ^ 16) (few : c
 
 -- ---- the graph
 
-abbrev EndsFit : ℕ × ℕ → Type 0
-EndsFit p = (p.0 < p.1) × (p.1 < 2 ^ 16)
-
-ends_form : IsForm ends (λ p. node_text p.0 ++ node_text p.1) EndsFit
-unfolding ends
-ends_form =
-    tested_form (λ p. nat_lt p.0 p.1) NotCanonical
-    (both_form (number w16) node_text (λ n. n < 2 ^ 16) number16_form (λ e. number w16) (λ e. node_text) (λ e n. n < 2 ^ 16) (λ e fits. number16_form))
-    EndsFit
-    (λ p fits passes. (ltb-true p.0 p.1 passes, fits.1))
-    (λ p fits. let lt : p.0 < 2 ^ 16 = omega (arith, fits.0, fits.1) in ((lt, fits.1), lt-ltb p.0 p.1 fits.0))
-
--- the entry is one of the nodes, which are not too many, and each is in range
-pub record GraphFits (registers : ℕ) (g : ℕ × List Instruction) : Type 0 where
-  pub entry : g.0 < length g.1
-  pub nodes : length g.1 < 2 ^ 16
-  pub each : AllByRecursion (InstructionFits registers (length g.1)) g.1
-
-abbrev Ends : Type 0
-Ends = (ℕ × ℕ) × List Instruction
-
-graph_form : (registers : ℕ) → registers ≤ 2 ^ 16 → IsForm (graph registers) graph_text (GraphFits registers)
+graph_form : (registers : ℕ) → registers ≤ 2 ^ 16 → IsForm (graph registers) graph_text (GraphFits (InstructionFits registers))
 unfolding graph
-graph_form registers few_registers =
-    made_form (λ (p : Ends). (p.0.0, p.1))
-    (both_form ends (λ p. node_text p.0 ++ node_text p.1) EndsFit ends_form (λ p. nodes registers p.1) (λ p. flat_map instruction_text) (λ p. NodeListFits registers p.1)
-    (λ p fits. let few : p.1 ≤ 2 ^ 16 = omega (arith, fits.1) in node_list_form registers p.1 few_registers few))
-    graph_text (GraphFits registers)
-    (λ p fits.
-    let len : length p.1 ≡ p.0.1 = fits.1.0 in (
-      ap (λ n. node_text p.0.0 ++ (node_text n ++ flat_map instruction_text p.1)) len ∙ sym (append_assoc (node_text p.0.0) (node_text p.0.1) (flat_map instruction_text p.1)),
-      record {
-        entry = subst (λ n. p.0.0 < n) (sym len) fits.0.0;
-        nodes = subst (λ n. n < 2 ^ 16) (sym len) fits.0.1;
-        each = subst (λ n. AllByRecursion (InstructionFits registers n) p.1) (sym len) fits.1.1;
-      },
-    ))
-    (λ g fits. (((g.0, length g.1), g.1), ((fits.entry, fits.nodes), (refl, fits.each)), refl))
+graph_form registers few_registers = graph_of_form (nodes registers) instruction_text (InstructionFits registers) (λ count few. node_list_form registers count few_registers few)
 
 -- ---- the function
 
@@ -199,14 +157,14 @@ abbrev pub function_of : Parts → FunctionData
 function_of p = record { parameters = p.0.0; registers = p.0.1; entry = p.1.0; nodes = p.1.1 }
 
 abbrev PartsFit : Parts → Type 0
-PartsFit p = FrameFits p.0 × GraphFits p.0.1 p.1
+PartsFit p = FrameFits p.0 × GraphFits (InstructionFits p.0.1) p.1
 
 abbrev parts_text : Parts → List ℕ
 parts_text p = frame_text p.0 ++ graph_text p.1
 
 pub parts_form : IsForm parts parts_text PartsFit
 unfolding parts
-parts_form = both_form frame frame_text FrameFits frame_form (λ f. graph f.1) (λ f. graph_text) (λ f. GraphFits f.1) (λ f fits. let few : f.1 ≤ 2 ^ 16 = omega (arith, fits.1) in graph_form f.1 few)
+parts_form = both_form frame frame_text FrameFits frame_form (λ f. graph f.1) (λ f. graph_text) (λ f. GraphFits (InstructionFits f.1)) (λ f fits. let few : f.1 ≤ 2 ^ 16 = omega (arith, fits.1) in graph_form f.1 few)
 
 pub parts_fit : (p : Parts) → PartsFit p → IsFunction (function_of p)
 parts_fit p fits = record { parameters = fits.0.0; registers = fits.0.1; entry = fits.1.entry; nodes = omega (arith, fits.1.nodes); each = fits.1.each }

@@ -1,8 +1,8 @@
 -- How a function of RTL is read.
-use Rattle.std.specs.Prelude.{ℕ, List, [], ◌∷◌, nat_lt}
+use Rattle.std.specs.Prelude.{ℕ, List, [], ◌∷◌}
 use Rattle.std.specs.Int.{w16}
-use Rattle.lang_base.specs.declared.errors.FormError.TheVariants.{NotCanonical}
-use Rattle.lang_base.specs.Reading.{Reading, byte, number, made, tested, below, both, more, counted, Table, follow, coded, tagged}
+use Rattle.lang_parts.specs.Graphs.{graph_of}
+use Rattle.lang_base.specs.Reading.{Reading, byte, number, made, below, both, more, counted, Table, follow, coded, tagged}
 use Rattle.rtl_parts.specs.Reading.{register, target, asked, act, frame}
 use Rattle.rtl_language.specs.declared.instruction.Instruction.{Instruction}
 use Rattle.rtl_language.specs.declared.instruction.Instruction.TheVariants.{Do, Call, Branch, Return}
@@ -41,17 +41,13 @@ plain registers nodes code bytes = made (λ p. Do p.0 p.1) (both (act registers 
 unfoldable pub instruction : ℕ → ℕ → Reading Instruction
 instruction registers nodes bytes = coded (follow (instructions registers nodes) (plain registers nodes)) bytes
 
--- the entry and the number of nodes, of which it is one
-unfoldable pub ends : Reading (ℕ × ℕ)
-ends bytes = tested (λ p. nat_lt p.0 p.1) NotCanonical (both (number w16) (λ entry. number w16)) bytes
-
 -- as many instructions as there are nodes
 unfoldable pub nodes : ℕ → ℕ → Reading (List Instruction)
 nodes registers count bytes = more (λ before. instruction registers count) [] count bytes
 
 -- the entry and the nodes
 unfoldable pub graph : ℕ → Reading (ℕ × List Instruction)
-graph registers bytes = made (λ p. (p.0.0, p.1)) (both ends (λ p. nodes registers p.1)) bytes
+graph registers bytes = graph_of (nodes registers) bytes
 
 -- what stands behind the tag
 unfoldable pub parts : Reading ((List ℕ × ℕ) × (ℕ × List Instruction))

@@ -1,14 +1,15 @@
 //! Readers of the parts of a function. Each is one function on lists, which says the value and the
 //! bytes behind it, or the first fault.
 
-ghost use Rattle.std.specs.Prelude.{ℕ, ◌<◌, [], slice_index};
-ghost use Rattle.lang_base.specs.Reading.{IsRead, Reads, items_of, more};
+ghost use Rattle.std.specs.Prelude.{ℕ, ◌<◌, slice_index};
+ghost use Rattle.lang_base.specs.Reading.{IsRead, Reads, items_of};
 ghost use Rattle.rtl_parts.specs.Reading.{register};
-ghost use Rattle.rtl_language.specs.Reading.{node, function_number, call_arguments, call, branch, plain, instruction, ends, nodes, graph, parts, function};
+ghost use Rattle.rtl_language.specs.Reading.{node, function_number, call_arguments, call, branch, plain, instruction, nodes, graph, parts, function};
 
 use crate::function::Function;
 use crate::instruction::Instruction;
-use lang_base::{FormError, Row, read_byte, read_u16, read_u16_below};
+use lang_base::{FormError, Row, read_byte, read_u16_below};
+use lang_parts::{ReadOne, read_ends, read_so_many};
 use rtl_parts::{Register, read_act, read_frame, read_register, read_target, read_test};
 use std::alloc::Global;
 
@@ -33,20 +34,25 @@ fn read_function_number(bytes: &mut &[u8]) -> Result<u8, FormError>
     }
 }
 
-fn read_so_many_arguments(
-    alloc: Global,
-    count: u8,
+/// Reads registers of so many.
+#[derive(Drop)]
+struct Registers {
     registers: u32,
-    bytes: &mut &[u8],
-) -> Result<Vec<Register>, FormError>
-    ensures { Reads (more (λ before. register registers) [] count bytes.old.now) (items_of result) bytes.new.now }
-{
-    let mut arguments = Vec::new(alloc);
-    for _ in 0..count {
-        let argument = read_register(registers, bytes)?;
-        arguments.push(argument)?;
+}
+
+impl ReadOne for Registers {
+    type Item = Register;
+
+    ghost part = { λ reader _. register reader.registers };
+
+    fn read(
+        &mut self,
+        _alloc: Global,
+        _before: &[Register],
+        bytes: &mut &[u8],
+    ) -> Result<Register, FormError> {
+        read_register(self.registers, bytes)
     }
-    Ok(arguments)
 }
 
 /// The number of a call's arguments, and the arguments.
@@ -59,7 +65,7 @@ fn read_call_arguments(
     ensures { Reads (call_arguments registers bytes.old.now) result bytes.new.now }
 {
     let count = read_byte(bytes)?;
-    let arguments = read_so_many_arguments(alloc, count, registers, bytes)?;
+    let arguments = read_so_many(alloc, Registers { registers }, u32::from(count), bytes)?;
     Ok(Row::from_vec(arguments))
 }
 
@@ -129,17 +135,25 @@ fn read_instruction(
     }
 }
 
-/// The entry and the number of nodes, of which it is one.
-#[tactic(auto, unfolding(crate::specs::Reading::ends))]
-fn read_ends(bytes: &mut &[u8]) -> Result<(u16, u16), FormError>
-    ensures { IsRead (ends bytes.old.now) result bytes.new.now }
-{
-    let entry = read_u16(bytes)?;
-    let nodes = read_u16(bytes)?;
-    if entry < nodes {
-        Ok((entry, nodes))
-    } else {
-        Err(FormError::NotCanonical)
+/// Reads instructions among so many registers and nodes.
+#[derive(Drop)]
+struct Instructions {
+    registers: u32,
+    nodes: u32,
+}
+
+impl ReadOne for Instructions {
+    type Item = Instruction;
+
+    ghost part = { λ reader _. instruction reader.registers reader.nodes };
+
+    fn read(
+        &mut self,
+        alloc: Global,
+        _before: &[Instruction],
+        bytes: &mut &[u8],
+    ) -> Result<Instruction, FormError> {
+        read_instruction(alloc, self.registers, self.nodes, bytes)
     }
 }
 
@@ -153,23 +167,11 @@ fn read_nodes(
 ) -> Result<Vec<Instruction>, FormError>
     ensures { Reads (nodes registers count bytes.old.now) (items_of result) bytes.new.now }
 {
-    read_so_many(alloc, registers, count, bytes)
-}
-
-fn read_so_many(
-    alloc: Global,
-    registers: u32,
-    count: u32,
-    bytes: &mut &[u8],
-) -> Result<Vec<Instruction>, FormError>
-    ensures { Reads (more (λ before. instruction registers count) [] count bytes.old.now) (items_of result) bytes.new.now }
-{
-    let mut nodes = Vec::new(alloc);
-    for _ in 0..count {
-        let node = read_instruction(alloc, registers, count, bytes)?;
-        nodes.push(node)?;
-    }
-    Ok(nodes)
+    let reader = Instructions {
+        registers,
+        nodes: count,
+    };
+    read_so_many(alloc, reader, count, bytes)
 }
 
 /// The entry and the nodes.

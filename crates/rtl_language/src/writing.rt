@@ -1,7 +1,6 @@
 //! Writers of the parts of a function: each appends the text.
 
-ghost use Rattle.std.specs.Prelude.{◌≤◌, All, length};
-ghost use Rattle.std.specs.List.{flat_map};
+ghost use Rattle.std.specs.Prelude.{◌≤◌, length};
 ghost use Rattle.lang_base.specs.Texts.{Appends};
 ghost use Rattle.rtl_parts.specs.Fits.{argument_limit};
 ghost use Rattle.rtl_language.specs.declared.instruction.Instruction.TheVariants.{Call, Branch};
@@ -11,6 +10,7 @@ ghost use Rattle.rtl_language.specs.Spelling.{instruction_text, spelling};
 use crate::function::Function;
 use crate::instruction::Instruction;
 use lang_base::{NoMemory, push_byte, push_u16};
+use lang_parts::{WriteOne, push_each};
 use rtl_parts::{Register, Test, push_act, push_frame, push_registers, push_target, push_test};
 
 /// A call: the function, the arguments, the target, and the successor.
@@ -67,14 +67,16 @@ fn push_instruction(out: &mut Vec<u8>, instruction: &Instruction) -> Result<(), 
     }
 }
 
-fn push_each(out: &mut Vec<u8>, nodes: &[Instruction]) -> Result<(), NoMemory>
-    requires { All HasShortList nodes.now }
-    ensures { Appends result (flat_map instruction_text nodes.now) out.old.items out.new.items }
-{
-    for node in nodes {
-        push_instruction(out, node)?;
+impl WriteOne for Instruction {
+    type Item = Instruction;
+
+    ghost text = { instruction_text };
+
+    ghost is_short = { HasShortList };
+
+    fn push(out: &mut Vec<u8>, item: &Instruction) -> Result<(), NoMemory> {
+        push_instruction(out, item)
     }
-    Ok(())
 }
 
 /// A function, its tag first.
@@ -86,5 +88,5 @@ pub fn push_function(out: &mut Vec<u8>, function: &Function) -> Result<(), NoMem
     push_frame(out, function.parameters().as_slice(), function.registers())?;
     push_u16(out, function.entry())?;
     push_u16(out, nodes.len() as u16)?;
-    push_each(out, nodes)
+    push_each::<Instruction>(out, nodes)
 }

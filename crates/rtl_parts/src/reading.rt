@@ -1,9 +1,9 @@
 //! Readers of the parts of a function. Each is one function on lists, which says the value and the
 //! bytes behind it, or the first fault.
 
-ghost use Rattle.std.specs.Prelude.{◌≡◌, []};
+ghost use Rattle.std.specs.Prelude.{◌≡◌};
 ghost use Rattle.std.specs.List.{list_all};
-ghost use Rattle.lang_base.specs.Reading.{IsRead, Reads, items_of, more};
+ghost use Rattle.lang_base.specs.Reading.{IsRead, Reads, items_of};
 ghost use Rattle.rtl_parts.specs.Reading.{register, target, global, arguments, asked, constant, copying, operation, load, store, put, act, parameter, parameters, lies_within, frame};
 
 use crate::act::Act;
@@ -12,6 +12,7 @@ use crate::register::Register;
 use crate::test::Test;
 use ints::{Cond, Op};
 use lang_base::{FormError, Row, read_byte, read_count, read_u16, read_u16_below, read_u32};
+use lang_parts::{ReadOne, read_so_many};
 use std::alloc::Global;
 
 /// One of so many registers.
@@ -166,19 +167,23 @@ fn read_parameter(before: &[Register], bytes: &mut &[u8]) -> Result<Register, Fo
     Ok(register)
 }
 
-fn read_so_many_parameters(
-    alloc: Global,
-    count: u8,
-    bytes: &mut &[u8],
-) -> Result<Vec<Register>, FormError>
-    ensures { Reads (more parameter [] count bytes.old.now) (items_of result) bytes.new.now }
-{
-    let mut parameters = Vec::new(alloc);
-    for _ in 0..count {
-        let register = read_parameter(&parameters, bytes)?;
-        parameters.push(register)?;
+/// Reads parameters.
+#[derive(Drop)]
+struct Parameters;
+
+impl ReadOne for Parameters {
+    type Item = Register;
+
+    ghost part = { λ _. parameter };
+
+    fn read(
+        &mut self,
+        _alloc: Global,
+        before: &[Register],
+        bytes: &mut &[u8],
+    ) -> Result<Register, FormError> {
+        read_parameter(before, bytes)
     }
-    Ok(parameters)
 }
 
 #[tactic(auto, unfolding(crate::specs::Reading::parameters))]
@@ -186,7 +191,7 @@ fn read_parameters(alloc: Global, bytes: &mut &[u8]) -> Result<Vec<Register>, Fo
     ensures { Reads (parameters bytes.old.now) (items_of result) bytes.new.now }
 {
     let count = read_count(16, bytes)?;
-    read_so_many_parameters(alloc, count, bytes)
+    read_so_many(alloc, Parameters, u32::from(count), bytes)
 }
 
 /// Whether each is one of so many registers.

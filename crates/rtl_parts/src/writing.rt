@@ -1,7 +1,6 @@
 //! Writers of the parts of a function: each appends the text.
 
 ghost use Rattle.std.specs.Prelude.{◌≡◌, ◌≤◌, ◌∷◌, ◌++◌, length};
-ghost use Rattle.std.specs.List.{flat_map};
 ghost use Rattle.lang_base.specs.Texts.{Appends};
 ghost use Rattle.rtl_parts.specs.Fits.{parameter_limit, argument_limit};
 ghost use Rattle.rtl_parts.specs.Spelling.{register_text, three_text, registers_text, target_text, arguments_text, test_text, act_code, act_body, frame_text};
@@ -11,15 +10,7 @@ use crate::arguments::Arguments;
 use crate::register::Register;
 use crate::test::Test;
 use lang_base::{NoMemory, push_byte, push_u16, push_u32};
-
-fn push_each_register(out: &mut Vec<u8>, registers: &[Register]) -> Result<(), NoMemory>
-    ensures { Appends result (flat_map register_text registers.now) out.old.items out.new.items }
-{
-    for register in registers {
-        push_u16(out, *register)?;
-    }
-    Ok(())
-}
+use lang_parts::{Half, push_each};
 
 /// The registers of a list, behind their number.
 pub fn push_registers(out: &mut Vec<u8>, registers: &[Register]) -> Result<(), NoMemory>
@@ -27,7 +18,7 @@ pub fn push_registers(out: &mut Vec<u8>, registers: &[Register]) -> Result<(), N
     ensures { Appends result (registers_text registers.now) out.old.items out.new.items }
 {
     push_byte(out, registers.len() as u8)?;
-    push_each_register(out, registers)
+    push_each::<Half>(out, registers)
 }
 
 /// A register, or none.

@@ -1,9 +1,0 @@
-use Rattle.std.proofs.Common.{sym}
-use Rattle.std.proofs.lemmas.Result.{err_from_is_err_and}
-use Rattle.lang_base.proofs.Beginnings.{IsBeginningOf-trans}
-use Rattle.rtl_language.proofs.writing.push_each.Goals as goal
-
-pub returns-in_err-push_instruction : goal.returns-in_err-push_instruction
-returns-in_err-push_instruction c =
-    let p = err_from_is_err_and c.from_residual.result c.from_residual.ensures.1 in
-    rw p.1 (IsBeginningOf-trans _ _ _ (_, sym c.loop-node.invariant) c.in_err-push_instruction.ensures)
