@@ -33,11 +33,11 @@ FLOORS = [
      "cminor_lowering cminor_lowering_ranges cminor_program_ranges cminor rtlgen_definition "
      "rtlgen_code rtlgen"),
     ("Passes: the rules of each, that they keep the meaning, the check",
-     "rtl_passes constprop_check_rules constprop_check cse_check_rules cse_check_codec cse_check alloc_check_rules "
+     "rtl_passes rtl_passes_facts constprop_check_rules constprop_check cse_check_rules cse_check_codec cse_check alloc_check_rules "
      "alloc_check_laws alloc_check_blocks alloc_check_verdict alloc_check_live alloc_check linearize_check_proof "
      "linearize_check_layout linearize_check"),
     ("Optimisers: they propose, and nothing is claimed of them",
-     "oracle_const oracle_cse oracle_alloc_blocks oracle_alloc oracle_order"),
+     "oracle_facts oracle_const oracle_cse oracle_alloc_blocks oracle_alloc oracle_order"),
     ("Offers, chains of them, and the linked program",
      "offers parallel_validate linker chains"),
     ("Agreement: the protocol, rooms on shared words",

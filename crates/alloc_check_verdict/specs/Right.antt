@@ -4,7 +4,7 @@ use Rattle.rtl_language.specs.declared.instruction.Instruction.{Instruction}
 use Rattle.rtl_language.specs.Function as rtl
 use Rattle.ltl.specs.declared.block.Block.{Block}
 use Rattle.ltl.specs.Function as ltl
-use Rattle.rtl_passes.specs.declared.fault.Fault.{Fault}
+use Rattle.lang_base.specs.declared.fault.Fault.{Fault}
 use Rattle.rtl_passes.specs.Faults.{TellsFault}
 use Rattle.alloc_check_rules.specs.declared.equation.Equation.{Equation}
 use Rattle.alloc_check_rules.specs.Pairs.{change_of}

@@ -10,7 +10,8 @@ use lang_base::NoMemory;
 use rtl_passes::Fault;
 use std::alloc::Global;
 
-/// What is wrong with the output and the equations, if anything is.
+/// What is wrong with the output and the equations, if anything is. `Shape`: the entries, or the numbers of parameters
+/// or of nodes, differ, or the equations are not one list in order for each node.
 pub fn why(
     alloc: Global,
     input: &rtl_language::Function,

@@ -1,4 +1,0 @@
-pub mod Unchanged
-pub mod Rising
-pub mod Readings
-pub mod Written

@@ -1,17 +1,25 @@
 -- The laws that the pass owes as one of the pipeline.
-use Rattle.std.proofs.Common.{◌≡◌, ℕ, List, ◌++◌, length, arith}
-use Rattle.std.proofs.lemmas.List.Elements.{recursion_from_All}
+use Rattle.std.proofs.Common.{◌≡◌, ℕ, List, ◌++◌, ◌≤◌, ◌^◌}
+use Rattle.std.specs.Prelude.{◌↔◌}
+use Rattle.std.specs.List.{AllByRecursion}
 use Rattle.lang_base.specs.Keeps.{Keeps}
 use Rattle.lang_base.specs.declared.program.Program.{Program}
 use Rattle.lang_base.specs.Soundness.{AllFit, Accepted}
-use Rattle.lang_base.proofs.Forms.{one_text}
+use Rattle.rtl_language.specs.declared.instruction.Instruction.{Instruction}
 use Rattle.rtl_language.specs.Function.{FunctionData, IsFunction}
 use Rattle.rtl_language.specs.Meaning.{run}
-use Rattle.rtl_passes.specs.ListForm.{ListFits}
+use Rattle.rtl_passes.specs.ListForm.{lists_text}
+use Rattle.rtl_passes_facts.specs.Known.{IsMadeOrKept}
+use Rattle.rtl_passes_facts.specs.Ranked.{RiseFrom}
+use Rattle.rtl_passes_facts.specs.Certificates.{CertFits}
+use Rattle.rtl_passes_facts.specs.Laws.{accepted_fits, one_certificate}
 use Rattle.constprop_check_rules.specs.declared.fact.Fact.{Fact}
-use Rattle.constprop_check_rules.specs.Rules.{FactFits, IsInOrder, IsPropagated}
+use Rattle.constprop_check_rules.specs.Rules.{rank, FactFits, IsKnown, propagation, IsPropagated}
+use Rattle.constprop_check_rules.specs.Known.{written_by, value_by}
+use Rattle.constprop_check_rules.proofs.Behind.{known_splits}
 use Rattle.constprop_check_rules.proofs.Sound.{sound}
-use Rattle.constprop_check.specs.FactForm.{CertFits, cert_text, facts_form}
+use Rattle.constprop_check.specs.Behind.{change_of, IsMade, IsKept}
+use Rattle.constprop_check.specs.FactForm.{fact, fact_text, fact_form}
 
 -- every function has a baseline
 abbrev pub never : FunctionData → Type 0
@@ -21,19 +29,18 @@ never f = ⊥
 pub sound_law : (p q : Program FunctionData) → AllFit IsFunction p → AllFit IsFunction q → Accepted IsPropagated p q → Keeps (run p) (run q)
 sound_law p q fits also accepted = sound p q accepted
 
-list_fits : (registers : ℕ) (facts : List Fact) → IsInOrder registers facts → ListFits (FactFits registers) facts
-list_fits registers facts in_order = record { few = in_order.few; each = recursion_from_All (FactFits registers) facts in_order.each }
-
 -- facts that are accepted can be written
-pub propagated_fits : (i o : FunctionData) (c : List (List Fact)) → IsFunction i → IsFunction o → IsPropagated i o c → CertFits i c
-propagated_fits i o c fits also accepted = record {
-  few = omega (arith, fits.registers);
-  each = record {
-    counted = accepted.shape.count;
-    each = recursion_from_All (ListFits (FactFits i.registers)) c (λ k d below. list_fits i.registers _ (accepted.shape.each k d below));
-  };
-}
+pub propagated_fits : (i o : FunctionData) (c : List (List Fact)) → IsFunction i → IsFunction o → IsPropagated i o c → CertFits propagation i c
+propagated_fits i o c fits also accepted = accepted_fits propagation i o c fits accepted
 
 -- one certificate a spelling
-pub one_cert : (i o : FunctionData) (c d : List (List Fact)) (x y : List ℕ) → CertFits i c → CertFits i d → cert_text c ++ x ≡ cert_text d ++ y → (c ≡ d) × (x ≡ y)
-one_cert i o c d x y fits also e = one_text (facts_form i.registers (length i.nodes) fits.few) c d x y fits.each also.each e
+pub one_cert : (i o : FunctionData) (c d : List (List Fact)) (x y : List ℕ) → CertFits propagation i c → CertFits propagation i d → lists_text fact_text c ++ x ≡ lists_text fact_text d ++ y → (c ≡ d) × (x ≡ y)
+one_cert i o c d x y fits also e = one_certificate propagation (λ registers. fact registers) fact_text fact_form i c d x y fits also e
+
+-- facts are in order by their registers
+pub ranked_law : (registers : ℕ) → registers ≤ 2 ^ 16 → (facts : List Fact) → AllByRecursion (FactFits registers) facts → RiseFrom rank 0 facts ↔ RiseFrom rank 0 facts
+ranked_law registers few facts fits = (λ rise. rise, λ rise. rise)
+
+-- what is known is made, or known before and kept
+pub known_law : (i : Instruction) (before : List Fact) (fact : Fact) → RiseFrom rank 0 before → IsKnown i before fact ↔ IsMadeOrKept (IsMade (change_of i before)) (IsKept (change_of i before)) before fact
+known_law i before fact rise = known_splits (written_by i) (value_by i before) before fact rise

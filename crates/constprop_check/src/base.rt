@@ -2,10 +2,10 @@ ghost use Rattle.std.specs.Prelude.{◌≡◌, [], length, replicate, IfOk};
 ghost use Rattle.constprop_check_rules.specs.Rules.{IsPropagated};
 
 use crate::lists::FactLists;
-use lang_base::{Language, NoMemory};
-use owned::beside;
-use rtl_language::{Function, Rtl};
-use rtl_passes::empty_lists;
+use crate::pass::ConstProp;
+use lang_base::NoMemory;
+use rtl_language::Function;
+use rtl_passes_facts::unchanged;
 use std::alloc::Global;
 
 /// The input itself, with no facts.
@@ -14,7 +14,5 @@ pub fn baseline(alloc: Global, input: &Function) -> Result<(Function, FactLists)
     ensures facts { IfOk result (λ made. made.1 ≡ replicate (length input.now.nodes) []) }
     ensures accepted { IfOk result (λ made. IsPropagated input.now made.0 made.1) }
 {
-    let output = Rtl::copy(alloc, input)?;
-    let facts = empty_lists(alloc, input.nodes().len());
-    Ok(beside(output, facts)?)
+    unchanged::<ConstProp>(alloc, input)
 }

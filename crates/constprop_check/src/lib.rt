@@ -4,16 +4,17 @@
 #![tactic(auto)]
 
 mod base;
-mod edges;
+mod behind;
 mod form;
 mod lists;
-mod nodes;
 mod pass;
+mod rules;
 mod verdict;
 
 pub use base::baseline;
+pub use behind::Written;
 pub use constprop_check_rules::Fact;
+pub use lang_base::Fault;
 pub use lists::{FactLists, facts_of};
 pub use pass::ConstProp;
-pub use rtl_passes::Fault;
 pub use verdict::{check, why};

@@ -1,9 +1,9 @@
 use crate::base::baseline;
-use crate::form::{push_lists, read_lists};
 use crate::lists::FactLists;
 use crate::verdict::check;
-use lang_base::{FormError, NoMemory, Pass, PassError, Row};
+use lang_base::{FormError, NoMemory, Pass, PassError};
 use rtl_language::{Function, Rtl};
+use rtl_passes_facts::{read_certificate, write_certificate};
 use std::alloc::Global;
 
 /// Pass 1: constants are carried along the graph of a function.
@@ -11,8 +11,10 @@ pub struct ConstProp;
 
 impl Pass for ConstProp {
     ghost use Rattle.std.specs.Prelude.{◌≡◌, ◌≢◌, ◌≤◌, ℕ, List, ◌++◌, length, take, IsTrue, ◌↔◌, OnOk, OnErr, IfOk, IfErr};
-    ghost use Rattle.constprop_check_rules.specs.Rules.{IsPropagated};
-    ghost use Rattle.constprop_check.specs.FactForm.{CertFits, cert_text};
+    ghost use Rattle.rtl_passes.specs.ListForm.{lists_text};
+    ghost use Rattle.rtl_passes_facts.specs.Certificates.{CertFits};
+    ghost use Rattle.constprop_check_rules.specs.Rules.{propagation, IsPropagated};
+    ghost use Rattle.constprop_check.specs.FactForm.{fact_text};
     ghost use Rattle.constprop_check.specs.Baseline.{IsBaseline};
     ghost use Rattle.constprop_check.specs.PassLaws.{propagated_fits, one_cert, sound_law, never};
 
@@ -28,9 +30,9 @@ impl Pass for ConstProp {
 
     ghost accepts = { IsPropagated };
 
-    ghost cert_fits = { λ i o c. CertFits i c };
+    ghost cert_fits = { λ i o c. CertFits propagation i c };
 
-    ghost cert_spelling = { λ i o c. cert_text c };
+    ghost cert_spelling = { λ i o c. lists_text fact_text c };
 
     ghost too_large = { never };
 
@@ -57,12 +59,7 @@ impl Pass for ConstProp {
         facts: &FactLists,
         out: &mut Vec<u8>,
     ) -> Result<(), NoMemory> {
-        let length = out.len();
-        let written = push_lists(out, facts.as_slice());
-        if written.is_err() {
-            out.truncate(length);
-        }
-        written
+        write_certificate::<ConstProp>(facts.as_slice(), out)
     }
 
     fn read_cert(
@@ -71,11 +68,7 @@ impl Pass for ConstProp {
         _output: &Function,
         bytes: &[u8],
     ) -> Result<(FactLists, usize), FormError> {
-        let registers = u32::from(input.registers());
-        let nodes = input.nodes().len() as u32;
-        let mut rest = bytes;
-        let lists = read_lists(alloc, registers, nodes, &mut rest)?;
-        Ok((Row::from_vec(lists), bytes.len() - rest.len()))
+        read_certificate::<ConstProp>(alloc, input, bytes)
     }
 
     ghost sound = { sound_law };

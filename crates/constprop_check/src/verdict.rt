@@ -1,42 +1,36 @@
 //! Whether an output is accepted, and where it is not.
 
 ghost use Rattle.std.specs.Prelude.{◌↔◌, IsTrue, IfOk};
-ghost use Rattle.constprop_check_rules.specs.Rules.{IsPropagated};
-ghost use Rattle.constprop_check.specs.Verdict.{TellsWhy};
+ghost use Rattle.rtl_passes_facts.specs.Rules.{TellsWhy};
+ghost use Rattle.constprop_check_rules.specs.Rules.{propagation, IsPropagated};
 
-use crate::lists::{FactLists, has_shape};
-use crate::nodes::lowest_wrong;
-use lang_base::NoMemory;
+use crate::lists::FactLists;
+use crate::pass::ConstProp;
+use lang_base::{Fault, NoMemory};
 use rtl_language::Function;
-use rtl_passes::Fault;
 use std::alloc::Global;
 
-/// What is wrong with the output and the facts, if anything is.
+/// What is wrong with the output and the facts, if anything is. `Shape`: the parameters, registers, entries or
+/// numbers of nodes differ, or the facts are not one list in order for each node.
 pub fn why(
     _alloc: Global,
     input: &Function,
     output: &Function,
     facts: &FactLists,
 ) -> Result<Option<Fault>, NoMemory>
-    ensures { IfOk result (TellsWhy input.now output.now facts.now) }
+    ensures { IfOk result (TellsWhy propagation input.now output.now facts.now) }
 {
-    let lists = facts.as_slice();
-    if !has_shape(input, output, lists) {
-        return Ok(Some(Fault::Shape));
-    }
-    let inputs = input.nodes().as_slice();
-    let outputs = output.nodes().as_slice();
-    Ok(lowest_wrong(input.entry(), inputs, outputs, lists).map(Fault::Node))
+    Ok(rtl_passes_facts::why::<ConstProp>(input, output, facts.as_slice()))
 }
 
 /// Whether the output and the facts keep the rules.
 pub fn check(
-    alloc: Global,
+    _alloc: Global,
     input: &Function,
     output: &Function,
     facts: &FactLists,
 ) -> Result<bool, NoMemory>
     ensures { IfOk result (λ yes. IsTrue yes ↔ IsPropagated input.now output.now facts.now) }
 {
-    Ok(why(alloc, input, output, facts)?.is_none())
+    Ok(rtl_passes_facts::check::<ConstProp>(input, output, facts.as_slice()))
 }

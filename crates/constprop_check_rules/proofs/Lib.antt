@@ -1,3 +1,4 @@
+pub mod Behind
 pub mod Counts
 pub mod Holding
 pub mod Sound

@@ -1,10 +1,7 @@
 -- What the pass accepts keeps the meaning of whole programs.
-use Rattle.std.proofs.Common.{◌≡◌, ℕ, ◌<◌, ◌^◌, List, [], ◌∷◌, length, Option, Some, None, Bool, true, false, cond, get_or, refl, sym, ap, subst, arith, inl, inr}
-use Rattle.std.specs.Prelude.{slice_get, All}
+use Rattle.std.proofs.Common.{◌≡◌, ℕ, ◌<◌, List, [], ◌∷◌, length, Option, Some, None, Bool, true, false, cond, refl, sym, ap, subst, arith, inl, inr}
+use Rattle.std.specs.Prelude.{All}
 use Rattle.std.specs.Option.{option_map}
-use Rattle.std.proofs.lemmas.Bool.{cases_lt}
-use Rattle.std.proofs.lemmas.List.{get_or_past}
-use Rattle.std.proofs.lemmas.Option.{slice_get_within, slice_get-get_or, slice_get_cases}
 use Rattle.lang_base.specs.Keeps.{Keeps}
 use Rattle.lang_base.specs.declared.program.Program.{Program}
 use Rattle.lang_base.specs.Soundness.{Accepted}
@@ -19,11 +16,11 @@ use Rattle.rtl_language.specs.declared.instruction.Instruction.TheVariants.{Do, 
 use Rattle.rtl_language.specs.Function.{FunctionData}
 use Rattle.rtl_language.specs.Meaning.{run}
 use Rattle.rtl_passes.specs.Effects.{onward, chooses, effect_of, HoldsAfter}
-use Rattle.rtl_passes.specs.Facts.{IsMatched, IsStepwise}
-use Rattle.rtl_passes.proofs.Sound.{stepwise_keeps}
+use Rattle.rtl_passes_facts.specs.Rules.{facts_at, LeadsTo, LeadsOn, MayBecome}
+use Rattle.rtl_passes_facts.proofs.Sound.{AreSound, facts_keep}
 use Rattle.constprop_check_rules.specs.declared.fact.Fact.{Fact}
 use Rattle.constprop_check_rules.specs.Known.{fact_at, known_value, known_behind, decided, arms, folded_act, folded, written_by, value_by}
-use Rattle.constprop_check_rules.specs.Rules.{facts_at, LeadsTo, LeadsOn, MayBecome, IsRightAs, IsPropagated}
+use Rattle.constprop_check_rules.specs.Rules.{FactFits, propagation, IsPropagated}
 use Rattle.constprop_check_rules.proofs.Holding.{FactsHold, fact_among, decided_holds, operate_known, act_known, call_known}
 
 -- the facts at a node hold
@@ -72,7 +69,7 @@ module _ (facts : List Fact) (d : Data) (hold : FactsHold facts d) where
           subst (λ a. effect_of a d ≡ effect_of (Branch test taken other) d) is (ap (chooses taken other d) (sym (decided_holds facts d hold test answer known)))
   folded_alike (Return value) o e = cc (e)
 
-  pub becomes_alike : (i o : Instruction) → MayBecome facts i o → effect_of o d ≡ effect_of i d
+  pub becomes_alike : (i o : Instruction) → MayBecome propagation facts i o → effect_of o d ≡ effect_of i d
   becomes_alike i o (inl same) = ap (λ a. effect_of a d) same
   becomes_alike i o (inr simpler) = folded_alike i o simpler
 
@@ -85,7 +82,7 @@ WithinAt lists d = (s r w : ℕ) → fact_at (facts_at lists s) r ≡ Some w →
 module _ (lists : List (List Fact)) (n : ℕ) (d : Data) (hold : HoldAt lists n d) (within : WithinAt lists d) where
   -- the facts at a node are known behind this one
   abbrev KnownAt : Instruction → ℕ → Type 0
-  KnownAt i s = LeadsTo lists (facts_at lists n) i s
+  KnownAt i s = LeadsTo propagation lists (facts_at lists n) i s
 
   known_at : (i : Instruction) (s : ℕ) → KnownAt i s → (r w : ℕ) → fact_at (facts_at lists s) r ≡ Some w → known_behind (written_by i) (value_by i (facts_at lists n)) (facts_at lists n) r ≡ Some w
   known_at i s known r w e = fact_among (λ fact. known_behind (written_by i) (value_by i (facts_at lists n)) (facts_at lists n) fact.register ≡ Some fact.word) (facts_at lists s) known.known r w e
@@ -111,7 +108,7 @@ module _ (lists : List (List Fact)) (n : ℕ) (d : Data) (hold : HoldAt lists n 
       subst (λ o. HoldsAfter (HoldAt lists) d (chooses taken other d o)) (sym (decided_holds (facts_at lists n) d hold test answer is))
       (arm_leads test taken other (cond answer taken other) (known 0 (cond answer taken other) (omega arith)))
 
-  pub leads_on : (i : Instruction) → LeadsOn lists (facts_at lists n) i → HoldsAfter (HoldAt lists) d (effect_of i d)
+  pub leads_on : (i : Instruction) → LeadsOn propagation lists (facts_at lists n) i → HoldsAfter (HoldAt lists) d (effect_of i d)
   leads_on (Do act s) leads = act_leads act s (does act d) refl (leads 0 s (omega arith))
   leads_on (Call function arguments target s) leads = λ value e same r w said.
       call_known (facts_at lists n) d hold target value e same r w (within s r w said) (known_at (Call function arguments target s) s (leads 0 s (omega arith)) r w said)
@@ -120,50 +117,12 @@ module _ (lists : List (List Fact)) (n : ℕ) (d : Data) (hold : HoldAt lists n 
 
 -- ---- the whole
 
-module _ (f g : FunctionData) (lists : List (List Fact)) (accepted : IsPropagated f g lists) where
-  -- no fact speaks of a register that is not there
-  said_within : (s r w : ℕ) → fact_at (facts_at lists s) r ≡ Some w → r < f.registers
-  said_within s r w said =
-      elim (cases_lt s (length lists)) [
-        | inl below ↦ (fact_among (λ fact. (fact.register < f.registers) × (fact.word < 2 ^ 32)) (facts_at lists s) (accepted.shape.each s [] below).each r w said).0
-        | inr past ↦ absurd (let none : fact_at (facts_at lists s) r ≡ None = ap (λ facts. fact_at facts r) (get_or_past lists s [] past) in cc)
-      ]
-
-  output_there : (n : ℕ) (i : Instruction) → slice_get f.nodes n ≡ Some i → (o : Instruction) × (slice_get g.nodes n ≡ Some o)
-  output_there n i e =
-      let below : n < length g.nodes = omega (arith, slice_get_within f.nodes n i e, accepted.shape.same.nodes) in
-      (get_or g.nodes n i, slice_get-get_or g.nodes n i below)
-
-  right_at : (n : ℕ) (i : Instruction) → slice_get f.nodes n ≡ Some i → (o : Instruction) → slice_get g.nodes n ≡ Some o → IsRightAs f.entry lists n i o
-  right_at n i e o e' = accepted.nodes n (slice_get_within f.nodes n i e) i o e e'
-
-  nothing_at_entry : facts_at lists f.entry ≡ []
-  nothing_at_entry =
-      elim (slice_get_cases f.nodes f.entry).1 [
-        | inl here ↦ let there = output_there f.entry here.0 here.2 in (right_at f.entry here.0 here.2 there.0 there.1).entry refl
-        | inr past ↦ get_or_past lists f.entry [] (omega (arith, past.0, accepted.shape.count))
-      ]
-
-  entry_holds : (d : Data) → HoldAt lists f.entry d
-  entry_holds d r w said = absurd (let none : fact_at (facts_at lists f.entry) r ≡ None = ap (λ facts. fact_at facts r) nothing_at_entry in cc)
-
-  node_matched : (n : ℕ) (i : Instruction) → slice_get f.nodes n ≡ Some i → (d : Data) → length d.registers ≡ f.registers → HoldAt lists n d → IsMatched (HoldAt lists) g.nodes n d (effect_of i d)
-  node_matched n i e d counted hold =
-      let there = output_there n i e in
-      let right = right_at n i e there.0 there.1 in
-      record {
-        instruction = there.0;
-        stands = there.1;
-        alike = becomes_alike (facts_at lists n) d hold i there.0 right.becomes;
-        after = leads_on lists n d hold (λ s r w said. omega (arith, said_within s r w said, counted)) i right.leads;
-      }
-
-stepwise : IsStepwise IsPropagated HoldAt
-stepwise = record {
-  shape = λ f g lists accepted. accepted.shape.same;
-  entry = λ f g lists accepted d. entry_holds f g lists accepted d;
-  node = λ f g lists accepted n i e d counted hold runs. node_matched f g lists accepted n i e d counted hold;
+are_sound : AreSound propagation FactsHold
+are_sound = record {
+  none = λ d r w said. cc;
+  becomes = λ facts d hold i o runs becomes. becomes_alike facts d hold i o becomes;
+  leads = λ lists n d hold fit i leads. leads_on lists n d hold (λ s r w said. (fact_among (FactFits (length d.registers)) (facts_at lists s) (fit s) r w said).0) i leads;
 }
 
 pub sound : (p q : Program FunctionData) → Accepted IsPropagated p q → Keeps (run p) (run q)
-sound p q accepted = stepwise_keeps IsPropagated HoldAt stepwise p q accepted
+sound p q accepted = facts_keep propagation FactsHold are_sound p q accepted

@@ -1,3 +1,1 @@
-pub mod Unchanged
-pub mod Readings
-pub mod Rising
+pub mod Among

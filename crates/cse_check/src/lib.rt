@@ -4,17 +4,16 @@
 #![tactic(auto)]
 
 mod base;
-mod edges;
+mod behind;
 mod lists;
 mod moves;
-mod nodes;
 mod pass;
+mod rules;
 mod verdict;
-mod walk;
 
 pub use base::baseline;
 pub use cse_check_rules::{Equation, RightSide};
+pub use lang_base::Fault;
 pub use lists::{EquationLists, equations_of};
 pub use pass::Cse;
-pub use rtl_passes::Fault;
 pub use verdict::{check, why};

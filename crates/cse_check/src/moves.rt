@@ -1,11 +1,9 @@
 //! Whether the output is a move that the equations allow.
 
-ghost use Rattle.std.specs.Prelude.{◌≡◌, ◌↔◌, IsTrue};
+ghost use Rattle.std.specs.Prelude.{◌≡◌, ◌↔◌, IsTrue, Contains};
 ghost use Rattle.cse_check_rules.specs.Rules.{IsShared};
-ghost use Rattle.cse_check_codec.specs.Ranks.{RiseFrom};
 ghost use Rattle.cse_check.specs.Sources.{act_source_of, source_of, IsSharedFrom};
 
-use crate::walk::is_among;
 use cse_check_rules::{Equation, share};
 use rtl_language::Instruction;
 use rtl_parts::{Act, Register};
@@ -30,6 +28,18 @@ fn moved_from(instruction: &Instruction) -> Option<Register>
     }
 }
 
+/// Whether the equation is among these.
+fn is_among(equations: &[Equation], equation: Equation) -> bool
+    ensures { IsTrue result ↔ Contains equations.now equation }
+{
+    for other in equations {
+        if cse_check_rules::is_same(*other, equation) {
+            return true;
+        }
+    }
+    false
+}
+
 /// Whether the output is the move from this register, and one of the equations allows it.
 fn is_shared_from(
     equations: &[Equation],
@@ -37,7 +47,6 @@ fn is_shared_from(
     output: &Instruction,
     source: Register,
 ) -> bool
-    requires { RiseFrom 0 equations.now }
     ensures { IsTrue result ↔ IsSharedFrom equations.now input.now output.now source }
 {
     match share(input, source) {
@@ -48,7 +57,6 @@ fn is_shared_from(
 
 /// Whether the output is a move that one of the equations allows.
 pub(crate) fn is_shared(equations: &[Equation], input: &Instruction, output: &Instruction) -> bool
-    requires { RiseFrom 0 equations.now }
     ensures { IsTrue result ↔ IsShared equations.now input.now output.now }
 {
     match moved_from(output) {

@@ -1,9 +1,9 @@
 use crate::base::baseline;
 use crate::lists::EquationLists;
 use crate::verdict::check;
-use cse_check_codec::{push_lists, read_lists};
-use lang_base::{FormError, NoMemory, Pass, PassError, Row};
+use lang_base::{FormError, NoMemory, Pass, PassError};
 use rtl_language::{Function, Rtl};
+use rtl_passes_facts::{read_certificate, write_certificate};
 use std::alloc::Global;
 
 /// Pass 2: what a register holds already is not computed or loaded again.
@@ -11,8 +11,10 @@ pub struct Cse;
 
 impl Pass for Cse {
     ghost use Rattle.std.specs.Prelude.{◌≡◌, ◌≢◌, ◌≤◌, ℕ, List, ◌++◌, length, take, IsTrue, ◌↔◌, OnOk, OnErr, IfOk, IfErr};
-    ghost use Rattle.cse_check_rules.specs.Rules.{IsEliminated};
-    ghost use Rattle.cse_check_codec.specs.Text.{CertFits, cert_text};
+    ghost use Rattle.rtl_passes.specs.ListForm.{lists_text};
+    ghost use Rattle.rtl_passes_facts.specs.Certificates.{CertFits};
+    ghost use Rattle.cse_check_rules.specs.Order.{equation_text};
+    ghost use Rattle.cse_check_rules.specs.Rules.{elimination, IsEliminated};
     ghost use Rattle.cse_check.specs.Baseline.{IsBaseline};
     ghost use Rattle.cse_check.specs.PassLaws.{eliminated_fits, one_cert, sound_law, never};
 
@@ -28,9 +30,9 @@ impl Pass for Cse {
 
     ghost accepts = { IsEliminated };
 
-    ghost cert_fits = { λ i o c. CertFits i c };
+    ghost cert_fits = { λ i o c. CertFits elimination i c };
 
-    ghost cert_spelling = { λ i o c. cert_text c };
+    ghost cert_spelling = { λ i o c. lists_text equation_text c };
 
     ghost too_large = { never };
 
@@ -57,12 +59,7 @@ impl Pass for Cse {
         equations: &EquationLists,
         out: &mut Vec<u8>,
     ) -> Result<(), NoMemory> {
-        let length = out.len();
-        let written = push_lists(out, equations.as_slice());
-        if written.is_err() {
-            out.truncate(length);
-        }
-        written
+        write_certificate::<Cse>(equations.as_slice(), out)
     }
 
     fn read_cert(
@@ -71,11 +68,7 @@ impl Pass for Cse {
         _output: &Function,
         bytes: &[u8],
     ) -> Result<(EquationLists, usize), FormError> {
-        let registers = u32::from(input.registers());
-        let nodes = input.nodes().len() as u32;
-        let mut rest = bytes;
-        let lists = read_lists(alloc, registers, nodes, &mut rest)?;
-        Ok((Row::from_vec(lists), bytes.len() - rest.len()))
+        read_certificate::<Cse>(alloc, input, bytes)
     }
 
     ghost sound = { sound_law };

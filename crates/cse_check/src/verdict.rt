@@ -1,42 +1,36 @@
 //! Whether an output is accepted, and where it is not.
 
 ghost use Rattle.std.specs.Prelude.{◌↔◌, IsTrue, IfOk};
-ghost use Rattle.cse_check_rules.specs.Rules.{IsEliminated};
-ghost use Rattle.cse_check.specs.Verdict.{TellsWhy};
+ghost use Rattle.rtl_passes_facts.specs.Rules.{TellsWhy};
+ghost use Rattle.cse_check_rules.specs.Rules.{elimination, IsEliminated};
 
-use crate::lists::{EquationLists, has_shape};
-use crate::nodes::lowest_wrong;
-use lang_base::NoMemory;
+use crate::lists::EquationLists;
+use crate::pass::Cse;
+use lang_base::{Fault, NoMemory};
 use rtl_language::Function;
-use rtl_passes::Fault;
 use std::alloc::Global;
 
-/// What is wrong with the output and the equations, if anything is.
+/// What is wrong with the output and the equations, if anything is. `Shape`: the parameters, registers, entries or
+/// numbers of nodes differ, or the equations are not one list in order for each node.
 pub fn why(
     _alloc: Global,
     input: &Function,
     output: &Function,
     equations: &EquationLists,
 ) -> Result<Option<Fault>, NoMemory>
-    ensures { IfOk result (TellsWhy input.now output.now equations.now) }
+    ensures { IfOk result (TellsWhy elimination input.now output.now equations.now) }
 {
-    let lists = equations.as_slice();
-    if !has_shape(input, output, lists) {
-        return Ok(Some(Fault::Shape));
-    }
-    let inputs = input.nodes().as_slice();
-    let outputs = output.nodes().as_slice();
-    Ok(lowest_wrong(input.entry(), inputs, outputs, lists).map(Fault::Node))
+    Ok(rtl_passes_facts::why::<Cse>(input, output, equations.as_slice()))
 }
 
 /// Whether the output and the equations keep the rules.
 pub fn check(
-    alloc: Global,
+    _alloc: Global,
     input: &Function,
     output: &Function,
     equations: &EquationLists,
 ) -> Result<bool, NoMemory>
     ensures { IfOk result (λ yes. IsTrue yes ↔ IsEliminated input.now output.now equations.now) }
 {
-    Ok(why(alloc, input, output, equations)?.is_none())
+    Ok(rtl_passes_facts::check::<Cse>(input, output, equations.as_slice()))
 }

@@ -16,12 +16,10 @@ use Rattle.rtl_parts.specs.Fits.{global_limit, RegisterFits, GlobalFits, Argumen
 use Rattle.rtl_parts.specs.Spelling.{register_text, arguments_text}
 use Rattle.rtl_parts.specs.Reading.{register, global, arguments}
 use Rattle.rtl_parts.proofs.Forms.{register_form}
-use Rattle.rtl_passes.specs.ListForm.{ListsFit, lists, lists_form}
 use Rattle.cse_check_rules.specs.declared.equation.RightSide.{RightSide}
 use Rattle.cse_check_rules.specs.declared.equation.RightSide.TheVariants.{Operation, Cell, Copy}
 use Rattle.cse_check_rules.specs.Order.{right_code, right_body, equation_text}
 use Rattle.cse_check_rules.specs.Rules.{RightFits, EquationFits}
-use Rattle.cse_check_codec.specs.Text.{cert_text}
 use Rattle.cse_check_codec.specs.Reading.{operation, cell, copying, rights, right, equation}
 
 global_form : IsForm global (to_be_bytes w16) GlobalFits
@@ -127,7 +125,3 @@ module _ (registers : ℕ) (few : registers ≤ 2 ^ 16) where
       equation_text (EquationFits registers)
       (λ p fits. (refl, fits))
       (λ e fits. ((e.register, e.right), fits, refl))
-
--- what is read is spelled so, and what is spelled so is read
-pub equations_form : (registers count : ℕ) → registers ≤ 2 ^ 16 → IsForm (lists (equation registers) count) cert_text (ListsFit (EquationFits registers) count)
-equations_form registers count few = lists_form (equation_form registers few) count

@@ -14,7 +14,7 @@ use Rattle.cse_check_rules.specs.declared.equation.RightSide.TheVariants.{Operat
 use Rattle.cse_check_rules.specs.declared.equation.Equation.{Equation}
 use Rattle.cse_check_rules.specs.Order.{equation_text, IsBefore, rank}
 use Rattle.cse_check_rules.specs.Rules.{RightFits, EquationFits, Rise}
-use Rattle.cse_check_codec.specs.Ranks.{RiseFrom}
+use Rattle.rtl_passes_facts.specs.Ranked.{RiseFrom}
 use Rattle.cse_check_codec.proofs.Forms.{code_small, equation_form}
 
 abbrev Bytes : List ℕ → Type 0
@@ -120,14 +120,14 @@ module _ (registers : ℕ) (few : registers ≤ 2 ^ 16) where
   BeginsAt lower [] = Unit {0}
   BeginsAt lower (e ∷ es) = lower ≤ rank e
 
-  rise_from : (es : List Equation) (lower : ℕ) → AllByRecursion (EquationFits registers) es → BeginsAt lower es → Rise es → RiseFrom lower es
+  rise_from : (es : List Equation) (lower : ℕ) → AllByRecursion (EquationFits registers) es → BeginsAt lower es → Rise es → RiseFrom rank lower es
   rise_from [] lower fits begins rise = tt
   rise_from (e ∷ []) lower fits begins rise = (begins, tt)
   rise_from (e ∷ (f ∷ es)) lower fits begins rise =
       let above : rank e < rank f = (before_ranks e f fits.0 fits.1.0).0 rise.0 in
       (begins, rise_from (f ∷ es) (suc (rank e)) fits.1 (omega (arith, above)) rise.1)
 
-  from_rise : (es : List Equation) (lower : ℕ) → AllByRecursion (EquationFits registers) es → RiseFrom lower es → Rise es
+  from_rise : (es : List Equation) (lower : ℕ) → AllByRecursion (EquationFits registers) es → RiseFrom rank lower es → Rise es
   from_rise [] lower fits rise = tt
   from_rise (e ∷ []) lower fits rise = tt
   from_rise (e ∷ (f ∷ es)) lower fits rise =
@@ -135,7 +135,7 @@ module _ (registers : ℕ) (few : registers ≤ 2 ^ 16) where
       ((before_ranks e f fits.0 fits.1.0).1 above, from_rise (f ∷ es) (suc (rank e)) fits.1 rise.1)
 
   -- in order by their bytes, and by their ranks
-  pub rise_ranks : (es : List Equation) → AllByRecursion (EquationFits registers) es → Rise es ↔ RiseFrom 0 es
+  pub rise_ranks : (es : List Equation) → AllByRecursion (EquationFits registers) es → Rise es ↔ RiseFrom rank 0 es
   rise_ranks es fits = (λ rise. rise_from es 0 fits (begins es) rise, λ rise. from_rise es 0 fits rise)
     where
       begins : (es : List Equation) → BeginsAt 0 es

@@ -1,9 +1,8 @@
-//! The form of certificates that have a list of equations for each node: read and written with one
-//! spelling each.
+//! The form of equations, read and written with one spelling each, and their order by it.
 #![tactic(auto)]
 
 mod reading;
 mod writing;
 
-pub use reading::read_lists;
-pub use writing::push_lists;
+pub use reading::read_equation;
+pub use writing::push_equation;

@@ -1,17 +1,14 @@
-//! Readers of equations: for each node their number and the equations, each a register and a right
-//! side.
+//! Readers of equations, each a register and a right side.
 
-ghost use Rattle.std.specs.Prelude.{◌≡◌, []};
-ghost use Rattle.lang_base.specs.Reading.{IsRead, Reads, items_of, more};
+ghost use Rattle.std.specs.Prelude.{◌≡◌};
+ghost use Rattle.lang_base.specs.Reading.{IsRead};
 ghost use Rattle.rtl_parts.specs.Reading.{global, arguments};
-ghost use Rattle.rtl_passes.specs.ListForm.{list, lists};
 ghost use Rattle.cse_check_codec.specs.Reading.{operation, cell, copying, right, equation};
 
 use cse_check_rules::{Equation, RightSide};
 use ints::Op;
-use lang_base::{FormError, Row, read_byte, read_u16, read_u16_below};
+use lang_base::{FormError, read_byte, read_u16_below};
 use rtl_parts::{Arguments, read_register};
-use std::alloc::Global;
 
 /// One register or two.
 #[tactic(auto, unfolding(rtl_parts::specs::Reading::arguments))]
@@ -72,67 +69,12 @@ fn read_right(registers: u32, bytes: &mut &[u8]) -> Result<RightSide, FormError>
     }
 }
 
-/// An equation among so many registers.
+/// An equation among so many registers; the bytes go on behind it.
 #[tactic(auto, unfolding(crate::specs::Reading::equation))]
-fn read_equation(registers: u32, bytes: &mut &[u8]) -> Result<Equation, FormError>
+pub fn read_equation(registers: u32, bytes: &mut &[u8]) -> Result<Equation, FormError>
     ensures { IsRead (equation registers bytes.old.now) result bytes.new.now }
 {
     let register = read_register(registers, bytes)?;
     let right = read_right(registers, bytes)?;
     Ok(Equation { register, right })
-}
-
-fn read_so_many(
-    alloc: Global,
-    registers: u32,
-    count: u16,
-    bytes: &mut &[u8],
-) -> Result<Vec<Equation>, FormError>
-    ensures { Reads (more (λ before. equation registers) [] count bytes.old.now) (items_of result) bytes.new.now }
-{
-    let mut equations = Vec::new(alloc);
-    for _ in 0..count {
-        let equation = read_equation(registers, bytes)?;
-        equations.push(equation)?;
-    }
-    Ok(equations)
-}
-
-/// The equations of a node.
-#[tactic(auto, unfolding(rtl_passes::specs::ListForm::list))]
-fn read_list(alloc: Global, registers: u32, bytes: &mut &[u8]) -> Result<Row<Equation>, FormError>
-    ensures { Reads (list (equation registers) bytes.old.now) result bytes.new.now }
-{
-    let count = read_u16(bytes)?;
-    let equations = read_so_many(alloc, registers, count, bytes)?;
-    Ok(Row::from_vec(equations))
-}
-
-fn read_each(
-    alloc: Global,
-    registers: u32,
-    nodes: u32,
-    bytes: &mut &[u8],
-) -> Result<Vec<Row<Equation>>, FormError>
-    ensures { Reads (more (λ before. list (equation registers)) [] nodes bytes.old.now) (items_of result) bytes.new.now }
-{
-    let mut read = Vec::new(alloc);
-    for _ in 0..nodes {
-        let equations = read_list(alloc, registers, bytes)?;
-        read.push(equations)?;
-    }
-    Ok(read)
-}
-
-/// The equations of so many nodes, among so many registers.
-#[tactic(auto, unfolding(rtl_passes::specs::ListForm::lists))]
-pub fn read_lists(
-    alloc: Global,
-    registers: u32,
-    nodes: u32,
-    bytes: &mut &[u8],
-) -> Result<Vec<Row<Equation>>, FormError>
-    ensures { Reads (lists (equation registers) nodes bytes.old.now) (items_of result) bytes.new.now }
-{
-    read_each(alloc, registers, nodes, bytes)
 }

@@ -1,11 +1,8 @@
 -- What the pass accepts keeps the meaning of whole programs.
 use Rattle.std.proofs.Common.{◌≡◌, ◌≢◌, ℕ, ◌<◌, List, [], ◌∷◌, length, Option, Some, None, Bool, true, false, get_or, refl, sym, ap, subst, ◌∙◌, arith, inl, inr}
-use Rattle.std.specs.Prelude.{◌||◌, slice_get, All}
+use Rattle.std.specs.Prelude.{◌||◌, All}
 use Rattle.std.specs.Option.{option_map}
-use Rattle.std.proofs.lemmas.Bool.{cases_lt}
-use Rattle.std.proofs.lemmas.List.{get_or_past}
 use Rattle.std.proofs.lemmas.List.Elements.{All-contains}
-use Rattle.std.proofs.lemmas.Option.{slice_get_within, slice_get-get_or, slice_get_cases}
 use Rattle.lang_base.specs.Keeps.{Keeps}
 use Rattle.lang_base.specs.declared.program.Program.{Program}
 use Rattle.lang_base.specs.Soundness.{Accepted}
@@ -19,18 +16,18 @@ use Rattle.rtl_language.specs.declared.instruction.Instruction.TheVariants.{Do, 
 use Rattle.rtl_language.specs.Function.{FunctionData}
 use Rattle.rtl_language.specs.Meaning.{run}
 use Rattle.rtl_passes.specs.Effects.{Faults, onward, chooses, effect_of, HoldsAfter}
-use Rattle.rtl_passes.specs.Facts.{IsMatched, IsStepwise}
-use Rattle.rtl_passes.proofs.Sound.{stepwise_keeps}
+use Rattle.rtl_passes_facts.specs.Rules.{facts_at, LeadsTo, LeadsOn, MayBecome}
+use Rattle.rtl_passes_facts.proofs.Sound.{AreSound, facts_keep}
 use Rattle.constprop_check_rules.specs.Known.{target_of}
 use Rattle.cse_check_rules.specs.declared.equation.RightSide.TheVariants.{Operation, Cell, Copy}
 use Rattle.cse_check_rules.specs.declared.equation.Equation.{Equation}
 use Rattle.cse_check_rules.specs.Equations.{made_by, equation_by, act_disturbs, overwrites, kills, shared_by, shared}
-use Rattle.cse_check_rules.specs.Rules.{equations_at, IsKnown, LeadsTo, LeadsOn, MayBecome, IsRightAs, IsEliminated}
+use Rattle.cse_check_rules.specs.Rules.{IsKnown, elimination, IsEliminated}
 use Rattle.cse_check_rules.proofs.Holding.{gives, Holds, MadeOrKept, act_holds, call_holds}
 
 -- the equations at a node hold
 abbrev HoldAt : List (List Equation) → ℕ → Data → Type 0
-HoldAt lists n d = All (Holds d) (equations_at lists n)
+HoldAt lists n d = All (Holds d) (facts_at lists n)
 
 -- ---- a move that an equation allows does the same
 
@@ -92,7 +89,7 @@ shared_alike d (Call function arguments target successor) o r equation allows ho
 shared_alike d (Branch test taken other) o r equation allows hold runs = cc (allows)
 shared_alike d (Return value) o r equation allows hold runs = cc (allows)
 
-becomes_alike : (equations : List Equation) (d : Data) → All (Holds d) equations → (i o : Instruction) → effect_of i d ≢ Faults → MayBecome equations i o → effect_of o d ≡ effect_of i d
+becomes_alike : (equations : List Equation) (d : Data) → All (Holds d) equations → (i o : Instruction) → effect_of i d ≢ Faults → MayBecome elimination equations i o → effect_of o d ≡ effect_of i d
 becomes_alike equations d hold i o runs (inl same) = ap (λ a. effect_of a d) same
 becomes_alike equations d hold i o runs (inr s) = shared_alike d i o s.source s.equation s.allows (All-contains (Holds d) equations s.equation hold s.known) runs
 
@@ -100,28 +97,28 @@ becomes_alike equations d hold i o runs (inr s) = shared_alike d i o s.source s.
 
 -- equations speak of registers that are there
 abbrev WithinAt : List (List Equation) → Data → Type 0
-WithinAt lists d = (s : ℕ) → All (λ equation. equation.register < length d.registers) (equations_at lists s)
+WithinAt lists d = (s : ℕ) → All (λ equation. equation.register < length d.registers) (facts_at lists s)
 
 module _ (lists : List (List Equation)) (n : ℕ) (d : Data) (hold : HoldAt lists n d) (within : WithinAt lists d) where
   abbrev KnownAt : Instruction → ℕ → Type 0
-  KnownAt i s = LeadsTo lists (equations_at lists n) i s
+  KnownAt i s = LeadsTo elimination lists (facts_at lists n) i s
 
   -- an equation that is known was made, or it held and was not killed
-  made_or_kept : (i : Instruction) (equation : Equation) → IsKnown i (equations_at lists n) equation → MadeOrKept d (equation_by i) (kills i equation) equation
+  made_or_kept : (i : Instruction) (equation : Equation) → IsKnown i (facts_at lists n) equation → MadeOrKept d (equation_by i) (kills i equation) equation
   made_or_kept i equation (inl made) = inl made
-  made_or_kept i equation (inr before) = inr (All-contains (Holds d) (equations_at lists n) equation hold before.0, before.1)
+  made_or_kept i equation (inr before) = inr (All-contains (Holds d) (facts_at lists n) equation hold before.0, before.1)
 
   act_leads : (act : Act) (s : ℕ) (o : Option Data) → does act d ≡ o → KnownAt (Do act s) s → HoldsAfter (HoldAt lists) d (onward s o)
   act_leads act s None is known = tt
   act_leads act s (Some e) is known = λ k z below.
-      after e is (get_or (equations_at lists s) k z) (within s k z below) (made_or_kept (Do act s) (get_or (equations_at lists s) k z) (known.known k z below))
+      after e is (get_or (facts_at lists s) k z) (within s k z below) (made_or_kept (Do act s) (get_or (facts_at lists s) k z) (known.known k z below))
     where
       after : (e : Data) → does act d ≡ Some e → (equation : Equation) → equation.register < length d.registers → MadeOrKept d (made_by act) (overwrites (target_of act) equation || act_disturbs act equation.right) equation → Holds e equation
       after e is = let all = act_holds d act in let here = rw is at all in here
 
   call_leads : (function : ℕ) (arguments : List ℕ) (target : Option ℕ) (s : ℕ) → KnownAt (Call function arguments target s) s → HoldsAfter (HoldAt lists) d (effect_of (Call function arguments target s) d)
   call_leads function arguments target s known = λ value e registers k z below.
-      call_holds d target value e registers (get_or (equations_at lists s) k z) (made_or_kept (Call function arguments target s) (get_or (equations_at lists s) k z) (known.known k z below))
+      call_holds d target value e registers (get_or (facts_at lists s) k z) (made_or_kept (Call function arguments target s) (get_or (facts_at lists s) k z) (known.known k z below))
 
   still : (test : Test) (taken other : ℕ) (equation : Equation) → MadeOrKept d (equation_by (Branch test taken other)) (kills (Branch test taken other) equation) equation → Holds d equation
   still test taken other equation (inl made) = cc (made)
@@ -129,14 +126,14 @@ module _ (lists : List (List Equation)) (n : ℕ) (d : Data) (hold : HoldAt list
 
   arm_leads : (test : Test) (taken other s : ℕ) → KnownAt (Branch test taken other) s → HoldAt lists s d
   arm_leads test taken other s known = λ k z below.
-      still test taken other (get_or (equations_at lists s) k z) (made_or_kept (Branch test taken other) (get_or (equations_at lists s) k z) (known.known k z below))
+      still test taken other (get_or (facts_at lists s) k z) (made_or_kept (Branch test taken other) (get_or (facts_at lists s) k z) (known.known k z below))
 
   chosen_leads : (test : Test) (taken other : ℕ) (o : Option Bool) → All (KnownAt (Branch test taken other)) (taken ∷ other ∷ []) → HoldsAfter (HoldAt lists) d (chooses taken other d o)
   chosen_leads test taken other None known = tt
   chosen_leads test taken other (Some true) known = arm_leads test taken other taken (known 0 taken (omega arith))
   chosen_leads test taken other (Some false) known = arm_leads test taken other other (known 1 other (omega arith))
 
-  pub leads_on : (i : Instruction) → LeadsOn lists (equations_at lists n) i → HoldsAfter (HoldAt lists) d (effect_of i d)
+  pub leads_on : (i : Instruction) → LeadsOn elimination lists (facts_at lists n) i → HoldsAfter (HoldAt lists) d (effect_of i d)
   leads_on (Do act s) leads = act_leads act s (does act d) refl (leads 0 s (omega arith))
   leads_on (Call function arguments target s) leads = call_leads function arguments target s (leads 0 s (omega arith))
   leads_on (Branch test taken other) leads = chosen_leads test taken other (holds test d) leads
@@ -144,50 +141,12 @@ module _ (lists : List (List Equation)) (n : ℕ) (d : Data) (hold : HoldAt list
 
 -- ---- the whole
 
-module _ (f g : FunctionData) (lists : List (List Equation)) (accepted : IsEliminated f g lists) where
-  -- no equation speaks of a register that is not there
-  said_within : (s k : ℕ) (z : Equation) → k < length (equations_at lists s) → (get_or (equations_at lists s) k z).register < f.registers
-  said_within s k z below =
-      elim (cases_lt s (length lists)) [
-        | inl there ↦ ((accepted.shape.each s [] there).each k z below).0
-        | inr past ↦ absurd (let none : length (equations_at lists s) ≡ 0 = ap length (get_or_past lists s [] past) in omega (arith, none, below))
-      ]
-
-  output_there : (n : ℕ) (i : Instruction) → slice_get f.nodes n ≡ Some i → (o : Instruction) × (slice_get g.nodes n ≡ Some o)
-  output_there n i e =
-      let below : n < length g.nodes = omega (arith, slice_get_within f.nodes n i e, accepted.shape.same.nodes) in
-      (get_or g.nodes n i, slice_get-get_or g.nodes n i below)
-
-  right_at : (n : ℕ) (i : Instruction) → slice_get f.nodes n ≡ Some i → (o : Instruction) → slice_get g.nodes n ≡ Some o → IsRightAs f.entry lists n i o
-  right_at n i e o e' = accepted.nodes n (slice_get_within f.nodes n i e) i o e e'
-
-  nothing_at_entry : equations_at lists f.entry ≡ []
-  nothing_at_entry =
-      elim (slice_get_cases f.nodes f.entry).1 [
-        | inl here ↦ let there = output_there f.entry here.0 here.2 in (right_at f.entry here.0 here.2 there.0 there.1).entry refl
-        | inr past ↦ get_or_past lists f.entry [] (omega (arith, past.0, accepted.shape.count))
-      ]
-
-  entry_holds : (d : Data) → HoldAt lists f.entry d
-  entry_holds d k z below = absurd (let none : length (equations_at lists f.entry) ≡ 0 = ap length nothing_at_entry in omega (arith, none, below))
-
-  node_matched : (n : ℕ) (i : Instruction) → slice_get f.nodes n ≡ Some i → (d : Data) → length d.registers ≡ f.registers → HoldAt lists n d → effect_of i d ≢ Faults → IsMatched (HoldAt lists) g.nodes n d (effect_of i d)
-  node_matched n i e d counted hold runs =
-      let there = output_there n i e in
-      let right = right_at n i e there.0 there.1 in
-      record {
-        instruction = there.0;
-        stands = there.1;
-        alike = becomes_alike (equations_at lists n) d hold i there.0 runs right.becomes;
-        after = leads_on lists n d hold (λ s k z below. omega (arith, said_within s k z below, counted)) i right.leads;
-      }
-
-stepwise : IsStepwise IsEliminated HoldAt
-stepwise = record {
-  shape = λ f g lists accepted. accepted.shape.same;
-  entry = λ f g lists accepted d. entry_holds f g lists accepted d;
-  node = λ f g lists accepted n i e d counted hold runs. node_matched f g lists accepted n i e d counted hold runs;
+are_sound : AreSound elimination (λ equations d. All (Holds d) equations)
+are_sound = record {
+  none = λ d k z below. absurd (omega (arith, below));
+  becomes = becomes_alike;
+  leads = λ lists n d hold fit i leads. leads_on lists n d hold (λ s k z below. (fit s k z below).0) i leads;
 }
 
 pub sound : (p q : Program FunctionData) → Accepted IsEliminated p q → Keeps (run p) (run q)
-sound p q accepted = stepwise_keeps IsEliminated HoldAt stepwise p q accepted
+sound p q accepted = facts_keep elimination (λ equations d. All (Holds d) equations) are_sound p q accepted

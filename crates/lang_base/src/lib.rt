@@ -4,6 +4,7 @@
 #![tactic(auto)]
 
 mod errors;
+mod fault;
 mod keeping;
 mod language;
 mod oracle;
@@ -15,6 +16,7 @@ mod shown;
 mod writing;
 
 pub use errors::{FormError, NoMemory, PassError};
+pub use fault::Fault;
 pub use keeping::{keeps_all, keeps_composes};
 pub use language::Language;
 pub use oracle::Oracle;

@@ -9,8 +9,8 @@ use Rattle.machine.specs.Fits.{AreDistinct}
 use Rattle.ltl.specs.declared.block.Block.{Block}
 use Rattle.ltl.specs.Function as ltl
 use Rattle.linear_language.specs.Function as linear
-use Rattle.linearize_check.specs.declared.order.Fault.{Fault}
-use Rattle.linearize_check.specs.declared.order.Fault.TheVariants.{Shape, Node}
+use Rattle.lang_base.specs.declared.fault.Fault.{Fault}
+use Rattle.lang_base.specs.declared.fault.Fault.TheVariants.{Shape, Node}
 use Rattle.linearize_check_proof.specs.Layout.{successors_of}
 use Rattle.linearize_check_proof.specs.Orders.{ListsNodes, IsOrder}
 use Rattle.linearize_check_proof.specs.Rules.{IsLaidOut, laid_out}

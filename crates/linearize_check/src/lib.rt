@@ -12,8 +12,9 @@ mod verdict;
 mod walk;
 
 pub use base::baseline;
+pub use lang_base::Fault;
 pub use linearize_check_layout::{lay_out, reachable, rising};
-pub use order::{Fault, Order};
+pub use order::Order;
 pub use pass::Linearize;
 pub use proposals::arrange;
 pub use verdict::{check, why};

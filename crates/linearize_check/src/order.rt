@@ -40,14 +40,3 @@ impl Order {
         self.nodes.as_slice()
     }
 }
-
-/// Why an output is not laid out by an order.
-#[derive(Clone, Copy, Debug, PartialEq, Eq)]
-pub enum Fault {
-    /// The order does not begin with the entry, is too long or names what is no node, the parameters
-    /// or slots differ, or code stands behind the last stretch.
-    Shape,
-    /// The lowest node that is listed twice, has a successor that is not listed, or whose stretch is
-    /// not what the output has in its place.
-    Node(u16),
-}

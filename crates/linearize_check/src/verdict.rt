@@ -5,14 +5,16 @@ ghost use Rattle.linearize_check_proof.specs.Rules.{HasFrame, IsLaidOut};
 ghost use Rattle.linearize_check.specs.Faults.{TellsFault};
 
 use crate::faults::{lesser, lowest_disordered};
-use crate::order::{Fault, Order};
+use crate::order::Order;
 use crate::proposals::lists_nodes;
 use crate::walk::walk_along;
-use lang_base::NoMemory;
+use lang_base::{Fault, NoMemory};
 use machine::Location;
 use std::alloc::Global;
 
-/// What is wrong with the output and the order, if anything is.
+/// What is wrong with the output and the order, if anything is. `Shape`: the order does not begin with the entry, is
+/// too long or names what is no node, the parameters or slots differ, or code stands behind the last stretch. `Node`: it
+/// is listed twice, has a successor that is not listed, or its stretch is not what the output has in its place.
 pub fn why(
     alloc: Global,
     input: &ltl::Function,

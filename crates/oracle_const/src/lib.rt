@@ -3,9 +3,7 @@
 //! that they allow or leaves it, as the words say. It promises nothing of what it proposes.
 #![tactic(auto)]
 
-mod analysis;
-mod lattice;
+mod follows;
 mod propose;
-mod unreached;
 
 pub use propose::ConstOracle;

@@ -3,10 +3,8 @@
 //! node a move that they allow or leaves it, as the words say. It promises nothing of what it proposes.
 #![tactic(auto)]
 
-mod analysis;
-mod lattice;
+mod follows;
 mod numbering;
 mod propose;
-mod unreached;
 
 pub use propose::CseOracle;

@@ -4,13 +4,12 @@
 #![tactic(auto)]
 
 mod empty;
-mod fault;
 mod nodes;
 mod same;
 mod shape;
 
 pub use empty::empty_lists;
-pub use fault::Fault;
+pub use lang_base::Fault;
 pub use nodes::with_nodes;
 pub use same::is_same;
 pub use shape::has_same_shape;

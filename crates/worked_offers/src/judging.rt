@@ -1,9 +1,9 @@
 //! What is said of written offers.
 
-use alloc_check::{Alloc, Fault};
+use alloc_check::Alloc;
 use constprop_check::ConstProp;
 use cse_check::Cse;
-use lang_base::{FormError, NoMemory, Oracle, Pass};
+use lang_base::{Fault, FormError, NoMemory, Oracle, Pass};
 use linearize_check::Linearize;
 use offers::{Offer, PartsOf};
 use oracle_alloc::AllocOracle;
@@ -39,17 +39,7 @@ impl Explained for AllocOracle {
 
 impl Explained for OrderOracle {
     fn fault_of(alloc: Global, parts: &PartsOf<Linearize>) -> Result<Option<Fault>, NoMemory> {
-        let fault = linearize_check::why(alloc, &parts.input, &parts.output, &parts.certificate)?;
-        Ok(same_fault(fault))
-    }
-}
-
-/// The fault of the fourth pass as one of the others.
-fn same_fault(fault: Option<linearize_check::Fault>) -> Option<Fault> {
-    match fault {
-        None => None,
-        Some(linearize_check::Fault::Shape) => Some(Fault::Shape),
-        Some(linearize_check::Fault::Node(node)) => Some(Fault::Node(node)),
+        linearize_check::why(alloc, &parts.input, &parts.output, &parts.certificate)
     }
 }
 

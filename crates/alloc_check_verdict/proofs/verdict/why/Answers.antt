@@ -1,6 +1,6 @@
 use Rattle.std.proofs.Common.{◌≡◌, ◌≤◌, length, arith, rules}
 use Rattle.std.specs.Option.{option_map}
-use Rattle.rtl_passes.specs.declared.fault.Fault.TheVariants.{Node}
+use Rattle.lang_base.specs.declared.fault.Fault.TheVariants.{Node}
 use Rattle.rtl_passes.proofs.Verdicts.{tells-lowest}
 use Rattle.alloc_check_rules.specs.Rules.{HasShape, IsRightAt}
 use Rattle.alloc_check_verdict.proofs.Ranks.{each_rises}

@@ -1,7 +1,7 @@
 use Rattle.std.proofs.Common.{◌≡◌, length, inl, inr, ◌∙◌, rules}
 use Rattle.std.specs.Option.{option_map}
 use Rattle.std.proofs.lemmas.Bool.{iff_false, cases_lt}
-use Rattle.linearize_check.specs.declared.order.Fault.TheVariants.{Node}
+use Rattle.lang_base.specs.declared.fault.Fault.TheVariants.{Node}
 use Rattle.linearize_check_proof.specs.Layout.{order_code}
 use Rattle.linearize_check_proof.specs.Orders.{ListsNodes}
 use Rattle.linearize_check.specs.Faults.{HasShape}

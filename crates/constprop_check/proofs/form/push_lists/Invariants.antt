@@ -1,8 +1,0 @@
-use Rattle.std.proofs.Common.{◌≡◌, ◌++◌, take}
-use Rattle.std.specs.List.{flat_map}
-use Rattle.rtl_passes.specs.ListForm.{list_text}
-use Rattle.constprop_check.specs.FactForm.{fact_text}
-use Rattle.constprop_check.proofs.form.push_lists.Given as goal
-
-abbrev pub invariant-loop-facts : goal.invariant-loop-facts
-invariant-loop-facts l = l.out.items ≡ l.fn.out.items ++ flat_map (list_text fact_text) (take l.facts-index l.lists)

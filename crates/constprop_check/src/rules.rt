@@ -1,0 +1,78 @@
+use crate::behind::{Written, change_by, edges, fits, is_folded, is_kept, is_made};
+use crate::form::{push_fact, read_fact};
+use crate::pass::ConstProp;
+use constprop_check_rules::Fact;
+use lang_base::{FormError, NoMemory};
+use rtl_language::Instruction;
+use rtl_passes_facts::{Edges, Rules};
+
+impl Rules for ConstProp {
+    ghost use Rattle.constprop_check_rules.specs.Rules.{rank, propagation};
+    ghost use Rattle.constprop_check.specs.Behind.{change_of, IsMade, IsKept};
+    ghost use Rattle.constprop_check.specs.FactForm.{fact, fact_text, fact_form};
+    ghost use Rattle.constprop_check.specs.PassLaws.{ranked_law, known_law};
+
+    type Fact = Fact;
+
+    type Change = Written;
+
+    ghost rules = { propagation };
+
+    ghost rank = { rank };
+
+    ghost part = { λ registers. fact registers };
+
+    ghost text = { fact_text };
+
+    ghost change_of = { change_of };
+
+    ghost makes = { IsMade };
+
+    ghost keeps = { λ change i fact. IsKept change fact };
+
+    fn place(fact: &Fact) -> u64 {
+        u64::from(fact.register)
+    }
+
+    fn is_one(first: &Fact, second: &Fact) -> bool {
+        first.register == second.register && first.word == second.word
+    }
+
+    fn is_fit(registers: u16, fact: &Fact) -> bool {
+        fits(registers, *fact)
+    }
+
+    fn read_fact(registers: u32, bytes: &mut &[u8]) -> Result<Fact, FormError> {
+        read_fact(registers, bytes)
+    }
+
+    fn push_fact(out: &mut Vec<u8>, fact: &Fact) -> Result<(), NoMemory> {
+        push_fact(out, fact)
+    }
+
+    fn edges(instruction: &Instruction, facts: &[Fact]) -> Edges {
+        edges(instruction, facts)
+    }
+
+    fn change_by(instruction: &Instruction, facts: &[Fact]) -> Written {
+        change_by(instruction, facts)
+    }
+
+    fn is_made(change: Written, fact: &Fact) -> bool {
+        is_made(change, fact)
+    }
+
+    fn is_kept(change: Written, _instruction: &Instruction, fact: &Fact) -> bool {
+        is_kept(change, fact)
+    }
+
+    fn is_allowed(facts: &[Fact], input: &Instruction, output: &Instruction) -> bool {
+        is_folded(facts, input, output)
+    }
+
+    ghost ranked = { ranked_law };
+
+    ghost known = { known_law };
+
+    ghost form = { fact_form };
+}

@@ -1,7 +1,0 @@
-use Rattle.std.proofs.Common.{drop}
-use Rattle.std.specs.Prelude.{◌↔◌}
-use Rattle.cse_check_codec.specs.Ranks.{RiseFrom}
-use Rattle.cse_check.proofs.lists.rise.Given as goal
-
-abbrev pub invariant-loop-equation : goal.invariant-loop-equation
-invariant-loop-equation l = RiseFrom l.lower (drop l.equation-index l.equations) ↔ RiseFrom 0 l.equations

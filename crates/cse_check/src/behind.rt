@@ -1,0 +1,70 @@
+//! What an instruction does to equations, and which of them can be there.
+
+ghost use Rattle.std.specs.Prelude.{◌≡◌, ◌↔◌, ◌<◌, false, Some, IsTrue};
+ghost use Rattle.rtl_parts.specs.Fits.{ArgumentsFit};
+ghost use Rattle.rtl_passes_facts.specs.Edges.{nodes_of};
+ghost use Rattle.cse_check_rules.specs.Equations.{successors_of};
+ghost use Rattle.cse_check_rules.specs.Equations.{kills as killed_by};
+ghost use Rattle.cse_check_rules.specs.Rules.{RightFits, EquationFits};
+
+use cse_check_rules::{Equation, RightSide, is_same, kills};
+use rtl_language::Instruction;
+use rtl_parts::Arguments;
+use rtl_passes_facts::Edges;
+
+/// Whether the equation is the one that was made, if one was.
+pub(crate) fn is_made(made: Option<Equation>, equation: &Equation) -> bool
+    ensures { IsTrue result ↔ (made ≡ Some equation.now) }
+{
+    match made {
+        Some(own) => is_same(own, *equation),
+        None => false,
+    }
+}
+
+pub(crate) fn is_kept(instruction: &Instruction, equation: &Equation) -> bool
+    ensures { IsTrue result ↔ (killed_by instruction.now equation.now ≡ false) }
+{
+    !kills(instruction, equation)
+}
+
+/// Where the instruction can go on.
+pub(crate) fn edges(instruction: &Instruction) -> Edges
+    ensures { nodes_of result ≡ successors_of instruction.now }
+{
+    match instruction {
+        Instruction::Do { successor, .. } | Instruction::Call { successor, .. } => {
+            Edges::OneNode(*successor)
+        }
+        Instruction::Branch { taken, other, .. } => Edges::TwoNodes(*taken, *other),
+        Instruction::Return { .. } => Edges::NoNode,
+    }
+}
+
+/// Whether the equation names what can be there, among so many registers.
+pub(crate) fn fits(registers: u16, equation: &Equation) -> bool
+    ensures { IsTrue result ↔ EquationFits registers equation.now }
+{
+    equation.register < registers && right_fits(registers, &equation.right)
+}
+
+fn right_fits(registers: u16, right: &RightSide) -> bool
+    ensures { IsTrue result ↔ RightFits registers right.now }
+{
+    match right {
+        RightSide::Operation { op, arguments } => {
+            arguments_fit(registers, op.argument_count(), arguments)
+        }
+        RightSide::Cell { global, index } => *global < 1024 && *index < registers,
+        RightSide::Copy { source } => *source < registers,
+    }
+}
+
+fn arguments_fit(registers: u16, count: usize, arguments: &Arguments) -> bool
+    ensures { IsTrue result ↔ ArgumentsFit registers count arguments.now }
+{
+    match *arguments {
+        Arguments::One(first) => count == 1 && first < registers,
+        Arguments::Two(first, second) => count == 2 && first < registers && second < registers,
+    }
+}

@@ -1,7 +1,0 @@
-use Rattle.std.proofs.Common.{◌≡◌, ◌++◌, take}
-use Rattle.std.specs.List.{flat_map}
-use Rattle.cse_check_rules.specs.Order.{equation_text}
-use Rattle.cse_check_codec.proofs.writing.push_equations.Given as goal
-
-abbrev pub invariant-loop-equation : goal.invariant-loop-equation
-invariant-loop-equation l = l.out.items ≡ l.fn.out.items ++ flat_map equation_text (take l.equation-index l.equations)

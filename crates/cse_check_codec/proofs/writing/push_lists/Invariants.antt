@@ -1,8 +1,0 @@
-use Rattle.std.proofs.Common.{◌≡◌, ◌++◌, take}
-use Rattle.std.specs.List.{flat_map}
-use Rattle.rtl_passes.specs.ListForm.{list_text}
-use Rattle.cse_check_rules.specs.Order.{equation_text}
-use Rattle.cse_check_codec.proofs.writing.push_lists.Given as goal
-
-abbrev pub invariant-loop-equations : goal.invariant-loop-equations
-invariant-loop-equations l = l.out.items ≡ l.fn.out.items ++ flat_map (list_text equation_text) (take l.equations-index l.lists)

@@ -1,6 +1,0 @@
-use Rattle.std.proofs.Common.{arith}
-use Rattle.std.proofs.lemmas.List.{length-take}
-use Rattle.oracle_const.proofs.lattice.shortened.Goals as goal
-
-pub slice_bounds-result-length : goal.slice_bounds-result-length
-slice_bounds-result-length c = omega (arith, length-take 31 c.args.facts.now)

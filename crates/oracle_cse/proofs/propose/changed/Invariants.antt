@@ -1,9 +1,0 @@
-use Rattle.std.proofs.Common.{◌≡◌, length, All}
-use Rattle.rtl_language.specs.Function.{InstructionFits}
-use Rattle.oracle_cse.proofs.propose.changed.Given as goal
-
-abbrev pub invariant-loop-n : goal.invariant-loop-n
-invariant-loop-n l = record {
-  count : length l.made.items ≡ l.n;
-  fit : All (InstructionFits l.input.registers (length l.input.nodes)) l.made.items;
-}

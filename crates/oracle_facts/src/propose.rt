@@ -1,0 +1,96 @@
+ghost use Rattle.std.specs.Prelude.{◌≡◌, All, length, IfOk};
+ghost use Rattle.rtl_language.specs.Function.{InstructionFits};
+ghost use Rattle.oracle_facts.specs.Ranges.{StaysInRange};
+
+use crate::analysis::Analysis;
+use crate::follows::{FactOf, Follows};
+use crate::unreached::give_each;
+use lang_base::{NoMemory, Row};
+use rand_core::utils::NextWord;
+use rand_pcg::Pcg32;
+use rtl_language::{Function, Instruction, copy_instruction};
+use rtl_passes::with_nodes;
+use rtl_passes_facts::list_at;
+use std::alloc::Global;
+
+/// The function with the changes that the words choose among those that the facts allow, and the facts of each node.
+pub fn proposed<F: Follows>(
+    alloc: Global,
+    follows: F,
+    input: &Function,
+    words: &mut Pcg32,
+) -> Result<(Function, Row<Row<FactOf<F>>>), NoMemory> {
+    let lists = followed(alloc, follows, input)?;
+    let nodes = changed::<F>(alloc, input, &lists, words)?;
+    let output = with_nodes(alloc, input, nodes)?;
+    Ok((output, Row::from_vec(lists)))
+}
+
+/// The facts that hold at each node.
+fn followed<F: Follows>(
+    alloc: Global,
+    follows: F,
+    input: &Function,
+) -> Result<Vec<Row<FactOf<F>>>, NoMemory> {
+    let nodes = input.nodes().as_slice();
+    let mut analysis = Analysis::new(alloc, follows, nodes.len())?;
+    analysis.reach(alloc, input.entry(), &[])?;
+    analysis.settle(alloc, nodes)?;
+    give_each(alloc, &mut analysis, nodes, nodes.len() as u16)?;
+    analysis.settle(alloc, nodes)?;
+    lists_of(alloc, analysis)
+}
+
+/// What is known at each node, which is nothing where it is not reached.
+fn lists_of<F: Follows>(
+    alloc: Global,
+    analysis: Analysis<F>,
+) -> Result<Vec<Row<FactOf<F>>>, NoMemory> {
+    let mut lists = Vec::new(alloc);
+    for known in analysis.known {
+        lists.push(list_of(alloc, known))?;
+    }
+    Ok(lists)
+}
+
+fn list_of<T: Drop>(alloc: Global, known: Option<Vec<T>>) -> Row<T> {
+    match known {
+        Some(facts) => Row::from_vec(facts),
+        None => Row::from_vec(Vec::new(alloc)),
+    }
+}
+
+/// The instructions of the input, with the changes that the words choose.
+fn changed<F: Follows>(
+    alloc: Global,
+    input: &Function,
+    lists: &[Row<FactOf<F>>],
+    words: &mut Pcg32,
+) -> Result<Vec<Instruction>, NoMemory>
+    ensures count { IfOk result (λ made. length made.items ≡ length input.now.nodes) }
+    ensures fit { IfOk result (λ made. All (InstructionFits input.now.registers (length input.now.nodes)) made.items) }
+{
+    let mut made = Vec::new(alloc);
+    let registers = input.registers();
+    for (n, instruction) in input.nodes().as_slice().iter().enumerate() {
+        let facts = list_at(lists, n);
+        made.push(chosen::<F>(alloc, registers, instruction, facts, words)?)?;
+    }
+    Ok(made)
+}
+
+/// The instruction, or where the next word is odd what the facts allow it to be made.
+fn chosen<F: Follows>(
+    alloc: Global,
+    registers: u16,
+    instruction: &Instruction,
+    facts: &[FactOf<F>],
+    words: &mut Pcg32,
+) -> Result<Instruction, NoMemory>
+    ensures { StaysInRange registers instruction.now result }
+{
+    match F::allowed(registers, instruction, facts) {
+        Some(simpler) if words.next_word() % 2 == 1 => Ok(simpler),
+        _ => copy_instruction(alloc, instruction),
+    }
+}

@@ -1,0 +1,5 @@
+pub mod Readings
+pub mod Rising
+pub mod Shapes
+pub mod Sound
+pub mod Written

@@ -1,0 +1,15 @@
+use Rattle.std.proofs.lemmas.Result.{err_from_is_err_and}
+use Rattle.lang_base.proofs.Loops.{goes_on, stops, is_done}
+use Rattle.rtl_passes.specs.ListForm.{list}
+use Rattle.rtl_passes_facts.proofs.reading.read_each.Goals as goal
+
+pub returns-in_err-facts : goal.returns-in_err-facts
+returns-in_err-facts g c =
+    let p = err_from_is_err_and c.from_residual.result c.from_residual.ensures.1 in
+    rw (p.1, p.2) (λ memory. stops (λ before. list (g.R.Rules.part c.args.registers)) c.args.nodes _ c.in_err-facts.field-0.0 c.loop.read.items c.loop.counter c.loop.bytes.now c.loop-test.true c.loop.invariant (c.in_err-facts.ensures memory))
+
+pub loop-preserved : goal.loop-preserved
+loop-preserved g c = rw c.in_ok-push.ensures.items (goes_on (λ before. list (g.R.Rules.part c.args.registers)) c.args.nodes _ c.loop.read.items c.loop.counter c.loop.bytes.now _ c.read_list.new.bytes.now c.loop-test.true c.loop.invariant c.in_ok-facts.ensures)
+
+pub returns : goal.returns
+returns g c = is_done (λ before. list (g.R.Rules.part c.args.registers)) c.args.nodes _ c.loop.read.items c.loop.counter c.loop.bytes.now c.loop-test.false c.loop.invariant

@@ -1,0 +1,93 @@
+//! Whether facts are among others, or known behind them: both lists are in order, so one walk along both tells.
+
+ghost use Rattle.std.specs.Prelude.{◌↔◌, ◌≤◌, All, IsTrue, Contains};
+ghost use Rattle.rtl_passes_facts.specs.Ranked.{RiseFrom};
+ghost use Rattle.rtl_passes_facts.specs.Known.{IsMadeOrKept};
+
+use crate::rules::Rules;
+use rtl_language::Instruction;
+
+/// The facts from this place on.
+pub fn from_place<R: Rules>(facts: &[R::Fact], least: u64) -> &[R::Fact]
+    requires { RiseFrom R.rank 0 facts.now }
+    ensures rising { RiseFrom R.rank least result.now }
+    ensures same { (e : R.Fact) → least ≤ R.rank e → Contains result.now e ↔ Contains facts.now e }
+{
+    let mut left = facts;
+    while let [first, rest @ ..] = left {
+        if R::place(first) >= least {
+            break;
+        }
+        left = rest;
+    }
+    left
+}
+
+/// Whether the fact is among these, of which none has a lower place.
+pub fn begin_with<R: Rules>(facts: &[R::Fact], fact: &R::Fact) -> bool
+    requires { RiseFrom R.rank (R.rank fact.now) facts.now }
+    ensures { IsTrue result ↔ Contains facts.now fact.now }
+{
+    match facts {
+        [first, _rest @ ..] => R::is_one(first, fact),
+        [] => false,
+    }
+}
+
+/// Whether the fact is among these.
+pub fn is_among<R: Rules>(facts: &[R::Fact], fact: &R::Fact) -> bool
+    requires { RiseFrom R.rank 0 facts.now }
+    ensures { IsTrue result ↔ Contains facts.now fact.now }
+{
+    let left = from_place::<R>(facts, R::place(fact));
+    begin_with::<R>(left, fact)
+}
+
+/// Whether the fact is known behind the change, where none of those before has a lower place.
+fn is_known<R: Rules>(
+    change: R::Change,
+    instruction: &Instruction,
+    before: &[R::Fact],
+    fact: &R::Fact,
+) -> bool
+    requires { RiseFrom R.rank (R.rank fact.now) before.now }
+    ensures { IsTrue result ↔ IsMadeOrKept (R.makes change) (R.keeps change instruction.now) before.now fact.now }
+{
+    R::is_made(change, fact)
+        || (begin_with::<R>(before, fact) && R::is_kept(change, instruction, fact))
+}
+
+/// Whether each fact is made by the change, or known before and kept.
+fn are_made_or_kept<R: Rules>(
+    change: R::Change,
+    instruction: &Instruction,
+    before: &[R::Fact],
+    after: &[R::Fact],
+) -> bool
+    requires before { RiseFrom R.rank 0 before.now }
+    requires after { RiseFrom R.rank 0 after.now }
+    ensures { IsTrue result ↔ All (IsMadeOrKept (R.makes change) (R.keeps change instruction.now) before.now) after.now }
+{
+    let mut left = before;
+    for fact in after {
+        left = from_place::<R>(left, R::place(fact));
+        if !is_known::<R>(change, instruction, left, fact) {
+            return false;
+        }
+    }
+    true
+}
+
+/// Whether each fact is known behind the instruction and those before it.
+pub(crate) fn are_known<R: Rules>(
+    instruction: &Instruction,
+    before: &[R::Fact],
+    after: &[R::Fact],
+) -> bool
+    requires before { RiseFrom R.rank 0 before.now }
+    requires after { RiseFrom R.rank 0 after.now }
+    ensures { IsTrue result ↔ All (R.rules.IsKnown instruction.now before.now) after.now }
+{
+    let change = R::change_by(instruction, before);
+    are_made_or_kept::<R>(change, instruction, before, after)
+}
