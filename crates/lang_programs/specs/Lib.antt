@@ -1,3 +1,4 @@
+pub mod Meant
 pub mod Numbers
 pub mod Written
 pub use Rattle.lang_base.specs.Behaviour

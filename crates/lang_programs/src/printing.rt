@@ -2,8 +2,9 @@ ghost use Rattle.std.specs.Prelude.{◌≡◌, true, false, [], ◌∷◌, OnOk,
 ghost use Rattle.std.specs.Io.KnownBytes.{Appends, Keeps};
 ghost use Rattle.lang_programs.specs.declared.error.RunError.{RunError};
 
+use crate::answers::{Answer, meaning};
 use crate::error::RunError;
-use std::io::{ErrorKind, Write};
+use std::io::Write;
 
 /// Tries to print one byte: whether it was printed, or a signal interrupted the write.
 fn try_to_print<W: Write>(out: &mut W, byte: u8) -> Result<bool, RunError>
@@ -12,10 +13,11 @@ fn try_to_print<W: Write>(out: &mut W, byte: u8) -> Result<bool, RunError>
     ensures failed { OnErr result (Keeps (W.contents out.old) (W.contents out.new)) }
     ensures error { OnErr result (result ≡ Err RunError.Write) }
 {
-    match out.write(&[byte]) {
-        Ok(1) => Ok(true),
-        Err(fault) if fault.kind() == ErrorKind::Interrupted => Ok(false),
-        _ => Err(RunError::Write),
+    let answer = out.write(&[byte]);
+    match meaning(answer, 1) {
+        Answer::Taken(_) => Ok(true),
+        Answer::Interrupted => Ok(false),
+        Answer::Failed => Err(RunError::Write),
     }
 }
 
