@@ -8,7 +8,7 @@ use Rattle.ints.specs.Codes.{argument_count_of}
 use Rattle.ints.specs.Conditions.{cond_argument_count_of}
 use Rattle.locations.specs.declared.location.Location.{Location}
 use Rattle.locations.specs.declared.location.Location.TheVariants.{InRegister, InSlot}
-use Rattle.locations.specs.Fits as places
+use Rattle.locations.specs.Fits as locations
 use Rattle.machine.specs.Fits as machine
 use Rattle.rtl_parts.specs.declared.arguments.Arguments.{Arguments}
 use Rattle.rtl_parts.specs.declared.arguments.Arguments.TheVariants.{One, Two}
@@ -29,7 +29,7 @@ slot_tells r q same = ap number same
     number (InRegister k) = k
     number (InSlot s) = s
 
-each_slot : (slots : ℕ) (rs : List ℕ) → AllByRecursion (RegisterFits slots) rs → AllByRecursion (places.LocationFits slots) (map slot rs)
+each_slot : (slots : ℕ) (rs : List ℕ) → AllByRecursion (RegisterFits slots) rs → AllByRecursion (locations.LocationFits slots) (map slot rs)
 each_slot slots [] fits = tt
 each_slot slots (r ∷ rs) fits = (fits.0, each_slot slots rs fits.1)
 
@@ -37,30 +37,30 @@ none_slot : (r : ℕ) (rs : List ℕ) → AllByRecursion (λ q. r ≢ q) rs → 
 none_slot r [] other = tt
 none_slot r (q ∷ rs) other = (λ same. other.0 (slot_tells r q same), none_slot r rs other.1)
 
-distinct_slots : (rs : List ℕ) → places.AreDistinct rs → places.AreDistinct (map slot rs)
+distinct_slots : (rs : List ℕ) → locations.AreDistinct rs → locations.AreDistinct (map slot rs)
 distinct_slots [] distinct = tt
 distinct_slots (r ∷ rs) distinct = (none_slot r rs distinct.0, distinct_slots rs distinct.1)
 
 module _ (slots : ℕ) where
-  fetch_fits : (place r : ℕ) → place < 8 → r < slots → places.MoveFits slots (fetch place r)
-  fetch_fits place r small fits = record { target = small; source = fits; through = tt }
+  fetch_fits : (machine_register r : ℕ) → machine_register < 8 → r < slots → locations.MoveFits slots (fetch machine_register r)
+  fetch_fits machine_register r small fits = record { target = small; source = fits; through = tt }
 
-  keep_fits : (r : ℕ) → r < slots → places.MoveFits slots (keep r)
+  keep_fits : (r : ℕ) → r < slots → locations.MoveFits slots (keep r)
   keep_fits r fits = record { target = fits; source = omega arith; through = tt }
 
-  no_moves : places.MovesFit slots []
+  no_moves : locations.MovesFit slots []
   no_moves = record { few = omega arith; each = tt }
 
-  one_fetch : (r : ℕ) → r < slots → places.MovesFit slots (fetch 0 r ∷ [])
+  one_fetch : (r : ℕ) → r < slots → locations.MovesFit slots (fetch 0 r ∷ [])
   one_fetch r fits = record { few = omega arith; each = (fetch_fits 0 r (omega arith) fits, tt) }
 
-  two_fetches : (r q : ℕ) → r < slots → q < slots → places.MovesFit slots (fetch 0 r ∷ (fetch 1 q ∷ []))
+  two_fetches : (r q : ℕ) → r < slots → q < slots → locations.MovesFit slots (fetch 0 r ∷ (fetch 1 q ∷ []))
   two_fetches r q fits also = record { few = omega arith; each = (fetch_fits 0 r (omega arith) fits, (fetch_fits 1 q (omega arith) also, tt)) }
 
-  one_keep : (r : ℕ) → r < slots → places.MovesFit slots (keep r ∷ [])
+  one_keep : (r : ℕ) → r < slots → locations.MovesFit slots (keep r ∷ [])
   one_keep r fits = record { few = omega arith; each = (keep_fits r fits, tt) }
 
-  before_fits : (count : ℕ) (names : Arguments) → ArgumentsFit slots count names → places.MovesFit slots (arguments_before names)
+  before_fits : (count : ℕ) (names : Arguments) → ArgumentsFit slots count names → locations.MovesFit slots (arguments_before names)
   before_fits count (One a) fits = one_fetch a fits.1
   before_fits count (Two a b) fits = two_fetches a b fits.1 fits.2
 
@@ -68,7 +68,7 @@ module _ (slots : ℕ) where
   in_fits count (One a) fits = (fits.0, omega arith)
   in_fits count (Two a b) fits = (fits.0, omega arith, omega arith)
 
-  act_before_fits : (a : Act) → ActFits slots a → places.MovesFit slots (act_before a)
+  act_before_fits : (a : Act) → ActFits slots a → locations.MovesFit slots (act_before a)
   act_before_fits Nop fits = no_moves
   act_before_fits (Constant target word) fits = no_moves
   act_before_fits (Move target source) fits = one_fetch source fits.1
@@ -87,7 +87,7 @@ module _ (slots : ℕ) where
   act_in_fits (Put source None) fits = (omega arith, tt)
   act_in_fits (Put source (Some target)) fits = (omega arith, omega arith)
 
-  act_after_fits : (a : Act) → ActFits slots a → places.MovesFit slots (act_after a)
+  act_after_fits : (a : Act) → ActFits slots a → locations.MovesFit slots (act_after a)
   act_after_fits Nop fits = no_moves
   act_after_fits (Constant target word) fits = one_keep target fits.0
   act_after_fits (Move target source) fits = one_keep target fits.0
@@ -97,7 +97,7 @@ module _ (slots : ℕ) where
   act_after_fits (Put source None) fits = no_moves
   act_after_fits (Put source (Some target)) fits = one_keep target fits.1
 
-  target_fits : (target : Option ℕ) → TargetFits slots target → places.TargetFits slots (option_map slot target)
+  target_fits : (target : Option ℕ) → TargetFits slots target → locations.TargetFits slots (option_map slot target)
   target_fits None fits = tt
   target_fits (Some r) fits = fits
 

@@ -28,7 +28,7 @@ slot register = InSlot register
 
 -- a word from a slot, and r0's to a slot
 abbrev pub fetch : ℕ → ℕ → location_move.Move
-fetch place register = record { target = InRegister place; source = slot register }
+fetch machine_register register = record { target = InRegister machine_register; source = slot register }
 
 abbrev pub keep : ℕ → location_move.Move
 keep register = record { target = slot register; source = InRegister 0 }

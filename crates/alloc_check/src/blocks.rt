@@ -5,15 +5,15 @@ ghost use Rattle.std.specs.Prelude.{◌≡◌, [], ◌∷◌, IfOk};
 ghost use Rattle.alloc_check.specs.Slots.{fetch, keep, arguments_before, arguments_in, act_before, act_in, act_after};
 
 use lang_base::{NoMemory, Row};
-use locations::{Location, Move, Register as Place};
+use locations::{Location, Move, Register as MachineRegister};
 use rtl_parts::{Act, Arguments, Register};
 use std::alloc::Global;
 
-fn fetch(place: Place, register: Register) -> Move
-    ensures { result ≡ fetch place register }
+fn fetch(machine_register: MachineRegister, register: Register) -> Move
+    ensures { result ≡ fetch machine_register register }
 {
     Move {
-        target: Location::InRegister(place),
+        target: Location::InRegister(machine_register),
         source: Location::InSlot(register),
     }
 }

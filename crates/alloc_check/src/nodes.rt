@@ -15,13 +15,13 @@ use std::alloc::Global;
 
 /// The slots of these registers.
 pub(crate) fn slots_of(alloc: Global, registers: &[Register]) -> Result<Row<Location>, NoMemory>
-    ensures { IfOk result (λ places. places ≡ map slot registers.now) }
+    ensures { IfOk result (λ locations. locations ≡ map slot registers.now) }
 {
-    let mut places = Vec::new(alloc);
+    let mut locations = Vec::new(alloc);
     for register in registers {
-        places.push(Location::InSlot(*register))?;
+        locations.push(Location::InSlot(*register))?;
     }
-    Ok(Row::from_vec(places))
+    Ok(Row::from_vec(locations))
 }
 
 fn before_in(alloc: Global, instruction: &Instruction) -> Result<Row<Move>, NoMemory>

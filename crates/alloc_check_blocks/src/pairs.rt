@@ -7,29 +7,29 @@ ghost use Rattle.alloc_check_rules.specs.Pairs.{same_number, result_change, act_
 
 use alloc_check_rules::Change;
 use ints::Op;
-use locations::{Location, Register as Place};
+use locations::{Location, Register as MachineRegister};
 use ltl::Body;
 use rtl_language::Instruction;
 use rtl_parts::{Act, Arguments, Register, Test};
 
-fn same_number(names: &Arguments, places: &machine::Arguments) -> bool
-    ensures { result ≡ same_number names.now places.now }
+fn same_number(names: &Arguments, locations: &machine::Arguments) -> bool
+    ensures { result ≡ same_number names.now locations.now }
 {
     match names {
-        Arguments::One(_) => matches!(places, machine::Arguments::One(_)),
-        Arguments::Two(_, _) => matches!(places, machine::Arguments::Two(_, _)),
+        Arguments::One(_) => matches!(locations, machine::Arguments::One(_)),
+        Arguments::Two(_, _) => matches!(locations, machine::Arguments::Two(_, _)),
     }
 }
 
-fn result_change(target: Option<Register>, place: Option<Location>) -> Option<Change>
-    ensures { result ≡ result_change target place }
+fn result_change(target: Option<Register>, location: Option<Location>) -> Option<Change>
+    ensures { result ≡ result_change target location }
 {
     match target {
-        None => match place {
+        None => match location {
             None => Some(Change::Nothing),
             Some(_) => None,
         },
-        Some(register) => match place {
+        Some(register) => match location {
             None => None,
             Some(location) => Some(Change::Defines { register, location }),
         },
@@ -50,12 +50,12 @@ fn without(act: &Act) -> Option<Change>
     }
 }
 
-fn defines(register: Register, place: Place) -> Option<Change>
-    ensures { result ≡ Some (Change.Defines register (Location.InRegister place)) }
+fn defines(register: Register, machine_register: MachineRegister) -> Option<Change>
+    ensures { result ≡ Some (Change.Defines register (Location.InRegister machine_register)) }
 {
     Some(Change::Defines {
         register,
-        location: Location::InRegister(place),
+        location: Location::InRegister(machine_register),
     })
 }
 
@@ -64,9 +64,9 @@ fn constant_change(target: Register, word: u32, other: &machine::Act) -> Option<
 {
     match *other {
         machine::Act::Constant {
-            target: place,
-            word: placed,
-        } if word == placed => defines(target, place),
+            target: machine_register,
+            word: same,
+        } if word == same => defines(target, machine_register),
         _ => None,
     }
 }
@@ -82,11 +82,11 @@ fn operate_change(
     match other {
         machine::Act::Operate {
             op: same,
-            target: place,
+            target: machine_register,
             arguments,
         } => {
             if op.code() == same.code() && same_number(names, arguments) {
-                defines(target, *place)
+                defines(target, *machine_register)
             } else {
                 None
             }
@@ -105,10 +105,10 @@ fn load_change(
 {
     match *other {
         machine::Act::Load {
-            target: place,
+            target: machine_register,
             global: same,
             ..
-        } if global == same => defines(target, place),
+        } if global == same => defines(target, machine_register),
         _ => None,
     }
 }
@@ -131,9 +131,10 @@ fn put_change(source: Register, target: Option<Register>, other: &machine::Act) 
     ensures { result ≡ act_change (rtl_act.Put source target) (Some other.now) }
 {
     match *other {
-        machine::Act::Put { target: place, .. } => {
-            result_change(target, place.map(Location::InRegister))
-        }
+        machine::Act::Put {
+            target: location,
+            ..
+        } => { result_change(target, location.map(Location::InRegister)) }
         _ => None,
     }
 }
@@ -198,12 +199,12 @@ fn call_change(
         Body::Call {
             function: callee,
             arguments,
-            target: place,
+            target: location,
             successor: same,
             ..
         } => {
             if function == *callee && names.len() == arguments.len() && successor == *same {
-                result_change(target, *place)
+                result_change(target, *location)
             } else {
                 None
             }
@@ -242,8 +243,10 @@ fn return_change(value: Option<Register>, body: &Body) -> Option<Change>
     ensures { result ≡ change_of (rtl_instruction.Return value) body.now }
 {
     match body {
-        Body::Return { value: place } => {
-            if value.is_some() == place.is_some() {
+        Body::Return {
+            value: machine_register,
+        } => {
+            if value.is_some() == machine_register.is_some() {
                 Some(Change::Nothing)
             } else {
                 None

@@ -23,7 +23,7 @@ use Rattle.ltl.specs.Meaning.{takes_none, next, entry_of, slots_of, run}
 use Rattle.ltl.specs.Growth.{grows}
 use Rattle.alloc_check_rules.specs.Rules.{equations_at, IsAllocated}
 use Rattle.alloc_check_laws.specs.Related.{IsSound, Pair, Related}
-use Rattle.alloc_check_rules.proofs.Places.{covers_none}
+use Rattle.alloc_check_rules.proofs.Locations.{covers_none}
 use Rattle.alloc_check_rules.proofs.Entries.{nothing_there}
 use Rattle.alloc_check_laws.proofs.Steps.{pair_of, state_goes, state_ends}
 

@@ -45,29 +45,29 @@ use Rattle.alloc_check_rules.specs.Equations.{back_equation, through, demand}
 use Rattle.alloc_check_rules.specs.Pairs.{result_change, act_change, same_test, same_presence, change_of, in_register, equations_of, act_uses, arguments_used, uses}
 use Rattle.alloc_check_rules.specs.Rules.{equations_at, IsGiven, IsAnswered, LeadsTo, IsCarried, StandsFor, IsRightAs}
 use Rattle.alloc_check_rules.specs.Holding.{Covers, AllCover, Holds, DemandHolds, HasFrame}
-use Rattle.alloc_check_rules.specs.Steps.{SamePlaces, Changed, IsBack}
+use Rattle.alloc_check_rules.specs.Steps.{SameLocations, Changed, IsBack}
 use Rattle.alloc_check_laws.specs.Related.{Agrees, IsSound, Pair, FrameRelated, FramesRelated, Related}
-use Rattle.alloc_check_rules.proofs.Places.{frame_put, globals_put, frame_moves, globals_moves, back_fits}
+use Rattle.alloc_check_rules.proofs.Locations.{frame_put, globals_put, frame_moves, globals_moves, back_fits}
 use Rattle.alloc_check_rules.proofs.Changes.{through_holds, over_call_holds, result_changed, moves_hold}
 use Rattle.alloc_check_rules.proofs.Acts.{cond_some, test_covered, act_done}
 use Rattle.alloc_check_rules.proofs.Entries.{values_covered, frame_arguments, globals_arguments, output_arguments, entry_holds}
 
 -- ---- frames, globals and output
 
-same_frame : (slots : ℕ) (e e' : Data) → SamePlaces e e' → HasFrame slots e → HasFrame slots e'
+same_frame : (slots : ℕ) (e e' : Data) → SameLocations e e' → HasFrame slots e → HasFrame slots e'
 same_frame slots e e' same frame = record { registers = ap length same.registers ∙ frame.registers; slots = ap length same.slots ∙ frame.slots }
 
 frame_changed : (slots : ℕ) (change : Change) (d : rtl_data.Data) (e : Data) (d' : rtl_data.Data) (e' : Data) → Changed change d e d' e' → HasFrame slots e → HasFrame slots e'
-frame_changed slots Nothing d e d' e' c frame = same_frame slots e e' c.places frame
-frame_changed slots (Defines r k) d e d' e' c frame = same_frame slots (put_at k c.second e) e' c.places (frame_put slots k c.second e frame)
-frame_changed slots (Drops r) d e d' e' c frame = same_frame slots e e' c.places frame
-frame_changed slots (Copies target source) d e d' e' c frame = same_frame slots e e' c.places frame
+frame_changed slots Nothing d e d' e' c frame = same_frame slots e e' c.locations frame
+frame_changed slots (Defines r k) d e d' e' c frame = same_frame slots (put_at k c.second e) e' c.locations (frame_put slots k c.second e frame)
+frame_changed slots (Drops r) d e d' e' c frame = same_frame slots e e' c.locations frame
+frame_changed slots (Copies target source) d e d' e' c frame = same_frame slots e e' c.locations frame
 
-frame_result : (slots : ℕ) (place : Option Location) (value : Option ℕ) (e : Data) → HasFrame slots e → HasFrame slots (with_result place value e)
+frame_result : (slots : ℕ) (location : Option Location) (value : Option ℕ) (e : Data) → HasFrame slots e → HasFrame slots (with_result location value e)
 frame_result slots None value e frame = frame
 frame_result slots (Some l) value e frame = frame_put slots l value e frame
 
-globals_result : (place : Option Location) (value : Option ℕ) (e : Data) → (with_result place value e).globals ≡ e.globals
+globals_result : (location : Option Location) (value : Option ℕ) (e : Data) → (with_result location value e).globals ≡ e.globals
 globals_result None value e = refl
 globals_result (Some l) value e = globals_put l value e
 
@@ -148,7 +148,7 @@ given_covered None y c v e = cc (e)
 given_covered (Some w) y c v e = ap given (c.by w refl) ∙ e
 
 -- a return that has an answer has the same
-returned_covered : (d : rtl_data.Data) (e : Data) (value place : Option ℕ) → same_presence value place ≡ true → All (Holds d e) (uses (Return value) (body.Return place)) → (v : Option ℕ) → rtl_frames.returned value d ≡ Some v → returned place e ≡ Some v
+returned_covered : (d : rtl_data.Data) (e : Data) (value location : Option ℕ) → same_presence value location ≡ true → All (Holds d e) (uses (Return value) (body.Return location)) → (v : Option ℕ) → rtl_frames.returned value d ≡ Some v → returned location e ≡ Some v
 returned_covered d e None None is used v known = known
 returned_covered d e None (Some k) is used v known = cc (is)
 returned_covered d e (Some r) None is used v known = cc (is)
@@ -319,34 +319,34 @@ module _ (sources : List (Named rtl.FunctionData)) (targets : List (Named ltl.Fu
               subst (λ x. Arrives x (branches t first m p' (Some false))) there
               (record t { place = p'; here = first }, refl, arm_goes change same (Branch test n o) other m p' o p' left (carried.leads 1 o (omega arith)))
 
-      return_goes : (value place : Option ℕ) (change : Change) → cond (same_presence value place) (Some Nothing) None ≡ Some change → IsCarried p.lists es (Return value) (record { before = before; body = body.Return place }) change → (o : Option (Option ℕ)) → rtl_frames.returned value s.here ≡ o → (s' : rtl_frames.State) → rtl_frames.comes_back s.callers s.here o ≡ Goes s' → Arrives s' (comes_back callers first (returned place first))
-      return_goes value place change is carried None returns s' goes = absurd (fails s.callers goes)
+      return_goes : (value location : Option ℕ) (change : Change) → cond (same_presence value location) (Some Nothing) None ≡ Some change → IsCarried p.lists es (Return value) (record { before = before; body = body.Return location }) change → (o : Option (Option ℕ)) → rtl_frames.returned value s.here ≡ o → (s' : rtl_frames.State) → rtl_frames.comes_back s.callers s.here o ≡ Goes s' → Arrives s' (comes_back callers first (returned location first))
+      return_goes value location change is carried None returns s' goes = absurd (fails s.callers goes)
         where
           fails : (fs : List rtl_frames.Frame) → rtl_frames.comes_back fs s.here None ≡ Goes s' → ⊥
           fails [] e = cc (e)
           fails (f ∷ fs) e = cc (e)
-      return_goes value place change is carried (Some v) returns s' goes =
-          let parts = cond_some (same_presence value place) (Some Nothing) change is in
-          let known = returned_covered s.here first value place parts.0 (used_hold (uses (Return value) (body.Return place)) carried.uses) v returns in
+      return_goes value location change is carried (Some v) returns s' goes =
+          let parts = cond_some (same_presence value location) (Some Nothing) change is in
+          let known = returned_covered s.here first value location parts.0 (used_hold (uses (Return value) (body.Return location)) carried.uses) v returns in
           subst (λ x. Arrives s' (comes_back callers first x)) (sym known)
           (back_goes s.callers callers related s.here first globals_first output_first (Some v) s' goes)
 
-      return_ends : (value place : Option ℕ) (change : Change) → cond (same_presence value place) (Some Nothing) None ≡ Some change → IsCarried p.lists es (Return value) (record { before = before; body = body.Return place }) change → (o : Option (Option ℕ)) → rtl_frames.returned value s.here ≡ o → (result : ℕ) → rtl_frames.comes_back s.callers s.here o ≡ Ends result → comes_back callers first (returned place first) ≡ Ends result
-      return_ends value place change is carried None returns result ends = absurd (fails s.callers ends)
+      return_ends : (value location : Option ℕ) (change : Change) → cond (same_presence value location) (Some Nothing) None ≡ Some change → IsCarried p.lists es (Return value) (record { before = before; body = body.Return location }) change → (o : Option (Option ℕ)) → rtl_frames.returned value s.here ≡ o → (result : ℕ) → rtl_frames.comes_back s.callers s.here o ≡ Ends result → comes_back callers first (returned location first) ≡ Ends result
+      return_ends value location change is carried None returns result ends = absurd (fails s.callers ends)
         where
           fails : (fs : List rtl_frames.Frame) → rtl_frames.comes_back fs s.here None ≡ Ends result → ⊥
           fails [] e = cc (e)
           fails (f ∷ fs) e = cc (e)
-      return_ends value place change is carried (Some v) returns result ends =
-          let parts = cond_some (same_presence value place) (Some Nothing) change is in
-          let known = returned_covered s.here first value place parts.0 (used_hold (uses (Return value) (body.Return place)) carried.uses) v returns in
+      return_ends value location change is carried (Some v) returns result ends =
+          let parts = cond_some (same_presence value location) (Some Nothing) change is in
+          let known = returned_covered s.here first value location parts.0 (used_hold (uses (Return value) (body.Return location)) carried.uses) v returns in
           ap (comes_back callers first) known ∙ back_ends s.callers callers related s.here first (Some v) result ends
 
       -- ---- calls
 
       -- the callers that wait
-      waits : (f : ℕ) (names : List ℕ) (target : Option ℕ) (n h : ℕ) (places : List Location) (place : Option Location) (after : List Move) (m : ℕ) → AllByRecursion (MoveFits slots) after → n ≡ m → (change : Change) → result_change target place ≡ Some change → IsCarried p.lists es (Call f names target n) (record { before = before; body = body.Call h places place after m }) change → FrameRelated sources targets (rtl_meaning.waiting s target n) (waiting t first place m after)
-      waits f names target n h places place after m fits nodes change result carried =
+      waits : (f : ℕ) (names : List ℕ) (target : Option ℕ) (n h : ℕ) (locations : List Location) (location : Option Location) (after : List Move) (m : ℕ) → AllByRecursion (MoveFits slots) after → n ≡ m → (change : Change) → result_change target location ≡ Some change → IsCarried p.lists es (Call f names target n) (record { before = before; body = body.Call h locations location after m }) change → FrameRelated sources targets (rtl_meaning.waiting s target n) (waiting t first location m after)
+      waits f names target n h locations location after m fits nodes change result carried =
           let answered = (carried.leads 0 n (omega arith)).answered in
           record {
             pair = p;
@@ -355,13 +355,13 @@ module _ (sources : List (Named rtl.FunctionData)) (targets : List (Named ltl.Fu
             registers = frame_first.registers;
             slots = frame_first.slots;
             holds = λ value d e same_registers lost same_slots.
-                let back : IsBack s.here first d e = record { registers = same_registers; places = lost; slots = same_slots } in
+                let back : IsBack s.here first d e = record { registers = same_registers; locations = lost; slots = same_slots } in
                 let frame : HasFrame slots e =
                 record {
                   registers = ap length lost ∙ length_after_call first.registers ∙ frame_first.registers;
                   slots = ap length same_slots ∙ frame_first.slots;
                 } in
-                behind_holds n change after fits d e frame (rtl_acts.with_result target value d) (with_result place value e) (result_changed target place change result value d e)
+                behind_holds n change after fits d e frame (rtl_acts.with_result target value d) (with_result location value e) (result_changed target location change result value d e)
                 (λ k q below. over_call_holds s.here first d e back (through change (back_equation after (get_or (equations_at p.lists n) k q))) (demanded _ (answered k q below)));
           }
 
@@ -383,25 +383,25 @@ module _ (sources : List (Named rtl.FunctionData)) (targets : List (Named ltl.Fu
           subst (λ x. Arrives x (calls t first number ws caller' (Some (callee_of c.target)))) there
           (t', ap (λ b. cond b (Goes t') Fails) takes', related')
 
-      call_goes : (f : ℕ) (names : List ℕ) (target : Option ℕ) (n h : ℕ) (places : List Location) (place : Option Location) (after : List Move) (m : ℕ) → AllByRecursion (MoveFits slots) after → (change : Change) → cond (eqb f h && eqb (length names) (length places) && eqb n m) (result_change target place) None ≡ Some change → IsCarried p.lists es (Call f names target n) (record { before = before; body = body.Call h places place after m }) change → (o : Option (Named rtl.FunctionData)) → slice_get sources f ≡ o → (s' : rtl_frames.State) → rtl_meaning.calls s f (map (λ a. rtl_data.value_at a s.here) names) (rtl_meaning.waiting s target n) o ≡ Goes s' → Arrives s' (calls t first h (values_of places first) (waiting t first place m after) (option_map callee_of (slice_get targets h)))
-      call_goes f names target n h places place after m fits change is carried None there s' goes = cc (goes)
-      call_goes f names target n h places place after m fits change is carried (Some callee) there s' goes =
-          let parts = cond_some (eqb f h && eqb (length names) (length places) && eqb n m) (result_change target place) change is in
-          let both = and_parts (eqb f h && eqb (length names) (length places)) (eqb n m) parts.0 in
-          let tests = and_parts (eqb f h) (eqb (length names) (length places)) both.0 in
+      call_goes : (f : ℕ) (names : List ℕ) (target : Option ℕ) (n h : ℕ) (locations : List Location) (location : Option Location) (after : List Move) (m : ℕ) → AllByRecursion (MoveFits slots) after → (change : Change) → cond (eqb f h && eqb (length names) (length locations) && eqb n m) (result_change target location) None ≡ Some change → IsCarried p.lists es (Call f names target n) (record { before = before; body = body.Call h locations location after m }) change → (o : Option (Named rtl.FunctionData)) → slice_get sources f ≡ o → (s' : rtl_frames.State) → rtl_meaning.calls s f (map (λ a. rtl_data.value_at a s.here) names) (rtl_meaning.waiting s target n) o ≡ Goes s' → Arrives s' (calls t first h (values_of locations first) (waiting t first location m after) (option_map callee_of (slice_get targets h)))
+      call_goes f names target n h locations location after m fits change is carried None there s' goes = cc (goes)
+      call_goes f names target n h locations location after m fits change is carried (Some callee) there s' goes =
+          let parts = cond_some (eqb f h && eqb (length names) (length locations) && eqb n m) (result_change target location) change is in
+          let both = and_parts (eqb f h && eqb (length names) (length locations)) (eqb n m) parts.0 in
+          let tests = and_parts (eqb f h) (eqb (length names) (length locations)) both.0 in
           let number : f ≡ h = eqb-true f h tests.0 in
-          let count : length names ≡ length places = eqb-true (length names) (length places) tests.1 in
+          let count : length names ≡ length locations = eqb-true (length names) (length locations) tests.1 in
           let nodes : n ≡ m = eqb-true n m both.1 in
           let found = pair_of sources targets accepted f callee there in
           let c = found.0 in
           let vs = map (λ a. rtl_data.value_at a s.here) names in
-          let ws = values_of places first in
+          let ws = values_of locations first in
           let caller = rtl_meaning.waiting s target n in
-          let caller' = waiting t first place m after in
+          let caller' = waiting t first location m after in
           let goes' : rtl_meaning.calls s f vs caller (Some c.source) ≡ Goes s' = ap (λ x. rtl_meaning.calls s f vs caller (Some x)) found.1 ∙ goes in
-          let counted : length ws ≡ length vs = length-map places (λ l. value_at l first) ∙ sym count ∙ sym (length-map names (λ a. rtl_data.value_at a s.here)) in
-          let cover = values_covered s.here first names places count (used_hold (equations_of names places) carried.uses) in
-          let entered' = enters f c vs ws cover counted caller caller' (waits f names target n h places place after m fits nodes change parts.1 carried) (length vs == length c.source.function.parameters) refl s' goes' in
+          let counted : length ws ≡ length vs = length-map locations (λ l. value_at l first) ∙ sym count ∙ sym (length-map names (λ a. rtl_data.value_at a s.here)) in
+          let cover = values_covered s.here first names locations count (used_hold (equations_of names locations) carried.uses) in
+          let entered' = enters f c vs ws cover counted caller caller' (waits f names target n h locations location after m fits nodes change parts.1 carried) (length vs == length c.source.function.parameters) refl s' goes' in
           subst (λ x. Arrives s' (calls t first x ws caller' (option_map callee_of (slice_get targets x)))) number
           (subst (λ x. Arrives s' (calls t first f ws caller' (option_map callee_of x))) (sym c.is_target) entered')
 
@@ -411,12 +411,12 @@ module _ (sources : List (Named rtl.FunctionData)) (targets : List (Named ltl.Fu
       body_goes i b fits None is stands s' goes = absurd stands
       body_goes (Do a n) (body.Go b after m) fits (Some change) is stands s' goes =
           do_goes a n b after m fits.1.each change is stands (rtl_acts.does a s.here) refl s' goes
-      body_goes (Call f names target n) (body.Call h places place after m) fits (Some change) is stands s' goes =
-          call_goes f names target n h places place after m fits.1.each change is stands (slice_get sources f) refl s' goes
+      body_goes (Call f names target n) (body.Call h locations location after m) fits (Some change) is stands s' goes =
+          call_goes f names target n h locations location after m fits.1.each change is stands (slice_get sources f) refl s' goes
       body_goes (Branch test n o) (body.Branch other m p') fits (Some change) is stands s' goes =
           branch_goes test n o other m p' change is stands (rtl_acts.holds test s.here) refl s' goes
-      body_goes (Return value) (body.Return place) fits (Some change) is stands s' goes =
-          return_goes value place change is stands (rtl_frames.returned value s.here) refl s' goes
+      body_goes (Return value) (body.Return location) fits (Some change) is stands s' goes =
+          return_goes value location change is stands (rtl_frames.returned value s.here) refl s' goes
       body_goes _ _ fits (Some change) is stands s' goes = cc (is)
 
       -- only a return ends
@@ -442,8 +442,8 @@ module _ (sources : List (Named rtl.FunctionData)) (targets : List (Named ltl.Fu
       body_ends (Call f names target n) b (Some change) is stands result ends =
           absurd (call_runs f (map (λ a. rtl_data.value_at a s.here) names) (rtl_meaning.waiting s target n) (slice_get sources f) result ends)
       body_ends (Branch test n o) b (Some change) is stands result ends = absurd (branch_runs n o (rtl_acts.holds test s.here) result ends)
-      body_ends (Return value) (body.Return place) (Some change) is stands result ends =
-          return_ends value place change is stands (rtl_frames.returned value s.here) refl result ends
+      body_ends (Return value) (body.Return location) (Some change) is stands result ends =
+          return_ends value location change is stands (rtl_frames.returned value s.here) refl result ends
       body_ends (Return value) _ (Some change) is stands result ends = cc (is)
 
     -- ---- a state

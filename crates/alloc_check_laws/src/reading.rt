@@ -9,7 +9,7 @@ ghost use Rattle.alloc_check_laws.specs.Reading.{equation};
 use alloc_check_rules::Equation;
 use lang_base::{FormError, Row, read_byte, read_u16, read_u16_below};
 use lang_parts::{ReadOne, read_so_many};
-use locations::{Location, read_register as read_place};
+use locations::{Location, read_register as read_machine_register};
 use rtl_parts::read_register;
 use std::alloc::Global;
 
@@ -19,7 +19,7 @@ fn read_location(slots: u32, bytes: &mut &[u8]) -> Result<Location, FormError>
     ensures { IsRead (location slots bytes.old.now) result bytes.new.now }
 {
     match read_byte(bytes)? {
-        0 => Ok(Location::InRegister(read_place(bytes)?)),
+        0 => Ok(Location::InRegister(read_machine_register(bytes)?)),
         1 => Ok(Location::InSlot(read_u16_below(slots, bytes)?)),
         _ => Err(FormError::NotCanonical),
     }

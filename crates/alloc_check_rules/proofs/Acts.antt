@@ -32,8 +32,8 @@ use Rattle.alloc_check_rules.specs.declared.change.Change.TheVariants.{Nothing, 
 use Rattle.alloc_check_rules.specs.Pairs.{same_number, result_change, act_change, same_test, in_register, arguments_used, act_uses}
 use Rattle.alloc_check_rules.specs.Holding.{Covers, Holds}
 use Rattle.alloc_check_rules.specs.Steps.{IsDone}
-use Rattle.alloc_check_rules.proofs.Places.{covers_itself}
-use Rattle.alloc_check_rules.proofs.Changes.{places_themselves}
+use Rattle.alloc_check_rules.proofs.Locations.{covers_itself}
+use Rattle.alloc_check_rules.proofs.Changes.{locations_themselves}
 
 -- a test that came out so
 pub cond_some : {A : Type 0} (b : Bool) (x : Option A) (c : A) → cond b x None ≡ Some c → (b ≡ true) × (x ≡ Some c)
@@ -77,7 +77,7 @@ cell_covered c c' same (Some i) x' cx = record {
 }
 
 module _ (d : rtl_data.Data) (e : Data) where
-  pub words_covered : (names : Arguments) (places : machine_arguments.Arguments) → same_number names places ≡ true → All (Holds d e) (arguments_used names places) → (ws : List ℕ) → rtl_acts.words_of names d ≡ Some ws → words_of places e ≡ Some ws
+  pub words_covered : (names : Arguments) (locations : machine_arguments.Arguments) → same_number names locations ≡ true → All (Holds d e) (arguments_used names locations) → (ws : List ℕ) → rtl_acts.words_of names d ≡ Some ws → words_of locations e ≡ Some ws
   words_covered (One a) (arguments.One k) is used ws known =
       one_covered (rtl_data.value_at a d) (value_at (InRegister k) e) (used 0 (in_register a k) (omega arith)) ws known
   words_covered (One a) (arguments.Two k m) is used ws known = cc (is)
@@ -110,7 +110,7 @@ module _ (d : rtl_data.Data) (e : Data) (globals : e.globals ≡ d.globals) (out
       record {
         left = put_at (InRegister k) (Some w) e;
         is = ap (given k e) (c.by w refl);
-        defines = record { first = Some w; second = Some w; covers = covers_itself (Some w); registers = refl; places = places_themselves (put_at (InRegister k) (Some w) e) };
+        defines = record { first = Some w; second = Some w; covers = covers_itself (Some w); registers = refl; locations = locations_themselves (put_at (InRegister k) (Some w) e) };
         globals = globals;
         output = output;
       }
@@ -121,7 +121,7 @@ module _ (d : rtl_data.Data) (e : Data) (globals : e.globals ≡ d.globals) (out
   dropped_done target (Some w) d' done =
       let same : rtl_data.put_at target (Some w) d ≡ d' = cc in
       subst (λ x. IsDone (Drops target) d e x (Some e)) same
-      (record { left = e; is = refl; defines = record { value = Some w; registers = refl; places = places_themselves e }; globals = globals; output = output })
+      (record { left = e; is = refl; defines = record { value = Some w; registers = refl; locations = locations_themselves e }; globals = globals; output = output })
 
   changed_done : (g i w : ℕ) (c c' : Option (List ℕ)) → c' ≡ c → (d' : rtl_data.Data) → rtl_acts.changed d g i w c ≡ Some d' → IsDone Nothing d e d' (changed e g i w c')
   changed_done g i w None c' same d' done = cc (done)
@@ -142,7 +142,7 @@ module _ (d : rtl_data.Data) (e : Data) (globals : e.globals ≡ d.globals) (out
           record {
             left = second;
             is = refl;
-            defines = record { registers = refl; places = record { registers = refl; slots = refl } };
+            defines = record { registers = refl; locations = record { registers = refl; slots = refl } };
             globals = ap (λ gs. set gs g (set cells i w)) globals;
             output = output;
           }
@@ -156,14 +156,14 @@ module _ (d : rtl_data.Data) (e : Data) (globals : e.globals ≡ d.globals) (out
       subst (IsDone Nothing d e d') (sym at)
       (changed_done g i w (slice_get d.globals g) (slice_get e.globals g) (ap (λ gs. slice_get gs g) globals) d' done)
 
-  printed_done : (target place : Option ℕ) (change : Change) → result_change target (option_map (λ r. InRegister r) place) ≡ Some change → (w : ℕ) → IsDone change d e (rtl_acts.printing target d w) (Some (printing place e w))
+  printed_done : (target location : Option ℕ) (change : Change) → result_change target (option_map (λ r. InRegister r) location) ≡ Some change → (w : ℕ) → IsDone change d e (rtl_acts.printing target d w) (Some (printing location e w))
   printed_done None None change is w =
       let same : Nothing ≡ change = cc in
       subst (λ c. IsDone c d e (rtl_acts.printing None d w) (Some (printing None e w))) same (
       record {
         left = printing None e w;
         is = refl;
-        defines = record { registers = refl; places = record { registers = refl; slots = refl } };
+        defines = record { registers = refl; locations = record { registers = refl; slots = refl } };
         globals = globals;
         output = ap (λ o. o ++ w % 256 ∷ []) output;
       }
@@ -176,18 +176,18 @@ module _ (d : rtl_data.Data) (e : Data) (globals : e.globals ≡ d.globals) (out
       record {
         left = printing (Some k) e w;
         is = refl;
-        defines = record { first = Some (w % 256); second = Some (w % 256); covers = covers_itself (Some (w % 256)); registers = refl; places = record { registers = refl; slots = refl } };
+        defines = record { first = Some (w % 256); second = Some (w % 256); covers = covers_itself (Some (w % 256)); registers = refl; locations = record { registers = refl; slots = refl } };
         globals = globals;
         output = ap (λ o. o ++ w % 256 ∷ []) output;
       }
       )
 
-  put_done : (target place : Option ℕ) (change : Change) → result_change target (option_map (λ r. InRegister r) place) ≡ Some change → (x x' : Option ℕ) → Covers x x' → (d' : rtl_data.Data) → option_map (rtl_acts.printing target d) x ≡ Some d' → IsDone change d e d' (option_map (printing place e) x')
-  put_done target place change is None x' c d' done = cc (done)
-  put_done target place change is (Some w) x' c d' done =
+  put_done : (target location : Option ℕ) (change : Change) → result_change target (option_map (λ r. InRegister r) location) ≡ Some change → (x x' : Option ℕ) → Covers x x' → (d' : rtl_data.Data) → option_map (rtl_acts.printing target d) x ≡ Some d' → IsDone change d e d' (option_map (printing location e) x')
+  put_done target location change is None x' c d' done = cc (done)
+  put_done target location change is (Some w) x' c d' done =
       let same : rtl_acts.printing target d w ≡ d' = cc in
-      subst (λ o. IsDone change d e d' (option_map (printing place e) o)) (sym (c.by w refl))
-      (subst (λ x. IsDone change d e x (Some (printing place e w))) same (printed_done target place change is w))
+      subst (λ o. IsDone change d e d' (option_map (printing location e) o)) (sym (c.by w refl))
+      (subst (λ x. IsDone change d e x (Some (printing location e w))) same (printed_done target location change is w))
 
   defined_as : (target k : ℕ) (b : Bool) (change : Change) → cond b (Some (Defines target (InRegister k))) None ≡ Some change → (d' : rtl_data.Data) (o : Option Data) → (b ≡ true → IsDone (Defines target (InRegister k)) d e d' o) → IsDone change d e d' o
   defined_as target k b change is d' o done =
@@ -202,13 +202,13 @@ module _ (d : rtl_data.Data) (e : Data) (globals : e.globals ≡ d.globals) (out
       let left : d ≡ d' = cc in
       subst (λ c. IsDone c d e d' (Some e)) same
       (subst (λ x. IsDone Nothing d e x (Some e)) left
-      (record { left = e; is = refl; defines = record { registers = refl; places = places_themselves e }; globals = globals; output = output }))
+      (record { left = e; is = refl; defines = record { registers = refl; locations = locations_themselves e }; globals = globals; output = output }))
   act_done (Move target source) None change is used d' done =
       let same : Copies target source ≡ change = cc in
       let left : rtl_data.put_at target (rtl_data.value_at source d) d ≡ d' = cc in
       subst (λ c. IsDone c d e d' (Some e)) same
       (subst (λ x. IsDone (Copies target source) d e x (Some e)) left
-      (record { left = e; is = refl; defines = record { registers = refl; places = places_themselves e }; globals = globals; output = output }))
+      (record { left = e; is = refl; defines = record { registers = refl; locations = locations_themselves e }; globals = globals; output = output }))
   act_done (Constant target word) None change is used d' done =
       let same : Drops target ≡ change = cc in
       subst (λ c. IsDone c d e d' (Some e)) same (dropped_done target (Some word) d' done)
@@ -221,15 +221,15 @@ module _ (d : rtl_data.Data) (e : Data) (globals : e.globals ≡ d.globals) (out
   act_done (Constant target word) (Some (act.Constant k other)) change is used d' done =
       defined_as target k (eqb word other) change is d' (given k e (Some other))
       (λ equal. given_done target k (Some word) (Some other) (record { by = λ w known. ap (λ x. Some x) (sym (eqb-true word other equal)) ∙ known }) d' done)
-  act_done (Operate op target names) (Some (act.Operate other k places)) change is used d' done =
-      defined_as target k (eqb (code_of op) (code_of other) && same_number names places) change is d' (given k e (option_and_then (machine_table other) (words_of places e)))
+  act_done (Operate op target names) (Some (act.Operate other k locations)) change is used d' done =
+      defined_as target k (eqb (code_of op) (code_of other) && same_number names locations) change is d' (given k e (option_and_then (machine_table other) (words_of locations e)))
       (λ equal.
-      let both = and_parts (eqb (code_of op) (code_of other)) (same_number names places) equal in
+      let both = and_parts (eqb (code_of op) (code_of other)) (same_number names locations) equal in
       let operator : op ≡ other = op_is op other (eqb-true (code_of op) (code_of other) both.0) in
-      let covered : Covers (option_and_then (machine_table op) (rtl_acts.words_of names d)) (option_and_then (machine_table op) (words_of places e)) =
-      table_covered (machine_table op) (rtl_acts.words_of names d) (words_of places e) (words_covered d e names places both.1 used) in
-      given_done target k (option_and_then (machine_table op) (rtl_acts.words_of names d)) (option_and_then (machine_table other) (words_of places e))
-      (subst (λ f. Covers (option_and_then (machine_table op) (rtl_acts.words_of names d)) (option_and_then (machine_table f) (words_of places e))) operator covered) d' done)
+      let covered : Covers (option_and_then (machine_table op) (rtl_acts.words_of names d)) (option_and_then (machine_table op) (words_of locations e)) =
+      table_covered (machine_table op) (rtl_acts.words_of names d) (words_of locations e) (words_covered d e names locations both.1 used) in
+      given_done target k (option_and_then (machine_table op) (rtl_acts.words_of names d)) (option_and_then (machine_table other) (words_of locations e))
+      (subst (λ f. Covers (option_and_then (machine_table op) (rtl_acts.words_of names d)) (option_and_then (machine_table f) (words_of locations e))) operator covered) d' done)
   act_done (Load target global index) (Some (act.Load k other j)) change is used d' done =
       defined_as target k (eqb global other) change is d' (given k e (option_and_then (word_in (slice_get e.globals other)) (value_at (InRegister j) e)))
       (λ equal.
@@ -244,6 +244,6 @@ module _ (d : rtl_data.Data) (e : Data) (globals : e.globals ≡ d.globals) (out
       (subst (λ g. IsDone Nothing d e d' (stored e g (value_at (InRegister j) e) (value_at (InRegister k) e))) globe
       (stored_done global (rtl_data.value_at index d) (rtl_data.value_at source d) (value_at (InRegister j) e) (value_at (InRegister k) e)
       (used 0 (in_register index j) (omega arith)) (used 1 (in_register source k) (omega arith)) d' done))
-  act_done (Put source target) (Some (act.Put k place)) change is used d' done =
-      put_done target place change is (rtl_data.value_at source d) (value_at (InRegister k) e) (used 0 (in_register source k) (omega arith)) d' done
+  act_done (Put source target) (Some (act.Put k location)) change is used d' done =
+      put_done target location change is (rtl_data.value_at source d) (value_at (InRegister k) e) (used 0 (in_register source k) (omega arith)) d' done
   act_done _ _ change is used d' done = none_some change is

@@ -20,15 +20,15 @@ use Rattle.alloc_check_rules.specs.declared.demand.Demand.TheVariants.{Met, Refu
 use Rattle.alloc_check_rules.specs.Equations.{back_equation, through_result, through, is_lost, over_call}
 use Rattle.alloc_check_rules.specs.Pairs.{result_change}
 use Rattle.alloc_check_rules.specs.Holding.{Holds, DemandHolds, HasFrame}
-use Rattle.alloc_check_rules.specs.Steps.{SamePlaces, IsDefined, IsDropped, IsCopied, Changed, IsBack}
-use Rattle.alloc_check_rules.proofs.Places.{covers_itself, covers_same, covers_set, is_same, is_other, value_put_same, value_put_other, value_moves}
+use Rattle.alloc_check_rules.specs.Steps.{SameLocations, IsDefined, IsDropped, IsCopied, Changed, IsBack}
+use Rattle.alloc_check_rules.proofs.Locations.{covers_itself, covers_same, covers_set, is_same, is_other, value_put_same, value_put_other, value_moves}
 
 -- ---- what was defined
 
-pub places_themselves : (e : Data) → SamePlaces e e
-places_themselves e = record { registers = refl; slots = refl }
+pub locations_themselves : (e : Data) → SameLocations e e
+locations_themselves e = record { registers = refl; slots = refl }
 
-pub same_value : (e e' : Data) → SamePlaces e e' → (l : Location) → value_at l e' ≡ value_at l e
+pub same_value : (e e' : Data) → SameLocations e e' → (l : Location) → value_at l e' ≡ value_at l e
 same_value e e' same (InRegister r) = ap (λ rs. get_or rs r None) same.registers
 same_value e e' same (InSlot s) = ap (λ ss. get_or ss s None) same.slots
 
@@ -46,7 +46,7 @@ module _ (slots : ℕ) (d : rtl_data.Data) (e : Data) (d' : rtl_data.Data) (e' :
           let register : r ≡ q.register = eqb-true r q.register same_r in
           let location : k ≡ q.location = is_same k q.location same_k in
           let second : value_at q.location e' ≡ c.second =
-          same_value (put_at k c.second e) e' c.places q.location
+          same_value (put_at k c.second e) e' c.locations q.location
           ∙ ap (λ l. value_at q.location (put_at l c.second e)) location
           ∙ value_put_same slots q.location c.second e frame fits in
           let first : rtl_data.value_at q.register d' ≡ get_or (set d.registers r c.first) r None =
@@ -57,7 +57,7 @@ module _ (slots : ℕ) (d : rtl_data.Data) (e : Data) (d' : rtl_data.Data) (e' :
       at false false same_r same_k demanded =
           covers_same
           (other_register r c.first c.registers q.register same_r)
-          (same_value (put_at k c.second e) e' c.places q.location ∙ value_put_other k q.location c.second e (is_other k q.location same_k))
+          (same_value (put_at k c.second e) e' c.locations q.location ∙ value_put_other k q.location c.second e (is_other k q.location same_k))
           demanded
 
   dropped_holds : (r : ℕ) → IsDropped r d e d' e' → (q : Equation) → DemandHolds d e (through (Drops r) q) → Holds d' e' q
@@ -65,7 +65,7 @@ module _ (slots : ℕ) (d : rtl_data.Data) (e : Data) (d' : rtl_data.Data) (e' :
     where
       at : (a : Bool) → eqb r q.register ≡ a → DemandHolds d e (cond a Refused (Needs q)) → Holds d' e' q
       at true same demanded = absurd demanded
-      at false same demanded = covers_same (other_register r c.value c.registers q.register same) (same_value e e' c.places q.location) demanded
+      at false same demanded = covers_same (other_register r c.value c.registers q.register same) (same_value e e' c.locations q.location) demanded
 
   copied_holds : (target source : ℕ) → IsCopied target source d e d' e' → (q : Equation) → DemandHolds d e (through (Copies target source) q) → Holds d' e' q
   copied_holds target source c q demanded = at (eqb target q.register) refl demanded
@@ -75,13 +75,13 @@ module _ (slots : ℕ) (d : rtl_data.Data) (e : Data) (d' : rtl_data.Data) (e' :
           let register : target ≡ q.register = eqb-true target q.register same in
           let first : rtl_data.value_at q.register d' ≡ get_or (set d.registers target (rtl_data.value_at source d)) target None =
           ap (λ rs. get_or rs q.register None) c.registers ∙ ap (λ n. get_or (set d.registers target (rtl_data.value_at source d)) n None) (sym register) in
-          covers_same first (same_value e e' c.places q.location)
+          covers_same first (same_value e e' c.locations q.location)
           (covers_set d.registers target (rtl_data.value_at source d) (value_at q.location e) demanded)
       at false same demanded =
-          covers_same (other_register target (rtl_data.value_at source d) c.registers q.register same) (same_value e e' c.places q.location) demanded
+          covers_same (other_register target (rtl_data.value_at source d) c.registers q.register same) (same_value e e' c.locations q.location) demanded
 
   pub through_holds : (change : Change) → Changed change d e d' e' → (q : Equation) → LocationFits slots q.location → DemandHolds d e (through change q) → Holds d' e' q
-  through_holds Nothing c q fits demanded = covers_same (ap (λ rs. get_or rs q.register None) c.registers) (same_value e e' c.places q.location) demanded
+  through_holds Nothing c q fits demanded = covers_same (ap (λ rs. get_or rs q.register None) c.registers) (same_value e e' c.locations q.location) demanded
   through_holds (Defines r k) c q fits demanded = defined_holds r k c q fits demanded
   through_holds (Drops r) c q fits demanded = dropped_holds r c q demanded
   through_holds (Copies target source) c q fits demanded = copied_holds target source c q demanded
@@ -101,7 +101,7 @@ survives rs r high =
 
 module _ (d : rtl_data.Data) (e : Data) (d' : rtl_data.Data) (e' : Data) (back : IsBack d e d' e') where
   value_survives : (l : Location) → is_lost l ≡ false → value_at l e' ≡ value_at l e
-  value_survives (InRegister r) kept = ap (λ rs. get_or rs r None) back.places ∙ survives e.registers r (ltb-false r 4 kept)
+  value_survives (InRegister r) kept = ap (λ rs. get_or rs r None) back.locations ∙ survives e.registers r (ltb-false r 4 kept)
   value_survives (InSlot s) kept = ap (λ ss. get_or ss s None) back.slots
 
   -- what is demanded over a call still holds when the caller goes on
@@ -115,16 +115,16 @@ module _ (d : rtl_data.Data) (e : Data) (d' : rtl_data.Data) (e' : Data) (back :
       at false lost demanded = covers_same (ap (λ rs. get_or rs q.register None) back.registers) (value_survives q.location lost) demanded
 
 -- the result of a call goes where both want it
-pub result_changed : (target : Option ℕ) (place : Option Location) (change : Change) → result_change target place ≡ Some change → (value : Option ℕ) (d : rtl_data.Data) (e : Data) → Changed change d e (rtl_acts.with_result target value d) (with_result place value e)
+pub result_changed : (target : Option ℕ) (location : Option Location) (change : Change) → result_change target location ≡ Some change → (value : Option ℕ) (d : rtl_data.Data) (e : Data) → Changed change d e (rtl_acts.with_result target value d) (with_result location value e)
 result_changed None None change is value d e =
     let same : Nothing ≡ change = cc in
-    subst (λ c. Changed c d e d e) same (record { registers = refl; places = places_themselves e })
+    subst (λ c. Changed c d e d e) same (record { registers = refl; locations = locations_themselves e })
 result_changed None (Some l) change is value d e = cc (is)
 result_changed (Some r) None change is value d e = cc (is)
 result_changed (Some r) (Some l) change is value d e =
     let same : Defines r l ≡ change = cc in
     subst (λ c. Changed c d e (rtl_data.put_at r value d) (put_at l value e)) same
-    (record { first = value; second = value; covers = covers_itself value; registers = refl; places = places_themselves (put_at l value e) })
+    (record { first = value; second = value; covers = covers_itself value; registers = refl; locations = locations_themselves (put_at l value e) })
 
 -- ---- moves
 

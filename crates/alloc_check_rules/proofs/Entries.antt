@@ -16,11 +16,11 @@ use Rattle.alloc_check_rules.specs.declared.equation.Equation.{Equation}
 use Rattle.alloc_check_rules.specs.Pairs.{equations_of}
 use Rattle.alloc_check_rules.specs.Rules.{HoldsAtEntry}
 use Rattle.alloc_check_rules.specs.Holding.{Covers, AllCover, Holds, HasFrame}
-use Rattle.alloc_check_rules.proofs.Places.{covers_none, covers_same, covers_set, value_put_same, value_put_other, frame_put, globals_put}
+use Rattle.alloc_check_rules.proofs.Locations.{covers_none, covers_same, covers_set, value_put_same, value_put_other, frame_put, globals_put}
 
 -- ---- arguments
 
-pub values_covered : (d : rtl_data.Data) (e : Data) (names : List ℕ) (places : List Location) → length names ≡ length places → All (Holds d e) (equations_of names places) → AllCover (map (λ a. rtl_data.value_at a d) names) (values_of places e)
+pub values_covered : (d : rtl_data.Data) (e : Data) (names : List ℕ) (locations : List Location) → length names ≡ length locations → All (Holds d e) (equations_of names locations) → AllCover (map (λ a. rtl_data.value_at a d) names) (values_of locations e)
 values_covered d e [] [] same used = tt
 values_covered d e [] (l ∷ ls) same used = absurd (omega (arith, same))
 values_covered d e (r ∷ rs) [] same used = absurd (omega (arith, same))
@@ -64,7 +64,7 @@ nothing_there (suc n) (suc r) = nothing_there n r
 -- ---- parameters
 
 module _ (slots : ℕ) where
-  -- the equation of this place in the lists holds
+  -- the equation with this number in the lists holds
   parameter_holds : (ps : List ℕ) (ls : List Location) (vs ws rs : List (Option ℕ)) (e : Data) → HasFrame slots e → AreDistinct ps → AreDistinct ls → AllByRecursion (LocationFits slots) ls → AllCover vs ws → length vs ≡ length ps → (q : Equation) (k : ℕ) → k < length (equations_of ps ls) → get_or (equations_of ps ls) k q ≡ q → Covers (get_or (rtl_frames.with_arguments ps vs rs) q.register None) (value_at q.location (with_arguments ls ws e))
   parameter_holds [] ls vs ws rs e frame dp dl there cover same q k below is = absurd (omega (arith, below))
   parameter_holds (p ∷ ps) [] vs ws rs e frame dp dl there cover same q k below is = absurd (omega (arith, below))

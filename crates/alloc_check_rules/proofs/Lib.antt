@@ -1,4 +1,4 @@
-pub mod Places
+pub mod Locations
 pub mod Changes
 pub mod Acts
 pub mod Entries

@@ -121,13 +121,13 @@ before_is_of_bytes registers slots few_registers few_slots e f fits fits' = (λ 
     words : Precedes (register_text e.register ++ location_text e.location) (register_text f.register ++ location_text f.location) ↔ Decides e.register f.register (location_text e.location) (location_text f.location)
     words = word_decides e.register f.register small small' (location_text e.location) (location_text f.location)
 
-    places : IsLower e.location f.location ↔ Precedes (location_text e.location) (location_text f.location)
-    places = location_decides slots few_slots e.location f.location fits.1 fits'.1
+    locations : IsLower e.location f.location ↔ Precedes (location_text e.location) (location_text f.location)
+    locations = location_decides slots few_slots e.location f.location fits.1 fits'.1
 
     there : IsBefore e f → Decides e.register f.register (location_text e.location) (location_text f.location)
     there (inl less) = inl less
-    there (inr both) = inr (both.0, places.0 both.1)
+    there (inr both) = inr (both.0, locations.0 both.1)
 
     here : Decides e.register f.register (location_text e.location) (location_text f.location) → IsBefore e f
     here (inl less) = inl less
-    here (inr both) = inr (both.0, places.1 both.1)
+    here (inr both) = inr (both.0, locations.1 both.1)

@@ -47,11 +47,11 @@ act_change (Constant target word) None = Some (Drops target)
 act_change (Operate op target names) None = Some (Drops target)
 act_change (Load target global index) None = Some (Drops target)
 act_change (Constant target word) (Some (act.Constant k other)) = if word == other then Some (Defines target (InRegister k)) else None
-act_change (Operate op target names) (Some (act.Operate other k places)) =
-    if code_of op == code_of other && same_number names places then Some (Defines target (InRegister k)) else None
+act_change (Operate op target names) (Some (act.Operate other k locations)) =
+    if code_of op == code_of other && same_number names locations then Some (Defines target (InRegister k)) else None
 act_change (Load target global index) (Some (act.Load k other j)) = if global == other then Some (Defines target (InRegister k)) else None
 act_change (Store global index source) (Some (act.Store other j k)) = if global == other then Some Nothing else None
-act_change (Put source target) (Some (act.Put k place)) = result_change target (option_map (λ r. InRegister r) place)
+act_change (Put source target) (Some (act.Put k location)) = result_change target (option_map (λ r. InRegister r) location)
 act_change _ _ = None
 
 abbrev pub same_test : Test → machine_test.Test → Bool
@@ -67,10 +67,10 @@ same_presence (Some r) (Some k) = true
 -- an instruction and the body that stands for it: what they define; none where the body does something else
 abbrev pub change_of : Instruction → Body → Option Change
 change_of (Do a s) (body.Go b after t) = if s == t then act_change a b else None
-change_of (Call f names target s) (body.Call g places place after t) =
-    if f == g && length names == length places && s == t then result_change target place else None
+change_of (Call f names target s) (body.Call g locations location after t) =
+    if f == g && length names == length locations && s == t then result_change target location else None
 change_of (Branch test s o) (body.Branch other t p) = if same_test test other && s == t && o == p then Some Nothing else None
-change_of (Return value) (body.Return place) = if same_presence value place then Some Nothing else None
+change_of (Return value) (body.Return location) = if same_presence value location then Some Nothing else None
 change_of _ _ = None
 
 -- ---- the equations that a pair uses
@@ -90,16 +90,16 @@ arguments_used (Two a b) (arguments.Two k m) = in_register a k ∷ in_register b
 arguments_used _ _ = []
 
 abbrev pub act_uses : Act → Option machine_act.Act → List Equation
-act_uses (Operate op target names) (Some (act.Operate other k places)) = arguments_used names places
+act_uses (Operate op target names) (Some (act.Operate other k locations)) = arguments_used names locations
 act_uses (Load target global index) (Some (act.Load k other j)) = in_register index j ∷ []
 act_uses (Store global index source) (Some (act.Store other j k)) = in_register index j ∷ in_register source k ∷ []
-act_uses (Put source target) (Some (act.Put k place)) = in_register source k ∷ []
+act_uses (Put source target) (Some (act.Put k location)) = in_register source k ∷ []
 act_uses _ _ = []
 
 -- where each argument's word is looked for
 abbrev pub uses : Instruction → Body → List Equation
 uses (Do a s) (body.Go b after t) = act_uses a b
-uses (Call f names target s) (body.Call g places place after t) = equations_of names places
+uses (Call f names target s) (body.Call g locations location after t) = equations_of names locations
 uses (Branch test s o) (body.Branch other t p) = arguments_used test.arguments other.arguments
 uses (Return (Some r)) (body.Return (Some k)) = in_register r k ∷ []
 uses _ _ = []

@@ -9,13 +9,13 @@ use Rattle.alloc_check_rules.specs.declared.change.Change.TheVariants.{Nothing, 
 use Rattle.alloc_check_rules.specs.Holding.{Covers}
 
 -- the same words in registers and slots
-pub record SamePlaces (e e' : Data) : Type 0 where
+pub record SameLocations (e e' : Data) : Type 0 where
   pub registers : e'.registers ≡ e.registers
   pub slots : e'.slots ≡ e.slots
 
 pub record IsKept (d : rtl_data.Data) (e : Data) (d' : rtl_data.Data) (e' : Data) : Type 0 where
   pub registers : d'.registers ≡ d.registers
-  pub places : SamePlaces e e'
+  pub locations : SameLocations e e'
 
 -- the register and the location get one word, where the register gets one
 pub record IsDefined (r : ℕ) (k : Location) (d : rtl_data.Data) (e : Data) (d' : rtl_data.Data) (e' : Data) : Type 0 where
@@ -23,16 +23,16 @@ pub record IsDefined (r : ℕ) (k : Location) (d : rtl_data.Data) (e : Data) (d'
   pub second : Option ℕ
   pub covers : Covers first second
   pub registers : d'.registers ≡ slice_set d.registers r first
-  pub places : SamePlaces (put_at k second e) e'
+  pub locations : SameLocations (put_at k second e) e'
 
 pub record IsDropped (r : ℕ) (d : rtl_data.Data) (e : Data) (d' : rtl_data.Data) (e' : Data) : Type 0 where
   pub value : Option ℕ
   pub registers : d'.registers ≡ slice_set d.registers r value
-  pub places : SamePlaces e e'
+  pub locations : SameLocations e e'
 
 pub record IsCopied (target source : ℕ) (d : rtl_data.Data) (e : Data) (d' : rtl_data.Data) (e' : Data) : Type 0 where
   pub registers : d'.registers ≡ slice_set d.registers target (rtl_data.value_at source d)
-  pub places : SamePlaces e e'
+  pub locations : SameLocations e e'
 
 -- an instruction and its body come from d and e to d' and e'
 abbrev pub Changed : Change → rtl_data.Data → Data → rtl_data.Data → Data → Type 0
@@ -44,7 +44,7 @@ Changed (Copies target source) d e d' e' = IsCopied target source d e d' e'
 -- callers that go on: r0 to r3 are lost in the second
 pub record IsBack (d : rtl_data.Data) (e : Data) (d' : rtl_data.Data) (e' : Data) : Type 0 where
   pub registers : d'.registers ≡ d.registers
-  pub places : e'.registers ≡ after_call e.registers
+  pub locations : e'.registers ≡ after_call e.registers
   pub slots : e'.slots ≡ e.slots
 
 -- the second comes to data as well, so changed beside the first's, with the same globals and output

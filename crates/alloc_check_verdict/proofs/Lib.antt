@@ -1,5 +1,5 @@
 pub mod Each
-pub mod Places
+pub mod Locations
 pub mod Ranks
 pub mod Readings
 pub mod Searches

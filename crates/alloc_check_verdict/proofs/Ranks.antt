@@ -9,24 +9,24 @@ use Rattle.locations.specs.declared.location.Location.TheVariants.{InRegister, I
 use Rattle.locations.specs.Fits.{LocationFits}
 use Rattle.alloc_check_rules.specs.declared.equation.Equation.{Equation}
 use Rattle.alloc_check_rules.specs.Rules.{EquationFits, IsLower, IsBefore, Rise, IsInOrder}
-use Rattle.alloc_check_verdict.specs.Ranks.{place, rank, RiseFrom}
+use Rattle.alloc_check_verdict.specs.Ranks.{location_rank, rank, RiseFrom}
 
 module _ (registers slots : ℕ) (few : slots ≤ 65536) where
-  small : (l : Location) → LocationFits slots l → place l < 131072
+  small : (l : Location) → LocationFits slots l → location_rank l < 131072
   small (InRegister r) fits = omega (arith, fits)
   small (InSlot s) fits = omega (arith, fits, few)
 
-  lower_places : (l m : Location) → LocationFits slots l → LocationFits slots m → IsLower l m ↔ (place l < place m)
-  lower_places (InRegister r) (InRegister q) fits fits' = (λ lt. lt, λ lt. lt)
-  lower_places (InRegister r) (InSlot s) fits fits' = (λ u. omega (arith, fits), λ lt. tt)
-  lower_places (InSlot s) (InRegister r) fits fits' = (λ no. absurd no, λ lt. absurd (omega (arith, lt, fits')))
-  lower_places (InSlot s) (InSlot t) fits fits' = (λ lt. omega (arith, lt), λ lt. omega (arith, lt))
+  lower_locations : (l m : Location) → LocationFits slots l → LocationFits slots m → IsLower l m ↔ (location_rank l < location_rank m)
+  lower_locations (InRegister r) (InRegister q) fits fits' = (λ lt. lt, λ lt. lt)
+  lower_locations (InRegister r) (InSlot s) fits fits' = (λ u. omega (arith, fits), λ lt. tt)
+  lower_locations (InSlot s) (InRegister r) fits fits' = (λ no. absurd no, λ lt. absurd (omega (arith, lt, fits')))
+  lower_locations (InSlot s) (InSlot t) fits fits' = (λ lt. omega (arith, lt), λ lt. omega (arith, lt))
 
   before_ranks : (e f : Equation) → EquationFits registers slots e → EquationFits registers slots f → IsBefore e f ↔ (rank e < rank f)
   before_ranks e f fits fits' =
       let here = small e.location fits.1 in
       let there = small f.location fits'.1 in
-      let lower = lower_places e.location f.location fits.1 fits'.1 in (
+      let lower = lower_locations e.location f.location fits.1 fits'.1 in (
         λ before. elim before [
           | inl less ↦ omega (arith, less, here, there)
           | inr level ↦ omega (arith, level.0, lower.0 level.1)

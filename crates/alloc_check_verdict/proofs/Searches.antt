@@ -1,4 +1,4 @@
--- A place is searched among equations in order by halves.
+-- A rank is searched among equations in order by halves.
 use Rattle.std.proofs.Common.{◌≡◌, ℕ, ◌+◌, ◌<◌, ◌≤◌, List, length, get_or, true, false, sym, ap, ◌∙◌, subst, arith, inl, inr}
 use Rattle.std.specs.Prelude.{◌↔◌, Contains}
 use Rattle.std.proofs.lemmas.Bool.{cases_eq, cases_lt}

@@ -5,13 +5,13 @@ use Rattle.locations.specs.declared.location.Location.TheVariants.{InRegister, I
 use Rattle.alloc_check_rules.specs.declared.equation.Equation.{Equation}
 
 -- registers are below slots
-abbrev pub place : Location → ℕ
-place (InRegister r) = r
-place (InSlot s) = s + 65536
+abbrev pub location_rank : Location → ℕ
+location_rank (InRegister r) = r
+location_rank (InSlot s) = s + 65536
 
 -- where an equation stands in the order
 abbrev pub rank : Equation → ℕ
-rank e = e.register * 131072 + place e.location
+rank e = e.register * 131072 + location_rank e.location
 
 -- each rank is above those before it, and none is lower than this
 abbrev pub RiseFrom : ℕ → List Equation → Type 0

@@ -1,14 +1,14 @@
 //! Whether an equation is among others that are in order.
 
 ghost use Rattle.std.specs.Prelude.{◌≡◌, ◌↔◌, ◌<◌, ◌≤◌, length, IsTrue, Contains};
-ghost use Rattle.alloc_check_verdict.specs.Ranks.{place, rank as rank_of, RiseFrom, AreLower, AreNoLower};
+ghost use Rattle.alloc_check_verdict.specs.Ranks.{location_rank, rank as rank_of, RiseFrom, AreLower, AreNoLower};
 
 use alloc_check_blocks::is_at;
 use alloc_check_rules::Equation;
 use locations::Location;
 
-fn place(location: &Location) -> u64
-    ensures place { result ≡ place location.now }
+fn location_rank(location: &Location) -> u64
+    ensures location_rank { result ≡ location_rank location.now }
     ensures small { result < 131072 }
 {
     match location {
@@ -22,7 +22,7 @@ pub(crate) fn rank(equation: &Equation) -> u64
     ensures rank { result ≡ rank_of equation.now }
     ensures small { result < 8589934592 }
 {
-    u64::from(equation.register) * 131072 + place(&equation.location)
+    u64::from(equation.register) * 131072 + location_rank(&equation.location)
 }
 
 pub(crate) fn is_same(equation: &Equation, other: &Equation) -> bool

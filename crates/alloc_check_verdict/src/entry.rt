@@ -10,23 +10,23 @@ use alloc_check_rules::Equation;
 use locations::Location;
 use rtl_parts::Register;
 
-/// The register and the location at this place.
-pub(crate) fn pair_at(names: &[Register], places: &[Location], k: usize) -> Option<Equation>
-    ensures { result ≡ slice_get (equations_of names.now places.now) k }
+/// The register and the location with this number in their lists.
+pub(crate) fn pair_at(names: &[Register], locations: &[Location], k: usize) -> Option<Equation>
+    ensures { result ≡ slice_get (equations_of names.now locations.now) k }
 {
     if k >= names.len() {
         return None;
     }
-    if k >= places.len() {
+    if k >= locations.len() {
         return None;
     }
     Some(Equation {
         register: names[k],
-        location: places[k],
+        location: locations[k],
     })
 }
 
-/// Whether the equation is of one of the registers and the location at its place.
+/// Whether the equation is of one of the registers and the location that the list has for it.
 fn is_parameter(registers: &[Register], locations: &[Location], equation: &Equation) -> bool
     ensures { IsTrue result ↔ Contains (equations_of registers.now locations.now) equation.now }
 {

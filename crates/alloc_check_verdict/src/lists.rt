@@ -82,11 +82,11 @@ fn rise(equations: &[Equation]) -> bool
 {
     let mut lower = 0;
     for equation in equations {
-        let place = rank(equation);
-        if place < lower {
+        let current = rank(equation);
+        if current < lower {
             return false;
         }
-        lower = place + 1;
+        lower = current + 1;
     }
     true
 }

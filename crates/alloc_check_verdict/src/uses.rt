@@ -9,17 +9,17 @@ use crate::answers::is_given;
 use crate::entry::pair_at;
 use alloc_check_blocks::TracedBlock;
 use alloc_check_rules::Equation;
-use locations::{Location, Register as Place};
+use locations::{Location, Register as MachineRegister};
 use ltl::Body;
 use rtl_language::Instruction;
 use rtl_parts::{Act, Arguments, Register};
 
-fn in_register(name: Register, place: Place) -> Equation
-    ensures { result ≡ in_register name place }
+fn in_register(name: Register, machine_register: MachineRegister) -> Equation
+    ensures { result ≡ in_register name machine_register }
 {
     Equation {
         register: name,
-        location: Location::InRegister(place),
+        location: Location::InRegister(machine_register),
     }
 }
 
@@ -41,17 +41,17 @@ fn arguments_given(
     equations: &[Equation],
     block: &TracedBlock,
     names: &Arguments,
-    places: &machine::Arguments,
+    locations: &machine::Arguments,
 ) -> bool
     requires { RiseFrom 0 equations.now }
-    ensures { IsTrue result ↔ AreGiven equations.now block.now.before (arguments_used names.now places.now) }
+    ensures { IsTrue result ↔ AreGiven equations.now block.now.before (arguments_used names.now locations.now) }
 {
     match *names {
-        Arguments::One(a) => match *places {
+        Arguments::One(a) => match *locations {
             machine::Arguments::One(k) => one_given(equations, block, in_register(a, k)),
             machine::Arguments::Two(_, _) => true,
         },
-        Arguments::Two(a, b) => match *places {
+        Arguments::Two(a, b) => match *locations {
             machine::Arguments::One(_) => true,
             machine::Arguments::Two(k, m) => {
                 two_given(equations, block, in_register(a, k), in_register(b, m))
@@ -68,49 +68,51 @@ fn act_given(equations: &[Equation], block: &TracedBlock, act: &Act, other: &mac
         Act::Nop | Act::Constant { .. } | Act::Move { .. } => true,
         Act::Operate { arguments, .. } => match other {
             machine::Act::Operate {
-                arguments: places,
+                arguments: locations,
                 ..
-            } => arguments_given(equations, block, arguments, places),
+            } => arguments_given(equations, block, arguments, locations),
             _ => true,
         },
         Act::Load { index, .. } => match other {
-            machine::Act::Load { index: place, .. } => {
-                one_given(equations, block, in_register(*index, *place))
-            }
+            machine::Act::Load {
+                index: machine_register,
+                ..
+            } => { one_given(equations, block, in_register(*index, *machine_register)) }
             _ => true,
         },
         Act::Store { index, source, .. } => match other {
             machine::Act::Store {
-                index: place,
+                index: machine_register,
                 source: from,
                 ..
             } => {
-                let cell = in_register(*index, *place);
+                let cell = in_register(*index, *machine_register);
                 two_given(equations, block, cell, in_register(*source, *from))
             }
             _ => true,
         },
         Act::Put { source, .. } => match other {
-            machine::Act::Put { source: place, .. } => {
-                one_given(equations, block, in_register(*source, *place))
-            }
+            machine::Act::Put {
+                source: machine_register,
+                ..
+            } => { one_given(equations, block, in_register(*source, *machine_register)) }
             _ => true,
         },
     }
 }
 
-/// Whether each register's word lies in the location at its place.
+/// Whether each register's word lies in the location that the list has for it.
 fn are_given(
     equations: &[Equation],
     block: &TracedBlock,
     names: &[Register],
-    places: &[Location],
+    locations: &[Location],
 ) -> bool
     requires { RiseFrom 0 equations.now }
-    ensures { IsTrue result ↔ AreGiven equations.now block.now.before (equations_of names.now places.now) }
+    ensures { IsTrue result ↔ AreGiven equations.now block.now.before (equations_of names.now locations.now) }
 {
     for k in 0..names.len() {
-        let Some(equation) = pair_at(names, places, k) else {
+        let Some(equation) = pair_at(names, locations, k) else {
             return true;
         };
         if !is_given(equations, block, &equation) {
@@ -140,9 +142,9 @@ pub(crate) fn uses_given(
         },
         Instruction::Call { arguments, .. } => match body {
             Body::Call {
-                arguments: places,
+                arguments: locations,
                 ..
-            } => are_given(equations, block, arguments.as_slice(), places.as_slice()),
+            } => are_given(equations, block, arguments.as_slice(), locations.as_slice()),
             _ => true,
         },
         Instruction::Branch { test, .. } => match body {
@@ -152,9 +154,9 @@ pub(crate) fn uses_given(
             _ => true,
         },
         Instruction::Return { value: Some(name) } => match body {
-            Body::Return { value: Some(place) } => {
-                one_given(equations, block, in_register(*name, *place))
-            }
+            Body::Return {
+                value: Some(machine_register),
+            } => { one_given(equations, block, in_register(*name, *machine_register)) }
             _ => true,
         },
         Instruction::Return { value: None } => true,

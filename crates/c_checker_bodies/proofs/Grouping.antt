@@ -2,14 +2,14 @@
 use Rattle.std.proofs.Common.{◌≡◌, ◌++◌, sym, ap, append_assoc}
 use Rattle.std.specs.Prelude.{Option}
 use Rattle.c_syntax.specs.Trees.{ExpressionTree, SetTree, StartTree, StatementTree}
-use Rattle.c_checker_rules.specs.declared.place.Place.{Place}
+use Rattle.c_checker_rules.specs.declared.context.Context.{Context}
 use Rattle.c_checker_rules.specs.Expressions.{expression_faults}
 use Rattle.c_checker_rules.specs.Calls.{Functions}
 use Rattle.c_checker_rules.specs.Locals.{looping, Here}
 use Rattle.c_checker_rules.specs.Statements.{with_start, optional_faults, set_faults, start_faults, statement_faults}
 use Rattle.c_checker_bodies.specs.Loops.{heads_faults, for_faults}
 
-pub for_grouped : (f : Functions) (p : Place) (h : Here) (start : StartTree) (e : Option ExpressionTree) (step : Option SetTree) (s : StatementTree) →
+pub for_grouped : (f : Functions) (p : Context) (h : Here) (start : StartTree) (e : Option ExpressionTree) (step : Option SetTree) (s : StatementTree) →
     heads_faults p.depth h start e step ++ statement_faults f (looping p) (with_start p.depth h start) s ≡ for_faults f p h start e step s
 for_grouped f p h start e step s =
     let a = start_faults p.depth h start in

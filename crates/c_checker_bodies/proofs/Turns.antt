@@ -8,7 +8,7 @@ use Rattle.c_program.specs.declared.action.Action.{Action}
 use Rattle.c_program.specs.Trees as T
 use Rattle.c_program.specs.Views.{action_tree, actions_tree}
 use Rattle.c_program.proofs.Sequences.{before, before_last, before_none}
-use Rattle.c_checker_rules.specs.declared.place.Place.{Place}
+use Rattle.c_checker_rules.specs.declared.context.Context.{Context}
 use Rattle.c_checker_rules.specs.Calls.{Functions}
 use Rattle.c_checker_rules.specs.Locals.{Here}
 use Rattle.c_checker_rules.specs.Statements.{after, after_all, statement_faults, statements_faults}
@@ -17,13 +17,13 @@ use Rattle.c_checker_bodies.proofs.Heights.{rest_low}
 use Rattle.c_checker_rules.proofs.Lists.{drop_next}
 
 -- What is left has the faults of the whole and declares what the whole declares, and its actions end those of the whole.
-pub record IsUnderWay (f : Functions) (p : Place) (start : Here) (all : List Statement) (now : Here) (actions : List Action) (rest : List Statement) : Type 0 where
+pub record IsUnderWay (f : Functions) (p : Context) (start : Here) (all : List Statement) (now : Here) (actions : List Action) (rest : List Statement) : Type 0 where
   pub low : p.depth + statements_height (statements_tree rest) ≤ 1000
   pub faults : statements_faults f p start (statements_tree all) ≡ statements_faults f p now (statements_tree rest)
   pub names : after_all p.depth start (statements_tree all) ≡ after_all p.depth now (statements_tree rest)
   pub made : actions_of f p.depth start (statements_tree all) ≡ before actions (actions_of f p.depth now (statements_tree rest))
 
-module _ (f : Functions) (p : Place) (start : Here) (all : List Statement) where
+module _ (f : Functions) (p : Context) (start : Here) (all : List Statement) where
   pub begins : p.depth + statements_height (statements_tree all) ≤ 1000 → IsUnderWay f p start all start [] all
   begins low = record { low = low; faults = refl; names = refl; made = refl }
 

@@ -10,7 +10,7 @@ use Rattle.c_program.specs.declared.action.Action.{Action}
 use Rattle.c_program.specs.Trees.{TermTree, ActionTree, Loop}
 use Rattle.c_program.specs.Views.{term_tree, action_tree}
 use Rattle.c_checker_rules.specs.declared.errors.CheckError.{CheckError}
-use Rattle.c_checker_rules.specs.declared.place.Place.{Place}
+use Rattle.c_checker_rules.specs.declared.context.Context.{Context}
 use Rattle.c_checker_rules.specs.Told.{Tells}
 use Rattle.c_checker_rules.specs.Names.{Scope}
 use Rattle.c_checker_rules.specs.Calls.{Functions}
@@ -45,18 +45,18 @@ abbrev pub for_tree : Action → Term → Action → Action → ActionTree
 for_tree first condition body step = two (action_tree first) (Loop (term_tree condition) (action_tree body) (action_tree step))
 
 -- The whole has no faults; it has some, and the first is told; the action is what it stands for.
-abbrev pub NoneInFor : Functions → Place → Here → ForStart → Option Expression → Option Set → Statement → Type 0
+abbrev pub NoneInFor : Functions → Context → Here → ForStart → Option Expression → Option Set → Statement → Type 0
 NoneInFor f p h start condition step s =
     for_faults f p h (start_tree start) (optional_tree expression_tree condition) (optional_tree set_tree step) (statement_tree s) ≡ []
 
-abbrev pub TellsOfFor : Functions → Place → Here → ForStart → Option Expression → Option Set → Statement → CheckError → Type 0
+abbrev pub TellsOfFor : Functions → Context → Here → ForStart → Option Expression → Option Set → Statement → CheckError → Type 0
 TellsOfFor f p h start condition step s e =
     Tells e (for_faults f p h (start_tree start) (optional_tree expression_tree condition) (optional_tree set_tree step) (statement_tree s))
 
-abbrev pub IsFor : Functions → Place → Here → ForStart → Option Expression → Option Set → Statement → Action → Type 0
+abbrev pub IsFor : Functions → Context → Here → ForStart → Option Expression → Option Set → Statement → Action → Type 0
 IsFor f p h start condition step s a =
     action_tree a ≡ for_action f p.depth h (start_tree start) (optional_tree expression_tree condition) (optional_tree set_tree step) (statement_tree s)
 
 -- what is known behind its body
-abbrev pub behind_for : Place → Here → ForStart → Statement → Here
+abbrev pub behind_for : Context → Here → ForStart → Statement → Here
 behind_for p h start s = after p.depth (started p.depth h start) (statement_tree s)

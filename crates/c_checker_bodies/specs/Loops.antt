@@ -1,10 +1,10 @@
--- A `for` at the place of its own scope (C99 6.8.5.3): what is not well formed in it, and what it stands for.
+-- A `for` in the context of its own scope (C99 6.8.5.3): what is not well formed in it, and what it stands for.
 use Rattle.std.specs.Prelude.{ℕ, List, ◌++◌, Option}
 use Rattle.c_syntax.specs.Trees.{ExpressionTree, SetTree, StartTree, StatementTree}
 use Rattle.c_program.specs.Trees.{ActionTree}
 use Rattle.c_program.specs.Trees as P
 use Rattle.c_checker_rules.specs.declared.errors.CheckError.{CheckError}
-use Rattle.c_checker_rules.specs.declared.place.Place.{Place}
+use Rattle.c_checker_rules.specs.declared.context.Context.{Context}
 use Rattle.c_checker_rules.specs.Names.{Scope}
 use Rattle.c_checker_rules.specs.Expressions.{expression_faults}
 use Rattle.c_checker_rules.specs.Calls.{Functions}
@@ -21,7 +21,7 @@ abbrev pub heads_faults : ℕ → Here → StartTree → Option ExpressionTree �
 heads_faults depth h start e step =
     start_faults depth h start ++ turns_faults (with_start depth h start).scope e step
 
-abbrev pub for_faults : Functions → Place → Here → StartTree → Option ExpressionTree → Option SetTree → StatementTree → List CheckError
+abbrev pub for_faults : Functions → Context → Here → StartTree → Option ExpressionTree → Option SetTree → StatementTree → List CheckError
 for_faults f p h start e step s =
     start_faults p.depth h start
     ++ optional_faults (expression_faults (with_start p.depth h start).scope) e

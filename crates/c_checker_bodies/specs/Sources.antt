@@ -12,12 +12,12 @@ use Rattle.c_syntax.specs.Views.{optional_tree, expression_tree, call_tree, valu
 use Rattle.c_program.specs.declared.action.Target.TheVariants.{Nowhere}
 use Rattle.c_program.specs.Trees.{TermTree, ActionTree, ActionsTree, Give, Store}
 use Rattle.c_checker_rules.specs.declared.errors.CheckError.{CheckError}
-use Rattle.c_checker_rules.specs.declared.place.Place.{Place}
+use Rattle.c_checker_rules.specs.declared.context.Context.{Context}
 use Rattle.c_checker_rules.specs.Names.{Scope, meaning_of}
 use Rattle.c_checker_rules.specs.Terms.{array_number, term_of}
 use Rattle.c_checker_rules.specs.Expressions.{variable_faults, array_faults, expression_faults}
 use Rattle.c_checker_rules.specs.Calls.{Functions, call_given, value_faults, value_given}
-use Rattle.c_checker_rules.specs.Locals.{Here, with_local}
+use Rattle.c_checker_rules.specs.Locals.{Here, with_local, deeper}
 use Rattle.c_checker_rules.specs.Statements as S
 use Rattle.c_checker_rules.specs.Actions as A
 
@@ -69,19 +69,23 @@ abbrev pub return_action : Functions → Scope → Option Value → ActionTree
 return_action f scope value = A.returned f scope (optional_tree value_tree value)
 
 -- a statement
-abbrev pub faults_in : Functions → Place → Here → Statement → List CheckError
+abbrev pub faults_in : Functions → Context → Here → Statement → List CheckError
 faults_in f p h s = S.statement_faults f p h (statement_tree s)
 
-abbrev pub action_for : Functions → Place → Here → Statement → ActionTree
+abbrev pub action_for : Functions → Context → Here → Statement → ActionTree
 action_for f p h s = A.action_of f p.depth h (statement_tree s)
 
 -- statements one behind the other
-abbrev pub faults_in_all : Functions → Place → Here → List Statement → List CheckError
+abbrev pub faults_in_all : Functions → Context → Here → List Statement → List CheckError
 faults_in_all f p h all = S.statements_faults f p h (statements_tree all)
 
-abbrev pub actions_for : Functions → Place → Here → List Statement → ActionsTree
+abbrev pub actions_for : Functions → Context → Here → List Statement → ActionsTree
 actions_for f p h all = A.actions_of f p.depth h (statements_tree all)
 
+-- what the statements of a block in this context stand for
+abbrev pub block_actions : Functions → Context → Here → List Statement → ActionsTree
+block_actions f p h all = actions_for f (deeper p) h all
+
 -- what is declared behind them
-abbrev pub behind_all : Place → Here → List Statement → Here
+abbrev pub behind_all : Context → Here → List Statement → Here
 behind_all p h all = S.after_all p.depth h (statements_tree all)

@@ -21,7 +21,7 @@ use c_checker_terms::{
     Functions, Typed, array, check_call, check_expression, check_value, meaning_of,
 };
 use c_program::{Action, Target, Term, Value};
-use c_syntax::{Call, Expression, ForStart, Identifier, Local, Place, ReturnType, Set};
+use c_syntax::{Call, Expression, ForStart, Identifier, Local, Lvalue, ReturnType, Set};
 use lang_base::NoMemory;
 use owned::{beside, ok, pair};
 use std::alloc::Global;
@@ -112,13 +112,13 @@ pub(crate) fn check_set(
     ensures action { IfOk result (λ a. action_tree a ≡ A.set_action scope.now (set_tree set.now)) }
     ensures err { IfErr result (λ e. Tells e (S.set_faults scope.now (set_tree set.now))) }
 {
-    match &set.place {
-        Place::Variable(name) => {
+    match &set.lvalue {
+        Lvalue::Variable(name) => {
             let target = ok!(check_target(scope, name));
             let Typed { term, .. } = ok!(check_expression(alloc, scope, &set.value));
             Ok(Action::Give(target, Value::Term(term)))
         }
-        Place::Element(name, index) => check_store(alloc, scope, name, index, &set.value),
+        Lvalue::Element(name, index) => check_store(alloc, scope, name, index, &set.value),
     }
 }
 

@@ -8,7 +8,7 @@ ghost use Rattle.c_program.specs.Views.{action_tree, actions_tree};
 ghost use Rattle.c_checker_rules.specs.Told.{Tells};
 ghost use Rattle.c_checker_rules.specs.Locals.{deeper, looping, left};
 ghost use Rattle.c_checker_rules.specs.Statements as S;
-ghost use Rattle.c_checker_bodies.specs.Sources.{faults_in, action_for, faults_in_all, actions_for, behind_all};
+ghost use Rattle.c_checker_bodies.specs.Sources.{faults_in, action_for, faults_in_all, actions_for, block_actions, behind_all};
 ghost use Rattle.c_checker_bodies.specs.ForSources.{NoneInFor, TellsOfFor, IsFor, behind_for};
 
 use crate::here::Here;
@@ -16,31 +16,31 @@ use crate::loops::check_heads;
 use crate::parts::{
     check_assignment, check_call_alone, check_declaration, check_return, check_store, in_loop,
 };
-use c_checker_rules::{CheckError, Place};
+use c_checker_rules::{CheckError, Context};
 use c_checker_terms::{Functions, check_expression};
 use c_program::Action;
 use c_syntax::{Expression, ForHead, ForStart, Set, Statement};
 use owned::{beside, ok};
 use std::alloc::Global;
 
-/// In a block of this place.
-fn deeper(place: Place) -> Place
-    requires { place.depth ≤ 1000 }
-    ensures { result ≡ deeper place }
+/// In a block in this context.
+fn deeper(context: Context) -> Context
+    requires { context.depth ≤ 1000 }
+    ensures { result ≡ deeper context }
 {
-    Place {
-        depth: place.depth + 1,
-        ..place
+    Context {
+        depth: context.depth + 1,
+        ..context
     }
 }
 
-/// In a loop of this place.
-fn looping(place: Place) -> Place
-    ensures { result ≡ looping place }
+/// In a loop in this context.
+fn looping(context: Context) -> Context
+    ensures { result ≡ looping context }
 {
-    Place {
+    Context {
         in_loop: true,
-        ..place
+        ..context
     }
 }
 
@@ -66,21 +66,23 @@ fn nothing(alloc: Global) -> Result<Box<Action>, CheckError>
 fn check_statement(
     alloc: Global,
     functions: &Functions,
-    place: Place,
+    context: Context,
     here: &mut Here,
     statement: &Statement,
 ) -> Result<Action, CheckError>
-    requires { place.depth + statement_height (statement_tree statement.now) ≤ 1000 }
-    ensures ok { OnOk result (faults_in functions.now place here.old statement.now ≡ []) }
-    ensures action { IfOk result (λ a. action_tree a ≡ action_for functions.now place here.old statement.now) }
-    ensures here { OnOk result (here.new ≡ S.after place.depth here.old (statement_tree statement.now)) }
-    ensures err { IfErr result (λ e. Tells e (faults_in functions.now place here.old statement.now)) }
+    requires { context.depth + statement_height (statement_tree statement.now) ≤ 1000 }
+    ensures ok { OnOk result (faults_in functions.now context here.old statement.now ≡ []) }
+    ensures action { IfOk result (λ a. action_tree a ≡ action_for functions.now context here.old statement.now) }
+    ensures here { OnOk result (here.new ≡ S.after context.depth here.old (statement_tree statement.now)) }
+    ensures err { IfErr result (λ e. Tells e (faults_in functions.now context here.old statement.now)) }
 {
     match statement {
         Statement::Empty => Ok(Action::Nothing),
-        Statement::Local(local) => { check_declaration(alloc, functions, place.depth, here, local) }
+        Statement::Local(local) => {
+            check_declaration(alloc, functions, context.depth, here, local)
+        }
         Statement::Block(all) => {
-            let all = ok!(check_block(alloc, functions, place, here, all.as_slice()));
+            let all = ok!(check_block(alloc, functions, context, here, all.as_slice()));
             Ok(Action::Sequence(all))
         }
         Statement::Call(call) => check_call_alone(alloc, functions, &here.scope, call),
@@ -92,22 +94,22 @@ fn check_statement(
         }
         Statement::If(condition, inner) => {
             let condition = ok!(check_expression(alloc, &here.scope, condition));
-            let holds = check_inner(alloc, functions, place, here, inner);
+            let holds = check_inner(alloc, functions, context, here, inner);
             let (condition, holds) = ok!(beside(condition.term, holds));
             let (condition, other) = ok!(beside(condition, nothing(alloc)));
             Ok(Action::If(condition, holds, other))
         }
         Statement::IfElse(condition, inner, other) => {
             let condition = ok!(check_expression(alloc, &here.scope, condition));
-            let holds = check_inner(alloc, functions, place, here, inner);
+            let holds = check_inner(alloc, functions, context, here, inner);
             let (condition, holds) = ok!(beside(condition.term, holds));
-            let other = check_inner(alloc, functions, place, here, other);
+            let other = check_inner(alloc, functions, context, here, other);
             let (condition, other) = ok!(beside(condition, other));
             Ok(Action::If(condition, holds, other))
         }
         Statement::While(condition, inner) => {
             let condition = ok!(check_expression(alloc, &here.scope, condition));
-            let body = check_inner(alloc, functions, looping(place), here, inner);
+            let body = check_inner(alloc, functions, looping(context), here, inner);
             let (condition, body) = ok!(beside(condition.term, body));
             let (condition, behind) = ok!(beside(condition, nothing(alloc)));
             Ok(Action::Loop(condition, body, behind))
@@ -121,7 +123,7 @@ fn check_statement(
             check_for(
                 alloc,
                 functions,
-                deeper(place),
+                deeper(context),
                 here,
                 start,
                 condition,
@@ -129,10 +131,10 @@ fn check_statement(
                 inner,
             )
         }
-        Statement::Break(at) => in_loop(place.in_loop, *at, Action::Break),
-        Statement::Continue(at) => in_loop(place.in_loop, *at, Action::Continue),
+        Statement::Break(at) => in_loop(context.in_loop, *at, Action::Break),
+        Statement::Continue(at) => in_loop(context.in_loop, *at, Action::Continue),
         Statement::Return(at, value) => {
-            check_return(alloc, functions, &here.scope, place.result, *at, value)
+            check_return(alloc, functions, &here.scope, context.result, *at, value)
         }
     }
 }
@@ -143,66 +145,66 @@ fn check_statement(
 fn check_inner(
     alloc: Global,
     functions: &Functions,
-    place: Place,
+    context: Context,
     here: &mut Here,
     statement: &Statement,
 ) -> Result<Box<Action>, CheckError>
-    requires { place.depth + statement_height (statement_tree statement.now) ≤ 1000 }
-    ensures ok { OnOk result (faults_in functions.now place here.old statement.now ≡ []) }
-    ensures action { IfOk result (λ a. action_tree a.value ≡ action_for functions.now place here.old statement.now) }
-    ensures here { OnOk result (here.new ≡ left here.old (S.after place.depth here.old (statement_tree statement.now))) }
-    ensures err { IfErr result (λ e. Tells e (faults_in functions.now place here.old statement.now)) }
+    requires { context.depth + statement_height (statement_tree statement.now) ≤ 1000 }
+    ensures ok { OnOk result (faults_in functions.now context here.old statement.now ≡ []) }
+    ensures action { IfOk result (λ a. action_tree a.value ≡ action_for functions.now context here.old statement.now) }
+    ensures here { OnOk result (here.new ≡ left here.old (S.after context.depth here.old (statement_tree statement.now))) }
+    ensures err { IfErr result (λ e. Tells e (faults_in functions.now context here.old statement.now)) }
 {
     let mark = here.scope.len();
-    let action = ok!(check_statement(alloc, functions, place, here, statement));
+    let action = ok!(check_statement(alloc, functions, context, here, statement));
     leave(here, mark);
     Ok(Box::new(alloc, action)?)
 }
 
-/// The statements of a block at this place. Its scope is deeper, and its names are forgotten behind it.
+/// The statements of a block in this context. Its scope is deeper, and its names are forgotten behind it.
 #[cycle(statements)]
 #[tactic(auto, using(crate::proofs::Heights::block_low, crate::proofs::Leaving::statements_longer, crate::proofs::Leaving::statements_shortened))]
 fn check_block(
     alloc: Global,
     functions: &Functions,
-    place: Place,
+    context: Context,
     here: &mut Here,
     all: &[Statement],
 ) -> Result<Vec<Action>, CheckError>
-    requires { place.depth + suc (statements_height (statements_tree all.now)) ≤ 1000 }
-    ensures ok { OnOk result (faults_in_all functions.now (deeper place) here.old all.now ≡ []) }
-    ensures actions { IfOk result (λ a. actions_tree a.items ≡ actions_for functions.now (deeper place) here.old all.now) }
-    ensures here { OnOk result (here.new ≡ left here.old (behind_all (deeper place) here.old all.now)) }
-    ensures err { IfErr result (λ e. Tells e (faults_in_all functions.now (deeper place) here.old all.now)) }
+    requires { context.depth + suc (statements_height (statements_tree all.now)) ≤ 1000 }
+    ensures ok { OnOk result (faults_in_all functions.now (deeper context) here.old all.now ≡ []) }
+    ensures actions { IfOk result (λ a. actions_tree a.items ≡ block_actions functions.now context here.old all.now) }
+    ensures here { OnOk result (here.new ≡ left here.old (behind_all (deeper context) here.old all.now)) }
+    ensures err { IfErr result (λ e. Tells e (faults_in_all functions.now (deeper context) here.old all.now)) }
 {
     let mark = here.scope.len();
-    let actions = ok!(check_statements(alloc, functions, deeper(place), here, all));
+    let actions = ok!(check_statements(alloc, functions, deeper(context), here, all));
     leave(here, mark);
     Ok(actions)
 }
 
-/// A `for`, which has a scope of its own, at this place.
+/// A `for`, which has a scope of its own, in this context.
 #[cycle(statements)]
 #[tactic(auto, using(c_checker_rules::proofs::Firsts::tells_front, c_checker_rules::proofs::Firsts::tells_behind, crate::proofs::Leaving::for_longer, crate::proofs::Leaving::for_shortened, crate::proofs::Grouping::for_grouped))]
 fn check_for(
     alloc: Global,
     functions: &Functions,
-    place: Place,
+    context: Context,
     here: &mut Here,
     start: &ForStart,
     condition: &Option<Expression>,
     step: &Option<Set>,
     inner: &Statement,
 ) -> Result<Action, CheckError>
-    requires { place.depth + statement_height (statement_tree inner.now) ≤ 1000 }
-    ensures ok { OnOk result (NoneInFor functions.now place here.old start.now condition.now step.now inner.now) }
-    ensures action { IfOk result (IsFor functions.now place here.old start.now condition.now step.now inner.now) }
-    ensures here { OnOk result (here.new ≡ left here.old (behind_for place here.old start.now inner.now)) }
-    ensures err { IfErr result (TellsOfFor functions.now place here.old start.now condition.now step.now inner.now) }
+    requires { context.depth + statement_height (statement_tree inner.now) ≤ 1000 }
+    ensures ok { OnOk result (NoneInFor functions.now context here.old start.now condition.now step.now inner.now) }
+    ensures action { IfOk result (IsFor functions.now context here.old start.now condition.now step.now inner.now) }
+    ensures here { OnOk result (here.new ≡ left here.old (behind_for context here.old start.now inner.now)) }
+    ensures err { IfErr result (TellsOfFor functions.now context here.old start.now condition.now step.now inner.now) }
 {
     let mark = here.scope.len();
-    let heads = ok!(check_heads(alloc, place.depth, here, start, condition, step));
-    let body = check_statement(alloc, functions, looping(place), here, inner);
+    let heads = ok!(check_heads(alloc, context.depth, here, start, condition, step));
+    let body = check_statement(alloc, functions, looping(context), here, inner);
     let (heads, body) = ok!(beside(heads, body));
     leave(here, mark);
     Ok(heads.around(alloc, body)?)
@@ -214,19 +216,19 @@ fn check_for(
 pub fn check_statements(
     alloc: Global,
     functions: &Functions,
-    place: Place,
+    context: Context,
     here: &mut Here,
     all: &[Statement],
 ) -> Result<Vec<Action>, CheckError>
-    requires { place.depth + statements_height (statements_tree all.now) ≤ 1000 }
-    ensures ok { OnOk result (faults_in_all functions.now place here.old all.now ≡ []) }
-    ensures actions { IfOk result (λ a. actions_tree a.items ≡ actions_for functions.now place here.old all.now) }
-    ensures here { OnOk result (here.new ≡ behind_all place here.old all.now) }
-    ensures err { IfErr result (λ e. Tells e (faults_in_all functions.now place here.old all.now)) }
+    requires { context.depth + statements_height (statements_tree all.now) ≤ 1000 }
+    ensures ok { OnOk result (faults_in_all functions.now context here.old all.now ≡ []) }
+    ensures actions { IfOk result (λ a. actions_tree a.items ≡ actions_for functions.now context here.old all.now) }
+    ensures here { OnOk result (here.new ≡ behind_all context here.old all.now) }
+    ensures err { IfErr result (λ e. Tells e (faults_in_all functions.now context here.old all.now)) }
 {
     let mut actions = Vec::new(alloc);
     for statement in all {
-        actions.push(check_statement(alloc, functions, place, here, statement)?)?;
+        actions.push(check_statement(alloc, functions, context, here, statement)?)?;
     }
     Ok(actions)
 }

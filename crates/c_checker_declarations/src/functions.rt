@@ -11,7 +11,7 @@ ghost use Rattle.c_checker_declarations.specs.Sources.{body_actions, behind_body
 
 use crate::parameters::{check_open_parameters, check_parameters};
 use c_checker_bodies::{Here, check_statements};
-use c_checker_rules::{CheckError, Place};
+use c_checker_rules::{CheckError, Context};
 use c_checker_terms::{Functions, is_main};
 use c_program::{Action, Ending, Function};
 use c_syntax::{Identifier, Prototype, ReturnType};
@@ -56,12 +56,12 @@ fn check_body(
 {
     here.locals = 0;
     check_parameters(here, function.parameters.as_slice())?;
-    let place = Place {
+    let context = Context {
         depth: 1,
         in_loop: false,
         result: function.result,
     };
-    check_statements(alloc, functions, place, here, function.body.as_slice())
+    check_statements(alloc, functions, context, here, function.body.as_slice())
 }
 
 /// The function that a text's function stands for, or the first fault in its parameters and body. Where it is

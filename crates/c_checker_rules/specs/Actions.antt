@@ -1,7 +1,7 @@
 -- What a statement stands for (C99 6.8): its names are resolved, each declaration is reached where it stands, and all three
 -- loops are one.
 use Rattle.std.specs.Prelude.{ℕ, suc, Option, Some, None}
-use Rattle.c_syntax.specs.Trees.{ExpressionTree, ValueTree, PlaceTree, SetTree, LocalTree, StartTree, StatementTree, StatementsTree}
+use Rattle.c_syntax.specs.Trees.{ExpressionTree, ValueTree, LvalueTree, SetTree, LocalTree, StartTree, StatementTree, StatementsTree}
 use Rattle.c_syntax.specs.Trees as T
 use Rattle.c_program.specs.declared.action.Target.{Target}
 use Rattle.c_program.specs.declared.action.Target.TheVariants as G
@@ -32,11 +32,11 @@ declared f scope n None = P.Declare n
 declared f scope n (Some v) = two (P.Declare n) (P.Give (G.Local n) (value_given f scope v))
 
 abbrev pub set_action : Scope → SetTree → ActionTree
-set_action scope s = set_place s.place (term_of scope s.value)
+set_action scope s = set_lvalue s.lvalue (term_of scope s.value)
   where
-    set_place : PlaceTree → TermTree → ActionTree
-    set_place (T.Name x) e = P.Give (target_of (meaning_of scope x)) (P.Plain e)
-    set_place (T.Cell a i) e = P.Store (array_number (meaning_of scope a)) (term_of scope i) e
+    set_lvalue : LvalueTree → TermTree → ActionTree
+    set_lvalue (T.Name x) e = P.Give (target_of (meaning_of scope x)) (P.Plain e)
+    set_lvalue (T.Cell a i) e = P.Store (array_number (meaning_of scope a)) (term_of scope i) e
 
 abbrev pub start_action : ℕ → Here → StartTree → ActionTree
 start_action depth h T.StartNothing = P.Nothing

@@ -20,7 +20,7 @@ use Rattle.c_checker_rules.specs.declared.signature.Signature.{Signature}
 use Rattle.c_checker_rules.specs.Told.{unless}
 use Rattle.c_checker_rules.specs.Names.{Scope}
 use Rattle.c_checker_rules.specs.Calls.{Functions, is_putchar, called}
-use Rattle.c_checker_rules.specs.declared.place.Place.{Place}
+use Rattle.c_checker_rules.specs.declared.context.Context.{Context}
 use Rattle.c_checker_rules.specs.Locals.{Here, is_short, is_new, with_local}
 use Rattle.c_checker_rules.specs.Globals.{is_main}
 use Rattle.c_checker_rules.specs.Statements.{after_all, statements_faults}
@@ -145,7 +145,7 @@ with_signature signatures scope x s = added (found x.name scope)
     added (Some b) = signatures
 
 -- the outermost block of a function's body
-abbrev pub outermost : ReturnType → Place
+abbrev pub outermost : ReturnType → Context
 outermost result = record { depth = 1; in_loop = false; result = result }
 
 -- what is declared where the body begins: f and scope are the file's, with this function

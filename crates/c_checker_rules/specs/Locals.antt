@@ -7,16 +7,16 @@ use Rattle.c_checker_rules.specs.declared.errors.CheckError.{CheckError}
 use Rattle.c_checker_rules.specs.declared.errors.CheckError.TheVariants.{Redeclared, Limit}
 use Rattle.c_checker_rules.specs.declared.meaning.Meaning.{Meaning}
 use Rattle.c_checker_rules.specs.declared.meaning.Meaning.TheVariants as M
-use Rattle.c_checker_rules.specs.declared.place.Place.{Place}
+use Rattle.c_checker_rules.specs.declared.context.Context.{Context}
 use Rattle.c_checker_rules.specs.Told.{unless}
 use Rattle.c_checker_rules.specs.Names.{Scope}
 
--- in a block of this place
-abbrev pub deeper : Place → Place
+-- in a block in this context
+abbrev pub deeper : Context → Context
 deeper p = record p { depth = suc p.depth }
 
--- in a loop of this place
-abbrev pub looping : Place → Place
+-- in a loop in this context
+abbrev pub looping : Context → Context
 looping p = record p { in_loop = true }
 
 -- the names that are declared, and how many locals the function has so far

@@ -2,7 +2,7 @@
 use Rattle.std.specs.Prelude.{ℕ, suc, List, [], ◌∷◌, ◌++◌, Option, Some, None, false}
 use Rattle.c_syntax.specs.declared.declaration.ReturnType.{ReturnType}
 use Rattle.c_syntax.specs.declared.declaration.ReturnType.TheVariants as R
-use Rattle.c_syntax.specs.Trees.{ExpressionTree, ValueTree, PlaceTree, SetTree, LocalTree, StartTree, StatementTree, StatementsTree}
+use Rattle.c_syntax.specs.Trees.{ExpressionTree, ValueTree, LvalueTree, SetTree, LocalTree, StartTree, StatementTree, StatementsTree}
 use Rattle.c_syntax.specs.Trees as T
 use Rattle.c_checker_rules.specs.declared.errors.CheckError.{CheckError}
 use Rattle.c_checker_rules.specs.declared.errors.CheckError.TheVariants.{VoidValue, StrayBreak}
@@ -10,7 +10,7 @@ use Rattle.c_checker_rules.specs.Told.{unless}
 use Rattle.c_checker_rules.specs.Names.{Scope, meaning_of}
 use Rattle.c_checker_rules.specs.Expressions.{variable_faults, array_faults, expression_faults}
 use Rattle.c_checker_rules.specs.Calls.{Functions, call_faults, value_faults}
-use Rattle.c_checker_rules.specs.declared.place.Place.{Place}
+use Rattle.c_checker_rules.specs.declared.context.Context.{Context}
 use Rattle.c_checker_rules.specs.Locals.{deeper, looping, Here, left, local_faults, with_local}
 
 abbrev pub with_start : ℕ → Here → StartTree → Here
@@ -44,12 +44,12 @@ abbrev pub optional_faults : {A : Type 0} → (A → List CheckError) → Option
 optional_faults faults None = []
 optional_faults faults (Some x) = faults x
 
-abbrev pub place_faults : Scope → PlaceTree → List CheckError
-place_faults scope (T.Name x) = variable_faults (meaning_of scope x) x.offset
-place_faults scope (T.Cell a e) = array_faults (meaning_of scope a) a.offset ++ expression_faults scope e
+abbrev pub lvalue_faults : Scope → LvalueTree → List CheckError
+lvalue_faults scope (T.Name x) = variable_faults (meaning_of scope x) x.offset
+lvalue_faults scope (T.Cell a e) = array_faults (meaning_of scope a) a.offset ++ expression_faults scope e
 
 abbrev pub set_faults : Scope → SetTree → List CheckError
-set_faults scope s = place_faults scope s.place ++ expression_faults scope s.value
+set_faults scope s = lvalue_faults scope s.lvalue ++ expression_faults scope s.value
 
 -- The scope of a local begins before its value (6.2.1, paragraph 7).
 abbrev pub start_faults : ℕ → Here → StartTree → List CheckError
@@ -69,7 +69,7 @@ return_faults f scope (R.Value t) at None = VoidValue at ∷ []
 return_faults f scope (R.Value t) at (Some v) = value_faults f scope v
 
 abbrev mutual
-  pub statement_faults : Functions → Place → Here → StatementTree → List CheckError
+  pub statement_faults : Functions → Context → Here → StatementTree → List CheckError
   statement_faults f p h T.Empty = []
   statement_faults f p h (T.Local l) = declaration_faults f p.depth h l
   statement_faults f p h (T.Block s) = statements_faults f (deeper p) h s
@@ -89,6 +89,6 @@ abbrev mutual
   statement_faults f p h (T.Continue at) = unless p.in_loop (StrayBreak at)
   statement_faults f p h (T.Return at v) = return_faults f h.scope p.result at v
 
-  pub statements_faults : Functions → Place → Here → StatementsTree → List CheckError
+  pub statements_faults : Functions → Context → Here → StatementsTree → List CheckError
   statements_faults f p h T.Done = []
   statements_faults f p h (T.First s rest) = statement_faults f p h s ++ statements_faults f p (after p.depth h s) rest

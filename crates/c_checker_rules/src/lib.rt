@@ -2,14 +2,14 @@
 //! cut to this project's profile). Its types are the words of the rules; `specs/` has the rules.
 #![tactic(auto)]
 
+mod context;
 mod errors;
 mod meaning;
-mod place;
 mod program;
 mod signature;
 
+pub use context::Context;
 pub use errors::CheckError;
 pub use meaning::Meaning;
-pub use place::Place;
 pub use program::CProgram;
 pub use signature::Signature;

@@ -1,4 +1,4 @@
--- A checked program without its places in memory: what every meaning speaks of.
+-- A checked program without its addresses in memory: what every meaning speaks of.
 use Rattle.std.specs.Prelude.{ℕ, List}
 use Rattle.ints.specs.declared.operators.Op.{Op}
 use Rattle.c_program.specs.declared.action.Target.{Target}

@@ -1,4 +1,4 @@
--- The tree that a value of the code stands for: the same, without its places in memory.
+-- The tree that a value of the code stands for: the same, without its addresses in memory.
 use Rattle.std.specs.Prelude.{List, [], ◌∷◌, map}
 use Rattle.c_program.specs.Trees.{TermTree, GivenTree, ActionTree, ActionsTree, FunctionTree}
 use Rattle.c_program.specs.Trees as T

@@ -9,12 +9,12 @@ use Rattle.c_syntax.specs.declared.token.Token.{Token}
 use Rattle.c_syntax.specs.declared.token.TokenKind.TheVariants as Kind
 use Rattle.c_syntax.specs.declared.token.TokenKind.{TokenKind}
 use Rattle.c_syntax.specs.declared.identifier.Identifier.{Identifier}
-use Rattle.c_syntax.specs.Trees.{ExpressionTree, CallTree, ValueTree, PlaceTree, SetTree, LocalTree, StartTree}
+use Rattle.c_syntax.specs.Trees.{ExpressionTree, CallTree, ValueTree, LvalueTree, SetTree, LocalTree, StartTree}
 use Rattle.c_syntax.specs.Trees as T
 use Rattle.c_syntax.specs.Parts.{OneAt, Sign, Word, IsName, IsType, ◌⨾◌, Commas}
 use Rattle.c_syntax.specs.Expressions.{IsExpression}
-use Rattle.c_syntax.specs.Statements.{IsCall, IsValue, IsPlace, IsSet, IsLocalValue, IsLocal}
-use Rattle.c_syntax.specs.Heights.{expression_height, arguments_height, call_height, value_height, place_height, set_height, optional_height, local_height, IfThere}
+use Rattle.c_syntax.specs.Statements.{IsCall, IsValue, IsLvalue, IsSet, IsLocalValue, IsLocal}
+use Rattle.c_syntax.specs.Heights.{expression_height, arguments_height, call_height, value_height, lvalue_height, set_height, optional_height, local_height, IfThere}
 use Rattle.c_reader_tokens.specs.Reading.{Reading, ◌>>=◌}
 use Rattle.c_reader_tokens.specs.Peeking.{is_sign, is_next, is_sign_next, is_word_next, is_call_next}
 use Rattle.c_reader_tokens.specs.Tokens.{sign, placed_word, placed_name, integer_type}
@@ -25,7 +25,7 @@ use Rattle.c_reader_expression_laws.specs.Reading.{expression_at}
 use Rattle.c_reader_expression_laws.proofs.Continuing.{ends_behind}
 use Rattle.c_reader_expression_laws.proofs.Laws.{expression_again}
 use Rattle.c_reader_productions.specs.Combining.{◌▷◌, ◌◁◌, ◌&◌, made, repeated, each, commas}
-use Rattle.c_reader_productions.specs.Parts.{less, name, arguments, call, value, is_cell_next, cell, place, set, local_value, local}
+use Rattle.c_reader_productions.specs.Parts.{less, name, arguments, call, value, is_cell_next, cell, lvalue, set, local_value, local}
 use Rattle.c_reader_productions.proofs.Laws.{IsWhole, Any, Whatever, after', before', both', made_again, only', either_first, either_second, under_again, Each, AllFit}
 use Rattle.c_reader_productions.proofs.PartsTaken.{sign_mark}
 use Rattle.c_reader_productions.proofs.Beginning.{expression_begins, not_sign, expression_no_call}
@@ -229,18 +229,18 @@ passes_is passes kind b e xs rest s = rw (s.parts, s.is) e
 pub starts_name : (x : Identifier) (xs : List Token) → IsName x xs → Starts (Kind.Name x.name) xs
 starts_name x xs d = starts_placed (Kind.Name x.name) x.offset xs d
 
-cell_again : (fuel : ℕ) (a : Identifier) (e : ExpressionTree) (xs rest : List Token) → place_height (T.Cell a e) ≤ fuel → IsPlace (T.Cell a e) xs → cell fuel (xs ++ rest) ≡ Ok (T.Cell a e, rest)
+cell_again : (fuel : ℕ) (a : Identifier) (e : ExpressionTree) (xs rest : List Token) → lvalue_height (T.Cell a e) ≤ fuel → IsLvalue (T.Cell a e) xs → cell fuel (xs ++ rest) ≡ Ok (T.Cell a e, rest)
 unfolding cell less
 cell_again zero a e xs rest low d = absurd (omega arith)
 cell_again (suc r) a e xs rest low d =
     made_again (λ v. T.Cell v.0 v.1) (both' (name_whole r) (after' (sign_mark LeftBracket) (before' (expression_whole r) (sign_mark RightBracket) (λ e ys rest s. ends_behind RightBracket refl refl refl 0 ys rest s))) (λ x e ys rest d k. tt)) (a, e) xs rest (omega arith, omega arith) d tt
 
-place_again : (fuel : ℕ) (p : PlaceTree) (xs rest : List Token) → place_height p ≤ fuel → IsPlace p xs → is_sign_next LeftBracket rest ≡ false → place fuel (xs ++ rest) ≡ Ok (p, rest)
-unfolding place
-place_again fuel (T.Name x) xs rest low d free =
+lvalue_again : (fuel : ℕ) (p : LvalueTree) (xs rest : List Token) → lvalue_height p ≤ fuel → IsLvalue p xs → is_sign_next LeftBracket rest ≡ false → lvalue fuel (xs ++ rest) ≡ Ok (p, rest)
+unfolding lvalue
+lvalue_again fuel (T.Name x) xs rest low d free =
     let other : is_cell_next (xs ++ rest) ≡ false = rw (d.3, d.1, free) refl in
     either_second is_cell_next (cell fuel) (made (λ x. T.Name x) (name fuel)) (xs ++ rest) other ∙ made_again (λ x. T.Name x) (name_whole fuel) x xs rest low d tt
-place_again fuel (T.Cell a e) xs rest low d free =
+lvalue_again fuel (T.Cell a e) xs rest low d free =
     let n = d.2 in
     let q = d.3 in
     let behind : is_sign_next LeftBracket (d.1 ++ rest) ≡ true =
@@ -248,17 +248,17 @@ place_again fuel (T.Cell a e) xs rest low d free =
     let next : is_cell_next (xs ++ rest) ≡ true = subst (λ l. is_cell_next l ≡ true) (sym (parts_behind xs d.0 d.1 rest d.4)) (rw (n.3, n.1, behind) refl) in
     either_first is_cell_next (cell fuel) (made (λ x. T.Name x) (name fuel)) (xs ++ rest) next ∙ cell_again fuel a e xs rest low d
 
-place_whole : (fuel : ℕ) → IsWhole (place fuel) (λ p. place_height p ≤ fuel) IsPlace (λ p rest. is_sign_next LeftBracket rest ≡ false)
-place_whole fuel = record { again = place_again fuel }
+lvalue_whole : (fuel : ℕ) → IsWhole (lvalue fuel) (λ p. lvalue_height p ≤ fuel) IsLvalue (λ p rest. is_sign_next LeftBracket rest ≡ false)
+lvalue_whole fuel = record { again = lvalue_again fuel }
 
 set_again : (fuel : ℕ) (s : SetTree) (xs rest : List Token) → set_height s ≤ fuel → IsSet s xs → Ends 0 rest → set fuel (xs ++ rest) ≡ Ok (s, rest)
 unfolding set less
 set_again zero s xs rest low d e = absurd (omega arith)
 set_again (suc r) s xs rest low d e =
-    made_again (λ v. record { place = v.0; value = v.1 })
-    (both' (place_whole r) (after' (sign_mark Assign) (expression_whole r)) (λ p y ys rest d k.
+    made_again (λ v. record { lvalue = v.0; value = v.1 })
+    (both' (lvalue_whole r) (after' (sign_mark Assign) (expression_whole r)) (λ p y ys rest d k.
     passes_is (is_sign LeftBracket) (Kind.Punctuator Assign) false refl ys rest (starts_then (Kind.Punctuator Assign) ys d (starts_sign Assign d.0 d.2))))
-    (s.place, s.value) xs rest (omega arith, omega arith) d e
+    (s.lvalue, s.value) xs rest (omega arith, omega arith) d e
 
 pub set_whole : (fuel : ℕ) → IsWhole (set fuel) (λ s. set_height s ≤ fuel) IsSet (λ s rest. Ends 0 rest)
 set_whole fuel = record { again = set_again fuel }

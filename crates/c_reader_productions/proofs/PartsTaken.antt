@@ -7,12 +7,12 @@ use Rattle.c_syntax.specs.declared.punctuator.Punctuator.TheVariants.{LeftParent
 use Rattle.c_syntax.specs.declared.token.Token.{Token}
 use Rattle.c_syntax.specs.declared.token.TokenKind.TheVariants as Kind
 use Rattle.c_syntax.specs.declared.identifier.Identifier.{Identifier}
-use Rattle.c_syntax.specs.Trees.{ExpressionTree, CallTree, ValueTree, PlaceTree, SetTree, LocalTree, StartTree}
+use Rattle.c_syntax.specs.Trees.{ExpressionTree, CallTree, ValueTree, LvalueTree, SetTree, LocalTree, StartTree}
 use Rattle.c_syntax.specs.Trees as T
 use Rattle.c_syntax.specs.Parts.{OneAt, Sign, Word, IsName, IsType, ◌⨾◌, Perhaps, Commas}
 use Rattle.c_syntax.specs.Expressions.{IsExpression}
-use Rattle.c_syntax.specs.Statements.{IsCall, IsValue, IsPlace, IsSet, IsLocalValue, IsLocal, IsStart}
-use Rattle.c_syntax.specs.Heights.{expression_height, arguments_height, call_height, value_height, place_height, set_height, optional_height, local_height, start_height, IfThere}
+use Rattle.c_syntax.specs.Statements.{IsCall, IsValue, IsLvalue, IsSet, IsLocalValue, IsLocal, IsStart}
+use Rattle.c_syntax.specs.Heights.{expression_height, arguments_height, call_height, value_height, lvalue_height, set_height, optional_height, local_height, start_height, IfThere}
 use Rattle.c_reader_tokens.specs.Reading.{Reading}
 use Rattle.c_reader_tokens.specs.Peeking.{is_sign_next, is_type_next, is_call_next}
 use Rattle.c_reader_tokens.specs.Tokens.{sign, word, placed_word, placed_name, integer_type}
@@ -21,7 +21,7 @@ use Rattle.c_reader_tokens.proofs.Tokens.{sign_takes, sign_again, word_takes, wo
 use Rattle.c_reader_expression_laws.specs.Reading.{expression_at}
 use Rattle.c_reader_expression_laws.proofs.Laws.{expression_takes}
 use Rattle.c_reader_productions.specs.Combining.{◌▷◌, ◌◁◌, ◌&◌, made, either, commas}
-use Rattle.c_reader_productions.specs.Parts.{under, name, arguments, call, value, is_cell_next, cell, place, set, local_value, local, start_local, start_set, start_nothing, start}
+use Rattle.c_reader_productions.specs.Parts.{under, name, arguments, call, value, is_cell_next, cell, lvalue, set, local_value, local, start_local, start_set, start_nothing, start}
 use Rattle.c_reader_productions.proofs.Laws.{IsMark, IsTaken, IsSound, Any, Whatever, after, before, both, made_takes, either_takes, only, under_takes, Each, AllFit, each_sound}
 
 pub sign_mark : (p : Punctuator) → IsMark (sign p) (Sign p)
@@ -116,28 +116,28 @@ value_sound fuel = record {
 
 -- ---- what a `for` sets
 
-cell_sound : (fuel : ℕ) → IsSound (cell fuel) (λ p. place_height p ≤ fuel) IsPlace Any
+cell_sound : (fuel : ℕ) → IsSound (cell fuel) (λ p. lvalue_height p ≤ fuel) IsLvalue Any
 unfolding cell
 cell_sound fuel = record {
-  takes = under_takes (λ r p. place_height p ≤ r) (λ r. record {
-    takes = made_takes (λ v. T.Cell v.0 v.1) (both (name_sound r) (after (sign_mark LeftBracket) (before (expression_sound r) (sign_mark RightBracket)))) (λ p. place_height p ≤ suc r) IsPlace Any
+  takes = under_takes (λ r p. lvalue_height p ≤ r) (λ r. record {
+    takes = made_takes (λ v. T.Cell v.0 v.1) (both (name_sound r) (after (sign_mark LeftBracket) (before (expression_sound r) (sign_mark RightBracket)))) (λ p. lvalue_height p ≤ suc r) IsLvalue Any
         (λ v f. let one = f.0 in let low = f.1 in omega arith) (λ v xs d. d) (λ v rest l. tt);
   }) (λ r x f. f) fuel;
 }
 
-pub place_sound : (fuel : ℕ) → IsSound (place fuel) (λ p. place_height p ≤ fuel) IsPlace Any
-unfolding place
-place_sound fuel = record {
+pub lvalue_sound : (fuel : ℕ) → IsSound (lvalue fuel) (λ p. lvalue_height p ≤ fuel) IsLvalue Any
+unfolding lvalue
+lvalue_sound fuel = record {
   takes = either_takes is_cell_next (cell fuel) (made (λ x. T.Name x) (name fuel))
       (λ ts x rest h. (cell_sound fuel).takes ts x rest)
-      (λ ts x rest h. made_takes (λ x. T.Name x) (name_sound fuel) (λ p. place_height p ≤ fuel) IsPlace Any (λ v f. f) (λ v xs d. d) (λ v r l. tt) ts x rest);
+      (λ ts x rest h. made_takes (λ x. T.Name x) (name_sound fuel) (λ p. lvalue_height p ≤ fuel) IsLvalue Any (λ v f. f) (λ v xs d. d) (λ v r l. tt) ts x rest);
 }
 
 pub set_sound : (fuel : ℕ) → IsSound (set fuel) (λ s. set_height s ≤ fuel) IsSet Any
 unfolding set
 set_sound fuel = record {
   takes = under_takes (λ r s. set_height s ≤ r) (λ r. record {
-    takes = made_takes (λ v. record { place = v.0; value = v.1 }) (both (place_sound r) (after (sign_mark Assign) (expression_sound r))) (λ s. set_height s ≤ suc r) IsSet Any
+    takes = made_takes (λ v. record { lvalue = v.0; value = v.1 }) (both (lvalue_sound r) (after (sign_mark Assign) (expression_sound r))) (λ s. set_height s ≤ suc r) IsSet Any
         (λ v f. let one = f.0 in let low = f.1 in omega arith) (λ v xs d. d) (λ v rest l. tt);
   }) (λ r x f. f) fuel;
 }

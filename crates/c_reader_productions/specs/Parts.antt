@@ -1,10 +1,10 @@
--- How the parts of statements are read that are no statements: calls, values, places and the like. The number is
+-- How the parts of statements are read that are no statements: calls, values, lvalues and the like. The number is
 -- the fuel: a tree that is higher is not read.
 use Rattle.std.specs.Prelude.{ℕ, zero, suc, Bool, false, List, [], ◌∷◌, Option, Result, Ok, Err, ◌&&◌, if◌then◌else◌}
 use Rattle.c_syntax.specs.declared.punctuator.Punctuator.TheVariants.{LeftParenthesis, RightParenthesis, LeftBracket, RightBracket, Semicolon, Assign}
 use Rattle.c_syntax.specs.declared.token.Token.{Token}
 use Rattle.c_syntax.specs.declared.identifier.Identifier.{Identifier}
-use Rattle.c_syntax.specs.Trees.{ExpressionTree, CallTree, ValueTree, PlaceTree, SetTree, LocalTree, StartTree}
+use Rattle.c_syntax.specs.Trees.{ExpressionTree, CallTree, ValueTree, LvalueTree, SetTree, LocalTree, StartTree}
 use Rattle.c_syntax.specs.Trees as T
 use Rattle.c_reader_tokens.specs.declared.fault.Fault.{Fault}
 use Rattle.c_reader_tokens.specs.declared.fault.Fault.TheVariants.{TooDeep}
@@ -43,14 +43,14 @@ abbrev pub is_cell_next : List Token → Bool
 is_cell_next [] = false
 is_cell_next (t ∷ ts) = is_name t.kind && is_sign_next LeftBracket ts
 
-unfoldable pub cell : ℕ → Reading PlaceTree
+unfoldable pub cell : ℕ → Reading LvalueTree
 cell fuel ts = under (λ r. made (λ v. T.Cell v.0 v.1) (name r & sign LeftBracket ▷ expression_at r 0 ◁ sign RightBracket)) fuel ts
 
-unfoldable pub place : ℕ → Reading PlaceTree
-place fuel ts = either is_cell_next (cell fuel) (made (λ x. T.Name x) (name fuel)) ts
+unfoldable pub lvalue : ℕ → Reading LvalueTree
+lvalue fuel ts = either is_cell_next (cell fuel) (made (λ x. T.Name x) (name fuel)) ts
 
 unfoldable pub set : ℕ → Reading SetTree
-set fuel ts = under (λ r. made (λ v. record { place = v.0; value = v.1 }) (place r & sign Assign ▷ expression_at r 0)) fuel ts
+set fuel ts = under (λ r. made (λ v. record { lvalue = v.0; value = v.1 }) (lvalue r & sign Assign ▷ expression_at r 0)) fuel ts
 
 unfoldable pub local_value : ℕ → Reading (Option ValueTree)
 local_value fuel ts = either (is_sign_next Assign) (there (sign Assign ▷ value fuel)) missing ts

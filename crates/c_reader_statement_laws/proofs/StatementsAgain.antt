@@ -11,11 +11,11 @@ use Rattle.c_syntax.specs.declared.token.Token.{Token}
 use Rattle.c_syntax.specs.declared.token.TokenKind.{TokenKind}
 use Rattle.c_syntax.specs.declared.token.TokenKind.TheVariants as Kind
 use Rattle.c_syntax.specs.declared.identifier.Identifier.{Identifier}
-use Rattle.c_syntax.specs.Trees.{ExpressionTree, CallTree, LocalTree, ValueTree, PlaceTree, SetTree, StartTree, StatementTree, StatementsTree}
+use Rattle.c_syntax.specs.Trees.{ExpressionTree, CallTree, LocalTree, ValueTree, LvalueTree, SetTree, StartTree, StatementTree, StatementsTree}
 use Rattle.c_syntax.specs.Trees as T
 use Rattle.c_syntax.specs.Parts.{OneAt, Sign, Word, IsName, IsType, ◌⨾◌, Perhaps}
 use Rattle.c_syntax.specs.Expressions.{IsExpression}
-use Rattle.c_syntax.specs.Statements.{IsCall, IsLocal, IsValue, IsPlace, IsSet, IsStart, IsStatementIn, AreStatements}
+use Rattle.c_syntax.specs.Statements.{IsCall, IsLocal, IsValue, IsLvalue, IsSet, IsStart, IsStatementIn, AreStatements}
 use Rattle.c_syntax.specs.Heights.{expression_height, call_height, value_height, set_height, optional_height, start_height, statement_height, statements_height, IfThere}
 use Rattle.c_reader_tokens.specs.Reading.{◌>>=◌}
 use Rattle.c_reader_tokens.specs.Peeking.{is_sign, is_word, is_sign_next, is_word_next, is_type_next, is_call_next}
@@ -43,16 +43,16 @@ value_no_semicolon (T.Plain e) xs rest d = not_sign Semicolon refl xs rest (expr
 value_no_semicolon (T.Called c) xs rest d =
     passes_is (is_sign Semicolon) (Kind.Name c.callee.name) false refl xs rest (starts_then (Kind.Name c.callee.name) xs d (starts_name c.callee d.0 d.2))
 
-abbrev pub set_name : PlaceTree → Identifier
+abbrev pub set_name : LvalueTree → Identifier
 set_name (T.Name x) = x
 set_name (T.Cell a e) = a
 
-place_starts : (p : PlaceTree) (xs : List Token) → IsPlace p xs → Starts (Kind.Name (set_name p).name) xs
-place_starts (T.Name x) xs d = starts_name x xs d
-place_starts (T.Cell a e) xs d = starts_then (Kind.Name a.name) xs d (starts_name a d.0 d.2)
+lvalue_starts : (p : LvalueTree) (xs : List Token) → IsLvalue p xs → Starts (Kind.Name (set_name p).name) xs
+lvalue_starts (T.Name x) xs d = starts_name x xs d
+lvalue_starts (T.Cell a e) xs d = starts_then (Kind.Name a.name) xs d (starts_name a d.0 d.2)
 
-set_starts : (s : SetTree) (xs : List Token) → IsSet s xs → Starts (Kind.Name (set_name s.place).name) xs
-set_starts s xs d = starts_then (Kind.Name (set_name s.place).name) xs d (place_starts s.place d.0 d.2)
+set_starts : (s : SetTree) (xs : List Token) → IsSet s xs → Starts (Kind.Name (set_name s.lvalue).name) xs
+set_starts s xs d = starts_then (Kind.Name (set_name s.lvalue).name) xs d (lvalue_starts s.lvalue d.0 d.2)
 
 type_next : (t : IntegerType) (xs rest : List Token) → IsType t xs → is_type_next (xs ++ rest) ≡ true
 type_next Int xs rest s = rw (s.2, s.1) refl
@@ -82,9 +82,9 @@ start_again fuel T.StartNothing xs rest low d =
     either_first (is_sign_next Semicolon) start_nothing (either is_type_next (start_local fuel) (start_set fuel)) (xs ++ rest) (is_sign_next-again Semicolon xs rest d)
     ∙ bind_is (sign Semicolon (xs ++ rest)) (λ r. done (T.StartNothing, r)) rest (sign_again Semicolon xs rest d)
 start_again fuel (T.StartSet s) xs rest low d =
-    let n = starts_then (Kind.Name (set_name s.place).name) xs d (set_starts s d.0 d.2) in
+    let n = starts_then (Kind.Name (set_name s.lvalue).name) xs d (set_starts s d.0 d.2) in
     let no_type : is_type_next (xs ++ rest) ≡ false = rw (n.parts, n.is) refl in
-    either_second (is_sign_next Semicolon) start_nothing (either is_type_next (start_local fuel) (start_set fuel)) (xs ++ rest) (passes_is (is_sign Semicolon) (Kind.Name (set_name s.place).name) false refl xs rest n)
+    either_second (is_sign_next Semicolon) start_nothing (either is_type_next (start_local fuel) (start_set fuel)) (xs ++ rest) (passes_is (is_sign Semicolon) (Kind.Name (set_name s.lvalue).name) false refl xs rest n)
     ∙ either_second is_type_next (start_local fuel) (start_set fuel) (xs ++ rest) no_type
     ∙ made_again (λ s. T.StartSet s) (before' (set_whole fuel) (sign_mark Semicolon) (λ s ys r k. ends_behind Semicolon refl refl refl 0 ys r k)) s xs rest low d tt
 start_again fuel (T.StartLocal t x e) xs rest low d =
@@ -108,7 +108,7 @@ condition_whole fuel = record {
 
 step_whole : (fuel : ℕ) → IsWhole (step fuel) (λ o. optional_height set_height o ≤ fuel) (Perhaps IsSet) (λ o rest. (is_sign_next RightParenthesis rest ≡ true) × Ends 0 rest)
 step_whole fuel = record {
-  again = λ o xs rest f d e. (unless' (is_sign_next RightParenthesis) (set_whole fuel) (λ s ys r k. passes_is (is_sign RightParenthesis) (Kind.Name (set_name s.place).name) false refl ys r (set_starts s ys k))).again o xs rest (option_fits set_height fuel o f) d (option_ends o rest e);
+  again = λ o xs rest f d e. (unless' (is_sign_next RightParenthesis) (set_whole fuel) (λ s ys r k. passes_is (is_sign RightParenthesis) (Kind.Name (set_name s.lvalue).name) false refl ys r (set_starts s ys k))).again o xs rest (option_fits set_height fuel o f) d (option_ends o rest e);
 } where
   option_ends : (o : Option SetTree) (rest : List Token) → (is_sign_next RightParenthesis rest ≡ true) × Ends 0 rest → EndsOption (Passes (is_sign_next RightParenthesis) true) (λ e r. Ends 0 r) o rest
   option_ends None rest e = e.0

@@ -12,7 +12,7 @@ use Rattle.c_reader_expression_laws.proofs.Laws.{expression_stays}
 use Rattle.c_reader_statement_laws.specs.declared.first.First.{First}
 use Rattle.c_reader_statement_laws.specs.declared.first.First.TheVariants as F
 use Rattle.c_reader_productions.specs.Combining.{◌▷◌, ◌◁◌, ◌&◌, made, missing, there, repeated, each, commas}
-use Rattle.c_reader_productions.specs.Parts.{less, name, arguments, call, value, is_cell_next, cell, place, set, local_value, local, start_local, start_set, start_nothing, start}
+use Rattle.c_reader_productions.specs.Parts.{less, name, arguments, call, value, is_cell_next, cell, lvalue, set, local_value, local, start_local, start_set, start_nothing, start}
 use Rattle.c_reader_statement_laws.specs.Reading.{first_of, call_statement, assign, store, return_statement, branched, statements_of, Below, goes_on, items_in, block_in, branches_in, if_in, while_in, for_in, by_first, too_high, statement_at}
 use Rattle.c_reader_productions.proofs.Laws.{Keeps, keeps_same, keeps_after, keeps_before, keeps_both, keeps_made, keeps_either, keeps_under}
 
@@ -58,15 +58,15 @@ cell_keeps fuel more le ts =
     keeps_under (λ r. made (λ v. T.Cell v.0 v.1) (name r & sign LeftBracket ▷ expression_at r 0 ◁ sign RightBracket))
     (λ r s l. keeps_made (λ v. T.Cell v.0 v.1) (keeps_both (name_keeps r s l) (keeps_after (sign LeftBracket) (keeps_before (sign RightBracket) (expression_keeps r s l))))) fuel more le ts
 
-place_keeps : (fuel more : ℕ) → fuel ≤ more → Keeps (place fuel) (place more)
-unfolding place
-place_keeps fuel more le ts = keeps_either is_cell_next (cell_keeps fuel more le) (keeps_made (λ x. T.Name x) (name_keeps fuel more le)) ts
+lvalue_keeps : (fuel more : ℕ) → fuel ≤ more → Keeps (lvalue fuel) (lvalue more)
+unfolding lvalue
+lvalue_keeps fuel more le ts = keeps_either is_cell_next (cell_keeps fuel more le) (keeps_made (λ x. T.Name x) (name_keeps fuel more le)) ts
 
 set_keeps : (fuel more : ℕ) → fuel ≤ more → Keeps (set fuel) (set more)
 unfolding set
 set_keeps fuel more le ts =
-    keeps_under (λ r. made (λ v. record { place = v.0; value = v.1 }) (place r & sign Assign ▷ expression_at r 0))
-    (λ r s l. keeps_made (λ v. record { place = v.0; value = v.1 }) (keeps_both (place_keeps r s l) (keeps_after (sign Assign) (expression_keeps r s l)))) fuel more le ts
+    keeps_under (λ r. made (λ v. record { lvalue = v.0; value = v.1 }) (lvalue r & sign Assign ▷ expression_at r 0))
+    (λ r s l. keeps_made (λ v. record { lvalue = v.0; value = v.1 }) (keeps_both (lvalue_keeps r s l) (keeps_after (sign Assign) (expression_keeps r s l)))) fuel more le ts
 
 local_value_keeps : (fuel more : ℕ) → fuel ≤ more → Keeps (local_value fuel) (local_value more)
 unfolding local_value

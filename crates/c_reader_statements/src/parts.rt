@@ -1,18 +1,18 @@
 //! Readers of the parts of statements that are no statements.
 
 ghost use Rattle.std.specs.Prelude.{◌≡◌, ◌≢◌, ◌<◌, suc, IfOk, IfErr, Ok, Err, map, length};
-ghost use Rattle.c_syntax.specs.Views.{expression_tree, call_tree, value_tree, place_tree, set_tree, local_tree, start_tree, optional_tree};
+ghost use Rattle.c_syntax.specs.Views.{expression_tree, call_tree, value_tree, lvalue_tree, set_tree, local_tree, start_tree, optional_tree};
 ghost use Rattle.c_reader_tokens.specs.Tokens.{sign};
 ghost use Rattle.c_reader_expression_laws.specs.Reading.{expression_at};
 ghost use Rattle.c_reader_productions.specs.Combining.{commas};
-ghost use Rattle.c_reader_productions.specs.Parts.{less, name, arguments, call, value, is_cell_next, cell, place, set, local_value, local, start_local, start_set, start};
+ghost use Rattle.c_reader_productions.specs.Parts.{less, name, arguments, call, value, is_cell_next, cell, lvalue, set, local_value, local, start_local, start_set, start};
 
 use c_reader_expressions::expression;
 use c_reader_tokens::{
     Fault, is_call_next, is_name_next, is_sign_next, is_type_next, read_name, read_sign, read_type,
 };
 use c_syntax::{
-    Call, Expression, ForStart, Identifier, Local, Place, Punctuator, Set, Token, Value,
+    Call, Expression, ForStart, Identifier, Local, Lvalue, Punctuator, Set, Token, Value,
 };
 use lang_base::Row;
 use owned::{beside, ok};
@@ -137,8 +137,8 @@ pub(crate) fn is_cell_next(tokens: &[Token]) -> bool
 }
 
 #[tactic(auto, unfolding(c_reader_productions::specs::Parts::cell))]
-fn read_cell(alloc: Global, fuel: u8, tokens: &[Token]) -> Result<(Place, &[Token]), Fault>
-    ensures ok { IfOk result (λ r. cell fuel tokens.now ≡ Ok (place_tree r.0, r.1.now)) }
+fn read_cell(alloc: Global, fuel: u8, tokens: &[Token]) -> Result<(Lvalue, &[Token]), Fault>
+    ensures ok { IfOk result (λ r. cell fuel tokens.now ≡ Ok (lvalue_tree r.0, r.1.now)) }
     ensures err { IfErr result (λ e. e ≢ Fault.NoMemory → cell fuel tokens.now ≡ Err e) }
 {
     let below = ok!(one_less(fuel));
@@ -147,19 +147,19 @@ fn read_cell(alloc: Global, fuel: u8, tokens: &[Token]) -> Result<(Place, &[Toke
     let (array, (index, rest)) = ok!(beside(array, expression(alloc, below, 0, rest)));
     let (cell, rest) = ok!(beside((array, index), read_sign(Punctuator::RightBracket, rest)));
     let (array, index) = cell;
-    Ok((Place::Element(array, index), rest))
+    Ok((Lvalue::Element(array, index), rest))
 }
 
-#[tactic(auto, unfolding(c_reader_productions::specs::Parts::place))]
-fn read_place(alloc: Global, fuel: u8, tokens: &[Token]) -> Result<(Place, &[Token]), Fault>
-    ensures ok { IfOk result (λ r. place fuel tokens.now ≡ Ok (place_tree r.0, r.1.now)) }
-    ensures err { IfErr result (λ e. e ≢ Fault.NoMemory → place fuel tokens.now ≡ Err e) }
+#[tactic(auto, unfolding(c_reader_productions::specs::Parts::lvalue))]
+fn read_lvalue(alloc: Global, fuel: u8, tokens: &[Token]) -> Result<(Lvalue, &[Token]), Fault>
+    ensures ok { IfOk result (λ r. lvalue fuel tokens.now ≡ Ok (lvalue_tree r.0, r.1.now)) }
+    ensures err { IfErr result (λ e. e ≢ Fault.NoMemory → lvalue fuel tokens.now ≡ Err e) }
 {
     if is_cell_next(tokens) {
         return read_cell(alloc, fuel, tokens);
     }
     let (variable, rest) = ok!(read_name_in(alloc, fuel, tokens));
-    Ok((Place::Variable(variable), rest))
+    Ok((Lvalue::Variable(variable), rest))
 }
 
 /// What a `for` sets.
@@ -169,10 +169,10 @@ pub(crate) fn read_set(alloc: Global, fuel: u8, tokens: &[Token]) -> Result<(Set
     ensures err { IfErr result (λ e. e ≢ Fault.NoMemory → set fuel tokens.now ≡ Err e) }
 {
     let below = ok!(one_less(fuel));
-    let (place, rest) = ok!(read_place(alloc, below, tokens));
-    let (place, rest) = ok!(beside(place, read_sign(Punctuator::Assign, rest)));
-    let (place, (value, rest)) = ok!(beside(place, expression(alloc, below, 0, rest)));
-    Ok((Set { place, value }, rest))
+    let (lvalue, rest) = ok!(read_lvalue(alloc, below, tokens));
+    let (lvalue, rest) = ok!(beside(lvalue, read_sign(Punctuator::Assign, rest)));
+    let (lvalue, (value, rest)) = ok!(beside(lvalue, expression(alloc, below, 0, rest)));
+    Ok((Set { lvalue, value }, rest))
 }
 
 #[tactic(auto, unfolding(c_reader_productions::specs::Parts::local_value))]

@@ -2,7 +2,7 @@
 -- statement adds 1 to the highest of its parts.
 use Rattle.std.specs.Prelude.{ℕ, suc, ◌≤◌, List, [], ◌∷◌, Option, Some, None, max}
 use Rattle.std.specs.List.{AllByRecursion}
-use Rattle.c_syntax.specs.Trees.{ExpressionTree, CallTree, ValueTree, PlaceTree, SetTree, LocalTree, StartTree, StatementTree, StatementsTree, InitialTree, InitializerTree, DeclarationTree}
+use Rattle.c_syntax.specs.Trees.{ExpressionTree, CallTree, ValueTree, LvalueTree, SetTree, LocalTree, StartTree, StatementTree, StatementsTree, InitialTree, InitializerTree, DeclarationTree}
 use Rattle.c_syntax.specs.Trees as T
 
 -- no function and no initializer is higher
@@ -31,12 +31,12 @@ abbrev pub value_height : ValueTree → ℕ
 value_height (T.Plain e) = expression_height e
 value_height (T.Called c) = call_height c
 
-abbrev pub place_height : PlaceTree → ℕ
-place_height (T.Name x) = 1
-place_height (T.Cell a e) = suc (max 1 (expression_height e))
+abbrev pub lvalue_height : LvalueTree → ℕ
+lvalue_height (T.Name x) = 1
+lvalue_height (T.Cell a e) = suc (max 1 (expression_height e))
 
 abbrev pub set_height : SetTree → ℕ
-set_height s = suc (max (place_height s.place) (expression_height s.value))
+set_height s = suc (max (lvalue_height s.lvalue) (expression_height s.value))
 
 -- a part that may be missing
 abbrev pub optional_height : {A : Type 0} → (A → ℕ) → Option A → ℕ

@@ -12,7 +12,7 @@ use Rattle.c_syntax.specs.declared.keyword.Keyword.TheVariants as K
 use Rattle.c_syntax.specs.declared.punctuator.Punctuator.TheVariants.{LeftParenthesis, RightParenthesis, LeftBracket, RightBracket, LeftBrace, RightBrace, Semicolon, Assign}
 use Rattle.c_syntax.specs.declared.token.Token.{Token}
 use Rattle.c_syntax.specs.declared.token.TokenKind.TheVariants.{Keyword}
-use Rattle.c_syntax.specs.Trees.{CallTree, ValueTree, PlaceTree, SetTree, LocalTree, StartTree, StatementTree, StatementsTree}
+use Rattle.c_syntax.specs.Trees.{CallTree, ValueTree, LvalueTree, SetTree, LocalTree, StartTree, StatementTree, StatementsTree}
 use Rattle.c_syntax.specs.Trees as T
 use Rattle.c_syntax.specs.Parts.{OneAt, Sign, Word, IsName, IsType, ◌⨾◌, Nothing, Perhaps, Commas}
 use Rattle.c_syntax.specs.Expressions.{IsExpression}
@@ -24,12 +24,12 @@ abbrev pub IsValue : ValueTree → List Token → Type 0
 IsValue (T.Plain e) = IsExpression e
 IsValue (T.Called c) = IsCall c
 
-abbrev pub IsPlace : PlaceTree → List Token → Type 0
-IsPlace (T.Name x) = IsName x
-IsPlace (T.Cell a e) = IsName a ⨾ Sign LeftBracket ⨾ IsExpression e ⨾ Sign RightBracket
+abbrev pub IsLvalue : LvalueTree → List Token → Type 0
+IsLvalue (T.Name x) = IsName x
+IsLvalue (T.Cell a e) = IsName a ⨾ Sign LeftBracket ⨾ IsExpression e ⨾ Sign RightBracket
 
 abbrev pub IsSet : SetTree → List Token → Type 0
-IsSet s = IsPlace s.place ⨾ Sign Assign ⨾ IsExpression s.value
+IsSet s = IsLvalue s.lvalue ⨾ Sign Assign ⨾ IsExpression s.value
 
 abbrev pub IsLocalValue : Option ValueTree → List Token → Type 0
 IsLocalValue None = Nothing

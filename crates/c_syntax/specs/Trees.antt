@@ -1,4 +1,4 @@
--- A text's tree without its places in memory: what the grammar, the heights and every meaning speak of.
+-- A text's tree without its addresses in memory: what the grammar, the heights and every meaning speak of.
 -- (C99 6.5 to 6.9, cut to this project's profile.)
 use Rattle.std.specs.Prelude.{ℕ, List, Option}
 use Rattle.c_syntax.specs.declared.constant.Constant.{Constant}
@@ -30,12 +30,12 @@ pub data ValueTree : Type 0 where
   Called : (c : CallTree) → ValueTree
 
 -- what a `for` sets
-pub data PlaceTree : Type 0 where
-  Name : (x : Identifier) → PlaceTree
-  Cell : (a : Identifier) (e : ExpressionTree) → PlaceTree
+pub data LvalueTree : Type 0 where
+  Name : (x : Identifier) → LvalueTree
+  Cell : (a : Identifier) (e : ExpressionTree) → LvalueTree
 
 pub record SetTree : Type 0 where
-  pub place : PlaceTree
+  pub lvalue : LvalueTree
   pub value : ExpressionTree
 
 pub record LocalTree : Type 0 where

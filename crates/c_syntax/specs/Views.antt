@@ -1,14 +1,14 @@
--- The tree that a value of the code stands for: the same, without its places in memory.
+-- The tree that a value of the code stands for: the same, without its addresses in memory.
 use Rattle.std.specs.Prelude.{List, [], ◌∷◌, map, Option, Some, None}
-use Rattle.c_syntax.specs.Trees.{ExpressionTree, CallTree, ValueTree, PlaceTree, SetTree, LocalTree, StartTree, StatementTree, StatementsTree, InitialTree, InitializerTree, GlobalTree, FunctionTree, DeclarationTree}
+use Rattle.c_syntax.specs.Trees.{ExpressionTree, CallTree, ValueTree, LvalueTree, SetTree, LocalTree, StartTree, StatementTree, StatementsTree, InitialTree, InitializerTree, GlobalTree, FunctionTree, DeclarationTree}
 use Rattle.c_syntax.specs.Trees as T
 use Rattle.c_syntax.specs.declared.expression.Expression.{Expression}
 use Rattle.c_syntax.specs.declared.expression.Expression.TheVariants as E
 use Rattle.c_syntax.specs.declared.statement.Call as C
 use Rattle.c_syntax.specs.declared.statement.Value.{Value}
 use Rattle.c_syntax.specs.declared.statement.Value.TheVariants as V
-use Rattle.c_syntax.specs.declared.statement.Place.{Place}
-use Rattle.c_syntax.specs.declared.statement.Place.TheVariants as P
+use Rattle.c_syntax.specs.declared.statement.Lvalue.{Lvalue}
+use Rattle.c_syntax.specs.declared.statement.Lvalue.TheVariants as lvalue
 use Rattle.c_syntax.specs.declared.statement.Set.{Set}
 use Rattle.c_syntax.specs.declared.statement.Local as L
 use Rattle.c_syntax.specs.declared.statement.ForStart.{ForStart}
@@ -45,12 +45,12 @@ abbrev pub value_tree : Value → ValueTree
 value_tree (V.Expression e) = T.Plain (expression_tree e)
 value_tree (V.Call c) = T.Called (call_tree c)
 
-abbrev pub place_tree : Place → PlaceTree
-place_tree (P.Variable x) = T.Name x
-place_tree (P.Element a e) = T.Cell a (expression_tree e)
+abbrev pub lvalue_tree : Lvalue → LvalueTree
+lvalue_tree (lvalue.Variable x) = T.Name x
+lvalue_tree (lvalue.Element a e) = T.Cell a (expression_tree e)
 
 abbrev pub set_tree : Set → SetTree
-set_tree s = record { place = place_tree s.place; value = expression_tree s.value }
+set_tree s = record { lvalue = lvalue_tree s.lvalue; value = expression_tree s.value }
 
 abbrev pub local_tree : L.Local → LocalTree
 local_tree l = record { kind = l.kind; name = l.name; value = optional_tree value_tree l.value }

@@ -22,6 +22,6 @@ pub use expression::{BinaryOperator, Expression, UnaryOperator};
 pub use identifier::Identifier;
 pub use keyword::Keyword;
 pub use punctuator::Punctuator;
-pub use statement::{Call, ForHead, ForStart, Local, Place, Set, Statement, Value};
+pub use statement::{Call, ForHead, ForStart, Local, Lvalue, Set, Statement, Value};
 pub use token::{Name, Token, TokenKind};
 pub use unit::Unit;

@@ -19,15 +19,15 @@ pub enum Value {
 
 /// A name or a cell that a `for` sets.
 #[derive(Drop)]
-pub enum Place {
+pub enum Lvalue {
     Variable(Identifier),
     Element(Identifier, Expression),
 }
 
-/// A place becomes a value: what a `for` begins with, and what it does behind each turn.
+/// An lvalue is given a value: what a `for` begins with, and what it does behind each turn.
 #[derive(Drop)]
 pub struct Set {
-    pub place: Place,
+    pub lvalue: Lvalue,
     pub value: Expression,
 }
 

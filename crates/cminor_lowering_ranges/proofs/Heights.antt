@@ -7,7 +7,7 @@ use Rattle.c_syntax.specs.declared.expression.UnaryOperator.{UnaryOperator}
 use Rattle.c_syntax.specs.declared.expression.UnaryOperator.TheVariants as U
 use Rattle.c_syntax.specs.declared.expression.BinaryOperator.{BinaryOperator}
 use Rattle.c_syntax.specs.declared.expression.BinaryOperator.TheVariants as B
-use Rattle.c_syntax.specs.Trees.{ExpressionTree, CallTree, ValueTree, PlaceTree, SetTree, StartTree, StatementTree, StatementsTree}
+use Rattle.c_syntax.specs.Trees.{ExpressionTree, CallTree, ValueTree, LvalueTree, SetTree, StartTree, StatementTree, StatementsTree}
 use Rattle.c_syntax.specs.Trees as T
 use Rattle.c_syntax.specs.Heights as H
 use Rattle.c_checker_scopes.specs.Bound.{found}
@@ -163,14 +163,14 @@ give_plain_low n target scope e = omega (arith, give_low n target (P.Plain (term
 give_value_low : (n : ℕ) (target : Target) (f : Functions) (scope : Scope) (v : ValueTree) → action_height n (P.Give target (value_given f scope v)) ≤ 3 + 2 * H.value_height v
 give_value_low n target f scope v = omega (arith, give_low n target (value_given f scope v), value_low f scope v)
 
-set_low : (n : ℕ) (scope : Scope) (place : PlaceTree) (value : ExpressionTree) →
-    action_height n (set_action scope (record { place = place; value = value })) ≤ 5 * H.set_height (record { place = place; value = value })
+set_low : (n : ℕ) (scope : Scope) (lvalue : LvalueTree) (value : ExpressionTree) →
+    action_height n (set_action scope (record { lvalue = lvalue; value = value })) ≤ 5 * H.set_height (record { lvalue = lvalue; value = value })
 set_low n scope (T.Name x) value = omega (arith, give_plain_low n (target_of (meaning_of scope x)) scope value)
 set_low n scope (T.Cell a i) value = omega (arith, term_low scope i, term_low scope value)
 
 start_low : (n depth : ℕ) (h : Here) (start : StartTree) → action_height n (start_action depth h start) ≤ 1 + 5 * H.start_height start
 start_low n depth h T.StartNothing = omega arith
-start_low n depth h (T.StartSet s) = omega (arith, set_low n h.scope s.place s.value)
+start_low n depth h (T.StartSet s) = omega (arith, set_low n h.scope s.lvalue s.value)
 start_low n depth h (T.StartLocal t x e) = omega (arith, give_plain_low n (G.Local h.locals) (with_local depth h t x).scope e)
 
 condition_low : (scope : Scope) (e : Option ExpressionTree) → term_height (condition scope e) ≤ 1 + 2 * H.optional_height H.expression_height e
@@ -179,7 +179,7 @@ condition_low scope (Some e) = omega (arith, term_low scope e)
 
 step_low : (n : ℕ) (scope : Scope) (step : Option SetTree) → action_height n (step_action scope step) ≤ 1 + 5 * H.optional_height H.set_height step
 step_low n scope None = omega arith
-step_low n scope (Some s) = omega (arith, set_low n scope s.place s.value)
+step_low n scope (Some s) = omega (arith, set_low n scope s.lvalue s.value)
 
 declared_low : (n : ℕ) (f : Functions) (scope : Scope) (k : ℕ) (v : Option ValueTree) → action_height n (declared f scope k v) ≤ 5 * suc (max 1 (H.optional_height H.value_height v))
 declared_low n f scope k None = omega arith

@@ -6,7 +6,7 @@ use Rattle.c_syntax.specs.declared.identifier.Identifier.{Identifier}
 use Rattle.c_syntax.specs.Trees.{StartTree, StatementTree, StatementsTree}
 use Rattle.c_syntax.specs.Trees as T
 use Rattle.c_checker_rules.specs.declared.errors.CheckError.TheVariants.{Redeclared, Limit}
-use Rattle.c_checker_rules.specs.declared.place.Place.{Place}
+use Rattle.c_checker_rules.specs.declared.context.Context.{Context}
 use Rattle.c_checker_rules.specs.Told.{unless}
 use Rattle.c_checker_rules.specs.Calls.{Functions, value_faults}
 use Rattle.c_checker_rules.specs.Expressions.{expression_faults}
@@ -79,7 +79,7 @@ start_few depth h (T.StartLocal t x e) none within =
     one_more depth h x (none_before (local_faults depth h x) (expression_faults (with_local depth h t x).scope e) none)
 
 mutual
-  few : (f : Functions) (p : Place) (h : Here) (s : StatementTree) → statement_faults f p h s ≡ [] → h.locals ≤ most_locals → (after p.depth h s).locals ≤ most_locals
+  few : (f : Functions) (p : Context) (h : Here) (s : StatementTree) → statement_faults f p h s ≡ [] → h.locals ≤ most_locals → (after p.depth h s).locals ≤ most_locals
   few f p h T.Empty none within = within
   few f p h (T.Local l) none within =
       one_more p.depth h l.name (none_before (local_faults p.depth h l.name) (optional_faults (value_faults f (with_local p.depth h l.kind l.name).scope) l.value) none)
@@ -101,7 +101,7 @@ mutual
   few f p h (T.Continue at) none within = within
   few f p h (T.Return at v) none within = within
 
-  pub all_few : (f : Functions) (p : Place) (h : Here) (ss : StatementsTree) → statements_faults f p h ss ≡ [] → h.locals ≤ most_locals → (after_all p.depth h ss).locals ≤ most_locals
+  pub all_few : (f : Functions) (p : Context) (h : Here) (ss : StatementsTree) → statements_faults f p h ss ≡ [] → h.locals ≤ most_locals → (after_all p.depth h ss).locals ≤ most_locals
   all_few f p h T.Done none within = within
   all_few f p h (T.First s rest) none within =
       let behind = after p.depth h s in

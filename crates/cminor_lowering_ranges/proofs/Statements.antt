@@ -3,12 +3,12 @@ use Rattle.std.proofs.Common.{◌≡◌, ℕ, suc, ◌<◌, ◌≤◌, [], Optio
 use Rattle.std.specs.Prelude.{false}
 use Rattle.c_syntax.specs.declared.declaration.ReturnType.{ReturnType}
 use Rattle.c_syntax.specs.declared.declaration.ReturnType.TheVariants as R
-use Rattle.c_syntax.specs.Trees.{ExpressionTree, ValueTree, PlaceTree, SetTree, StartTree, StatementTree, StatementsTree}
+use Rattle.c_syntax.specs.Trees.{ExpressionTree, ValueTree, LvalueTree, SetTree, StartTree, StatementTree, StatementsTree}
 use Rattle.c_syntax.specs.Trees as T
 use Rattle.c_program.specs.declared.action.Target.TheVariants as G
 use Rattle.c_program.specs.Trees.{TermTree, ActionTree, ActionsTree}
 use Rattle.c_program.specs.Trees as P
-use Rattle.c_checker_rules.specs.declared.place.Place.{Place}
+use Rattle.c_checker_rules.specs.declared.context.Context.{Context}
 use Rattle.c_checker_rules.specs.Names.{Scope, meaning_of}
 use Rattle.c_checker_rules.specs.Terms.{term_of}
 use Rattle.c_checker_rules.specs.Expressions.{variable_faults, expression_faults}
@@ -37,8 +37,8 @@ ActionFits n a = StatementFits (suc n) (low_action n a)
 loop_fits : (n : ℕ) (c : TermTree) (body behind : ActionTree) → TermFits n c → ActionFits n body → ActionFits n behind → ActionFits n (P.Loop c body behind)
 loop_fits n c body behind cond inner step = (omega arith, ((cond, (tt, omega arith)), (inner, (step, tt))))
 
-set_fits : (n : ℕ) (scope : Scope) (place : PlaceTree) (value : ExpressionTree) → ScopeFits n scope →
-    IsHeld (set_action scope (record { place = place; value = value })) → ActionFits n (set_action scope (record { place = place; value = value }))
+set_fits : (n : ℕ) (scope : Scope) (lvalue : LvalueTree) (value : ExpressionTree) → ScopeFits n scope →
+    IsHeld (set_action scope (record { lvalue = lvalue; value = value })) → ActionFits n (set_action scope (record { lvalue = lvalue; value = value }))
 set_fits n scope (T.Name x) value fits words =
     give_fits n (target_of (meaning_of scope x)) (P.Plain (term_of scope value)) (target_fits n (meaning_of scope x) (meant_fits n scope x fits)) (term_fits n scope value fits words)
 set_fits n scope (T.Cell a i) value fits words =
@@ -47,7 +47,7 @@ set_fits n scope (T.Cell a i) value fits words =
 start_fits : (n depth : ℕ) (h : Here) (start : StartTree) → ScopeFits n h.scope → (with_start depth h start).locals ≤ n →
     IsHeld (start_action depth h start) → ActionFits n (start_action depth h start)
 start_fits n depth h T.StartNothing fits within words = tt
-start_fits n depth h (T.StartSet s) fits within words = set_fits n h.scope s.place s.value fits words
+start_fits n depth h (T.StartSet s) fits within words = set_fits n h.scope s.lvalue s.value fits words
 start_fits n depth h (T.StartLocal t x e) fits within words =
     let inner = (with_local depth h t x).scope in
     (omega arith, (tt, (give_fits n (G.Local h.locals) (P.Plain (term_of inner e)) within (term_fits n inner e (within, fits) words.1.1.0), tt)))
@@ -58,7 +58,7 @@ condition_fits n scope (Some e) fits words = term_fits n scope e fits words
 
 step_fits : (n : ℕ) (scope : Scope) (step : Option SetTree) → ScopeFits n scope → IsHeld (step_action scope step) → ActionFits n (step_action scope step)
 step_fits n scope None fits words = tt
-step_fits n scope (Some s) fits words = set_fits n scope s.place s.value fits words
+step_fits n scope (Some s) fits words = set_fits n scope s.lvalue s.value fits words
 
 module _ (n : ℕ) (f : Functions) (known : FunctionsFit f) where
   declared_fits : (scope : Scope) (k : ℕ) (v : Option ValueTree) → k < n → ScopeFits n scope → optional_faults (value_faults f scope) v ≡ [] →
@@ -73,7 +73,7 @@ module _ (n : ℕ) (f : Functions) (known : FunctionsFit f) where
   returned_fits scope (R.Value t) at (Some v) fits none words = give_fits n G.Caller _ tt (value_fits n f scope v known fits none words)
 
   mutual
-    statement_fits : (p : Place) (h : Here) (s : StatementTree) → ScopeFits n h.scope → (after p.depth h s).locals ≤ n → statement_faults f p h s ≡ [] →
+    statement_fits : (p : Context) (h : Here) (s : StatementTree) → ScopeFits n h.scope → (after p.depth h s).locals ≤ n → statement_faults f p h s ≡ [] →
         IsHeld (action_of f p.depth h s) → ActionFits n (action_of f p.depth h s)
     statement_fits p h T.Empty fits within none words = tt
     statement_fits p h (T.Local l) fits within none words =
@@ -121,7 +121,7 @@ module _ (n : ℕ) (f : Functions) (known : FunctionsFit f) where
     statement_fits p h (T.Continue at) fits within none words = omega arith
     statement_fits p h (T.Return at v) fits within none words = returned_fits h.scope p.result at v fits none words
 
-    pub statements_fit : (p : Place) (h : Here) (ss : StatementsTree) → ScopeFits n h.scope → (after_all p.depth h ss).locals ≤ n → statements_faults f p h ss ≡ [] →
+    pub statements_fit : (p : Context) (h : Here) (ss : StatementsTree) → ScopeFits n h.scope → (after_all p.depth h ss).locals ≤ n → statements_faults f p h ss ≡ [] →
         AreHeld (actions_of f p.depth h ss) → StatementsFit (suc n) (low_actions n (actions_of f p.depth h ss))
     statements_fit p h T.Done fits within none words = tt
     statements_fit p h (T.First s rest) fits within none words =

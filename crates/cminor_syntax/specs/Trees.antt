@@ -1,4 +1,4 @@
--- The trees of Cminor without their places in memory: what the meaning, the ranges and the spelling speak of.
+-- The trees of Cminor without their addresses in memory: what the meaning, the ranges and the spelling speak of.
 -- (Leroy 2009, section on Cminor; the exact forms are this project's own.)
 use Rattle.std.specs.Prelude.{ℕ, List, Option}
 use Rattle.ints.specs.declared.operators.Op.{Op}

@@ -1,4 +1,4 @@
--- The tree that a value of the code stands for: the same, without its places in memory.
+-- The tree that a value of the code stands for: the same, without its addresses in memory.
 use Rattle.std.specs.Prelude.{List, [], ◌∷◌, map, Option, Some, None}
 use Rattle.cminor_syntax.specs.Trees.{ExpressionTree, StatementTree, StatementsTree}
 use Rattle.cminor_syntax.specs.Trees as T

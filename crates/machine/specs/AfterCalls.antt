@@ -20,13 +20,13 @@ RegistersAreKept = (s : State) (before after : Data) (value : Option ℕ) (r : �
 abbrev pub SlotsAreKept : Type 0
 SlotsAreKept = (s : State) (before after : Data) (value : Option ℕ) (slot : ℕ) → value_at (InSlot slot) (words_after s before after None value) ≡ value_at (InSlot slot) before
 
--- the place of the result has it
+-- the location of the result has it
 abbrev pub ResultIsSet : Type 0
 ResultIsSet = (s : State) (before after : Data) (value : Option ℕ) (l : Location) → LiesIn before l → value_at l (words_after s before after (Some l) value) ≡ value
 
--- no other place is changed by that
-abbrev pub OtherPlacesStay : Type 0
-OtherPlacesStay = (s : State) (before after : Data) (value : Option ℕ) (target l : Location) → target ≢ l → value_at l (words_after s before after (Some target) value) ≡ value_at l (words_after s before after None value)
+-- no other location is changed by that
+abbrev pub OtherLocationsStay : Type 0
+OtherLocationsStay = (s : State) (before after : Data) (value : Option ℕ) (target l : Location) → target ≢ l → value_at l (words_after s before after (Some target) value) ≡ value_at l (words_after s before after None value)
 
 -- the globals are those that the callee left
 abbrev pub GlobalsGoOn : Type 0

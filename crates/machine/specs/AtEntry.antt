@@ -10,7 +10,7 @@ use Rattle.machine.specs.Data.{Data, value_at}
 abbrev pub ParametersAreSet : Type 0
 ParametersAreSet = (callee : Callee) (values : List (Option ℕ)) (d : Data) (k : ℕ) (l : Location) (v : Option ℕ) → AreDistinct callee.parameters → AllByRecursion (LocationFits callee.slots) callee.parameters → slice_get callee.parameters k ≡ Some l → slice_get values k ≡ Some v → value_at l (entered callee values d) ≡ v
 
--- no other place has a word
+-- no other location has a word
 abbrev pub NoOtherIsDefined : Type 0
 NoOtherIsDefined = (callee : Callee) (values : List (Option ℕ)) (d : Data) (l : Location) → AllByRecursion (λ p. p ≢ l) callee.parameters → value_at l (entered callee values d) ≡ None
 

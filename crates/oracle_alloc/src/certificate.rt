@@ -1,14 +1,14 @@
-//! The certificate: at each node, that each live register's word lies in the register's place.
+//! The certificate: at each node, that each live register's word lies in the register's location.
 
 use crate::register_set::RegisterSet;
 use alloc_check::{Equation, EquationLists};
 use lang_base::{NoMemory, Row};
-use oracle_alloc_blocks::Places;
+use oracle_alloc_blocks::Assignment;
 use std::alloc::Global;
 
 fn equations_at(
     alloc: Global,
-    places: &Places,
+    assignment: &Assignment,
     live: &RegisterSet,
 ) -> Result<Row<Equation>, NoMemory> {
     let members = live.members(alloc)?;
@@ -16,7 +16,7 @@ fn equations_at(
     for register in &members {
         equations.push(Equation {
             register: *register,
-            location: places.place_of(*register),
+            location: assignment.location_of(*register),
         })?;
     }
     Ok(Row::from_vec(equations))
@@ -25,12 +25,12 @@ fn equations_at(
 /// The equations at each node, where these registers are live.
 pub(crate) fn equations_of(
     alloc: Global,
-    places: &Places,
+    assignment: &Assignment,
     live: &[RegisterSet],
 ) -> Result<EquationLists, NoMemory> {
     let mut lists = Vec::new(alloc);
     for set in live {
-        lists.push(equations_at(alloc, places, set)?)?;
+        lists.push(equations_at(alloc, assignment, set)?)?;
     }
     Ok(Row::from_vec(lists))
 }

@@ -1,4 +1,4 @@
-//! Which place each register gets: a register of the machine that none of those has which interfere
+//! Which location each register gets: a register of the machine that none of those has which interfere
 //! with it, or a slot of its own.
 
 ghost use Rattle.std.specs.Prelude.{◌<◌, IfSome};
@@ -6,8 +6,8 @@ ghost use Rattle.std.specs.Prelude.{◌<◌, IfSome};
 use crate::interference::Interference;
 use crate::register_set::RegisterSet;
 use lang_base::NoMemory;
-use locations::{Location, REGISTER_COUNT, Register as Place};
-use oracle_alloc_blocks::Places;
+use locations::{Location, REGISTER_COUNT, Register as MachineRegister};
+use oracle_alloc_blocks::Assignment;
 use rand_core::utils::NextWord;
 use rand_pcg::Pcg32;
 use rtl_parts::Register;
@@ -31,30 +31,30 @@ struct Holder {
     barred: RegisterSet,
 }
 
-/// A place for each register, which the words choose; none where there are too few slots.
-pub(crate) fn places_for(
+/// A location for each register, which the words choose; none where there are too few slots.
+pub(crate) fn assignment_for(
     alloc: Global,
     registers: u16,
     interference: &Interference,
     words: &mut Pcg32,
-) -> Result<Option<Places>, NoMemory> {
-    let mut places = Places::none(alloc, registers)?;
+) -> Result<Option<Assignment>, NoMemory> {
+    let mut assignment = Assignment::none(alloc, registers)?;
     let mut holders = holders_of(alloc, registers)?;
     for register in 0..registers {
         let free = free_for(&holders, interference, register);
         match chosen(free, words.next_word()) {
-            Some(place) => {
-                hold(&mut holders, interference, register, place);
-                places.give(register, Location::InRegister(place));
+            Some(machine_register) => {
+                hold(&mut holders, interference, register, machine_register);
+                assignment.give(register, Location::InRegister(machine_register));
             }
             None => {
-                if !places.give_slot(register) {
+                if !assignment.give_slot(register) {
                     return Ok(None);
                 }
             }
         }
     }
-    Ok(Some(places))
+    Ok(Some(assignment))
 }
 
 fn holders_of(alloc: Global, registers: u16) -> Result<Vec<Holder>, NoMemory> {
@@ -75,19 +75,24 @@ fn free_for(holders: &[Holder], interference: &Interference, register: Register)
     } else {
         FREE
     };
-    for place in 0..REGISTER_COUNT {
-        if let Some(holder) = holders.get(usize::from(place))
+    for machine_register in 0..REGISTER_COUNT {
+        if let Some(holder) = holders.get(usize::from(machine_register))
             && holder.is_closed_to(interference, register)
         {
-            free &= !(1 << place);
+            free &= !(1 << machine_register);
         }
     }
     free
 }
 
 /// Lets the register lie in the register of the machine.
-fn hold(holders: &mut [Holder], interference: &Interference, register: Register, place: Place) {
-    if let Some(holder) = holders.get_mut(usize::from(place)) {
+fn hold(
+    holders: &mut [Holder],
+    interference: &Interference,
+    register: Register,
+    machine_register: MachineRegister,
+) {
+    if let Some(holder) = holders.get_mut(usize::from(machine_register)) {
         holder.lying.add(register);
         if let Some(others) = interference.others(register) {
             let _is_new = holder.barred.join(others);
@@ -96,7 +101,7 @@ fn hold(holders: &mut [Holder], interference: &Interference, register: Register,
 }
 
 /// One of these registers of the machine, which the word chooses, or none.
-fn chosen(free: u32, word: u32) -> Option<Place>
+fn chosen(free: u32, word: u32) -> Option<MachineRegister>
     ensures { IfSome result (λ r. r < 8) }
 {
     let count = free.count_ones();
@@ -106,11 +111,11 @@ fn chosen(free: u32, word: u32) -> Option<Place>
     nth_of(free, word / SLOT_EVERY % count)
 }
 
-/// The register of the machine that stands at this place among those whose bits are set.
-fn nth_of(bits: u32, place: u32) -> Option<Place>
+/// The register of the machine with this number, from 0, among those whose bits are set.
+fn nth_of(bits: u32, nth: u32) -> Option<MachineRegister>
     ensures { IfSome result (λ r. r < 8) }
 {
-    let mut left = place;
+    let mut left = nth;
     for register in 0..REGISTER_COUNT {
         if bits & (1 << register) != 0 {
             if left == 0 {

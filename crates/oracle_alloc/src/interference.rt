@@ -1,4 +1,4 @@
-//! Which registers may not lie in one place, and which not in those that a call loses (Chaitin 1982).
+//! Which registers may not lie in one location, and which not in those that a call loses (Chaitin 1982).
 
 use crate::liveness::set_live_behind;
 use crate::parts::{copied_by, defined_by};

@@ -1,5 +1,5 @@
 use crate::certificate::equations_of;
-use crate::choosing::places_for;
+use crate::choosing::assignment_for;
 use crate::interference::interference_of;
 use crate::liveness::live_before;
 use crate::register_set::RegisterSet;
@@ -7,11 +7,11 @@ use crate::worth::needless;
 use alloc_check::{Alloc, EquationLists};
 use lang_base::{NoMemory, Oracle, Row};
 use ltl::Function;
-use oracle_alloc_blocks::{Places, are_distinct, blocks_of, places_of};
+use oracle_alloc_blocks::{Assignment, are_distinct, blocks_of, locations_of};
 use rand_pcg::Pcg32;
 use std::alloc::Global;
 
-/// Proposes places for registers, each a draw of those that are free for it; none where it takes too
+/// Proposes locations for registers, each a draw of those that are free for it; none where it takes too
 /// many slots.
 #[derive(Clone, Copy, Debug)]
 pub struct AllocOracle;
@@ -29,7 +29,7 @@ impl Oracle for AllocOracle {
     }
 }
 
-/// Blocks and equations for the input, with places for its registers that the words choose.
+/// Blocks and equations for the input, with locations for its registers that the words choose.
 fn allocate(
     alloc: Global,
     input: &rtl_language::Function,
@@ -37,30 +37,30 @@ fn allocate(
 ) -> Result<Option<(Function, EquationLists)>, NoMemory> {
     let live = live_before(alloc, input.registers(), input.nodes().as_slice())?;
     let interference = interference_of(alloc, input, &live)?;
-    match places_for(alloc, input.registers(), &interference, words)? {
+    match assignment_for(alloc, input.registers(), &interference, words)? {
         None => Ok(None),
-        Some(places) => in_places(alloc, input, &live, &places, words),
+        Some(assignment) => with_assignment(alloc, input, &live, &assignment, words),
     }
 }
 
-/// Blocks and equations for registers that lie in these places; none where two parameters lie in one.
-fn in_places(
+/// Blocks and equations for registers that lie where the assignment says; none where two parameters lie in one.
+fn with_assignment(
     alloc: Global,
     input: &rtl_language::Function,
     live: &[RegisterSet],
-    places: &Places,
+    assignment: &Assignment,
     words: &mut Pcg32,
 ) -> Result<Option<(Function, EquationLists)>, NoMemory> {
-    let parameters = places_of(alloc, places, input.parameters().as_slice())?;
+    let parameters = locations_of(alloc, assignment, input.parameters().as_slice())?;
     if !are_distinct(&parameters) {
         return Ok(None);
     }
     let left_out = needless(alloc, input.nodes().as_slice(), live, words)?;
-    let blocks = blocks_of(alloc, input, places, &left_out)?;
-    let equations = equations_of(alloc, places, live)?;
+    let blocks = blocks_of(alloc, input, assignment, &left_out)?;
+    let equations = equations_of(alloc, assignment, live)?;
     let output = Function::new(
         Row::from_vec(parameters),
-        places.slots,
+        assignment.slots,
         input.entry(),
         Row::from_vec(blocks),
     );

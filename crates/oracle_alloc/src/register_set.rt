@@ -9,7 +9,7 @@ pub(crate) struct RegisterSet {
 }
 
 /// The word where a register's bit stands.
-fn place_of(register: Register) -> usize {
+fn word_of(register: Register) -> usize {
     usize::from(register / 64)
 }
 
@@ -26,20 +26,20 @@ impl RegisterSet {
     }
 
     pub fn has(&self, register: Register) -> bool {
-        match self.words.get(place_of(register)) {
+        match self.words.get(word_of(register)) {
             Some(word) => *word & bit_of(register) != 0,
             None => false,
         }
     }
 
     pub fn add(&mut self, register: Register) {
-        if let Some(word) = self.words.get_mut(place_of(register)) {
+        if let Some(word) = self.words.get_mut(word_of(register)) {
             *word |= bit_of(register);
         }
     }
 
     pub fn remove(&mut self, register: Register) {
-        if let Some(word) = self.words.get_mut(place_of(register)) {
+        if let Some(word) = self.words.get_mut(word_of(register)) {
             *word &= !bit_of(register);
         }
     }
@@ -72,8 +72,8 @@ impl RegisterSet {
         false
     }
 
-    fn word(&self, place: usize) -> u64 {
-        self.words.get(place).copied().unwrap_or(0)
+    fn word(&self, at: usize) -> u64 {
+        self.words.get(at).copied().unwrap_or(0)
     }
 
     /// The registers of the set, rising.

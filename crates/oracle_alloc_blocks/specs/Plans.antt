@@ -10,9 +10,9 @@ use Rattle.oracle_alloc_blocks.specs.declared.plan.Reached.{Reached}
 use Rattle.oracle_alloc_blocks.specs.declared.plan.Operands.{Operands}
 use Rattle.oracle_alloc_blocks.specs.declared.plan.Plan.{Plan}
 
--- a register of the machine, and the move between it and a place, if one is needed
+-- a register of the machine, and the move between it and a location, if one is needed
 pub record ReachedFits (slots : ℕ) (r : Reached) : Type 0 where
-  pub place : RegisterFits r.place
+  pub register : RegisterFits r.register
   pub step : IfSome r.step (MoveFits slots)
 
 -- so many arguments, and the moves that bring them to where they are taken

@@ -1,4 +1,4 @@
-//! Blocks that do with places what instructions do with registers.
+//! Blocks that do with locations what instructions do with registers.
 
 ghost use Rattle.std.specs.Prelude.{◌≡◌, ◌<◌, ℕ, length, All, IfOk, IfSome};
 ghost use Rattle.locations.specs.Fits.{MoveFits, MovesFit};
@@ -6,8 +6,8 @@ ghost use Rattle.ltl.specs.Function.{BlockFits};
 ghost use Rattle.oracle_alloc_blocks.specs.Blocks.{FitsForAct, FitsForCall, FitsForBranch, FitsForInstruction};
 ghost use Rattle.oracle_alloc_blocks.specs.Plans.{PlanFits};
 
-use crate::parameters::places_of;
-use crate::places::Places;
+use crate::assignment::Assignment;
+use crate::parameters::locations_of;
 use crate::plan::Plan;
 use crate::plans::plan_of;
 use crate::reaching::{operands, source_of};
@@ -59,30 +59,30 @@ fn going(alloc: Global, plan: Plan, successor: u16) -> Result<Block, NoMemory>
 /// A block for an act: it does nothing where the act is needless.
 fn doing(
     alloc: Global,
-    places: &Places,
+    assignment: &Assignment,
     act: &Act,
     successor: u16,
     is_needless: bool,
 ) -> Result<Block, NoMemory>
-    ensures { FitsForAct places.now.slots act.now successor result }
+    ensures { FitsForAct assignment.now.slots act.now successor result }
 {
     if is_needless {
         return going(alloc, Plan::NOTHING, successor);
     }
-    going(alloc, plan_of(places, act), successor)
+    going(alloc, plan_of(assignment, act), successor)
 }
 
 fn calling(
     alloc: Global,
-    places: &Places,
+    assignment: &Assignment,
     function: u8,
     arguments: &[Register],
     target: Option<Register>,
     successor: u16,
 ) -> Result<Block, NoMemory>
-    ensures { FitsForCall places.now.slots function arguments.now target successor result }
+    ensures { FitsForCall assignment.now.slots function arguments.now target successor result }
 {
-    let arguments = places_of(alloc, places, arguments)?;
+    let arguments = locations_of(alloc, assignment, arguments)?;
     let before = at_most_one(alloc, None)?;
     let after = at_most_one(alloc, None)?;
     Ok(Block {
@@ -90,7 +90,7 @@ fn calling(
         body: Body::Call {
             function,
             arguments: Row::from_vec(arguments),
-            target: places.place_of_any(target),
+            target: assignment.location_of_any(target),
             after,
             successor,
         },
@@ -99,14 +99,14 @@ fn calling(
 
 fn branching(
     alloc: Global,
-    places: &Places,
+    assignment: &Assignment,
     test: &Test,
     taken: u16,
     other: u16,
 ) -> Result<Block, NoMemory>
-    ensures { FitsForBranch places.now.slots test.now taken other result }
+    ensures { FitsForBranch assignment.now.slots test.now taken other result }
 {
-    let asked = operands(places, &test.arguments);
+    let asked = operands(assignment, &test.arguments);
     let before = moves_of(alloc, asked.first, asked.second)?;
     Ok(Block {
         before,
@@ -121,12 +121,16 @@ fn branching(
     })
 }
 
-fn returning(alloc: Global, places: &Places, value: Option<Register>) -> Result<Block, NoMemory>
-    ensures { (nodes : ℕ) → IfOk result (BlockFits places.now.slots nodes) }
+fn returning(
+    alloc: Global,
+    assignment: &Assignment,
+    value: Option<Register>,
+) -> Result<Block, NoMemory>
+    ensures { (nodes : ℕ) → IfOk result (BlockFits assignment.now.slots nodes) }
 {
     match value {
         None => returning_none(alloc),
-        Some(register) => returning_one(alloc, places, register),
+        Some(register) => returning_one(alloc, assignment, register),
     }
 }
 
@@ -140,15 +144,19 @@ fn returning_none(alloc: Global) -> Result<Block, NoMemory>
     })
 }
 
-fn returning_one(alloc: Global, places: &Places, register: Register) -> Result<Block, NoMemory>
-    ensures { (nodes : ℕ) → IfOk result (BlockFits places.now.slots nodes) }
+fn returning_one(
+    alloc: Global,
+    assignment: &Assignment,
+    register: Register,
+) -> Result<Block, NoMemory>
+    ensures { (nodes : ℕ) → IfOk result (BlockFits assignment.now.slots nodes) }
 {
-    let from = source_of(places, register, 0);
+    let from = source_of(assignment, register, 0);
     let before = at_most_one(alloc, from.step)?;
     Ok(Block {
         before,
         body: Body::Return {
-            value: Some(from.place),
+            value: Some(from.register),
         },
     })
 }
@@ -156,14 +164,16 @@ fn returning_one(alloc: Global, places: &Places, register: Register) -> Result<B
 /// A block for an instruction.
 fn block_of(
     alloc: Global,
-    places: &Places,
+    assignment: &Assignment,
     instruction: &Instruction,
     is_needless: bool,
 ) -> Result<Block, NoMemory>
-    ensures { FitsForInstruction places.now.slots instruction.now result }
+    ensures { FitsForInstruction assignment.now.slots instruction.now result }
 {
     match instruction {
-        Instruction::Do { act, successor } => { doing(alloc, places, act, *successor, is_needless) }
+        Instruction::Do { act, successor } => {
+            doing(alloc, assignment, act, *successor, is_needless)
+        }
         Instruction::Call {
             function,
             arguments,
@@ -171,16 +181,16 @@ fn block_of(
             successor,
         } => calling(
             alloc,
-            places,
+            assignment,
             *function,
             arguments.as_slice(),
             *target,
             *successor,
         ),
         Instruction::Branch { test, taken, other } => {
-            branching(alloc, places, test, *taken, *other)
+            branching(alloc, assignment, test, *taken, *other)
         }
-        Instruction::Return { value } => returning(alloc, places, *value),
+        Instruction::Return { value } => returning(alloc, assignment, *value),
     }
 }
 
@@ -188,16 +198,16 @@ fn block_of(
 pub fn blocks_of(
     alloc: Global,
     input: &rtl_language::Function,
-    places: &Places,
+    assignment: &Assignment,
     needless: &[bool],
 ) -> Result<Vec<Block>, NoMemory>
     ensures count { IfOk result (λ made. length made.items ≡ length input.now.nodes) }
-    ensures fit { IfOk result (λ made. All (BlockFits places.now.slots (length input.now.nodes)) made.items) }
+    ensures fit { IfOk result (λ made. All (BlockFits assignment.now.slots (length input.now.nodes)) made.items) }
 {
     let mut made = Vec::new(alloc);
     for (n, instruction) in input.nodes().as_slice().iter().enumerate() {
         let is_left_out = needless.get(n).copied().unwrap_or(false);
-        made.push(block_of(alloc, places, instruction, is_left_out)?)?;
+        made.push(block_of(alloc, assignment, instruction, is_left_out)?)?;
     }
     Ok(made)
 }

@@ -3,24 +3,24 @@
 ghost use Rattle.std.specs.Prelude.{◌≡◌, ◌≢◌, ◌↔◌, length, All, IfOk, IfSome, IsTrue};
 ghost use Rattle.locations.specs.Fits.{LocationFits, AreDistinct};
 
-use crate::places::Places;
+use crate::assignment::Assignment;
 use lang_base::NoMemory;
 use locations::Location;
 use rtl_parts::Register;
 use std::alloc::Global;
 
 /// Where each of the registers lies.
-pub fn places_of(
+pub fn locations_of(
     alloc: Global,
-    places: &Places,
+    assignment: &Assignment,
     registers: &[Register],
 ) -> Result<Vec<Location>, NoMemory>
     ensures count { IfOk result (λ made. length made.items ≡ length registers.now) }
-    ensures fit { IfOk result (λ made. All (LocationFits places.now.slots) made.items) }
+    ensures fit { IfOk result (λ made. All (LocationFits assignment.now.slots) made.items) }
 {
     let mut made = Vec::new(alloc);
     for register in registers {
-        made.push(places.place_of(*register))?;
+        made.push(assignment.location_of(*register))?;
     }
     Ok(made)
 }

@@ -1,10 +1,10 @@
-use locations::{Move, Register as Place};
+use locations::{Move, Register as MachineRegister};
 use machine::{Act, Arguments};
 
-/// A register of the machine, and the move between it and a place, if one is needed.
+/// A register of the machine, and the move between it and a location, if one is needed.
 #[derive(Clone, Copy)]
 pub(crate) struct Reached {
-    pub place: Place,
+    pub register: MachineRegister,
     pub step: Option<Move>,
 }
 

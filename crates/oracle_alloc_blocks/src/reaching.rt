@@ -1,23 +1,26 @@
-//! How words come from their places to the machine's registers, and go from there.
+//! How words come from their locations to the machine's registers, and go from there.
 
 ghost use Rattle.std.specs.Prelude.{ℕ, ◌<◌, IfSome};
 ghost use Rattle.locations.specs.Fits.{LocationFits, MoveFits, HasRegister};
 ghost use Rattle.oracle_alloc_blocks.specs.Plans.{ReachedFits, OperandsFitFor, PlanFits};
 
-use crate::places::Places;
+use crate::assignment::Assignment;
 use crate::plan::{Operands, Plan, Reached};
-use locations::{Location, Move, Register as Place};
+use locations::{Location, Move, Register as MachineRegister};
 use rtl_parts::{Arguments, Register};
 
-/// A register of the machine that has the word of a place: this one, where that is a slot.
-fn brought(location: Location, scratch: Place) -> Reached
+/// A register of the machine that has the word of a location: this one, where that is a slot.
+fn brought(location: Location, scratch: MachineRegister) -> Reached
     requires { scratch < 8 }
     ensures { (slots : ℕ) → LocationFits slots location → ReachedFits slots result }
 {
     match location {
-        Location::InRegister(place) => Reached { place, step: None },
+        Location::InRegister(register) => Reached {
+            register,
+            step: None,
+        },
         Location::InSlot(_) => Reached {
-            place: scratch,
+            register: scratch,
             step: Some(Move {
                 target: Location::InRegister(scratch),
                 source: location,
@@ -26,14 +29,17 @@ fn brought(location: Location, scratch: Place) -> Reached
     }
 }
 
-/// A register of the machine whose word goes to a place: r0, where that is a slot.
+/// A register of the machine whose word goes to a location: r0, where that is a slot.
 fn put_away(location: Location) -> Reached
     ensures { (slots : ℕ) → LocationFits slots location → ReachedFits slots result }
 {
     match location {
-        Location::InRegister(place) => Reached { place, step: None },
+        Location::InRegister(register) => Reached {
+            register,
+            step: None,
+        },
         Location::InSlot(_) => Reached {
-            place: 0,
+            register: 0,
             step: Some(Move {
                 target: location,
                 source: Location::InRegister(0),
@@ -43,38 +49,42 @@ fn put_away(location: Location) -> Reached
 }
 
 /// A register of the machine that has the word of a register: this one, where that lies in a slot.
-pub(crate) fn source_of(places: &Places, register: Register, scratch: Place) -> Reached
+pub(crate) fn source_of(
+    assignment: &Assignment,
+    register: Register,
+    scratch: MachineRegister,
+) -> Reached
     requires { scratch < 8 }
-    ensures { ReachedFits places.now.slots result }
+    ensures { ReachedFits assignment.now.slots result }
 {
-    brought(places.place_of(register), scratch)
+    brought(assignment.location_of(register), scratch)
 }
 
 /// A register of the machine whose word goes to where a register lies: r0, where that is a slot.
-pub(crate) fn target_of(places: &Places, register: Register) -> Reached
-    ensures { ReachedFits places.now.slots result }
+pub(crate) fn target_of(assignment: &Assignment, register: Register) -> Reached
+    ensures { ReachedFits assignment.now.slots result }
 {
-    put_away(places.place_of(register))
+    put_away(assignment.location_of(register))
 }
 
 /// The arguments, through r0 and r1 where they lie in slots.
-pub(crate) fn operands(places: &Places, arguments: &Arguments) -> Operands
-    ensures { OperandsFitFor places.now.slots arguments.now result }
+pub(crate) fn operands(assignment: &Assignment, arguments: &Arguments) -> Operands
+    ensures { OperandsFitFor assignment.now.slots arguments.now result }
 {
     match *arguments {
         Arguments::One(first) => {
-            let first = source_of(places, first, 0);
+            let first = source_of(assignment, first, 0);
             Operands {
-                arguments: machine::Arguments::One(first.place),
+                arguments: machine::Arguments::One(first.register),
                 first: first.step,
                 second: None,
             }
         }
         Arguments::Two(first, second) => {
-            let first = source_of(places, first, 0);
-            let second = source_of(places, second, 1);
+            let first = source_of(assignment, first, 0);
+            let second = source_of(assignment, second, 1);
             Operands {
-                arguments: machine::Arguments::Two(first.place, second.place),
+                arguments: machine::Arguments::Two(first.register, second.register),
                 first: first.step,
                 second: second.step,
             }
@@ -82,7 +92,7 @@ pub(crate) fn operands(places: &Places, arguments: &Arguments) -> Operands
     }
 }
 
-/// The moves from one place to another, through r0 where both are slots.
+/// The moves from one location to another, through r0 where both are slots.
 pub(crate) fn copying(target: Location, source: Location) -> Plan
     ensures { (slots : ℕ) → LocationFits slots target → LocationFits slots source → PlanFits slots result }
 {
@@ -107,12 +117,12 @@ fn in_one_move(target: Location, source: Location) -> Plan
     }
 }
 
-/// The moves to a place from any other, by a register.
+/// The moves to a location from any other, by a register.
 fn from_slot(target: Location, source: Location) -> Plan
     ensures { (slots : ℕ) → LocationFits slots target → LocationFits slots source → PlanFits slots result }
 {
     let to = put_away(target);
-    let by = Location::InRegister(to.place);
+    let by = Location::InRegister(to.register);
     Plan {
         first: Some(Move { target: by, source }),
         second: to.step,

@@ -18,8 +18,8 @@ use Rattle.cminor_syntax.specs.Trees as T
 use Rattle.cminor_syntax.specs.Fits.{ExpressionFits, StatementFits, StatementsFit}
 use Rattle.cminor_syntax.specs.Fits as C
 use Rattle.rtlgen_definition.specs.Pieces.{Made, Piece, nothing, one, both, either, again}
-use Rattle.rtlgen_definition.specs.Gen.{place, unless_variable, expression, operand, operands, places, statement, statements, needs, operands_need, statement_needs, statements_need}
-use Rattle.rtlgen_definition.proofs.Expressions.{needs_some, place_below}
+use Rattle.rtlgen_definition.specs.Gen.{operand_register, unless_variable, expression, operand, operands, operand_registers, statement, statements, needs, operands_need, statement_needs, statements_need}
+use Rattle.rtlgen_definition.proofs.Expressions.{needs_some, operand_register_below}
 
 one_argument : cond_argument_count_of Nz ≡ 1
 unfolding cond_argument_count_of
@@ -73,10 +73,10 @@ module _ (registers total : ℕ) where
       record { entry = here; nodes = ((tt, turn.entry), turn.nodes) }
 
   module _ (variables : ℕ) where
-    place_fits : (e : ExpressionTree) (r : ℕ) → ExpressionFits variables e → variables ≤ r → r + needs e ≤ registers → place e r < registers
-    place_fits e r fits le space =
+    operand_register_fits : (e : ExpressionTree) (r : ℕ) → ExpressionFits variables e → variables ≤ r → r + needs e ≤ registers → operand_register e r < registers
+    operand_register_fits e r fits le space =
         let some = needs_some e in
-        let below = place_below variables r e le fits in
+        let below = operand_register_below variables r e le fits in
         omega (arith, some, below, space)
 
     unless_fits : (e : ExpressionTree) (piece : Piece) → PieceFits piece → PieceFits (unless_variable e piece)
@@ -92,23 +92,23 @@ module _ (registers total : ℕ) where
     expression_fits (T.Variable v) target r fits le space low = act_fits (Move target v) (low, omega (arith, fits, le, space))
     expression_fits (T.Load g i) target r fits le space low =
         let some = needs_some i in
-        both_fits (operand i r) (one (Do (Load target g (place i r)))) (unless_fits i (expression i r r) (expression_fits i r r fits.1 le space (omega (arith, some, space))))
-        (act_fits (Load target g (place i r)) (low, fits.0, place_fits i r fits.1 le space))
+        both_fits (operand i r) (one (Do (Load target g (operand_register i r)))) (unless_fits i (expression i r r) (expression_fits i r r fits.1 le space (omega (arith, some, space))))
+        (act_fits (Load target g (operand_register i r)) (low, fits.0, operand_register_fits i r fits.1 le space))
     expression_fits (T.Unary o a) target r fits le space low =
         let some = needs_some a in
-        both_fits (operand a r) (one (Do (Operate o target (One (place a r))))) (unless_fits a (expression a r r) (expression_fits a r r fits.1 le space (omega (arith, some, space))))
-        (act_fits (Operate o target (One (place a r))) (low, (fits.0, place_fits a r fits.1 le space)))
+        both_fits (operand a r) (one (Do (Operate o target (One (operand_register a r))))) (unless_fits a (expression a r r) (expression_fits a r r fits.1 le space (omega (arith, some, space))))
+        (act_fits (Operate o target (One (operand_register a r))) (low, (fits.0, operand_register_fits a r fits.1 le space)))
     expression_fits (T.Binary o a b) target r fits le space low =
         let some = needs_some a in
         let also = needs_some b in
-        let act = Operate o target (Two (place a r) (place b (suc r))) in
+        let act = Operate o target (Two (operand_register a r) (operand_register b (suc r))) in
         both_fits (operand a r) (both (operand b (suc r)) (one (Do act))) (unless_fits a (expression a r r) (expression_fits a r r fits.1.0 le (omega (arith, space)) (omega (arith, some, space))))
         (both_fits (operand b (suc r)) (one (Do act)) (unless_fits b (expression b (suc r) (suc r)) (expression_fits b (suc r) (suc r) fits.1.1 (omega (arith, le)) (omega (arith, space)) (omega (arith, also, space))))
-        (act_fits act (low, (fits.0, place_fits a r fits.1.0 le (omega (arith, space)), place_fits b (suc r) fits.1.1 (omega (arith, le)) (omega (arith, space))))))
+        (act_fits act (low, (fits.0, operand_register_fits a r fits.1.0 le (omega (arith, space)), operand_register_fits b (suc r) fits.1.1 (omega (arith, le)) (omega (arith, space))))))
     expression_fits (T.Choice c a b) target r fits le space low =
         let some = needs_some c in
-        both_fits (operand c r) (either (place c r) (expression a target r) (expression b target r)) (unless_fits c (expression c r r) (expression_fits c r r fits.0 le (omega (arith, space)) (omega (arith, some, space))))
-        (either_fits (place c r) (expression a target r) (expression b target r) (place_fits c r fits.0 le (omega (arith, space))) (expression_fits a target r fits.1.0 le (omega (arith, space)) low) (expression_fits b target r fits.1.1 le (omega (arith, space)) low))
+        both_fits (operand c r) (either (operand_register c r) (expression a target r) (expression b target r)) (unless_fits c (expression c r r) (expression_fits c r r fits.0 le (omega (arith, space)) (omega (arith, some, space))))
+        (either_fits (operand_register c r) (expression a target r) (expression b target r) (operand_register_fits c r fits.0 le (omega (arith, space))) (expression_fits a target r fits.1.0 le (omega (arith, space)) low) (expression_fits b target r fits.1.1 le (omega (arith, space)) low))
 
     operand_fits : (e : ExpressionTree) (r : ℕ) → ExpressionFits variables e → variables ≤ r → r + needs e ≤ registers → PieceFits (operand e r)
     operand_fits e r fits le space =
@@ -120,9 +120,9 @@ module _ (registers total : ℕ) where
     operands_fit (e ∷ es) r fits le space =
         both_fits (operand e r) (operands es (suc r)) (operand_fits e r fits.0 le (omega (arith, space))) (operands_fit es (suc r) fits.1 (omega (arith, le)) (omega (arith, space)))
 
-    places_fit : (es : List ExpressionTree) (r : ℕ) → AllByRecursion (ExpressionFits variables) es → variables ≤ r → r + operands_need es ≤ registers → AllByRecursion (RegisterFits registers) (places es r)
-    places_fit [] r fits le space = tt
-    places_fit (e ∷ es) r fits le space = (place_fits e r fits.0 le (omega (arith, space)), places_fit es (suc r) fits.1 (omega (arith, le)) (omega (arith, space)))
+    operand_registers_fit : (es : List ExpressionTree) (r : ℕ) → AllByRecursion (ExpressionFits variables) es → variables ≤ r → r + operands_need es ≤ registers → AllByRecursion (RegisterFits registers) (operand_registers es r)
+    operand_registers_fit [] r fits le space = tt
+    operand_registers_fit (e ∷ es) r fits le space = (operand_register_fits e r fits.0 le (omega (arith, space)), operand_registers_fit es (suc r) fits.1 (omega (arith, le)) (omega (arith, space)))
 
     module _ (within : variables ≤ registers) where
       target_fits : (target : Option ℕ) → C.TargetFits variables target → TargetFits registers target
@@ -143,33 +143,33 @@ module _ (registers total : ℕ) where
         statement_fits (T.Assign v e) exits fits space inside = expression_fits e v variables fits.1 (omega arith) space (omega (arith, fits.0, within))
         statement_fits (T.Store g i e) exits fits space inside =
             let r = variables in
-            let act = Store g (place i r) (place e (suc r)) in
+            let act = Store g (operand_register i r) (operand_register e (suc r)) in
             both_fits (operand i r) (both (operand e (suc r)) (one (Do act))) (operand_fits i r fits.1.0 (omega arith) (omega (arith, space)))
             (both_fits (operand e (suc r)) (one (Do act)) (operand_fits e (suc r) fits.1.1 (omega arith) (omega (arith, space)))
-            (act_fits act (fits.0, place_fits i r fits.1.0 (omega arith) (omega (arith, space)), place_fits e (suc r) fits.1.1 (omega arith) (omega (arith, space)))))
+            (act_fits act (fits.0, operand_register_fits i r fits.1.0 (omega arith) (omega (arith, space)), operand_register_fits e (suc r) fits.1.1 (omega arith) (omega (arith, space)))))
         statement_fits (T.Call f target arguments) exits fits space inside =
             let r = variables in
-            both_fits (operands arguments r) (one (Call f (places arguments r) target)) (operands_fit arguments r fits.1.1.1 (omega arith) space)
-            (one_fits (Call f (places arguments r) target) (λ n low. (
-              record { function = fits.0; few = few arguments r fits.1.1.0; arguments = places_fit arguments r fits.1.1.1 (omega arith) space; target = target_fits target fits.1.0 },
+            both_fits (operands arguments r) (one (Call f (operand_registers arguments r) target)) (operands_fit arguments r fits.1.1.1 (omega arith) space)
+            (one_fits (Call f (operand_registers arguments r) target) (λ n low. (
+              record { function = fits.0; few = few arguments r fits.1.1.0; arguments = operand_registers_fit arguments r fits.1.1.1 (omega arith) space; target = target_fits target fits.1.0 },
               low,
             )))
           where
-            counted : (es : List ExpressionTree) (r : ℕ) → length (places es r) ≡ length es
+            counted : (es : List ExpressionTree) (r : ℕ) → length (operand_registers es r) ≡ length es
             counted [] r = refl
             counted (e ∷ es) r = λ k. suc (counted es (suc r) k)
 
-            few : (es : List ExpressionTree) (r : ℕ) → length es < 256 → length (places es r) ≤ 255
+            few : (es : List ExpressionTree) (r : ℕ) → length es < 256 → length (operand_registers es r) ≤ 255
             few es r h = rw (counted es r) (omega (arith, h))
         statement_fits (T.Put target e) exits fits space inside =
             let r = variables in
-            both_fits (operand e r) (one (Do (Put (place e r) target))) (operand_fits e r fits.1 (omega arith) space)
-            (act_fits (Put (place e r) target) (place_fits e r fits.1 (omega arith) space, target_fits target fits.0))
+            both_fits (operand e r) (one (Do (Put (operand_register e r) target))) (operand_fits e r fits.1 (omega arith) space)
+            (act_fits (Put (operand_register e r) target) (operand_register_fits e r fits.1 (omega arith) space, target_fits target fits.0))
         statement_fits (T.Sequence ss) exits fits space inside = statements_fit ss exits fits.1 space inside
         statement_fits (T.If e t u) exits fits space inside =
             let r = variables in
-            both_fits (operand e r) (either (place e r) (statement t r exits) (statement u r exits)) (operand_fits e r fits.0 (omega arith) (omega (arith, space)))
-            (either_fits (place e r) (statement t r exits) (statement u r exits) (place_fits e r fits.0 (omega arith) (omega (arith, space)))
+            both_fits (operand e r) (either (operand_register e r) (statement t r exits) (statement u r exits)) (operand_fits e r fits.0 (omega arith) (omega (arith, space)))
+            (either_fits (operand_register e r) (statement t r exits) (statement u r exits) (operand_register_fits e r fits.0 (omega arith) (omega (arith, space)))
             (statement_fits t exits fits.1.0 (omega (arith, space)) inside) (statement_fits u exits fits.1.1 (omega (arith, space)) inside))
         statement_fits (T.Loop t) exits fits space inside = again_fits (statement t variables exits) (statement_fits t exits fits space inside)
         statement_fits (T.Block t) exits fits space inside = λ following count low. statement_fits t (following ∷ exits) fits space (inside_more following exits low inside) following count low
@@ -177,7 +177,7 @@ module _ (registers total : ℕ) where
         statement_fits (T.Return None) exits fits space inside = one_fits (λ n. Return None) (λ n low. tt)
         statement_fits (T.Return (Some e)) exits fits space inside =
             let r = variables in
-            both_fits (operand e r) (one (λ n. Return (Some (place e r)))) (operand_fits e r fits (omega arith) space) (one_fits (λ n. Return (Some (place e r))) (λ n low. place_fits e r fits (omega arith) space))
+            both_fits (operand e r) (one (λ n. Return (Some (operand_register e r)))) (operand_fits e r fits (omega arith) space) (one_fits (λ n. Return (Some (operand_register e r))) (λ n low. operand_register_fits e r fits (omega arith) space))
 
         statements_fit : (ss : StatementsTree) (exits : List ℕ) → StatementsFit variables ss → variables + statements_need ss ≤ registers → AreInside exits → PieceFits (statements ss variables exits)
         statements_fit T.Done exits fits space inside = nothing_fits

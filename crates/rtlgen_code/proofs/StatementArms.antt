@@ -10,33 +10,33 @@ use Rattle.rtl_language.specs.declared.instruction.Instruction.TheVariants.{Do, 
 use Rattle.rtl_language.specs.Function.{node_limit}
 use Rattle.cminor_syntax.specs.Trees.{ExpressionTree, StatementTree}
 use Rattle.cminor_syntax.specs.Trees as C
-use Rattle.rtlgen_definition.specs.Gen.{statement, operand, place}
+use Rattle.rtlgen_definition.specs.Gen.{statement, operand, operand_register}
 use Rattle.rtlgen_definition.specs.Pieces.{Made, Piece, one, again}
 use Rattle.rtlgen_code.specs.declared.graph.Graph.{Graph}
 use Rattle.rtlgen_code.specs.Adding.{Adds}
 use Rattle.rtlgen_code.proofs.Laws.{add_one, add_both, add_either, more}
 use Rattle.rtlgen_code.proofs.Arms.{both_if_ok}
 
-pub store_added : (temporary : ℕ) (l : Graph) {next p q last second : ℕ} {g h k : Graph} (global : ℕ) (i e : ExpressionTree) (r : Result ℕ NoMemory) → p ≡ place i temporary → q ≡ place e (suc temporary) →
+pub store_added : (temporary : ℕ) (l : Graph) {next p q last second : ℕ} {g h k : Graph} (global : ℕ) (i e : ExpressionTree) (r : Result ℕ NoMemory) → p ≡ operand_register i temporary → q ≡ operand_register e (suc temporary) →
     Adds (one (λ n. Do (Store global p q) n)) next g h last → Adds (operand e (suc temporary)) last h k second → IfOk r (λ x. Adds (operand i temporary) second k l x) →
     IfOk r (λ x. Adds (statement (C.Store global i e) temporary []) next g l x)
 store_added temporary l {next} {p} {q} {last} {second} {g} {h} {k} global i e r at et s m f =
-    let placed = subst (λ y. Adds (one (λ n. Do (Store global (place i temporary) y) n)) next g h last) et (subst (λ x. Adds (one (λ n. Do (Store global x q) n)) next g h last) at s) in
+    let placed = subst (λ y. Adds (one (λ n. Do (Store global (operand_register i temporary) y) n)) next g h last) et (subst (λ x. Adds (one (λ n. Do (Store global x q) n)) next g h last) at s) in
     both_if_ok (operand i temporary) l r (add_both placed m) f
 
-pub put_added : (temporary : ℕ) (k : Graph) {next p last : ℕ} {g h : Graph} (target : Option ℕ) (e : ExpressionTree) (r : Result ℕ NoMemory) → p ≡ place e temporary →
+pub put_added : (temporary : ℕ) (k : Graph) {next p last : ℕ} {g h : Graph} (target : Option ℕ) (e : ExpressionTree) (r : Result ℕ NoMemory) → p ≡ operand_register e temporary →
     Adds (one (λ n. Do (Put p target) n)) next g h last → IfOk r (λ x. Adds (operand e temporary) last h k x) → IfOk r (λ x. Adds (statement (C.Put target e) temporary []) next g k x)
 put_added temporary k {next} {p} {last} {g} {h} target e r at s f =
     both_if_ok (operand e temporary) k r (subst (λ q. Adds (one (λ n. Do (Put q target) n)) next g h last) at s) f
 
-pub return_added : (temporary next : ℕ) (k : Graph) {p last : ℕ} {g h : Graph} (e : ExpressionTree) (r : Result ℕ NoMemory) → p ≡ place e temporary →
+pub return_added : (temporary next : ℕ) (k : Graph) {p last : ℕ} {g h : Graph} (e : ExpressionTree) (r : Result ℕ NoMemory) → p ≡ operand_register e temporary →
     Adds (one (λ n. Return (Some p))) 0 g h last → IfOk r (λ x. Adds (operand e temporary) last h k x) → IfOk r (λ x. Adds (statement (C.Return (Some e)) temporary []) next g k x)
 return_added temporary next k {p} {last} {g} {h} e r at s f =
-    let node : ℕ → Instruction = λ n. Return (Some (place e temporary)) in
+    let node : ℕ → Instruction = λ n. Return (Some (operand_register e temporary)) in
     let placed : Adds (one node) next g h last = add_one (subst (λ q. Adds (one (λ n. Return (Some q))) 0 g h last) at s) in
     both_if_ok (operand e temporary) k r placed f
 
-pub if_added : (temporary : ℕ) (exits : List ℕ) (m : Graph) {next p away there last : ℕ} {g h k l : Graph} (c : ExpressionTree) (s t : StatementTree) (r : Result ℕ NoMemory) → p ≡ place c temporary →
+pub if_added : (temporary : ℕ) (exits : List ℕ) (m : Graph) {next p away there last : ℕ} {g h k l : Graph} (c : ExpressionTree) (s t : StatementTree) (r : Result ℕ NoMemory) → p ≡ operand_register c temporary →
     Adds (statement t temporary exits) next g h away → Adds (statement s temporary exits) next h k there →
     Adds (one (λ n. Branch (record { condition = Nz; arguments = One p }) there away)) 0 k l last → IfOk r (λ x. Adds (operand c temporary) last l m x) →
     IfOk r (λ x. Adds (statement (C.If c s t) temporary exits) next g m x)

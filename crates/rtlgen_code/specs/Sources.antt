@@ -7,7 +7,7 @@ use Rattle.cminor_syntax.specs.Trees as T
 use Rattle.cminor_syntax.specs.Views.{expression_tree, statement_tree, statements_tree, optional_tree}
 use Rattle.rtl_parts.specs.declared.arguments.Arguments.TheVariants.{One}
 use Rattle.rtl_language.specs.declared.instruction.Instruction.TheVariants.{Branch}
-use Rattle.rtlgen_definition.specs.Gen.{expression, operand, operands, places, statement, statements}
+use Rattle.rtlgen_definition.specs.Gen.{expression, operand, operands, operand_registers, statement, statements}
 use Rattle.rtlgen_definition.specs.Pieces.{Piece, one}
 use Rattle.rtlgen_code.specs.declared.graph.Graph.{Graph}
 use Rattle.rtlgen_code.specs.Adding.{Adds}
@@ -26,8 +26,8 @@ abbrev pub operands_piece : List Expression → ℕ → Piece
 operands_piece arguments temporary = operands (map expression_tree arguments) temporary
 
 -- the registers where arguments stand
-abbrev pub places_of : List Expression → ℕ → List ℕ
-places_of arguments temporary = places (map expression_tree arguments) temporary
+abbrev pub operand_registers_of : List Expression → ℕ → List ℕ
+operand_registers_of arguments temporary = operand_registers (map expression_tree arguments) temporary
 
 -- statements that hold no statement
 abbrev pub store_piece : ℕ → Expression → Expression → ℕ → Piece

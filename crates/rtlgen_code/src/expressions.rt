@@ -2,7 +2,7 @@
 
 ghost use Rattle.std.specs.Prelude.{◌≡◌, ◌+◌, ◌<◌, IfOk};
 ghost use Rattle.cminor_syntax.specs.Views.{expression_tree};
-ghost use Rattle.rtlgen_definition.specs.Gen.{place, needs};
+ghost use Rattle.rtlgen_definition.specs.Gen.{operand_register, needs};
 ghost use Rattle.rtlgen_definition.specs.Pieces.{one};
 ghost use Rattle.rtlgen_code.specs.Adding.{Adds};
 ghost use Rattle.rtlgen_code.specs.Sources.{branch_piece, value_piece, operand_piece};
@@ -15,8 +15,8 @@ use rtl_language::Instruction;
 use rtl_parts::{Act, Arguments, Test};
 
 /// The register where an operand's value stands: a variable's own, else the temporary.
-pub fn place(expression: &Expression, temporary: u16) -> u16
-    ensures { result ≡ place (expression_tree expression.now) temporary }
+pub fn operand_register(expression: &Expression, temporary: u16) -> u16
+    ensures { result ≡ operand_register (expression_tree expression.now) temporary }
 {
     match expression {
         Expression::Variable(variable) => *variable,
@@ -87,7 +87,7 @@ pub fn add_expression(
                 Act::Load {
                     target,
                     global: *global,
-                    index: place(index, temporary),
+                    index: operand_register(index, temporary),
                 },
                 next,
             )?;
@@ -99,7 +99,7 @@ pub fn add_expression(
                 Act::Operate {
                     op: *op,
                     target,
-                    arguments: Arguments::One(place(argument, temporary)),
+                    arguments: Arguments::One(operand_register(argument, temporary)),
                 },
                 next,
             )?;
@@ -111,7 +111,10 @@ pub fn add_expression(
                 Act::Operate {
                     op: *op,
                     target,
-                    arguments: Arguments::Two(place(left, temporary), place(right, temporary + 1)),
+                    arguments: Arguments::Two(
+                        operand_register(left, temporary),
+                        operand_register(right, temporary + 1),
+                    ),
                 },
                 next,
             )?;
@@ -121,13 +124,13 @@ pub fn add_expression(
         Expression::Choice(condition, then, other) => {
             let other = add_expression(graph, other, target, temporary, next)?;
             let then = add_expression(graph, then, target, temporary, next)?;
-            let branch = add_branch(graph, place(condition, temporary), then, other)?;
+            let branch = add_branch(graph, operand_register(condition, temporary), then, other)?;
             add_operand(graph, condition, temporary, branch)
         }
     }
 }
 
-/// An operand, whose value goes to its place.
+/// An operand, whose value goes to its register.
 #[cycle(expressions)]
 pub fn add_operand(
     graph: &mut Graph,

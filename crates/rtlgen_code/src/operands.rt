@@ -1,42 +1,46 @@
-//! Arguments, whose values go to their places, one temporary behind the other.
+//! Arguments, whose values go to their registers, one temporary behind the other.
 
 ghost use Rattle.std.specs.Prelude.{◌≡◌, ◌+◌, ◌<◌, ◌++◌, IfOk, OnOk, map};
 ghost use Rattle.cminor_syntax.specs.Views.{expression_tree};
 ghost use Rattle.rtlgen_definition.specs.Gen.{operands_need};
 ghost use Rattle.rtlgen_code.specs.Adding.{Adds};
-ghost use Rattle.rtlgen_code.specs.Sources.{operands_piece, places_of};
+ghost use Rattle.rtlgen_code.specs.Sources.{operands_piece, operand_registers_of};
 
-use crate::expressions::{add_operand, place};
+use crate::expressions::{add_operand, operand_register};
 use crate::graph::Graph;
 use cminor_syntax::Expression;
 use lang_base::NoMemory;
 use std::alloc::Global;
 
 /// The registers where arguments stand, from this temporary on. It calls itself once for each argument.
-fn push_places(
+fn push_operand_registers(
     registers: &mut Vec<u16>,
     arguments: &[Expression],
     temporary: u16,
 ) -> Result<(), NoMemory>
     requires { temporary + operands_need (map expression_tree arguments.now) < 65536 }
-    ensures { OnOk result (registers.new.items ≡ registers.old.items ++ places_of arguments.now temporary) }
+    ensures { OnOk result (registers.new.items ≡ registers.old.items ++ operand_registers_of arguments.now temporary) }
 {
     match arguments {
         [] => Ok(()),
         [first, rest @ ..] => {
-            registers.push(place(first, temporary))?;
-            push_places(registers, rest, temporary + 1)
+            registers.push(operand_register(first, temporary))?;
+            push_operand_registers(registers, rest, temporary + 1)
         }
     }
 }
 
 /// The registers where arguments stand, from this temporary on.
-pub fn places(alloc: Global, arguments: &[Expression], temporary: u16) -> Result<Vec<u16>, NoMemory>
+pub fn operand_registers(
+    alloc: Global,
+    arguments: &[Expression],
+    temporary: u16,
+) -> Result<Vec<u16>, NoMemory>
     requires { temporary + operands_need (map expression_tree arguments.now) < 65536 }
-    ensures { IfOk result (λ registers. registers.items ≡ places_of arguments.now temporary) }
+    ensures { IfOk result (λ registers. registers.items ≡ operand_registers_of arguments.now temporary) }
 {
     let mut registers = Vec::new(alloc);
-    push_places(&mut registers, arguments, temporary)?;
+    push_operand_registers(&mut registers, arguments, temporary)?;
     Ok(registers)
 }
 

@@ -7,7 +7,7 @@ ghost use Rattle.rtlgen_definition.specs.Gen.{statement_needs};
 ghost use Rattle.rtlgen_code.specs.Adding.{Adds};
 ghost use Rattle.rtlgen_code.specs.Sources.{store_piece, call_piece, put_piece, return_piece};
 
-use crate::{Graph, add_act, add_operand, add_operands, place, places};
+use crate::{Graph, add_act, add_operand, add_operands, operand_register, operand_registers};
 use cminor_syntax::Expression;
 use lang_base::{NoMemory, Row};
 use rtl_language::Instruction;
@@ -30,8 +30,8 @@ pub(crate) fn add_store(
         graph,
         Act::Store {
             global,
-            index: place(index, temporary),
-            source: place(word, temporary + 1),
+            index: operand_register(index, temporary),
+            source: operand_register(word, temporary + 1),
         },
         next,
     )?;
@@ -52,7 +52,7 @@ pub(crate) fn add_call(
     requires { temporary + statement_needs (T.Call function target (map expression_tree arguments.now)) < 65536 }
     ensures { IfOk result (Adds (call_piece function target arguments.now temporary) next graph.old graph.new) }
 {
-    let registers = places(alloc, arguments, temporary)?;
+    let registers = operand_registers(alloc, arguments, temporary)?;
     let last = graph.add(Instruction::Call {
         function,
         arguments: Row::from_vec(registers),
@@ -76,7 +76,7 @@ pub(crate) fn add_put(
     let last = add_act(
         graph,
         Act::Put {
-            source: place(word, temporary),
+            source: operand_register(word, temporary),
             target,
         },
         next,
@@ -98,7 +98,7 @@ pub(crate) fn add_return(
         None => graph.add(Instruction::Return { value: None }),
         Some(value) => {
             let last = graph.add(Instruction::Return {
-                value: Some(place(value, temporary)),
+                value: Some(operand_register(value, temporary)),
             })?;
             add_operand(graph, value, temporary, last)
         }

@@ -8,7 +8,7 @@ ghost use Rattle.rtlgen_code.specs.Sources.{AddsStatement, AddsStatements};
 
 use crate::blocks::{enter, exit_of, go_on, leave};
 use crate::plain::{add_call, add_put, add_return, add_store};
-use crate::{Graph, add_branch, add_expression, add_operand, place};
+use crate::{Graph, add_branch, add_expression, add_operand, operand_register};
 use cminor_syntax::Statement;
 use lang_base::NoMemory;
 use rtl_language::Instruction;
@@ -56,7 +56,7 @@ pub fn add_statement(
         Statement::If(condition, then, other) => {
             let other = add_statement(alloc, graph, exits, other, temporary, next)?;
             let then = add_statement(alloc, graph, exits, then, temporary, next)?;
-            let branch = add_branch(graph, place(condition, temporary), then, other)?;
+            let branch = add_branch(graph, operand_register(condition, temporary), then, other)?;
             add_operand(graph, condition, temporary, branch)
         }
         Statement::Loop(body) => {

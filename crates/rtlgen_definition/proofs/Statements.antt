@@ -19,13 +19,13 @@ use Rattle.cminor_syntax.specs.Evaluation.{word, value, values}
 use Rattle.cminor_syntax.specs.Meaning as M
 use Rattle.cminor_syntax.specs.Fits.{ExpressionFits, StatementFits, StatementsFit, TargetFits}
 use Rattle.rtlgen_definition.specs.Pieces.{Piece, one, both, either}
-use Rattle.rtlgen_definition.specs.Gen.{place, operand, operands, places, statement, statements, needs, statement_needs, statements_need}
+use Rattle.rtlgen_definition.specs.Gen.{operand_register, operand, operands, operand_registers, statement, statements, needs, statement_needs, statements_need}
 use Rattle.rtlgen_definition.proofs.Stands.{Stands, stands_front, stands_behind}
 use Rattle.rtlgen_definition.proofs.Comes.{Comes, comes_nowhere, comes_comes, comes_step}
 use Rattle.rtlgen_definition.proofs.Grounds.{Ground, IsThere, at_node, node_step, Sees, kept_same, sees_kept, gives_put, sees_gives}
 use Rattle.rtlgen_definition.proofs.Pieces.{Brings, brings_one, brings_both, forks}
 use Rattle.rtlgen_definition.proofs.Values.{word_is}
-use Rattle.rtlgen_definition.proofs.Expressions.{place_below, expression_gained, operand_placed, operands_placed}
+use Rattle.rtlgen_definition.proofs.Expressions.{operand_register_below, expression_gained, operand_held, operands_held}
 use Rattle.rtlgen_definition.proofs.Outcomes.{Reaches, Leaves, Arrives, CallArrives, LowerArrives, arrives_comes, arrives_step, arrives_goes_on, arrives_block}
 
 -- a variable, if one is named, gets the same in both
@@ -76,17 +76,17 @@ module _ (functions : List (Named FunctionData)) (c : Ground) (there : IsThere f
 
   -- ---- statements without parts, where they stand
 
-  store_brings : (exits : List ℕ) (g : ℕ) (i e : ExpressionTree) (a b : ℕ) (globals : List (List ℕ)) (d d' d'' : Data) → place i c.variables < suc c.variables →
-      Brings functions c there (operand i c.variables) d d' → value_at (place i c.variables) d' ≡ Some a →
-      Brings functions c there (operand e (suc c.variables)) d' d'' → value_at (place e (suc c.variables)) d'' ≡ Some b →
-      (place i c.variables < suc c.variables → value_at (place i c.variables) d'' ≡ value_at (place i c.variables) d') → C.put_cell d''.globals g a b ≡ Some globals →
+  store_brings : (exits : List ℕ) (g : ℕ) (i e : ExpressionTree) (a b : ℕ) (globals : List (List ℕ)) (d d' d'' : Data) → operand_register i c.variables < suc c.variables →
+      Brings functions c there (operand i c.variables) d d' → value_at (operand_register i c.variables) d' ≡ Some a →
+      Brings functions c there (operand e (suc c.variables)) d' d'' → value_at (operand_register e (suc c.variables)) d'' ≡ Some b →
+      (operand_register i c.variables < suc c.variables → value_at (operand_register i c.variables) d'' ≡ value_at (operand_register i c.variables) d') → C.put_cell d''.globals g a b ≡ Some globals →
       Brings functions c there (statement (T.Store g i e) c.variables exits) d (record d'' { globals = globals })
   store_brings exits g i e a b globals d d' d'' low leads holds leads' holds' same put =
       let r = c.variables in
-      let act = Store g (place i r) (place e (suc r)) in
+      let act = Store g (operand_register i r) (operand_register e (suc r)) in
       let after : Data = record d'' { globals = globals } in
-      let first : value_at (place i r) d'' ≡ Some a = same low ∙ holds in
-      let does : stored d'' g (value_at (place i r) d'') (value_at (place e (suc r)) d'') ≡ Some after = (λ k. stored d'' g (first k) (holds' k)) ∙ store_does d'' g a b globals put in
+      let first : value_at (operand_register i r) d'' ≡ Some a = same low ∙ holds in
+      let does : stored d'' g (value_at (operand_register i r) d'') (value_at (operand_register e (suc r)) d'') ≡ Some after = (λ k. stored d'' g (first k) (holds' k)) ∙ store_does d'' g a b globals put in
       brings_both functions c there (operand i r) (both (operand e (suc r)) (one (Do act))) d d' after leads
       (brings_both functions c there (operand e (suc r)) (one (Do act)) d' d'' after leads' (brings_one functions c there act d'' after does))
 
@@ -112,13 +112,13 @@ module _ (functions : List (Named FunctionData)) (c : Ground) (there : IsThere f
         at None is = tt
         at (Some globals) is =
             let r = c.variables in
-            let u = operand_placed functions c there s i r d (Some a) fits.1.0 (omega arith) (omega (arith, space)) sees (word_is (value i s) a p) in
+            let u = operand_held functions c there s i r d (Some a) fits.1.0 (omega arith) (omega (arith, space)) sees (word_is (value i s) a p) in
             let sees' = sees_kept c s r d u.0 (omega arith) sees u.3 in
-            let v = operand_placed functions c there s e (suc r) u.0 (Some b) fits.1.1 (omega arith) (omega (arith, space)) sees' (word_is (value e s) b q) in
+            let v = operand_held functions c there s e (suc r) u.0 (Some b) fits.1.1 (omega arith) (omega (arith, space)) sees' (word_is (value e s) b q) in
             let sees'' = sees_kept c s (suc r) u.0 v.0 (omega arith) sees' v.3 in
             let globals' = ap (λ l. C.put_cell l g a b) sees''.globals ∙ is in (
               record v.0 { globals = globals },
-              store_brings exits g i e a b globals d u.0 v.0 (place_below r r i (omega arith) fits.1.0) u.1 u.2 v.1 v.2 (v.3.below (place i r)) globals' following count stands,
+              store_brings exits g i e a b globals d u.0 v.0 (operand_register_below r r i (omega arith) fits.1.0) u.1 u.2 v.1 v.2 (v.3.below (operand_register i r)) globals' following count stands,
               record { holds = sees''.holds; count = sees''.count; space = sees''.space; within = sees''.within; globals = refl; output = sees''.output },
             )
 
@@ -127,9 +127,9 @@ module _ (functions : List (Named FunctionData)) (c : Ground) (there : IsThere f
     put_arrives target e fits space None q stands = tt
     put_arrives target e fits space (Some w) q stands =
         let r = c.variables in
-        let p = operand_placed functions c there s e r d (Some w) fits.1 (omega arith) space sees (word_is (value e s) w q) in
+        let p = operand_held functions c there s e r d (Some w) fits.1 (omega arith) space sees (word_is (value e s) w q) in
         let sees' = sees_kept c s r d p.0 (omega arith) sees p.3 in
-        let act = Put (place e r) target in
+        let act = Put (operand_register e r) target in
         let brings = brings_both functions c there (operand e r) (one (Do act)) d p.0 (printing target p.0 w) p.1 (brings_one functions c there act p.0 (printing target p.0 w) (ap (option_map (printing target p.0)) p.2)) in
         let base : C.State = record s { output = s.output ++ w % 256 ∷ [] } in
         let printed : Data = record p.0 { output = p.0.output ++ w % 256 ∷ [] } in
@@ -142,14 +142,14 @@ module _ (functions : List (Named FunctionData)) (c : Ground) (there : IsThere f
     return_arrives e fits space None q stands = tt
     return_arrives e fits space (Some w) q stands =
         let r = c.variables in
-        let p = operand_placed functions c there s e r d (Some w) fits (omega arith) space sees (word_is (value e s) w q) in
+        let p = operand_held functions c there s e r d (Some w) fits (omega arith) space sees (word_is (value e s) w q) in
         let sees' = sees_kept c s r d p.0 (omega arith) sees p.3 in
-        let last = one (λ n. Return (Some (place e r))) following count in
+        let last = one (λ n. Return (Some (operand_register e r))) following count in
         let front = operand e r last.entry (count + length last.nodes) in
         record {
           last = at_node c count p.0;
           comes = p.1 last.entry (count + length last.nodes) (stands_behind c.nodes last.nodes front.nodes count stands);
-          step = node_step functions c there count p.0 (Return (Some (place e r))) (stands_front c.nodes last.nodes front.nodes count stands).0 ∙ ap (comes_back c.callers p.0) (returned_word (place e r) w p.0 p.2);
+          step = node_step functions c there count p.0 (Return (Some (operand_register e r))) (stands_front c.nodes last.nodes front.nodes count stands).0 ∙ ap (comes_back c.callers p.0) (returned_word (operand_register e r) w p.0 p.2);
           globals = sees'.globals;
           output = sees'.output;
         }
@@ -164,10 +164,10 @@ module _ (functions : List (Named FunctionData)) (c : Ground) (there : IsThere f
     called_arrives f target arguments exits following count s d fits space sees None q stands = tt
     called_arrives f target arguments exits following count s d fits space sees (Some xs) q stands =
         let r = c.variables in
-        let p = operands_placed functions c there s arguments r d xs fits.1.1.1 (omega arith) space sees q in
+        let p = operands_held functions c there s arguments r d xs fits.1.1.1 (omega arith) space sees q in
         let sees' = sees_kept c s r d p.0 (omega arith) sees p.3 in
-        let node = Call f (places arguments r) target following in
-        let last = one (Call f (places arguments r) target) following count in
+        let node = Call f (operand_registers arguments r) target following in
+        let last = one (Call f (operand_registers arguments r) target) following count in
         let front = operands arguments r last.entry (count + length last.nodes) in
         let u = at_node c count p.0 in
         let caller = waiting u target following in
@@ -180,16 +180,16 @@ module _ (functions : List (Named FunctionData)) (c : Ground) (there : IsThere f
     branch_arrives : (e : ExpressionTree) (taken other : Piece) (exits : List ℕ) (following count : ℕ) (s : C.State) (d : Data) → ExpressionFits c.variables e → c.variables + needs e ≤ c.registers → Sees c s d → (a b : M.Outcome) →
         ((d' : Data) (n : ℕ) → Sees c s d' → Stands c.nodes n (taken following n).nodes → Arrives functions c bound exits following (at_node c (taken following n).entry d') a) →
         ((d' : Data) (n : ℕ) → Sees c s d' → Stands c.nodes n (other following n).nodes → Arrives functions c bound exits following (at_node c (other following n).entry d') b) →
-        (x : Option ℕ) → word e s ≡ x → Stands c.nodes count (both (operand e c.variables) (either (place e c.variables) taken other) following count).nodes →
-        Arrives functions c bound exits following (at_node c (both (operand e c.variables) (either (place e c.variables) taken other) following count).entry d) (M.branches s x a b)
+        (x : Option ℕ) → word e s ≡ x → Stands c.nodes count (both (operand e c.variables) (either (operand_register e c.variables) taken other) following count).nodes →
+        Arrives functions c bound exits following (at_node c (both (operand e c.variables) (either (operand_register e c.variables) taken other) following count).entry d) (M.branches s x a b)
     branch_arrives e taken other exits following count s d fits space sees a b first second None q stands = tt
     branch_arrives e taken other exits following count s d fits space sees a b first second (Some w) q stands =
         let r = c.variables in
-        let p = operand_placed functions c there s e r d (Some w) fits (omega arith) space sees (word_is (value e s) w q) in
+        let p = operand_held functions c there s e r d (Some w) fits (omega arith) space sees (word_is (value e s) w q) in
         let sees' = sees_kept c s r d p.0 (omega arith) sees p.3 in
-        let last = either (place e r) taken other following count in
+        let last = either (operand_register e r) taken other following count in
         let front = operand e r last.entry (count + length last.nodes) in
-        let fork = forks functions c there (place e r) taken other following count (stands_front c.nodes last.nodes front.nodes count stands) in
+        let fork = forks functions c there (operand_register e r) taken other following count (stands_front c.nodes last.nodes front.nodes count stands) in
         let goes = p.1 last.entry (count + length last.nodes) (stands_behind c.nodes last.nodes front.nodes count stands) in
         let behind = count + length (other following count).nodes in
         let at : (z : Bool) → (w == 0) ≡ z → Arrives functions c bound exits following (at_node c front.entry d) (cond z b a) = λ z. elim z as (λ z. (w == 0) ≡ z → Arrives functions c bound exits following (at_node c front.entry d) (cond z b a)) [

@@ -15,13 +15,13 @@ use Rattle.rtlgen_definition.specs.Pieces.{Made, Piece, nothing, one, both, eith
 -- ---- expressions
 
 -- the register where an operand's value stands: a variable's own, else a temporary
-abbrev pub place : ExpressionTree → ℕ → ℕ
-place (C.Number w) r = r
-place (C.Variable v) r = v
-place (C.Load g i) r = r
-place (C.Unary o e) r = r
-place (C.Binary o a b) r = r
-place (C.Choice c a b) r = r
+abbrev pub operand_register : ExpressionTree → ℕ → ℕ
+operand_register (C.Number w) r = r
+operand_register (C.Variable v) r = v
+operand_register (C.Load g i) r = r
+operand_register (C.Unary o e) r = r
+operand_register (C.Binary o a b) r = r
+operand_register (C.Choice c a b) r = r
 
 -- what gives an operand's temporary its value: nothing where the operand is a variable
 abbrev pub unless_variable : ExpressionTree → Piece → Piece
@@ -37,27 +37,27 @@ unless_variable (C.Choice c a b) piece = piece
 abbrev pub expression : ExpressionTree → (target temporary : ℕ) → Piece
 expression (C.Number w) target r = one (Do (Constant target w))
 expression (C.Variable v) target r = one (Do (Move target v))
-expression (C.Load g i) target r = both (unless_variable i (expression i r r)) (one (Do (Load target g (place i r))))
-expression (C.Unary o e) target r = both (unless_variable e (expression e r r)) (one (Do (Operate o target (One (place e r)))))
+expression (C.Load g i) target r = both (unless_variable i (expression i r r)) (one (Do (Load target g (operand_register i r))))
+expression (C.Unary o e) target r = both (unless_variable e (expression e r r)) (one (Do (Operate o target (One (operand_register e r)))))
 expression (C.Binary o a b) target r =
     both (unless_variable a (expression a r r))
-    (both (unless_variable b (expression b (suc r) (suc r))) (one (Do (Operate o target (Two (place a r) (place b (suc r)))))))
+    (both (unless_variable b (expression b (suc r) (suc r))) (one (Do (Operate o target (Two (operand_register a r) (operand_register b (suc r)))))))
 expression (C.Choice c a b) target r =
-    both (unless_variable c (expression c r r)) (either (place c r) (expression a target r) (expression b target r))
+    both (unless_variable c (expression c r r)) (either (operand_register c r) (expression a target r) (expression b target r))
 
--- an operand's value goes to its place
+-- an operand's value goes to its register
 abbrev pub operand : ExpressionTree → ℕ → Piece
 operand e r = unless_variable e (expression e r r)
 
--- the values of arguments go to their places, one temporary behind the other
+-- the values of arguments go to their registers, one temporary behind the other
 abbrev pub operands : List ExpressionTree → ℕ → Piece
 operands [] r = nothing
 operands (e ∷ es) r = both (operand e r) (operands es (suc r))
 
 -- the registers where arguments stand
-abbrev pub places : List ExpressionTree → ℕ → List ℕ
-places [] r = []
-places (e ∷ es) r = place e r ∷ places es (suc r)
+abbrev pub operand_registers : List ExpressionTree → ℕ → List ℕ
+operand_registers [] r = []
+operand_registers (e ∷ es) r = operand_register e r ∷ operand_registers es (suc r)
 
 -- ---- statements
 
@@ -66,16 +66,16 @@ abbrev mutual
   pub statement : StatementTree → (r : ℕ) (exits : List ℕ) → Piece
   statement C.Skip r exits = nothing
   statement (C.Assign v e) r exits = expression e v r
-  statement (C.Store g i e) r exits = both (operand i r) (both (operand e (suc r)) (one (Do (Store g (place i r) (place e (suc r))))))
-  statement (C.Call f target arguments) r exits = both (operands arguments r) (one (Call f (places arguments r) target))
-  statement (C.Put target e) r exits = both (operand e r) (one (Do (Put (place e r) target)))
+  statement (C.Store g i e) r exits = both (operand i r) (both (operand e (suc r)) (one (Do (Store g (operand_register i r) (operand_register e (suc r))))))
+  statement (C.Call f target arguments) r exits = both (operands arguments r) (one (Call f (operand_registers arguments r) target))
+  statement (C.Put target e) r exits = both (operand e r) (one (Do (Put (operand_register e r) target)))
   statement (C.Sequence ss) r exits = statements ss r exits
-  statement (C.If e s t) r exits = both (operand e r) (either (place e r) (statement s r exits) (statement t r exits))
+  statement (C.If e s t) r exits = both (operand e r) (either (operand_register e r) (statement s r exits) (statement t r exits))
   statement (C.Loop s) r exits = again (statement s r exits)
   statement (C.Block s) r exits = λ next. statement s r (next ∷ exits) next
   statement (C.Exit n) r exits = λ next. nothing (slice_index_or exits n 0)
   statement (C.Return None) r exits = one (λ next. Return None)
-  statement (C.Return (Some e)) r exits = both (operand e r) (one (λ next. Return (Some (place e r))))
+  statement (C.Return (Some e)) r exits = both (operand e r) (one (λ next. Return (Some (operand_register e r))))
 
   pub statements : StatementsTree → (r : ℕ) (exits : List ℕ) → Piece
   statements C.Done r exits = nothing

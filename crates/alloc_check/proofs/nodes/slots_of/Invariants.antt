@@ -4,4 +4,4 @@ use Rattle.alloc_check.specs.Slots.{slot}
 use Rattle.alloc_check.proofs.nodes.slots_of.Given as goal
 
 abbrev pub invariant-loop-register : goal.invariant-loop-register
-invariant-loop-register l = l.places.items ≡ map slot (take l.register-index l.registers)
+invariant-loop-register l = l.locations.items ≡ map slot (take l.register-index l.registers)

@@ -1,4 +1,4 @@
-use Rattle.alloc_check_rules.proofs.Places.{value_moves}
+use Rattle.alloc_check_rules.proofs.Locations.{value_moves}
 use Rattle.alloc_check_rules.proofs.law.origins_hold.Goals as goal
 
 pub returns : goal.returns

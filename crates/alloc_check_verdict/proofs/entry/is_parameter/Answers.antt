@@ -2,7 +2,7 @@ use Rattle.std.proofs.Common.{◌≡◌, ◌≤◌, length, sym, arith}
 use Rattle.std.proofs.lemmas.Bool.{iff_false}
 use Rattle.alloc_check_rules.specs.Pairs.{equations_of}
 use Rattle.alloc_check_verdict.proofs.Each.{holds_on_got, all_of, found_among, not_among}
-use Rattle.alloc_check_verdict.proofs.Places.{pairs_few}
+use Rattle.alloc_check_verdict.proofs.Locations.{pairs_few}
 use Rattle.alloc_check_verdict.proofs.entry.is_parameter.Goals as goal
 
 pub returns-then-is_same : goal.returns-then-is_same

@@ -5,7 +5,7 @@ use Rattle.oracle_alloc_blocks.proofs.blocks.calling.Goals as goal
 
 pub returns : goal.returns
 returns c = λ registers nodes fits successor.
-    let P = LocationFits c.args.places.now.slots in
+    let P = LocationFits c.args.assignment.now.slots in
     let few : length c.from_vec.result ≤ 255 = omega (arith, ap length c.from_vec.ensures, fits.few, c.in_ok-arguments.ensures.count) in
     record {
       before = c.in_ok-before.ensures _ tt;
@@ -14,7 +14,7 @@ returns c = λ registers nodes fits successor.
           function = fits.function;
           few = few;
           arguments = recursion_from_All P c.from_vec.result (All-same P c.from_vec.result _ c.from_vec.ensures c.in_ok-arguments.ensures.fit);
-          target = c.place_of_any.ensures;
+          target = c.location_of_any.ensures;
         },
         c.in_ok-after.ensures _ tt,
         successor,

@@ -4,4 +4,4 @@ pub returns : goal.returns
 returns c = λ registers fit.
     let to = c.target_of-to.ensures in
     let taken = c.operands-taken.ensures registers _ fit in
-    record { first = taken.first; second = taken.second; act = (to.place, taken.arguments); after = to.step }
+    record { first = taken.first; second = taken.second; act = (to.register, taken.arguments); after = to.step }

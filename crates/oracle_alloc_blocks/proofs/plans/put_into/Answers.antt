@@ -4,4 +4,4 @@ pub returns : goal.returns
 returns c =
     let to = c.target_of-to.ensures in
     let from = c.source_of-from.ensures in
-    record { first = from.step; second = tt; act = (from.place, to.place); after = to.step }
+    record { first = from.step; second = tt; act = (from.register, to.register); after = to.step }

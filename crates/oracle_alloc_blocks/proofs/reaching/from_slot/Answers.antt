@@ -4,7 +4,7 @@ pub returns : goal.returns
 returns c = λ slots target source.
     let to = c.put_away-to.ensures slots target in
     record {
-      first = record { target = to.place; source = source; through = tt };
+      first = record { target = to.register; source = source; through = tt };
       second = to.step;
       act = tt;
       after = tt;

@@ -37,7 +37,7 @@ add_statement-returns-in_ok-branch-in-If-clause-added t c =
     subst (λ x. Adds (statement (statement_tree x) n exits) c.args.next c.add_statement.new.graph c.add_statement-in-If.new.graph c.in_ok-then-in-If.then) c.deref-in-If.ensures
     (subst (λ es. Adds (statement (statement_tree c.deref-in-If.result.now) n (reverse es)) c.args.next c.add_statement.new.graph c.add_statement-in-If.new.graph c.in_ok-then-in-If.then) c.in_ok-other-in-If.ensures.exits c.in_ok-then-in-If.ensures.added) in
     subst (λ x. IfOk r (λ e. Adds (statement x n exits) c.args.next c.args.graph.now k e)) (sym tree)
-    (if_added n exits k o s u r c.place.ensures other taken c.in_ok-branch-in-If.ensures c.add_operand.ensures)
+    (if_added n exits k o s u r c.operand_register.ensures other taken c.in_ok-branch-in-If.ensures c.add_operand.ensures)
 
 pub add_statement-returns-in_ok-turn-in-Loop-clause-added : goal.add_statement-returns-in_ok-turn-in-Loop-clause-added
 add_statement-returns-in_ok-turn-in-Loop-clause-added t c =

@@ -13,29 +13,29 @@ const SLOT_LIMIT: u16 = 2048;
 
 /// Where the registers lie, by their numbers, and how many slots that takes.
 #[derive(Drop)]
-pub struct Places {
+pub struct Assignment {
     pub given: Vec<Option<Location>>,
     pub slots: u16,
     ghost few: { slots ≤ 2048 },
 }
 
-impl Places {
+impl Assignment {
     /// So many registers, none of which lies anywhere yet.
-    pub fn none(alloc: Global, registers: u16) -> Result<Places, NoMemory>
-        ensures { IfOk result (λ places. places.slots ≡ 0) }
+    pub fn none(alloc: Global, registers: u16) -> Result<Assignment, NoMemory>
+        ensures { IfOk result (λ assignment. assignment.slots ≡ 0) }
     {
-        Ok(Places {
+        Ok(Assignment {
             given: vec![in alloc; None; usize::from(registers)]?,
             slots: 0,
         })
     }
 
     /// Lets the register lie there, if it is one of them.
-    pub fn give(&mut self, register: Register, place: Location)
+    pub fn give(&mut self, register: Register, location: Location)
         ensures { self.new.slots ≡ self.old.slots }
     {
         if let Some(given) = self.given.get_mut(usize::from(register)) {
-            *given = Some(place);
+            *given = Some(location);
         }
     }
 
@@ -53,8 +53,8 @@ impl Places {
         true
     }
 
-    /// Where the register lies: r0 stands for what was given no place, as nothing is.
-    pub fn place_of(&self, register: Register) -> Location
+    /// Where the register lies: r0 stands for what was given no location, as nothing is.
+    pub fn location_of(&self, register: Register) -> Location
         ensures { LocationFits self.now.slots result }
     {
         match self.given.get(usize::from(register)) {
@@ -64,12 +64,12 @@ impl Places {
     }
 
     /// The same for a register, if one is named.
-    pub fn place_of_any(&self, register: Option<Register>) -> Option<Location>
+    pub fn location_of_any(&self, register: Option<Register>) -> Option<Location>
         ensures { TargetFits self.now.slots result }
     {
         match register {
             None => None,
-            Some(register) => Some(self.place_of(register)),
+            Some(register) => Some(self.location_of(register)),
         }
     }
 
@@ -77,7 +77,7 @@ impl Places {
         ensures { IsTrue result → LocationFits self.now.slots location }
     {
         match location {
-            Location::InRegister(place) => place < REGISTER_COUNT,
+            Location::InRegister(register) => register < REGISTER_COUNT,
             Location::InSlot(slot) => slot < self.slots,
         }
     }

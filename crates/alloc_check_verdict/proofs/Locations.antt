@@ -1,4 +1,4 @@
--- Registers and locations, one with one, place by place.
+-- Registers and locations, one with one, in the order of both lists.
 use Rattle.std.proofs.Common.{◌≡◌, ℕ, zero, suc, ◌≤◌, List, [], ◌∷◌, length, Some, None, refl, arith}
 use Rattle.std.specs.Prelude.{slice_get}
 use Rattle.locations.specs.declared.location.Location.{Location}
@@ -14,8 +14,8 @@ pair_got [] ls k r l is also = absurd cc
 pair_got (q ∷ rs) [] k r l is also = absurd cc
 pair_got (q ∷ rs) (m ∷ ls) zero r l is also =
     let name : q ≡ r = cc in
-    let place : m ≡ l = cc in
-    λ i. Some (record { register = name i; location = place i })
+    let same_location : m ≡ l = cc in
+    λ i. Some (record { register = name i; location = same_location i })
 pair_got (q ∷ rs) (m ∷ ls) (suc k) r l is also = pair_got rs ls k r l is also
 
 pub no_name : (rs : List ℕ) (ls : List Location) (k : ℕ) → slice_get rs k ≡ None → slice_get (equations_of rs ls) k ≡ None
@@ -24,8 +24,8 @@ no_name (q ∷ rs) [] k is = refl
 no_name (q ∷ rs) (m ∷ ls) zero is = absurd cc
 no_name (q ∷ rs) (m ∷ ls) (suc k) is = no_name rs ls k is
 
-pub no_place : (rs : List ℕ) (ls : List Location) (k : ℕ) → slice_get ls k ≡ None → slice_get (equations_of rs ls) k ≡ None
-no_place [] ls k is = refl
-no_place (q ∷ rs) [] k is = refl
-no_place (q ∷ rs) (m ∷ ls) zero is = absurd cc
-no_place (q ∷ rs) (m ∷ ls) (suc k) is = no_place rs ls k is
+pub no_location : (rs : List ℕ) (ls : List Location) (k : ℕ) → slice_get ls k ≡ None → slice_get (equations_of rs ls) k ≡ None
+no_location [] ls k is = refl
+no_location (q ∷ rs) [] k is = refl
+no_location (q ∷ rs) (m ∷ ls) zero is = absurd cc
+no_location (q ∷ rs) (m ∷ ls) (suc k) is = no_location rs ls k is
