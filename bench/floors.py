@@ -20,11 +20,11 @@ TOLD = ("specs", "proofs", "src", "must-fail", "planted")
 
 # Each floor: its name, and its crates, lowest first.
 FLOORS = [
-    ("Base: machine words, languages, passes, programs", "ints lang_base lang_parts lang_programs owned"),
+    ("Base: machine words, languages, passes, programs", "ints lang_base lang_parts"),
     ("C: tokens and trees, the reader, the checker, the meaning",
      "c_syntax c_lexer_spellings c_lexer_parts c_lexer c_reader_tokens c_reader_expression_laws c_reader_expressions "
      "c_reader_productions c_reader_statement_laws c_reader_statements c_reader_declaration_laws c_reader c_program "
-     "c_checker_scopes c_checker_rules c_checker_names c_checker_terms c_checker_bodies c_checker_declarations c_checker "
+     "c_checker_scopes c_checker_rules c_checker_terms c_checker_bodies c_checker_declarations c_checker "
      "c_meaning_machine c_meaning"),
     ("Languages: whole programs of any, Cminor, RTL, LTL, Linear",
      "lang locations machine cminor_syntax cminor_form cminor_codec cminor_language rtl_parts rtl_language rtl_decoded "
@@ -33,7 +33,7 @@ FLOORS = [
      "cminor_lowering cminor_lowering_ranges cminor_program_ranges cminor rtlgen_definition "
      "rtlgen_code rtlgen"),
     ("Passes: the rules of each, that they keep the meaning, the check",
-     "rtl_passes rtl_passes_facts constprop_check_rules constprop_check cse_check_rules cse_check_codec cse_check alloc_check_rules "
+     "rtl_passes rtl_passes_facts constprop_check_rules constprop_check cse_check_rules cse_check alloc_check_rules "
      "alloc_check_laws alloc_check_blocks alloc_check_verdict alloc_check_live alloc_check linearize_check_proof "
      "linearize_check_layout linearize_check"),
     ("Optimisers: they propose, and nothing is claimed of them",

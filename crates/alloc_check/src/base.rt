@@ -8,7 +8,7 @@ use crate::lists::own_lists;
 use alloc_check_live::live_registers;
 use alloc_check_verdict::EquationLists;
 use lang_base::{NoMemory, PassError};
-use owned::beside;
+use lang_parts::beside;
 use std::alloc::Global;
 
 /// The equations of the registers that are live.

@@ -23,7 +23,7 @@ use c_checker_terms::{
 use c_program::{Action, Target, Term, Value};
 use c_syntax::{Call, Expression, ForStart, Identifier, Local, Lvalue, ReturnType, Set};
 use lang_base::NoMemory;
-use owned::{beside, ok, pair};
+use lang_parts::{beside, ok, pair};
 use std::alloc::Global;
 
 /// One action and then another.

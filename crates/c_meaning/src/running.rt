@@ -1,6 +1,6 @@
 //! Whole runs.
 
-ghost use Rattle.lang_programs.specs.Written.{Wrote};
+ghost use Rattle.lang_parts.specs.Written.{Wrote};
 ghost use Rattle.c_program.specs.Meaning.{crun};
 ghost use Rattle.c_meaning.specs.Parts.{program_of};
 ghost use Rattle.c_meaning.specs.Reaching.{still_shown};
@@ -12,7 +12,7 @@ use crate::starting::start;
 use c_meaning_machine::{Machine, Next};
 use c_program::{Function, GlobalVariable};
 use lang_base::Shown;
-use lang_programs::{RunError, print};
+use lang_parts::{RunError, print};
 use std::alloc::Global;
 use std::io::Write;
 

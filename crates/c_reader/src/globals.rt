@@ -13,7 +13,7 @@ use c_reader_tokens::{
 };
 use c_syntax::{Constant, Global, Initial, Initializer, Punctuator, Token};
 use lang_base::Row;
-use owned::{beside, ok};
+use lang_parts::{beside, ok};
 use std::alloc::Global as Memory;
 
 /// No function and no initial expression is higher.

@@ -15,7 +15,7 @@ use c_syntax::{
     Call, Expression, ForStart, Identifier, Local, Lvalue, Punctuator, Set, Token, Value,
 };
 use lang_base::Row;
-use owned::{beside, ok};
+use lang_parts::{beside, ok};
 use std::alloc::Global;
 
 /// One less fuel, for the parts of something.

@@ -14,7 +14,7 @@ use crate::first::{first_of, too_high};
 use crate::heads::{Head, Loop, read_head};
 use c_reader_tokens::{Fault, is_sign_next, is_word_next, read_sign, read_word};
 use c_syntax::{Expression, Keyword, Punctuator, Statement, Token};
-use owned::{beside, ok};
+use lang_parts::{beside, ok};
 use std::alloc::Global;
 
 /// A statement in a box.

@@ -11,7 +11,7 @@ use crate::parts::{one_less, read_call, read_local, read_name_in, read_value};
 use c_reader_expressions::expression;
 use c_reader_tokens::{Fault, is_sign_next, read_placed_word, read_sign};
 use c_syntax::{Keyword, Punctuator, Statement, Token, Value};
-use owned::{beside, ok};
+use lang_parts::{beside, ok};
 use std::alloc::Global;
 
 #[tactic(auto, unfolding(c_reader_statement_laws::specs::Reading::empty))]

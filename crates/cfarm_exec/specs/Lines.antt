@@ -1,7 +1,7 @@
 -- The line that a user is shown where `exec` is not done.
 use Rattle.std.specs.Prelude.{ℕ, List, codes}
 use Rattle.lang_base.specs.declared.errors.FormError.TheVariants as form
-use Rattle.lang_programs.specs.declared.error.RunError.TheVariants as run
+use Rattle.lang_parts.specs.declared.error.RunError.TheVariants as run
 use Rattle.cfarm_output.specs.Lines.{form_line}
 use Rattle.cfarm_exec.specs.declared.error.ExecError.{ExecError}
 use Rattle.cfarm_exec.specs.declared.error.ExecError.TheVariants as exec

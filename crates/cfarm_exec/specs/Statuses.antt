@@ -2,7 +2,7 @@
 use Rattle.std.specs.Prelude.{ℕ}
 use Rattle.lang_base.specs.declared.errors.FormError.{FormError}
 use Rattle.lang_base.specs.declared.errors.FormError.TheVariants as form
-use Rattle.lang_programs.specs.declared.error.RunError.TheVariants as run
+use Rattle.lang_parts.specs.declared.error.RunError.TheVariants as run
 use Rattle.cfarm_exec.specs.declared.error.ExecError.{ExecError}
 use Rattle.cfarm_exec.specs.declared.error.ExecError.TheVariants.{Form, Run}
 

@@ -8,7 +8,7 @@ use Rattle.linear_language.specs.Function.{FunctionData, IsFunction}
 use Rattle.linear_language.specs.Meaning.{run}
 use Rattle.linear_language.specs.Spelling.{spelling}
 use Rattle.lang.specs.Form.{IsProgram, program_text}
-use Rattle.lang_programs.specs.Written.{Wrote}
+use Rattle.lang_parts.specs.Written.{Wrote}
 use Rattle.cfarm_exec.specs.declared.error.ExecError.{ExecError}
 use Rattle.cfarm_exec.specs.declared.error.ExecError.TheVariants.{Form, Run}
 

@@ -3,7 +3,7 @@ ghost use Rattle.cfarm_exec.specs.Statuses.{status_of};
 
 use cfarm_output::FormLine;
 use lang_base::FormError;
-use lang_programs::RunError;
+use lang_parts::RunError;
 use std::fmt;
 
 /// Why a linked program was not run to its bound. Its text is the line that a user is shown.

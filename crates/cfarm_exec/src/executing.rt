@@ -4,7 +4,7 @@ ghost use Rattle.cfarm_exec.specs.Told.{HasRun, IsTold, Ran};
 use crate::error::ExecError;
 use crate::reading::read_whole;
 use lang_base::Shown;
-use lang_programs::RunError;
+use lang_parts::RunError;
 use linear::run;
 use std::alloc::Global;
 use std::io::Write;

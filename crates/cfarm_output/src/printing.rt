@@ -3,9 +3,9 @@
 ghost use Rattle.std.specs.Prelude.{◌≡◌, OnOk, OnErr, IfErr};
 ghost use Rattle.std.specs.Io.KnownBytes.{Appends};
 ghost use Rattle.cfarm_output.specs.Begun.{IsBegun};
-ghost use Rattle.lang_programs.specs.declared.error.RunError.TheVariants as RunError;
+ghost use Rattle.lang_parts.specs.declared.error.RunError.TheVariants as RunError;
 
-use lang_programs::{RunError, print};
+use lang_parts::{RunError, print};
 use std::io::Write;
 
 /// Prints the bytes. Where the writer fails a beginning of them was printed.

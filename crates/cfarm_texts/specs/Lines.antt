@@ -7,7 +7,7 @@ use Rattle.c_reader.specs.declared.errors.ReadError.{ReadError}
 use Rattle.c_reader.specs.declared.errors.ReadError.TheVariants as R
 use Rattle.c_checker_rules.specs.declared.errors.CheckError.{CheckError}
 use Rattle.c_checker_rules.specs.declared.errors.CheckError.TheVariants as C
-use Rattle.lang_programs.specs.declared.error.RunError.TheVariants as run
+use Rattle.lang_parts.specs.declared.error.RunError.TheVariants as run
 use Rattle.cfarm_texts.specs.Refusals.{number_of, offset_of}
 use Rattle.cfarm_texts.specs.declared.text_error.TextError.{TextError}
 use Rattle.cfarm_texts.specs.declared.text_error.TextError.TheVariants.{Lex, Read, Check}

@@ -8,8 +8,8 @@ use Rattle.cfarm_output.specs.Begun.{IsBegun}
 use Rattle.cfarm_texts.specs.Accepted.{IsAccepted}
 use Rattle.cfarm_texts.specs.Counts.{counts_line}
 use Rattle.cfarm_texts.specs.Refusals.{IsRefused}
-use Rattle.lang_programs.specs.Written.{Wrote}
-use Rattle.lang_programs.specs.declared.error.RunError.TheVariants as R
+use Rattle.lang_parts.specs.Written.{Wrote}
+use Rattle.lang_parts.specs.declared.error.RunError.TheVariants as R
 use Rattle.c_program.specs.Meaning.{crun}
 use Rattle.cfarm_texts.specs.declared.error.CommandError.{CommandError}
 use Rattle.cfarm_texts.specs.declared.error.CommandError.TheVariants.{Text, Run}

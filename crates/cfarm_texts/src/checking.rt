@@ -8,7 +8,7 @@ use crate::accept;
 use crate::error::CommandError;
 use c_checker_rules::CProgram;
 use cfarm_output::print_whole;
-use lang_programs::RunError;
+use lang_parts::RunError;
 use std::alloc::{AllocError, Global};
 use std::io::Write;
 

@@ -2,7 +2,7 @@ ghost use Rattle.std.specs.Prelude.{◌≡◌};
 ghost use Rattle.cfarm_texts.specs.Statuses.{status_of_error};
 
 use crate::TextError;
-use lang_programs::RunError;
+use lang_parts::RunError;
 use std::fmt;
 
 /// Why a command over a text was not done. Its text is the line that a user is shown.

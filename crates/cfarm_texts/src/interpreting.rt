@@ -5,7 +5,7 @@ use crate::accept;
 use crate::error::CommandError;
 use c_meaning::run;
 use lang_base::Shown;
-use lang_programs::RunError;
+use lang_parts::RunError;
 use std::alloc::Global;
 use std::io::Write;
 

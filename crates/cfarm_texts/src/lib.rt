@@ -15,5 +15,5 @@ pub use checking::check_text;
 pub use closing::{Closing, status_of};
 pub use error::CommandError;
 pub use interpreting::interpret;
-pub use lang_programs::RunError;
+pub use lang_parts::RunError;
 pub use text_error::TextError;

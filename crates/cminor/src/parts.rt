@@ -9,7 +9,7 @@ ghost use Rattle.cminor.specs.Parts.{three_tree, turn_tree, turns_tree};
 use cminor_codec::sequence;
 use cminor_syntax::{Expression, Statement};
 use lang_base::NoMemory;
-use owned::beside;
+use lang_parts::beside;
 use std::alloc::Global;
 
 /// A statement in a box.

@@ -4,11 +4,11 @@ ghost use Rattle.lang_base.specs.Reading.{Reads};
 ghost use Rattle.cminor_form.specs.Reading.{expression_of, too_high, load, operation, choice, expression};
 ghost use Rattle.cminor_codec.specs.Parts.{coded_expression, operands_of};
 
-use crate::parts::{boxed, read_global, read_variable};
+use crate::parts::{boxed, read_variable};
 use cminor_syntax::Expression;
 use ints::Op;
 use lang_base::{FormError, read_byte, read_u32};
-use owned::beside;
+use lang_parts::{beside, read_global};
 use std::alloc::Global;
 
 /// A node for which no fuel is left.

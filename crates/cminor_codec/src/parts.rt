@@ -2,7 +2,7 @@
 
 ghost use Rattle.std.specs.Prelude.{◌≡◌, ◌≢◌, IfOk, IfErr, Ok, Err};
 ghost use Rattle.lang_base.specs.Reading.{IsRead};
-ghost use Rattle.cminor_form.specs.Reading.{variable, global, function_number, target, frame};
+ghost use Rattle.cminor_form.specs.Reading.{variable, target, frame};
 
 use lang_base::{FormError, read_byte, read_count, read_u16, read_u16_below};
 use std::alloc::Global;
@@ -22,27 +22,6 @@ pub fn read_variable(variables: u16, bytes: &mut &[u8]) -> Result<u16, FormError
     ensures { IsRead (variable variables bytes.old.now) result bytes.new.now }
 {
     read_u16_below(u32::from(variables), bytes)
-}
-
-/// One of the globals that a program may have.
-#[tactic(auto, unfolding(cminor_form::specs::Reading::global))]
-pub fn read_global(bytes: &mut &[u8]) -> Result<u16, FormError>
-    ensures { IsRead (global bytes.old.now) result bytes.new.now }
-{
-    read_u16_below(1024, bytes)
-}
-
-/// One of the functions that a program may have.
-#[tactic(auto, unfolding(cminor_form::specs::Reading::function_number))]
-pub fn read_function_number(bytes: &mut &[u8]) -> Result<u8, FormError>
-    ensures { IsRead (function_number bytes.old.now) result bytes.new.now }
-{
-    let number = read_byte(bytes)?;
-    if number < 64 {
-        Ok(number)
-    } else {
-        Err(FormError::NotCanonical)
-    }
 }
 
 /// The variable that gets a result, if there is one.

@@ -6,10 +6,10 @@ ghost use Rattle.cminor_codec.specs.Results.{expressions_of, row_of, maybe_of};
 ghost use Rattle.cminor_codec.specs.Parts.{expressions, behind_code};
 
 use crate::expressions::read_expression;
-use crate::parts::{read_function_number, read_global, read_target, read_variable};
+use crate::parts::{read_target, read_variable};
 use cminor_syntax::{Expression, Statement};
 use lang_base::{FormError, Row, read_byte, read_u16};
-use owned::beside;
+use lang_parts::{beside, read_function_number, read_global};
 use std::alloc::Global;
 
 /// A variable, and the value that it becomes.

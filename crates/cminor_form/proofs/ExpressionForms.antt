@@ -1,22 +1,22 @@
 -- The reading of expressions is a form: each text is read again, and nothing else is read.
-use Rattle.std.proofs.Common.{◌≡◌, ℕ, zero, suc, ◌<◌, ◌≤◌, ◌^◌, List, [], ◌∷◌, ◌++◌, Option, Some, None, Result, Ok, Err, inl, inr, lit<, refl, sym, ap, subst, ◌∙◌, arith, max}
+use Rattle.std.proofs.Common.{◌≡◌, ℕ, zero, suc, ◌<◌, ◌≤◌, ◌^◌, List, [], ◌∷◌, ◌++◌, Ok, inl, inr, refl, sym, ap, subst, ◌∙◌, arith}
 use Rattle.std.specs.Prelude.{◌⊎◌}
 use Rattle.std.specs.Int.{w16, w32, to_be_bytes}
-use Rattle.lang_base.specs.declared.errors.FormError.{FormError}
-use Rattle.lang_base.specs.declared.errors.FormError.TheVariants.{TooLarge}
-use Rattle.lang_base.specs.Reading.{Reading, byte, number, made, decoded, both, follow, unknown}
-use Rattle.lang_base.proofs.Forms.{AreBytes, Takes, IsForm, done}
-use Rattle.lang_base.proofs.Parts.{bind_ok, byte_form, number16_form, number32_form, made_takes, made_again, made_form, decoded_form, fits_form, below_form, both_form}
-use Rattle.lang_base.proofs.Lists.{HasCode, TakesBehind, unknown_takes, follow_form, coded_form, optional_form}
+use Rattle.lang_base.specs.Reading.{Reading, byte, decoded, both, follow, unknown}
+use Rattle.lang_base.proofs.Forms.{IsForm}
+use Rattle.lang_base.proofs.Parts.{byte_form, number16_form, number32_form, made_takes, made_again, made_form, decoded_form, fits_form, below_form, both_form}
+use Rattle.lang_base.proofs.Lists.{HasCode, TakesBehind, unknown_takes, follow_form, coded_form}
+use Rattle.lang_parts.specs.Limits.{global}
+use Rattle.lang_parts.proofs.Limits.{global_form}
 use Rattle.ints.specs.declared.operators.Op.{Op}
-use Rattle.ints.specs.declared.operators.Op.TheVariants.{NegS, NegU, Not, IsZero}
 use Rattle.ints.specs.Codes.{code_of, op_of_code, argument_count_of}
 use Rattle.ints.proofs.Codes.{codes_lead_back}
+use Rattle.machine.proofs.Operators.{argument_count_range, code_small}
 use Rattle.machine.specs.Spelling.{byte_text}
 use Rattle.cminor_syntax.specs.Trees.{ExpressionTree, Number, Variable, Load, Unary, Binary, Choice}
-use Rattle.cminor_syntax.specs.Fits.{ExpressionFits, expression_height, global_limit, function_limit}
+use Rattle.cminor_syntax.specs.Fits.{ExpressionFits, expression_height, global_limit}
 use Rattle.cminor_form.specs.Spelling.{expression_text}
-use Rattle.cminor_form.specs.Reading.{too_high, variable, global, function_number, target, load, Operands, One, Two, operands, applied, operation, choice, expressions, expression_by_code, expression}
+use Rattle.cminor_form.specs.Reading.{too_high, variable, load, Operands, One, Two, operands, applied, operation, choice, expressions, expression_by_code, expression}
 
 -- the same form, by equal texts
 pub text_form : {A : Type 0} {part : Reading A} {text text' : A → List ℕ} {Fits : A → Type 0} → IsForm part text Fits → ((x : A) → text x ≡ text' x) → IsForm part text' Fits
@@ -43,14 +43,6 @@ pub variable_form : (variables : ℕ) → variables ≤ 2 ^ 16 → IsForm (varia
 unfolding variable
 variable_form variables few = below_form variables number16_form (λ n lt. omega arith)
 
-pub global_form : IsForm global (to_be_bytes w16) (λ g. g < global_limit)
-unfolding global
-global_form = below_form global_limit number16_form (λ n lt. omega arith)
-
-pub function_number_form : IsForm function_number byte_text (λ f. f < function_limit)
-unfolding function_number
-function_number_form = below_form function_limit byte_form (λ n lt. omega arith)
-
 -- ---- an expression's code, and what follows it
 
 abbrev code_of_expression : ExpressionTree → ℕ
@@ -76,19 +68,6 @@ text_is (Load g i) = refl
 text_is (Unary o e) = refl
 text_is (Binary o a b) = refl
 text_is (Choice c a b) = refl
-
-argument_count_range : (o : Op) → (argument_count_of o ≡ 1) ⊎ (argument_count_of o ≡ 2)
-unfolding argument_count_of
-argument_count_range NegS = inl refl
-argument_count_range NegU = inl refl
-argument_count_range Not = inl refl
-argument_count_range IsZero = inl refl
-argument_count_range _ = inr refl
-
-code_small : (o : Op) → code_of o < 256
-unfolding code_of
-code_small NegS = lit< tt
-code_small _ = lit< tt
 
 -- an expression whose parts fit
 abbrev PartsFitIn : ℕ → (ExpressionTree → Type 0) → ExpressionTree → Type 0

@@ -1,22 +1,24 @@
 -- The reading of statements is a form, and so is that of whole functions.
-use Rattle.std.proofs.Common.{◌≡◌, ℕ, zero, suc, ◌<◌, ◌≤◌, ◌^◌, Bool, true, false, cond, eqb, List, [], ◌∷◌, ◌++◌, length, Option, Some, None, Ok, refl, sym, ap, subst, ◌∙◌, arith, max}
+use Rattle.std.proofs.Common.{◌≡◌, ℕ, zero, suc, ◌<◌, ◌≤◌, ◌^◌, Bool, true, false, cond, eqb, List, [], ◌∷◌, ◌++◌, length, Option, Some, None, Ok, refl, sym, ap, subst, ◌∙◌, arith}
 use Rattle.std.specs.Prelude.{IfSome, nat_le}
 use Rattle.std.specs.Int.{w16, w32, to_be_bytes}
 use Rattle.std.specs.List.{flat_map, AllByRecursion}
 use Rattle.std.proofs.lemmas.Bool.{eqb-true, leb-true, le-leb}
 use Rattle.lang_base.specs.declared.errors.FormError.TheVariants.{NotCanonical, TooLarge}
-use Rattle.lang_base.specs.Reading.{Reading, byte, number, made, tested, up_to, both, counted, optional, Table, follow, unknown}
+use Rattle.lang_base.specs.Reading.{Reading, byte, number, up_to, both, counted, optional, Table, follow, unknown}
 use Rattle.lang_base.specs.Texts.{optional_text, counted_text, EachFits}
 use Rattle.lang_base.proofs.Forms.{AreBytes, Takes, IsForm, ok_is}
 use Rattle.lang_base.proofs.Parts.{byte_form, number16_form, number32_form, made_takes, made_again, made_form, tested_form, fits_form, up_to_form, both_form}
 use Rattle.lang_base.proofs.Lists.{counted_form, each_fits, fits_each, HasCode, TakesBehind, unknown_takes, follow_form, coded_form, optional_form, tagged_form}
 use Rattle.machine.specs.Fits.{parameter_limit}
 use Rattle.machine.specs.Spelling.{byte_text}
+use Rattle.lang_parts.specs.Limits.{global, function_number}
+use Rattle.lang_parts.proofs.Limits.{global_form, function_number_form}
 use Rattle.cminor_syntax.specs.Trees.{ExpressionTree, StatementTree, StatementsTree, FunctionTree, Skip, Assign, Store, Call, Put, Sequence, If, Loop, Block, Exit, Return, Done, First}
-use Rattle.cminor_syntax.specs.Fits.{ExpressionFits, MaybeFits, TargetFits, statement_count, StatementFits, StatementsFit, expression_height, arguments_height, maybe_height, statement_height, statements_height, global_limit, function_limit, variable_limit, height_limit, IsFunction}
+use Rattle.cminor_syntax.specs.Fits.{ExpressionFits, MaybeFits, TargetFits, statement_count, StatementFits, StatementsFit, arguments_height, maybe_height, statement_height, statements_height, global_limit, function_limit, variable_limit, height_limit, IsFunction}
 use Rattle.cminor_form.specs.Spelling.{expression_text, target_text, arguments_text, statement_text, statements_text, frame_text, spelling}
-use Rattle.cminor_form.specs.Reading.{variable, global, function_number, target, skip, assign, store, arguments, call, put, returned, plain_statements, plain_statement, sequence_of, sequence, branch, statements, statement_by_code, expression, statement, frame, parts, function}
-use Rattle.cminor_form.proofs.ExpressionForms.{text_form, no_fuel_form, variable_form, global_form, function_number_form, ExpressionFitsAt, expression_form}
+use Rattle.cminor_form.specs.Reading.{variable, target, skip, assign, store, arguments, call, put, returned, plain_statements, plain_statement, sequence_of, sequence, branch, statements, statement_by_code, expression, statement, frame, parts, function}
+use Rattle.cminor_form.proofs.ExpressionForms.{text_form, no_fuel_form, variable_form, ExpressionFitsAt, expression_form}
 
 -- ---- what follows a code in a table
 

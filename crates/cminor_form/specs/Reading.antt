@@ -4,12 +4,13 @@ use Rattle.std.specs.Int.{w16, w32}
 use Rattle.lang_base.specs.declared.errors.FormError.{FormError}
 use Rattle.lang_base.specs.declared.errors.FormError.TheVariants.{NotCanonical, TooLarge}
 use Rattle.lang_base.specs.Reading.{Reading, ◌>>=◌, byte, number, made, tested, decoded, below, up_to, both, counted, Table, follow, unknown, coded, optional, tagged}
+use Rattle.lang_parts.specs.Limits.{global, function_number}
 use Rattle.ints.specs.declared.operators.Op.{Op}
 use Rattle.ints.specs.Codes.{op_of_code, argument_count_of}
 use Rattle.machine.specs.Fits.{parameter_limit}
 use Rattle.cminor_syntax.specs.Trees.{ExpressionTree, StatementTree, StatementsTree, FunctionTree, Number, Variable, Load, Unary, Binary, Choice, Skip, Assign, Store, Call, Put, Sequence, If, Loop, Block, Exit, Return, Done, First}
 use Rattle.cminor_syntax.specs.Views.{expression_tree, statement_tree}
-use Rattle.cminor_syntax.specs.Fits.{global_limit, function_limit, variable_limit, height_limit}
+use Rattle.cminor_syntax.specs.Fits.{variable_limit, height_limit}
 use Rattle.cminor_syntax.specs.declared.expression.Expression.{Expression}
 use Rattle.cminor_syntax.specs.declared.statement.Statement.{Statement}
 
@@ -26,15 +27,9 @@ statement_of (Err fault) = Err fault
 unfoldable pub too_high : {A : Type 0} → Reading A
 too_high bytes = byte bytes >>= λ code. Err TooLarge
 
--- one of so many variables; one of the globals; one of the functions
+-- one of so many variables
 unfoldable pub variable : ℕ → Reading ℕ
 variable variables bytes = below variables (number w16) bytes
-
-unfoldable pub global : Reading ℕ
-global bytes = below global_limit (number w16) bytes
-
-unfoldable pub function_number : Reading ℕ
-function_number bytes = below function_limit byte bytes
 
 -- the variable that gets a result, if there is one
 unfoldable pub target : ℕ → Reading (Option ℕ)

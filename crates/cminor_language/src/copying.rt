@@ -7,7 +7,7 @@ use crate::function::Function;
 use cminor_codec::sequence;
 use cminor_syntax::{Expression, Statement};
 use lang_base::{NoMemory, Row};
-use owned::beside;
+use lang_parts::beside;
 use std::alloc::Global;
 
 #[cycle(expressions)]

@@ -1,6 +1,5 @@
 //! The reader and the writer of a whole function.
 
-ghost use Rattle.std.specs.Prelude.{ℕ, ◌<◌, slice_index, ◌≡◌};
 ghost use Rattle.lang_base.specs.Reading.{Reads};
 ghost use Rattle.lang_base.specs.Texts.{Appends};
 ghost use Rattle.cminor_form.specs.Reading.{parts, function};
@@ -11,12 +10,8 @@ use crate::function::Function;
 use cminor_codec::{push_statement, read_body, read_frame};
 use cminor_syntax::Statement;
 use lang_base::{FormError, NoMemory, push_byte, push_u16, read_byte};
+use lang_parts::are_bytes;
 use std::alloc::Global;
-
-/// Each number of a slice of bytes is a byte.
-fn are_bytes(bytes: &[u8])
-    ensures { (i : ℕ) → slice_index bytes.now i < 256 }
-{}
 
 /// The numbers of parameters and of variables, and the body.
 #[tactic(auto, unfolding(cminor_form::specs::Reading::parts))]

@@ -5,3 +5,5 @@ pub mod Mains
 pub mod Heads
 pub mod Programs
 pub mod Rows
+pub mod Tokens
+pub mod Trees

@@ -5,19 +5,14 @@ use Rattle.std.specs.List.{AllByRecursion}
 use Rattle.ints.specs.Codes.{argument_count_of}
 use Rattle.machine.specs.Fits.{parameter_limit}
 use Rattle.cminor_syntax.specs.Trees.{ExpressionTree, StatementTree, StatementsTree, FunctionTree, Number, Variable, Load, Unary, Binary, Choice, Skip, Assign, Store, Call, Put, Sequence, If, Loop, Block, Exit, Return, Done, First}
+pub use Rattle.lang_parts.specs.Limits.{global_limit, function_limit}
 
--- the limits of a function, and of a program
+-- the limits of a function
 abbrev pub variable_limit : ℕ
 variable_limit = 512
 
 abbrev pub height_limit : ℕ
 height_limit = 1000
-
-abbrev pub global_limit : ℕ
-global_limit = 1024
-
-abbrev pub function_limit : ℕ
-function_limit = 64
 
 -- an expression among so many variables
 abbrev pub ExpressionFits : ℕ → ExpressionTree → Type 0

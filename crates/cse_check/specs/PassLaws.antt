@@ -18,9 +18,9 @@ use Rattle.cse_check_rules.specs.Equations.{equation_by, kills}
 use Rattle.cse_check_rules.specs.Order.{rank, equation_text}
 use Rattle.cse_check_rules.specs.Rules.{EquationFits, Rise, IsKnown, elimination, IsEliminated}
 use Rattle.cse_check_rules.proofs.Sound.{sound}
-use Rattle.cse_check_codec.specs.Reading.{equation}
-use Rattle.cse_check_codec.proofs.Forms.{equation_form}
-use Rattle.cse_check_codec.proofs.Order.{rise_ranks}
+use Rattle.cse_check_rules.specs.Reading.{equation}
+use Rattle.cse_check_rules.proofs.Forms.{equation_form}
+use Rattle.cse_check_rules.proofs.Ranks.{rise_ranks}
 
 -- every function has a baseline
 abbrev pub never : FunctionData → Type 0

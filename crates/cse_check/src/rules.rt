@@ -1,8 +1,7 @@
 use crate::behind::{edges, fits, is_kept, is_made};
 use crate::moves::is_shared;
 use crate::pass::Cse;
-use cse_check_codec::{push_equation, read_equation};
-use cse_check_rules::{Equation, is_same, made, rank};
+use cse_check_rules::{Equation, is_same, made, push_equation, rank, read_equation};
 use lang_base::{FormError, NoMemory};
 use rtl_language::Instruction;
 use rtl_passes_facts::{Edges, Rules};
@@ -12,8 +11,8 @@ impl Rules for Cse {
     ghost use Rattle.cse_check_rules.specs.Equations.{equation_by, kills};
     ghost use Rattle.cse_check_rules.specs.Order.{rank, equation_text};
     ghost use Rattle.cse_check_rules.specs.Rules.{elimination};
-    ghost use Rattle.cse_check_codec.specs.Reading.{equation};
-    ghost use Rattle.cse_check_codec.proofs.Forms.{equation_form};
+    ghost use Rattle.cse_check_rules.specs.Reading.{equation};
+    ghost use Rattle.cse_check_rules.proofs.Forms.{equation_form};
     ghost use Rattle.cse_check.specs.PassLaws.{ranked_law, known_law};
 
     type Fact = Equation;

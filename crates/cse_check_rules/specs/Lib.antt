@@ -1,6 +1,7 @@
 pub mod Equations
 pub mod Order
 pub mod Ranges
+pub mod Reading
 pub mod Rules
 pub use Rattle.rtl_passes.specs.Shape
 pub use Rattle.rtl_passes.specs.Facts

@@ -8,17 +8,11 @@ use Rattle.lang_base.specs.declared.program.Global.{Global}
 use Rattle.lang_base.specs.declared.program.Named.{Named}
 use Rattle.lang_base.specs.declared.program.Program.{Program}
 use Rattle.c_lexer_parts.specs.Lexemes.{IsName}
+pub use Rattle.lang_parts.specs.Limits.{global_limit, function_limit}
 
--- the limits of a program
-abbrev pub global_limit : ℕ
-global_limit = 1024
-
--- of all globals together
+-- a program has at most so many cells, of all globals together
 abbrev pub cell_limit : ℕ
 cell_limit = 65536
-
-abbrev pub function_limit : ℕ
-function_limit = 64
 
 -- a name is so long at most
 abbrev pub name_limit : ℕ

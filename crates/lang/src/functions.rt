@@ -1,19 +1,13 @@
 //! Readers of named functions: a language's reader says which functions have a spelling, and so these
 //! say it of named ones.
 
-ghost use Rattle.std.specs.Prelude.{ℕ, ◌<◌, slice_index};
 ghost use Rattle.lang.specs.Form.{named_text, FunctionFits};
 ghost use Rattle.lang.specs.Fronts.{Fronts, functions_text, FunctionsFit};
 
 use crate::names::read_name;
 use lang_base::{FormError, Language, Named, Row};
-use lang_programs::is_taken;
+use lang_parts::{are_bytes, is_taken};
 use std::alloc::Global;
-
-/// Each number of a slice of bytes is a byte.
-fn are_bytes(bytes: &[u8])
-    ensures { (i : ℕ) → slice_index bytes.now i < 256 }
-{}
 
 /// A function and its name, behind others with other names.
 fn read_named<L: Language>(

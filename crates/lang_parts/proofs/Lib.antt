@@ -1,3 +1,4 @@
 pub mod Equal
 pub mod Graphs
 pub mod Growth
+pub mod Limits

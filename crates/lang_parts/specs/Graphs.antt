@@ -2,8 +2,12 @@
 use Rattle.std.specs.Prelude.{ℕ, List, ◌++◌, nat_lt}
 use Rattle.std.specs.Int.{w16, to_be_bytes}
 use Rattle.lang_base.specs.declared.errors.FormError.TheVariants.{NotCanonical}
-use Rattle.lang_base.specs.Reading.{Reading, number, made, tested, both}
+use Rattle.lang_base.specs.Reading.{Reading, number, made, tested, below, both}
 use Rattle.lang_base.specs.Texts.{counted_text}
+
+-- one of so many nodes
+unfoldable pub node : ℕ → Reading ℕ
+node nodes bytes = below nodes (number w16) bytes
 
 -- the entry and the number of nodes, of which it is one
 unfoldable pub ends : Reading (ℕ × ℕ)

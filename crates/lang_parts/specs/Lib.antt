@@ -1,1 +1,6 @@
 pub mod Graphs
+pub mod Limits
+pub mod Meant
+pub mod Numbers
+pub mod Written
+pub use Rattle.lang_base.specs.Behaviour

@@ -1,7 +1,7 @@
 pub mod Functions
 pub mod Machines
 pub mod Prepared
-pub use Rattle.lang_programs.specs.Written
+pub use Rattle.lang_parts.specs.Written
 pub use Rattle.linear_language.specs.Meaning
 pub use Rattle.linear_language.specs.Function
 pub use Rattle.lang_base.specs.Behaviour

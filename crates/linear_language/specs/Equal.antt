@@ -9,7 +9,7 @@ use Rattle.locations.specs.declared.location.Location.{Location}
 use Rattle.locations.specs.contracts.location.LocationPartialEq.TheImpl as location_eq
 use Rattle.locations.specs.contracts.location.LocationEq.TheImpl.Laws as location_laws
 use Rattle.machine.specs.contracts.test.TestPartialEq.TheImpl as test_eq
-use Rattle.lang_parts.proofs.Equal.{Tells, lists_tell}
+use Rattle.lang_parts.proofs.Equal.{Tells, lists_tell, options_tell, number_tells}
 use Rattle.machine.proofs.Equal.{location_tells, move_tells, act_tells, test_tells}
 use Rattle.linear_language.specs.contracts.instruction.InstructionPartialEq.TheImpl as instruction_eq
 use Rattle.linear_language.specs.contracts.instruction.InstructionEq.TheImpl.Laws as instruction_laws
@@ -25,11 +25,8 @@ same_laws =
     (and_equiv (on_equiv (λ (f : FunctionData). f.parameters) (lists_equiv location_laws.laws-law)) (on_equiv (λ (f : FunctionData). f.slots) nat_eq_equiv))
     (on_equiv (λ (f : FunctionData). f.code) (lists_equiv instruction_laws.laws-law))
 
-value_tells : (v w : Option ℕ) → (instruction_eq.ghosts).eq (Return v) (Return w) ≡ true → v ≡ w
-value_tells None None e = refl
-value_tells None (Some r) e = absurd cc
-value_tells (Some r) None e = absurd cc
-value_tells (Some r) (Some q) e = ap (λ n. Some n) (eqb-true r q e)
+value_tells : Tells (λ (v w : Option ℕ). (instruction_eq.ghosts).eq (Return v) (Return w))
+value_tells = options_tell nat_eq (λ v w. (instruction_eq.ghosts).eq (Return v) (Return w)) number_tells (λ b. refl) (λ a. refl) (λ a b. refl)
 
 locations_tell : Tells (pointwise (location_eq.ghosts).eq)
 locations_tell = lists_tell (location_eq.ghosts).eq location_tells

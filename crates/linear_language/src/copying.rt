@@ -5,6 +5,7 @@ ghost use Rattle.std.specs.Prelude.{◌≡◌, IfOk};
 use crate::function::Function;
 use crate::instruction::Instruction;
 use lang_base::{NoMemory, Row};
+use lang_parts::{CopyOne, copy_each};
 use std::alloc::Global;
 
 /// An equal instruction.
@@ -33,14 +34,12 @@ fn copy_instruction(alloc: Global, instruction: &Instruction) -> Result<Instruct
     }
 }
 
-fn copy_code(alloc: Global, code: &[Instruction]) -> Result<Vec<Instruction>, NoMemory>
-    ensures { IfOk result (λ copied. copied.items ≡ code.now) }
-{
-    let mut copied = Vec::new(alloc);
-    for instruction in code {
-        copied.push(copy_instruction(alloc, instruction)?)?;
+impl CopyOne for Instruction {
+    type Item = Instruction;
+
+    fn copy_one(alloc: Global, item: &Instruction) -> Result<Instruction, NoMemory> {
+        copy_instruction(alloc, item)
     }
-    Ok(copied)
 }
 
 /// An equal function.
@@ -48,6 +47,6 @@ pub fn copy_function(alloc: Global, function: &Function) -> Result<Function, NoM
     ensures { IfOk result (λ copied. copied ≡ function.now) }
 {
     let parameters = function.parameters().copied(alloc)?;
-    let code = copy_code(alloc, function.code().as_slice())?;
+    let code = copy_each::<Instruction>(alloc, function.code().as_slice())?;
     Ok(Function::new(parameters, function.slots(), Row::from_vec(code)))
 }

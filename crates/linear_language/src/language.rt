@@ -3,15 +3,43 @@ use crate::function::Function;
 use crate::reading::read_function;
 use crate::writing::push_function;
 use lang_base::{FormError, Language, NoMemory};
+use lang_parts::{Form, read_front, write_whole};
 use std::alloc::Global;
 
 /// Linear, the last language of the pipeline.
 pub struct Linear;
 
+impl Form for Linear {
+    ghost use Rattle.lang_base.specs.Reading.{Reads};
+    ghost use Rattle.lang_base.specs.Texts.{Appends};
+    ghost use Rattle.linear_language.specs.Forms.{function_form};
+    ghost use Rattle.linear_language.specs.Function.{IsFunction};
+    ghost use Rattle.linear_language.specs.Reading.{function};
+    ghost use Rattle.linear_language.specs.Spelling.{spelling};
+
+    type Value = Function;
+
+    ghost reading = { function };
+
+    ghost text = { spelling };
+
+    ghost in_range = { IsFunction };
+
+    fn read_next(alloc: Global, bytes: &mut &[u8]) -> Result<Function, FormError> {
+        read_function(alloc, bytes)
+    }
+
+    fn push(out: &mut Vec<u8>, value: &Function) -> Result<(), NoMemory> {
+        push_function(out, value)
+    }
+
+    ghost form = { function_form };
+}
+
 impl Language for Linear {
     ghost use Rattle.std.specs.Prelude.{◌≡◌, ◌≢◌, ◌≤◌, ℕ, List, ◌++◌, length, take, true, ◌↔◌, OnOk, OnErr, IfOk, IfErr};
     ghost use Rattle.lang_base.proofs.Forms.{one_text};
-    ghost use Rattle.machine.proofs.Equal.{tells_decides};
+    ghost use Rattle.lang_parts.proofs.Equal.{tells_decides};
     ghost use Rattle.linear_language.specs.Equal.{same_laws, function_tells};
     ghost use Rattle.linear_language.specs.Forms.{function_form};
     ghost use Rattle.linear_language.specs.Function.{IsFunction};
@@ -40,18 +68,11 @@ impl Language for Linear {
     }
 
     fn write(function: &Function, out: &mut Vec<u8>) -> Result<(), NoMemory> {
-        let length = out.len();
-        let written = push_function(out, function);
-        if written.is_err() {
-            out.truncate(length);
-        }
-        written
+        write_whole::<Linear>(function, out)
     }
 
     fn read(alloc: Global, bytes: &[u8]) -> Result<(Function, usize), FormError> {
-        let mut rest = bytes;
-        let function = read_function(alloc, &mut rest)?;
-        Ok((function, bytes.len() - rest.len()))
+        read_front::<Linear>(alloc, bytes)
     }
 
     ghost one_spelling = { λ f g x y fits also e. one_text function_form f g x y fits also e };

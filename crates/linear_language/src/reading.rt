@@ -1,7 +1,6 @@
 //! Readers of the parts of a function. Each is one function on lists, which says the value and the
 //! bytes behind it, or the first fault.
 
-ghost use Rattle.std.specs.Prelude.{ℕ, ◌<◌, slice_index};
 ghost use Rattle.lang_base.specs.Reading.{Reads, items_of};
 ghost use Rattle.linear_language.specs.Flags.{Flags};
 ghost use Rattle.linear_language.specs.Labels.{labels_of};
@@ -11,7 +10,7 @@ use crate::function::Function;
 use crate::instruction::Instruction;
 use crate::labels::{no_labels, note};
 use lang_base::{FormError, Row, read_byte, read_u16, read_u32};
-use lang_parts::{ReadOne, read_so_many};
+use lang_parts::{ReadOne, are_bytes, read_so_many};
 use machine::{Location, read_act, read_call, read_frame, read_move, read_test, read_value};
 use std::alloc::Global;
 
@@ -113,11 +112,6 @@ fn read_parts(
     let code = read_code(alloc, frame.1, bytes)?;
     Ok((frame, Row::from_vec(code)))
 }
-
-/// Each number of a slice of bytes is a byte.
-fn are_bytes(bytes: &[u8])
-    ensures { (i : ℕ) → slice_index bytes.now i < 256 }
-{}
 
 /// A function, its tag first.
 #[tactic(auto, unfolding(crate::specs::Reading::function))]

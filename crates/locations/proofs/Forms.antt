@@ -12,9 +12,11 @@ use Rattle.lang_base.proofs.Parts.{byte_form, number16_form, made_takes, made_ag
 use Rattle.lang_base.proofs.Lists.{counted_form, each_fits, fits_each, HasCode, unknown_takes, follow_form, coded_form, optional_form}
 use Rattle.locations.specs.declared.location.Location.{Location}
 use Rattle.locations.specs.declared.location.Location.TheVariants.{InRegister, InSlot}
+use Rattle.lang_parts.specs.Limits.{function_number}
+use Rattle.lang_parts.proofs.Limits.{function_number_form}
 use Rattle.locations.specs.Fits.{parameter_limit, slot_limit, function_limit, RegisterFits, ValueFits, LocationFits, TargetFits, HasRegister, MoveFits, MovesFit, CallFits, AreDistinct, ParametersFit}
 use Rattle.locations.specs.Spelling.{byte_text, value_text, location_code, location_body, location_text, locations_text, target_text, move_text, moves_text, call_text, frame_text}
-use Rattle.locations.specs.Reading.{register, value, locations, location, is_slot, one_move, moves, function_number, target, arguments, call, same_location, parameter, parameters, lies_within, frame}
+use Rattle.locations.specs.Reading.{register, value, locations, location, is_slot, one_move, moves, target, arguments, call, same_location, parameter, parameters, lies_within, frame}
 use Rattle.locations.proofs.Distinct.{each_both, both_each, none_same, same_none, keys_of, IsNewKey, each_distinct, distinct_each}
 
 pub register_form : IsForm register byte_text RegisterFits
@@ -87,10 +89,6 @@ moves_form slots few =
     (λ ms fits. (omega (arith, fits.few), fits_each (MoveFits slots) [] ms fits.each))
 
 -- ---- what a call names
-
-function_number_form : IsForm function_number byte_text (λ n. n < function_limit)
-unfolding function_number
-function_number_form = below_form function_limit byte_form (λ n lt. omega arith)
 
 target_fits : (slots : ℕ) (o : Option Location) → IfSome o (LocationFits slots) → TargetFits slots o
 target_fits slots None fits = tt

@@ -7,7 +7,8 @@ use Rattle.lang_base.specs.Reading.{Reading, byte, number, made, tested, below, 
 use Rattle.locations.specs.declared.location.Location.{Location}
 use Rattle.locations.specs.declared.location.Location.TheVariants.{InRegister, InSlot}
 use Rattle.locations.specs.declared.location.Move.{Move}
-use Rattle.locations.specs.Fits.{parameter_limit, slot_limit, function_limit}
+use Rattle.lang_parts.specs.Limits.{function_number}
+use Rattle.locations.specs.Fits.{parameter_limit, slot_limit}
 
 unfoldable pub register : Reading ℕ
 register bytes = below 8 byte bytes
@@ -35,9 +36,6 @@ unfoldable pub moves : ℕ → Reading (List Move)
 moves slots bytes = counted byte (λ before. one_move slots) bytes
 
 -- ---- what a call names
-
-unfoldable pub function_number : Reading ℕ
-function_number bytes = below function_limit byte bytes
 
 -- a location, or none
 unfoldable pub target : ℕ → Reading (Option Location)

@@ -1,15 +1,15 @@
 //! Readers of locations and of what is made of them. Each is one function on lists, which says the
 //! value and the bytes behind it, or the first fault.
 
-ghost use Rattle.std.specs.Prelude.{◌≡◌, ◌^◌, ◌&&◌};
+ghost use Rattle.std.specs.Prelude.{◌≡◌, ◌&&◌};
 ghost use Rattle.std.specs.List.{list_all};
 ghost use Rattle.lang_base.specs.Reading.{IsRead, Reads, items_of};
-ghost use Rattle.locations.specs.Reading.{register, value, location, is_slot, one_move, moves, function_number, target, arguments, call, parameter, parameters, lies_within, frame};
+ghost use Rattle.locations.specs.Reading.{register, value, location, is_slot, one_move, moves, target, arguments, call, parameter, parameters, lies_within, frame};
 
 use crate::location::{Location, Move};
 use crate::register::{REGISTER_COUNT, Register};
 use lang_base::{FormError, Row, read_byte, read_count, read_u16, read_u16_below};
-use lang_parts::{ReadOne, read_so_many};
+use lang_parts::{ReadOne, read_function_number, read_so_many};
 use std::alloc::Global;
 
 /// A register.
@@ -97,19 +97,6 @@ pub fn read_moves(alloc: Global, slots: u32, bytes: &mut &[u8]) -> Result<Row<Mo
     let count = read_byte(bytes)?;
     let moves = read_so_many(alloc, Moves { slots }, u32::from(count), bytes)?;
     Ok(Row::from_vec(moves))
-}
-
-/// The number of a function.
-#[tactic(auto, unfolding(crate::specs::Reading::function_number))]
-fn read_function_number(bytes: &mut &[u8]) -> Result<u8, FormError>
-    ensures { IsRead (function_number bytes.old.now) result bytes.new.now }
-{
-    let number = read_byte(bytes)?;
-    if number < 64 {
-        Ok(number)
-    } else {
-        Err(FormError::NotCanonical)
-    }
 }
 
 /// A location, or none.

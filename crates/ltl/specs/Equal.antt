@@ -12,7 +12,7 @@ use Rattle.locations.specs.contracts.location.LocationEq.TheImpl.Laws as locatio
 use Rattle.locations.specs.contracts.location.MovePartialEq.TheImpl as move_eq
 use Rattle.machine.specs.contracts.act.ActPartialEq.TheImpl as act_eq
 use Rattle.machine.specs.contracts.test.TestPartialEq.TheImpl as test_eq
-use Rattle.lang_parts.proofs.Equal.{Tells, lists_tell}
+use Rattle.lang_parts.proofs.Equal.{Tells, lists_tell, options_tell, number_tells}
 use Rattle.machine.proofs.Equal.{location_tells, move_tells, act_tells, test_tells}
 use Rattle.ltl.specs.contracts.block.BodyPartialEq.TheImpl as body_eq
 use Rattle.ltl.specs.contracts.block.BlockPartialEq.TheImpl as block_eq
@@ -34,11 +34,8 @@ same_laws =
 moves_tell : Tells (pointwise (move_eq.ghosts).eq)
 moves_tell = lists_tell (move_eq.ghosts).eq move_tells
 
-value_tells : (v w : Option ℕ) → (body_eq.ghosts).eq (Return v) (Return w) ≡ true → v ≡ w
-value_tells None None e = refl
-value_tells None (Some r) e = absurd (false≢true e)
-value_tells (Some r) None e = absurd (false≢true e)
-value_tells (Some r) (Some q) e = ap (λ n. Some n) (eqb-true r q e)
+value_tells : Tells (λ (v w : Option ℕ). (body_eq.ghosts).eq (Return v) (Return w))
+value_tells = options_tell nat_eq (λ v w. (body_eq.ghosts).eq (Return v) (Return w)) number_tells (λ b. refl) (λ a. refl) (λ a b. refl)
 
 locations_tell : Tells (pointwise (location_eq.ghosts).eq)
 locations_tell = lists_tell (location_eq.ghosts).eq location_tells

@@ -1,12 +1,13 @@
 -- The reading of LTL is a form: each spelling is read again, and nothing else is read.
-use Rattle.std.proofs.Common.{◌≡◌, ℕ, ◌<◌, ◌≤◌, ◌^◌, List, [], ◌++◌, Some, None, Ok, refl, arith}
+use Rattle.std.proofs.Common.{◌≡◌, ℕ, ◌<◌, ◌≤◌, ◌^◌, List, ◌++◌, Some, None, Ok, refl, arith}
 use Rattle.std.specs.Int.{w16, to_be_bytes}
 use Rattle.std.specs.List.{flat_map}
 use Rattle.lang_base.specs.Reading.{both, follow}
 use Rattle.lang_base.proofs.Forms.{IsForm}
-use Rattle.lang_parts.proofs.Graphs.{AllNodesFit, GraphFits, graph_of_form}
-use Rattle.lang_base.proofs.Parts.{number16_form, made_takes, made_again, made_form, fits_form, below_form, both_form}
-use Rattle.lang_base.proofs.Lists.{more_form, each_fits, fits_each, HasCode, TakesBehind, follow_form, coded_form, tagged_form}
+use Rattle.lang_parts.specs.Graphs.{node}
+use Rattle.lang_parts.proofs.Graphs.{node_form, TwoNodesFit, two_nodes_form, AllNodesFit, GraphFits, nodes_form, graph_of_form}
+use Rattle.lang_base.proofs.Parts.{made_takes, made_again, made_form, both_form}
+use Rattle.lang_base.proofs.Lists.{HasCode, TakesBehind, follow_form, coded_form, tagged_form}
 use Rattle.locations.specs.declared.location.Location.{Location}
 use Rattle.locations.specs.declared.location.Move.{Move}
 use Rattle.machine.specs.declared.act.Act.{Act}
@@ -21,13 +22,9 @@ use Rattle.ltl.specs.declared.block.Body.{Body}
 use Rattle.ltl.specs.declared.block.Body.TheVariants.{Go, Call, Branch, Return}
 use Rattle.ltl.specs.Function.{FunctionData, BodyFits, BlockFits, IsFunction}
 use Rattle.ltl.specs.Spelling.{going_text, body_code, body_body, body_text, block_text, graph_text, tag, spelling}
-use Rattle.ltl.specs.Reading.{node, going, calling, branch, bodies, plain, body, block, blocks, graph, parts, function}
+use Rattle.ltl.specs.Reading.{going, calling, branch, bodies, plain, body, block, blocks, graph, parts, function}
 
 -- ---- a body
-
-node_form : (nodes : ℕ) → nodes ≤ 2 ^ 16 → IsForm (node nodes) (to_be_bytes w16) (λ n. n < nodes)
-unfolding node
-node_form nodes few = below_form nodes number16_form (λ n lt. omega arith)
 
 abbrev GoingFits : ℕ → ℕ → ℕ × List Move → Type 0
 GoingFits slots nodes p = (p.0 < nodes) × MovesFit slots p.1
@@ -58,13 +55,6 @@ unfolding calling
 calling_takes slots nodes few_slots few =
     made_takes calling_of (calling_parts slots nodes few_slots few) body_body (HasCode body_code body_body (BodyFits slots nodes) 6) (λ p fits. (refl, ((fits.0, fits.1.1, fits.1.0), refl)))
 
-abbrev NodesFit : ℕ → ℕ × ℕ → Type 0
-NodesFit nodes p = (p.0 < nodes) × (p.1 < nodes)
-
-nodes_form : (nodes : ℕ) → nodes ≤ 2 ^ 16 → IsForm (both (node nodes) (λ taken. node nodes)) (λ p. to_be_bytes w16 p.0 ++ to_be_bytes w16 p.1) (NodesFit nodes)
-nodes_form nodes few =
-    both_form (node nodes) (to_be_bytes w16) (λ n. n < nodes) (node_form nodes few) (λ s. node nodes) (λ s. to_be_bytes w16) (λ s n. n < nodes) (λ s fits. node_form nodes few)
-
 abbrev BranchParts : Type 0
 BranchParts = Test × (ℕ × ℕ)
 
@@ -72,11 +62,11 @@ abbrev branch_text : BranchParts → List ℕ
 branch_text p = test_text p.0 ++ (to_be_bytes w16 p.1.0 ++ to_be_bytes w16 p.1.1)
 
 abbrev BranchFits : ℕ → BranchParts → Type 0
-BranchFits nodes p = TestFits p.0 × NodesFit nodes p.1
+BranchFits nodes p = TestFits p.0 × TwoNodesFit nodes p.1
 
 branch_parts : (nodes : ℕ) → nodes ≤ 2 ^ 16 → IsForm (both asked (λ t. both (node nodes) (λ taken. node nodes))) branch_text (BranchFits nodes)
 branch_parts nodes few =
-    both_form asked test_text TestFits test_form (λ t. both (node nodes) (λ taken. node nodes)) (λ t p. to_be_bytes w16 p.0 ++ to_be_bytes w16 p.1) (λ t. NodesFit nodes) (λ t fits. nodes_form nodes few)
+    both_form asked test_text TestFits test_form (λ t. both (node nodes) (λ taken. node nodes)) (λ t p. to_be_bytes w16 p.0 ++ to_be_bytes w16 p.1) (λ t. TwoNodesFit nodes) (λ t fits. two_nodes_form nodes few)
 
 abbrev PlainParts : Type 0
 PlainParts = Act × (ℕ × List Move)
@@ -155,10 +145,7 @@ block_form slots nodes few_slots few =
 
 blocks_form : (slots nodes : ℕ) → slots ≤ 2 ^ 16 → nodes ≤ 2 ^ 16 → IsForm (blocks slots nodes) (flat_map block_text) (AllNodesFit (BlockFits slots) nodes)
 unfolding blocks
-blocks_form slots nodes few_slots few =
-    fits_form (more_form (λ before. block slots nodes) block_text (λ before. BlockFits slots nodes) (λ before. block_form slots nodes few_slots few) nodes)
-    (λ bs fits. (fits.0, each_fits (BlockFits slots nodes) [] bs fits.1))
-    (λ bs fits. (fits.0, fits_each (BlockFits slots nodes) [] bs fits.1))
+blocks_form slots nodes few_slots few = nodes_form (block slots nodes) block_text (BlockFits slots) nodes (block_form slots nodes few_slots few)
 
 graph_form : (slots : ℕ) → slots ≤ 2 ^ 16 → IsForm (graph slots) graph_text (GraphFits (BlockFits slots))
 unfolding graph

@@ -8,6 +8,7 @@ use Rattle.machine.specs.Fits.{ParametersFit, MovesFit, ActFits, CallFits, TestF
 use Rattle.ltl.specs.declared.block.Block.{Block}
 use Rattle.ltl.specs.declared.block.Body.{Body}
 use Rattle.ltl.specs.declared.block.Body.TheVariants.{Go, Call, Branch, Return}
+pub use Rattle.lang_parts.specs.Limits.{node_limit}
 
 -- where the parameters lie, the number of slots, the entry, and the blocks by node number
 pub record FunctionData : Type 0 where
@@ -15,10 +16,6 @@ pub record FunctionData : Type 0 where
   pub slots : ℕ
   pub entry : ℕ
   pub blocks : List Block
-
--- a function has at most so many nodes
-abbrev pub node_limit : ℕ
-node_limit = 65535
 
 abbrev pub MaybeActFits : Option Act → Type 0
 MaybeActFits None = Unit {0}

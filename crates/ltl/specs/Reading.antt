@@ -1,8 +1,7 @@
 -- How a function of LTL is read.
 use Rattle.std.specs.Prelude.{ℕ, List, [], ◌∷◌, Some, None}
-use Rattle.std.specs.Int.{w16}
-use Rattle.lang_parts.specs.Graphs.{graph_of}
-use Rattle.lang_base.specs.Reading.{Reading, number, made, below, both, more, Table, follow, coded, tagged}
+use Rattle.lang_parts.specs.Graphs.{node, graph_of}
+use Rattle.lang_base.specs.Reading.{Reading, made, both, more, Table, follow, coded, tagged}
 use Rattle.locations.specs.declared.location.Location.{Location}
 use Rattle.locations.specs.declared.location.Move.{Move}
 use Rattle.machine.specs.Reading.{moves, call, asked, value, act, frame}
@@ -11,10 +10,6 @@ use Rattle.ltl.specs.declared.block.Body.{Body}
 use Rattle.ltl.specs.declared.block.Body.TheVariants.{Go, Call, Branch, Return}
 use Rattle.ltl.specs.Function.{FunctionData}
 use Rattle.ltl.specs.Spelling.{tag}
-
--- one of so many nodes
-unfoldable pub node : ℕ → Reading ℕ
-node nodes bytes = below nodes (number w16) bytes
 
 -- the successor, and the moves behind the instruction
 unfoldable pub going : ℕ → ℕ → Reading (ℕ × List Move)

@@ -5,6 +5,7 @@ ghost use Rattle.std.specs.Prelude.{◌≡◌, IfOk};
 use crate::block::{Block, Body};
 use crate::function::Function;
 use lang_base::{NoMemory, Row};
+use lang_parts::{CopyOne, copy_each};
 use std::alloc::Global;
 
 fn copy_body(alloc: Global, body: &Body) -> Result<Body, NoMemory>
@@ -50,14 +51,12 @@ fn copy_block(alloc: Global, block: &Block) -> Result<Block, NoMemory>
     Ok(Block { before, body })
 }
 
-fn copy_blocks(alloc: Global, blocks: &[Block]) -> Result<Vec<Block>, NoMemory>
-    ensures { IfOk result (λ copied. copied.items ≡ blocks.now) }
-{
-    let mut copied = Vec::new(alloc);
-    for block in blocks {
-        copied.push(copy_block(alloc, block)?)?;
+impl CopyOne for Block {
+    type Item = Block;
+
+    fn copy_one(alloc: Global, item: &Block) -> Result<Block, NoMemory> {
+        copy_block(alloc, item)
     }
-    Ok(copied)
 }
 
 /// An equal function.
@@ -65,7 +64,7 @@ pub fn copy_function(alloc: Global, function: &Function) -> Result<Function, NoM
     ensures { IfOk result (λ copied. copied ≡ function.now) }
 {
     let parameters = function.parameters().copied(alloc)?;
-    let blocks = copy_blocks(alloc, function.blocks().as_slice())?;
+    let blocks = copy_each::<Block>(alloc, function.blocks().as_slice())?;
     Ok(Function::new(
         parameters,
         function.slots(),

@@ -1,24 +1,15 @@
 //! Readers of the parts of a function. Each is one function on lists, which says the value and the
 //! bytes behind it, or the first fault.
 
-ghost use Rattle.std.specs.Prelude.{ℕ, ◌<◌, slice_index};
 ghost use Rattle.lang_base.specs.Reading.{IsRead, Reads, items_of};
-ghost use Rattle.ltl.specs.Reading.{node, going, calling, branch, plain, body, block, blocks, graph, parts, function};
+ghost use Rattle.ltl.specs.Reading.{going, calling, branch, plain, body, block, blocks, graph, parts, function};
 
 use crate::block::{Block, Body};
 use crate::function::Function;
-use lang_base::{FormError, Row, read_byte, read_u16_below};
-use lang_parts::{ReadOne, read_ends, read_so_many};
+use lang_base::{FormError, Row, read_byte};
+use lang_parts::{ReadOne, are_bytes, read_ends, read_node, read_so_many};
 use machine::{Location, Move, read_act, read_call, read_frame, read_moves, read_test, read_value};
 use std::alloc::Global;
-
-/// One of so many nodes.
-#[tactic(auto, unfolding(crate::specs::Reading::node))]
-fn read_node(nodes: u32, bytes: &mut &[u8]) -> Result<u16, FormError>
-    ensures { IsRead (node nodes bytes.old.now) result bytes.new.now }
-{
-    read_u16_below(nodes, bytes)
-}
 
 /// The successor, and the moves behind the instruction.
 #[tactic(auto, unfolding(crate::specs::Reading::going))]
@@ -169,11 +160,6 @@ fn read_parts(
     let graph = read_graph(alloc, frame.1, bytes)?;
     Ok((frame, graph))
 }
-
-/// Each number of a slice of bytes is a byte.
-fn are_bytes(bytes: &[u8])
-    ensures { (i : ℕ) → slice_index bytes.now i < 256 }
-{}
 
 /// A function, its tag first.
 #[tactic(auto, unfolding(crate::specs::Reading::function))]

@@ -1,15 +1,13 @@
 -- The parts that LTL and Linear share are forms: each text is read again, and nothing else is.
-use Rattle.std.proofs.Common.{◌≡◌, ℕ, ◌<◌, ◌^◌, List, ◌++◌, Option, Ok, inl, inr, lit<, refl, sym, subst, arith}
+use Rattle.std.proofs.Common.{◌≡◌, ℕ, ◌<◌, ◌^◌, List, ◌++◌, Option, Ok, inl, inr, refl, sym, subst, arith}
 use Rattle.std.specs.Prelude.{◌⊎◌}
 use Rattle.std.specs.Int.{w16, w32, to_be_bytes}
 use Rattle.lang_base.specs.Reading.{byte, number, decoded, both, unknown}
 use Rattle.lang_base.proofs.Forms.{IsForm}
-use Rattle.lang_base.proofs.Parts.{byte_form, number16_form, number32_form, made_takes, made_again, made_form, decoded_form, below_form, both_form}
+use Rattle.lang_base.proofs.Parts.{byte_form, number32_form, made_takes, made_again, made_form, decoded_form, both_form}
 use Rattle.lang_base.proofs.Lists.{HasCode, TakesBehind, unknown_takes, follow_form}
 use Rattle.ints.specs.declared.operators.Op.{Op}
-use Rattle.ints.specs.declared.operators.Op.TheVariants.{NegS, NegU, Not, IsZero}
 use Rattle.ints.specs.declared.conditions.Cond.{Cond}
-use Rattle.ints.specs.declared.conditions.Cond.TheVariants.{Nz}
 use Rattle.ints.specs.Codes.{code_of, op_of_code, argument_count_of}
 use Rattle.ints.specs.Conditions.{cond_code_of, cond_of_code, cond_argument_count_of}
 use Rattle.ints.proofs.Codes.{codes_lead_back}
@@ -18,18 +16,17 @@ use Rattle.locations.specs.Fits.{RegisterFits, ValueFits}
 use Rattle.locations.specs.Spelling.{byte_text, value_text}
 use Rattle.locations.specs.Reading.{register, value}
 use Rattle.locations.proofs.Forms.{register_form, value_form}
+use Rattle.machine.proofs.Operators.{argument_count_range, cond_argument_count_range, code_small, cond_code_small}
 use Rattle.machine.specs.declared.arguments.Arguments.{Arguments}
 use Rattle.machine.specs.declared.arguments.Arguments.TheVariants.{One, Two}
 use Rattle.machine.specs.declared.act.Act.{Act}
 use Rattle.machine.specs.declared.act.Act.TheVariants.{Constant, Operate, Load, Store, Put}
-use Rattle.machine.specs.Fits.{global_limit, GlobalFits, ArgumentsFit, ActFits, TestFits}
+use Rattle.lang_parts.specs.Limits.{global}
+use Rattle.lang_parts.proofs.Limits.{global_form}
+use Rattle.machine.specs.Fits.{GlobalFits, ArgumentsFit, ActFits, TestFits}
 use Rattle.machine.specs.Spelling.{arguments_text, test_text, act_code, act_body}
-use Rattle.machine.specs.Reading.{global, arguments, asked, constant, operation, load, store, put, acts, act}
+use Rattle.machine.specs.Reading.{arguments, asked, constant, operation, load, store, put, acts, act}
 pub use Rattle.locations.proofs.Forms.{register_form, value_form, move_form, moves_form, call_form, CallParts, CallPartsFit, FrameFits, frame_form}
-
-global_form : IsForm global (to_be_bytes w16) GlobalFits
-unfolding global
-global_form = below_form global_limit number16_form (λ n lt. omega arith)
 
 -- ---- arguments and tests
 
@@ -54,29 +51,6 @@ two_form =
 pub arguments_form : (count : ℕ) → (count ≡ 1) ⊎ (count ≡ 2) → IsForm (arguments count) arguments_text (ArgumentsFit count)
 arguments_form count (inl one) = subst (λ n. IsForm (arguments n) arguments_text (ArgumentsFit n)) (sym one) one_form
 arguments_form count (inr two) = subst (λ n. IsForm (arguments n) arguments_text (ArgumentsFit n)) (sym two) two_form
-
-argument_count_range : (op : Op) → (argument_count_of op ≡ 1) ⊎ (argument_count_of op ≡ 2)
-unfolding argument_count_of
-argument_count_range NegS = inl refl
-argument_count_range NegU = inl refl
-argument_count_range Not = inl refl
-argument_count_range IsZero = inl refl
-argument_count_range _ = inr refl
-
-cond_argument_count_range : (cond : Cond) → (cond_argument_count_of cond ≡ 1) ⊎ (cond_argument_count_of cond ≡ 2)
-unfolding cond_argument_count_of
-cond_argument_count_range Nz = inl refl
-cond_argument_count_range _ = inr refl
-
-code_small : (op : Op) → code_of op < 256
-unfolding code_of
-code_small NegS = lit< tt
-code_small _ = lit< tt
-
-cond_code_small : (cond : Cond) → cond_code_of cond < 256
-unfolding cond_code_of
-cond_code_small Nz = lit< tt
-cond_code_small _ = lit< tt
 
 pub test_form : IsForm asked test_text TestFits
 unfolding asked

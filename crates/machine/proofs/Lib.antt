@@ -1,4 +1,5 @@
 pub mod Outputs
+pub mod Operators
 pub mod Forms
 pub mod Equal
 pub mod Distinct

@@ -2,22 +2,15 @@
 //! the bytes behind it, or the first fault.
 
 ghost use Rattle.lang_base.specs.Reading.{IsRead};
-ghost use Rattle.machine.specs.Reading.{global, arguments, asked, constant, operation, load, store, put, act};
+ghost use Rattle.machine.specs.Reading.{arguments, asked, constant, operation, load, store, put, act};
 
 use crate::act::Act;
 use crate::arguments::Arguments;
 use crate::test::Test;
 use ints::{Cond, Op};
-use lang_base::{FormError, read_byte, read_u16_below, read_u32};
+use lang_base::{FormError, read_byte, read_u32};
+use lang_parts::read_global;
 use locations::{read_register, read_value};
-
-/// A global's number.
-#[tactic(auto, unfolding(crate::specs::Reading::global))]
-fn read_global(bytes: &mut &[u8]) -> Result<u16, FormError>
-    ensures { IsRead (global bytes.old.now) result bytes.new.now }
-{
-    read_u16_below(1024, bytes)
-}
 
 /// One register or two.
 #[tactic(auto, unfolding(crate::specs::Reading::arguments))]

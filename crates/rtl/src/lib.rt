@@ -14,7 +14,7 @@ mod running;
 mod starting;
 mod state;
 
-pub use lang_programs::RunError;
+pub use lang_parts::RunError;
 pub use rtl_language::{Function, Instruction, Rtl, copy_instruction};
 pub use rtl_parts::{Act, Arguments, Register, Test};
 pub use running::run;

@@ -1,11 +1,11 @@
 -- Two functions are equal where their parts are, and then they are one.
-use Rattle.std.proofs.Common.{◌≡◌, ℕ, Bool, true, Option, Some, None, refl, ap}
+use Rattle.std.proofs.Common.{ℕ, Bool, true, Option, refl, ap}
 use Rattle.std.specs.Prelude.{◌&&◌, nat_eq}
 use Rattle.std.specs.Cmp.{IsEquivalence}
 use Rattle.std.specs.Cmp.Lexicographic.{pointwise}
 use Rattle.std.proofs.lemmas.Bool.{eqb-true, and_parts, false≢true}
 use Rattle.std.proofs.lemmas.Cmp.{nat_eq_equiv, on_equiv, and_equiv, lists_equiv}
-use Rattle.lang_parts.proofs.Equal.{Tells, lists_tell, number_tells}
+use Rattle.lang_parts.proofs.Equal.{Tells, lists_tell, options_tell, number_tells}
 use Rattle.rtl_parts.specs.contracts.act.ActPartialEq.TheImpl as act_eq
 use Rattle.rtl_parts.specs.contracts.test.TestPartialEq.TheImpl as test_eq
 use Rattle.rtl_parts.proofs.Equal.{act_tells, test_tells}
@@ -28,11 +28,8 @@ same_laws =
 registers_tell : Tells (pointwise nat_eq)
 registers_tell = lists_tell nat_eq number_tells
 
-value_tells : (v w : Option ℕ) → (instruction_eq.ghosts).eq (Return v) (Return w) ≡ true → v ≡ w
-value_tells None None e = refl
-value_tells None (Some r) e = absurd (false≢true e)
-value_tells (Some r) None e = absurd (false≢true e)
-value_tells (Some r) (Some q) e = ap (λ n. Some n) (eqb-true r q e)
+value_tells : Tells (λ (v w : Option ℕ). (instruction_eq.ghosts).eq (Return v) (Return w))
+value_tells = options_tell nat_eq (λ v w. (instruction_eq.ghosts).eq (Return v) (Return w)) number_tells (λ b. refl) (λ a. refl) (λ a b. refl)
 
 pub instruction_tells : Tells (instruction_eq.ghosts).eq
 instruction_tells (Do a s) (Do b t) e = let p = and_parts ((act_eq.ghosts).eq a b) (nat_eq s t) e in λ i. Do (act_tells a b p.0 i) (eqb-true s t p.1 i)

@@ -3,9 +3,12 @@ use Rattle.std.proofs.Common.{◌≡◌, ℕ, ◌<◌, ◌≤◌, ◌^◌, List,
 use Rattle.std.specs.List.{AllByRecursion, flat_map}
 use Rattle.lang_base.specs.Reading.{byte, both, follow}
 use Rattle.lang_base.proofs.Forms.{IsForm}
-use Rattle.lang_parts.proofs.Graphs.{AllNodesFit, GraphFits, graph_of_form}
-use Rattle.lang_base.proofs.Parts.{byte_form, number16_form, made_takes, made_again, made_form, fits_form, below_form, both_form}
-use Rattle.lang_base.proofs.Lists.{counted_form, more_form, each_fits, fits_each, HasCode, TakesBehind, follow_form, coded_form, tagged_form}
+use Rattle.lang_parts.specs.Graphs.{node}
+use Rattle.lang_parts.specs.Limits.{function_number}
+use Rattle.lang_parts.proofs.Limits.{function_number_form}
+use Rattle.lang_parts.proofs.Graphs.{node_form, TwoNodesFit, two_nodes_form, AllNodesFit, GraphFits, nodes_form, graph_of_form}
+use Rattle.lang_base.proofs.Parts.{byte_form, made_takes, made_again, made_form, fits_form, both_form}
+use Rattle.lang_base.proofs.Lists.{counted_form, each_fits, fits_each, HasCode, TakesBehind, follow_form, coded_form, tagged_form}
 use Rattle.rtl_parts.specs.declared.act.Act.{Act}
 use Rattle.rtl_parts.specs.declared.act.Act.TheVariants.{Nop, Constant, Move, Operate, Load, Store, Put}
 use Rattle.rtl_parts.specs.declared.test.Test.{Test}
@@ -17,19 +20,11 @@ use Rattle.rtl_language.specs.declared.instruction.Instruction.{Instruction}
 use Rattle.rtl_language.specs.declared.instruction.Instruction.TheVariants.{Do, Call, Branch, Return}
 use Rattle.rtl_language.specs.Function.{FunctionData, InstructionFits, IsFunction, function_limit}
 use Rattle.rtl_language.specs.Spelling.{node_text, instruction_code, instruction_body, instruction_text, graph_text, tag, spelling}
-use Rattle.rtl_language.specs.Reading.{node, function_number, call_arguments, call, branch, instructions, plain, instruction, nodes, graph, parts, function}
+use Rattle.rtl_language.specs.Reading.{call_arguments, call, branch, instructions, plain, instruction, nodes, graph, parts, function}
 
 -- ---- an instruction
 
-function_number_form : IsForm function_number byte_text (λ n. n < function_limit)
-unfolding function_number
-function_number_form = below_form function_limit byte_form (λ n lt. omega arith)
-
 module _ (registers count : ℕ) (few_registers : registers ≤ 2 ^ 16) (few : count ≤ 2 ^ 16) where
-  node_form : IsForm (node count) node_text (λ n. n < count)
-  unfolding node
-  node_form = below_form count number16_form (λ n lt. omega arith)
-
   abbrev ArgumentListFits : List ℕ → Type 0
   ArgumentListFits rs = (length rs < 256) × AllByRecursion (RegisterFits registers) rs
 
@@ -58,7 +53,7 @@ module _ (registers count : ℕ) (few_registers : registers ≤ 2 ^ 16) (few : c
       (λ f. both (call_arguments registers) (λ arguments. both (target registers) (λ t. node count))) (λ f p. registers_text p.0 ++ (target_text p.1.0 ++ node_text p.1.1)) (λ f p. ArgumentListFits p.0 × (TargetFits registers p.1.0 × (p.1.1 < count)))
       (λ f fits. both_form (call_arguments registers) registers_text ArgumentListFits call_arguments_form
       (λ arguments. both (target registers) (λ t. node count)) (λ arguments p. target_text p.0 ++ node_text p.1) (λ arguments p. TargetFits registers p.0 × (p.1 < count))
-      (λ arguments fits. both_form (target registers) target_text (TargetFits registers) (target_form registers few_registers) (λ t. node count) (λ t. node_text) (λ t n. n < count) (λ t fits. node_form)))
+      (λ arguments fits. both_form (target registers) target_text (TargetFits registers) (target_form registers few_registers) (λ t. node count) (λ t. node_text) (λ t n. n < count) (λ t fits. node_form count few)))
 
   abbrev At : ℕ → Instruction → Type 0
   At code i = HasCode instruction_code instruction_body (InstructionFits registers count) code i
@@ -70,12 +65,6 @@ module _ (registers count : ℕ) (few_registers : registers ≤ 2 ^ 16) (few : c
   unfolding call
   call_takes = made_takes call_of call_parts instruction_body (At 6) (λ p fits. (refl, (call_fits p fits, refl)))
 
-  abbrev NodesFit : ℕ × ℕ → Type 0
-  NodesFit p = (p.0 < count) × (p.1 < count)
-
-  nodes_form : IsForm (both (node count) (λ taken. node count)) (λ p. node_text p.0 ++ node_text p.1) NodesFit
-  nodes_form = both_form (node count) node_text (λ n. n < count) node_form (λ s. node count) (λ s. node_text) (λ s n. n < count) (λ s fits. node_form)
-
   abbrev BranchParts : Type 0
   BranchParts = Test × (ℕ × ℕ)
 
@@ -83,10 +72,10 @@ module _ (registers count : ℕ) (few_registers : registers ≤ 2 ^ 16) (few : c
   branch_text p = test_text p.0 ++ (node_text p.1.0 ++ node_text p.1.1)
 
   abbrev BranchFits : BranchParts → Type 0
-  BranchFits p = TestFits registers p.0 × NodesFit p.1
+  BranchFits p = TestFits registers p.0 × TwoNodesFit count p.1
 
   branch_parts : IsForm (both (asked registers) (λ t. both (node count) (λ taken. node count))) branch_text BranchFits
-  branch_parts = both_form (asked registers) test_text (TestFits registers) (test_form registers few_registers) (λ t. both (node count) (λ taken. node count)) (λ t p. node_text p.0 ++ node_text p.1) (λ t. NodesFit) (λ t fits. nodes_form)
+  branch_parts = both_form (asked registers) test_text (TestFits registers) (test_form registers few_registers) (λ t. both (node count) (λ taken. node count)) (λ t p. node_text p.0 ++ node_text p.1) (λ t. TwoNodesFit count) (λ t fits. two_nodes_form count few)
 
   branch_takes : TakesBehind instruction_code instruction_body (InstructionFits registers count) 8 (branch registers count)
   unfolding branch
@@ -102,7 +91,7 @@ module _ (registers count : ℕ) (few_registers : registers ≤ 2 ^ 16) (few : c
   PlainFits code p = HasCode act_code act_body (ActFits registers) code p.0 × (p.1 < count)
 
   plain_parts : (code : ℕ) → IsForm (both (act registers code) (λ a. node count)) plain_text (PlainFits code)
-  plain_parts code = both_form (act registers code) act_body (HasCode act_code act_body (ActFits registers) code) (act_form registers few_registers code) (λ a. node count) (λ a. node_text) (λ a n. n < count) (λ a fits. node_form)
+  plain_parts code = both_form (act registers code) act_body (HasCode act_code act_body (ActFits registers) code) (act_form registers few_registers code) (λ a. node count) (λ a. node_text) (λ a n. n < count) (λ a fits. node_form count few)
 
   plain_takes : (code : ℕ) → TakesBehind instruction_code instruction_body (InstructionFits registers count) code (plain registers count code)
   unfolding plain
@@ -137,10 +126,7 @@ module _ (registers count : ℕ) (few_registers : registers ≤ 2 ^ 16) (few : c
 
   node_list_form : IsForm (nodes registers count) (flat_map instruction_text) (AllNodesFit (InstructionFits registers) count)
   unfolding nodes
-  node_list_form =
-      fits_form (more_form (λ before. instruction registers count) instruction_text (λ before. InstructionFits registers count) (λ before. instruction_form) count)
-      (λ is fits. (fits.0, each_fits (InstructionFits registers count) [] is fits.1))
-      (λ is fits. (fits.0, fits_each (InstructionFits registers count) [] is fits.1))
+  node_list_form = nodes_form (instruction registers count) instruction_text (InstructionFits registers) count instruction_form
 
 -- ---- the graph
 

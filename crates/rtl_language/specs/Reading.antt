@@ -1,20 +1,13 @@
 -- How a function of RTL is read.
 use Rattle.std.specs.Prelude.{ℕ, List, [], ◌∷◌}
-use Rattle.std.specs.Int.{w16}
-use Rattle.lang_parts.specs.Graphs.{graph_of}
-use Rattle.lang_base.specs.Reading.{Reading, byte, number, made, below, both, more, counted, Table, follow, coded, tagged}
+use Rattle.lang_parts.specs.Graphs.{node, graph_of}
+use Rattle.lang_parts.specs.Limits.{function_number}
+use Rattle.lang_base.specs.Reading.{Reading, byte, made, both, more, counted, Table, follow, coded, tagged}
 use Rattle.rtl_parts.specs.Reading.{register, target, asked, act, frame}
 use Rattle.rtl_language.specs.declared.instruction.Instruction.{Instruction}
 use Rattle.rtl_language.specs.declared.instruction.Instruction.TheVariants.{Do, Call, Branch, Return}
-use Rattle.rtl_language.specs.Function.{FunctionData, function_limit}
+use Rattle.rtl_language.specs.Function.{FunctionData}
 use Rattle.rtl_language.specs.Spelling.{tag}
-
--- one of so many nodes
-unfoldable pub node : ℕ → Reading ℕ
-node nodes bytes = below nodes (number w16) bytes
-
-unfoldable pub function_number : Reading ℕ
-function_number bytes = below function_limit byte bytes
 
 unfoldable pub call_arguments : ℕ → Reading (List ℕ)
 call_arguments registers bytes = counted byte (λ before. register registers) bytes

@@ -5,6 +5,7 @@ ghost use Rattle.std.specs.Prelude.{◌≡◌, IfOk};
 use crate::function::Function;
 use crate::instruction::Instruction;
 use lang_base::{NoMemory, Row};
+use lang_parts::{CopyOne, copy_each};
 use std::alloc::Global;
 
 /// An equal instruction.
@@ -36,14 +37,12 @@ pub fn copy_instruction(alloc: Global, instruction: &Instruction) -> Result<Inst
     }
 }
 
-fn copy_nodes(alloc: Global, nodes: &[Instruction]) -> Result<Vec<Instruction>, NoMemory>
-    ensures { IfOk result (λ copied. copied.items ≡ nodes.now) }
-{
-    let mut copied = Vec::new(alloc);
-    for node in nodes {
-        copied.push(copy_instruction(alloc, node)?)?;
+impl CopyOne for Instruction {
+    type Item = Instruction;
+
+    fn copy_one(alloc: Global, item: &Instruction) -> Result<Instruction, NoMemory> {
+        copy_instruction(alloc, item)
     }
-    Ok(copied)
 }
 
 /// An equal function.
@@ -51,7 +50,7 @@ pub fn copy_function(alloc: Global, function: &Function) -> Result<Function, NoM
     ensures { IfOk result (λ copied. copied ≡ function.now) }
 {
     let parameters = function.parameters().copied(alloc)?;
-    let nodes = copy_nodes(alloc, function.nodes().as_slice())?;
+    let nodes = copy_each::<Instruction>(alloc, function.nodes().as_slice())?;
     Ok(Function::new(
         parameters,
         function.registers(),

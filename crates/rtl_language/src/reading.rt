@@ -1,38 +1,16 @@
 //! Readers of the parts of a function. Each is one function on lists, which says the value and the
 //! bytes behind it, or the first fault.
 
-ghost use Rattle.std.specs.Prelude.{ℕ, ◌<◌, slice_index};
 ghost use Rattle.lang_base.specs.Reading.{IsRead, Reads, items_of};
 ghost use Rattle.rtl_parts.specs.Reading.{register};
-ghost use Rattle.rtl_language.specs.Reading.{node, function_number, call_arguments, call, branch, plain, instruction, nodes, graph, parts, function};
+ghost use Rattle.rtl_language.specs.Reading.{call_arguments, call, branch, plain, instruction, nodes, graph, parts, function};
 
 use crate::function::Function;
 use crate::instruction::Instruction;
-use lang_base::{FormError, Row, read_byte, read_u16_below};
-use lang_parts::{ReadOne, read_ends, read_so_many};
+use lang_base::{FormError, Row, read_byte};
+use lang_parts::{ReadOne, are_bytes, read_ends, read_function_number, read_node, read_so_many};
 use rtl_parts::{Register, read_act, read_frame, read_register, read_target, read_test};
 use std::alloc::Global;
-
-/// One of so many nodes.
-#[tactic(auto, unfolding(crate::specs::Reading::node))]
-fn read_node(nodes: u32, bytes: &mut &[u8]) -> Result<u16, FormError>
-    ensures { IsRead (node nodes bytes.old.now) result bytes.new.now }
-{
-    read_u16_below(nodes, bytes)
-}
-
-/// A function's number.
-#[tactic(auto, unfolding(crate::specs::Reading::function_number))]
-fn read_function_number(bytes: &mut &[u8]) -> Result<u8, FormError>
-    ensures { IsRead (function_number bytes.old.now) result bytes.new.now }
-{
-    let number = read_byte(bytes)?;
-    if number < 64 {
-        Ok(number)
-    } else {
-        Err(FormError::NotCanonical)
-    }
-}
 
 /// Reads registers of so many.
 #[derive(Drop)]
@@ -200,11 +178,6 @@ fn read_parts(
     let graph = read_graph(alloc, frame.1, bytes)?;
     Ok((frame, graph))
 }
-
-/// Each number of a slice of bytes is a byte.
-fn are_bytes(bytes: &[u8])
-    ensures { (i : ℕ) → slice_index bytes.now i < 256 }
-{}
 
 /// A function, its tag first.
 #[tactic(auto, unfolding(crate::specs::Reading::function))]

@@ -1,5 +1,5 @@
 -- The parts of functions are forms: each text is read again, and nothing else is.
-use Rattle.std.proofs.Common.{◌≡◌, ◌≢◌, ℕ, ◌<◌, ◌≤◌, ◌^◌, true, List, [], ◌∷◌, ◌++◌, length, Option, Some, None, Ok, inl, inr, lit<, refl, sym, ap, subst, arith}
+use Rattle.std.proofs.Common.{◌≡◌, ◌≢◌, ℕ, ◌<◌, ◌≤◌, ◌^◌, true, List, [], ◌∷◌, ◌++◌, length, Option, Some, None, Ok, inl, inr, refl, sym, ap, subst, arith}
 use Rattle.std.specs.Prelude.{◌⊎◌, IfSome, not, nat_le, nat_eq}
 use Rattle.std.specs.Int.{w16, w32, to_be_bytes}
 use Rattle.std.specs.List.{AllByRecursion, list_any, list_all}
@@ -11,49 +11,23 @@ use Rattle.lang_base.proofs.Forms.{IsForm, Takes, ok_is}
 use Rattle.lang_base.proofs.Parts.{byte_form, number16_form, number32_form, made_takes, made_again, made_form, tested_form, decoded_form, fits_form, below_form, up_to_form, both_form}
 use Rattle.lang_base.proofs.Lists.{counted_form, fits_each, HasCode, TakesBehind, unknown_takes, follow_form, optional_form}
 use Rattle.ints.specs.declared.operators.Op.{Op}
-use Rattle.ints.specs.declared.operators.Op.TheVariants.{NegS, NegU, Not, IsZero}
 use Rattle.ints.specs.declared.conditions.Cond.{Cond}
-use Rattle.ints.specs.declared.conditions.Cond.TheVariants.{Nz}
 use Rattle.ints.specs.Codes.{code_of, op_of_code, argument_count_of}
 use Rattle.ints.specs.Conditions.{cond_code_of, cond_of_code, cond_argument_count_of}
 use Rattle.ints.proofs.Codes.{codes_lead_back}
 use Rattle.ints.proofs.CondCodes.{cond_codes_lead_back}
 use Rattle.machine.specs.Fits.{AreDistinct}
+use Rattle.machine.proofs.Operators.{argument_count_range, cond_argument_count_range, code_small, cond_code_small}
 use Rattle.locations.proofs.Distinct.{each_both, both_each, none_same, same_none, keys_of, IsNewKey, each_distinct, distinct_each}
 use Rattle.rtl_parts.specs.declared.arguments.Arguments.{Arguments}
 use Rattle.rtl_parts.specs.declared.arguments.Arguments.TheVariants.{One, Two}
 use Rattle.rtl_parts.specs.declared.act.Act.{Act}
 use Rattle.rtl_parts.specs.declared.act.Act.TheVariants.{Nop, Constant, Move, Operate, Load, Store, Put}
-use Rattle.rtl_parts.specs.Fits.{parameter_limit, register_limit, global_limit, RegisterFits, TargetFits, GlobalFits, ArgumentsFit, ActFits, TestFits, ParametersFit}
+use Rattle.lang_parts.specs.Limits.{global}
+use Rattle.lang_parts.proofs.Limits.{global_form}
+use Rattle.rtl_parts.specs.Fits.{parameter_limit, register_limit, RegisterFits, TargetFits, GlobalFits, ArgumentsFit, ActFits, TestFits, ParametersFit}
 use Rattle.rtl_parts.specs.Spelling.{byte_text, register_text, registers_text, target_text, arguments_text, test_text, act_code, act_body, frame_text}
-use Rattle.rtl_parts.specs.Reading.{register, target, global, arguments, asked, nop, constant, copying, operation, load, store, put, acts, act, parameter, parameters, lies_within, frame}
-
-global_form : IsForm global (to_be_bytes w16) GlobalFits
-unfolding global
-global_form = below_form global_limit number16_form (λ n lt. omega arith)
-
-argument_count_range : (op : Op) → (argument_count_of op ≡ 1) ⊎ (argument_count_of op ≡ 2)
-unfolding argument_count_of
-argument_count_range NegS = inl refl
-argument_count_range NegU = inl refl
-argument_count_range Not = inl refl
-argument_count_range IsZero = inl refl
-argument_count_range _ = inr refl
-
-cond_argument_count_range : (cond : Cond) → (cond_argument_count_of cond ≡ 1) ⊎ (cond_argument_count_of cond ≡ 2)
-unfolding cond_argument_count_of
-cond_argument_count_range Nz = inl refl
-cond_argument_count_range _ = inr refl
-
-code_small : (op : Op) → code_of op < 256
-unfolding code_of
-code_small NegS = lit< tt
-code_small _ = lit< tt
-
-cond_code_small : (cond : Cond) → cond_code_of cond < 256
-unfolding cond_code_of
-cond_code_small Nz = lit< tt
-cond_code_small _ = lit< tt
+use Rattle.rtl_parts.specs.Reading.{register, target, arguments, asked, nop, constant, copying, operation, load, store, put, acts, act, parameter, parameters, lies_within, frame}
 
 -- a value that is read where nothing is behind its code
 nothing_takes : (P : Act → Type 0) (text : Act → List ℕ) (bytes : List ℕ) (x : Act) (rest : List ℕ) → text Nop ≡ [] → P Nop → nop bytes ≡ Ok (x, rest) → Takes text P bytes x rest
@@ -103,7 +77,7 @@ module _ (registers : ℕ) (few : registers ≤ 2 ^ 16) where
   unfolding arguments
   two_form = made_form (λ (p : ℕ × ℕ). Two p.0 p.1) pair_form arguments_text (ArgumentsFit registers 2) (λ p fits. (refl, (refl, fits.0, fits.1))) two_back
 
-  arguments_form : (count : ℕ) → (count ≡ 1) ⊎ (count ≡ 2) → IsForm (arguments registers count) arguments_text (ArgumentsFit registers count)
+  pub arguments_form : (count : ℕ) → (count ≡ 1) ⊎ (count ≡ 2) → IsForm (arguments registers count) arguments_text (ArgumentsFit registers count)
   arguments_form count (inl one) = subst (λ n. IsForm (arguments registers n) arguments_text (ArgumentsFit registers n)) (sym one) one_form
   arguments_form count (inr two) = subst (λ n. IsForm (arguments registers n) arguments_text (ArgumentsFit registers n)) (sym two) two_form
 

@@ -11,7 +11,8 @@ use Rattle.rtl_parts.specs.declared.arguments.Arguments.TheVariants.{One, Two}
 use Rattle.rtl_parts.specs.declared.act.Act.{Act}
 use Rattle.rtl_parts.specs.declared.act.Act.TheVariants.{Nop, Constant, Move, Operate, Load, Store, Put}
 use Rattle.rtl_parts.specs.declared.test.Test.{Test}
-use Rattle.rtl_parts.specs.Fits.{parameter_limit, register_limit, global_limit}
+use Rattle.lang_parts.specs.Limits.{global}
+use Rattle.rtl_parts.specs.Fits.{parameter_limit, register_limit}
 
 -- one of so many registers
 unfoldable pub register : ℕ → Reading ℕ
@@ -20,9 +21,6 @@ register registers bytes = below registers (number w16) bytes
 -- a register, or none
 unfoldable pub target : ℕ → Reading (Option ℕ)
 target registers bytes = optional (register registers) bytes
-
-unfoldable pub global : Reading ℕ
-global bytes = below global_limit (number w16) bytes
 
 -- one register, or two
 unfoldable pub arguments : ℕ → ℕ → Reading Arguments

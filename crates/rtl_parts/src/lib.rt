@@ -11,7 +11,7 @@ mod writing;
 
 pub use act::Act;
 pub use arguments::Arguments;
-pub use reading::{read_act, read_frame, read_register, read_target, read_test};
+pub use reading::{read_act, read_arguments, read_frame, read_register, read_target, read_test};
 pub use register::Register;
 pub use test::Test;
-pub use writing::{push_act, push_frame, push_registers, push_target, push_test};
+pub use writing::{push_act, push_arguments, push_frame, push_registers, push_target, push_test};

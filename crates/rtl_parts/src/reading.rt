@@ -4,7 +4,7 @@
 ghost use Rattle.std.specs.Prelude.{◌≡◌};
 ghost use Rattle.std.specs.List.{list_all};
 ghost use Rattle.lang_base.specs.Reading.{IsRead, Reads, items_of};
-ghost use Rattle.rtl_parts.specs.Reading.{register, target, global, arguments, asked, constant, copying, operation, load, store, put, act, parameter, parameters, lies_within, frame};
+ghost use Rattle.rtl_parts.specs.Reading.{register, target, arguments, asked, constant, copying, operation, load, store, put, act, parameter, parameters, lies_within, frame};
 
 use crate::act::Act;
 use crate::arguments::Arguments;
@@ -12,7 +12,7 @@ use crate::register::Register;
 use crate::test::Test;
 use ints::{Cond, Op};
 use lang_base::{FormError, Row, read_byte, read_count, read_u16, read_u16_below, read_u32};
-use lang_parts::{ReadOne, read_so_many};
+use lang_parts::{ReadOne, read_global, read_so_many};
 use std::alloc::Global;
 
 /// One of so many registers.
@@ -35,17 +35,13 @@ pub fn read_target(registers: u32, bytes: &mut &[u8]) -> Result<Option<Register>
     }
 }
 
-/// A global's number.
-#[tactic(auto, unfolding(crate::specs::Reading::global))]
-fn read_global(bytes: &mut &[u8]) -> Result<u16, FormError>
-    ensures { IsRead (global bytes.old.now) result bytes.new.now }
-{
-    read_u16_below(1024, bytes)
-}
-
-/// One register or two.
+/// As many registers as an operator or a condition takes: one, or else two.
 #[tactic(auto, unfolding(crate::specs::Reading::arguments))]
-fn read_arguments(registers: u32, count: usize, bytes: &mut &[u8]) -> Result<Arguments, FormError>
+pub fn read_arguments(
+    registers: u32,
+    count: usize,
+    bytes: &mut &[u8],
+) -> Result<Arguments, FormError>
     ensures { IsRead (arguments registers count bytes.old.now) result bytes.new.now }
 {
     let first = read_register(registers, bytes)?;

@@ -34,7 +34,8 @@ pub fn push_target(out: &mut Vec<u8>, target: Option<Register>) -> Result<(), No
     }
 }
 
-fn push_arguments(out: &mut Vec<u8>, arguments: &Arguments) -> Result<(), NoMemory>
+/// One register or two.
+pub fn push_arguments(out: &mut Vec<u8>, arguments: &Arguments) -> Result<(), NoMemory>
     ensures { Appends result (arguments_text arguments.now) out.old.items out.new.items }
 {
     match *arguments {

@@ -2,4 +2,3 @@ pub mod Readings
 pub mod Rising
 pub mod Shapes
 pub mod Sound
-pub mod Written

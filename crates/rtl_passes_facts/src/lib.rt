@@ -18,5 +18,4 @@ pub use order::list_at;
 pub use reading::read_certificate;
 pub use rules::Rules;
 pub use verdict::{check, why};
-pub use walk::{begin_with, from_place, is_among};
 pub use writing::write_certificate;

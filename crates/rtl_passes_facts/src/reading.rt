@@ -1,29 +1,37 @@
 //! Readers of certificates: for each node the number of its facts, and the facts.
 
-ghost use Rattle.std.specs.Prelude.{◌≡◌, ◌≢◌, ◌≤◌, ℕ, List, [], ◌++◌, length, take, IfOk, IfErr};
-ghost use Rattle.lang_base.specs.Reading.{Reads, items_of, more};
+ghost use Rattle.std.specs.Prelude.{◌≡◌, ◌≢◌, ◌≤◌, ℕ, List, ◌++◌, length, take, IfOk, IfErr};
+ghost use Rattle.lang_base.specs.Reading.{Reads, items_of};
 ghost use Rattle.rtl_passes.specs.ListForm.{list, lists, lists_text};
 ghost use Rattle.rtl_passes_facts.specs.Certificates.{CertFits};
 
 use crate::rules::Rules;
 use lang_base::{FormError, Row, read_u16};
+use lang_parts::{ReadOne, read_so_many};
 use rtl_language::Function;
 use std::alloc::Global;
+use std::marker::PhantomData;
 
-fn read_so_many<R: Rules>(
-    alloc: Global,
+/// Reads facts of so many registers.
+#[derive(Drop)]
+struct Facts<R: Rules> {
     registers: u32,
-    count: u16,
-    bytes: &mut &[u8],
-) -> Result<Vec<R::Fact>, FormError>
-    ensures { Reads (more (λ before. R.part registers) [] count bytes.old.now) (items_of result) bytes.new.now }
-{
-    let mut facts = Vec::new(alloc);
-    for _ in 0..count {
-        let fact = R::read_fact(registers, bytes)?;
-        facts.push(fact)?;
+    of: PhantomData<R>,
+}
+
+impl<R: Rules> ReadOne for Facts<R> {
+    type Item = R::Fact;
+
+    ghost part = { λ reader _. R.part reader.registers };
+
+    fn read(
+        &mut self,
+        _alloc: Global,
+        _before: &[R::Fact],
+        bytes: &mut &[u8],
+    ) -> Result<R::Fact, FormError> {
+        R::read_fact(self.registers, bytes)
     }
-    Ok(facts)
 }
 
 /// The facts of a node.
@@ -36,24 +44,34 @@ fn read_list<R: Rules>(
     ensures { Reads (list (R.part registers) bytes.old.now) result bytes.new.now }
 {
     let count = read_u16(bytes)?;
-    let facts = read_so_many::<R>(alloc, registers, count, bytes)?;
+    let reader = Facts::<R> {
+        registers,
+        of: PhantomData,
+    };
+    let facts = read_so_many(alloc, reader, u32::from(count), bytes)?;
     Ok(Row::from_vec(facts))
 }
 
-fn read_each<R: Rules>(
-    alloc: Global,
+/// Reads the facts of a node.
+#[derive(Drop)]
+struct Lists<R: Rules> {
     registers: u32,
-    nodes: u32,
-    bytes: &mut &[u8],
-) -> Result<Vec<Row<R::Fact>>, FormError>
-    ensures { Reads (more (λ before. list (R.part registers)) [] nodes bytes.old.now) (items_of result) bytes.new.now }
-{
-    let mut read = Vec::new(alloc);
-    for _ in 0..nodes {
-        let facts = read_list::<R>(alloc, registers, bytes)?;
-        read.push(facts)?;
+    of: PhantomData<R>,
+}
+
+impl<R: Rules> ReadOne for Lists<R> {
+    type Item = Row<R::Fact>;
+
+    ghost part = { λ reader _. list (R.part reader.registers) };
+
+    fn read(
+        &mut self,
+        alloc: Global,
+        _before: &[Row<R::Fact>],
+        bytes: &mut &[u8],
+    ) -> Result<Row<R::Fact>, FormError> {
+        read_list::<R>(alloc, self.registers, bytes)
     }
-    Ok(read)
 }
 
 /// The facts of so many nodes.
@@ -66,7 +84,11 @@ fn read_lists<R: Rules>(
 ) -> Result<Vec<Row<R::Fact>>, FormError>
     ensures { Reads (lists (R.part registers) nodes bytes.old.now) (items_of result) bytes.new.now }
 {
-    read_each::<R>(alloc, registers, nodes, bytes)
+    let reader = Lists::<R> {
+        registers,
+        of: PhantomData,
+    };
+    read_so_many(alloc, reader, nodes, bytes)
 }
 
 /// The certificate beside this input whose spelling is a front of the bytes, and how long that is.

@@ -8,7 +8,7 @@ use crate::rules::Rules;
 use rtl_language::Instruction;
 
 /// The facts from this place on.
-pub fn from_place<R: Rules>(facts: &[R::Fact], least: u64) -> &[R::Fact]
+fn from_place<R: Rules>(facts: &[R::Fact], least: u64) -> &[R::Fact]
     requires { RiseFrom R.rank 0 facts.now }
     ensures rising { RiseFrom R.rank least result.now }
     ensures same { (e : R.Fact) → least ≤ R.rank e → Contains result.now e ↔ Contains facts.now e }
@@ -24,7 +24,7 @@ pub fn from_place<R: Rules>(facts: &[R::Fact], least: u64) -> &[R::Fact]
 }
 
 /// Whether the fact is among these, of which none has a lower place.
-pub fn begin_with<R: Rules>(facts: &[R::Fact], fact: &R::Fact) -> bool
+fn begin_with<R: Rules>(facts: &[R::Fact], fact: &R::Fact) -> bool
     requires { RiseFrom R.rank (R.rank fact.now) facts.now }
     ensures { IsTrue result ↔ Contains facts.now fact.now }
 {
@@ -32,15 +32,6 @@ pub fn begin_with<R: Rules>(facts: &[R::Fact], fact: &R::Fact) -> bool
         [first, _rest @ ..] => R::is_one(first, fact),
         [] => false,
     }
-}
-
-/// Whether the fact is among these.
-pub fn is_among<R: Rules>(facts: &[R::Fact], fact: &R::Fact) -> bool
-    requires { RiseFrom R.rank 0 facts.now }
-    ensures { IsTrue result ↔ Contains facts.now fact.now }
-{
-    let left = from_place::<R>(facts, R::place(fact));
-    begin_with::<R>(left, fact)
 }
 
 /// Whether the fact is known behind the change, where none of those before has a lower place.

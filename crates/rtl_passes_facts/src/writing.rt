@@ -1,21 +1,28 @@
 //! Writers of certificates.
 
 ghost use Rattle.std.specs.Prelude.{◌≡◌, ◌++◌, All, OnOk, OnErr};
-ghost use Rattle.std.specs.List.{flat_map};
 ghost use Rattle.lang_base.specs.Texts.{Appends};
 ghost use Rattle.rtl_passes.specs.ListForm.{list_text, lists_text};
 ghost use Rattle.rtl_passes_facts.specs.Certificates.{IsShort};
 
 use crate::rules::Rules;
 use lang_base::{NoMemory, Row, push_u16};
+use lang_parts::{WriteOne, push_each};
+use std::marker::PhantomData;
 
-fn push_facts<R: Rules>(out: &mut Vec<u8>, facts: &[R::Fact]) -> Result<(), NoMemory>
-    ensures { Appends result (flat_map R.text facts.now) out.old.items out.new.items }
-{
-    for fact in facts {
-        R::push_fact(out, fact)?;
+/// Writes a fact.
+struct OfFact<R: Rules> {
+    _of: PhantomData<R>,
+}
+
+impl<R: Rules> WriteOne for OfFact<R> {
+    type Item = R::Fact;
+
+    ghost text = { R.text };
+
+    fn push(out: &mut Vec<u8>, item: &R::Fact) -> Result<(), NoMemory> {
+        R::push_fact(out, item)
     }
-    Ok(())
 }
 
 fn push_list<R: Rules>(out: &mut Vec<u8>, facts: &[R::Fact]) -> Result<(), NoMemory>
@@ -23,17 +30,24 @@ fn push_list<R: Rules>(out: &mut Vec<u8>, facts: &[R::Fact]) -> Result<(), NoMem
     ensures { Appends result (list_text R.text facts.now) out.old.items out.new.items }
 {
     push_u16(out, facts.len() as u16)?;
-    push_facts::<R>(out, facts)
+    push_each::<OfFact<R>>(out, facts)
 }
 
-fn push_lists<R: Rules>(out: &mut Vec<u8>, lists: &[Row<R::Fact>]) -> Result<(), NoMemory>
-    requires { All IsShort lists.now }
-    ensures { Appends result (lists_text R.text lists.now) out.old.items out.new.items }
-{
-    for facts in lists {
-        push_list::<R>(out, facts.as_slice())?;
+/// Writes the facts of a node.
+struct OfNode<R: Rules> {
+    _of: PhantomData<R>,
+}
+
+impl<R: Rules> WriteOne for OfNode<R> {
+    type Item = Row<R::Fact>;
+
+    ghost text = { list_text R.text };
+
+    ghost is_short = { IsShort };
+
+    fn push(out: &mut Vec<u8>, item: &Row<R::Fact>) -> Result<(), NoMemory> {
+        push_list::<R>(out, item.as_slice())
     }
-    Ok(())
 }
 
 /// Writes the facts of each node at the end of `out`, which a refusal leaves as it was.
@@ -46,7 +60,7 @@ pub fn write_certificate<R: Rules>(
     ensures err { OnErr result (out.new.items ≡ out.old.items) }
 {
     let length = out.len();
-    let written = push_lists::<R>(out, lists);
+    let written = push_each::<OfNode<R>>(out, lists);
     if written.is_err() {
         out.truncate(length);
     }

@@ -2,7 +2,7 @@
 
 use lang::read_program;
 use lang_base::Shown;
-use lang_programs::RunError;
+use lang_parts::RunError;
 use linear_language::Linear;
 use program_rows::{bytes_of, numbered, owned};
 use rtl_language::Rtl;

@@ -3,7 +3,7 @@ use Rattle.std.proofs.KnownBytes.{Appends-kept}
 use Rattle.std.proofs.lemmas.Result.{err_from_is_err_and}
 use Rattle.lang_base.proofs.Beginnings.{IsBeginningOf-refl}
 use Rattle.c_checker_rules.specs.Units.{program_of}
-use Rattle.lang_programs.specs.Written.{Wrote}
+use Rattle.lang_parts.specs.Written.{Wrote}
 use Rattle.c_program.specs.Meaning.{crun}
 use Rattle.cfarm_texts.proofs.interpreting.interpret.Goals as goal
 

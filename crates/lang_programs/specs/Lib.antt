@@ -1,4 +1,0 @@
-pub mod Meant
-pub mod Numbers
-pub mod Written
-pub use Rattle.lang_base.specs.Behaviour
