@@ -1,6 +1,6 @@
-pub mod Functions
-pub mod Machines
-pub mod Prepared
+pub mod There
+pub mod Frames
+pub mod States
 pub use Rattle.lang_parts.specs.Written
 pub use Rattle.linear_language.specs.Meaning
 pub use Rattle.linear_language.specs.Function

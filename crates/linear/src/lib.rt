@@ -4,14 +4,11 @@
 #![tactic(auto)]
 
 mod calls;
-mod functions;
+mod code;
+mod entering;
 mod leaving;
-mod pieces;
-mod preparing;
-mod returns;
 mod running;
-mod starting;
-mod state;
+mod words;
 
 pub use lang_parts::RunError;
 pub use linear_language::{Function, Instruction, Linear};

@@ -1,4 +1,1 @@
-pub mod Shows
 pub mod Fitting
-pub mod UnderWay
-pub mod MadeReady

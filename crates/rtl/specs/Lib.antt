@@ -1,8 +1,5 @@
 pub mod Arguments
-pub mod Callers
-pub mod Functions
-pub mod Machines
-pub mod Prepared
+pub mod States
 pub use Rattle.lang_parts.specs.Written
 pub use Rattle.rtl_language.specs.Meaning
 pub use Rattle.rtl_language.specs.Function

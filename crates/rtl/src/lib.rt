@@ -3,16 +3,10 @@
 //! promised.
 #![tactic(auto)]
 
-mod callers;
 mod calls;
-mod functions;
 mod leaving;
-mod pieces;
-mod preparing;
-mod returns;
+mod nodes;
 mod running;
-mod starting;
-mod state;
 
 pub use lang_parts::RunError;
 pub use rtl_language::{Function, Instruction, Rtl, copy_instruction};

@@ -1,0 +1,5 @@
+pub mod FirstWords
+pub mod Decoded
+pub mod UnderWay
+pub mod Shows
+pub mod Fitting

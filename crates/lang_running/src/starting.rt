@@ -1,0 +1,55 @@
+//! Where a run begins.
+
+ghost use Rattle.std.specs.Prelude.{◌≡◌, ◌&&◌, [], codes, IfOk};
+ghost use Rattle.std.specs.Str.{bytes_eq};
+ghost use Rattle.machine.specs.Frames.{main_number};
+ghost use Rattle.lang_running.specs.Runs.{state_of, RunFits};
+
+use crate::beginning::all_cells;
+use crate::callers::Callers;
+use crate::pool::Pool;
+use crate::state::Running;
+use crate::stepping::Machine;
+use lang_base::{Named, NoMemory, Program};
+use std::alloc::Global;
+
+/// Whether the function is one where a program can begin.
+fn is_main<M: Machine>(named: &Named<M::Function>) -> bool
+    ensures { result ≡ (bytes_eq named.now.name (codes "main") && M.takes_none named.now.function) }
+{
+    named.name.as_slice() == b"main".as_slice() && M::takes_none(&named.function)
+}
+
+/// The number of the function where a program begins, or how many functions there are.
+fn find_main<M: Machine>(functions: &[Named<M::Function>]) -> usize
+    ensures { result ≡ main_number M.takes_none functions.now }
+{
+    for (number, named) in functions.iter().enumerate() {
+        if is_main::<M>(named) {
+            return number;
+        }
+    }
+    functions.len()
+}
+
+/// The run where `main` begins.
+pub(crate) fn begin<M: Machine>(
+    alloc: Global,
+    program: &Program<M::Function>,
+) -> Result<Running<M::Place, M::Target>, NoMemory>
+    ensures state { IfOk result (λ run. state_of M.state run [] ≡ M.start program.now) }
+    ensures fits { IfOk result (λ run. RunFits M.fits M.can_resume program.now.functions run) }
+{
+    let globals = all_cells(alloc, program.globals.as_slice())?;
+    let functions = program.functions.as_slice();
+    let function = find_main::<M>(functions);
+    let (place, words) = M::begin(alloc, functions, function)?;
+    Ok(Running {
+        function,
+        place,
+        words,
+        globals,
+        callers: Callers::new(alloc),
+        pool: Pool::new(alloc),
+    })
+}

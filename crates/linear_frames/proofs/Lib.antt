@@ -1,2 +1,0 @@
-pub mod FrameWords
-pub mod Begun

@@ -1,3 +1,0 @@
-pub mod There
-pub mod Frames
-pub mod Callers
