@@ -15,7 +15,7 @@ PLAN = os.path.join(ROOT, "crates.txt")
 PATCH = os.path.join(ROOT, "bench", "measure.patch")
 LINE = (
     "measure may_wait=5: chains c_checker cminor rtlgen c_reader c_lexer cminor_language rtl_language rtl lang_parts"
-    " lang linear_language linear oracle_const constprop_check oracle_cse oracle_alloc oracle_order offers"
+    " lang linear_language linear oracle_const constprop_check oracle_cse oracle_alloc oracle_order offers_choice offers"
     " parallel_validate lang_base anyhow rand_pcg rand_core\n"
 )
 

@@ -1,5 +1,6 @@
 mod Beside
 mod Broken
+pub mod Counting
 pub mod GoingOn
 pub mod Memory
 pub mod Registers

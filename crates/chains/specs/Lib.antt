@@ -1,3 +1,6 @@
+pub mod Baselines
+pub mod Compiled
+pub mod Counted
 pub mod Offered
 pub mod Lent
 pub mod Refused

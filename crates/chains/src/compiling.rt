@@ -1,8 +1,9 @@
-ghost use Rattle.std.specs.Prelude.{◌≡◌, ◌≤◌, All, IfOk, IfErr, OnOk, length};
+ghost use Rattle.std.specs.Prelude.{◌≡◌, ◌≤◌, All, None, IfOk, IfErr, OnOk, length};
 ghost use Rattle.lang_base.specs.Keeps.{Keeps};
 ghost use Rattle.c_program.specs.Meaning.{crun};
 ghost use Rattle.c_checker_rules.specs.Checked.{program_tree};
 ghost use Rattle.cminor_lowering.specs.Programs.{low};
+ghost use Rattle.rtlgen_definition.specs.Gen.{gen};
 ghost use Rattle.rtlgen.specs.Refused.{HasFewNodes};
 ghost use Rattle.cminor_program_ranges.specs.Names.{HaveNames};
 ghost use Rattle.lang.specs.Form.{IsProgram};
@@ -10,6 +11,9 @@ ghost use Rattle.linear_language.specs.Function.{IsFunction};
 ghost use Rattle.linear_language.specs.Meaning as linear;
 ghost use Rattle.linker.specs.Chains.{names_of, HasNamesOf};
 ghost use Rattle.rtl_language.specs.Meaning as rtl;
+ghost use Rattle.chains.specs.Baselines.{AreAccepted, AreBaselines};
+ghost use Rattle.chains.specs.Compiled.{IsBaselineProgram, IsCompiled};
+ghost use Rattle.chains.specs.Counted.{AreCounted};
 ghost use Rattle.chains.specs.Lent.{AreBeside};
 ghost use Rattle.chains.specs.Offered.{AllGoOn, linked_offers};
 ghost use Rattle.chains.specs.Refused.{IsNoMemory, IsRefused, IsUnlinked};
@@ -31,6 +35,10 @@ fn all_offers(
     maker: &mut Maker,
 ) -> Result<Vec<Offers>, CompileError>
     ensures chained { IfOk result (λ offers. AllGoOn functions.now offers.items) }
+    ensures accepted { IfOk result (λ offers. All AreAccepted offers.items) }
+    ensures counted { IfOk result (λ offers. AreCounted maker.old.proposals maker.new.proposals offers.items) }
+    ensures stays { maker.old.words ≡ None → maker.new ≡ maker.old }
+    ensures alone { maker.old.words ≡ None → IfOk result (λ offers. All AreBaselines offers.items) }
     ensures refused { All (λ f. f.function.registers ≤ 2048) functions.now → IfErr result IsNoMemory }
 {
     let mut offers = Vec::with_capacity(alloc, functions.len())?;
@@ -83,8 +91,10 @@ pub fn link_offers(
     Ok(made)
 }
 
-/// The Linear program of a checked C program by the offers that the maker makes. It keeps the meaning of the C program,
-/// whatever they are. The C program is lowered and translated once.
+/// The Linear program of a checked C program by the offers that the maker makes: their passes accept them, and they chain,
+/// from the functions of the translated program on. It keeps the meaning of the C program, whatever they are. A maker of
+/// baselines stays as it was; one of optimisers counts their offers, and those that it does not count are baselines. The C
+/// program is lowered and translated once.
 pub fn compile(
     alloc: Global,
     program: &CProgram,
@@ -93,6 +103,12 @@ pub fn compile(
     ensures keeps { IfOk result (λ made. Keeps (crun (program_tree program.now)) (linear.run made)) }
     ensures same_names { IfOk result (HasNamesOf (low (program_tree program.now))) }
     ensures spelled { HaveNames (program_tree program.now) → IfOk result (IsProgram IsFunction) }
+
+    // Which offers are linked.
+    ensures is { IfOk result
+        (IsCompiled maker.old.proposals maker.new.proposals (gen (low (program_tree program.now)))) }
+    ensures baselines { maker.old.words ≡ None → IfOk result (IsBaselineProgram (gen (low (program_tree program.now)))) }
+    ensures stays { maker.old.words ≡ None → maker.new ≡ maker.old }
 
     // Where memory is not wanting, it is refused exactly where a function needs too many nodes.
     ensures few { OnOk result (All HasFewNodes (low (program_tree program.now)).functions) }

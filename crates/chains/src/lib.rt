@@ -3,14 +3,14 @@
 //! is not offered, is replaced by its baseline.
 #![tactic(auto)]
 
+mod baselines;
 mod compiling;
 mod errors;
 mod makers;
 mod offering;
-mod proposing;
 
+pub use baselines::ExactBaselines;
 pub use compiling::{compile, link_offers};
 pub use errors::CompileError;
 pub use makers::Maker;
-pub use offering::{Offers, baseline_of};
-pub use proposing::{Proposed, proposed_of};
+pub use offering::Offers;

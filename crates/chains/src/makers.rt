@@ -1,13 +1,20 @@
 //! Who makes the offers of a function, and the four offers of one.
 
-ghost use Rattle.std.specs.Prelude.{◌≡◌, ◌≢◌, Some, None, IfOk, IfErr};
+ghost use Rattle.std.specs.Prelude.{◌≡◌, ◌≢◌, false, Some, None, IfOk, IfErr};
 ghost use Rattle.alloc_check_rules.specs.Rules.{IsTooLarge};
+ghost use Rattle.chains.specs.Baselines.{AreAccepted, AreBaselines};
+ghost use Rattle.chains.specs.Counted.{Counts, IsCounted, one_if};
 ghost use Rattle.chains.specs.Offered.{GoOnFrom};
 
-use crate::offering::{Offers, baseline_of};
-use crate::proposing::proposed_of;
+use crate::baselines::ExactBaselines;
+use crate::offering::Offers;
+use alloc_check::Alloc;
+use constprop_check::ConstProp;
+use cse_check::Cse;
 use lang_base::{Language, Oracle, Pass, PassError};
+use linearize_check::Linearize;
 use offers::Offer;
+use offers_choice::{Baselines, Choice, baseline_of, choose};
 use oracle_alloc::AllocOracle;
 use oracle_const::ConstOracle;
 use oracle_cse::CseOracle;
@@ -47,43 +54,58 @@ impl Maker {
         }
     }
 
-    /// An offer for the input, of the pass that the optimiser is for.
-    fn offer_of<O: Oracle>(
+    /// An offer for the input, of the pass that the optimiser is for. Where it is the optimiser's it is counted.
+    fn offer_of<P: Pass, B: Baselines<P>, O: Oracle<P = P>>(
         &mut self,
         alloc: Global,
         oracle: &mut O,
-        input: &<<O::P as Pass>::In as Language>::Fun,
-    ) -> Result<Offer<O::P>, PassError>
-        ensures input { IfOk result (λ offer. offer.input ≡ input.now) }
+        input: &<P::In as Language>::Fun,
+    ) -> Result<Choice<P>, PassError>
+        ensures input { IfOk result (λ made. made.offer.input ≡ input.now) }
+        ensures baseline { IfOk result (λ made. made.is_proposal ≡ false →
+            B.is_baseline made.offer.input made.offer.output made.offer.certificate) }
+        ensures counted { IfOk result (λ made. Counts self.old.proposals self.new.proposals (one_if made.is_proposal)) }
+
+        // With no words all are baselines, and the maker stays as it was.
+        ensures stays { self.old.words ≡ None → self.new ≡ self.old }
+        ensures alone { self.old.words ≡ None → IfOk result (λ made. made.is_proposal ≡ false) }
 
         // Only what has no baseline is refused.
-        ensures refused { IfErr result (λ e. e ≢ PassError.NoMemory → O.P.too_large input.now) }
+        ensures refused { IfErr result (λ e. e ≢ PassError.NoMemory → P.too_large input.now) }
     {
         let Some(words) = &mut self.words else {
-            return baseline_of::<O::P>(alloc, input);
+            return Ok(Choice {
+                offer: baseline_of::<P, B>(alloc, input)?,
+                is_proposal: false,
+            });
         };
-        let proposed = proposed_of(alloc, oracle, input, words)?;
-        if proposed.is_proposal {
+        let made = choose::<P, B, O>(alloc, oracle, input, words)?;
+        if made.is_proposal {
             self.proposals = self.proposals.saturating_add(1);
         }
-        Ok(proposed.offer)
+        Ok(made)
     }
 }
 
 /// An offer for the output of the last one, which is handed on with what was made before it. So nothing is let go at an
 /// exit whose type has many cases.
-fn behind<T: Drop, B: Pass, P: Pass<In = <B as Pass>::Out>, O: Oracle<P = P>>(
+fn behind<T: Drop, L: Pass, P: Pass<In = <L as Pass>::Out>, B: Baselines<P>, O: Oracle<P = P>>(
     alloc: Global,
     maker: &mut Maker,
     oracle: &mut O,
     before: T,
-    last: Offer<B>,
-) -> Result<(T, Offer<B>, Offer<P>), PassError>
+    last: Offer<L>,
+) -> Result<(T, Offer<L>, Choice<P>), PassError>
     ensures before { IfOk result (λ made. (made.0 ≡ before) × (made.1 ≡ last)) }
-    ensures input { IfOk result (λ made. made.2.input ≡ last.output) }
+    ensures input { IfOk result (λ made. made.2.offer.input ≡ last.output) }
+    ensures baseline { IfOk result (λ made. made.2.is_proposal ≡ false →
+        B.is_baseline made.2.offer.input made.2.offer.output made.2.offer.certificate) }
+    ensures counted { IfOk result (λ made. Counts maker.old.proposals maker.new.proposals (one_if made.2.is_proposal)) }
+    ensures stays { maker.old.words ≡ None → maker.new ≡ maker.old }
+    ensures alone { maker.old.words ≡ None → IfOk result (λ made. made.2.is_proposal ≡ false) }
     ensures refused { IfErr result (λ e. e ≢ PassError.NoMemory → P.too_large last.output) }
 {
-    let next = maker.offer_of(alloc, oracle, last.output())?;
+    let next = maker.offer_of::<P, B, O>(alloc, oracle, last.output())?;
     Ok((before, last, next))
 }
 
@@ -95,15 +117,47 @@ pub(crate) fn offers_of(
     maker: &mut Maker,
 ) -> Result<Offers, PassError>
     ensures chained { IfOk result (λ offers. GoOnFrom function.now offers) }
+    ensures accepted { IfOk result AreAccepted }
+    ensures counted { IfOk result (IsCounted maker.old.proposals maker.new.proposals) }
+    ensures stays { maker.old.words ≡ None → maker.new ≡ maker.old }
+    ensures alone { maker.old.words ≡ None → IfOk result AreBaselines }
     ensures refused { IfErr result (λ e. e ≢ PassError.NoMemory → IsTooLarge function.now) }
 {
-    let first = maker.offer_of(alloc, &mut ConstOracle, function)?;
+    let first = maker.offer_of::<ConstProp, ExactBaselines, ConstOracle>(
+        alloc,
+        &mut ConstOracle,
+        function,
+    )?;
+    let first = first.offer;
     first.validated();
-    let (_, first, second) = behind(alloc, maker, &mut CseOracle, (), first)?;
+    let (_, first, second) = behind::<(), ConstProp, Cse, ExactBaselines, CseOracle>(
+        alloc,
+        maker,
+        &mut CseOracle,
+        (),
+        first,
+    )?;
+    let second = second.offer;
     second.validated();
-    let (constants, expressions, third) = behind(alloc, maker, &mut AllocOracle, first, second)?;
+    let (constants, expressions, third) = behind::<
+        Offer<ConstProp>,
+        Cse,
+        Alloc,
+        ExactBaselines,
+        AllocOracle,
+    >(alloc, maker, &mut AllocOracle, first, second)?;
+    let third = third.offer;
+    third.validated();
     let before = (constants, expressions);
-    let (before, allocation, order) = behind(alloc, maker, &mut OrderOracle, before, third)?;
+    let (before, allocation, fourth) = behind::<
+        (Offer<ConstProp>, Offer<Cse>),
+        Alloc,
+        Linearize,
+        ExactBaselines,
+        OrderOracle,
+    >(alloc, maker, &mut OrderOracle, before, third)?;
+    let order = fourth.offer;
+    order.validated();
     let (constants, expressions) = before;
     Ok(Offers {
         constants,

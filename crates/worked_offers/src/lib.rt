@@ -9,7 +9,7 @@
 //! | `baseline INPUT` | the written offer of the input's baseline, or the number of its refusal |
 //! | `baseline_judged INPUT` | what is said of that offer |
 //! | `proposed INPUT OUTPUT OTHER` | `both`, where each of 64 seeds leads to one of the two outputs, and both occur |
-//! | `varied INPUT` | `yes`, where not all of 64 seeds lead to one output |
+//! | `varied INPUT` | `yes`, where the seeds from 1 to 16 all lead to accepted offers, and not all to one output |
 //! | `drawn COUNT` | `accepted`, where the proposals for so many functions that words choose are, and `changed`, where more than ten differ from the input |
 //! | `slots COUNT` | `accepted` likewise for register allocation, and `few`, where fewer than a third as many blocks touch slots as in the baselines |
 //! | `order INPUT OUTPUT NODES` | what is said of the order of the nodes, as of an offer |

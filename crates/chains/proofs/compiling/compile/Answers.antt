@@ -4,7 +4,7 @@ use Rattle.std.specs.Prelude.{All}
 use Rattle.std.proofs.lemmas.Result.{err_from_is_err_and}
 use Rattle.c_checker_rules.specs.Checked.{program_tree}
 use Rattle.cminor_lowering.specs.Programs.{low}
-use Rattle.chains.specs.Offered.{AllGoOn}
+use Rattle.chains.specs.Offered.{AllGoOn, linked_offers}
 use Rattle.chains.specs.declared.errors.CompileError.TheVariants.{Link}
 use Rattle.chains.proofs.Memory.{memory_refused}
 use Rattle.chains.proofs.compiling.compile.Goals as goal
@@ -27,6 +27,29 @@ returns-in_err-made-clause-refused c =
     let all = subst (λ os. AllGoOn c.in_ok-begun.begun.functions os) (sym c.deref.ensures.value) begun in
     let p = err_from_is_err_and c.from_residual-in_err-made.result c.from_residual-in_err-made.ensures.1 in
     rw (p.1, p.2) (memory_refused (low (program_tree c.args.program.now)) (Link c.in_err-made.field-0.0) (c.in_err-made.ensures.whole all))
+
+pub returns-clause-is : goal.returns-clause-is
+returns-clause-is c =
+    let same = c.in_ok-begun.ensures.same in
+    let offers = c.in_ok-offers.offers.items in
+    record {
+      offers = offers;
+      chained = subst (λ fs. AllGoOn fs offers) (c.as_slice.ensures ∙ ap (λ p. p.functions) same) c.in_ok-offers.ensures.chained;
+      accepted = c.in_ok-offers.ensures.accepted;
+      is = c.in_ok-made.ensures.ok ∙ ap (λ os. linked_offers c.in_ok-begun.begun os) c.deref.ensures.value ∙ ap (λ p. linked_offers p offers) same;
+      counted = c.in_ok-offers.ensures.counted;
+    }
+
+pub returns-clause-baselines : goal.returns-clause-baselines
+returns-clause-baselines c = λ none.
+    let same = c.in_ok-begun.ensures.same in
+    let offers = c.in_ok-offers.offers.items in
+    record {
+      offers = offers;
+      chained = subst (λ fs. AllGoOn fs offers) (c.as_slice.ensures ∙ ap (λ p. p.functions) same) c.in_ok-offers.ensures.chained;
+      baselines = c.in_ok-offers.ensures.alone none;
+      is = c.in_ok-made.ensures.ok ∙ ap (λ os. linked_offers c.in_ok-begun.begun os) c.deref.ensures.value ∙ ap (λ p. linked_offers p offers) same;
+    }
 
 pub returns-clause-spelled : goal.returns-clause-spelled
 returns-clause-spelled c = λ names.
