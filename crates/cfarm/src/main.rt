@@ -7,6 +7,7 @@ ghost use Rattle.std.specs.Prelude.{◌≤◌};
 use cfarm_program::{HostFiles, run, tell_no_memory, tell_no_text};
 use std::io::{BufWriter, ErrorKind};
 use std::process::ExitCode;
+use std::thread::Threads;
 use std::{env, io};
 
 /// The words of the command line.
@@ -14,8 +15,9 @@ fn words_of(rt: &HostRuntime) -> io::Result<Vec<String>> {
     Ok(env::args(rt)?.collect(rt.alloc())?)
 }
 
-/// Runs the program on the real files and streams. The output is kept until it is flushed, or much of it is there.
-fn run_here(rt: &HostRuntime) -> u8
+/// Runs the program on the real files and streams, and on threads where it takes them. The output is kept until it is flushed, or much
+/// of it is there.
+fn run_here<R: Threads + Sync>(rt: &HostRuntime, threads: &R) -> u8
     ensures table { result ≤ 7 }
 {
     let alloc = rt.alloc();
@@ -27,11 +29,11 @@ fn run_here(rt: &HostRuntime) -> u8
         Err(_) => return tell_no_memory(&mut err),
     };
     match BufWriter::new(alloc, io::writer(rt)) {
-        Ok(mut out) => run(alloc, &words, &HostFiles(rt), &mut out, &mut err),
+        Ok(mut out) => run(threads, alloc, &words, &HostFiles(rt), &mut out, &mut err),
         Err(_) => tell_no_memory(&mut err),
     }
 }
 
 fn main(rt: HostRuntime) -> ExitCode {
-    ExitCode::from(run_here(&rt))
+    ExitCode::from(run_here(&rt, &rt))
 }

@@ -1,5 +1,2 @@
-pub mod HandOn
-pub mod Rooms
-mod FallingLemmas
-mod ListingLemmas
 mod ReadingLemmas
+mod AgreedLemmas

@@ -1,9 +1,4 @@
-pub mod HandedOn
-pub mod Played
 pub mod Statuses
 pub mod Lines
-pub mod NodeOrders
-pub mod Visits
 pub mod Settled
-pub use Rattle.paxos_core.specs.Schedule
 pub use Rattle.linear_language.specs.Meaning

@@ -13,6 +13,7 @@ use cfarm_texts::{Closing, check_text, interpret, status_of};
 use cfarm_words::Task;
 use std::alloc::Global;
 use std::io::Write;
+use std::thread::Threads;
 
 #[tactic(auto, using(crate::proofs::Tables::error_in_table))]
 fn check<W: Write, E: Write>(alloc: Global, text: &[u8], out: &mut W, err: &mut E) -> u8
@@ -63,12 +64,18 @@ fn run_bytes<W: Write, E: Write>(
 }
 
 #[tactic(auto, using(crate::proofs::Tables::settle_in_table))]
-fn lay_out<W: Write, E: Write>(alloc: Global, bytes: &[u8], out: &mut W, err: &mut E) -> u8
+fn lay_out<R: Threads + Sync, W: Write, E: Write>(
+    rt: &R,
+    alloc: Global,
+    bytes: &[u8],
+    out: &mut W,
+    err: &mut E,
+) -> u8
     ensures does { (answer : Answer) × Settled bytes.now answer (W.contents out.old) (W.contents out.new)
         × IsTold answer result (E.contents err.old) (E.contents err.new) }
     ensures table { result ≤ 7 }
 {
-    match settle(alloc, bytes, out) {
+    match settle(rt, alloc, bytes, out) {
         Ok(()) => 0,
         Err(fault) => tell(err, fault, fault.status()),
     }
@@ -87,8 +94,9 @@ fn play<W: Write, E: Write>(alloc: Global, schedule: &[u8], out: &mut W, err: &m
 }
 
 /// Does the task on the bytes of its file: writes the output, tells a line on standard error where there is one, and
-/// gives the exit status.
-pub(crate) fn perform<W: Write, E: Write>(
+/// gives the exit status. `rt` starts the threads of the nodes that settle.
+pub(crate) fn perform<R: Threads + Sync, W: Write, E: Write>(
+    rt: &R,
     alloc: Global,
     task: Task,
     bytes: &[u8],
@@ -103,7 +111,7 @@ pub(crate) fn perform<W: Write, E: Write>(
         Task::Check => check(alloc, bytes, out, err),
         Task::Interpret(depth) => run_text(alloc, bytes, depth, out, err),
         Task::Exec(limit) => run_bytes(alloc, bytes, limit, out, err),
-        Task::Settle => lay_out(alloc, bytes, out, err),
+        Task::Settle => lay_out(rt, alloc, bytes, out, err),
         Task::Simulate => play(alloc, bytes, out, err),
     }
 }

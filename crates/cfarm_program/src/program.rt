@@ -12,6 +12,7 @@ use cfarm_words::asked_for;
 use clap::error::ErrorKind;
 use std::alloc::Global;
 use std::io::Write;
+use std::thread::Threads;
 
 /// The status for the command line.
 const MISTAKEN: u8 = 2;
@@ -56,8 +57,9 @@ fn tell_refused<W: Write, E: Write>(fault: &clap::Error, out: &mut W, err: &mut 
 }
 
 /// Does what the words of a command line ask for, the first of which is the program's name: reads the file, writes the
-/// output, tells a line on standard error where there is one, and gives the exit status.
-pub fn run<F: Files, W: Write, E: Write>(
+/// output, tells a line on standard error where there is one, and gives the exit status. `rt` starts threads for `settle`.
+pub fn run<R: Threads + Sync, F: Files, W: Write, E: Write>(
+    rt: &R,
     alloc: Global,
     words: &[String],
     files: &F,
@@ -69,7 +71,7 @@ pub fn run<F: Files, W: Write, E: Write>(
     ensures table { result ≤ 7 }
 {
     match asked_for(alloc, words) {
-        Ok(Some(asked)) => run_task(alloc, asked.task, asked.path, files, out, err),
+        Ok(Some(asked)) => run_task(rt, alloc, asked.task, asked.path, files, out, err),
         Ok(None) => MISTAKEN,
         Err(fault) => tell_refused(&fault, out, err),
     }

@@ -10,6 +10,7 @@ use cfarm_words::Task;
 use std::alloc::Global;
 use std::fmt;
 use std::io::Write;
+use std::thread::Threads;
 
 /// The status for a file that cannot be read.
 const UNREADABLE: u8 = 2;
@@ -31,7 +32,8 @@ impl fmt::Display for Unread<'_> {
 
 /// Reads the file of this path and does the task on its bytes: writes the output, tells a line on standard error where there
 /// is one, and gives the exit status.
-pub(crate) fn run_task<F: Files, W: Write, E: Write>(
+pub(crate) fn run_task<R: Threads + Sync, F: Files, W: Write, E: Write>(
+    rt: &R,
     alloc: Global,
     task: Task,
     path: &str,
@@ -44,7 +46,7 @@ pub(crate) fn run_task<F: Files, W: Write, E: Write>(
     ensures table { result ≤ 7 }
 {
     match files.read(path) {
-        Ok(bytes) => perform(alloc, task, &bytes, out, err),
+        Ok(bytes) => perform(rt, alloc, task, &bytes, out, err),
         Err(FileFault::NoMemory) => tell_no_memory(err),
         Err(FileFault::Unreadable) => tell(err, Unread(path), UNREADABLE),
     }

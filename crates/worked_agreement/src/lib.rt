@@ -13,8 +13,6 @@
 //! | `refused INPUT` | the status and the line of a refusal by `settle`, which prints nothing |
 //! | `near INPUT` | `well`, where on each strict front of the input, and each change of one byte of it, `settle` prints what is settled or refuses the form and prints nothing |
 //! | `noise COUNT` | `well` likewise, of so many random inputs |
-//! | `orders INPUT` | the nodes of a graph as each of the three nodes of `settle` lists them |
-//! | `agree` | the value that three nodes learn where node 0 alone starts |
 //!
 //! A kept part is `OFFERED,STARTED,PROMISED,BALLOT,VALUE`, with ballot 0 for no vote; parts, calls and steps have semicolons
 //! between. A call is `offer NODE`, `start NODE`, `propose NODE`, `learned NODE`, `again NODE` (a restart), `opened NODE BALLOT` (a
@@ -25,7 +23,6 @@
 mod calls;
 mod kept_parts;
 mod nodes;
-mod orders;
 mod rows;
 mod schedules;
 mod settle;
@@ -33,14 +30,15 @@ mod simulated;
 mod steps;
 mod words;
 
-use crate::rows::Rows;
+use crate::rows::{Rows, tell_settle};
 use program_rows::compare;
 use std::io;
+use std::thread::Threads;
 
-/// Asks for each row of the files that lie beside the program, and tells how many agree.
-pub fn tell(rt: &HostRuntime) -> io::Result<()> {
+/// Asks for each row of the files that lie beside the program, and tells how many agree. Nodes that settle take threads.
+pub fn tell<R: Threads + Sync>(rt: &HostRuntime, threads: &R) -> io::Result<()> {
     compare(rt, "settled.txt", &mut Rows)?;
     compare(rt, "protocol.txt", &mut Rows)?;
-    compare(rt, "settle.txt", &mut Rows)?;
+    tell_settle(rt, threads, "settle.txt")?;
     compare(rt, "schedules.txt", &mut Rows)
 }

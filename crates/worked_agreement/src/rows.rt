@@ -2,38 +2,18 @@
 
 use crate::calls::calls_told;
 use crate::kept_parts::{kept_told, settled_told};
-use crate::orders::orders_told;
 use crate::schedules::random_told;
 use crate::settle::{near, noise, refused, settled_on};
 use crate::simulated::simulated;
 use crate::steps::steps_told;
-use cfarm_commands::agree;
-use program_rows::{Answers, numbered};
+use program_rows::{Answers, agrees, parts_of_row};
 use std::alloc::Global;
+use std::thread::Threads;
+use std::{fs, io};
 
-/// Answers each of them.
+/// Answers each of them but those about `settle`.
 #[derive(Drop)]
 pub struct Rows;
-
-/// The value that three nodes agree on.
-fn agreed(alloc: Global) -> Option<String> {
-    numbered(alloc, "", u64::from(agree(alloc).ok()??))
-}
-
-/// The answer to a question about `settle`.
-fn settle_told(alloc: Global, kind: &str, words: &str) -> Option<String> {
-    match kind {
-        "settle" => {
-            let (input, outputs) = words.split_once(' ')?;
-            settled_on(alloc, input, outputs)
-        }
-        "refused" => refused(alloc, words),
-        "near" => near(alloc, words),
-        "noise" => noise(alloc, words),
-        "orders" => orders_told(alloc, words),
-        _ => None,
-    }
-}
 
 impl Answers for Rows {
     fn answer(&mut self, alloc: Global, question: &str, _row: u64) -> Option<String> {
@@ -44,9 +24,42 @@ impl Answers for Rows {
             "calls" => calls_told(alloc, words),
             "steps" => steps_told(alloc, words),
             "random" => random_told(alloc, words),
-            "agree" => agreed(alloc),
             "simulated" => simulated(alloc, words),
-            _ => settle_told(alloc, kind, words),
+            _ => None,
         }
     }
+}
+
+/// The answer to a question about `settle`.
+fn settle_told<R: Threads + Sync>(threads: &R, alloc: Global, question: &str) -> Option<String> {
+    let (kind, words) = question.split_once(' ').unwrap_or((question, ""));
+    match kind {
+        "settle" => {
+            let (input, outputs) = words.split_once(' ')?;
+            settled_on(threads, alloc, input, outputs)
+        }
+        "refused" => refused(threads, alloc, words),
+        "near" => near(threads, alloc, words),
+        "noise" => noise(threads, alloc, words),
+        _ => None,
+    }
+}
+
+/// Asks for each row of a file about `settle`, whose nodes take threads, and tells how many agree.
+pub fn tell_settle<R: Threads + Sync>(rt: &HostRuntime, threads: &R, name: &str) -> io::Result<()> {
+    let text = fs::read_to_string(rt, name)?;
+    let mut all = 0u64;
+    let mut agree = 0u64;
+    for line in text.lines() {
+        if line.starts_with('#') {
+            continue;
+        }
+        all = all.saturating_add(1);
+        let (question, _said) = parts_of_row(line);
+        let told = settle_told(threads, rt.alloc(), question);
+        if agrees(rt, name, line, all, told)? {
+            agree = agree.saturating_add(1);
+        }
+    }
+    println!(rt; "{name}: {agree} of {all} agree")
 }

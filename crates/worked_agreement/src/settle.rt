@@ -5,6 +5,7 @@ use program_rows::{bytes_of, numbered, owned};
 use rand_core::utils::NextWord;
 use rand_pcg::Pcg32;
 use std::alloc::Global;
+use std::thread::Threads;
 
 /// What a run leaves for a user: the status, the line on standard error, and standard output.
 #[derive(Drop)]
@@ -15,9 +16,9 @@ struct Ended {
 }
 
 /// What a run on these bytes leaves.
-fn run(alloc: Global, bytes: &[u8]) -> Option<Ended> {
+fn run<R: Threads + Sync>(threads: &R, alloc: Global, bytes: &[u8]) -> Option<Ended> {
     let mut output = Vec::new(alloc);
-    match settle(alloc, bytes, &mut output) {
+    match settle(threads, alloc, bytes, &mut output) {
         Ok(()) => Some(Ended {
             status: 0,
             line: String::new(alloc),
@@ -40,17 +41,22 @@ fn is_printed(output: &[u8], text: &str) -> bool {
 }
 
 /// Whether what is printed is one of the texts.
-pub fn settled_on(alloc: Global, input: &str, texts: &str) -> Option<String> {
+pub fn settled_on<R: Threads + Sync>(
+    threads: &R,
+    alloc: Global,
+    input: &str,
+    texts: &str,
+) -> Option<String> {
     let bytes = bytes_of(alloc, input)?;
-    let ended = run(alloc, &bytes)?;
+    let ended = run(threads, alloc, &bytes)?;
     let is_one = texts.split(' ').any(|text| is_printed(&ended.output, text));
     owned(alloc, if is_one { "agreed" } else { "no" })
 }
 
 /// The status of a refusal that prints nothing, and its line.
-pub fn refused(alloc: Global, input: &str) -> Option<String> {
+pub fn refused<R: Threads + Sync>(threads: &R, alloc: Global, input: &str) -> Option<String> {
     let bytes = bytes_of(alloc, input)?;
-    let ended = run(alloc, &bytes)?;
+    let ended = run(threads, alloc, &bytes)?;
     if !ended.output.is_empty() {
         return owned(alloc, "printed");
     }
@@ -58,8 +64,8 @@ pub fn refused(alloc: Global, input: &str) -> Option<String> {
 }
 
 /// Whether a run on these bytes prints what is settled, or is refused for their form and prints nothing.
-fn ends_well(alloc: Global, bytes: &[u8]) -> bool {
-    let Some(ended) = run(alloc, bytes) else {
+fn ends_well<R: Threads + Sync>(threads: &R, alloc: Global, bytes: &[u8]) -> bool {
+    let Some(ended) = run(threads, alloc, bytes) else {
         return false;
     };
     match ended.status {
@@ -70,9 +76,9 @@ fn ends_well(alloc: Global, bytes: &[u8]) -> bool {
 }
 
 /// Whether each front ends well.
-fn fronts_end_well(alloc: Global, bytes: &[u8]) -> bool {
+fn fronts_end_well<R: Threads + Sync>(threads: &R, alloc: Global, bytes: &[u8]) -> bool {
     for length in 0..bytes.len() {
-        if !ends_well(alloc, &bytes[..length]) {
+        if !ends_well(threads, alloc, &bytes[..length]) {
             return false;
         }
     }
@@ -80,27 +86,32 @@ fn fronts_end_well(alloc: Global, bytes: &[u8]) -> bool {
 }
 
 /// Whether each change of the byte at the place ends well. The byte is left as it was.
-fn changes_end_well(alloc: Global, bytes: &mut [u8], place: usize) -> bool {
+fn changes_end_well<R: Threads + Sync>(
+    threads: &R,
+    alloc: Global,
+    bytes: &mut [u8],
+    place: usize,
+) -> bool {
     let Some(right) = bytes.get(place).copied() else {
         return false;
     };
     let mut all = true;
     for byte in 0..=u8::MAX {
         bytes[place] = byte;
-        all &= ends_well(alloc, bytes);
+        all &= ends_well(threads, alloc, bytes);
     }
     bytes[place] = right;
     all
 }
 
 /// Whether each front of an input ends well, and each change of one of its bytes.
-pub fn near(alloc: Global, input: &str) -> Option<String> {
+pub fn near<R: Threads + Sync>(threads: &R, alloc: Global, input: &str) -> Option<String> {
     let mut bytes = bytes_of(alloc, input)?;
-    if !fronts_end_well(alloc, &bytes) {
+    if !fronts_end_well(threads, alloc, &bytes) {
         return owned(alloc, "a front does not");
     }
     for place in 0..bytes.len() {
-        if !changes_end_well(alloc, &mut bytes, place) {
+        if !changes_end_well(threads, alloc, &mut bytes, place) {
             return numbered(alloc, "a change does not at ", place as u64);
         }
     }
@@ -120,11 +131,11 @@ fn noise_of(alloc: Global, words: &mut Pcg32, turn: u16) -> Option<Vec<u8>> {
 }
 
 /// Whether so many random inputs end well.
-pub fn noise(alloc: Global, count: &str) -> Option<String> {
+pub fn noise<R: Threads + Sync>(threads: &R, alloc: Global, count: &str) -> Option<String> {
     let mut words = Pcg32::new(1, 0);
     for turn in 0..count.parse().ok()? {
         let bytes = noise_of(alloc, &mut words, turn)?;
-        if !ends_well(alloc, &bytes) {
+        if !ends_well(threads, alloc, &bytes) {
             return hex::encode(alloc, &bytes).ok();
         }
     }

@@ -19,11 +19,4 @@ mod rows;
 mod runs;
 mod shown;
 
-use crate::rows::Rows;
-use program_rows::compare;
-use std::io;
-
-/// Asks for each row of the file that lies beside the program, and tells how many agree.
-pub fn tell(rt: &HostRuntime) -> io::Result<()> {
-    compare(rt, "commands.txt", &mut Rows { rt })
-}
+pub use rows::tell;

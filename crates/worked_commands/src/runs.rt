@@ -4,6 +4,7 @@ use crate::held::Held;
 use crate::shown::shown;
 use cfarm_program::{FileFault, Files, run};
 use std::alloc::Global;
+use std::thread::Threads;
 
 /// The one file that can be read.
 #[derive(Drop)]
@@ -40,21 +41,23 @@ pub fn words_of(alloc: Global, line: &str) -> Option<Vec<String>> {
 }
 
 /// The status of a run, what it wrote and its standard error.
-pub fn answer<F: Files>(
+pub fn answer<R: Threads + Sync, F: Files>(
+    threads: &R,
     alloc: Global,
     words: &[String],
     files: &F,
     mut out: Held,
     mut err: Held,
 ) -> Option<String> {
-    let status = run(alloc, words, files, &mut out, &mut err);
+    let status = run(threads, alloc, words, files, &mut out, &mut err);
     let written = shown(alloc, &out.bytes)?;
     let told = shown(alloc, &err.bytes)?;
     format!(in alloc; "{status} {written} {told}").ok()
 }
 
 /// Whether a run answers 4 where the output can hold only so many bytes: these are written, and 701 is told.
-fn fails_at_output(
+fn fails_at_output<R: Threads + Sync>(
+    threads: &R,
     alloc: Global,
     words: &[String],
     files: &Given<'_>,
@@ -63,7 +66,7 @@ fn fails_at_output(
 ) -> bool {
     let mut out = Held::failing_at(alloc, space);
     let mut err = Held::ample(alloc);
-    let status = run(alloc, words, files, &mut out, &mut err);
+    let status = run(threads, alloc, words, files, &mut out, &mut err);
     status == 4
         && out.bytes.len() == space
         && all.starts_with(&out.bytes)
@@ -71,7 +74,8 @@ fn fails_at_output(
 }
 
 /// Whether a run answers 4 where standard error can hold only so many bytes: these are told, and the output is whole.
-fn fails_at_error(
+fn fails_at_error<R: Threads + Sync>(
+    threads: &R,
     alloc: Global,
     words: &[String],
     files: &Given<'_>,
@@ -80,7 +84,7 @@ fn fails_at_error(
 ) -> bool {
     let mut out = Held::ample(alloc);
     let mut err = Held::failing_at(alloc, space);
-    let status = run(alloc, words, files, &mut out, &mut err);
+    let status = run(threads, alloc, words, files, &mut out, &mut err);
     status == 4
         && out.bytes.as_slice() == ample.0
         && err.bytes.len() == space
@@ -88,18 +92,23 @@ fn fails_at_error(
 }
 
 /// At how many bytes of the output and of standard error a writer may fail, where the answer is then 4.
-pub fn failing(alloc: Global, words: &[String], files: &Given<'_>) -> Option<String> {
+pub fn failing<R: Threads + Sync>(
+    threads: &R,
+    alloc: Global,
+    words: &[String],
+    files: &Given<'_>,
+) -> Option<String> {
     let mut out = Held::ample(alloc);
     let mut err = Held::ample(alloc);
-    let _status = run(alloc, words, files, &mut out, &mut err);
+    let _status = run(threads, alloc, words, files, &mut out, &mut err);
     let (written, told) = (out.bytes.as_slice(), err.bytes.as_slice());
     for space in 0..written.len() {
-        if !fails_at_output(alloc, words, files, written, space) {
+        if !fails_at_output(threads, alloc, words, files, written, space) {
             return format!(in alloc; "output at {space}").ok();
         }
     }
     for space in 0..told.len() {
-        if !fails_at_error(alloc, words, files, (written, told), space) {
+        if !fails_at_error(threads, alloc, words, files, (written, told), space) {
             return format!(in alloc; "error at {space}").ok();
         }
     }

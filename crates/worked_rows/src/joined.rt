@@ -15,13 +15,14 @@ use crate::linked::ran;
 use alloc_check::Alloc;
 use c_checker_rules::CProgram;
 use cfarm_texts::accept;
-use chains::{Offers, baseline_of};
+use chains::{ExactBaselines, Offers};
 use cminor::lower;
 use constprop_check::ConstProp;
 use cse_check::Cse;
 use lang_base::Program;
 use linearize_check::Linearize;
 use linker::{Chain, LinkError, Named, link, translated};
+use offers_choice::baseline_of;
 use program_rows::Answers;
 use std::alloc::Global;
 
@@ -45,10 +46,10 @@ enum Beside {
 
 /// The baselines of a function, each on the output of the one before it.
 fn baselines_of(alloc: Global, function: &rtl_language::Function) -> Option<Offers> {
-    let constants = baseline_of::<ConstProp>(alloc, function).ok()?;
-    let expressions = baseline_of::<Cse>(alloc, constants.output()).ok()?;
-    let allocation = baseline_of::<Alloc>(alloc, expressions.output()).ok()?;
-    let order = baseline_of::<Linearize>(alloc, allocation.output()).ok()?;
+    let constants = baseline_of::<ConstProp, ExactBaselines>(alloc, function).ok()?;
+    let expressions = baseline_of::<Cse, ExactBaselines>(alloc, constants.output()).ok()?;
+    let allocation = baseline_of::<Alloc, ExactBaselines>(alloc, expressions.output()).ok()?;
+    let order = baseline_of::<Linearize, ExactBaselines>(alloc, allocation.output()).ok()?;
     Some(Offers {
         constants,
         expressions,

@@ -39,8 +39,8 @@ struct Tally {
 }
 
 fn main(rt: HostRuntime) -> io::Result<()> {
-    worked_commands::tell(&rt)?;
-    worked_agreement::tell(&rt)?;
+    worked_commands::tell(&rt, &rt)?;
+    worked_agreement::tell(&rt, &rt)?;
     worked_texts::tell(&rt)?;
     worked_forms::tell(&rt)?;
     worked_offers::tell(&rt, &rt)?;

@@ -1,0 +1,51 @@
+#!/usr/bin/env python3
+"""How long a look at a word of a room takes, beside a bare atomic load, by the program `looked`.
+
+    bench/rooms.py             adds crates/looked to the tree, proves and builds it
+    bench/rooms.py --remove    takes it out again
+    bench/rooms.py --speed     the fastest of ten runs of each: nanoseconds a load, a look at a proposer, at an acceptor
+
+It is no part of the gate, so it stands as a patch, bench/rooms.patch, and is proved whenever it is used. Remove it
+before anything is committed."""
+import os
+import subprocess
+import sys
+
+ROOT = os.path.dirname(os.path.dirname(os.path.realpath(__file__)))
+PLAN = os.path.join(ROOT, "crates.txt")
+PATCH = os.path.join(ROOT, "bench", "rooms.patch")
+PROGRAM = os.path.join(ROOT, "crates", "looked", "out", "looked")
+LINE = "looked: rooms_seat paxos_core\n"
+COUNT = 10_000_000
+
+
+def add():
+    subprocess.run(["git", "apply", PATCH], cwd=ROOT, check=True)
+    with open(PLAN, "a", encoding="utf-8") as plan:
+        plan.write(LINE)
+    return subprocess.run(["rt", "run"], cwd=os.path.join(ROOT, "crates", "looked"), check=False).returncode
+
+
+def remove():
+    subprocess.run(["git", "apply", "--reverse", PATCH], cwd=ROOT, check=True)
+    with open(PLAN, encoding="utf-8") as plan:
+        lines = plan.readlines()
+    with open(PLAN, "w", encoding="utf-8") as plan:
+        plan.writelines(it for it in lines if it != LINE)
+    return 0
+
+
+def speed():
+    best = {}
+    for _ in range(10):
+        ran = subprocess.run([PROGRAM, str(COUNT)], capture_output=True, text=True, check=True)
+        for line in ran.stderr.splitlines():
+            what, micros, _ = line.split()
+            best[what] = min(best.get(what, 1 << 60), int(micros))
+    for what, micros in best.items():
+        print(f"{what} {micros * 1000 / COUNT:.2f} ns, {micros / best['load']:.1f} times a load")
+    return 0
+
+
+if __name__ == "__main__":
+    sys.exit({"--remove": remove, "--speed": speed}.get(sys.argv[1] if sys.argv[1:] else "", add)())

@@ -1,0 +1,4 @@
+pub mod Openings
+pub mod Going
+pub mod Three
+pub mod Meetings

@@ -1,0 +1,8 @@
+use Rattle.rooms_state.specs.declared.act.Act.TheVariants as act
+use Rattle.cfarm_settle_nodes.proofs.Going.{stays_acted, stays_through}
+use Rattle.cfarm_settle_nodes.proofs.node.lead.Goals as goal
+
+pub returns : goal.returns
+returns g c =
+    stays_through c.args.seat.now c.propose-proposed.new.self c.start.new.seat
+    (stays_acted act.Propose c.args.seat.now c.propose-proposed.new.self c.propose-proposed.ensures.acted c.propose-proposed.ensures.sights) c.start.ensures

@@ -1,0 +1,6 @@
+use Rattle.rooms_state.specs.declared.act.Act.TheVariants as act
+use Rattle.cfarm_settle_nodes.proofs.Going.{stays_acted}
+use Rattle.cfarm_settle_nodes.proofs.node.start.Goals as goal
+
+pub returns : goal.returns
+returns g c = stays_acted act.Start c.args.seat.now c.start-started.new.self c.start-started.ensures.acted c.start-started.ensures.sights

@@ -1,0 +1,56 @@
+-- What three nodes of a room have agreed on, whatever the pass is that the room's offers are of.
+use Rattle.std.specs.Prelude.{◌≡◌, ℕ, zero, suc, List, Some}
+use Rattle.lang_base.specs.Keeps.{Keeps}
+use Rattle.lang_base.specs.declared.language.Language as language
+use Rattle.lang_base.specs.declared.pass.Pass as pass
+use Rattle.lang_base.specs.declared.program.Global.{Global}
+use Rattle.offers.specs.declared.parts.Parts.{Parts}
+use Rattle.offers.specs.OneFunction.{program_of_one}
+use Rattle.rooms.specs.SeatValue.{SeatValue, offer_of}
+use Rattle.cfarm_settle_nodes.specs.Goes.{AreThree}
+use Rattle.cfarm_settle_nodes.specs.Learned.{IsLearnedByAll}
+
+-- the seat's node has offered this
+abbrev pub HasOffered : {T : Type 0} → T → SeatValue T → Type 0
+HasOffered x s = offer_of s s.words.node.me ≡ Some x
+
+-- of three nodes this one has offered this
+abbrev pub IsOfferOf : {T : Type 0} → ℕ → T → SeatValue T → SeatValue T → SeatValue T → Type 0
+IsOfferOf zero x first second third = HasOffered x first
+IsOfferOf (suc zero) x first second third = HasOffered x second
+IsOfferOf (suc (suc zero)) x first second third = HasOffered x third
+IsOfferOf (suc (suc (suc node))) x first second third = ⊥
+
+-- There are seats of the three nodes of a room that began with nothing; at the end of the run that the first has seen all three have
+-- learned the node's number, and this is what the node has offered.
+pub record HaveAgreed {T : Type 0} (node : ℕ) (x : T) : Type 0 where
+  pub first : SeatValue T
+  pub second : SeatValue T
+  pub third : SeatValue T
+  pub room : AreThree first second third
+  pub learned : IsLearnedByAll first.words.view.seen node
+  pub offered : IsOfferOf node x first second third
+
+module _ {P A B C I O : Type 0} (from : language.Ghosts A I) (to : language.Ghosts B O) (by : pass.Ghosts P A B C I O) where
+  -- the pass accepts the offer, and a program of its output alone keeps the meaning of its input's; these are the bytes of its output
+  pub record IsCode (x : Parts I O C) (code : List ℕ) : Type 0 where
+    pub accepted : by.accepts x.input x.output x.certificate
+    pub keeps : (globals : List Global) (name : List ℕ) →
+        Keeps (from.run (program_of_one globals name x.input)) (to.run (program_of_one globals name x.output))
+    pub spells : code ≡ to.spelling x.output
+
+  -- they are those of the seat's own offer
+  abbrev pub IsOwnCode : SeatValue (Parts I O C) → List ℕ → Type 0
+  IsOwnCode s code = (x : Parts I O C) × HasOffered x s × IsCode x code
+
+  -- they are those of what the node has offered
+  abbrev pub IsCodeOf : ℕ → SeatValue (Parts I O C) → SeatValue (Parts I O C) → SeatValue (Parts I O C) → List ℕ → Type 0
+  IsCodeOf node first second third code = (x : Parts I O C) × IsOfferOf node x first second third × IsCode x code
+
+  -- they are those of an offer for this input that three nodes have agreed on
+  pub record IsAgreed (input : I) (bytes : List ℕ) : Type 0 where
+    pub node : ℕ
+    pub offer : Parts I O C
+    pub offered : offer.input ≡ input
+    pub agreed : HaveAgreed node offer
+    pub code : IsCode offer bytes

@@ -1,0 +1,62 @@
+-- What a node's turns leave of its seat.
+use Rattle.std.specs.Prelude.{◌≡◌, ℕ, List, Some, replicate}
+use Rattle.atomic_table.specs.Seated.{TableId}
+use Rattle.offers.specs.declared.parts.Parts.{Parts}
+use Rattle.rooms_cells.specs.Seen.{names_of}
+use Rattle.paxos_core_world.specs.KeptPart.{nothing_kept}
+use Rattle.rooms_rule.specs.declared.view.Opening.{Opening}
+use Rattle.rooms_state.specs.SeatState.{SeatState}
+use Rattle.rooms.specs.SeatValue.{SeatValue, offer_of}
+
+-- how a room of three nodes opens that have kept nothing
+abbrev pub empty_room : Opening
+empty_room = record { count = 3; kept = replicate 7 nothing_kept }
+
+-- the words are those of the same node in the same room
+pub record IsSameRoom (old new : SeatState) : Type 0 where
+  pub table : new.table ≡ old.table
+  pub opening : new.view.opening ≡ old.view.opening
+  pub me : new.node.me ≡ old.node.me
+  pub count : new.node.count ≡ old.node.count
+
+-- what the node has offered, if anything, is for this input
+abbrev pub OffersFor : {F G C : Type 0} → F → SeatValue (Parts F G C) → Type 0
+OffersFor {F} {G} {C} f s = (x : Parts F G C) → offer_of s s.words.node.me ≡ Some x → x.input ≡ f
+
+-- the seat is the same node's, in the same room, and what it offers is for this input
+pub record GoesOn {F G C : Type 0} (f : F) (old new : SeatValue (Parts F G C)) : Type 0 where
+  pub room : IsSameRoom old.words new.words
+  pub cells : names_of new.sights ≡ names_of old.sights
+  pub own : OffersFor f old → OffersFor f new
+
+-- the same, and nothing else was seen of the cells
+pub record Stays {T : Type 0} (old new : SeatValue T) : Type 0 where
+  pub room : IsSameRoom old.words new.words
+  pub sights : new.sights ≡ old.sights
+
+-- node i's seat of a room of three that began with nothing
+pub record IsSeatOf {T : Type 0} (board : TableId) (shelf : List ℕ) (i : ℕ) (s : SeatValue T) : Type 0 where
+  pub table : s.words.table ≡ board
+  pub cells : names_of s.sights ≡ shelf
+  pub opening : s.words.view.opening ≡ empty_room
+  pub me : s.words.node.me ≡ i
+  pub count : s.words.node.count ≡ 3
+
+-- the seats of the three nodes of one such room
+pub record AreThree {T : Type 0} (a b c : SeatValue T) : Type 0 where
+  pub board : TableId
+  pub shelf : List ℕ
+  pub first : IsSeatOf board shelf 0 a
+  pub second : IsSeatOf board shelf 1 b
+  pub third : IsSeatOf board shelf 2 c
+
+-- what each of them has offered is for this input
+pub record AllOfferFor {F G C : Type 0} (f : F) (a b c : SeatValue (Parts F G C)) : Type 0 where
+  pub first : OffersFor f a
+  pub second : OffersFor f b
+  pub third : OffersFor f c
+
+-- each of them went on
+abbrev pub AllGoOn : {F G C : Type 0} → F → SeatValue (Parts F G C) → SeatValue (Parts F G C) → SeatValue (Parts F G C)
+    → SeatValue (Parts F G C) × SeatValue (Parts F G C) × SeatValue (Parts F G C) → Type 0
+AllGoOn f a b c after = GoesOn f a after.0 × GoesOn f b after.1 × GoesOn f c after.2

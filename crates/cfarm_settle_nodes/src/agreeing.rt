@@ -1,0 +1,62 @@
+//! The code that three nodes agree on.
+
+ghost use Rattle.std.specs.Prelude.{◌≡◌, ℕ, IfOk, IfSome};
+ghost use Rattle.cfarm_settle_nodes.specs.Agreed.{IsAgreed, IsCodeOf, IsOwnCode};
+ghost use Rattle.cfarm_settle_nodes.specs.Goes.{AllOfferFor, AreThree};
+
+use crate::meeting::agreed;
+use lang_base::{Language, NoMemory, Pass};
+use offers::offer_keeps;
+use rooms::Seat;
+use std::alloc::Global;
+
+/// The bytes of the output of the seat's own offer, if it has made one.
+fn own_code<P: Pass>(alloc: Global, seat: &Seat<P>) -> Result<Option<Vec<u8>>, NoMemory>
+    ensures { IfOk result (λ found. IfSome found (λ code.
+        IsOwnCode P.In.Language P.Out.Language P.Pass seat.now code.items)) }
+{
+    let Some(offer) = seat.fetch(seat.me()) else {
+        return Ok(None);
+    };
+    offer.validated();
+    offer_keeps(offer);
+    let mut code = Vec::new(alloc);
+    P::Out::write(offer.output(), &mut code)?;
+    Ok(Some(code))
+}
+
+/// The bytes of the output of the node's offer.
+fn code_of<P: Pass>(
+    alloc: Global,
+    node: u8,
+    first: &Seat<P>,
+    second: &Seat<P>,
+    third: &Seat<P>,
+) -> Result<Option<Vec<u8>>, NoMemory>
+    ensures { IfOk result (λ found. IfSome found (λ code.
+        IsCodeOf P.In.Language P.Out.Language P.Pass node first.now second.now third.now code.items)) }
+{
+    match node {
+        0 => own_code(alloc, first),
+        1 => own_code(alloc, second),
+        2 => own_code(alloc, third),
+        _ => Ok(None),
+    }
+}
+
+/// The bytes of the code that the seats of three nodes have agreed on. None where not all three have learned one node's number.
+pub fn code_agreed<P: Pass>(
+    alloc: Global,
+    first: &mut Seat<P>,
+    second: &mut Seat<P>,
+    third: &mut Seat<P>,
+) -> Result<Option<Vec<u8>>, NoMemory>
+    requires { AreThree first.old second.old third.old }
+    ensures { (f : P.In.Fun) → AllOfferFor f first.old second.old third.old → IfOk result (λ found. IfSome found (λ code.
+        IsAgreed P.In.Language P.Out.Language P.Pass f code.items)) }
+{
+    let Some(node) = agreed(first, second, third) else {
+        return Ok(None);
+    };
+    code_of(alloc, node, first, second, third)
+}

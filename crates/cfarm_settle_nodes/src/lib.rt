@@ -1,0 +1,16 @@
+//! Three nodes of a room of shared words, whatever the pass is that the room's offers are of: the room is opened, each node takes its
+//! turns with a seat of its own, and at last each two of the seats meet. What they agree on is the offer of a node whose number all three
+//! have learned in a run of the protocol.
+#![tactic(auto)]
+
+mod agreeing;
+mod meeting;
+mod node;
+mod offering;
+mod pace;
+mod player;
+mod turns;
+
+pub use agreeing::code_agreed;
+pub use pace::Pace;
+pub use turns::{open, play};

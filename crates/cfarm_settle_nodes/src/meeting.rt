@@ -1,0 +1,45 @@
+//! Three seats meet.
+
+ghost use Rattle.std.specs.Prelude.{IfSome};
+ghost use Rattle.cfarm_settle_nodes.specs.Goes.{AreThree, Stays};
+ghost use Rattle.cfarm_settle_nodes.specs.Learned.{AreSame, IsLearnedByAll};
+
+use lang_base::Pass;
+use rooms::{Meeting, Seat, meet};
+
+/// The value that all meetings told.
+fn same(first: Meeting, second: Meeting, third: Meeting) -> Option<u8>
+    ensures { IfSome result (AreSame first second third) }
+{
+    let (Meeting::Same(value), Meeting::Same(other), Meeting::Same(another)) = (
+        first, second, third,
+    ) else {
+        return None;
+    };
+    if other == value && another == value {
+        Some(value)
+    } else {
+        None
+    }
+}
+
+/// Each two of the seats meet: the number of the node whose offer all three have learned.
+pub(crate) fn agreed<P: Pass>(
+    first: &mut Seat<P>,
+    second: &mut Seat<P>,
+    third: &mut Seat<P>,
+) -> Option<u8>
+    requires { AreThree first.old second.old third.old }
+    ensures learned { IfSome result (IsLearnedByAll first.new.words.view.seen) }
+    ensures first { Stays first.old first.new }
+    ensures second { Stays second.old second.new }
+    ensures third { Stays third.old third.new }
+{
+    let first_two = meet(first, second);
+    second.known();
+    let outer_two = meet(first, third);
+    first.known();
+    third.known();
+    let last_two = meet(second, third);
+    same(first_two, outer_two, last_two)
+}
