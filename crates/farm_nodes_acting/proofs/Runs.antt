@@ -1,5 +1,6 @@
 -- A journal while its node acts: nothing done, one record, a record that may be missing, and one call after another.
 use Rattle.std.proofs.Common.{◌≡◌, ◌≢◌, ℕ, ◌+◌, ◌<◌, ◌≤◌, Bool, true, false, ltb, List, [], ◌∷◌, ◌++◌, length, append-nil, append_assoc, refl, sym, ap, ◌∙◌, subst, arith}
+use Rattle.std.proofs.lemmas.List.Elements.{All-push}
 use Rattle.paxos_core_world.specs.KeptPart.{KeptPart}
 use Rattle.durable_model.specs.Moments.{LeavesOnly, started, composed, weaker}
 use Rattle.acceptor_log_form.specs.declared.header.Header.{Header}
@@ -9,7 +10,7 @@ use Rattle.acceptor_log_form.specs.Leaves.{kept_by, kept_in}
 use Rattle.acceptor_log_form.specs.Lists.{Begins, Between}
 use Rattle.acceptor_log.specs.declared.log.Log.{Log}
 use Rattle.acceptor_log.specs.Acknowledged.{acknowledged, IsReady}
-use Rattle.farm_nodes_acting.specs.Advances.{Advances}
+use Rattle.farm_nodes_acting.specs.Advances.{Advances, AreOf}
 use Rattle.farm_nodes_acting.proofs.Records.{kept_own, kept_other}
 
 pub begins_same : (xs : List Record) → Begins xs xs
@@ -20,6 +21,9 @@ begins_through xs ys zs p q = (p.0 ++ q.0, q.1 ∙ (ap (λ (l : List Record). l 
 
 pub begins_more : (xs ys more : List Record) → Begins xs ys → Begins xs (ys ++ more)
 begins_more xs ys more p = begins_through xs ys (ys ++ more) p (more, refl)
+
+more_of : (rooms : ℕ) (rs : List Record) (r : Record) → room_of r < rooms → AreOf rooms rs → AreOf rooms (rs ++ r ∷ [])
+more_of rooms rs r low are = All-push (λ (x : Record). room_of x < rooms) rs r are low
 
 wider : (h g : Header) (low high low2 high2 : List Record) (c : List ℕ) → h ≡ g → Begins low2 low → Begins high high2 → Between h low high c → Between g low2 high2 c
 wider h g low high low2 high2 c same p q b = record {
@@ -50,6 +54,7 @@ module _ {D : Type 0} (seen : D → List ℕ) (may_leave : D → List ℕ → Ty
     longer = begins_same (acknowledged seen log);
     kept = λ e. e;
     others = λ m other. refl;
+    named = λ rooms low are. are;
     any_moment = started moment left_since log.disk (Between log.header (acknowledged seen log) (acknowledged seen log ++ [])) (λ c left. rest is_honest log ready c (now c left));
     left = rest is_honest log ready;
   }
@@ -63,6 +68,7 @@ module _ {D : Type 0} (seen : D → List ℕ) (may_leave : D → List ℕ → Ty
     longer = (r ∷ [], added);
     kept = λ e. ap (λ (rs : List Record). kept_in rs room) added ∙ (kept_own (acknowledged seen old) r room own ∙ (ap (λ (x : KeptPart). kept_by x r) e ∙ step));
     others = λ m other. ap (λ (rs : List Record). kept_in rs m) added ∙ kept_other (acknowledged seen old) r m (λ e. other (sym e ∙ own));
+    named = λ rooms low are. subst (λ (rs : List Record). AreOf rooms rs) (sym added) (more_of rooms (acknowledged seen old) r (subst (λ (m : ℕ). m < rooms) (sym own) low) are);
     any_moment = weaker run (λ c b. wider old.header old.header (acknowledged seen old) (acknowledged seen old ++ r ∷ []) (acknowledged seen old) (acknowledged seen new ++ []) c refl (begins_same (acknowledged seen old)) ([], more) b);
     left = λ c left. wider new.header old.header (acknowledged seen new) (acknowledged seen new ++ []) (acknowledged seen new) (acknowledged seen new ++ []) c header (begins_same (acknowledged seen new)) (begins_same (acknowledged seen new ++ [])) (rest is_honest new ready c left);
   }
@@ -79,6 +85,7 @@ module _ {D : Type 0} (seen : D → List ℕ) (may_leave : D → List ℕ → Ty
     longer = begins_same (acknowledged seen old);
     kept = λ e. e;
     others = λ m other. refl;
+    named = λ rooms low are. are;
     any_moment = run;
     left = λ c left. run.each c (counts c left run.later);
   }
@@ -90,6 +97,7 @@ module _ {D : Type 0} (seen : D → List ℕ) (may_leave : D → List ℕ → Ty
     longer = begins_through (acknowledged seen old) (acknowledged seen mid) upto first.longer second.longer;
     kept = λ e. second.kept (first.kept e);
     others = λ i other. second.others i other ∙ first.others i other;
+    named = λ rooms low are. second.named rooms low (first.named rooms low are);
     any_moment = composed moment left_since old.disk mid.disk new.disk
         (Between old.header (acknowledged seen old) (acknowledged seen mid ++ []))
         (Between mid.header (acknowledged seen mid) (upto ++ pending))

@@ -5,7 +5,7 @@ use Rattle.paxos_core_law.specs.declared.step.Step.TheVariants as step
 use Rattle.acceptor_log_form.specs.declared.record.Record.{Record}
 use Rattle.acceptor_log_form.specs.declared.record.Record.TheVariants.{Started, Proposed, Promised, Accepted}
 use Rattle.rooms_state.specs.SeatState.{SeatState}
-use Rattle.rooms_state.specs.Would.{would}
+use Rattle.rooms_state.specs.Would.{would, IsAmong}
 use Rattle.farm_nodes_acting.specs.declared.stop.Pending.{Pending}
 use Rattle.farm_nodes_acting.specs.declared.stop.Pending.TheVariants.{Act, Offer}
 
@@ -31,3 +31,8 @@ records_of room (Some s) = record_of room s ∷ []
 abbrev pub pending_of : ℕ → SeatState → Pending → List Record
 pending_of room s (Act a) = records_of room (would s a)
 pending_of room s (Offer r) = r ∷ []
+
+-- it was about to act, and was asked of a node of n
+abbrev pub IsActAmong : ℕ → Pending → Type 0
+IsActAmong n (Act a) = IsAmong n a
+IsActAmong n (Offer r) = ⊥

@@ -3,7 +3,7 @@
 ghost use Rattle.std.specs.Prelude.{◌≡◌, ◌≢◌, ◌≤◌, Some, None, true, is_some, IfOk, IfErr, OnErr};
 ghost use Rattle.acceptor_log.specs.Acknowledged.{IsSound};
 ghost use Rattle.rooms_state.specs.Would.{would, Acted, IsAmong};
-ghost use Rattle.farm_nodes_acting.specs.Noted.{record_of, pending_of, IsByte};
+ghost use Rattle.farm_nodes_acting.specs.Noted.{record_of, pending_of, IsActAmong, IsByte};
 ghost use Rattle.farm_nodes_acting.specs.Served.{IsServed};
 ghost use Rattle.farm_nodes_acting.specs.Journalled.{Journalled};
 ghost use Rattle.farm_nodes_acting.specs.Cause.{HasCause};
@@ -32,6 +32,7 @@ pub fn act<D: Disk>(
     // It has not moved where its record may be missing.
     ensures err { OnErr result (seat.new ≡ seat.old) }
     ensures pending { IfErr result (λ stop. (stop.pending ≡ Waiting.Act act) × (would seat.old act ≢ None)) }
+    ensures acting { IfErr result (λ stop. IsActAmong seat.new.node.count stop.pending) }
 
     ensures journal { D.is_honest log.old.disk → log.old.going ≡ true → Journalled
         D.is_honest D.seen D.may_leave D.moment D.left_since log.old log.new room seat.old seat.new result }

@@ -2,7 +2,7 @@
 
 ghost use Rattle.std.specs.Prelude.{◌≡◌, ◌≢◌, ◌<◌, ℕ, true, IfOk, IfErr, OnOk};
 ghost use Rattle.acceptor_log.specs.Acknowledged.{IsSound};
-ghost use Rattle.farm_nodes_acting.specs.Noted.{pending_of};
+ghost use Rattle.farm_nodes_acting.specs.Noted.{pending_of, IsActAmong};
 ghost use Rattle.farm_nodes_acting.specs.Served.{IsServed};
 ghost use Rattle.farm_nodes_acting.specs.Journalled.{Journalled};
 ghost use Rattle.farm_nodes_acting.specs.Cause.{HasCause};
@@ -22,6 +22,9 @@ pub fn hear_all<D: Disk>(log: &mut Log<D>, seat: &mut WordSeat, room: u16) -> Re
     ensures going { IfOk result (λ moved. log.new.going ≡ log.old.going) }
     ensures heard { HasHeard seat.old seat.new }
     ensures quiet { OnOk result ((j : ℕ) → j < seat.new.node.count → IsQuiet j seat.new) }
+
+    // Where it is stopped, it was about to act, and was asked of a node of the room.
+    ensures acting { IfErr result (λ stop. IsActAmong seat.new.node.count stop.pending) }
     ensures journal { D.is_honest log.old.disk → log.old.going ≡ true → Journalled
         D.is_honest D.seen D.may_leave D.moment D.left_since log.old log.new room seat.old seat.new result }
     ensures cause { log.old.going ≡ true → IfErr result (λ stop. HasCause D.is_honest D.faults
@@ -50,6 +53,7 @@ pub fn hear<D: Disk>(log: &mut Log<D>, seat: &mut WordSeat, room: u16, j: u8) ->
     // What was quiet stays so.
     ensures others { OnOk result ((i : ℕ) → i < j → IsQuiet i seat.old → IsQuiet i seat.new) }
 
+    ensures acting { IfErr result (λ stop. IsActAmong seat.new.node.count stop.pending) }
     ensures journal { D.is_honest log.old.disk → log.old.going ≡ true → Journalled
         D.is_honest D.seen D.may_leave D.moment D.left_since log.old log.new room seat.old seat.new result }
     ensures cause { log.old.going ≡ true → IfErr result (λ stop. HasCause D.is_honest D.faults
@@ -74,6 +78,7 @@ fn answer<D: Disk>(log: &mut Log<D>, seat: &mut WordSeat, room: u16, j: u8) -> R
     ensures heard { HasHeard seat.old seat.new }
     ensures quiet { OnOk result (IsQuiet j seat.new) }
     ensures others { OnOk result ((i : ℕ) → i < j → IsQuiet i seat.old → IsQuiet i seat.new) }
+    ensures acting { IfErr result (λ stop. IsActAmong seat.new.node.count stop.pending) }
     ensures journal { D.is_honest log.old.disk → log.old.going ≡ true → Journalled
         D.is_honest D.seen D.may_leave D.moment D.left_since log.old log.new room seat.old seat.new result }
     ensures cause { log.old.going ≡ true → IfErr result (λ stop. HasCause D.is_honest D.faults

@@ -5,7 +5,7 @@ ghost use Rattle.rand_pcg.specs.Pcg.{pcg32};
 ghost use Rattle.acceptor_log.specs.Acknowledged.{IsSound};
 ghost use Rattle.rooms_state.specs.declared.act.Act.TheVariants as asked;
 ghost use Rattle.rooms_state.specs.Would.{would};
-ghost use Rattle.farm_nodes_acting.specs.Noted.{pending_of};
+ghost use Rattle.farm_nodes_acting.specs.Noted.{pending_of, IsActAmong};
 ghost use Rattle.farm_nodes_acting.specs.Served.{IsServed};
 ghost use Rattle.farm_nodes_acting.specs.Journalled.{Journalled};
 ghost use Rattle.farm_nodes_acting.specs.Cause.{HasCause};
@@ -42,6 +42,7 @@ pub fn lead<D: Disk>(
     ensures started { seat.new.node.kept.started ≢ seat.old.node.kept.started
         → (may_start seat.old.node ≡ true) × ((pcg32 words.old).0 % 4 ≡ 0) }
 
+    ensures acting { IfErr result (λ stop. IsActAmong seat.new.node.count stop.pending) }
     ensures journal { D.is_honest log.old.disk → log.old.going ≡ true → Journalled
         D.is_honest D.seen D.may_leave D.moment D.left_since log.old log.new room seat.old seat.new result }
     ensures cause { log.old.going ≡ true → IfErr result (λ stop. HasCause D.is_honest D.faults

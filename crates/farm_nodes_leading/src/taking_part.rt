@@ -3,7 +3,7 @@ ghost use Rattle.rand_pcg.specs.Pcg.{pcg32};
 ghost use Rattle.acceptor_log.specs.Acknowledged.{IsSound};
 ghost use Rattle.rooms_state.specs.declared.act.Act.TheVariants as asked;
 ghost use Rattle.rooms_state.specs.Would.{would};
-ghost use Rattle.farm_nodes_acting.specs.Noted.{pending_of};
+ghost use Rattle.farm_nodes_acting.specs.Noted.{pending_of, IsActAmong};
 ghost use Rattle.farm_nodes_acting.specs.Served.{IsServed};
 ghost use Rattle.farm_nodes_acting.specs.Journalled.{Journalled};
 ghost use Rattle.farm_nodes_acting.specs.Cause.{HasCause};
@@ -34,6 +34,7 @@ pub fn take_part<D: Disk>(
     ensures proposed { OnOk result (would seat.new asked.Propose ≡ None) }
     ensures led { OnOk result (seat.old.node.kept.offered ≡ true → (pcg32 words.old).0 % 4 ≡ 0 → HasLed seat.new) }
 
+    ensures acting { IfErr result (λ stop. IsActAmong seat.new.node.count stop.pending) }
     ensures journal { D.is_honest log.old.disk → log.old.going ≡ true → Journalled
         D.is_honest D.seen D.may_leave D.moment D.left_since log.old log.new room seat.old seat.new result }
     ensures cause { log.old.going ≡ true → IfErr result (λ stop. HasCause D.is_honest D.faults

@@ -1,2 +1,3 @@
 pub mod Halted
 pub mod Offered
+pub mod Pending

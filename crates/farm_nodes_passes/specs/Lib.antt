@@ -1,1 +1,4 @@
 pub mod Numbers
+pub mod Fours
+pub mod Leaves
+pub mod Pending

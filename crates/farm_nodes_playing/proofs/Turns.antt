@@ -1,23 +1,28 @@
 -- One call of a turn after another: what stays of a seat, what its offer is, and why it halts.
-use Rattle.std.proofs.Common.{◌≡◌, ◌≢◌, ℕ, zero, suc, ◌≤◌, ◌↔◌, Bool, true, false, eqb, List, [], ◌∷◌, set, get_or-set_other, Option, Some, None, IfSome, Result, Ok, Err, OnOk, OnErr, refl, sym, ap, ◌∙◌, subst, arith}
+use Rattle.std.proofs.Common.{◌≡◌, ◌≢◌, ℕ, zero, suc, ◌≤◌, ◌↔◌, Bool, true, false, eqb, List, [], ◌∷◌, set, get_or-set_other, Option, Some, None, IfSome, Result, Ok, Err, OnOk, OnErr, IfErr, refl, sym, ap, ◌∙◌, subst, arith}
 use Rattle.std.proofs.lemmas.Bool.{eqb-true, eq-eqb}
 use Rattle.durable_model.specs.Honest.{risen_within}
 use Rattle.acceptor_log_form.specs.declared.errors.LogError.{LogError}
 use Rattle.acceptor_log_form.specs.declared.errors.LogError.TheVariants as log
 use Rattle.acceptor_log_form.specs.declared.record.Record.{Record}
+use Rattle.acceptor_log_form.specs.declared.record.Record.TheVariants.{Offered}
 use Rattle.acceptor_log.specs.declared.log.Log.{Log}
 use Rattle.offers.specs.declared.parts.Parts.{Parts}
 use Rattle.rooms_cells.specs.Seen.{SightOf, Read, nothing_seen, value_at, names_of}
 use Rattle.rooms_state.specs.SeatState.{SeatState}
 use Rattle.rooms.specs.SeatValue.{SeatValue, IsOneRoom, offer_of}
 use Rattle.farm_nodes_acting.specs.Cause.{HasCause}
+use Rattle.farm_nodes_acting.specs.declared.stop.Pending.{Pending}
+use Rattle.farm_nodes_acting.specs.declared.stop.Pending.TheVariants.{Act, Offer}
+use Rattle.farm_nodes_acting.specs.Noted.{IsActAmong}
 use Rattle.farm_nodes_leading.specs.Leading.{Remains}
 use Rattle.farm_nodes_offers.specs.declared.halt.Fault.{Fault}
 use Rattle.farm_nodes_offers.specs.declared.halt.Fault.TheVariants as fault
 use Rattle.farm_nodes_acting.proofs.Results.{Grown}
 use Rattle.farm_nodes_offers.specs.declared.halt.Halt.{Halt}
 use Rattle.farm_nodes_offers.specs.Halted.{HasHaltCause, HasLeft, Recorded, left_over}
-use Rattle.farm_nodes_offers.specs.Offered.{HasOffered}
+use Rattle.farm_nodes_offers.specs.Offered.{HasOffered, IsOfferPending}
+use Rattle.farm_nodes_offers.specs.Pending.{MayPendOn}
 use Rattle.farm_nodes_playing.specs.Played.{HeldOffer, IsChoiceFault, IsMadeOn, SeesOn, Stays}
 
 -- ---- a seat's room and what it has seen
@@ -189,3 +194,32 @@ module _ {D : Type 0} (is_honest : D → Type 0) (seen : D → List ℕ) (may_le
   recorded_err r h k e same left =
       subst (λ (x : Result Bool Halt). Recorded is_honest seen may_leave moment left_since old new room s t x) (sym e)
       (subst (λ (x : Halt). HasLeft seen may_leave moment left_since old new room s t (left_over room t x.pending)) (sym same) left)
+
+-- ---- what is pending where it halts
+
+module _ {T : Type 0} (IsText : List ℕ → T → Type 0) (room : ℕ) where
+  left_offer : (text : List ℕ) (x : T) (s t : SeatValue T) (p : Option Pending) → IsText text x → s.words.node.kept.offered ≡ false → t ≡ s
+      → IsOfferPending room text p → MayPendOn IsText room t p
+  left_offer text x s t None is first same told = tt
+  left_offer text x s t (Some (Act a)) is first same told = absurd (cc)
+  left_offer text x s t (Some (Offer r)) is first same told =
+      let what : r ≡ Offered room text = cc in
+      (ap (λ (u : SeatValue T). u.words.node.kept.offered) same ∙ first, x, text, what, is)
+
+  -- the offer
+  pub left_offering : {A : Type 0} (text : List ℕ) (x : T) (s t : SeatValue T) (r : Result A Halt) → IsText text x → s.words.node.kept.offered ≡ false
+      → OnErr r (t ≡ s) → IfErr r (λ halt. IsOfferPending room text halt.pending) → IfErr r (λ halt. MayPendOn IsText room t halt.pending)
+  left_offering text x s t (Ok a) is first same told = told
+  left_offering text x s t (Err halt) is first same told = left_offer text x s t halt.pending is first same told
+
+  -- an act
+  pub left_acting : (s : SeatValue T) (p : Pending) → IsActAmong s.words.node.count p → MayPendOn IsText room s (Some p)
+  left_acting s (Act a) is = is
+  left_acting s (Offer r) is = absurd is
+
+module _ {A : Type 0} (P : Halt → Type 0) where
+  pub if_went_on : (r : Result A Halt) (a : A) → r ≡ Ok a → IfErr r P
+  if_went_on r a e = subst (λ (x : Result A Halt). IfErr x P) (sym e) tt
+
+  pub if_halted : (r : Result A Halt) (h k : Halt) → r ≡ Err h → h ≡ k → P k → IfErr r P
+  if_halted r h k e same holds = subst (λ (x : Result A Halt). IfErr x P) (sym e) (subst (λ (x : Halt). P x) (sym same) holds)

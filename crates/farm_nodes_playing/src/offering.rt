@@ -2,6 +2,7 @@ ghost use Rattle.std.specs.Prelude.{◌≡◌, true, IfOk, IfErr, OnOk, IsSome, 
 ghost use Rattle.acceptor_log.specs.Acknowledged.{IsSound};
 ghost use Rattle.farm_nodes_acting.specs.Served.{IsServed};
 ghost use Rattle.farm_nodes_offers.specs.Halted.{left_over, Recorded, HasHaltCause};
+ghost use Rattle.farm_nodes_offers.specs.Pending.{IsTextOf, MayPendOn};
 ghost use Rattle.farm_nodes_playing.specs.Played.{HeldOffer, IsMadeOn, IsTooLarge};
 
 use crate::choosing::choose;
@@ -33,6 +34,10 @@ pub fn offer_on<D: Disk, P: Pass, O: Oracle<P = P>>(
     ensures made { IsMadeOn (option_copied input.entry) seat.old seat.new }
     ensures offered { OnOk result (IsSome input.entry → seat.new.words.node.kept.offered ≡ true) }
 
+    // Where it halts over its offer, the record is of that, which is not made yet.
+    ensures left { IfErr result (λ halt. MayPendOn (IsTextOf P.In.Language P.Out.Language P.Pass)
+        room seat.new halt.pending) }
+
     ensures journal { D.is_honest log.old.disk → log.old.going ≡ true → Recorded
         D.is_honest D.seen D.may_leave D.moment D.left_since log.old log.new room seat.old.words seat.new.words result }
     ensures cause { log.old.going ≡ true → IfErr result (λ halt. HasHaltCause D.is_honest D.faults
@@ -46,7 +51,10 @@ pub fn offer_on<D: Disk, P: Pass, O: Oracle<P = P>>(
         return Ok(false);
     };
     match choose(alloc, oracle, input, words) {
-        Ok(offer) => make_offer(alloc, log, seat, room, offer),
+        Ok(offer) => {
+            offer.validated();
+            make_offer(alloc, log, seat, room, offer)
+        }
         Err(fault) => Err(Halt::idle(fault)),
     }
 }

@@ -8,6 +8,7 @@ ghost use Rattle.farm_nodes_acting.specs.Served.{IsServed};
 ghost use Rattle.farm_nodes_acting.specs.Quiet.{IsQuiet};
 ghost use Rattle.farm_nodes_leading.specs.Leading.{HasLed};
 ghost use Rattle.farm_nodes_offers.specs.Halted.{left_over, Recorded, HasHaltCause};
+ghost use Rattle.farm_nodes_offers.specs.Pending.{IsTextOf, MayPendOn};
 ghost use Rattle.farm_nodes_playing.specs.Played.{IsMadeOn, IsTooLarge, Played, SeesOn, Stays};
 
 use crate::offering::offer_on;
@@ -48,6 +49,10 @@ pub fn play<D: Disk, P: Pass, O: Oracle<P = P>>(
     ensures led { OnOk result (seat.old.words.node.kept.offered ≡ true → (pcg32 words.old).0 % 4 ≡ 0
         → HasLed seat.new.words) }
 
+    // Where it halts it had not done what is pending: an act asked of a node of the room, or its offer.
+    ensures left { IfErr result (λ halt. MayPendOn (IsTextOf P.In.Language P.Out.Language P.Pass)
+        room seat.new halt.pending) }
+
     // What it tells is what it learned, and whether the journal has more records.
     ensures journal { D.is_honest log.old.disk → log.old.going ≡ true → Played
         D.is_honest D.seen D.may_leave D.moment D.left_since log.old log.new room seat.old.words seat.new.words result }
@@ -84,6 +89,8 @@ fn take_steps<D: Disk, P: Pass, O: Oracle<P = P>>(
     ensures proposed { OnOk result (would seat.new.words asked.Propose ≡ None) }
     ensures led { OnOk result (seat.old.words.node.kept.offered ≡ true → (pcg32 words.old).0 % 4 ≡ 0
         → HasLed seat.new.words) }
+    ensures left { IfErr result (λ halt. MayPendOn (IsTextOf P.In.Language P.Out.Language P.Pass)
+        room seat.new halt.pending) }
     ensures journal { D.is_honest log.old.disk → log.old.going ≡ true → Recorded
         D.is_honest D.seen D.may_leave D.moment D.left_since log.old log.new room seat.old.words seat.new.words result }
     ensures cause { log.old.going ≡ true → IfErr result (λ halt. HasHaltCause D.is_honest D.faults

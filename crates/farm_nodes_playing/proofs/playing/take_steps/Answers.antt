@@ -1,9 +1,11 @@
 use Rattle.std.proofs.Common.{◌||◌, option_copied, Some, sym, ◌∙◌, subst}
 use Rattle.rooms_state.specs.SeatState.{SeatState}
 use Rattle.farm_nodes_acting.proofs.Results.{Grown, grown_on}
+use Rattle.farm_nodes_offers.specs.declared.halt.Halt.{Halt}
 use Rattle.farm_nodes_offers.specs.Halted.{fault_of}
+use Rattle.farm_nodes_offers.specs.Pending.{IsTextOf, MayPendOn}
 use Rattle.farm_nodes_offers.proofs.Leavings.{left_after, same_words}
-use Rattle.farm_nodes_playing.proofs.Turns.{made_taking, recorded_err, recorded_ok, stays_taking}
+use Rattle.farm_nodes_playing.proofs.Turns.{if_halted, if_went_on, left_acting, made_taking, recorded_err, recorded_ok, stays_taking}
 use Rattle.farm_nodes_playing.proofs.playing.take_steps.Goals as goal
 use Rattle.farm_nodes_playing.proofs.playing.take_steps.Goals.{in-Ok-take_part, in-Err-take_part}
 
@@ -42,4 +44,17 @@ returns-clause-journal g c honest going =
           w.result-is w.stopped.ensures
           (left_after disk.is_honest disk.seen disk.may_leave disk.moment disk.left_since old mid new c.args.room s m t c.in-Ok.offered _
           c.offer_on.ensures.served.header first (w.in-Err-take_part.ensures.journal honest_mid going_mid))
+    ]
+
+pub returns-clause-left : goal.returns-clause-left
+returns-clause-left g c =
+    let IsText = IsTextOf g.P.In.Language g.P.Out.Language g.P.Pass in
+    let P = λ (halt : Halt). MayPendOn IsText c.args.room record { words = c.take_part.new.seat; sights = c.seat.inside.sights } halt.pending in
+    elim c.match-take_part.branch [
+      | in-Ok-take_part w ↦ if_went_on P c.match-take_part.result w.either.result w.result-is
+      | in-Err-take_part w ↦
+          if_halted P c.match-take_part.result w.stopped.result
+          record { fault = fault_of w.in-Err-take_part.stop.error; pending = Some w.in-Err-take_part.stop.pending }
+          w.result-is w.stopped.ensures
+          (left_acting IsText c.args.room record { words = c.take_part.new.seat; sights = c.seat.inside.sights } w.in-Err-take_part.stop.pending w.in-Err-take_part.ensures.acting)
     ]

@@ -1,0 +1,5 @@
+pub mod Held
+pub mod Learned
+pub mod Rooms
+pub use Rattle.rooms_numbered.specs.RoomOf
+pub use Rattle.rooms_seat.specs.Meeting

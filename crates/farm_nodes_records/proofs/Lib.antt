@@ -1,0 +1,6 @@
+pub mod Walks
+pub mod Keeping
+pub mod Placing
+pub mod Answering
+pub mod Gathering
+pub mod Writing

@@ -1,0 +1,3 @@
+pub mod Written
+pub mod Stored
+pub mod Known
