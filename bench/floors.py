@@ -22,32 +22,35 @@ TOLD = ("specs", "proofs", "src", "must-fail", "planted")
 FLOORS = [
     ("Base: machine words, languages, passes, programs", "ints lang_base lang_parts"),
     ("C: tokens and trees, the reader, the checker, the meaning",
-     "c_syntax c_lexer_spellings c_lexer_parts c_lexer c_reader_tokens c_reader_expression_laws c_reader_expressions "
-     "c_reader_productions c_reader_statement_laws c_reader_statements c_reader_declaration_laws c_reader c_program "
-     "c_checker_scopes c_checker_rules c_checker_terms c_checker_bodies c_checker_declarations c_checker "
-     "c_meaning_machine c_meaning"),
+     "c_syntax c_lexer_spellings c_lexer_parts c_lexer c_reader_tokens c_reader_expression_laws "
+     "c_reader_expressions c_reader_productions c_reader_statement_laws c_reader_statements "
+     "c_reader_declaration_laws c_reader c_program c_checker_scopes c_checker_rules c_checker_terms "
+     "c_checker_bodies c_checker_declarations c_checker c_meaning_machine c_meaning"),
     ("Languages: whole programs of any, Cminor, RTL, LTL, Linear",
-     "lang locations machine cminor_syntax cminor_form cminor_codec cminor_language rtl_parts rtl_language rtl_decoded "
-     "rtl ltl linear_language linear_decoded linear_frames linear"),
+     "lang locations machine lang_running cminor_syntax cminor_form cminor_codec cminor_language rtl_parts "
+     "rtl_language rtl_decoded rtl ltl linear_language linear_decoded linear"),
     ("Lowerings: C to Cminor, Cminor to RTL",
-     "cminor_lowering cminor_lowering_ranges cminor_program_ranges cminor rtlgen_definition "
-     "rtlgen_code rtlgen"),
+     "cminor_lowering cminor_lowering_ranges cminor_program_ranges cminor rtlgen_definition rtlgen_code rtlgen"),
     ("Passes: the rules of each, that they keep the meaning, the check",
-     "rtl_passes rtl_passes_facts constprop_check_rules constprop_check cse_check_rules cse_check alloc_check_rules "
-     "alloc_check_laws alloc_check_blocks alloc_check_verdict alloc_check_live alloc_check linearize_check_proof "
-     "linearize_check_layout linearize_check"),
+     "rtl_passes rtl_passes_facts constprop_check_rules constprop_check cse_check_rules cse_check "
+     "alloc_check_rules alloc_check_laws alloc_check_blocks alloc_check_verdict alloc_check_live alloc_check "
+     "linearize_check_proof linearize_check_layout linearize_check"),
     ("Optimisers: they propose, and nothing is claimed of them",
      "oracle_facts oracle_const oracle_cse oracle_alloc_blocks oracle_alloc oracle_order"),
-    ("Offers, chains of them, and the linked program",
-     "offers parallel_validate linker chains"),
+    ("Offers, chains of them, and the linked program", "offers offers_choice parallel_validate linker chains"),
     ("Agreement: the protocol, rooms on shared words",
-     "paxos_core_world paxos_core_invariant paxos_core_model paxos_core_law paxos_core_late_offers paxos_core rooms_rule "
-     "rooms_steps rooms_state rooms_seat rooms_cells rooms_hall rooms rooms_numbered"),
+     "paxos_core_world paxos_core_invariant paxos_core_model paxos_core_law paxos_core_late_offers paxos_core "
+     "rooms_rule rooms_steps rooms_state rooms_seat rooms_cells rooms_hall rooms rooms_numbered"),
     ("Journals", "durable_model_writes durable_model acceptor_log_form acceptor_log"),
-    ("The farm", "farm_nodes_acting farm_nodes_leading farm_nodes_offers farm_nodes_playing farm_nodes_passes"),
-    ("The program", "cfarm_output cfarm_texts cfarm_exec cfarm_commands cfarm_schedules_lines cfarm_schedules cfarm_words cfarm_program cfarm"),
-    ("Tests", "program_rows paxos_reference worked_commands worked_agreement worked_texts worked_forms worked_offers worked_rows worked_disk "
-     "worked_journals worked_rooms"),
+    ("The farm",
+     "farm_nodes_acting farm_nodes_leading farm_nodes_offers farm_nodes_playing farm_nodes_passes "
+     "farm_nodes_restart_seat farm_nodes_records farm_nodes_checking farm_nodes_journals farm_nodes_meeting"),
+    ("The program",
+     "cfarm_output cfarm_texts cfarm_exec cfarm_settle_nodes cfarm_settle cfarm_commands cfarm_schedules_lines "
+     "cfarm_schedules cfarm_words cfarm_program cfarm"),
+    ("Tests",
+     "program_rows paxos_reference worked_commands worked_agreement worked_texts worked_forms worked_offers "
+     "worked_rows worked_disk worked_journals worked_rooms"),
 ]
 ORDER = [crate for _, crates in FLOORS for crate in crates.split()]
 
