@@ -5,7 +5,7 @@ use Rattle.lang_base.specs.declared.errors.FormError.TheVariants as F
 use Rattle.lang_base.specs.declared.shown.Shown.{Shown}
 use Rattle.lang_base.specs.declared.shown.Shown.TheVariants as S
 use Rattle.lang_parts.specs.declared.error.RunError.TheVariants as R
-use Rattle.cfarm_texts.specs.Refusals.{number_of}
+use Rattle.c_texts.specs.Refusals.{number_of}
 use Rattle.cfarm_texts.specs.Statuses.{status_of_error, status_of_shown}
 use Rattle.cfarm_texts.specs.declared.error.CommandError.{CommandError}
 use Rattle.cfarm_texts.specs.declared.error.CommandError.TheVariants as C

@@ -1,5 +1,3 @@
-pub mod Accepted
-pub mod Refusals
 pub mod Statuses
 pub mod Counts
 pub mod Closings

@@ -2,7 +2,7 @@
 use Rattle.std.specs.Prelude.{ℕ, ◌==◌, if◌then◌else◌}
 use Rattle.lang_base.specs.declared.shown.Shown.{Shown}
 use Rattle.lang_base.specs.declared.shown.Shown.TheVariants.{Running, Ended, Wrong}
-use Rattle.cfarm_texts.specs.Refusals.{number_of}
+use Rattle.c_texts.specs.Refusals.{number_of}
 use Rattle.lang_parts.specs.declared.error.RunError.TheVariants as R
 use Rattle.cfarm_texts.specs.declared.error.CommandError.{CommandError}
 use Rattle.cfarm_texts.specs.declared.error.CommandError.TheVariants.{Text, Run}

@@ -5,9 +5,9 @@ use Rattle.lang_base.specs.declared.shown.Shown.{Shown}
 use Rattle.c_syntax.specs.Trees.{UnitTree}
 use Rattle.c_checker_rules.specs.Units.{program_of}
 use Rattle.cfarm_output.specs.Begun.{IsBegun}
-use Rattle.cfarm_texts.specs.Accepted.{IsAccepted}
+use Rattle.c_texts.specs.Accepted.{IsAccepted}
 use Rattle.cfarm_texts.specs.Counts.{counts_line}
-use Rattle.cfarm_texts.specs.Refusals.{IsRefused}
+use Rattle.c_texts.specs.Refusals.{IsRefused}
 use Rattle.lang_parts.specs.Written.{Wrote}
 use Rattle.lang_parts.specs.declared.error.RunError.TheVariants as R
 use Rattle.c_program.specs.Meaning.{crun}

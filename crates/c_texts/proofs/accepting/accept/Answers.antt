@@ -5,8 +5,8 @@ use Rattle.c_checker_rules.specs.Told.{Tells}
 use Rattle.c_checker_rules.specs.Units.{program_of, unit_faults}
 use Rattle.c_reader.specs.Refusing.{Refuses}
 use Rattle.c_syntax.specs.Units.{unit_tree}
-use Rattle.cfarm_texts.proofs.Wants.{read_wants, check_wants}
-use Rattle.cfarm_texts.proofs.accepting.accept.Goals as goal
+use Rattle.c_texts.proofs.Wants.{read_wants, check_wants}
+use Rattle.c_texts.proofs.accepting.accept.Goals as goal
 
 pub returns-in_err-tokens-clause-only : goal.returns-in_err-tokens-clause-only
 returns-in_err-tokens-clause-only c =

@@ -17,8 +17,8 @@ use Rattle.c_checker_rules.specs.declared.errors.CheckError.TheVariants as C
 use Rattle.c_checker_rules.specs.Numbers.{number_of_check_error, offset_of_check_error}
 use Rattle.c_checker_rules.specs.Told.{Tells}
 use Rattle.c_checker_rules.specs.Units.{unit_faults}
-use Rattle.cfarm_texts.specs.declared.text_error.TextError.{TextError}
-use Rattle.cfarm_texts.specs.declared.text_error.TextError.TheVariants.{Lex, Read, Check}
+use Rattle.c_texts.specs.declared.error.TextError.{TextError}
+use Rattle.c_texts.specs.declared.error.TextError.TheVariants.{Lex, Read, Check}
 
 abbrev pub number_of : TextError → ℕ
 number_of (Lex fault) = lexed.number_of fault

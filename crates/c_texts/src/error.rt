@@ -1,6 +1,6 @@
 ghost use Rattle.std.specs.Prelude.{◌≡◌};
-ghost use Rattle.cfarm_texts.specs.Lines.{check_name, lex_name, name_of, read_name};
-ghost use Rattle.cfarm_texts.specs.Refusals.{number_of, offset_of};
+ghost use Rattle.c_texts.specs.Lines.{check_name, lex_name, name_of, read_name};
+ghost use Rattle.c_texts.specs.Refusals.{number_of, offset_of};
 
 use c_checker_rules::CheckError;
 use c_lexer_parts::LexError;
@@ -96,7 +96,7 @@ fn check_name(fault: CheckError) -> &'static str
 
 impl fmt::Display for TextError {
     ghost use Rattle.std.specs.Prelude.{Some};
-    ghost use Rattle.cfarm_texts.specs.Lines.{text_line};
+    ghost use Rattle.c_texts.specs.Lines.{text_line};
 
     ghost output = { λ fault. Some (text_line fault) };
 
@@ -114,7 +114,7 @@ impl std::error::Error for TextError {}
 
 impl From<LexError> for TextError {
     ghost use Rattle.std.specs.Prelude.{◌≡◌};
-    ghost use Rattle.cfarm_texts.specs.declared.text_error.TextError.TheVariants.{Lex};
+    ghost use Rattle.c_texts.specs.declared.error.TextError.TheVariants.{Lex};
 
     ghost from_gives = { λ fault e. e ≡ Lex fault };
 
@@ -125,7 +125,7 @@ impl From<LexError> for TextError {
 
 impl From<ReadError> for TextError {
     ghost use Rattle.std.specs.Prelude.{◌≡◌};
-    ghost use Rattle.cfarm_texts.specs.declared.text_error.TextError.TheVariants.{Read};
+    ghost use Rattle.c_texts.specs.declared.error.TextError.TheVariants.{Read};
 
     ghost from_gives = { λ fault e. e ≡ Read fault };
 
@@ -136,7 +136,7 @@ impl From<ReadError> for TextError {
 
 impl From<CheckError> for TextError {
     ghost use Rattle.std.specs.Prelude.{◌≡◌};
-    ghost use Rattle.cfarm_texts.specs.declared.text_error.TextError.TheVariants.{Check};
+    ghost use Rattle.c_texts.specs.declared.error.TextError.TheVariants.{Check};
 
     ghost from_gives = { λ fault e. e ≡ Check fault };
 

@@ -1,9 +1,9 @@
 ghost use Rattle.std.specs.Prelude.{IfOk, IfErr, MatchResult};
 ghost use Rattle.c_syntax.specs.Trees.{UnitTree};
-ghost use Rattle.cfarm_texts.specs.Accepted.{IsAccepted, IsProgramOf};
-ghost use Rattle.cfarm_texts.specs.Refusals.{IsOutOfMemory, IsRefused};
+ghost use Rattle.c_texts.specs.Accepted.{IsAccepted, IsProgramOf};
+ghost use Rattle.c_texts.specs.Refusals.{IsOutOfMemory, IsRefused};
 
-use crate::text_error::TextError;
+use crate::error::TextError;
 use c_checker::{CProgram, check};
 use c_lexer::lex;
 use c_reader::read;
