@@ -12,7 +12,7 @@ use Rattle.farm_nodes_acting.specs.Cause.{HasCause}
 use Rattle.farm_nodes_acting.specs.Journalled.{HasGrown}
 use Rattle.farm_nodes_acting.specs.Noted.{pending_of}
 use Rattle.farm_nodes_offers.specs.declared.halt.Fault.{Fault}
-use Rattle.farm_nodes_offers.specs.declared.halt.Fault.TheVariants.{NoMemory, Journal, TooManyRegisters, CellRefused}
+use Rattle.farm_nodes_offers.specs.declared.halt.Fault.TheVariants.{NoMemory, Journal, TooManyRegisters, OtherRecords, CellRefused}
 use Rattle.farm_nodes_offers.specs.declared.halt.Halt.{Halt}
 
 -- the fault that a journal's answer is
@@ -30,6 +30,7 @@ abbrev pub number_of : Fault → ℕ
 number_of NoMemory = 1
 number_of (Journal e) = journal.number_of e
 number_of TooManyRegisters = 110
+number_of OtherRecords = 521
 number_of CellRefused = 522
 
 -- the record that a halted node may have put down of what it has not done
@@ -52,9 +53,10 @@ Recorded is_honest seen may_leave moment left_since old new room s t (Err halt) 
     HasLeft seen may_leave moment left_since old new room s t (left_over room t halt.pending)
 
 -- Why it halted: memory was refused, the journal refused the pending record for a cause, the input is too large, or the
--- cell refused an offer, which is pending.
+-- cell refused an offer, which is pending. Other records are told by a restart alone.
 abbrev pub HasHaltCause : {D : Type 0} → (D → Type 0) → (D → ℕ) → Type 0 → Log D → Log D → List Record → Fault → Type 0
 HasHaltCause is_honest faults TooLarge old new pending NoMemory = Unit {0}
 HasHaltCause is_honest faults TooLarge old new pending (Journal e) = HasCause is_honest faults old new pending e
 HasHaltCause is_honest faults TooLarge old new pending TooManyRegisters = TooLarge
+HasHaltCause is_honest faults TooLarge old new pending OtherRecords = ⊥
 HasHaltCause is_honest faults TooLarge old new pending CellRefused = pending ≢ []

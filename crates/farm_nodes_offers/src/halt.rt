@@ -14,6 +14,8 @@ pub enum Fault {
     Journal(LogError),
     /// Its input has no baseline: too many registers.
     TooManyRegisters,
+    /// Its journal holds other records than what it keeps.
+    OtherRecords,
     /// Its cell refused its offer.
     CellRefused,
 }
@@ -37,6 +39,7 @@ impl Fault {
             Fault::NoMemory => 1,
             Fault::Journal(error) => error.number(),
             Fault::TooManyRegisters => 110,
+            Fault::OtherRecords => 521,
             Fault::CellRefused => 522,
         }
     }

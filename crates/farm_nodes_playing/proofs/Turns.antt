@@ -157,6 +157,7 @@ pub choice_cause : {D : Type 0} (is_honest : D → Type 0) (faults : D → ℕ) 
 choice_cause is_honest faults TooLarge old new pending fault.NoMemory is = tt
 choice_cause is_honest faults TooLarge old new pending (fault.Journal e) is = absurd is
 choice_cause is_honest faults TooLarge old new pending fault.TooManyRegisters is = is
+choice_cause is_honest faults TooLarge old new pending fault.OtherRecords is = absurd is
 choice_cause is_honest faults TooLarge old new pending fault.CellRefused is = absurd is
 
 -- a cause where no input is too large is one for any
@@ -165,6 +166,7 @@ pub wider_cause : {D : Type 0} (is_honest : D → Type 0) (faults : D → ℕ) (
 wider_cause is_honest faults TooLarge old new pending fault.NoMemory cause = tt
 wider_cause is_honest faults TooLarge old new pending (fault.Journal e) cause = cause
 wider_cause is_honest faults TooLarge old new pending fault.TooManyRegisters cause = absurd cause
+wider_cause is_honest faults TooLarge old new pending fault.OtherRecords cause = cause
 wider_cause is_honest faults TooLarge old new pending fault.CellRefused cause = cause
 
 -- a cause in a part of a run is one of the run

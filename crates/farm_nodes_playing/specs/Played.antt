@@ -6,7 +6,7 @@ use Rattle.rooms_state.specs.SeatState.{SeatState}
 use Rattle.rooms.specs.SeatValue.{SeatValue, IsOneRoom, offer_of}
 use Rattle.farm_nodes_acting.specs.Journalled.{HasGrown}
 use Rattle.farm_nodes_offers.specs.declared.halt.Fault.{Fault}
-use Rattle.farm_nodes_offers.specs.declared.halt.Fault.TheVariants.{NoMemory, Journal, TooManyRegisters, CellRefused}
+use Rattle.farm_nodes_offers.specs.declared.halt.Fault.TheVariants.{NoMemory, Journal, TooManyRegisters, OtherRecords, CellRefused}
 use Rattle.farm_nodes_offers.specs.declared.halt.Halt.{Halt}
 use Rattle.farm_nodes_offers.specs.Halted.{HasLeft, left_over}
 use Rattle.farm_nodes_playing.specs.declared.progress.Progress.{Progress}
@@ -32,6 +32,7 @@ abbrev pub IsChoiceFault : Type 0 → Fault → Type 0
 IsChoiceFault TooLarge NoMemory = Unit {0}
 IsChoiceFault TooLarge TooManyRegisters = TooLarge
 IsChoiceFault TooLarge (Journal e) = ⊥
+IsChoiceFault TooLarge OtherRecords = ⊥
 IsChoiceFault TooLarge CellRefused = ⊥
 
 -- where the node made its offer, that goes on from the input, and the seat has seen it
