@@ -1,0 +1,136 @@
+-- A whole turn of a node that was not stopped, by what the turn in its room told.
+use Rattle.std.proofs.Common.{◌≡◌, ◌≢◌, ℕ, ◌*◌, ◌<◌, Bool, true, false, ltb, List, [], length, map, slice_get, Option, Some, None, is_some, IfSome, Result, Ok, Err, IfOk, refl, sym, ap, ◌∙◌, subst, arith}
+use Rattle.paxos_core_world.specs.KeptPart.{KeptPart}
+use Rattle.acceptor_log_form.specs.declared.record.Record.{Record}
+use Rattle.acceptor_log.specs.declared.log.Log.{Log}
+use Rattle.acceptor_log.specs.Acknowledged.{acknowledged}
+use Rattle.farm_nodes_acting.specs.Advances.{Advances, AreOf}
+use Rattle.farm_nodes_acting.specs.Served.{IsServed}
+use Rattle.farm_nodes_offers.specs.declared.halt.Fault.{Fault}
+use Rattle.farm_nodes_offers.specs.declared.halt.Halt.{Halt}
+use Rattle.farm_nodes_offers.specs.Halted.{left_over, HasHaltCause}
+use Rattle.farm_nodes_passes.specs.Numbers.{function_of, pass_of}
+use Rattle.farm_nodes_playing.specs.declared.progress.Progress.{Progress}
+use Rattle.farm_nodes_playing.specs.declared.progress.Progress.TheVariants.{Learned, Moved, Idle}
+use Rattle.farm_nodes_playing.specs.Played.{progress_of}
+use Rattle.farm_nodes_node.specs.declared.halted.Halted.{Halted}
+use Rattle.farm_nodes_passes.specs.Fours.{Four, words_of}
+use Rattle.farm_nodes_turn.specs.Turned.{OthersStay}
+use Rattle.farm_nodes_node.specs.Told.{failure_of, turn_of}
+use Rattle.farm_nodes_passes.specs.Leaves.{Leave, left_in}
+use Rattle.farm_nodes_node.specs.Held.{IsSoundNode}
+use Rattle.farm_nodes_turn.specs.Turns.{PlayedIn}
+use Rattle.farm_nodes_node.specs.Stood.{TurnsInto}
+use Rattle.farm_nodes_turn.proofs.Places.{found, map_at, map_length, map_same}
+use Rattle.farm_nodes_node.proofs.Standings.{stands_turned, turns_into}
+
+-- what stops a node behind this turn
+abbrev pub halted_by : ℕ → Result Progress Halt → Option Halted
+halted_by room (Ok progress) = None
+halted_by room (Err halt) = Some (record { room = room; halt = halt })
+
+pub none_of : {A : Type 0} (o : Option A) → is_some o ≡ false → o ≡ None
+none_of None e = refl
+none_of (Some x) e = absurd (cc)
+
+pub not_none : {A : Type 0} (o : Option A) → is_some o ≡ true → o ≡ None → ⊥
+not_none None e none = absurd (cc)
+not_none (Some x) e none = absurd (cc)
+
+-- what did not fail has no fault
+pub went_on : (p : Progress) → failure_of (turn_of p) ≡ None
+went_on (Learned v) = refl
+went_on Moved = refl
+went_on Idle = refl
+
+pub no_cause : (o : Option Fault) (P : Fault → Type 0) → o ≡ None → IfSome o P
+no_cause None P e = tt
+no_cause (Some fault) P e = absurd (cc)
+
+module _ {D X T1 T2 T3 T4 : Type 0} (is_honest : D → Type 0) (seen : D → List ℕ) (may_leave : D → List ℕ → Type 0) (moment : D → ℕ)
+    (left_since : D → ℕ → List ℕ → Type 0) (faults : D → ℕ) (f : X → Four T1 T2 T3 T4) (old new : Log D) (room : ℕ) (xs ys : List X) (was : Option Halted)
+    (served : IsServed is_honest seen may_leave faults old new) (sound : IsSoundNode is_honest seen may_leave old (map f xs) was)
+    (low : function_of room < length xs) (none : was ≡ None) (count : length ys ≡ length xs)
+    (others : (g : ℕ) → g ≢ function_of room → slice_get ys g ≡ slice_get xs g)
+    (stay : (x y : X) → slice_get xs (function_of room) ≡ Some x → slice_get ys (function_of room) ≡ Some y → OthersStay (pass_of room) (f x) (f y)) where
+  stood : is_honest old.disk → Leave (map f xs) (acknowledged seen old)
+  stood honest = let u = sound.upto honest in subst (λ (rs : List Record). Leave (map f xs) rs) (u.2 none) u.1.leave
+
+  stands_now : (x y : X) → slice_get xs (function_of room) ≡ Some x → slice_get ys (function_of room) ≡ Some y → (upto pending : List Record)
+      → Advances seen may_leave moment left_since old new room (words_of (f x) (pass_of room)).node.kept (words_of (f y) (pass_of room)).node.kept upto pending
+      → is_honest old.disk → Leave (map f ys) upto
+  stands_now x y p q upto pending advances honest =
+      let first : length (map f xs) ≡ length xs = map_length f xs in
+      stands_turned room (map f xs) (map f ys) (f x) (f y) (acknowledged seen old) upto
+      (map_at f xs (function_of room) x p) (map_at f ys (function_of room) y q)
+      (λ g other. map_same f ys xs g (others g other)) (stay x y p q) advances.kept advances.others (stood honest)
+      (subst (λ (n : ℕ). function_of room < n) (sym first) low) (map_length f ys ∙ (count ∙ sym first))
+
+  stood_named : is_honest old.disk → AreOf (4 * length xs) (acknowledged seen old)
+  stood_named honest =
+      let u = sound.upto honest in
+      subst (λ (rs : List Record). AreOf (4 * length xs) rs) (u.2 none)
+      (subst (λ (n : ℕ). AreOf (4 * n) u.0) (map_length f xs) u.1.named)
+
+  named_now : (k l : KeptPart) (upto pending : List Record) → Advances seen may_leave moment left_since old new room k l upto pending
+      → is_honest old.disk → AreOf (4 * length (map f ys)) upto
+  named_now k l upto pending advances honest =
+      let below : room < 4 * length xs = omega arith in
+      subst (λ (n : ℕ). AreOf (4 * n) upto) (sym (map_length f ys ∙ count)) (advances.named (4 * length xs) below (stood_named honest))
+
+  pub into : (result : Result Progress Halt)
+      → (is_honest old.disk → old.going ≡ true → (x y : X) → slice_get xs (function_of room) ≡ Some x → slice_get ys (function_of room) ≡ Some y
+      → PlayedIn is_honest seen may_leave moment left_since old new room result (f x) (f y))
+      → is_honest old.disk → TurnsInto seen may_leave moment left_since old new (map f ys) (halted_by room result)
+  into (Ok progress) journal honest =
+      let x = found xs (function_of room) low in
+      let y = found ys (function_of room) (subst (λ (n : ℕ). function_of room < n) (sym count) low) in
+      let played = journal honest (sound.going none) x.0 y.0 x.1 y.1 in
+      turns_into seen may_leave moment left_since old new (map f ys) None room
+      (words_of (f x.0) (pass_of room)).node.kept (words_of (f y.0) (pass_of room)).node.kept (acknowledged seen new) []
+      served.header played.1.advances refl (stands_now x.0 y.0 x.1 y.1 (acknowledged seen new) [] played.1.advances honest)
+      (named_now (words_of (f x.0) (pass_of room)).node.kept (words_of (f y.0) (pass_of room)).node.kept (acknowledged seen new) [] played.1.advances honest) (λ e. refl)
+  into (Err halt) journal honest =
+      let x = found xs (function_of room) low in
+      let y = found ys (function_of room) (subst (λ (n : ℕ). function_of room < n) (sym count) low) in
+      let left = journal honest (sound.going none) x.0 y.0 x.1 y.1 in
+      let pending = left_over room (words_of (f y.0) (pass_of room)) halt.pending in
+      turns_into seen may_leave moment left_since old new (map f ys) (Some (record { room = room; halt = halt })) room
+      (words_of (f x.0) (pass_of room)).node.kept (words_of (f y.0) (pass_of room)).node.kept left.0 pending
+      served.header left.1 (sym (ap (λ (o : Option (Four T1 T2 T3 T4)). left_in o room halt.pending) (map_at f ys (function_of room) y.0 y.1)))
+      (stands_now x.0 y.0 x.1 y.1 left.0 pending left.1 honest)
+      (named_now (words_of (f x.0) (pass_of room)).node.kept (words_of (f y.0) (pass_of room)).node.kept left.0 pending left.1 honest)
+      (λ e. absurd (cc))
+
+  pub sound_now : (result : Result Progress Halt)
+      → (is_honest old.disk → old.going ≡ true → (x y : X) → slice_get xs (function_of room) ≡ Some x → slice_get ys (function_of room) ≡ Some y
+      → PlayedIn is_honest seen may_leave moment left_since old new room result (f x) (f y))
+      → IfOk result (λ progress. new.going ≡ old.going)
+      → IsSoundNode is_honest seen may_leave new (map f ys) (halted_by room result)
+  sound_now (Ok progress) journal went = record {
+    journal = served.sound;
+    going = λ e. went ∙ sound.going none;
+    upto = λ honest. let i = into (Ok progress) journal (served.honest.0 honest) in (i.upto, i.stands, i.all);
+  }
+  sound_now (Err halt) journal went = record {
+    journal = served.sound;
+    going = λ e. absurd (cc);
+    upto = λ honest. let i = into (Err halt) journal (served.honest.0 honest) in (i.upto, i.stands, i.all);
+  }
+
+  pub told_now : (progress : Progress)
+      → (is_honest old.disk → old.going ≡ true → (x y : X) → slice_get xs (function_of room) ≡ Some x → slice_get ys (function_of room) ≡ Some y
+      → PlayedIn is_honest seen may_leave moment left_since old new room (Ok progress) (f x) (f y))
+      → is_honest old.disk → (x y : X) → slice_get xs (function_of room) ≡ Some x → slice_get ys (function_of room) ≡ Some y
+      → turn_of progress ≡ turn_of (progress_of (words_of (f x) (pass_of room)).node.learned (words_of (f y) (pass_of room)).node.learned (ltb (length (acknowledged seen old)) (length (acknowledged seen new))))
+  told_now progress journal honest x y p q =
+      let played = journal honest (sound.going none) x y p q in
+      ap turn_of (played.2 ∙ ap (λ (m : Bool). progress_of (words_of (f x) (pass_of room)).node.learned (words_of (f y) (pass_of room)).node.learned m) played.1.moved)
+
+-- the cause, with the pending record as the stopped node tells it
+pub stops_for : {D X T1 T2 T3 T4 : Type 0} (is_honest : D → Type 0) (faults : D → ℕ) (f : X → Four T1 T2 T3 T4) (TooLarge : Type 0) (old new : Log D) (room : ℕ) (ys : List X) (halt : Halt) (y : X)
+    → slice_get ys (function_of room) ≡ Some y
+    → HasHaltCause is_honest faults TooLarge old new (left_over room (words_of (f y) (pass_of room)) halt.pending) halt.fault
+    → HasHaltCause is_honest faults TooLarge old new (left_in (slice_get (map f ys) (function_of room)) room halt.pending) halt.fault
+stops_for {D} {X} {T1} {T2} {T3} {T4} is_honest faults f TooLarge old new room ys halt y is cause =
+    subst (λ (o : Option (Four T1 T2 T3 T4)). HasHaltCause is_honest faults TooLarge old new (left_in o room halt.pending) halt.fault) (sym (map_at f ys (function_of room) y is)) cause

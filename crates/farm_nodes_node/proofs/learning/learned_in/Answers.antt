@@ -1,0 +1,13 @@
+use Rattle.farm_nodes_node.proofs.learning.learned_in.Goals as goal
+
+pub returns-in-First : goal.returns-in-First
+returns-in-First g c = rw c.in-First.is c.learned.ensures.value
+
+pub returns-in-Second : goal.returns-in-Second
+returns-in-Second g c = rw c.in-Second.is c.learned-in-Second.ensures.value
+
+pub returns-in-Third : goal.returns-in-Third
+returns-in-Third g c = rw c.in-Third.is c.learned-in-Third.ensures.value
+
+pub returns-in-Fourth : goal.returns-in-Fourth
+returns-in-Fourth g c = rw c.in-Fourth.is c.learned-in-Fourth.ensures.value

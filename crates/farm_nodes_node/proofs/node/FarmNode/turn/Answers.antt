@@ -1,0 +1,184 @@
+use Rattle.std.proofs.Common.{◌≡◌, length, Option, None, Ok, Err, refl, sym, ap, ◌∙◌, subst, arith}
+use Rattle.std.proofs.Math.Nat.{ℕ_set}
+use Rattle.std.specs.Arc.{arc_value}
+use Rattle.farm_nodes_passes.specs.Numbers.{pass_of}
+use Rattle.farm_nodes_node.specs.declared.halted.Halted.{Halted}
+use Rattle.farm_nodes_passes.specs.Fours.{four_of, fours_of}
+use Rattle.farm_nodes_node.specs.Told.{failure_of}
+use Rattle.farm_nodes_offers.specs.declared.halt.Fault.{Fault}
+use Rattle.farm_nodes_offers.specs.Halted.{HasHaltCause}
+use Rattle.farm_nodes_turn.specs.Turned.{IsTooLargeIn}
+use Rattle.farm_nodes_node.specs.Held.{fault_in, pending_in, IsSoundNode}
+use Rattle.farm_nodes_node.specs.Stood.{TurnsInto}
+use Rattle.farm_nodes_node.specs.Waiting.{IsWaiting}
+use Rattle.farm_nodes_node.proofs.Whole.{into, no_cause, none_of, not_none, sound_now, stops_for, told_now, went_on}
+use Rattle.farm_nodes_node.proofs.node.FarmNode.turn.Goals as goal
+
+pub returns-in-Ok-clause-sound : goal.returns-in-Ok-clause-sound
+returns-in-Ok-clause-sound g c =
+    let disk = g.D.Disk in
+    let none : c.args.self.now.halted ≡ None = none_of c.args.self.now.halted (sym c.is_some.ensures ∙ c.if-is_some.false) in
+    subst (λ (h : Option Halted). IsSoundNode disk.is_honest disk.seen disk.may_leave c.turn_in.new.log (fours_of c.turn_in.new.seats.items) h) (sym none)
+    (sound_now disk.is_honest disk.seen disk.may_leave disk.moment disk.left_since disk.faults four_of c.args.self.now.log c.turn_in.new.log c.args.room
+    c.args.self.now.seats.items c.turn_in.new.seats.items c.args.self.now.halted c.turn_in.ensures.served c.requires.sound c.requires.room none
+    c.turn_in.ensures.count c.turn_in.ensures.others (λ x y p q. (c.turn_in.ensures.leaves x y p q).others)
+    (Ok c.in-Ok.progress) c.in-Ok.ensures.journal c.in-Ok.ensures.going)
+
+pub returns-in-Ok-clause-into : goal.returns-in-Ok-clause-into
+returns-in-Ok-clause-into g c honest was =
+    let disk = g.D.Disk in
+    let none : c.args.self.now.halted ≡ None = none_of c.args.self.now.halted (sym c.is_some.ensures ∙ c.if-is_some.false) in
+    subst (λ (h : Option Halted). TurnsInto disk.seen disk.may_leave disk.moment disk.left_since c.args.self.now.log c.turn_in.new.log (fours_of c.turn_in.new.seats.items) h) (sym none)
+    (into disk.is_honest disk.seen disk.may_leave disk.moment disk.left_since disk.faults four_of c.args.self.now.log c.turn_in.new.log c.args.room
+    c.args.self.now.seats.items c.turn_in.new.seats.items c.args.self.now.halted c.turn_in.ensures.served c.requires.sound c.requires.room none
+    c.turn_in.ensures.count c.turn_in.ensures.others (λ x y p q. (c.turn_in.ensures.leaves x y p q).others)
+    (Ok c.in-Ok.progress) c.in-Ok.ensures.journal honest)
+
+pub returns-in-Ok-clause-told : goal.returns-in-Ok-clause-told
+returns-in-Ok-clause-told g c honest was x y p q =
+    let disk = g.D.Disk in
+    let none : c.args.self.now.halted ≡ None = none_of c.args.self.now.halted (sym c.is_some.ensures ∙ c.if-is_some.false) in
+    c.of.ensures
+    ∙ told_now disk.is_honest disk.seen disk.may_leave disk.moment disk.left_since disk.faults four_of c.args.self.now.log c.turn_in.new.log c.args.room
+    c.args.self.now.seats.items c.turn_in.new.seats.items c.args.self.now.halted c.turn_in.ensures.served c.requires.sound c.requires.room none
+    c.turn_in.ensures.count c.turn_in.ensures.others (λ x y p q. (c.turn_in.ensures.leaves x y p q).others)
+    c.in-Ok.progress c.in-Ok.ensures.journal honest x y p q
+
+pub returns-in-Ok-clause-fault : goal.returns-in-Ok-clause-fault
+returns-in-Ok-clause-fault g c was = ap failure_of c.of.ensures ∙ (went_on c.in-Ok.progress ∙ sym (ap fault_in was))
+
+pub returns-in-Ok-clause-after : goal.returns-in-Ok-clause-after
+returns-in-Ok-clause-after g c was = c.in-Ok.ensures.after
+
+pub returns-in-Ok-clause-cause : goal.returns-in-Ok-clause-cause
+returns-in-Ok-clause-cause g c was named is x y p q =
+    let disk = g.D.Disk in
+    no_cause (failure_of c.of.result)
+    (λ (fault : Fault). HasHaltCause disk.is_honest disk.faults
+    (IsTooLargeIn g.P1.Pass.too_large g.P2.Pass.too_large g.P3.Pass.too_large g.P4.Pass.too_large named.function (pass_of c.args.room) (four_of x))
+    c.args.self.now.log c.turn_in.new.log (pending_in (fours_of c.turn_in.new.seats.items) c.args.self.now.halted) fault)
+    (ap failure_of c.of.ensures ∙ went_on c.in-Ok.progress)
+
+pub returns-in-Err-clause-sound : goal.returns-in-Err-clause-sound
+returns-in-Err-clause-sound g c =
+    let disk = g.D.Disk in
+    let none : c.args.self.now.halted ≡ None = none_of c.args.self.now.halted (sym c.is_some.ensures ∙ c.if-is_some.false) in
+    sound_now disk.is_honest disk.seen disk.may_leave disk.moment disk.left_since disk.faults four_of c.args.self.now.log c.turn_in.new.log c.args.room
+    c.args.self.now.seats.items c.turn_in.new.seats.items c.args.self.now.halted c.turn_in.ensures.served c.requires.sound c.requires.room none
+    c.turn_in.ensures.count c.turn_in.ensures.others (λ x y p q. (c.turn_in.ensures.leaves x y p q).others)
+    (Err c.in-Err.halt) c.in-Err.ensures.journal tt
+
+pub returns-in-Err-clause-into : goal.returns-in-Err-clause-into
+returns-in-Err-clause-into g c honest was =
+    let disk = g.D.Disk in
+    let none : c.args.self.now.halted ≡ None = none_of c.args.self.now.halted (sym c.is_some.ensures ∙ c.if-is_some.false) in
+    into disk.is_honest disk.seen disk.may_leave disk.moment disk.left_since disk.faults four_of c.args.self.now.log c.turn_in.new.log c.args.room
+    c.args.self.now.seats.items c.turn_in.new.seats.items c.args.self.now.halted c.turn_in.ensures.served c.requires.sound c.requires.room none
+    c.turn_in.ensures.count c.turn_in.ensures.others (λ x y p q. (c.turn_in.ensures.leaves x y p q).others)
+    (Err c.in-Err.halt) c.in-Err.ensures.journal honest
+
+pub returns-then-is_some-clause-served : goal.returns-then-is_some-clause-served
+returns-then-is_some-clause-served g c = record { sound = c.requires.sound.journal; honest = (λ h. h, λ h. h); header = refl; later = omega arith }
+
+pub returns-in-Ok-clause-leaves : goal.returns-in-Ok-clause-leaves
+returns-in-Ok-clause-leaves g c was named is x y p q =
+    let made = c.turn_in.ensures.leaves x y p q in
+    rw (c.function_in.ensures named (rw c.deref.ensures is)) at made
+
+pub returns-in-Err-clause-leaves : goal.returns-in-Err-clause-leaves
+returns-in-Err-clause-leaves g c was named is x y p q =
+    let made = c.turn_in.ensures.leaves x y p q in
+    rw (c.function_in.ensures named (rw c.deref.ensures is)) at made
+
+pub returns-in-Err-clause-stopped : goal.returns-in-Err-clause-stopped
+returns-in-Err-clause-stopped g c halted =
+    let none : c.args.self.now.halted ≡ None = none_of c.args.self.now.halted (sym c.is_some.ensures ∙ c.if-is_some.false) in
+    absurd (halted none)
+
+pub returns-in-Err-clause-fault : goal.returns-in-Err-clause-fault
+returns-in-Err-clause-fault g c was = refl
+
+pub returns-in-Err-clause-after : goal.returns-in-Err-clause-after
+returns-in-Err-clause-after g c e = absurd (cc)
+
+pub returns-in-Err-clause-told : goal.returns-in-Err-clause-told
+returns-in-Err-clause-told g c honest e = absurd (cc)
+
+pub returns-in-Err-clause-cause : goal.returns-in-Err-clause-cause
+returns-in-Err-clause-cause g c was named is x y p q =
+    let disk = g.D.Disk in
+    let none : c.args.self.now.halted ≡ None = none_of c.args.self.now.halted (sym c.is_some.ensures ∙ c.if-is_some.false) in
+    let cause = c.in-Err.ensures.cause (c.requires.sound.going none) x y p q in
+    stops_for disk.is_honest disk.faults four_of
+    (IsTooLargeIn g.P1.Pass.too_large g.P2.Pass.too_large g.P3.Pass.too_large g.P4.Pass.too_large named.function (pass_of c.args.room) (four_of x))
+    c.args.self.now.log c.turn_in.new.log c.args.room c.turn_in.new.seats.items c.in-Err.halt y q
+    (rw (c.function_in.ensures named (rw c.deref.ensures is)) at cause)
+
+pub returns-in-Ok-clause-waiting : goal.returns-in-Ok-clause-waiting
+returns-in-Ok-clause-waiting g c =
+    let none : c.args.self.now.halted ≡ None = none_of c.args.self.now.halted (sym c.is_some.ensures ∙ c.if-is_some.false) in
+    subst (λ (h : Option Halted). IsWaiting c.turn_in.new.seats.items h) (sym none) tt
+
+pub returns-in-Err-clause-waiting : goal.returns-in-Err-clause-waiting
+returns-in-Err-clause-waiting g c = c.in-Err.ensures.left
+
+pub returns-then-is_some-clause-fault : goal.returns-then-is_some-clause-fault
+returns-then-is_some-clause-fault g c was = absurd (not_none c.args.self.now.halted (sym c.is_some.ensures ∙ c.if-is_some.true) was)
+
+pub returns-then-is_some-clause-leaves : goal.returns-then-is_some-clause-leaves
+returns-then-is_some-clause-leaves g c was = absurd (not_none c.args.self.now.halted (sym c.is_some.ensures ∙ c.if-is_some.true) was)
+
+pub returns-then-is_some-clause-after : goal.returns-then-is_some-clause-after
+returns-then-is_some-clause-after g c was = absurd (not_none c.args.self.now.halted (sym c.is_some.ensures ∙ c.if-is_some.true) was)
+
+pub returns-then-is_some-clause-into : goal.returns-then-is_some-clause-into
+returns-then-is_some-clause-into g c honest was = absurd (not_none c.args.self.now.halted (sym c.is_some.ensures ∙ c.if-is_some.true) was)
+
+pub returns-then-is_some-clause-told : goal.returns-then-is_some-clause-told
+returns-then-is_some-clause-told g c honest was = absurd (not_none c.args.self.now.halted (sym c.is_some.ensures ∙ c.if-is_some.true) was)
+
+pub returns-then-is_some-clause-cause : goal.returns-then-is_some-clause-cause
+returns-then-is_some-clause-cause g c was = absurd (not_none c.args.self.now.halted (sym c.is_some.ensures ∙ c.if-is_some.true) was)
+
+pub returns-in-Ok-clause-stopped : goal.returns-in-Ok-clause-stopped
+returns-in-Ok-clause-stopped g c halted =
+    let none : c.args.self.now.halted ≡ None = none_of c.args.self.now.halted (sym c.is_some.ensures ∙ c.if-is_some.false) in
+    absurd (halted none)
+
+pub returns-in-Ok-clause-served : goal.returns-in-Ok-clause-served
+returns-in-Ok-clause-served g c = c.turn_in.ensures.served
+
+pub returns-in-Err-clause-served : goal.returns-in-Err-clause-served
+returns-in-Err-clause-served g c = c.turn_in.ensures.served
+
+pub returns-in-Ok-clause-others : goal.returns-in-Ok-clause-others
+returns-in-Ok-clause-others g c = c.turn_in.ensures.others
+
+pub returns-in-Err-clause-others : goal.returns-in-Err-clause-others
+returns-in-Err-clause-others g c = c.turn_in.ensures.others
+
+pub returns-then-is_some-clause-sound : goal.returns-then-is_some-clause-sound
+returns-then-is_some-clause-sound g c = c.requires.sound
+
+pub returns-then-is_some-clause-waiting : goal.returns-then-is_some-clause-waiting
+returns-then-is_some-clause-waiting g c = c.requires.waiting
+
+pub returns-in-Ok-clause-program : goal.returns-in-Ok-clause-program
+returns-in-Ok-clause-program g c = refl
+
+pub returns-in-Err-clause-program : goal.returns-in-Err-clause-program
+returns-in-Err-clause-program g c = refl
+
+pub returns-then-is_some-clause-program : goal.returns-then-is_some-clause-program
+returns-then-is_some-clause-program g c = refl
+
+pub returns-then-is_some-clause-others : goal.returns-then-is_some-clause-others
+returns-then-is_some-clause-others g c f other = refl
+
+pub returns-then-is_some-clause-stopped : goal.returns-then-is_some-clause-stopped
+returns-then-is_some-clause-stopped g c halted =
+    let now = c.args.self.now in (
+      refl,
+      ap (λ (h : length now.seats.items ≡ length (arc_value now.program).functions). record now { covers = h })
+          (ℕ_set _ _ c.self-1.given.0 now.covers),
+    )

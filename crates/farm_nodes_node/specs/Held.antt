@@ -1,0 +1,38 @@
+-- What a node holds, and that its journal stands for what its seats keep.
+use Rattle.std.specs.Prelude.{◌≡◌, ℕ, ◌*◌, true, List, [], ◌++◌, length, Option, Some, None, option_map}
+use Rattle.acceptor_log_form.specs.declared.record.Record.{Record}
+use Rattle.acceptor_log_form.specs.Lists.{Between}
+use Rattle.acceptor_log.specs.declared.log.Log.{Log}
+use Rattle.acceptor_log.specs.Acknowledged.{acknowledged}
+use Rattle.acceptor_log.specs.Acknowledged as journal
+use Rattle.farm_nodes_acting.specs.Advances.{AreOf}
+use Rattle.farm_nodes_offers.specs.declared.halt.Fault.{Fault}
+use Rattle.farm_nodes_node.specs.declared.halted.Halted.{Halted}
+use Rattle.farm_nodes_passes.specs.Fours.{Four}
+use Rattle.farm_nodes_passes.specs.Leaves.{Leave, pending_at}
+
+-- the fault that stopped the node
+abbrev pub fault_in : Option Halted → Option Fault
+fault_in halted = option_map (λ h. h.halt.fault) halted
+
+module _ {T1 T2 T3 T4 : Type 0} where
+  -- the record that may have been put down of what a halted node has not done
+  abbrev pub pending_in : List (Four T1 T2 T3 T4) → Option Halted → List Record
+  pending_in seats None = []
+  pending_in seats (Some h) = pending_at seats h.room h.halt.pending
+
+  -- The journal stands for what the node keeps, with the pending record or without, and names no room but the seats'.
+  pub record IsJournalOf {D : Type 0} (may_leave : D → List ℕ → Type 0) (log : Log D) (seats : List (Four T1 T2 T3 T4))
+      (halted : Option Halted) (upto : List Record) : Type 0 where
+    pub leave : Leave seats upto
+    pub named : AreOf (4 * length seats) upto
+    pub left : (c : List ℕ) → may_leave log.disk c → Between log.header upto (upto ++ pending_in seats halted) c
+
+  -- A node that may be asked: its journal may be used and stands for what it keeps; where it is not stopped, the journal goes on,
+  -- and has acknowledged just that.
+  pub record IsSoundNode {D : Type 0} (is_honest : D → Type 0) (seen : D → List ℕ) (may_leave : D → List ℕ → Type 0)
+      (log : Log D) (seats : List (Four T1 T2 T3 T4)) (halted : Option Halted) : Type 0 where
+    pub journal : journal.IsSound is_honest seen may_leave log
+    pub going : halted ≡ None → log.going ≡ true
+    pub upto : is_honest log.disk → (upto : List Record)
+        × IsJournalOf may_leave log seats halted upto × (halted ≡ None → upto ≡ acknowledged seen log)

@@ -1,0 +1,12 @@
+//! A node of a farm: its seats in the four rooms of each function, its journal, and its optimisers. It takes a turn in one room at a
+//! time; a turn that fails stops it, and then it does nothing more. What its journal holds stands for what its seats keep.
+#![tactic(auto)]
+
+mod halted;
+mod learning;
+mod node;
+mod turn;
+
+pub use halted::Halted;
+pub use node::FarmNode;
+pub use turn::Turn;

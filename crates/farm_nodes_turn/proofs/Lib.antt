@@ -1,0 +1,4 @@
+pub mod Places
+pub mod Inputs
+pub mod Claims
+pub mod Pending

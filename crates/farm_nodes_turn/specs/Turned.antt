@@ -1,0 +1,84 @@
+-- A turn in the room of one of the four passes of a function.
+use Rattle.std.specs.Prelude.{◌≡◌, ◌%◌, ◌<◌, ℕ, false, true, Some, None}
+use Rattle.offers.specs.declared.parts.Parts.{Parts}
+use Rattle.rooms_state.specs.declared.act.Act.TheVariants as asked
+use Rattle.rooms_state.specs.Would.{would}
+use Rattle.rooms.specs.SeatValue.{SeatValue, offer_of}
+use Rattle.farm_nodes_acting.specs.Quiet.{IsQuiet}
+use Rattle.farm_nodes_leading.specs.Leading.{HasLed}
+use Rattle.farm_nodes_playing.specs.Played.{IsLearnedOutput, IsMadeOn, Stays}
+use Rattle.farm_nodes_passes.specs.declared.which.Which.{Which}
+use Rattle.farm_nodes_passes.specs.declared.which.Which.TheVariants.{First, Second, Third, Fourth}
+use Rattle.farm_nodes_passes.specs.Fours.{Four, words_of}
+
+-- the node has learned in this room, and has seen the offer
+pub record HasLearned {T : Type 0} (s : SeatValue T) : Type 0 where
+  pub value : ℕ
+  pub offer : T
+  pub learned : s.words.node.learned ≡ Some value
+  pub among : value < s.words.node.count
+  pub seen : offer_of s value ≡ Some offer
+
+-- where the node made its offer, that goes on from the output that it had learned in the room before
+abbrev pub IsMadeFrom : {I M O B C : Type 0} → SeatValue (Parts I M B) → SeatValue (Parts M O C) → SeatValue (Parts M O C) → Type 0
+IsMadeFrom {I} {M} {O} {B} {C} before old new =
+    old.words.node.kept.offered ≡ false → new.words.node.kept.offered ≡ true
+    → (x : Parts M O C) × (offer_of new new.words.node.me ≡ Some x) × IsLearnedOutput before x.input
+
+-- the output that was learned in the room before is known, and has no baseline
+abbrev pub IsTooLargeFrom : {I M B : Type 0} → (M → Type 0) → SeatValue (Parts I M B) → Type 0
+IsTooLargeFrom {I} {M} {B} too_large before = (input : M) × IsLearnedOutput before input × too_large input
+
+module _ {A1 A2 A3 A4 A5 C1 C2 C3 C4 : Type 0} where
+  -- an offer that the node made has the input of the pass
+  abbrev pub IsMadeIn : A1 → Which → Four (Parts A1 A2 C1) (Parts A2 A3 C2) (Parts A3 A4 C3) (Parts A4 A5 C4)
+      → Four (Parts A1 A2 C1) (Parts A2 A3 C2) (Parts A3 A4 C3) (Parts A4 A5 C4) → Type 0
+  IsMadeIn function First old new = IsMadeOn (Some function) old.first new.first
+  IsMadeIn function Second old new = IsMadeFrom old.first old.second new.second
+  IsMadeIn function Third old new = IsMadeFrom old.second old.third new.third
+  IsMadeIn function Fourth old new = IsMadeFrom old.third old.fourth new.fourth
+
+  -- the input has no baseline
+  abbrev pub IsTooLargeIn : (A1 → Type 0) → (A2 → Type 0) → (A3 → Type 0) → (A4 → Type 0) → A1 → Which
+      → Four (Parts A1 A2 C1) (Parts A2 A3 C2) (Parts A3 A4 C3) (Parts A4 A5 C4) → Type 0
+  IsTooLargeIn first second third fourth function First seats = first function
+  IsTooLargeIn first second third fourth function Second seats = IsTooLargeFrom second seats.first
+  IsTooLargeIn first second third fourth function Third seats = IsTooLargeFrom third seats.second
+  IsTooLargeIn first second third fourth function Fourth seats = IsTooLargeFrom fourth seats.third
+
+module _ {T1 T2 T3 T4 : Type 0} where
+  -- the node knows the input of the pass
+  abbrev pub HasInput : Which → Four T1 T2 T3 T4 → Type 0
+  HasInput First seats = Unit {0}
+  HasInput Second seats = HasLearned seats.first
+  HasInput Third seats = HasLearned seats.second
+  HasInput Fourth seats = HasLearned seats.third
+
+  -- what a turn leaves of the seat
+  abbrev pub StaysIn : Which → Four T1 T2 T3 T4 → Four T1 T2 T3 T4 → Type 0
+  StaysIn First old new = Stays old.first new.first
+  StaysIn Second old new = Stays old.second new.second
+  StaysIn Third old new = Stays old.third new.third
+  StaysIn Fourth old new = Stays old.fourth new.fourth
+
+  -- the other seats, and the numbers of the rooms, are as they were
+  abbrev pub OthersStay : Which → Four T1 T2 T3 T4 → Four T1 T2 T3 T4 → Type 0
+  OthersStay First old new = new ≡ record old { first = new.first }
+  OthersStay Second old new = new ≡ record old { second = new.second }
+  OthersStay Third old new = new ≡ record old { third = new.third }
+  OthersStay Fourth old new = new ≡ record old { fourth = new.fourth }
+
+  -- What stands after a turn that did not fail: the node has offered if it knew the input; nothing is left to accept, to promise
+  -- or to propose; and where it had offered before, it has led if the generator's next word was 0 modulo 4.
+  pub record StandsAfter (pass : Which) (word : ℕ) (old new : Four T1 T2 T3 T4) : Type 0 where
+    pub offered : HasInput pass old → (words_of new pass).node.kept.offered ≡ true
+    pub quiet : (j : ℕ) → j < (words_of new pass).node.count → IsQuiet j (words_of new pass)
+    pub proposed : would (words_of new pass) asked.Propose ≡ None
+    pub led : (words_of old pass).node.kept.offered ≡ true → word % 4 ≡ 0 → HasLed (words_of new pass)
+
+-- what a turn in the room of this pass leaves of a function's seats
+pub record Leaves {A1 A2 A3 A4 A5 C1 C2 C3 C4 : Type 0} (function : A1) (pass : Which)
+    (old new : Four (Parts A1 A2 C1) (Parts A2 A3 C2) (Parts A3 A4 C3) (Parts A4 A5 C4)) : Type 0 where
+  pub stays : StaysIn pass old new
+  pub others : OthersStay pass old new
+  pub made : IsMadeIn function pass old new

@@ -1,0 +1,195 @@
+ghost use Rattle.std.specs.Prelude.{◌≡◌, ◌<◌, ◌%◌, ℕ, true, Some, IfOk, IfErr, OnOk};
+ghost use Rattle.rand_pcg.specs.Pcg.{pcg32};
+ghost use Rattle.acceptor_log.specs.Acknowledged.{IsSound};
+ghost use Rattle.rooms_state.specs.declared.act.Act.TheVariants as asked;
+ghost use Rattle.rooms_state.specs.Would.{would};
+ghost use Rattle.farm_nodes_acting.specs.Served.{IsServed};
+ghost use Rattle.farm_nodes_acting.specs.Quiet.{IsQuiet};
+ghost use Rattle.farm_nodes_leading.specs.Leading.{HasLed};
+ghost use Rattle.farm_nodes_offers.specs.Halted.{left_over, HasHaltCause};
+ghost use Rattle.farm_nodes_offers.specs.Pending.{IsTextOf, MayPendOn};
+ghost use Rattle.farm_nodes_playing.specs.Played.{IsMadeOn, Played, Stays};
+ghost use Rattle.farm_nodes_passes.specs.Fours.{four_of, words_of};
+ghost use Rattle.farm_nodes_passes.specs.Pending.{HasPending};
+ghost use Rattle.farm_nodes_turn.specs.Turned.{HasInput, HasLearned, IsMadeFrom, IsMadeIn, IsTooLargeFrom};
+ghost use Rattle.farm_nodes_turn.specs.Turned.{IsTooLargeIn, OthersStay, StaysIn};
+
+use acceptor_log::Log;
+use durable_model::Disk;
+use farm_nodes_offers::Halt;
+use farm_nodes_passes::{Passes, Seats, Which};
+use farm_nodes_playing::{Progress, learned_output, play};
+use lang_base::{Language, Oracle, Pass};
+use rand_pcg::Pcg32;
+use rooms_hall::Naming;
+use rooms_numbered::NumberedSeat;
+use std::alloc::Global;
+
+/// One turn in the room of one pass of the function. The input of the first pass is the function, that of each other one the
+/// output that the node has learned in the pass before it.
+pub fn play_in<
+    D: Disk,
+    P1: Pass,
+    P2: Pass<In = P1::Out>,
+    P3: Pass<In = P2::Out>,
+    P4: Pass<In = P3::Out>,
+    O1: Oracle<P = P1>,
+    O2: Oracle<P = P2>,
+    O3: Oracle<P = P3>,
+    O4: Oracle<P = P4>,
+    H: Naming,
+>(
+    alloc: Global,
+    log: &mut Log<D>,
+    seats: &mut Seats<P1, P2, P3, P4, H>,
+    pass: Which,
+    room: u16,
+    function: &<P1::In as Language>::Fun,
+    oracles: &mut Passes<O1, O2, O3, O4>,
+    words: &mut Pcg32,
+) -> Result<Progress, Halt>
+    requires { IsSound D.is_honest D.seen D.may_leave log.old }
+    ensures served { IsServed D.is_honest D.seen D.may_leave D.faults log.old log.new }
+    ensures going { IfOk result (λ progress. log.new.going ≡ log.old.going) }
+    ensures stays { StaysIn pass (four_of seats.old) (four_of seats.new) }
+
+    // The seats of the other passes are as they were, and all rooms keep their numbers.
+    ensures others { OthersStay pass (four_of seats.old) (four_of seats.new) }
+
+    // An offer of the first pass goes on from the function, one of another from the output learned in the pass before.
+    ensures made { IsMadeIn function.now pass (four_of seats.old) (four_of seats.new) }
+
+    ensures offered { OnOk result (HasInput pass (four_of seats.old)
+        → (words_of (four_of seats.new) pass).node.kept.offered ≡ true) }
+    ensures quiet { OnOk result ((j : ℕ) → j < (words_of (four_of seats.new) pass).node.count
+        → IsQuiet j (words_of (four_of seats.new) pass)) }
+    ensures proposed { OnOk result (would (words_of (four_of seats.new) pass) asked.Propose ≡ None) }
+    ensures led { OnOk result ((words_of (four_of seats.old) pass).node.kept.offered ≡ true
+        → (pcg32 words.old).0 % 4 ≡ 0 → HasLed (words_of (four_of seats.new) pass)) }
+
+    // Where it halts it had not done what is pending.
+    ensures left { IfErr result (λ halt. HasPending seats.new room pass halt.pending) }
+
+    ensures journal { D.is_honest log.old.disk → log.old.going ≡ true → Played
+        D.is_honest D.seen D.may_leave D.moment D.left_since log.old log.new room
+        (words_of (four_of seats.old) pass) (words_of (four_of seats.new) pass) result }
+    ensures cause { log.old.going ≡ true → IfErr result (λ halt. HasHaltCause D.is_honest D.faults
+        (IsTooLargeIn P1.too_large P2.too_large P3.too_large P4.too_large function.now pass (four_of seats.old))
+        log.old log.new (left_over room (words_of (four_of seats.new) pass) halt.pending) halt.fault) }
+{
+    match pass {
+        Which::First => play_first(
+            alloc,
+            log,
+            &mut seats.first,
+            room,
+            function,
+            &mut oracles.first,
+            words,
+        ),
+        Which::Second => play_behind(
+            alloc,
+            log,
+            &seats.first,
+            &mut seats.second,
+            room,
+            &mut oracles.second,
+            words,
+        ),
+        Which::Third => play_behind(
+            alloc,
+            log,
+            &seats.second,
+            &mut seats.third,
+            room,
+            &mut oracles.third,
+            words,
+        ),
+        Which::Fourth => play_behind(
+            alloc,
+            log,
+            &seats.third,
+            &mut seats.fourth,
+            room,
+            &mut oracles.fourth,
+            words,
+        ),
+    }
+}
+
+/// One turn in the room of the first pass of the function.
+fn play_first<D: Disk, P: Pass, O: Oracle<P = P>, H: Naming>(
+    alloc: Global,
+    log: &mut Log<D>,
+    numbered: &mut NumberedSeat<P, H>,
+    room: u16,
+    function: &<P::In as Language>::Fun,
+    oracle: &mut O,
+    words: &mut Pcg32,
+) -> Result<Progress, Halt>
+    requires { IsSound D.is_honest D.seen D.may_leave log.old }
+    ensures served { IsServed D.is_honest D.seen D.may_leave D.faults log.old log.new }
+    ensures going { IfOk result (λ progress. log.new.going ≡ log.old.going) }
+    ensures stays { Stays numbered.old.seat numbered.new.seat }
+    ensures number { numbered.new.claim ≡ numbered.old.claim }
+    ensures made { IsMadeOn (Some function.now) numbered.old.seat numbered.new.seat }
+    ensures offered { OnOk result (numbered.new.seat.words.node.kept.offered ≡ true) }
+    ensures quiet { OnOk result ((j : ℕ) → j < numbered.new.seat.words.node.count
+        → IsQuiet j numbered.new.seat.words) }
+    ensures proposed { OnOk result (would numbered.new.seat.words asked.Propose ≡ None) }
+    ensures led { OnOk result (numbered.old.seat.words.node.kept.offered ≡ true → (pcg32 words.old).0 % 4 ≡ 0
+        → HasLed numbered.new.seat.words) }
+    ensures left { IfErr result (λ halt. MayPendOn (IsTextOf P.In.Language P.Out.Language P.Pass)
+        room numbered.new.seat halt.pending) }
+    ensures journal { D.is_honest log.old.disk → log.old.going ≡ true → Played
+        D.is_honest D.seen D.may_leave D.moment D.left_since log.old log.new room
+        numbered.old.seat.words numbered.new.seat.words result }
+    ensures cause { log.old.going ≡ true → IfErr result (λ halt. HasHaltCause D.is_honest D.faults
+        (P.too_large function.now)
+        log.old log.new (left_over room numbered.new.seat.words halt.pending) halt.fault) }
+{
+    play(
+        alloc,
+        log,
+        &mut numbered.seat,
+        room,
+        Some(function),
+        oracle,
+        words,
+    )
+}
+
+/// One turn in the room of a pass whose input is learned in the room before.
+fn play_behind<D: Disk, B: Pass, P: Pass<In = B::Out>, O: Oracle<P = P>, H: Naming>(
+    alloc: Global,
+    log: &mut Log<D>,
+    before: &NumberedSeat<B, H>,
+    numbered: &mut NumberedSeat<P, H>,
+    room: u16,
+    oracle: &mut O,
+    words: &mut Pcg32,
+) -> Result<Progress, Halt>
+    requires { IsSound D.is_honest D.seen D.may_leave log.old }
+    ensures served { IsServed D.is_honest D.seen D.may_leave D.faults log.old log.new }
+    ensures going { IfOk result (λ progress. log.new.going ≡ log.old.going) }
+    ensures stays { Stays numbered.old.seat numbered.new.seat }
+    ensures number { numbered.new.claim ≡ numbered.old.claim }
+    ensures made { IsMadeFrom before.now.seat numbered.old.seat numbered.new.seat }
+    ensures offered { OnOk result (HasLearned before.now.seat → numbered.new.seat.words.node.kept.offered ≡ true) }
+    ensures quiet { OnOk result ((j : ℕ) → j < numbered.new.seat.words.node.count
+        → IsQuiet j numbered.new.seat.words) }
+    ensures proposed { OnOk result (would numbered.new.seat.words asked.Propose ≡ None) }
+    ensures led { OnOk result (numbered.old.seat.words.node.kept.offered ≡ true → (pcg32 words.old).0 % 4 ≡ 0
+        → HasLed numbered.new.seat.words) }
+    ensures left { IfErr result (λ halt. MayPendOn (IsTextOf B.Out.Language P.Out.Language P.Pass)
+        room numbered.new.seat halt.pending) }
+    ensures journal { D.is_honest log.old.disk → log.old.going ≡ true → Played
+        D.is_honest D.seen D.may_leave D.moment D.left_since log.old log.new room
+        numbered.old.seat.words numbered.new.seat.words result }
+    ensures cause { log.old.going ≡ true → IfErr result (λ halt. HasHaltCause D.is_honest D.faults
+        (IsTooLargeFrom P.too_large before.now.seat)
+        log.old log.new (left_over room numbered.new.seat.words halt.pending) halt.fault) }
+{
+    let input = learned_output(&before.seat);
+    play(alloc, log, &mut numbered.seat, room, input, oracle, words)
+}
