@@ -1,3 +1,6 @@
 pub mod Stable
 pub mod Seen
 pub mod Rooms
+pub mod FourRooms
+pub mod Counts
+pub mod Places

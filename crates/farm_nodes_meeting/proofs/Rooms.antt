@@ -1,7 +1,6 @@
 -- Two seats that have met.
-use Rattle.std.proofs.Common.{◌≡◌, ◌≢◌, ◌↔◌, ℕ, Bool, true, false, ◌&&◌, List, ◌⊎◌, inl, inr, Option, Some, None, refl, sym, ap, subst, ◌∙◌}
+use Rattle.std.proofs.Common.{◌≡◌, ◌≢◌, ◌↔◌, ℕ, Bool, true, false, ◌&&◌, List, ◌⊎◌, inl, inr, Option, Some, refl, sym, ap, subst, ◌∙◌}
 use Rattle.std.specs.Prelude.{IsSome, IsTrue}
-use Rattle.atomic_table.specs.Seated.{TableId}
 use Rattle.rooms_cells.specs.Seen.{SightOf, names_of}
 use Rattle.rooms_hall.specs.Claimed.{Claimed}
 use Rattle.rooms_seat.specs.Meeting.{Remains}
@@ -13,7 +12,7 @@ use Rattle.rooms_numbered.specs.declared.meeting.Meeting.{Meeting}
 use Rattle.rooms_numbered.specs.declared.meeting.Meeting.TheVariants.{Strangers, Neither, One, Same}
 use Rattle.farm_nodes_meeting.specs.Held.{Numbered, numbered}
 use Rattle.farm_nodes_meeting.specs.Learned.{learned_offer}
-use Rattle.farm_nodes_meeting.specs.Rooms.{AreOne, LinkIn, HoldOne, MetIn}
+use Rattle.farm_nodes_meeting.specs.Rooms.{LinkIn, MetIn}
 use Rattle.farm_nodes_meeting.proofs.Seen.{IsLearned, learned_at, one_option}
 use Rattle.farm_nodes_meeting.proofs.Stable.{one_room}
 

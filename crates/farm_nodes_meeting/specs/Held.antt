@@ -1,4 +1,4 @@
--- A node's seat, with the claim to its room's number. A T is what an offer is.
+-- A node's seats in the four rooms of a function, each with the claim to its room's number. A T is what an offer is.
 use Rattle.rooms.specs.SeatValue.{SeatValue}
 use Rattle.rooms_hall.specs.Claimed.{Claimed}
 
@@ -8,3 +8,14 @@ pub record Numbered (T : Type 0) : Type 0 where
 
 abbrev pub numbered : {T : Type 0} → Claimed → SeatValue T → Numbered T
 numbered c s = record { claim = c; seat = s }
+
+pub record Held (T1 T2 T3 T4 : Type 0) : Type 0 where
+  pub first : Numbered T1
+  pub second : Numbered T2
+  pub third : Numbered T3
+  pub fourth : Numbered T4
+
+abbrev pub held : {T1 T2 T3 T4 : Type 0} → Claimed → SeatValue T1 → Claimed → SeatValue T2 → Claimed → SeatValue T3
+    → Claimed → SeatValue T4 → Held T1 T2 T3 T4
+held c1 s1 c2 s2 c3 s3 c4 s4 =
+    record { first = numbered c1 s1; second = numbered c2 s2; third = numbered c3 s3; fourth = numbered c4 s4 }

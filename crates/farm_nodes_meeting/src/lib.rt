@@ -1,8 +1,13 @@
-//! The seats of two nodes of a farm meet in a room, and it is told whether both link what was learned there: then they hold one offer.
+//! Two nodes of a farm meet: their seats do, room by room, and the functions are counted that both link. Both then link the
+//! same code.
 #![tactic(auto)]
 
+mod functions;
 mod learned;
+mod meeting;
 mod room;
 
+pub use functions::meet_in_function;
 pub use learned::{has_learned_offer, learned_offer};
+pub use meeting::meet_all;
 pub use room::meet_in_room;

@@ -36,7 +36,7 @@ fn is_one_room(told: Meeting) -> bool
     }
 }
 
-fn and(first: bool, second: bool) -> bool
+pub(crate) fn and(first: bool, second: bool) -> bool
     ensures { result ≡ (first && second) }
 {
     first && second

@@ -1,0 +1,141 @@
+-- What a node's journal stands for is not changed by a meeting.
+use Rattle.std.proofs.Common.{◌≡◌, ℕ, ◌*◌, ◌<◌, ◌≤◌, List, map, length, slice_get, Option, Some, None, sym, ap, ◌∙◌, subst, arith, inl, inr}
+use Rattle.std.proofs.lemmas.Bool.{cases_eq}
+use Rattle.std.proofs.lemmas.Option.{slice_get_within}
+use Rattle.acceptor_log_form.specs.declared.record.Record.{Record}
+use Rattle.acceptor_log.specs.declared.log.Log.{Log}
+use Rattle.rooms_seat.specs.Meeting.{Remains}
+use Rattle.farm_nodes_acting.specs.Advances.{AreOf}
+use Rattle.farm_nodes_passes.specs.Numbers.{function_of, pass_of}
+use Rattle.farm_nodes_passes.specs.Fours.{Four, words_of}
+use Rattle.farm_nodes_passes.specs.Leaves.{Leave}
+use Rattle.farm_nodes_passes.specs.declared.which.Which.{Which}
+use Rattle.farm_nodes_passes.specs.declared.which.Which.TheVariants.{First, Second, Third, Fourth}
+use Rattle.farm_nodes_turn.proofs.Places.{found, mapped, map_at, map_length}
+use Rattle.farm_nodes_node.specs.declared.halted.Halted.{Halted}
+use Rattle.farm_nodes_node.specs.Held.{IsSoundNode}
+use Rattle.farm_nodes_meeting.specs.Held.{Held}
+use Rattle.farm_nodes_meeting.specs.Lists.{HaveMetAll}
+
+one_item : {S : Type 0} (o : Option S) (x y : S) → o ≡ Some x → o ≡ Some y → x ≡ y
+one_item o x y e e' = cc
+
+-- what a seat's node keeps
+module _ {T1 T2 T3 T4 : Type 0} where
+  -- the seats, and their numbers
+  abbrev pub four_in : Held T1 T2 T3 T4 → Four T1 T2 T3 T4
+  four_in h = record {
+    first = h.first.seat;
+    second = h.second.seat;
+    third = h.third.seat;
+    fourth = h.fourth.seat;
+    numbers = record { first = h.first.claim; second = h.second.claim; third = h.third.claim; fourth = h.fourth.claim };
+  }
+
+  -- their nodes keep what they kept
+  abbrev KeptIn : Held T1 T2 T3 T4 → Held T1 T2 T3 T4 → Which → Type 0
+  KeptIn h h' p = (words_of (four_in h') p).node.kept ≡ (words_of (four_in h) p).node.kept
+
+  kept_in_four : (h h' : Held T1 T2 T3 T4) → Remains h.first.seat.words h'.first.seat.words → Remains h.second.seat.words h'.second.seat.words
+      → Remains h.third.seat.words h'.third.seat.words → Remains h.fourth.seat.words h'.fourth.seat.words → (p : Which) → KeptIn h h' p
+  kept_in_four h h' first second third fourth First = first.kept
+  kept_in_four h h' first second third fourth Second = second.kept
+  kept_in_four h h' first second third fourth Third = third.kept
+  kept_in_four h h' first second third fourth Fourth = fourth.kept
+
+module _ {S T1 T2 T3 T4 : Type 0} (view : S → Held T1 T2 T3 T4) where
+  -- as many, and each keeps what it kept
+  pub record HaveKept (xs xs' : List S) : Type 0 where
+    pub long : length xs' ≡ length xs
+    pub each : (k : ℕ) (a a' : S) → slice_get xs k ≡ Some a → slice_get xs' k ≡ Some a' → (p : Which) → KeptIn (view a) (view a') p
+
+  kept_same : (xs xs' : List S) → xs' ≡ xs → HaveKept xs xs'
+  kept_same xs xs' same = record {
+    long = ap (λ (l : List S). length l) same;
+    each = λ k a a' ea ea' p.
+        let is : a ≡ a' = one_item (slice_get xs k) a a' ea (sym (ap (λ (l : List S). slice_get l k) same) ∙ ea') in
+        ap (λ (x : S). (words_of (four_in (view x)) p).node.kept) (sym is);
+  }
+
+  -- what has met under other names
+  pub met_as : (xs ys xs' ys' us vs us' vs' : List S) (count : ℕ) → us ≡ xs → vs ≡ ys → xs' ≡ us' → ys' ≡ vs'
+      → HaveMetAll us vs us' vs' count view → HaveMetAll xs ys xs' ys' count view
+  met_as xs ys xs' ys' us vs us' vs' count ex ey ex' ey' met =
+      subst (λ (l : List S). HaveMetAll l ys xs' ys' count view) ex
+      (subst (λ (l : List S). HaveMetAll us l xs' ys' count view) ey
+      (subst (λ (l : List S). HaveMetAll us vs l ys' count view) (sym ex')
+      (subst (λ (l : List S). HaveMetAll us vs us' l count view) (sym ey') met)))
+
+  pub first_kept : (xs ys xs' ys' : List S) (count : ℕ) → HaveMetAll xs ys xs' ys' count view → HaveKept xs xs'
+  first_kept xs ys xs' ys' count met = elim (cases_eq (length xs) (length ys)) [
+    | inl alike ↦
+        let all = met.met alike in
+        record {
+          long = all.first;
+          each = λ k a a' ea ea' p.
+              let within : k < length xs = slice_get_within xs k a ea in
+              let b = found ys k (omega (arith, within, alike)) in
+              let b' = found ys' k (omega (arith, within, alike, all.second)) in
+              let one = all.each k a b.0 a' b'.0 ea b.1 ea' b'.1 in
+              kept_in_four (view a) (view a') one.first.first_remains one.second.first_remains one.third.first_remains one.fourth.first_remains p;
+        }
+    | inr other ↦ kept_same xs xs' (met.unlike other).0
+  ]
+
+  pub second_kept : (xs ys xs' ys' : List S) (count : ℕ) → HaveMetAll xs ys xs' ys' count view → HaveKept ys ys'
+  second_kept xs ys xs' ys' count met = elim (cases_eq (length xs) (length ys)) [
+    | inl alike ↦
+        let all = met.met alike in
+        record {
+          long = all.second;
+          each = λ k b b' eb eb' p.
+              let within : k < length ys = slice_get_within ys k b eb in
+              let a = found xs k (omega (arith, within, alike)) in
+              let a' = found xs' k (omega (arith, within, alike, all.first)) in
+              let one = all.each k a.0 b a'.0 b' a.1 eb a'.1 eb' in
+              kept_in_four (view b) (view b') one.first.second_remains one.second.second_remains one.third.second_remains one.fourth.second_remains p;
+        }
+    | inr other ↦ kept_same ys ys' (met.unlike other).1
+  ]
+
+  abbrev fours : List S → List (Four T1 T2 T3 T4)
+  fours xs = map (λ s. four_in (view s)) xs
+
+  as_many : (xs xs' : List S) → HaveKept xs xs' → length (fours xs') ≡ length (fours xs)
+  as_many xs xs' kept = map_length (λ (s : S). four_in (view s)) xs' ∙ (kept.long ∙ sym (map_length (λ (s : S). four_in (view s)) xs))
+
+  leave_kept : (xs xs' : List S) (rs : List Record) → HaveKept xs xs' → Leave (fours xs) rs → Leave (fours xs') rs
+  leave_kept xs xs' rs kept leave = record {
+    rooms = λ m t e.
+        let new = mapped (λ (s : S). four_in (view s)) xs' (function_of m) t e in
+        let within : function_of m < length xs' = slice_get_within xs' (function_of m) new.0 new.1 in
+        let old = found xs (function_of m) (subst (λ (n : ℕ). function_of m < n) kept.long within) in
+        leave.rooms m (four_in (view old.0)) (map_at (λ (s : S). four_in (view s)) xs (function_of m) old.0 old.1)
+        ∙ (sym (kept.each (function_of m) old.0 new.0 old.1 new.1 (pass_of m)) ∙ ap (λ (u : Four T1 T2 T3 T4). (words_of u (pass_of m)).node.kept) new.2);
+    no_others = λ m above. leave.no_others m (subst (λ (n : ℕ). n ≤ function_of m) (as_many xs xs' kept) above);
+  }
+
+  sound_going : {D : Type 0} (is_honest : D → Type 0) (seen : D → List ℕ) (may_leave : D → List ℕ → Type 0) (log : Log D) (xs xs' : List S)
+      → HaveKept xs xs' → IsSoundNode is_honest seen may_leave log (fours xs) None → IsSoundNode is_honest seen may_leave log (fours xs') None
+  sound_going is_honest seen may_leave log xs xs' kept sound = record {
+    journal = sound.journal;
+    going = sound.going;
+    upto = λ honest.
+        let u = sound.upto honest in (
+          u.0,
+          record {
+            leave = leave_kept xs xs' u.0 kept u.1.leave;
+            named = subst (λ (n : ℕ). AreOf (4 * n) u.0) (sym (as_many xs xs' kept)) u.1.named;
+            left = u.1.left;
+          },
+          u.2,
+        );
+  }
+
+  -- a node that is not stopped stays sound, whatever became of its seats, where they keep what they kept
+  pub sound_kept : {D : Type 0} (is_honest : D → Type 0) (seen : D → List ℕ) (may_leave : D → List ℕ → Type 0) (log : Log D) (xs xs' : List S)
+      (halted : Option Halted) → halted ≡ None → HaveKept xs xs'
+      → IsSoundNode is_honest seen may_leave log (fours xs) halted → IsSoundNode is_honest seen may_leave log (fours xs') halted
+  sound_kept is_honest seen may_leave log xs xs' halted none kept sound =
+      subst (λ (h : Option Halted). IsSoundNode is_honest seen may_leave log (fours xs') h) (sym none)
+      (sound_going is_honest seen may_leave log xs xs' kept (subst (λ (h : Option Halted). IsSoundNode is_honest seen may_leave log (fours xs) h) none sound))
