@@ -1,0 +1,79 @@
+ghost use Rattle.std.specs.Prelude.{◌≤◌, length, IfOk, IfErr, MatchResult};
+ghost use Rattle.std.specs.Vec.Iter.{into_iter_items};
+ghost use Rattle.farm_nodes_disks.specs.Journals.{AreOpened, IsOpened, IsRefused, IsRefusedAt};
+
+use crate::refused::RefusedDisk;
+use acceptor_log::{Header, Log, LogError, Record};
+use durable_model::Disk;
+use farm_nodes_journals::open_journal;
+use std::alloc::Global;
+
+/// The journal of the node, and its records.
+fn open_next<D: Disk>(
+    alloc: Global,
+    disk: D,
+    header: &Header,
+) -> Result<(Log<D>, Vec<Record>), (D, LogError)>
+    ensures { MatchResult result (λ opened. IsOpened D.Disk header.now disk opened.0 opened.1.items)
+        (λ refused. IsRefused D.Disk header.now disk refused.0 refused.1) }
+{
+    match open_journal(alloc, disk, header) {
+        Ok(opened) => Ok(opened),
+        Err(refused) => Err(refused),
+    }
+}
+
+/// The journals of a farm's nodes on their disks, in the order of the nodes, each with its records. An empty disk gets a journal.
+pub fn open_journals<D: Disk + Drop>(
+    alloc: Global,
+    disks: Vec<D>,
+    digest: &[u8; 32],
+) -> Result<Vec<(Log<D>, Vec<Record>)>, RefusedDisk<D>>
+    requires { length disks.items ≤ 255 }
+    ensures opened { IfOk result (λ found. AreOpened D.Disk (length disks.items) digest.now disks.items
+        (length disks.items) found.items) }
+    ensures refused { IfErr result (λ refused. IsRefusedAt D.Disk (length disks.items) digest.now disks.items
+        refused.node refused.fault refused.opened.items refused.disk (into_iter_items refused.behind)) }
+{
+    let count = disks.len() as u8;
+    let mut behind = disks.into_iter();
+    let mut opened = match Vec::with_capacity(alloc, usize::from(count)) {
+        Ok(opened) => opened,
+        Err(_) => {
+            return Err(RefusedDisk {
+                node: 0,
+                fault: LogError::NoMemory,
+                opened: Vec::new(alloc),
+                disk: None,
+                behind,
+            });
+        }
+    };
+    for node in 0..count {
+        let header = Header {
+            nodes: count,
+            node,
+            digest: *digest,
+        };
+        let Some(disk) = behind.next() else {
+            unreachable!();
+        };
+        match open_next(alloc, disk, &header) {
+            Ok(found) => match opened.push(found) {
+                Ok(()) => {}
+                // There is room for all of them.
+                Err(_) => unreachable!(),
+            },
+            Err((disk, fault)) => {
+                return Err(RefusedDisk {
+                    node,
+                    fault,
+                    opened,
+                    disk: Some(disk),
+                    behind,
+                });
+            }
+        }
+    }
+    Ok(opened)
+}

@@ -1,0 +1,4 @@
+pub mod Nodes
+pub mod Of
+pub mod Read
+pub mod Checked
