@@ -1,0 +1,3 @@
+pub mod Taking
+pub mod Stacks
+pub mod Begins

@@ -1,0 +1,4 @@
+pub mod Taken
+pub mod Dealt
+pub mod Begun
+pub mod Back
