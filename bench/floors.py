@@ -25,7 +25,7 @@ FLOORS = [
      "c_syntax c_lexer_spellings c_lexer_parts c_lexer c_reader_tokens c_reader_expression_laws "
      "c_reader_expressions c_reader_productions c_reader_statement_laws c_reader_statements "
      "c_reader_declaration_laws c_reader c_program c_checker_scopes c_checker_rules c_checker_terms "
-     "c_checker_bodies c_checker_declarations c_checker c_meaning_machine c_meaning"),
+     "c_checker_bodies c_checker_declarations c_checker c_meaning_machine c_meaning c_texts"),
     ("Languages: whole programs of any, Cminor, RTL, LTL, Linear",
      "lang locations machine lang_running cminor_syntax cminor_form cminor_codec cminor_language rtl_parts "
      "rtl_language rtl_decoded rtl ltl linear_language linear_decoded linear"),
@@ -43,8 +43,10 @@ FLOORS = [
      "rooms_rule rooms_steps rooms_state rooms_seat rooms_cells rooms_hall rooms rooms_numbered"),
     ("Journals", "durable_model_writes durable_model acceptor_log_form acceptor_log"),
     ("The farm",
-     "farm_nodes_acting farm_nodes_leading farm_nodes_offers farm_nodes_playing farm_nodes_passes "
-     "farm_nodes_restart_seat farm_nodes_records farm_nodes_checking farm_nodes_journals farm_nodes_meeting"),
+     "farm_nodes_acting farm_nodes_leading farm_nodes_offers farm_nodes_playing farm_nodes_passes farm_nodes_turn "
+     "farm_nodes_node farm_nodes_restart_seat farm_nodes_records farm_nodes_checking farm_nodes_journals "
+     "farm_nodes_disks farm_nodes_stored farm_nodes_meeting farm_nodes_nodes farm_nodes_rounds farm_nodes_workers "
+     "farm_nodes_source farm_nodes_compiling"),
     ("The program",
      "cfarm_output cfarm_texts cfarm_exec cfarm_settle_nodes cfarm_settle cfarm_commands cfarm_schedules_lines "
      "cfarm_schedules cfarm_words cfarm_program cfarm"),

@@ -3,7 +3,10 @@
 
     bench/rooms.py             adds crates/looked to the tree, proves and builds it
     bench/rooms.py --remove    takes it out again
-    bench/rooms.py --speed     the fastest of ten runs of each: nanoseconds a load, a look at a proposer, at an acceptor
+    bench/rooms.py --speed     the fastest of ten runs of each: nanoseconds a load, a look at a proposer, at an
+                               acceptor, and at one that has voted
+
+Each load and each look waits for what the one before it found, as a seat's do, which act on what they see.
 
 It is no part of the gate, so it stands as a patch, bench/rooms.patch, and is proved whenever it is used. Remove it
 before anything is committed."""
