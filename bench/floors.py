@@ -22,7 +22,7 @@ TOLD = ("specs", "proofs", "src", "must-fail", "planted")
 FLOORS = [
     ("Base: machine words, languages, passes, programs", "ints lang_base lang_parts"),
     ("C: tokens and trees, the reader, the checker, the meaning",
-     "c_syntax c_lexer_spellings c_lexer_parts c_lexer c_reader_tokens c_reader_expression_laws "
+     "c_syntax c_lexer_parts c_lexer c_reader_tokens c_reader_expression_laws "
      "c_reader_expressions c_reader_productions c_reader_statement_laws c_reader_statements "
      "c_reader_declaration_laws c_reader c_program c_checker_scopes c_checker_rules c_checker_terms "
      "c_checker_bodies c_checker_declarations c_checker c_meaning_machine c_meaning c_texts"),

@@ -3,8 +3,8 @@ use Rattle.std.proofs.Common.{◌≡◌, ◌≢◌, ℕ, List, Result, Ok, Err, 
 use Rattle.std.specs.Prelude.{IfOk, IfErr, IsErrAnd, MatchResult}
 use Rattle.std.specs.Global.{Vec}
 use Rattle.c_syntax.specs.declared.token.Token.{Token}
-use Rattle.c_lexer_parts.specs.declared.errors.LexError.{LexError}
-use Rattle.c_lexer_parts.specs.declared.errors.LexError.TheVariants.{NoMemory, BadByte, OpenComment, LiteralRange, BadChar}
+use Rattle.c_lexer.specs.declared.errors.LexError.{LexError}
+use Rattle.c_lexer.specs.declared.errors.LexError.TheVariants.{NoMemory, BadByte, OpenComment, LiteralRange, BadChar}
 use Rattle.c_lexer.specs.Texts.{HasTokens, HasFault}
 use Rattle.c_lexer.proofs.OneReading.{same_tokens, no_fault, one_fault}
 

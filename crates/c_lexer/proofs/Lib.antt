@@ -1,3 +1,5 @@
+pub mod CharacterFronts
+pub mod CommentFronts
 pub mod Lexed
 pub mod OneReading
 pub mod Sequences

@@ -5,10 +5,11 @@ use Rattle.std.proofs.lemmas.List.{append_cancel_left}
 use Rattle.c_syntax.specs.declared.token.Token.{Token}
 use Rattle.c_syntax.specs.declared.token.TokenKind.{TokenKind}
 use Rattle.c_syntax.specs.declared.punctuator.Punctuator.TheVariants.{Slash}
-use Rattle.c_lexer_parts.specs.declared.errors.LexError.{LexError}
-use Rattle.c_lexer_parts.specs.declared.errors.LexError.TheVariants.{NoMemory, BadByte, OpenComment, LiteralRange, BadChar}
-use Rattle.c_lexer_spellings.specs.Bytes.{is_white, is_word_byte}
-use Rattle.c_lexer_parts.specs.Faults.{IsBadByte, IsOpenComment, IsBadNumber, IsBadCharacter, IsFaultAt}
+use Rattle.c_lexer.specs.declared.errors.LexError.{LexError}
+use Rattle.c_lexer.specs.declared.errors.LexError.TheVariants.{NoMemory, BadByte, OpenComment, LiteralRange, BadChar}
+use Rattle.c_lexer_parts.specs.Bytes.{is_white, is_word_byte}
+use Rattle.c_lexer_parts.specs.Faults.{IsBadByte, IsOpenComment, IsBadNumber, IsBadCharacter}
+use Rattle.c_lexer.specs.FaultsAt.{IsFaultAt}
 use Rattle.c_lexer_parts.specs.Lexemes.{IsLexeme, Spells}
 use Rattle.c_lexer_parts.specs.Parts.{IsGap, IsPart}
 use Rattle.c_lexer.specs.Texts.{Part, bytes_of, AreParts, tokens_of, ReadsTo, HasTokens, HasFault}

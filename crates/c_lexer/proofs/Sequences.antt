@@ -3,8 +3,8 @@ use Rattle.std.proofs.Common.{◌≡◌, ℕ, ◌+◌, ◌-◌, ◌<◌, ◌≤�
 use Rattle.std.proofs.lemmas.List.{append-nil, drop-drop, drop_all, take_rest}
 use Rattle.c_syntax.specs.declared.token.Token.{Token}
 use Rattle.c_syntax.specs.declared.token.TokenKind.{TokenKind}
-use Rattle.c_lexer_parts.specs.declared.found.Found.{Found}
-use Rattle.c_lexer_parts.specs.Found.{IsFound}
+use Rattle.c_lexer.specs.declared.found.Found.{Found}
+use Rattle.c_lexer.specs.Found.{IsFound}
 use Rattle.c_lexer_parts.specs.Parts.{IsPart}
 use Rattle.c_lexer.specs.Texts.{Part, bytes_of, AreParts, token_of, tokens_of, ReadsTo, HasTokens}
 use Rattle.c_lexer.proofs.Unique.{part_some}

@@ -13,16 +13,16 @@ use Rattle.c_syntax.specs.declared.punctuator.Punctuator.{Punctuator}
 use Rattle.c_syntax.specs.declared.punctuator.Punctuator.TheVariants.{Slash}
 use Rattle.c_syntax.specs.declared.token.TokenKind.{TokenKind}
 use Rattle.c_syntax.specs.declared.token.TokenKind.TheVariants as kinds
-use Rattle.c_lexer_spellings.specs.Bytes.{is_white, is_word_byte, begins_with_digit}
-use Rattle.c_lexer_spellings.specs.Characters.{IsCharacter}
-use Rattle.c_lexer_spellings.specs.Keywords.{keyword_text}
+use Rattle.c_lexer_parts.specs.Bytes.{is_white, is_word_byte, begins_with_digit}
+use Rattle.c_lexer_parts.specs.Characters.{IsCharacter}
+use Rattle.c_lexer_parts.specs.Keywords.{keyword_text}
 use Rattle.c_lexer_parts.specs.Lexemes.{IsWord, IsLexeme, IsLongest, IsNumber, Spells}
-use Rattle.c_lexer_spellings.specs.Lookups.{keyword_of, character_of, longest_of}
-use Rattle.c_lexer_spellings.specs.Numbers.{constant_of}
+use Rattle.c_lexer_parts.specs.Lookups.{keyword_of, character_of, longest_of}
+use Rattle.c_lexer_parts.specs.Numbers.{constant_of}
 use Rattle.c_lexer_parts.specs.Parts.{IsLineEnd, IsGap, IsToken, IsPart}
-use Rattle.c_lexer_spellings.specs.Punctuators.{punctuator_text}
-use Rattle.c_lexer_parts.proofs.CharacterFronts.{plain_found, escape_found}
-use Rattle.c_lexer_spellings.proofs.KeywordTexts.{keyword_is, keyword_found, keyword_bytes, keyword_some, keyword_no_digit}
+use Rattle.c_lexer_parts.specs.Punctuators.{punctuator_text}
+use Rattle.c_lexer.proofs.CharacterFronts.{plain_found, escape_found}
+use Rattle.c_lexer_parts.proofs.KeywordTexts.{keyword_is, keyword_found, keyword_bytes, keyword_some, keyword_no_digit}
 use Rattle.c_lexer_parts.proofs.Starts.{some_is, none_some, byte_of_front, length_of_front, word_first, punctuator_white, character_first, lexeme_some, not_both}
 
 keyword_word : (k : Keyword) → IsWord (keyword_text k)

@@ -2,8 +2,8 @@
 use Rattle.std.specs.Prelude.{◌≡◌, ℕ, ◌+◌, List, [], ◌∷◌, ◌++◌, length, Option, Some, None, flat_map}
 use Rattle.c_syntax.specs.declared.token.Token.{Token}
 use Rattle.c_syntax.specs.declared.token.TokenKind.{TokenKind}
-use Rattle.c_lexer_parts.specs.declared.errors.LexError.{LexError}
-use Rattle.c_lexer_parts.specs.Faults.{IsFaultAt}
+use Rattle.c_lexer.specs.declared.errors.LexError.{LexError}
+use Rattle.c_lexer.specs.FaultsAt.{IsFaultAt}
 use Rattle.c_lexer_parts.specs.Parts.{IsPart}
 
 -- a part: its bytes, and the token that it is, or none

@@ -2,11 +2,12 @@
 
 ghost use Rattle.std.specs.Prelude.{◌≡◌, ◌≢◌, IfOk, IfErr, IsErrAnd, List};
 ghost use Rattle.c_syntax.specs.declared.token.Token.{Token};
-ghost use Rattle.c_lexer_parts.specs.declared.errors.LexError.{LexError};
+ghost use Rattle.c_lexer.specs.declared.errors.LexError.{LexError};
 ghost use Rattle.c_lexer.specs.Answers.{GivesTokens};
 ghost use Rattle.c_lexer.specs.Texts.{HasFault, HasTokens};
 
-use c_lexer_parts::{LexError, first_part};
+use crate::errors::LexError;
+use crate::parts::first_part;
 use c_syntax::Token;
 use std::alloc::Global;
 

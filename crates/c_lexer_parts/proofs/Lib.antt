@@ -1,5 +1,6 @@
-pub mod CharacterFronts
-pub mod CommentFronts
+pub mod IntConstants
+pub mod KeywordTexts
 pub mod PunctuatorFronts
 pub mod Starts
 pub mod WordFronts
+pub mod Worths

@@ -8,12 +8,12 @@ use Rattle.std.proofs.lemmas.List.Sums.{AllPass-from_list_all}
 use Rattle.c_syntax.specs.declared.token.TokenKind.TheVariants as kinds
 use Rattle.c_syntax.specs.declared.punctuator.Punctuator.{Punctuator}
 use Rattle.c_syntax.specs.declared.punctuator.Punctuator.TheVariants.{Slash, ShiftLeftAssign, ShiftRightAssign}
-use Rattle.c_lexer_spellings.specs.Bytes.{is_white, is_word_byte}
+use Rattle.c_lexer_parts.specs.Bytes.{is_white, is_word_byte}
 use Rattle.c_lexer_parts.specs.Faults.{IsBadByte}
 use Rattle.c_lexer_parts.specs.Lexemes.{IsLexeme, IsLongest}
 use Rattle.c_lexer_parts.specs.Parts.{BeginsComment, IsToken}
-use Rattle.c_lexer_spellings.specs.Lookups.{row_of, alone, with_equals, doubled, pair, triple, first_of, sized, longest_of}
-use Rattle.c_lexer_spellings.specs.Punctuators.{punctuator_text}
+use Rattle.c_lexer_parts.specs.Lookups.{row_of, alone, with_equals, doubled, pair, triple, first_of, sized, longest_of}
+use Rattle.c_lexer_parts.specs.Punctuators.{punctuator_text}
 use Rattle.c_lexer_parts.proofs.Starts.{some_is, none_some, found_is, byte_of_front, length_of_front, front_one, front_two, front_three, word_first, character_first, character_some, lexeme_some, not_both, longest_front, front_taken, first_byte}
 
 module _ (spell : ℕ → List ℕ) (b : ℕ) (p : Punctuator) where

@@ -4,11 +4,11 @@ use Rattle.std.proofs.lemmas.Bool.{both_ways, eqb-false, ltb-true}
 use Rattle.std.proofs.lemmas.List.{get_or_append_left, take_at}
 use Rattle.c_syntax.specs.declared.punctuator.Punctuator.{Punctuator}
 use Rattle.c_syntax.specs.declared.punctuator.Punctuator.TheVariants.{Slash}
-use Rattle.c_lexer_spellings.specs.Bytes.{is_white, is_word_byte}
-use Rattle.c_lexer_spellings.specs.Characters.{IsCharacter}
+use Rattle.c_lexer_parts.specs.Bytes.{is_white, is_word_byte}
+use Rattle.c_lexer_parts.specs.Characters.{IsCharacter}
 use Rattle.c_lexer_parts.specs.Lexemes.{IsWord, IsLexeme, IsLongest}
 use Rattle.c_lexer_parts.specs.Parts.{BeginsComment}
-use Rattle.c_lexer_spellings.specs.Punctuators.{punctuator_text}
+use Rattle.c_lexer_parts.specs.Punctuators.{punctuator_text}
 
 pub some_is : {A : Type 0} (x y : A) → Some x ≡ Some y → x ≡ y
 some_is x y e = cc

@@ -3,7 +3,7 @@ use Rattle.std.proofs.Common.{◌≡◌, ℕ, ◌+◌, ◌<◌, ◌≤◌, true,
 use Rattle.std.specs.Prelude.{MatchOption}
 use Rattle.std.proofs.lemmas.List.Elements.{All-from_get_or}
 use Rattle.std.proofs.str.Laws.{order}
-use Rattle.c_lexer_spellings.specs.Bytes.{is_word_byte}
+use Rattle.c_lexer_parts.specs.Bytes.{is_word_byte}
 use Rattle.c_syntax.specs.declared.token.TokenKind.{TokenKind}
 use Rattle.c_lexer_parts.specs.Faults.{IsRefused, IsBadNumber}
 use Rattle.c_lexer_parts.specs.Lexemes.{IsWord, IsLexeme, IsLongest, Spells}

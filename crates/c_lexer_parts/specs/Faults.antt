@@ -1,11 +1,9 @@
--- What is refused, and where.
+-- What is refused.
 use Rattle.std.specs.Prelude.{◌≡◌, ◌≢◌, ℕ, List, ◌∷◌, ◌++◌, None, IsTrue, IsFalse, codes}
-use Rattle.c_lexer_parts.specs.declared.errors.LexError.{LexError}
-use Rattle.c_lexer_parts.specs.declared.errors.LexError.TheVariants.{NoMemory, BadByte, OpenComment, LiteralRange, BadChar}
-use Rattle.c_lexer_spellings.specs.Bytes.{is_white, begins_with_digit}
-use Rattle.c_lexer_spellings.specs.Characters.{IsCharacter}
+use Rattle.c_lexer_parts.specs.Bytes.{is_white, begins_with_digit}
+use Rattle.c_lexer_parts.specs.Characters.{IsCharacter}
 use Rattle.c_lexer_parts.specs.Lexemes.{IsWord, IsLexeme, IsLongest}
-use Rattle.c_lexer_spellings.specs.Numbers.{constant_of}
+use Rattle.c_lexer_parts.specs.Numbers.{constant_of}
 
 -- a byte that begins nothing, and is no quote
 pub record IsBadByte (text : List ℕ) : Type 0 where
@@ -41,11 +39,3 @@ pub record IsBadCharacter (text : List ℕ) : Type 0 where
   pub behind : List ℕ
   pub quote : text ≡ 39 ∷ behind
   pub no_character : (bytes rest : List ℕ) (n : ℕ) → IsCharacter bytes n → text ≢ bytes ++ rest
-
--- At this offset the text, from there on, is refused so.
-abbrev pub IsFaultAt : ℕ → List ℕ → LexError → Type 0
-IsFaultAt offset text NoMemory = ⊥
-IsFaultAt offset text (BadByte at) = (at ≡ offset) × IsBadByte text
-IsFaultAt offset text (OpenComment at) = (at ≡ offset) × IsOpenComment text
-IsFaultAt offset text (LiteralRange at) = (at ≡ offset) × IsBadNumber text
-IsFaultAt offset text (BadChar at) = (at ≡ offset) × IsBadCharacter text

@@ -7,11 +7,11 @@ use Rattle.c_syntax.specs.declared.keyword.Keyword.{Keyword}
 use Rattle.c_syntax.specs.declared.punctuator.Punctuator.{Punctuator}
 use Rattle.c_syntax.specs.declared.token.TokenKind.{TokenKind}
 use Rattle.c_syntax.specs.declared.token.TokenKind.TheVariants as kinds
-use Rattle.c_lexer_spellings.specs.Bytes.{is_word_byte, begins_with_digit}
-use Rattle.c_lexer_spellings.specs.Characters.{IsCharacter}
-use Rattle.c_lexer_spellings.specs.Keywords.{keyword_text}
-use Rattle.c_lexer_spellings.specs.Numbers.{constant_of}
-use Rattle.c_lexer_spellings.specs.Punctuators.{punctuator_text}
+use Rattle.c_lexer_parts.specs.Bytes.{is_word_byte, begins_with_digit}
+use Rattle.c_lexer_parts.specs.Characters.{IsCharacter}
+use Rattle.c_lexer_parts.specs.Keywords.{keyword_text}
+use Rattle.c_lexer_parts.specs.Numbers.{constant_of}
+use Rattle.c_lexer_parts.specs.Punctuators.{punctuator_text}
 
 -- letters, digits and underscores, one or more
 pub record IsWord (bytes : List ℕ) : Type 0 where

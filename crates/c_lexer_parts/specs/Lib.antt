@@ -1,6 +1,9 @@
-pub mod Closings
+pub mod Bytes
+pub mod Characters
 pub mod Faults
-pub mod Found
+pub mod Keywords
 pub mod Lexemes
+pub mod Lookups
+pub mod Numbers
 pub mod Parts
-pub mod Refusals
+pub mod Punctuators

@@ -1,7 +1,7 @@
 -- The parts that a text is cut into: white space, comments (C99 6.4.9) and tokens.
 use Rattle.std.specs.Prelude.{◌≡◌, ◌≢◌, ℕ, ◌≤◌, ◌⊎◌, List, [], ◌∷◌, ◌++◌, length, IsTrue, Option, Some, None, All, codes}
 use Rattle.c_syntax.specs.declared.token.TokenKind.{TokenKind}
-use Rattle.c_lexer_spellings.specs.Bytes.{is_white}
+use Rattle.c_lexer_parts.specs.Bytes.{is_white}
 use Rattle.c_lexer_parts.specs.Lexemes.{IsLongest, Spells}
 
 -- a line ends here, or the text

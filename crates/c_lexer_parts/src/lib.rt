@@ -1,15 +1,15 @@
-//! The parts of a C text, each at the front of what is left of it: white space, comments and tokens,
-//! or a fault.
+//! How the tokens and the white space of a C text are spelled (C99 6.4, cut to this project's profile): what the keywords,
+//! constants and punctuators are looked up by, what a part of a text is, and what is refused.
 #![tactic(auto)]
 
+mod bytes;
 mod characters;
-mod comments;
-mod errors;
-mod found;
-mod parts;
+mod keywords;
+mod numbers;
 mod punctuators;
-mod words;
 
-pub use errors::LexError;
-pub use found::Found;
-pub use parts::first_part;
+pub use bytes::{byte_at, is_white, is_word_byte};
+pub use characters::character_value;
+pub use keywords::keyword;
+pub use numbers::constant;
+pub use punctuators::longest_punctuator;

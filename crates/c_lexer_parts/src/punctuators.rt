@@ -1,30 +1,109 @@
-//! The punctuator at the front of a text.
+//! Punctuators (C99 6.4.6), the longest first.
 
-ghost use Rattle.std.specs.Prelude.{◌≡◌, ◌≢◌, ◌<◌, length, slice_index, IsFalse};
-ghost use Rattle.c_lexer_spellings.specs.Bytes.{is_white, is_word_byte};
-ghost use Rattle.c_lexer_parts.specs.Found.{IsFound};
-ghost use Rattle.c_lexer_parts.specs.Parts.{BeginsComment};
+ghost use Rattle.std.specs.Prelude.{◌≡◌};
+ghost use Rattle.c_lexer_parts.specs.Lookups.{row_of, alone, with_equals, doubled, pair, triple, longest_of};
 
-use crate::errors::LexError;
-use crate::found::Found;
-use c_lexer_spellings::{byte_at, longest_punctuator};
-use c_syntax::TokenKind;
+use c_syntax::Punctuator;
 
-/// The punctuator at the front of a text that begins neither with white space, a word, a quote nor a
-/// comment.
-pub fn punctuator(offset: usize, text: &[u8]) -> Result<Found, LexError>
-    requires some { 0 < length text.now }
-    requires no_white { IsFalse (is_white (slice_index text.now 0)) }
-    requires no_word { IsFalse (is_word_byte (slice_index text.now 0)) }
-    requires no_quote { slice_index text.now 0 ≢ 39 }
-    requires no_comment { BeginsComment text.now → ⊥ }
-    ensures { IsFound offset text.now result }
+fn alone(a: u8) -> Option<Punctuator>
+    ensures { result ≡ row_of alone a }
 {
-    match longest_punctuator(byte_at(text, 0), byte_at(text, 1), byte_at(text, 2)) {
-        Some((punctuator, len)) => Ok(Found {
-            kind: Some(TokenKind::Punctuator(punctuator)),
-            len,
-        }),
-        None => Err(LexError::BadByte(offset)),
+    match a {
+        b'(' => Some(Punctuator::LeftParenthesis),
+        b')' => Some(Punctuator::RightParenthesis),
+        b'{' => Some(Punctuator::LeftBrace),
+        b'}' => Some(Punctuator::RightBrace),
+        b'[' => Some(Punctuator::LeftBracket),
+        b']' => Some(Punctuator::RightBracket),
+        b';' => Some(Punctuator::Semicolon),
+        b',' => Some(Punctuator::Comma),
+        b'?' => Some(Punctuator::Question),
+        b':' => Some(Punctuator::Colon),
+        b'=' => Some(Punctuator::Assign),
+        b'<' => Some(Punctuator::Less),
+        b'>' => Some(Punctuator::Greater),
+        b'+' => Some(Punctuator::Plus),
+        b'-' => Some(Punctuator::Minus),
+        b'*' => Some(Punctuator::Star),
+        b'/' => Some(Punctuator::Slash),
+        b'%' => Some(Punctuator::Percent),
+        b'&' => Some(Punctuator::And),
+        b'|' => Some(Punctuator::Or),
+        b'^' => Some(Punctuator::Caret),
+        b'~' => Some(Punctuator::Tilde),
+        b'!' => Some(Punctuator::Exclamation),
+        _ => None,
     }
+}
+
+fn with_equals(a: u8) -> Option<Punctuator>
+    ensures { result ≡ row_of with_equals a }
+{
+    match a {
+        b'=' => Some(Punctuator::Equal),
+        b'!' => Some(Punctuator::NotEqual),
+        b'<' => Some(Punctuator::LessEqual),
+        b'>' => Some(Punctuator::GreaterEqual),
+        b'+' => Some(Punctuator::PlusAssign),
+        b'-' => Some(Punctuator::MinusAssign),
+        b'*' => Some(Punctuator::StarAssign),
+        b'/' => Some(Punctuator::SlashAssign),
+        b'%' => Some(Punctuator::PercentAssign),
+        b'&' => Some(Punctuator::AndAssign),
+        b'|' => Some(Punctuator::OrAssign),
+        b'^' => Some(Punctuator::CaretAssign),
+        _ => None,
+    }
+}
+
+fn doubled(a: u8) -> Option<Punctuator>
+    ensures { result ≡ row_of doubled a }
+{
+    match a {
+        b'<' => Some(Punctuator::ShiftLeft),
+        b'>' => Some(Punctuator::ShiftRight),
+        b'&' => Some(Punctuator::AndAnd),
+        b'|' => Some(Punctuator::OrOr),
+        b'+' => Some(Punctuator::Increment),
+        b'-' => Some(Punctuator::Decrement),
+        _ => None,
+    }
+}
+
+fn pair(a: u8, b: u8) -> Option<Punctuator>
+    ensures { result ≡ pair a b }
+{
+    if b == b'=' {
+        with_equals(a)
+    } else if b == a {
+        doubled(a)
+    } else {
+        None
+    }
+}
+
+fn triple(a: u8, b: u8, c: u8) -> Option<Punctuator>
+    ensures { result ≡ triple a b c }
+{
+    if a == b'<' && b == b'<' && c == b'=' {
+        Some(Punctuator::ShiftLeftAssign)
+    } else if a == b'>' && b == b'>' && c == b'=' {
+        Some(Punctuator::ShiftRightAssign)
+    } else {
+        None
+    }
+}
+
+/// The longest punctuator that three bytes begin with, and its length.
+pub fn longest_punctuator(a: u8, b: u8, c: u8) -> Option<(Punctuator, usize)>
+    ensures { result ≡ longest_of a b c }
+{
+    if let Some(punctuator) = triple(a, b, c) {
+        return Some((punctuator, 3));
+    }
+    if let Some(punctuator) = pair(a, b) {
+        return Some((punctuator, 2));
+    }
+    let punctuator = alone(a)?;
+    Some((punctuator, 1))
 }

@@ -1,8 +1,8 @@
 -- The line that a user is shown where a text is refused.
 use Rattle.std.specs.Prelude.{ℕ, List, ◌++◌, Option, None, Some, codes}
 use Rattle.std.specs.Fmt.{decimal}
-use Rattle.c_lexer_parts.specs.declared.errors.LexError.{LexError}
-use Rattle.c_lexer_parts.specs.declared.errors.LexError.TheVariants as L
+use Rattle.c_lexer.specs.declared.errors.LexError.{LexError}
+use Rattle.c_lexer.specs.declared.errors.LexError.TheVariants as L
 use Rattle.c_reader.specs.declared.errors.ReadError.{ReadError}
 use Rattle.c_reader.specs.declared.errors.ReadError.TheVariants as R
 use Rattle.c_checker_rules.specs.declared.errors.CheckError.{CheckError}

@@ -5,8 +5,8 @@ use Rattle.c_syntax.specs.declared.token.Token.{Token}
 use Rattle.c_syntax.specs.Trees.{UnitTree}
 use Rattle.c_syntax.specs.Heights.{IsLow}
 use Rattle.c_syntax.specs.Declarations.{IsUnit}
-use Rattle.c_lexer_parts.specs.declared.errors.LexError.TheVariants as L
-use Rattle.c_lexer_parts.specs.Refusals as lexed
+use Rattle.c_lexer.specs.declared.errors.LexError.TheVariants as L
+use Rattle.c_lexer.specs.Refusals as lexed
 use Rattle.c_lexer.specs.Texts.{HasTokens, HasFault}
 use Rattle.c_reader.specs.declared.errors.ReadError.{ReadError}
 use Rattle.c_reader.specs.declared.errors.ReadError.TheVariants as R

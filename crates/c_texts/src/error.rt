@@ -3,7 +3,7 @@ ghost use Rattle.c_texts.specs.Lines.{check_name, lex_name, name_of, read_name};
 ghost use Rattle.c_texts.specs.Refusals.{number_of, offset_of};
 
 use c_checker_rules::CheckError;
-use c_lexer_parts::LexError;
+use c_lexer::LexError;
 use c_reader::ReadError;
 use std::fmt;
 

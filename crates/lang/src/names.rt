@@ -3,11 +3,11 @@
 ghost use Rattle.std.specs.Prelude.{◌≡◌, ◌↔◌, IsTrue};
 ghost use Rattle.std.specs.List.{list_all};
 ghost use Rattle.lang_base.specs.Reading.{Reads, items_of};
-ghost use Rattle.c_lexer_spellings.specs.Bytes.{is_word_byte, begins_with_digit};
+ghost use Rattle.c_lexer_parts.specs.Bytes.{is_word_byte, begins_with_digit};
 ghost use Rattle.c_lexer_parts.specs.Lexemes.{IsName};
 ghost use Rattle.lang.specs.Reading.{is_word, is_name, name};
 
-use c_lexer_spellings::{byte_at, is_word_byte, keyword};
+use c_lexer_parts::{byte_at, is_word_byte, keyword};
 use lang_base::{FormError, read_byte};
 use lang_parts::{Byte, read_so_many};
 use std::alloc::Global;

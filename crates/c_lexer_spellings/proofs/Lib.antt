@@ -1,3 +1,0 @@
-pub mod IntConstants
-pub mod KeywordTexts
-pub mod Worths
