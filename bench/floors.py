@@ -49,7 +49,7 @@ FLOORS = [
      "farm_nodes_source farm_nodes_compiling"),
     ("The program",
      "cfarm_output cfarm_texts cfarm_exec cfarm_settle_nodes cfarm_settle cfarm_commands cfarm_schedules_lines "
-     "cfarm_schedules cfarm_words cfarm_program cfarm"),
+     "cfarm_schedules cfarm_program cfarm"),
     ("Tests",
      "program_rows paxos_reference worked_commands worked_agreement worked_texts worked_forms worked_offers "
      "worked_rows worked_disk worked_journals worked_rooms"),

@@ -1,7 +1,7 @@
 -- What the program does that is asked for, with what its file is read as.
 use Rattle.std.specs.Prelude.{◌≡◌, ℕ, List, ◌++◌, Option, Result, Ok, Err, codes}
-use Rattle.cfarm_words.specs.declared.task.Task.{Task}
-use Rattle.cfarm_words.specs.declared.task.Task.TheVariants.{Check, Interpret, Exec, Settle, Simulate}
+use Rattle.cfarm_program.specs.declared.task.Task.{Task}
+use Rattle.cfarm_program.specs.declared.task.Task.TheVariants.{Check, Interpret, Exec, Settle, Simulate}
 use Rattle.cfarm_program.specs.declared.files.FileFault.{FileFault}
 use Rattle.cfarm_program.specs.declared.files.FileFault.TheVariants.{NoMemory, Unreadable}
 use Rattle.cfarm_program.specs.Reading.{IsKnownAs}

@@ -4,10 +4,10 @@ use Rattle.clap.specs.Words.{IsAmong, fault_of, takes}
 use Rattle.clap.specs.declared.error.kind.ErrorKind.{ErrorKind}
 use Rattle.clap.specs.declared.error.kind.ErrorKind.TheVariants.{DisplayHelp, DisplayVersion, OutOfMemory}
 use Rattle.cfarm_program.specs.declared.files.FileFault.{FileFault}
-use Rattle.cfarm_words.specs.declared.task.Task.{Task}
+use Rattle.cfarm_program.specs.declared.task.Task.{Task}
 use Rattle.cfarm_program.specs.Performed.{Does}
 use Rattle.cfarm_program.specs.Telling.{Answer, IsTold, no_memory, told, unwritten}
-use Rattle.cfarm_words.specs.Words.{Asks, AsksNothing, farm}
+use Rattle.cfarm_program.specs.Words.{Asks, AsksNothing, farm}
 
 -- the words of the command line are not text
 abbrev pub no_text : Answer

@@ -1,6 +1,7 @@
 //! The whole program as one function, `run`: the words of a command line, a way to read files and two writers go in, and
-//! the exit status comes out. `main` calls it on the real ones, and tests on others. What words ask for stands in
-//! `cfarm_words`.
+//! the exit status comes out. `main` calls it on the real ones, and tests on others. What the words ask for is `asked_for`,
+//! with the names of the commands and of their options, the bounds that stand where none are given, and the greatest ones;
+//! how words are read is defined in `clap`.
 //!
 //! | Status | When | Line on standard error |
 //! |---|---|---|
@@ -14,12 +15,16 @@
 //! | 7 | no memory | `memory` |
 #![tactic(auto)]
 
+mod command_line;
 mod files;
 mod performing;
 mod program;
 mod running;
+mod task;
 mod telling;
 
+pub use command_line::asked_for;
 pub use files::{FileFault, Files, HostFiles};
 pub use program::{run, tell_no_text};
+pub use task::{Asked, Task};
 pub use telling::tell_no_memory;

@@ -5,12 +5,12 @@ ghost use Rattle.cfarm_program.specs.Telling.{Answer, IsTold};
 ghost use Rattle.cfarm_program.specs.Outcomes.{Checked, Executed, Interpreted, Settled, Simulated};
 ghost use Rattle.cfarm_program.specs.Performed.{Performs};
 
+use crate::task::Task;
 use crate::telling::tell;
 use cfarm_commands::settle;
 use cfarm_exec::exec;
 use cfarm_schedules::simulate;
 use cfarm_texts::{Closing, check_text, interpret, status_of};
-use cfarm_words::Task;
 use std::alloc::Global;
 use std::io::Write;
 use std::thread::Threads;

@@ -5,10 +5,10 @@ ghost use Rattle.clap.specs.Words.{kind_of};
 ghost use Rattle.cfarm_program.specs.Telling.{IsTold, no_memory};
 ghost use Rattle.cfarm_program.specs.Runs.{IsHelped, Runs, no_text};
 
+use crate::command_line::asked_for;
 use crate::files::Files;
 use crate::running::run_task;
 use crate::telling::{UNWRITTEN, tell, tell_no_memory};
-use cfarm_words::asked_for;
 use clap::error::ErrorKind;
 use std::alloc::Global;
 use std::io::Write;

@@ -5,8 +5,8 @@ ghost use Rattle.cfarm_program.specs.Performed.{Does};
 
 use crate::files::{FileFault, Files};
 use crate::performing::perform;
+use crate::task::Task;
 use crate::telling::{tell, tell_no_memory};
-use cfarm_words::Task;
 use std::alloc::Global;
 use std::fmt;
 use std::io::Write;

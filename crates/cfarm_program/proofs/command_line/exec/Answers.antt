@@ -3,9 +3,9 @@ use Rattle.std.proofs.Common.{ap, ◌∙◌}
 use Rattle.clap.specs.Words.{new_app, app_of, with_rule}
 use Rattle.clap.specs.declared.builder.command.Command.TheViews.{out-Command as fields_of}
 use Rattle.clap.specs.Simple.{app_of_fields}
-use Rattle.cfarm_words.specs.Words.{file_rule, limit_rule}
-use Rattle.cfarm_words.proofs.Commands.{still_local, with_argument}
-use Rattle.cfarm_words.proofs.command_line.exec.Goals as goal
+use Rattle.cfarm_program.specs.Words.{file_rule, limit_rule}
+use Rattle.cfarm_program.proofs.Commands.{still_local, with_argument}
+use Rattle.cfarm_program.proofs.command_line.exec.Goals as goal
 
 pub returns-clause-app : goal.returns-clause-app
 returns-clause-app c =

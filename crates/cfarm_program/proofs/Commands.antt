@@ -9,9 +9,9 @@ use Rattle.clap.specs.declared.builder.command.Command.TheViews.{out-Command as 
 use Rattle.clap.specs.declared.parser.matches.Found.{Found}
 use Rattle.clap.specs.declared.builder.arg.Arg.{Arg}
 use Rattle.clap.specs.declared.builder.command.Command.{Command}
-use Rattle.cfarm_words.specs.declared.task.Asked.{Asked}
-use Rattle.cfarm_words.specs.declared.task.Task.{Task}
-use Rattle.cfarm_words.specs.Words.{AsksNothingBy, IsAskedBy, IsTask, Reads}
+use Rattle.cfarm_program.specs.declared.task.Asked.{Asked}
+use Rattle.cfarm_program.specs.declared.task.Task.{Task}
+use Rattle.cfarm_program.specs.Words.{AsksNothingBy, IsAskedBy, IsTask, Reads}
 
 -- one more argument that is not global
 pub with_argument : (old new : Command) (a : Arg) (app : App) (r : Rule) → AddsArg old a new → app_of old ≡ app → (fields_of old).has_globals ≡ false → rule_of a ≡ r → a.global ≡ false → app_of new ≡ with_rule app r

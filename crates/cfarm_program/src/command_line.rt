@@ -2,11 +2,11 @@
 
 ghost use Rattle.std.specs.Prelude.{◌≡◌, Some, false, map, codes, string_bytes, IfOk, IfErr, IfSome, IsNone};
 ghost use Rattle.clap.specs.Words.{FailsBy, app_of, fault_of, first_of, first_value, found_of, rows_of, rule_of};
-ghost use Rattle.cfarm_words.specs.declared.task.Task.{Task};
+ghost use Rattle.cfarm_program.specs.declared.task.Task.{Task};
 ghost use Rattle.clap.specs.Words.{subcommand_rows_of};
 ghost use Rattle.clap.specs.declared.builder.command.Command.TheViews.{out-Command as fields_of};
-ghost use Rattle.cfarm_words.specs.Words.{Asks, AsksNothing, AsksNothingBy, IsAskedBy, IsRefusedRightly, IsTask, Reads, check_app, exec_app, farm, file_rule, interpret_app, settle_app, sim_app};
-ghost use Rattle.cfarm_words.specs.Words.{depth_rule, limit_rule};
+ghost use Rattle.cfarm_program.specs.Words.{Asks, AsksNothing, AsksNothingBy, IsAskedBy, IsRefusedRightly, IsTask, Reads, check_app, exec_app, farm, file_rule, interpret_app, settle_app, sim_app};
+ghost use Rattle.cfarm_program.specs.Words.{depth_rule, limit_rule};
 
 use crate::task::{Asked, Task};
 use clap::builder::ValueParser;

@@ -2,9 +2,9 @@ use Rattle.std.specs.Prelude.{◌≡◌, codes, true}
 use Rattle.std.proofs.Common.{ap, ◌∙◌}
 use Rattle.clap.specs.Words.{app_of, with_subcommand}
 use Rattle.clap.specs.Simple.{app_of_fields, on_top}
-use Rattle.cfarm_words.specs.Words.{check_app, exec_app, interpret_app, settle_app, sim_app, top_app}
-use Rattle.cfarm_words.proofs.Commands.{with_command}
-use Rattle.cfarm_words.proofs.command_line.command.Goals as goal
+use Rattle.cfarm_program.specs.Words.{check_app, exec_app, interpret_app, settle_app, sim_app, top_app}
+use Rattle.cfarm_program.proofs.Commands.{with_command}
+use Rattle.cfarm_program.proofs.command_line.command.Goals as goal
 
 pub returns : goal.returns
 returns c =

@@ -7,8 +7,8 @@ use Rattle.clap.specs.declared.error.Error.{Error}
 use Rattle.clap.specs.declared.error.kind.ErrorKind.TheVariants.{OutOfMemory}
 use Rattle.clap.specs.Simple.{on_top}
 use Rattle.clap.specs.declared.builder.value_parser.ValueParser.TheVariants.{Unsigned}
-use Rattle.cfarm_words.specs.declared.task.Task.{Task}
-use Rattle.cfarm_words.specs.declared.task.Task.TheVariants.{Check, Interpret, Exec, Settle, Simulate}
+use Rattle.cfarm_program.specs.declared.task.Task.{Task}
+use Rattle.cfarm_program.specs.declared.task.Task.TheVariants.{Check, Interpret, Exec, Settle, Simulate}
 
 -- ---- the commands
 

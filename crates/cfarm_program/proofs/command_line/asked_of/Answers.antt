@@ -1,6 +1,6 @@
 use Rattle.clap.specs.Words.{found_of}
-use Rattle.cfarm_words.proofs.Commands.{asked_from, nothing_from, nothing_without}
-use Rattle.cfarm_words.proofs.command_line.asked_of.Goals as goal
+use Rattle.cfarm_program.proofs.Commands.{asked_from, nothing_from, nothing_without}
+use Rattle.cfarm_program.proofs.command_line.asked_of.Goals as goal
 
 pub returns-in-Some-clause-some : goal.returns-in-Some-clause-some
 returns-in-Some-clause-some c =

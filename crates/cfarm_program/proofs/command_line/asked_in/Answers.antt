@@ -1,6 +1,6 @@
 use Rattle.clap.specs.Words.{found_of}
-use Rattle.cfarm_words.proofs.Commands.{nothing_without_file}
-use Rattle.cfarm_words.proofs.command_line.asked_in.Goals as goal
+use Rattle.cfarm_program.proofs.Commands.{nothing_without_file}
+use Rattle.cfarm_program.proofs.command_line.asked_in.Goals as goal
 
 pub returns-in_default-clause-none : goal.returns-in_default-clause-none
 returns-in_default-clause-none c = λ none. nothing_without_file c.args.name.now (found_of c.args.words.now) c.in_default.ensures
