@@ -48,7 +48,7 @@ FLOORS = [
      "farm_nodes_disks farm_nodes_stored farm_nodes_meeting farm_nodes_nodes farm_nodes_rounds farm_nodes_workers "
      "farm_nodes_source farm_nodes_compiling"),
     ("The program",
-     "cfarm_output cfarm_texts cfarm_exec cfarm_settle_nodes cfarm_settle cfarm_commands cfarm_schedules_lines "
+     "cfarm_output cfarm_settle_nodes cfarm_commands cfarm_schedules_lines "
      "cfarm_schedules cfarm_program cfarm"),
     ("Tests",
      "program_rows paxos_reference worked_commands worked_agreement worked_texts worked_forms worked_offers "

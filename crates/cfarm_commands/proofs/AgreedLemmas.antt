@@ -4,7 +4,7 @@ use Rattle.std.proofs.Common.{ap, ◌∙◌}
 use Rattle.hex.specs.Hex.{encode_lower}
 use Rattle.ltl.specs.Function.{FunctionData}
 use Rattle.ltl.specs.Spelling.{spelling}
-use Rattle.cfarm_settle.specs.LaidOut.{IsAgreedOn}
+use Rattle.cfarm_commands.specs.LaidOut.{IsAgreedOn}
 use Rattle.cfarm_commands.specs.Settled.{IsSettled, ending}
 
 -- the bytes are read, and what is printed is the hex of what is agreed on

@@ -1,2 +1,3 @@
-mod ReadingLemmas
-mod AgreedLemmas
+pub mod AgreedLemmas
+pub mod ReadingLemmas
+pub mod Sent

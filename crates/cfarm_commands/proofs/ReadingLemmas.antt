@@ -9,7 +9,7 @@ use Rattle.ltl.specs.Forms.{function_form}
 use Rattle.ltl.specs.Function.{FunctionData, IsFunction}
 use Rattle.ltl.specs.Spelling.{spelling}
 use Rattle.cfarm_commands.specs.Settled.{IsBehindTold, IsNoFunction, IsRefused}
-use Rattle.cfarm_commands.specs.Statuses.{refusal_of}
+use Rattle.cfarm_commands.specs.SettleStatuses.{refusal_of}
 
 pub no_longer_function : (f g : FunctionData) (bytes : List ℕ) (n : ℕ) → IsFunction f → IsFunction g → n < length bytes → take n bytes ≡ spelling f → bytes ≡ spelling g → ⊥
 no_longer_function f g bytes n fits also below front whole =

@@ -7,9 +7,9 @@ use Rattle.lang_base.specs.declared.errors.FormError.TheVariants as form
 use Rattle.ltl.specs.Function as ltl
 use Rattle.ltl.specs.Spelling as ltl_spelling
 use Rattle.cfarm_output.specs.Begun.{IsBegun}
-use Rattle.cfarm_settle.specs.LaidOut.{IsAgreedOn}
-use Rattle.cfarm_commands.specs.declared.error.SettleError.{SettleError}
-use Rattle.cfarm_commands.specs.declared.error.SettleError.TheVariants.{NoMemory, Form, Undecided, Write}
+use Rattle.cfarm_commands.specs.LaidOut.{IsAgreedOn}
+use Rattle.cfarm_commands.specs.declared.settle_error.SettleError.{SettleError}
+use Rattle.cfarm_commands.specs.declared.settle_error.SettleError.TheVariants.{NoMemory, Form, Undecided, Write}
 
 -- an end of line, "agreed 3", and an end of line
 abbrev pub ending : List ℕ

@@ -5,9 +5,9 @@ ghost use Rattle.ltl.specs.Spelling as ltl_spelling;
 ghost use Rattle.hex.specs.Hex.{encode_lower};
 ghost use Rattle.cfarm_commands.specs.Settled.{HasSettled, IsBehindTold, IsNoFunction, IsRefused, ending};
 
-use crate::error::SettleError;
+use crate::agreeing::agree;
+use crate::settle_error::SettleError;
 use cfarm_output::print_whole;
-use cfarm_settle::agree;
 use lang_base::{FormError, Language, NoMemory};
 use ltl::{Function, Ltl};
 use std::alloc::Global;

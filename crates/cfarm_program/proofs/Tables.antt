@@ -6,18 +6,18 @@ use Rattle.lang_base.specs.declared.shown.Shown.{Shown}
 use Rattle.lang_base.specs.declared.shown.Shown.TheVariants as S
 use Rattle.lang_parts.specs.declared.error.RunError.TheVariants as R
 use Rattle.c_texts.specs.Refusals.{number_of}
-use Rattle.cfarm_texts.specs.Statuses.{status_of_error, status_of_shown}
-use Rattle.cfarm_texts.specs.declared.error.CommandError.{CommandError}
-use Rattle.cfarm_texts.specs.declared.error.CommandError.TheVariants as C
-use Rattle.cfarm_exec.specs.Statuses as exec
-use Rattle.cfarm_exec.specs.declared.error.ExecError.{ExecError}
-use Rattle.cfarm_exec.specs.declared.error.ExecError.TheVariants as X
-use Rattle.cfarm_commands.specs.Statuses as settle
+use Rattle.cfarm_commands.specs.TextStatuses.{status_of_error, status_of_shown}
+use Rattle.cfarm_commands.specs.declared.command_error.CommandError.{CommandError}
+use Rattle.cfarm_commands.specs.declared.command_error.CommandError.TheVariants as C
+use Rattle.cfarm_commands.specs.ExecStatuses as exec
+use Rattle.cfarm_commands.specs.declared.exec_error.ExecError.{ExecError}
+use Rattle.cfarm_commands.specs.declared.exec_error.ExecError.TheVariants as X
+use Rattle.cfarm_commands.specs.SettleStatuses as settle
 use Rattle.cfarm_schedules.specs.Lines as schedule
 use Rattle.cfarm_schedules.specs.declared.error.ScheduleError.{ScheduleError}
 use Rattle.cfarm_schedules.specs.declared.error.ScheduleError.TheVariants as P
-use Rattle.cfarm_commands.specs.declared.error.SettleError.{SettleError}
-use Rattle.cfarm_commands.specs.declared.error.SettleError.TheVariants as T
+use Rattle.cfarm_commands.specs.declared.settle_error.SettleError.{SettleError}
+use Rattle.cfarm_commands.specs.declared.settle_error.SettleError.TheVariants as T
 
 either : (b : Bool) → (if b then 7 else 1) ≤ 7
 either true = omega arith

@@ -1,20 +1,20 @@
 -- What each command comes to, on the bytes of its file: what it wrote, and what it answers.
 use Rattle.std.specs.Prelude.{◌≡◌, ◌⊎◌, ℕ, List, Option}
 use Rattle.lang_base.specs.declared.shown.Shown.{Shown}
-use Rattle.cfarm_texts.specs.declared.error.CommandError.{CommandError}
-use Rattle.cfarm_texts.specs.Closings.{closing_line}
-use Rattle.cfarm_texts.specs.Lines.{error_line}
-use Rattle.cfarm_texts.specs.Statuses.{status_of_error, status_of_shown}
-use Rattle.cfarm_texts.specs.Told as text
-use Rattle.cfarm_exec.specs.declared.error.ExecError.{ExecError}
-use Rattle.cfarm_commands.specs.declared.error.SettleError.{SettleError}
-use Rattle.cfarm_exec.specs.Statuses as exec_status
-use Rattle.cfarm_exec.specs.Told as exec
-use Rattle.cfarm_exec.specs.Lines.{exec_line}
-use Rattle.cfarm_commands.specs.Lines.{settle_line}
+use Rattle.cfarm_commands.specs.declared.command_error.CommandError.{CommandError}
+use Rattle.cfarm_commands.specs.Closings.{closing_line}
+use Rattle.cfarm_commands.specs.TextLines.{error_line}
+use Rattle.cfarm_commands.specs.TextStatuses.{status_of_error, status_of_shown}
+use Rattle.cfarm_commands.specs.TextTold as text
+use Rattle.cfarm_commands.specs.declared.exec_error.ExecError.{ExecError}
+use Rattle.cfarm_commands.specs.declared.settle_error.SettleError.{SettleError}
+use Rattle.cfarm_commands.specs.ExecStatuses as exec_status
+use Rattle.cfarm_commands.specs.ExecTold as exec
+use Rattle.cfarm_commands.specs.ExecLines.{exec_line}
+use Rattle.cfarm_commands.specs.SettleLines.{settle_line}
 use Rattle.cfarm_commands.specs.Settled.{HasSettled}
 use Rattle.cfarm_commands.specs.Settled as settled
-use Rattle.cfarm_commands.specs.Statuses as settle_status
+use Rattle.cfarm_commands.specs.SettleStatuses as settle_status
 use Rattle.cfarm_schedules.specs.declared.error.ScheduleError.{ScheduleError}
 use Rattle.cfarm_schedules.specs.Lines as schedule
 use Rattle.cfarm_schedules.specs.Plays.{IsShown, IsStopped}

@@ -7,10 +7,8 @@ ghost use Rattle.cfarm_program.specs.Performed.{Performs};
 
 use crate::task::Task;
 use crate::telling::tell;
-use cfarm_commands::settle;
-use cfarm_exec::exec;
+use cfarm_commands::{Closing, check_text, exec, interpret, settle, status_of};
 use cfarm_schedules::simulate;
-use cfarm_texts::{Closing, check_text, interpret, status_of};
 use std::alloc::Global;
 use std::io::Write;
 use std::thread::Threads;

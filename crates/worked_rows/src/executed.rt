@@ -1,8 +1,7 @@
 //! What `exec` tells of the bytes of a linked program.
 
 use crate::told::Told;
-use cfarm_exec::exec;
-use cfarm_texts::{Closing, status_of};
+use cfarm_commands::{Closing, exec, status_of};
 use std::alloc::{AllocError, Global};
 
 /// What `exec` wrote, its closing line and its status.

@@ -22,7 +22,7 @@ use crate::linked::linked;
 use crate::told::{Told, told_of};
 use crate::translated::translated;
 use c_checker_rules::CProgram;
-use cfarm_texts::accept;
+use cfarm_commands::accept;
 use chains::Maker;
 use program_rows::{Form, Row, row_of};
 use rand_pcg::Pcg32;

@@ -1,6 +1,6 @@
 //! What the commands tell of a text.
 
-use cfarm_texts::{Closing, check_text, interpret};
+use cfarm_commands::{Closing, check_text, interpret};
 use std::alloc::{AllocError, Global};
 
 /// What a command wrote, and its last line.

@@ -1,7 +1,7 @@
 //! What texts are lowered and translated to.
 
 use c_checker_rules::CProgram;
-use cfarm_texts::accept;
+use c_texts::accept;
 use cminor::lower;
 use cminor_language::Cminor;
 use cminor_program_ranges::lowered_program_fits;

@@ -1,7 +1,7 @@
 use Rattle.std.specs.Prelude.{IfSome}
 use Rattle.std.proofs.Common.{refl, subst}
 use Rattle.std.proofs.lemmas.Result.{err_from_is_err_and}
-use Rattle.cfarm_settle.specs.LaidOut.{IsAgreedOn}
+use Rattle.cfarm_commands.specs.LaidOut.{IsAgreedOn}
 use Rattle.cfarm_commands.proofs.AgreedLemmas.{settled_of}
 use Rattle.cfarm_commands.proofs.ReadingLemmas.{refused_of}
 use Rattle.cfarm_commands.proofs.settling.settle.Goals as goal

@@ -1,5 +1,5 @@
 use Rattle.std.proofs.Common.{refl, inl, inr}
-use Rattle.cfarm_texts.specs.Lines.{error_line}
+use Rattle.cfarm_commands.specs.TextLines.{error_line}
 use Rattle.cfarm_program.specs.Outcomes.{text_fault}
 use Rattle.cfarm_program.specs.Telling.{quiet}
 use Rattle.cfarm_program.proofs.Answering.{told_by}

@@ -1,5 +1,5 @@
 use Rattle.std.proofs.Common.{refl, inl, inr}
-use Rattle.cfarm_commands.specs.Lines.{settle_line}
+use Rattle.cfarm_commands.specs.SettleLines.{settle_line}
 use Rattle.cfarm_program.specs.Outcomes.{settle_fault}
 use Rattle.cfarm_program.specs.Telling.{quiet}
 use Rattle.cfarm_program.proofs.Answering.{told_by}

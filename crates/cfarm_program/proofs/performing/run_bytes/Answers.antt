@@ -1,6 +1,6 @@
 use Rattle.std.proofs.Common.{refl, inl, inr}
-use Rattle.cfarm_texts.specs.Closings.{closing_line}
-use Rattle.cfarm_exec.specs.Lines.{exec_line}
+use Rattle.cfarm_commands.specs.Closings.{closing_line}
+use Rattle.cfarm_commands.specs.ExecLines.{exec_line}
 use Rattle.cfarm_program.specs.Outcomes.{closed, exec_fault}
 use Rattle.cfarm_program.proofs.Answering.{told_by}
 use Rattle.cfarm_program.proofs.performing.run_bytes.Goals as goal

@@ -1,6 +1,6 @@
 use Rattle.std.proofs.Common.{refl, inl, inr}
-use Rattle.cfarm_texts.specs.Closings.{closing_line}
-use Rattle.cfarm_texts.specs.Lines.{error_line}
+use Rattle.cfarm_commands.specs.Closings.{closing_line}
+use Rattle.cfarm_commands.specs.TextLines.{error_line}
 use Rattle.cfarm_program.specs.Outcomes.{closed, text_fault}
 use Rattle.cfarm_program.proofs.Answering.{told_by}
 use Rattle.cfarm_program.proofs.performing.run_text.Goals as goal

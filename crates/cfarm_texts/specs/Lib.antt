@@ -1,9 +1,0 @@
-pub mod Statuses
-pub mod Counts
-pub mod Closings
-pub mod Lines
-pub mod Told
-pub use Rattle.c_checker_rules.specs.Units
-pub use Rattle.c_program.specs.Trees
-pub use Rattle.lang_parts.specs.Written
-pub use Rattle.c_program.specs.Meaning
