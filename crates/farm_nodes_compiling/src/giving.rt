@@ -1,23 +1,54 @@
 ghost use Rattle.std.specs.Prelude.{◌≡◌, length, IfOk};
 
-use farm_nodes_passes::Passes;
-use lang_base::NoMemory;
+use farm_nodes_passes::Oracles;
+use lang_base::{NoMemory, Oracle};
+use linearize_check::Order;
 use oracle_alloc::AllocOracle;
 use oracle_const::ConstOracle;
 use oracle_cse::CseOracle;
 use oracle_order::OrderOracle;
+use rand_pcg::Pcg32;
 use std::alloc::Global;
 
-/// A node's optimisers, one for each pass of the compiler, in the order of the passes.
-pub type Optimisers = Passes<ConstOracle, CseOracle, AllocOracle, OrderOracle>;
+/// A node's optimisers, one for each pass of the compiler. They hold nothing: what they choose is drawn from the node's words.
+#[derive(Clone, Copy, Debug, PartialEq, Eq)]
+pub struct Optimisers;
 
-/// The optimisers of a node. They hold nothing: what they choose is drawn from the node's words.
-pub fn optimisers() -> Optimisers {
-    Passes {
-        first: ConstOracle,
-        second: CseOracle,
-        third: AllocOracle,
-        fourth: OrderOracle,
+impl Oracles for Optimisers {
+    fn propose_constants(
+        &mut self,
+        alloc: Global,
+        input: &rtl_language::Function,
+        words: &mut Pcg32,
+    ) -> Result<Option<(rtl_language::Function, constprop_check::FactLists)>, NoMemory> {
+        ConstOracle.propose(alloc, input, words)
+    }
+
+    fn propose_expressions(
+        &mut self,
+        alloc: Global,
+        input: &rtl_language::Function,
+        words: &mut Pcg32,
+    ) -> Result<Option<(rtl_language::Function, cse_check::EquationLists)>, NoMemory> {
+        CseOracle.propose(alloc, input, words)
+    }
+
+    fn propose_allocation(
+        &mut self,
+        alloc: Global,
+        input: &rtl_language::Function,
+        words: &mut Pcg32,
+    ) -> Result<Option<(ltl::Function, alloc_check::EquationLists)>, NoMemory> {
+        AllocOracle.propose(alloc, input, words)
+    }
+
+    fn propose_order(
+        &mut self,
+        alloc: Global,
+        input: &ltl::Function,
+        words: &mut Pcg32,
+    ) -> Result<Option<(linear_language::Function, Order)>, NoMemory> {
+        OrderOracle.propose(alloc, input, words)
     }
 }
 
@@ -27,7 +58,7 @@ pub fn optimisers_of(alloc: Global, nodes: usize) -> Result<Vec<Optimisers>, NoM
 {
     let mut made = Vec::new(alloc);
     for _node in 0..nodes {
-        match made.push(optimisers()) {
+        match made.push(Optimisers) {
             Ok(()) => {}
             Err(_) => return Err(NoMemory),
         }

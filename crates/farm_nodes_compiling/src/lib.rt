@@ -5,5 +5,5 @@
 mod giving;
 mod law;
 
-pub use giving::{Optimisers, optimisers, optimisers_of};
+pub use giving::{Optimisers, optimisers_of};
 pub use law::stays_small;

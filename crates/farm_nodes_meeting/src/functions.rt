@@ -1,5 +1,5 @@
 ghost use Rattle.std.specs.Prelude.{◌↔◌, IsTrue};
-ghost use Rattle.farm_nodes_meeting.specs.Held.{held, numbered};
+ghost use Rattle.farm_nodes_meeting.specs.Held.{held_of, numbered};
 ghost use Rattle.farm_nodes_meeting.specs.Functions.{HasMet};
 ghost use Rattle.farm_nodes_meeting.specs.Rooms.{LinkIn, MetIn};
 
@@ -10,19 +10,8 @@ use rooms_hall::Naming;
 use rooms_numbered::NumberedSeat;
 
 /// The seats of two nodes in the four rooms of one function meet, room by room. Answers whether both link the function.
-pub fn meet_in_function<P1: Pass, P2: Pass, P3: Pass, P4: Pass, H: Naming>(
-    first: &mut Seats<P1, P2, P3, P4, H>,
-    second: &mut Seats<P1, P2, P3, P4, H>,
-) -> bool
-    ensures { HasMet
-        (held first.old.first.claim first.old.first.seat first.old.second.claim first.old.second.seat
-        first.old.third.claim first.old.third.seat first.old.fourth.claim first.old.fourth.seat)
-        (held second.old.first.claim second.old.first.seat second.old.second.claim second.old.second.seat
-        second.old.third.claim second.old.third.seat second.old.fourth.claim second.old.fourth.seat)
-        (held first.new.first.claim first.new.first.seat first.new.second.claim first.new.second.seat
-        first.new.third.claim first.new.third.seat first.new.fourth.claim first.new.fourth.seat)
-        (held second.new.first.claim second.new.first.seat second.new.second.claim second.new.second.seat
-        second.new.third.claim second.new.third.seat second.new.fourth.claim second.new.fourth.seat) result }
+pub fn meet_in_function<H: Naming>(first: &mut Seats<H>, second: &mut Seats<H>) -> bool
+    ensures { HasMet (held_of first.old) (held_of second.old) (held_of first.new) (held_of second.new) result }
 {
     let early = meet_in_two(
         &mut first.first,

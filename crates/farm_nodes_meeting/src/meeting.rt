@@ -1,21 +1,16 @@
 ghost use Rattle.std.specs.Prelude.{◌≡◌, ◌<◌, ◌≤◌, ◌+◌, cond, length};
-ghost use Rattle.farm_nodes_meeting.specs.Held.{held};
+ghost use Rattle.farm_nodes_meeting.specs.Held.{held_of};
 ghost use Rattle.farm_nodes_meeting.specs.Lists.{HaveMetAll};
 
 use crate::functions::meet_in_function;
 use farm_nodes_passes::Seats;
-use lang_base::Pass;
 use rooms_hall::Naming;
 
 /// Two nodes meet, in all rooms of all functions. Answers how many functions both link, with all four offers seen. Nodes
 /// with other numbers of functions are of two farms: they do not meet, and 0 is answered.
-pub fn meet_all<P1: Pass, P2: Pass, P3: Pass, P4: Pass, H: Naming>(
-    first: &mut [Seats<P1, P2, P3, P4, H>],
-    second: &mut [Seats<P1, P2, P3, P4, H>],
-) -> u16
+pub fn meet_all<H: Naming>(first: &mut [Seats<H>], second: &mut [Seats<H>]) -> u16
     requires { length first.old ≤ 65535 }
-    ensures { HaveMetAll first.old second.old first.new second.new result (λ s. held s.first.claim s.first.seat
-        s.second.claim s.second.seat s.third.claim s.third.seat s.fourth.claim s.fourth.seat) }
+    ensures { HaveMetAll first.old second.old first.new second.new result held_of }
 {
     if first.len() != second.len() {
         return 0;

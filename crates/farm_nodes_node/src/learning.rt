@@ -2,14 +2,10 @@ ghost use Rattle.std.specs.Prelude.{◌≡◌};
 ghost use Rattle.farm_nodes_passes.specs.Fours.{four_of, words_of};
 
 use farm_nodes_passes::{Seats, Which};
-use lang_base::Pass;
 use rooms_hall::Naming;
 
 /// The value that the node has learned in the room of one pass of the function.
-pub(crate) fn learned_in<P1: Pass, P2: Pass, P3: Pass, P4: Pass, H: Naming>(
-    seats: &Seats<P1, P2, P3, P4, H>,
-    pass: Which,
-) -> Option<u8>
+pub(crate) fn learned_in<H: Naming>(seats: &Seats<H>, pass: Which) -> Option<u8>
     ensures { result ≡ (words_of (four_of seats.now) pass).node.learned }
 {
     match pass {

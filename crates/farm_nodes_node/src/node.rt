@@ -7,52 +7,42 @@ use crate::turn::Turn;
 use acceptor_log::{Log, LogError};
 use durable_model::Disk;
 use farm_nodes_offers::Fault;
-use farm_nodes_passes::{Passes, Seats, Which};
+use farm_nodes_passes::{Oracles, Seats, Which};
 use farm_nodes_turn::{function_in, turn_in};
-use lang_base::{Language, Oracle, Pass, Program};
+use lang_base::Program;
 use rand_pcg::Pcg32;
 use rooms_hall::Naming;
+use rtl_language::Function;
 use std::alloc::Global;
 use std::sync::Arc;
 
 /// A node of a farm. Its seats stand in the order of the program's functions.
 #[derive(Drop)]
-pub struct FarmNode<D, P1: Pass, P2: Pass, P3: Pass, P4: Pass, O1, O2, O3, O4, H: Naming> {
+pub struct FarmNode<D, O, H: Naming> {
     pub alloc: Global,
     pub log: Log<D>,
-    pub seats: Vec<Seats<P1, P2, P3, P4, H>>,
+    pub seats: Vec<Seats<H>>,
     /// The program with which the first pass begins, shared by the nodes of a farm.
-    pub program: Arc<Program<<P1::In as Language>::Fun>>,
-    pub oracles: Passes<O1, O2, O3, O4>,
+    pub program: Arc<Program<Function>>,
+    pub oracles: O,
     pub words: Pcg32,
     /// What stopped it, if it is stopped.
     pub halted: Option<Halted>,
     pub ghost covers: { length seats.items ≡ length (arc_value program).functions },
 }
 
-impl<
-    D: Disk,
-    P1: Pass,
-    P2: Pass<In = P1::Out>,
-    P3: Pass<In = P2::Out>,
-    P4: Pass<In = P3::Out>,
-    O1: Oracle<P = P1>,
-    O2: Oracle<P = P2>,
-    O3: Oracle<P = P3>,
-    O4: Oracle<P = P4>,
-    H: Naming,
-> FarmNode<D, P1, P2, P3, P4, O1, O2, O3, O4, H> {
-    ghost use Rattle.std.specs.Prelude.{◌≢◌, ◌<◌, ◌/◌, true, None, Some, slice_get, IfSome, option_copied};
+impl<D: Disk, O: Oracles, H: Naming> FarmNode<D, O, H> {
+    ghost use Rattle.std.specs.Prelude.{◌≢◌, ◌<◌, ◌/◌, true, None, slice_get};
     ghost use Rattle.rand_pcg.specs.Pcg.{pcg32};
     ghost use Rattle.farm_nodes_acting.specs.Served.{IsServed};
     ghost use Rattle.farm_nodes_passes.specs.Numbers.{function_of, pass_of};
-    ghost use Rattle.farm_nodes_passes.specs.Fours.{four_of, fours_of, words_of};
-    ghost use Rattle.farm_nodes_turn.specs.Turned.{IsTooLargeIn, Leaves, StandsAfter};
+    ghost use Rattle.farm_nodes_passes.specs.Fours.{four_of, fours_of};
+    ghost use Rattle.farm_nodes_turn.specs.Turned.{IsTooLargeFor, Leaves, StandsAfter};
     ghost use Rattle.farm_nodes_node.specs.Told.{failure_of};
     ghost use Rattle.farm_nodes_node.specs.Held.{fault_in, pending_in, IsSoundNode};
     ghost use Rattle.farm_nodes_node.specs.Waiting.{IsWaiting};
     ghost use Rattle.farm_nodes_turn.specs.Turns.{AtPlace, OfFunction};
-    ghost use Rattle.farm_nodes_node.specs.Stood.{At, IsTold, Stops, TurnsInto};
+    ghost use Rattle.farm_nodes_node.specs.Stood.{IsTold, Stops, TurnsInto};
 
     /// One turn in a room of the program. Once it has failed the node is stopped: until it is restarted it answers 405, and takes
     /// no step and stores nothing.
@@ -92,7 +82,7 @@ impl<
             (fours_of self.new.seats.items) self.new.halted }
         ensures cause { self.old.halted ≡ None → OfFunction (arc_value self.old.program).functions (function_of room)
             (λ function. AtPlace four_of (Stops D.is_honest D.faults
-            (IsTooLargeIn P1.too_large P2.too_large P3.too_large P4.too_large function (pass_of room))
+            (IsTooLargeFor function (pass_of room))
             self.old.log self.new.log (pending_in (fours_of self.new.seats.items) self.new.halted)
             (failure_of result)) (function_of room) self.old.seats.items self.new.seats.items) }
     {
@@ -116,6 +106,14 @@ impl<
             }
         }
     }
+}
+
+impl<D: Disk, O, H: Naming> FarmNode<D, O, H> {
+    ghost use Rattle.std.specs.Prelude.{◌<◌, option_copied};
+    ghost use Rattle.farm_nodes_passes.specs.Numbers.{function_of, pass_of};
+    ghost use Rattle.farm_nodes_passes.specs.Fours.{four_of, words_of};
+    ghost use Rattle.farm_nodes_node.specs.Held.{fault_in};
+    ghost use Rattle.farm_nodes_node.specs.Stood.{At};
 
     /// The value that the node has learned in a room of the program since its last restart.
     pub fn learned(&self, room: u16) -> Option<u8>

@@ -2,20 +2,19 @@ ghost use Rattle.std.specs.Prelude.{◌≡◌, ◌≢◌, ◌≤◌, ◌⊎◌, 
 ghost use Rattle.farm_nodes_passes.specs.Fours.{fours_of};
 ghost use Rattle.farm_nodes_node.specs.Held.{IsSoundNode};
 ghost use Rattle.farm_nodes_node.specs.Waiting.{IsWaiting};
-ghost use Rattle.farm_nodes_meeting.specs.Held.{held};
+ghost use Rattle.farm_nodes_meeting.specs.Held.{held_of};
 ghost use Rattle.farm_nodes_meeting.specs.Lists.{HaveMetAll};
 
 use durable_model::Disk;
 use farm_nodes_meeting::meet_all;
 use farm_nodes_node::FarmNode;
-use lang_base::Pass;
 use rooms_hall::Naming;
 
 /// Two nodes meet, in all rooms of all functions. Answers how many functions both link, with all four offers seen: 0 for nodes of
 /// two farms, and where one of the two is stopped, since then no word is loaded.
-pub fn meet<D: Disk, P1: Pass, P2: Pass, P3: Pass, P4: Pass, O1, O2, O3, O4, H: Naming>(
-    first: &mut FarmNode<D, P1, P2, P3, P4, O1, O2, O3, O4, H>,
-    second: &mut FarmNode<D, P1, P2, P3, P4, O1, O2, O3, O4, H>,
+pub fn meet<D: Disk, O, H: Naming>(
+    first: &mut FarmNode<D, O, H>,
+    second: &mut FarmNode<D, O, H>,
 ) -> u16
     requires { length first.old.seats.items ≤ 65535 }
 
@@ -24,8 +23,7 @@ pub fn meet<D: Disk, P1: Pass, P2: Pass, P3: Pass, P4: Pass, O1, O2, O3, O4, H: 
         (result ≡ 0) × (first.new ≡ first.old) × (second.new ≡ second.old) }
     ensures met { first.old.halted ≡ None → second.old.halted ≡ None → HaveMetAll
         first.old.seats.items second.old.seats.items first.new.seats.items second.new.seats.items result
-        (λ s. held s.first.claim s.first.seat s.second.claim s.second.seat
-        s.third.claim s.third.seat s.fourth.claim s.fourth.seat) }
+        held_of }
 
     // Of a node nothing but its seats changes, and those stand for what its journal holds as they did.
     ensures first_stays { (first.new.log ≡ first.old.log) × (first.new.program ≡ first.old.program)

@@ -1,4 +1,5 @@
 pub mod Numbers
+pub mod Offers
 pub mod Fours
 pub mod Leaves
 pub mod Pending

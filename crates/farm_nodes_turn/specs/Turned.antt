@@ -1,12 +1,18 @@
 -- A turn in the room of one of the four passes of a function.
 use Rattle.std.specs.Prelude.{◌≡◌, ◌%◌, ◌<◌, ℕ, false, true, Some, None}
 use Rattle.offers.specs.declared.parts.Parts.{Parts}
+use Rattle.rtl_language.specs.Function.{FunctionData}
+use Rattle.constprop_check.specs.contracts.pass.ConstPropPass.TheImpl as constants
+use Rattle.cse_check.specs.contracts.pass.CsePass.TheImpl as expressions
+use Rattle.alloc_check.specs.contracts.pass.AllocPass.TheImpl as allocation
+use Rattle.linearize_check.specs.contracts.pass.LinearizePass.TheImpl as order
 use Rattle.rooms_state.specs.declared.act.Act.TheVariants as asked
 use Rattle.rooms_state.specs.Would.{would}
 use Rattle.rooms.specs.SeatValue.{SeatValue, offer_of}
 use Rattle.farm_nodes_acting.specs.Quiet.{IsQuiet}
 use Rattle.farm_nodes_leading.specs.Leading.{HasLed}
 use Rattle.farm_nodes_playing.specs.Played.{IsLearnedOutput, IsMadeOn, Stays}
+use Rattle.farm_nodes_passes.specs.Offers.{Constants, Expressions, Allocation, Order}
 use Rattle.farm_nodes_passes.specs.declared.which.Which.{Which}
 use Rattle.farm_nodes_passes.specs.declared.which.Which.TheVariants.{First, Second, Third, Fourth}
 use Rattle.farm_nodes_passes.specs.Fours.{Four, words_of}
@@ -45,6 +51,12 @@ module _ {A1 A2 A3 A4 A5 C1 C2 C3 C4 : Type 0} where
   IsTooLargeIn first second third fourth function Second seats = IsTooLargeFrom second seats.first
   IsTooLargeIn first second third fourth function Third seats = IsTooLargeFrom third seats.second
   IsTooLargeIn first second third fourth function Fourth seats = IsTooLargeFrom fourth seats.third
+
+-- the same of the passes as they are
+abbrev pub IsTooLargeFor : FunctionData → Which → Four Constants Expressions Allocation Order → Type 0
+IsTooLargeFor function pass seats =
+    IsTooLargeIn (constants.ghosts).too_large (expressions.ghosts).too_large (allocation.ghosts).too_large (order.ghosts).too_large
+    function pass seats
 
 module _ {T1 T2 T3 T4 : Type 0} where
   -- the node knows the input of the pass

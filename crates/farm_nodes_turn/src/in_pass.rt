@@ -12,40 +12,30 @@ ghost use Rattle.farm_nodes_playing.specs.Played.{IsMadeOn, Played, Stays};
 ghost use Rattle.farm_nodes_passes.specs.Fours.{four_of, words_of};
 ghost use Rattle.farm_nodes_passes.specs.Pending.{HasPending};
 ghost use Rattle.farm_nodes_turn.specs.Turned.{HasInput, HasLearned, IsMadeFrom, IsMadeIn, IsTooLargeFrom};
-ghost use Rattle.farm_nodes_turn.specs.Turned.{IsTooLargeIn, OthersStay, StaysIn};
+ghost use Rattle.farm_nodes_turn.specs.Turned.{IsTooLargeFor, OthersStay, StaysIn};
 
 use acceptor_log::Log;
 use durable_model::Disk;
 use farm_nodes_offers::Halt;
-use farm_nodes_passes::{Passes, Seats, Which};
+use farm_nodes_passes::{AllocationOf, ConstantsOf, ExpressionsOf, Oracles, OrderOf, Seats, Which};
 use farm_nodes_playing::{Progress, learned_output, play};
 use lang_base::{Language, Oracle, Pass};
 use rand_pcg::Pcg32;
 use rooms_hall::Naming;
 use rooms_numbered::NumberedSeat;
+use rtl_language::Function;
 use std::alloc::Global;
 
 /// One turn in the room of one pass of the function. The input of the first pass is the function, that of each other one the
 /// output that the node has learned in the pass before it.
-pub fn play_in<
-    D: Disk,
-    P1: Pass,
-    P2: Pass<In = P1::Out>,
-    P3: Pass<In = P2::Out>,
-    P4: Pass<In = P3::Out>,
-    O1: Oracle<P = P1>,
-    O2: Oracle<P = P2>,
-    O3: Oracle<P = P3>,
-    O4: Oracle<P = P4>,
-    H: Naming,
->(
+pub fn play_in<D: Disk, O: Oracles, H: Naming>(
     alloc: Global,
     log: &mut Log<D>,
-    seats: &mut Seats<P1, P2, P3, P4, H>,
+    seats: &mut Seats<H>,
     pass: Which,
     room: u16,
-    function: &<P1::In as Language>::Fun,
-    oracles: &mut Passes<O1, O2, O3, O4>,
+    function: &Function,
+    oracles: &mut O,
     words: &mut Pcg32,
 ) -> Result<Progress, Halt>
     requires { IsSound D.is_honest D.seen D.may_leave log.old }
@@ -74,7 +64,7 @@ pub fn play_in<
         D.is_honest D.seen D.may_leave D.moment D.left_since log.old log.new room
         (words_of (four_of seats.old) pass) (words_of (four_of seats.new) pass) result }
     ensures cause { log.old.going ≡ true → IfErr result (λ halt. HasHaltCause D.is_honest D.faults
-        (IsTooLargeIn P1.too_large P2.too_large P3.too_large P4.too_large function.now pass (four_of seats.old))
+        (IsTooLargeFor function.now pass (four_of seats.old))
         log.old log.new (left_over room (words_of (four_of seats.new) pass) halt.pending) halt.fault) }
 {
     match pass {
@@ -84,7 +74,7 @@ pub fn play_in<
             &mut seats.first,
             room,
             function,
-            &mut oracles.first,
+            &mut ConstantsOf(oracles),
             words,
         ),
         Which::Second => play_behind(
@@ -93,7 +83,7 @@ pub fn play_in<
             &seats.first,
             &mut seats.second,
             room,
-            &mut oracles.second,
+            &mut ExpressionsOf(oracles),
             words,
         ),
         Which::Third => play_behind(
@@ -102,7 +92,7 @@ pub fn play_in<
             &seats.second,
             &mut seats.third,
             room,
-            &mut oracles.third,
+            &mut AllocationOf(oracles),
             words,
         ),
         Which::Fourth => play_behind(
@@ -111,7 +101,7 @@ pub fn play_in<
             &seats.third,
             &mut seats.fourth,
             room,
-            &mut oracles.fourth,
+            &mut OrderOf(oracles),
             words,
         ),
     }

@@ -1,4 +1,4 @@
-use Rattle.farm_nodes_meeting.specs.Held.{held}
+use Rattle.farm_nodes_meeting.specs.Held.{held_of}
 use Rattle.farm_nodes_meeting.proofs.Places.{MetBefore, Met, Links}
 use Rattle.farm_nodes_meeting.proofs.meeting.meet_all.Given as goal
 
@@ -6,6 +6,6 @@ use Rattle.farm_nodes_meeting.proofs.meeting.meet_all.Given as goal
 abbrev pub invariant-loop-function : goal.invariant-loop-function
 invariant-loop-function g l =
     MetBefore
-    (Met (λ s. held s.first.claim s.first.seat s.second.claim s.second.seat s.third.claim s.third.seat s.fourth.claim s.fourth.seat))
-    (Links (λ s. held s.first.claim s.first.seat s.second.claim s.second.seat s.third.claim s.third.seat s.fourth.claim s.fourth.seat))
+    (Met held_of)
+    (Links held_of)
     l.initial.first l.initial.second l.first l.second l.function l.count

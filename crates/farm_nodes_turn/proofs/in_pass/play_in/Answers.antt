@@ -1,6 +1,8 @@
+use denote.Param.Send.{sendable}
 use Rattle.std.proofs.Common.{◌≡◌, true, ap}
 use Rattle.rooms_hall.specs.Claimed.{Claimed}
 use Rattle.farm_nodes_passes.specs.Fours.{four_of}
+use Rattle.farm_nodes_passes.proofs.Sent.{function_send, function_sync}
 use Rattle.farm_nodes_turn.proofs.Claims.{numbered}
 use Rattle.farm_nodes_turn.proofs.Inputs.{on_ok}
 use Rattle.farm_nodes_turn.proofs.in_pass.play_in.Goals as goal
@@ -164,3 +166,15 @@ returns-in-First-clause-offered g c =
     (on_ok c.play_first.result (c.play_first.new.numbered.seat.words.node.kept.offered ≡ true)
     (Unit {0} → c.play_first.new.numbered.seat.words.node.kept.offered ≡ true)
     (λ offered known. offered) c.play_first.ensures.offered)
+
+pub play_behind-requires-in-Third-send-P-Out-Fun : goal.play_behind-requires-in-Third-send-P-Out-Fun
+play_behind-requires-in-Third-send-P-Out-Fun g c κs within = search (function_send, sendable) depth 40
+
+pub play_behind-requires-in-Third-sync-P-Out-Fun : goal.play_behind-requires-in-Third-sync-P-Out-Fun
+play_behind-requires-in-Third-sync-P-Out-Fun g c κs within = search (function_sync, sendable) depth 40
+
+pub play_behind-requires-in-Fourth-send-B-Out-Fun : goal.play_behind-requires-in-Fourth-send-B-Out-Fun
+play_behind-requires-in-Fourth-send-B-Out-Fun g c κs within = search (function_send, sendable) depth 40
+
+pub play_behind-requires-in-Fourth-sync-B-Out-Fun : goal.play_behind-requires-in-Fourth-sync-B-Out-Fun
+play_behind-requires-in-Fourth-sync-B-Out-Fun g c κs within = search (function_sync, sendable) depth 40

@@ -11,7 +11,7 @@ use Rattle.farm_nodes_passes.specs.Numbers.{function_of, pass_of}
 use Rattle.farm_nodes_passes.specs.Pending.{HasPending, HavePending}
 use Rattle.farm_nodes_playing.specs.Played.{Played}
 use Rattle.farm_nodes_passes.specs.Fours.{four_of, words_of}
-use Rattle.farm_nodes_turn.specs.Turned.{HasInput, IsTooLargeIn, Leaves, StandsAfter}
+use Rattle.farm_nodes_turn.specs.Turned.{HasInput, IsTooLargeFor, Leaves, StandsAfter}
 use Rattle.farm_nodes_turn.specs.Turns.{AtPlace, HaltsIn, PlayedIn}
 use Rattle.farm_nodes_turn.proofs.Inputs.{if_err, on_ok4}
 use Rattle.farm_nodes_turn.proofs.Pending.{with_all}
@@ -68,15 +68,15 @@ returns-clause-cause g c going =
     let old = four_of c.in-Some.four.now in
     let new = four_of c.play_in.new.seats in
     let cause = λ (p : Which) (halt : Halt).
-    HasHaltCause disk.is_honest disk.faults (IsTooLargeIn g.P1.Pass.too_large g.P2.Pass.too_large g.P3.Pass.too_large g.P4.Pass.too_large c.args.function.now p old)
+    HasHaltCause disk.is_honest disk.faults (IsTooLargeFor c.args.function.now p old)
     c.args.log.now c.play_in.new.log (left_over c.args.room (words_of new p) halt.pending) halt.fault in
     if_err c.play_in.result (cause c.of_room.result)
     (λ (halt : Halt). AtPlace four_of
-    (HaltsIn disk.is_honest disk.faults (IsTooLargeIn g.P1.Pass.too_large g.P2.Pass.too_large g.P3.Pass.too_large g.P4.Pass.too_large c.args.function.now (pass_of c.args.room)) c.args.log.now c.play_in.new.log c.args.room halt)
+    (HaltsIn disk.is_honest disk.faults (IsTooLargeFor c.args.function.now (pass_of c.args.room)) c.args.log.now c.play_in.new.log c.args.room halt)
     (function_of c.args.room) c.args.seats.now.items (set c.args.seats.now.items c.from.result c.play_in.new.seats))
     (λ halt told.
     place_set four_of
-    (HaltsIn disk.is_honest disk.faults (IsTooLargeIn g.P1.Pass.too_large g.P2.Pass.too_large g.P3.Pass.too_large g.P4.Pass.too_large c.args.function.now (pass_of c.args.room)) c.args.log.now c.play_in.new.log c.args.room halt)
+    (HaltsIn disk.is_honest disk.faults (IsTooLargeFor c.args.function.now (pass_of c.args.room)) c.args.log.now c.play_in.new.log c.args.room halt)
     c.args.seats.now.items c.from.result (function_of c.args.room)
     c.in-Some.four.now c.play_in.new.seats c.from.ensures c.in-Some.ensures.value
     (subst (λ (p : Which). cause p halt) c.of_room.ensures told))

@@ -7,7 +7,7 @@ use Rattle.farm_nodes_passes.specs.Fours.{four_of, fours_of}
 use Rattle.farm_nodes_node.specs.Told.{failure_of}
 use Rattle.farm_nodes_offers.specs.declared.halt.Fault.{Fault}
 use Rattle.farm_nodes_offers.specs.Halted.{HasHaltCause}
-use Rattle.farm_nodes_turn.specs.Turned.{IsTooLargeIn}
+use Rattle.farm_nodes_turn.specs.Turned.{IsTooLargeFor}
 use Rattle.farm_nodes_node.specs.Held.{fault_in, pending_in, IsSoundNode}
 use Rattle.farm_nodes_node.specs.Stood.{TurnsInto}
 use Rattle.farm_nodes_node.specs.Waiting.{IsWaiting}
@@ -55,7 +55,7 @@ returns-in-Ok-clause-cause g c was named is x y p q =
     let disk = g.D.Disk in
     no_cause (failure_of c.of.result)
     (λ (fault : Fault). HasHaltCause disk.is_honest disk.faults
-    (IsTooLargeIn g.P1.Pass.too_large g.P2.Pass.too_large g.P3.Pass.too_large g.P4.Pass.too_large named.function (pass_of c.args.room) (four_of x))
+    (IsTooLargeFor named.function (pass_of c.args.room) (four_of x))
     c.args.self.now.log c.turn_in.new.log (pending_in (fours_of c.turn_in.new.seats.items) c.args.self.now.halted) fault)
     (ap failure_of c.of.ensures ∙ went_on c.in-Ok.progress)
 
@@ -110,7 +110,7 @@ returns-in-Err-clause-cause g c was named is x y p q =
     let none : c.args.self.now.halted ≡ None = none_of c.args.self.now.halted (sym c.is_some.ensures ∙ c.if-is_some.false) in
     let cause = c.in-Err.ensures.cause (c.requires.sound.going none) x y p q in
     stops_for disk.is_honest disk.faults four_of
-    (IsTooLargeIn g.P1.Pass.too_large g.P2.Pass.too_large g.P3.Pass.too_large g.P4.Pass.too_large named.function (pass_of c.args.room) (four_of x))
+    (IsTooLargeFor named.function (pass_of c.args.room) (four_of x))
     c.args.self.now.log c.turn_in.new.log c.args.room c.turn_in.new.seats.items c.in-Err.halt y q
     (rw (c.function_in.ensures named (rw c.deref.ensures is)) at cause)
 

@@ -1,0 +1,41 @@
+-- What the offers of the four passes are, and the texts of those that their passes accept.
+use Rattle.std.specs.Prelude.{ℕ, List}
+use Rattle.offers.specs.declared.parts.Parts.{Parts}
+use Rattle.rtl_language.specs.Function as rtl
+use Rattle.rtl_language.specs.contracts.language.RtlLanguage.TheImpl as rtl_language
+use Rattle.ltl.specs.Function as ltl
+use Rattle.ltl.specs.contracts.language.LtlLanguage.TheImpl as ltl_language
+use Rattle.linear_language.specs.Function as linear
+use Rattle.linear_language.specs.contracts.language.LinearLanguage.TheImpl as linear_language
+use Rattle.constprop_check_rules.specs.declared.fact.Fact.{Fact}
+use Rattle.constprop_check.specs.contracts.pass.ConstPropPass.TheImpl as constants
+use Rattle.cse_check_rules.specs.declared.equation.Equation as expressions_held
+use Rattle.cse_check.specs.contracts.pass.CsePass.TheImpl as expressions
+use Rattle.alloc_check_rules.specs.declared.equation.Equation as places_held
+use Rattle.alloc_check.specs.contracts.pass.AllocPass.TheImpl as allocation
+use Rattle.linearize_check.specs.contracts.pass.LinearizePass.TheImpl as order
+use Rattle.farm_nodes_offers.specs.Pending.{IsTextOf}
+
+abbrev pub Constants : Type 0
+Constants = Parts rtl.FunctionData rtl.FunctionData (List (List Fact))
+
+abbrev pub Expressions : Type 0
+Expressions = Parts rtl.FunctionData rtl.FunctionData (List (List expressions_held.Equation))
+
+abbrev pub Allocation : Type 0
+Allocation = Parts rtl.FunctionData ltl.FunctionData (List (List places_held.Equation))
+
+abbrev pub Order : Type 0
+Order = Parts ltl.FunctionData linear.FunctionData (List ℕ)
+
+abbrev pub IsConstants : List ℕ → Constants → Type 0
+IsConstants = IsTextOf rtl_language.ghosts rtl_language.ghosts constants.ghosts
+
+abbrev pub IsExpressions : List ℕ → Expressions → Type 0
+IsExpressions = IsTextOf rtl_language.ghosts rtl_language.ghosts expressions.ghosts
+
+abbrev pub IsAllocation : List ℕ → Allocation → Type 0
+IsAllocation = IsTextOf rtl_language.ghosts ltl_language.ghosts allocation.ghosts
+
+abbrev pub IsOrder : List ℕ → Order → Type 0
+IsOrder = IsTextOf ltl_language.ghosts linear_language.ghosts order.ghosts
