@@ -1,3 +1,4 @@
 pub mod CallLemmas
+pub mod LearnsLemmas
 pub mod QuorumLemmas
 pub mod ScheduleLemmas

@@ -1,10 +1,9 @@
 -- A node learns exactly once the votes noted of an accept quorum have had one ballot.
-use Rattle.std.proofs.Common.{◌≡◌, ℕ, ◌<◌, ◌≤◌, ◌⊎◌, Bool, true, false, cond, ◌&&◌, ltb, List, [], ◌∷◌, ◌++◌, length, Option, Some, None, IsTrue, IsSome, refl, sym, ap, ◌∙◌, subst, inl, inr, arith}
-use Rattle.std.proofs.lemmas.Bool.{ltb-true, eq-eqb, and_parts, cases_eq}
+use Rattle.std.proofs.Common.{◌≡◌, ℕ, ◌<◌, ◌≤◌, ◌⊎◌, Bool, true, false, cond, ◌&&◌, ltb, List, [], ◌∷◌, ◌++◌, length, Option, Some, None, IsSome, refl, sym, ap, ◌∙◌, subst, inl, inr, arith}
+use Rattle.std.proofs.lemmas.Bool.{ltb-true, and_parts}
 use Rattle.std.proofs.lemmas.List.{get_or-set_same}
 use Rattle.paxos_core_world.specs.KeptPart.{KeptPart, vote}
 use Rattle.paxos_core_world.specs.Quorum.{is_accept_quorum, IsAcceptQuorum}
-use Rattle.paxos_core_world.proofs.Quorums.{member_of, accept_quorum_grows}
 use Rattle.paxos_core_world.specs.declared.msg.Msg.{Msg}
 use Rattle.paxos_core_world.specs.declared.msg.Msg.TheVariants.{Prepare, Promise, Propose, Accepted}
 use Rattle.paxos_core_world.specs.declared.vote.Vote.{Vote}
@@ -12,11 +11,12 @@ use Rattle.paxos_core_law.specs.Acceptor.{is_vote, promises, accepts}
 use Rattle.paxos_core.specs.Call.{Call, Offer, Start, Proposal, On, Restart, has_ballot, after_call, after_calls}
 use Rattle.paxos_core_law.specs.Learner.{is_at_most, notes_promise, notes_vote, votes_with, learned_with, voted}
 use Rattle.paxos_core.specs.Quorums.{HasNoRestart, HasQuorum, WasQuorum, LearnsFromQuorum, QuorumIsLearned}
-use Rattle.paxos_core_law.specs.NodeState.{NodeState, node_with, nothing_noted}
-use Rattle.paxos_core_law.specs.Notes.{note_of, is_under, has_voted}
+use Rattle.paxos_core_law.specs.NodeState.{NodeState, node_with}
+use Rattle.paxos_core_law.specs.Notes.{note_of, has_voted}
 use Rattle.paxos_core_law.specs.Proposer.{proposal, after_answer}
 use Rattle.paxos_core.proofs.CallLemmas.{IsNode, node_with-is, after_call-is}
-use Rattle.paxos_core_law.proofs.NoteLemmas.{note_of-set, note_of-nothing, voted_vote}
+use Rattle.paxos_core.specs.LearnsAtOnce.{LearnsAtOnce}
+use Rattle.paxos_core.proofs.LearnsLemmas.{learns_on, nothing_to_learn}
 
 -- ---- what a call changes of votes and of what is learned
 
@@ -73,37 +73,21 @@ stays s t d h = elim d [
 
 -- once an accept quorum has voted under a ballot, a value is learned
 abbrev HasLearned : NodeState → Type 0
-HasLearned s = (b : ℕ) → HasQuorum s b → IsSome s.learned
+HasLearned s = LearnsAtOnce s.count s.votes s.learned
 
 learned_now : (o : Option ℕ) (q : Bool) (v : ℕ) → q ≡ true → IsSome (learned_with o q v)
 learned_now (Some u) q v h = refl
 learned_now None true v h = refl
 learned_now None false v h = absurd (cc)
 
-under_vote : (o : Option Vote) (b : ℕ) (y : Vote) → o ≡ Some y → y.ballot ≡ b → is_under b o ≡ true
-under_vote None b y e h = absurd (cc)
-under_vote (Some z) b y e h = let same : z ≡ y = cc in eq-eqb z.ballot b (ap (λ (u : Vote). u.ballot) same ∙ h)
-
--- who has voted under another ballot had voted under it before
-voted_before : (s : NodeState) (a : ℕ) (x : Vote) (b : ℕ) → (x.ballot ≡ b → ⊥) → (k : ℕ) → k < s.count → IsTrue (has_voted (votes_with s a x) b k) → IsTrue (has_voted s.votes b k)
-voted_before s a x b other k below h =
-    let y = voted_vote (votes_with s a x) b k h in
-    elim (note_of-set s.votes a k x y.0 y.1) [
-      | inl e ↦ absurd (other (ap (λ (z : Vote). z.ballot) e.1 ∙ y.2))
-      | inr e ↦ under_vote (note_of s.votes k) b y.0 e y.2
-    ]
-
 -- the quorum, in terms of what it was before
 quorum_of : (n m b : ℕ) (vs us : List (Option Vote)) → n ≡ m → vs ≡ us → IsAcceptQuorum n (has_voted vs b) → IsAcceptQuorum m (has_voted us b)
 quorum_of n m b vs us e f h = rw (← e, ← f) h
 
 learned_vote : (s : NodeState) (a : ℕ) (x : Vote) → HasLearned s → HasLearned (voted s a x)
-learned_vote s a x h b q = elim (cases_eq x.ballot b) [
-  | inl same ↦ learned_now s.learned (is_accept_quorum s.count (has_voted (votes_with s a x) x.ballot)) x.value
-      (subst (λ c. IsAcceptQuorum s.count (has_voted (votes_with s a x) c)) (sym same) q)
-  | inr other ↦ stays_with s.learned (is_accept_quorum s.count (has_voted (votes_with s a x) x.ballot)) x.value
-      (h b (accept_quorum_grows s.count (has_voted (votes_with s a x) b) (has_voted s.votes b) (voted_before s a x b other) q))
-]
+learned_vote s a x h =
+    learns_on s.count s.votes s.learned _ a x h (stays_with s.learned (is_accept_quorum s.count (has_voted (votes_with s a x) x.ballot)) x.value)
+    (learned_now s.learned (is_accept_quorum s.count (has_voted (votes_with s a x) x.ballot)) x.value)
 
 learned_after : (s t : NodeState) → VotesChange s t → HasLearned s → HasLearned t
 learned_after s t d h = elim d [
@@ -134,12 +118,6 @@ no_restart_earlier (c ∷ later) earlier h = no_restart_earlier later earlier (n
 change_by : (s : NodeState) (c : Call) (cs : List Call) → HasNoRestart (c ∷ cs) → VotesChange (after_calls s cs) (after_calls s (c ∷ cs))
 change_by s c cs h = votes_change (after_calls s cs) c (no_restart_head c cs h)
 
-no_votes : (b a : ℕ) → IsTrue (has_voted nothing_noted b a) → ⊥
-no_votes b a h = let y = voted_vote nothing_noted b a h in note_of-nothing a y.0 y.1
-
-count_none : (n : ℕ) (q : ℕ → Bool) → ((a : ℕ) → IsTrue (q a) → ⊥) → IsAcceptQuorum n q → ⊥
-count_none n q h k = let one = member_of n q k in h one.node one.member
-
 -- what is learned was learned before, or is learned now from a quorum
 learned_cases : (o : Option ℕ) (q : Bool) (u v : ℕ) → learned_with o q u ≡ Some v → (o ≡ Some v) ⊎ ((q ≡ true) × (u ≡ v))
 learned_cases (Some w) q u v h = inl h
@@ -151,7 +129,7 @@ module _ (me n : ℕ) (kept : KeptPart) where
   fresh = node_with me n kept
 
   all_learned : (cs : List Call) → HasNoRestart cs → HasLearned (after_calls fresh cs)
-  all_learned [] h = λ b q. absurd (count_none n (has_voted nothing_noted b) (no_votes b) q)
+  all_learned [] h = nothing_to_learn n None
   all_learned (c ∷ cs) h = learned_after (after_calls fresh cs) (after_calls fresh (c ∷ cs)) (change_by fresh c cs h) (all_learned cs (no_restart_tail c cs h))
 
   stays_learned : (later earlier : List Call) → HasNoRestart (later ++ earlier) → IsSome (after_calls fresh earlier).learned → IsSome (after_calls fresh (later ++ earlier)).learned

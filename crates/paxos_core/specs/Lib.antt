@@ -1,4 +1,5 @@
 pub mod Call
+pub mod LearnsAtOnce
 pub mod Schedule
 pub mod Play
 pub mod Quorums

@@ -1,11 +1,12 @@
-ghost use Rattle.std.specs.Prelude.{◌≡◌, ℕ, ◌<◌, ◌≤◌, ◌↔◌, IsTrue, IsErr, IsNone, OnErr, IfOk, SomeIff, false};
+ghost use Rattle.std.specs.Prelude.{◌≡◌, ℕ, [], ◌<◌, ◌≤◌, ◌↔◌, IsTrue, IsErr, IsNone, OnErr, IfOk, Some, None, SomeIff, false};
 ghost use Rattle.paxos_core_world.specs.KeptPart.{nothing_kept};
 ghost use Rattle.paxos_core_world.specs.World.{World};
-ghost use Rattle.paxos_core_world.specs.declared.msg.Msg.TheVariants.{Prepare};
+ghost use Rattle.paxos_core_world.specs.declared.msg.Msg.TheVariants.{Accepted, Prepare, Promise};
 ghost use Rattle.paxos_core_law.specs.Acceptor.{promise_to, after_prepare, vote_for, after_propose, is_vote};
 ghost use Rattle.paxos_core_law.specs.Learner.{after_promise, after_vote, is_at_most, is_report};
 ghost use Rattle.paxos_core_law.specs.Message.{reply, after_message};
 ghost use Rattle.paxos_core_law.specs.NextBallot.{IsLeastAbove, IsSpent};
+ghost use Rattle.paxos_core_law.specs.Notes.{note_of};
 ghost use Rattle.paxos_core_law.specs.NodeState.{IsRoomSize, new_node, node_with, offered, restarted};
 ghost use Rattle.paxos_core_law.specs.Belongs.{Belongs};
 ghost use Rattle.paxos_core_law.specs.Taken.{taken_by_offer, taken_by_start, taken_by_propose, taken_by_restart, taken_on, LearnsAtMost};
@@ -42,6 +43,7 @@ pub struct Node {
 
 impl Model for Node {
     ghost use Rattle.std.specs.Prelude.{◌<◌};
+    ghost use Rattle.paxos_core.specs.LearnsAtOnce.{LearnsAtOnce};
     ghost use Rattle.paxos_core_law.specs.NodeState.{IsRoomSize, NodeState};
 
     ghost Value = { NodeState };
@@ -57,7 +59,7 @@ impl Model for Node {
       learned = s.learned;
     } };
 
-    ghost invariant = { λ s. (s.me < s.count) × IsRoomSize s.count };
+    ghost invariant = { λ s. (s.me < s.count) × IsRoomSize s.count × LearnsAtOnce s.count s.votes s.learned };
 
     ghost inverse = { λ s. record {
       me = s.me;
@@ -301,8 +303,10 @@ impl Node {
         Some(Msg::Accepted(self.me, vote.ballot, vote.value))
     }
 
-    fn note_promise(&mut self, from: u8, ballot: u16, report: Option<Vote>)
-        ensures { self.new ≡ after_promise self.old from ballot report }
+    /// Notes a promise of node `from`, where it is one for the ballot under way: what `on` does with the message.
+    pub fn note_promise(&mut self, from: u8, ballot: u16, report: Option<Vote>)
+        ensures state { self.new ≡ after_promise self.old from ballot report }
+        ensures step { TakesStepsOn self.old (Promise from ballot report) self.new [] None }
     {
         let sound = 0 < ballot && from < self.count && is_report(self.count, ballot, report);
         if sound && self.ballot == Some(ballot) {
@@ -310,8 +314,18 @@ impl Node {
         }
     }
 
-    fn note_vote(&mut self, from: u8, vote: Vote)
-        ensures { self.new ≡ after_vote self.old from vote }
+    /// Whether just this vote of node `from` is noted: then to note it again changes nothing.
+    pub fn has_noted(&self, from: u8, vote: Vote) -> bool
+        ensures is { IsTrue result ↔ ((from < self.now.count) × (note_of self.now.votes from ≡ Some vote)) }
+        ensures same { IsTrue result → after_vote self.now from vote ≡ self.now }
+    {
+        from < self.count && self.votes[usize::from(from)] == Some(vote)
+    }
+
+    /// Notes a vote of node `from`, and may learn its value: what `on` does with the message.
+    pub fn note_vote(&mut self, from: u8, vote: Vote)
+        ensures state { self.new ≡ after_vote self.old from vote }
+        ensures step { TakesStepsOn self.old (Accepted from vote.ballot vote.value) self.new (taken_on self.old (Accepted from vote.ballot vote.value)) None }
     {
         let sound = from < self.count && is_vote(self.count, vote);
         if !sound || !is_at_most(self.votes[usize::from(from)], vote.ballot) {
