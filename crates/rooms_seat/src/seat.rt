@@ -132,7 +132,7 @@ impl WordSeat {
             .load::<LooksAtAcceptor>(&mut self.token, 2 * place + 1);
         let word = AcceptorWord::unpack(found);
         self.acceptors[place] = word;
-        self.node = heard(self.node, j, word);
+        heard(&mut self.node, j, word);
         word
     }
 
@@ -348,16 +348,17 @@ impl WordSeat {
     }
 }
 
-/// The node once it has noted what the word of node `j`'s acceptor shows.
-fn heard(node: Node, j: u8, word: AcceptorWord) -> Node
-    ensures { result ≡ after_hearing node j word.promised word.accepted }
+/// The node notes what the word of node `j`'s acceptor shows: nothing of a vote that it has noted already.
+fn heard(node: &mut Node, j: u8, word: AcceptorWord)
+    ensures { node.new ≡ after_hearing node.old j word.promised word.accepted }
 {
-    let mut next = node;
-    let _noted = next.on(&Msg::Promise(j, word.promised, word.accepted));
-    if let Some(vote) = word.accepted {
-        let _noted = next.on(&Msg::Accepted(j, vote.ballot, vote.value));
+    node.note_promise(j, word.promised, word.accepted);
+    let Some(vote) = word.accepted else {
+        return;
+    };
+    if !node.has_noted(j, vote) {
+        node.note_vote(j, vote);
     }
-    next
 }
 
 /// The vote for what a proposer's word shows, where the node would give it and has not given it yet.

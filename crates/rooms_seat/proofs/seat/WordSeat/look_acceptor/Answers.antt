@@ -22,7 +22,7 @@ invariant_of-self c =
     rw c.from-place.ensures (subst (λ (s : SeatState). c.args.j < s.node.count) (sym c.self.view_is) c.requires) in
     let found = c.load-found.ensures in
     (acceptor_look _ _ sound c.from-place.result c.args.j c.load-found.result c.from-place.ensures low c.unpack-word.result c.unpack-word.ensures.promised c.unpack-word.ensures.accepted
-    c.load-found.new.seat.table_id found.0 c.load-found.new.seat.me.0 (found.2 c.from-place.result refl (subst (λ (n : ℕ). c.from-place.result < n) sound.count low)) c.heard-self-inside.result c.heard-self-inside.ensures).0
+    c.load-found.new.seat.table_id found.0 c.load-found.new.seat.me.0 (found.2 c.from-place.result refl (subst (λ (n : ℕ). c.from-place.result < n) sound.count low)) c.heard.new.node c.heard.ensures).0
 
 pub returns : goal.returns
 returns c =
@@ -32,4 +32,4 @@ returns c =
     let found = c.load-found.ensures in
     rw (← c.self.view_is)
     (acceptor_look _ _ sound c.from-place.result c.args.j c.load-found.result c.from-place.ensures low c.unpack-word.result c.unpack-word.ensures.promised c.unpack-word.ensures.accepted
-    c.load-found.new.seat.table_id found.0 c.load-found.new.seat.me.0 (found.2 c.from-place.result refl (subst (λ (n : ℕ). c.from-place.result < n) sound.count low)) c.heard-self-inside.result c.heard-self-inside.ensures).1
+    c.load-found.new.seat.table_id found.0 c.load-found.new.seat.me.0 (found.2 c.from-place.result refl (subst (λ (n : ℕ). c.from-place.result < n) sound.count low)) c.heard.new.node c.heard.ensures).1
