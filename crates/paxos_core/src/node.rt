@@ -1,4 +1,5 @@
-ghost use Rattle.std.specs.Prelude.{◌≡◌, ℕ, [], ◌<◌, ◌≤◌, ◌↔◌, IsTrue, IsErr, IsNone, OnErr, IfOk, Some, None, SomeIff, false};
+ghost use Rattle.std.specs.Prelude.{◌≡◌, ℕ, ◌<◌, ◌≤◌, ◌↔◌, IsTrue, IsErr, IsNone, OnErr, IfOk, Some, None, SomeIff, false};
+ghost use Rattle.paxos_core.specs.Noting.{TakesItsSteps};
 ghost use Rattle.paxos_core_world.specs.KeptPart.{nothing_kept};
 ghost use Rattle.paxos_core_world.specs.World.{World};
 ghost use Rattle.paxos_core_world.specs.declared.msg.Msg.TheVariants.{Accepted, Prepare, Promise};
@@ -306,7 +307,7 @@ impl Node {
     /// Notes a promise of node `from`, where it is one for the ballot under way: what `on` does with the message.
     pub fn note_promise(&mut self, from: u8, ballot: u16, report: Option<Vote>)
         ensures state { self.new ≡ after_promise self.old from ballot report }
-        ensures step { TakesStepsOn self.old (Promise from ballot report) self.new [] None }
+        ensures step { TakesItsSteps self.old (Promise from ballot report) self.new }
     {
         let sound = 0 < ballot && from < self.count && is_report(self.count, ballot, report);
         if sound && self.ballot == Some(ballot) {
@@ -325,7 +326,7 @@ impl Node {
     /// Notes a vote of node `from`, and may learn its value: what `on` does with the message.
     pub fn note_vote(&mut self, from: u8, vote: Vote)
         ensures state { self.new ≡ after_vote self.old from vote }
-        ensures step { TakesStepsOn self.old (Accepted from vote.ballot vote.value) self.new (taken_on self.old (Accepted from vote.ballot vote.value)) None }
+        ensures step { TakesItsSteps self.old (Accepted from vote.ballot vote.value) self.new }
     {
         let sound = from < self.count && is_vote(self.count, vote);
         if !sound || !is_at_most(self.votes[usize::from(from)], vote.ballot) {
