@@ -2,10 +2,10 @@ ghost use Rattle.std.specs.Prelude.{◌≤◌, length, IfOk, IfErr, MatchResult}
 ghost use Rattle.std.specs.Vec.Iter.{into_iter_items};
 ghost use Rattle.farm_nodes_disks.specs.Journals.{AreOpened, IsOpened, IsRefused, IsRefusedAt};
 
+use crate::journal::open_journal;
 use crate::refused::RefusedDisk;
 use acceptor_log::{Header, Log, LogError, Record};
 use durable_model::Disk;
-use farm_nodes_journals::open_journal;
 use std::alloc::Global;
 
 /// The journal of the node, and its records.

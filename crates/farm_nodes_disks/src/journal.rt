@@ -12,7 +12,7 @@ use durable_model::Disk;
 use std::alloc::Global;
 
 /// The journal of a node on its disk, and the records that stand in it. Where it is refused the disk comes back.
-pub fn open_journal<D: Disk>(
+pub(crate) fn open_journal<D: Disk>(
     alloc: Global,
     disk: D,
     header: &Header,

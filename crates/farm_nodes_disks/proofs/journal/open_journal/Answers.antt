@@ -5,8 +5,8 @@ use Rattle.durable_model.specs.Honest.{Risen, Unchanged, risen_within}
 use Rattle.durable_model.specs.Writes.{overwritten}
 use Rattle.acceptor_log_form.specs.Text.{journal_text, StandsFor}
 use Rattle.acceptor_log_form.specs.Fault.{HasFault}
-use Rattle.farm_nodes_journals.proofs.InFront.{when_true, when_false, both_ways, unchanged_over, read_moment, and_then}
-use Rattle.farm_nodes_journals.proofs.opening.open_journal.Goals as goal
+use Rattle.farm_nodes_disks.proofs.InFront.{when_true, when_false, both_ways, unchanged_over, read_moment, and_then}
+use Rattle.farm_nodes_disks.proofs.journal.open_journal.Goals as goal
 
 pub returns-in-Err-clause-any_moment : goal.returns-in-Err-clause-any_moment
 returns-in-Err-clause-any_moment g c honest some =
