@@ -1,2 +1,3 @@
 pub mod Nodes
-pub mod Counts
+pub mod Offered
+pub mod Accepted

@@ -1,5 +1,5 @@
 -- One node more of which it is so, and each of those of which it is.
-use Rattle.std.proofs.Common.{◌≡◌, ◌≢◌, ◌⊎◌, inl, inr, ℕ, zero, suc, ◌+◌, ◌<◌, ◌≤◌, List, [], ◌∷◌, ◌++◌, length, drop, All, Some, refl, sym, ap, subst, ◌∙◌, arith}
+use Rattle.std.proofs.Common.{◌≡◌, ◌≢◌, ◌⊎◌, inl, inr, ℕ, zero, suc, ◌+◌, ◌<◌, List, [], ◌∷◌, ◌++◌, length, drop, All, Some, refl, sym, ap, subst, ◌∙◌, arith}
 use Rattle.std.specs.Prelude.{slice_get}
 use Rattle.std.proofs.lemmas.Bool.{cases_eq}
 use Rattle.std.proofs.lemmas.List.{length_push}
@@ -80,11 +80,11 @@ all_at P xs i x all got = subst P (get_or_from_slice_get xs i x x got) (All-get_
 
 module _ {A B : Type 0} (Is : ℕ → A → B → Type 0) (given : List A) (made : List B) where
   module _ (node : ℕ) (are : AreMade Is given node made) where
-    -- something else is made of what was made of each
-    pub all_made_by : {C : Type 0} (Js : ℕ → A → C → Type 0) (f : B → C) → ((i : ℕ) (x : A) (y : B) → Is i x y → Js i x (f y)) → AllMade Js given node
-    all_made_by Js f holds i x low got =
+    -- what can be made of each
+    pub all_made : AllMade Is given node
+    all_made i x low got =
         let found : (y : B) × (slice_get made i ≡ Some y) = found_at made i (omega (arith, low, are.count)) in
-        (f found.0, holds i x found.0 (are.each i x found.0 got found.1))
+        (found.0, are.each i x found.0 got found.1)
 
     pub front_made : (P : A → Type 0) → ((i : ℕ) (x : A) (y : B) → Is i x y → P x) → InFront P node given
     front_made P holds i x low got =

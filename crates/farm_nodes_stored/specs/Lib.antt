@@ -1,4 +1,3 @@
 pub mod Nodes
-pub mod Of
 pub mod Read
 pub mod Checked

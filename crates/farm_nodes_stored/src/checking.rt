@@ -1,25 +1,28 @@
-ghost use Rattle.std.specs.Prelude.{◌≡◌, ◌≢◌, ◌<◌, ◌≤◌, ◌⊎◌, ◌++◌, ◌∷◌, [], All, length, IfOk, OnOk, IfErr};
-ghost use Rattle.farm_nodes_stored.specs.Of.{first_of, second_of, third_of, fourth_of};
-ghost use Rattle.farm_nodes_stored.specs.Nodes.{AreMade, AtNode, InFront};
-ghost use Rattle.farm_nodes_stored.specs.Checked.{AllAccepted, AreAsMany, AreChecked, IsRefused};
+ghost use Rattle.std.specs.Prelude.{◌≡◌, ◌≢◌, ◌<◌, ◌≤◌, ◌++◌, ◌∷◌, [], All, length, IfOk, OnOk, IfErr};
+ghost use Rattle.farm_nodes_stored.specs.Nodes.{AtNode, InFront};
+ghost use Rattle.farm_nodes_stored.specs.Checked.{AreAccepted, AreAsMany, AreChecked, HasRefused};
 
+use crate::accepting::check_node;
 use crate::one::StoredOf;
 use crate::reading::BadNode;
-use farm_nodes_checking::check_node;
+use alloc_check::Alloc;
+use constprop_check::ConstProp;
+use cse_check::Cse;
 use farm_nodes_passes::Passes;
 use farm_nodes_records::RecordFault;
-use lang_base::{NoMemory, Pass};
+use lang_base::NoMemory;
+use linearize_check::Linearize;
 use offers::Offer;
 use std::alloc::Global;
 use std::sync::Wait;
 use std::thread::Threads;
 
 /// The offers of nodes, of each pass node by node: of each function the offer, if the node has made one.
-pub type OffersOf<P1, P2, P3, P4> = Passes<
-    Vec<Vec<Option<Offer<P1>>>>,
-    Vec<Vec<Option<Offer<P2>>>>,
-    Vec<Vec<Option<Offer<P3>>>>,
-    Vec<Vec<Option<Offer<P4>>>>,
+pub type OffersOf = Passes<
+    Vec<Vec<Option<Offer<ConstProp>>>>,
+    Vec<Vec<Option<Offer<Cse>>>>,
+    Vec<Vec<Option<Offer<Alloc>>>>,
+    Vec<Vec<Option<Offer<Linearize>>>>,
 >;
 
 /// The offers of one node more.
@@ -49,51 +52,23 @@ fn add<A: Drop, B: Drop, C: Drop, E: Drop>(
 
 /// The offers of each node, by function, once so many threads have checked all of them again. The first node in order is told that has one
 /// which its pass does not accept.
-pub fn checked_nodes<P1, P2, P3, P4, R>(
+pub(crate) fn checked_nodes<R: Threads + Wait + Sync>(
     rt: &R,
     alloc: Global,
     functions: u16,
     workers: usize,
-    stored: Vec<StoredOf<P1, P2, P3, P4>>,
-) -> Result<OffersOf<P1, P2, P3, P4>, BadNode>
-where
-    P1: Pass + Sync,
-    P2: Pass + Sync,
-    P3: Pass + Sync,
-    P4: Pass + Sync,
-    P1::In: Sync,
-    P1::Out: Sync,
-    P2::In: Sync,
-    P2::Out: Sync,
-    P3::In: Sync,
-    P3::Out: Sync,
-    P4::In: Sync,
-    P4::Out: Sync,
-    R: Threads + Wait + Sync,
+    stored: Vec<StoredOf>,
+) -> Result<OffersOf, BadNode>
     requires workers { 0 < workers }
     requires nodes { length stored.items ≤ 255 }
-    requires first { All (AreAsMany first_of) stored.items }
-    requires second { All (AreAsMany second_of) stored.items }
-    requires third { All (AreAsMany third_of) stored.items }
-    requires fourth { All (AreAsMany fourth_of) stored.items }
-    ensures first { IfOk result (λ offers. AreMade (AreChecked P1.accepts first_of functions)
-        stored.items (length stored.items) offers.first.items) }
-    ensures second { IfOk result (λ offers. AreMade (AreChecked P2.accepts second_of functions)
-        stored.items (length stored.items) offers.second.items) }
-    ensures third { IfOk result (λ offers. AreMade (AreChecked P3.accepts third_of functions)
-        stored.items (length stored.items) offers.third.items) }
-    ensures fourth { IfOk result (λ offers. AreMade (AreChecked P4.accepts fourth_of functions)
-        stored.items (length stored.items) offers.fourth.items) }
+    requires rooms { All AreAsMany stored.items }
+    ensures checked { IfOk result (λ offers. AreChecked functions stored.items (length stored.items) offers) }
 
     // The node that is told has an offer that its pass does not accept, and those in front of it have none.
     ensures fault { IfErr result (λ it. it.fault ≢ RecordFault.NoMemory → it.fault ≡ RecordFault.Refused) }
-    ensures refused { IfErr result (λ it. it.fault ≢ RecordFault.NoMemory → AtNode (λ i s.
-        IsRefused P1.accepts first_of s ⊎ IsRefused P2.accepts second_of s
-        ⊎ IsRefused P3.accepts third_of s ⊎ IsRefused P4.accepts fourth_of s) it.node stored.items) }
-    ensures first_in_front { IfErr result (λ it. InFront (AllAccepted P1.accepts first_of) it.node stored.items) }
-    ensures second_in_front { IfErr result (λ it. InFront (AllAccepted P2.accepts second_of) it.node stored.items) }
-    ensures third_in_front { IfErr result (λ it. InFront (AllAccepted P3.accepts third_of) it.node stored.items) }
-    ensures fourth_in_front { IfErr result (λ it. InFront (AllAccepted P4.accepts fourth_of) it.node stored.items) }
+    ensures refused { IfErr result (λ it. it.fault ≢ RecordFault.NoMemory
+        → AtNode (λ i all. HasRefused all) it.node stored.items) }
+    ensures in_front { IfErr result (λ it. InFront AreAccepted it.node stored.items) }
 {
     let count = stored.len() as u8;
     let mut behind = stored.into_iter();
@@ -107,7 +82,7 @@ where
         let Some(one) = behind.next() else {
             unreachable!();
         };
-        match check_node::<P1, P2, P3, P4, R>(rt, alloc, functions, workers, one) {
+        match check_node::<R>(rt, alloc, functions, workers, one) {
             Ok(offers) => match add(&mut found, offers) {
                 Ok(()) => {}
                 Err(NoMemory) => {

@@ -8,7 +8,7 @@ use paxos_core::Kept;
 use std::alloc::Global;
 
 /// What a node has kept of each room of so many functions. Records out of order, or in another room, are refused.
-pub fn kept_of_node(
+pub(crate) fn kept_of_node(
     alloc: Global,
     header: &Header,
     functions: u16,

@@ -1,16 +1,15 @@
 //! What stands in the journals of a farm's nodes: what each has kept of each room, and the offers that it made. All are read first, node by
 //! node: records out of order, or whose bytes are no offer, are refused, and the node is told. Only then are the offers checked again,
-//! node by node.
+//! node by node, by many threads: nobody's certificate is trusted.
 #![tactic(auto)]
 
+mod accepting;
 mod checking;
 mod kept;
 mod one;
 mod reading;
 mod stored;
 
-pub use checking::{OffersOf, checked_nodes};
-pub use kept::kept_of_node;
-pub use one::{StoredOf, stored_of_node};
-pub use reading::{BadNode, read_nodes};
+pub use checking::OffersOf;
+pub use reading::BadNode;
 pub use stored::stored_nodes;

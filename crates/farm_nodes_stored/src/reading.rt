@@ -1,13 +1,11 @@
-ghost use Rattle.std.specs.Prelude.{◌≡◌, ◌≢◌, ◌<◌, ◌≤◌, ◌⊎◌, ◌++◌, ◌∷◌, [], length, IfOk, OnOk, IfErr};
-ghost use Rattle.farm_nodes_passes.specs.declared.which.Which.TheVariants as which;
-ghost use Rattle.farm_nodes_stored.specs.Of.{first_of, second_of, third_of, fourth_of};
+ghost use Rattle.std.specs.Prelude.{◌≡◌, ◌≢◌, ◌<◌, ◌≤◌, ◌++◌, ◌∷◌, [], length, IfOk, OnOk, IfErr};
 ghost use Rattle.farm_nodes_stored.specs.Nodes.{AreMade, AtNode};
-ghost use Rattle.farm_nodes_stored.specs.Read.{HasBadOffer, HoldsStored, IsKeptPart, IsOutOfOrder, WereRead};
+ghost use Rattle.farm_nodes_stored.specs.Read.{IsBadPart, IsKeptPart, IsStoredPart, WereRead};
 
 use crate::one::{StoredOf, stored_of_node};
 use acceptor_log_form::{Header, Record};
 use farm_nodes_records::RecordFault;
-use lang_base::{NoMemory, Pass};
+use lang_base::NoMemory;
 use paxos_core::Kept;
 use std::alloc::Global;
 
@@ -36,40 +34,23 @@ fn put<A: Drop, B: Drop>(
 
 /// Of each node what it has kept of each room of so many functions, and the offers among its records, whether their passes accept them
 /// or not. The first node in order is told whose records are out of order, or one of which is no offer.
-pub fn read_nodes<J, P1: Pass, P2: Pass, P3: Pass, P4: Pass>(
+pub(crate) fn read_nodes<J>(
     alloc: Global,
     digest: &[u8; 32],
     functions: u16,
     journals: &[(J, Vec<Record>)],
-) -> Result<(Vec<Vec<Kept>>, Vec<StoredOf<P1, P2, P3, P4>>), BadNode>
+) -> Result<(Vec<Vec<Kept>>, Vec<StoredOf>), BadNode>
     requires nodes { length journals.now ≤ 255 }
     requires functions { functions < 16384 }
     ensures kept { IfOk result (λ read. AreMade (IsKeptPart functions (length journals.now))
         journals.now (length journals.now) read.0.items) }
-    ensures first { IfOk result (λ read. AreMade
-        (HoldsStored P1.In.Language P1.Out.Language P1.Pass which.First first_of)
-        journals.now (length journals.now) read.1.items) }
-    ensures second { IfOk result (λ read. AreMade
-        (HoldsStored P2.In.Language P2.Out.Language P2.Pass which.Second second_of)
-        journals.now (length journals.now) read.1.items) }
-    ensures third { IfOk result (λ read. AreMade
-        (HoldsStored P3.In.Language P3.Out.Language P3.Pass which.Third third_of)
-        journals.now (length journals.now) read.1.items) }
-    ensures fourth { IfOk result (λ read. AreMade
-        (HoldsStored P4.In.Language P4.Out.Language P4.Pass which.Fourth fourth_of)
-        journals.now (length journals.now) read.1.items) }
+    ensures stored { IfOk result (λ read. AreMade IsStoredPart journals.now (length journals.now) read.1.items) }
 
     // What is refused stands in the records of the node that is told, and those in front of it were read.
     ensures bad { IfErr result (λ it. it.fault ≢ RecordFault.NoMemory → it.fault ≡ RecordFault.BadRecord) }
-    ensures refused { IfErr result (λ it. it.fault ≢ RecordFault.NoMemory → AtNode (λ i j.
-        IsOutOfOrder functions (length journals.now) i j
-        ⊎ HasBadOffer P1.In.Language P1.Out.Language P1.Pass which.First j
-        ⊎ HasBadOffer P2.In.Language P2.Out.Language P2.Pass which.Second j
-        ⊎ HasBadOffer P3.In.Language P3.Out.Language P3.Pass which.Third j
-        ⊎ HasBadOffer P4.In.Language P4.Out.Language P4.Pass which.Fourth j) it.node journals.now) }
-    ensures in_front { IfErr result (λ it. WereRead P1.In.Language P1.Out.Language P1.Pass
-        P2.In.Language P2.Out.Language P2.Pass P3.In.Language P3.Out.Language P3.Pass
-        P4.In.Language P4.Out.Language P4.Pass functions journals.now it.node) }
+    ensures refused { IfErr result (λ it. it.fault ≢ RecordFault.NoMemory
+        → AtNode (IsBadPart functions (length journals.now)) it.node journals.now) }
+    ensures in_front { IfErr result (λ it. WereRead functions journals.now it.node) }
 {
     let count = journals.len() as u8;
     let mut kept = Vec::new(alloc);
@@ -81,7 +62,7 @@ pub fn read_nodes<J, P1: Pass, P2: Pass, P3: Pass, P4: Pass>(
             digest: *digest,
         };
         let records = journals[usize::from(node)].1.as_slice();
-        match stored_of_node::<P1, P2, P3, P4>(alloc, &header, functions, records) {
+        match stored_of_node(alloc, &header, functions, records) {
             Ok(read) => match put(&mut kept, &mut stored, read) {
                 Ok(()) => {}
                 Err(NoMemory) => {

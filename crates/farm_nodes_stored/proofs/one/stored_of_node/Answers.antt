@@ -1,6 +1,9 @@
--- What is no offer is refused of the node.
-use Rattle.std.proofs.Common.{inr}
+-- What is out of order, or no offer, is refused of the node.
+use Rattle.std.proofs.Common.{inl, inr}
 use Rattle.farm_nodes_stored.proofs.one.stored_of_node.Goals as goal
 
+pub returns-in-Err-clause-refused : goal.returns-in-Err-clause-refused
+returns-in-Err-clause-refused c memory = inl ((c.in-Err.ensures.refused memory).1)
+
 pub returns-in-Err-read_node-clause-refused : goal.returns-in-Err-read_node-clause-refused
-returns-in-Err-read_node-clause-refused g c memory = inr (c.in-Err-read_node.ensures.refused memory)
+returns-in-Err-read_node-clause-refused c memory = inr (c.in-Err-read_node.ensures.refused memory)
