@@ -1,0 +1,294 @@
+-- What turns leave of a node: none, one, and one after another.
+use Rattle.std.proofs.Common.{◌≡◌, ◌≢◌, ℕ, zero, suc, ◌<◌, Bool, true, false, eqb, List, [], ◌∷◌, ◌++◌, length, map, slice_get, Option, Some, None, refl, sym, ap, ◌∙◌, subst, subst₂, arith, append_assoc, append-nil}
+use Rattle.std.specs.List.{AllByRecursion, AllZip}
+use Rattle.std.proofs.lemmas.Bool.{eqb-true, eq-eqb}
+use Rattle.std.proofs.lemmas.Option.{slice_get_within}
+use Rattle.durable_model.specs.Moments.{started, composed}
+use Rattle.acceptor_log_form.specs.declared.header.Header.{Header}
+use Rattle.acceptor_log_form.specs.declared.record.Record.{Record}
+use Rattle.acceptor_log_form.specs.Lists.{Begins, Between}
+use Rattle.acceptor_log_form.specs.Text.{StandsFor}
+use Rattle.acceptor_log.specs.declared.log.Log.{Log}
+use Rattle.acceptor_log.specs.Acknowledged.{acknowledged}
+use Rattle.lang_base.specs.declared.program.Named.{Named}
+use Rattle.offers.specs.declared.parts.Parts.{Parts}
+use Rattle.rooms.specs.SeatValue.{SeatValue}
+use Rattle.farm_nodes_acting.specs.Served.{IsServed}
+use Rattle.farm_nodes_playing.specs.Played.{Stays}
+use Rattle.farm_nodes_passes.specs.Numbers.{function_of, pass_of}
+use Rattle.farm_nodes_passes.specs.Fours.{Four}
+use Rattle.farm_nodes_passes.specs.declared.which.Which.{Which}
+use Rattle.farm_nodes_passes.specs.declared.which.Which.TheVariants.{First, Second, Third, Fourth}
+use Rattle.farm_nodes_turn.specs.Turned.{Leaves, StaysIn, OthersStay}
+use Rattle.farm_nodes_turn.specs.Turns.{AtPlace, OfFunction}
+use Rattle.farm_nodes_turn.proofs.Places.{found, mapped}
+use Rattle.farm_nodes_node.specs.declared.halted.Halted.{Halted}
+use Rattle.farm_nodes_node.specs.Held.{IsSoundNode, IsJournalOf, pending_in}
+use Rattle.farm_nodes_node.specs.Stood.{TurnsInto}
+use Rattle.farm_nodes_rounds.specs.After.{After}
+use Rattle.farm_nodes_workers.specs.Taken.{HasTaken}
+use Rattle.farm_nodes_threads.specs.CameBack.{Keep, CameBack}
+
+-- a seat
+stays_so : {T : Type 0} (s : SeatValue T) → Stays s s
+stays_so s = record {
+  room = record { table = refl; cells = refl };
+  me = refl;
+  count = refl;
+  learned = λ v e. e;
+  offered = λ e. e;
+  seen = λ j x e. e;
+}
+
+stays_on : {T : Type 0} (s t : SeatValue T) → t ≡ s → Stays s t
+stays_on s t e = subst (λ u. Stays s u) (sym e) (stays_so s)
+
+stays_through : {T : Type 0} (s t u : SeatValue T) → Stays s t → Stays t u → Stays s u
+stays_through s t u a b = record {
+  room = record { table = a.room.table ∙ b.room.table; cells = a.room.cells ∙ b.room.cells };
+  me = b.me ∙ a.me;
+  count = b.count ∙ a.count;
+  learned = λ v e. b.learned v (a.learned v e);
+  offered = λ e. b.offered (a.offered e);
+  seen = λ j x e. b.seen j x (a.seen j x e);
+}
+
+-- the seats of a function
+module _ {T1 T2 T3 T4 : Type 0} where
+  keep_so : (s : Four T1 T2 T3 T4) → Keep s s
+  keep_so s = record { first = stays_so s.first; second = stays_so s.second; third = stays_so s.third; fourth = stays_so s.fourth; numbers = refl }
+
+  pub keep_same : (s t : Four T1 T2 T3 T4) → t ≡ s → Keep s t
+  keep_same s t e = subst (λ (u : Four T1 T2 T3 T4). Keep s u) (sym e) (keep_so s)
+
+  keep_through : (s t u : Four T1 T2 T3 T4) → Keep s t → Keep t u → Keep s u
+  keep_through s t u a b = record {
+    first = stays_through s.first t.first u.first a.first b.first;
+    second = stays_through s.second t.second u.second a.second b.second;
+    third = stays_through s.third t.third u.third a.third b.third;
+    fourth = stays_through s.fourth t.fourth u.fourth a.fourth b.fourth;
+    numbers = b.numbers ∙ a.numbers;
+  }
+
+  pub keep_by : (p : Which) (s t : Four T1 T2 T3 T4) → StaysIn p s t → OthersStay p s t → Keep s t
+  keep_by First s t stays others = record {
+    first = stays;
+    second = stays_on s.second t.second (ap (λ (u : Four T1 T2 T3 T4). u.second) others);
+    third = stays_on s.third t.third (ap (λ (u : Four T1 T2 T3 T4). u.third) others);
+    fourth = stays_on s.fourth t.fourth (ap (λ (u : Four T1 T2 T3 T4). u.fourth) others);
+    numbers = ap (λ (u : Four T1 T2 T3 T4). u.numbers) others;
+  }
+  keep_by Second s t stays others = record {
+    first = stays_on s.first t.first (ap (λ (u : Four T1 T2 T3 T4). u.first) others);
+    second = stays;
+    third = stays_on s.third t.third (ap (λ (u : Four T1 T2 T3 T4). u.third) others);
+    fourth = stays_on s.fourth t.fourth (ap (λ (u : Four T1 T2 T3 T4). u.fourth) others);
+    numbers = ap (λ (u : Four T1 T2 T3 T4). u.numbers) others;
+  }
+  keep_by Third s t stays others = record {
+    first = stays_on s.first t.first (ap (λ (u : Four T1 T2 T3 T4). u.first) others);
+    second = stays_on s.second t.second (ap (λ (u : Four T1 T2 T3 T4). u.second) others);
+    third = stays;
+    fourth = stays_on s.fourth t.fourth (ap (λ (u : Four T1 T2 T3 T4). u.fourth) others);
+    numbers = ap (λ (u : Four T1 T2 T3 T4). u.numbers) others;
+  }
+  keep_by Fourth s t stays others = record {
+    first = stays_on s.first t.first (ap (λ (u : Four T1 T2 T3 T4). u.first) others);
+    second = stays_on s.second t.second (ap (λ (u : Four T1 T2 T3 T4). u.second) others);
+    third = stays_on s.third t.third (ap (λ (u : Four T1 T2 T3 T4). u.third) others);
+    fourth = stays;
+    numbers = ap (λ (u : Four T1 T2 T3 T4). u.numbers) others;
+  }
+
+-- lists of records
+same_begins : (xs : List Record) → Begins xs xs
+same_begins xs = ([], sym (append-nil xs))
+
+through : (xs ys zs : List Record) → Begins xs ys → Begins ys zs → Begins xs zs
+through xs ys zs p q = (p.0 ++ q.0, q.1 ∙ (ap (λ (l : List Record). l ++ q.0) p.1 ∙ append_assoc xs p.0 q.0))
+
+longer : (xs ys more : List Record) → Begins xs ys → Begins xs (ys ++ more)
+longer xs ys more p = through xs ys (ys ++ more) p (more, refl)
+
+wider : (h g : Header) (low high low2 high2 : List Record) (c : List ℕ) → h ≡ g → Begins low2 low → Begins high high2 → Between h low high c → Between g low2 high2 c
+wider h g low high low2 high2 c same p q b = record {
+  records = b.records;
+  stands = subst (λ (x : Header). StandsFor x b.records c) same b.stands;
+  all_of_low = through low2 low b.records p b.all_of_low;
+  none_else = through b.records high high2 b.none_else q;
+}
+
+-- whether it is stopped
+by_halt : {P : Type 0} (h : Option Halted) → (h ≡ None → P) → (h ≢ None → P) → P
+by_halt None none some = none refl
+by_halt (Some h) none some = some (λ (e : Some h ≡ None). absurd (cc))
+
+module _ {D T1 T2 T3 T4 : Type 0} (is_honest : D → Type 0) (seen : D → List ℕ) (may_leave : D → List ℕ → Type 0)
+    (moment : D → ℕ) (left_since : D → ℕ → List ℕ → Type 0) where
+  abbrev pub Came : Log D → Log D → List (Four T1 T2 T3 T4) → List (Four T1 T2 T3 T4) → Option Halted → Option Halted → Type 0
+  Came old new seats after halted now = CameBack is_honest seen may_leave moment left_since old new seats after halted now
+
+  abbrev pub Into : Log D → Log D → List (Four T1 T2 T3 T4) → Option Halted → Type 0
+  Into old new after now = TurnsInto seen may_leave moment left_since old new after now
+
+  -- no turn
+  into_none : (log : Log D) (seats : List (Four T1 T2 T3 T4)) (halted : Option Halted) (upto : List Record)
+      → ((c : List ℕ) → left_since log.disk (moment log.disk) c → may_leave log.disk c)
+      → IsJournalOf may_leave log seats halted upto → upto ≡ acknowledged seen log → Into log log seats halted
+  into_none log seats halted upto now stands all = record {
+    upto = upto;
+    longer = subst (λ (l : List Record). Begins (acknowledged seen log) l) (sym all) (same_begins (acknowledged seen log));
+    stands = stands;
+    all = λ none. all;
+    any_moment = started moment left_since log.disk (Between log.header (acknowledged seen log) (upto ++ pending_in seats halted))
+        (λ c left. subst (λ (l : List Record). Between log.header l (upto ++ pending_in seats halted) c) all (stands.left c (now c left)));
+  }
+
+  pub came_none : (log : Log D) (seats : List (Four T1 T2 T3 T4)) (halted : Option Halted)
+      → (is_honest log.disk → (c : List ℕ) → left_since log.disk (moment log.disk) c → may_leave log.disk c)
+      → IsSoundNode is_honest seen may_leave log seats halted → Came log log seats seats halted halted
+  came_none log seats halted now sound = record {
+    functions = refl;
+    rooms = λ f s t e g. keep_same s t (let same : Some s ≡ Some t = sym e ∙ g in cc);
+    header = refl;
+    honest = (λ h. h, λ h. h);
+    journal = λ honest none. let u = sound.upto honest in into_none log seats halted u.0 (now honest) u.1 (u.2 none);
+    stopped = λ some. (refl, refl, refl);
+  }
+
+  -- one turn, in this room
+  keep_at : (old new : Log D) (seats after : List (Four T1 T2 T3 T4)) (halted now : Option Halted) (room : ℕ)
+      → ((f : ℕ) → f ≢ function_of room → slice_get after f ≡ slice_get seats f)
+      → ((s t : Four T1 T2 T3 T4) → slice_get seats (function_of room) ≡ Some s → slice_get after (function_of room) ≡ Some t → halted ≡ None → Keep s t)
+      → (halted ≢ None → (new ≡ old) × (after ≡ seats) × (now ≡ halted))
+      → (f : ℕ) (s t : Four T1 T2 T3 T4) → slice_get seats f ≡ Some s → slice_get after f ≡ Some t → (b : Bool) → eqb f (function_of room) ≡ b → Keep s t
+  keep_at old new seats after halted now room others keeps stopped f s t e g true b =
+      let same : f ≡ function_of room = eqb-true f (function_of room) b in
+      by_halt halted (keeps s t (ap (λ (k : ℕ). slice_get seats k) (sym same) ∙ e) (ap (λ (k : ℕ). slice_get after k) (sym same) ∙ g))
+      (λ some. let still : after ≡ seats = (stopped some).1 in
+      let both : Some t ≡ Some s = sym g ∙ (ap (λ (l : List (Four T1 T2 T3 T4)). slice_get l f) still ∙ e) in keep_same s t (let it : t ≡ s = cc in it))
+  keep_at old new seats after halted now room others keeps stopped f s t e g false b =
+      let apart : f ≢ function_of room = (λ (same : f ≡ function_of room). let bad : true ≡ false = sym (eq-eqb f (function_of room) same) ∙ b in absurd (cc)) in
+      let both : Some t ≡ Some s = sym g ∙ (others f apart ∙ e) in
+      keep_same s t (let it : t ≡ s = cc in it)
+
+  pub came_once : (faults : D → ℕ) (old new : Log D) (seats after : List (Four T1 T2 T3 T4)) (halted now : Option Halted) (room : ℕ)
+      → length after ≡ length seats → ((f : ℕ) → f ≢ function_of room → slice_get after f ≡ slice_get seats f)
+      → ((s t : Four T1 T2 T3 T4) → slice_get seats (function_of room) ≡ Some s → slice_get after (function_of room) ≡ Some t → halted ≡ None → Keep s t)
+      → IsServed is_honest seen may_leave faults old new → (is_honest old.disk → halted ≡ None → Into old new after now)
+      → (halted ≢ None → (new ≡ old) × (after ≡ seats) × (now ≡ halted)) → Came old new seats after halted now
+  came_once faults old new seats after halted now room long others keeps served into stopped = record {
+    functions = long;
+    rooms = λ f s t e g. keep_at old new seats after halted now room others keeps stopped f s t e g (eqb f (function_of room)) refl;
+    header = served.header;
+    honest = served.honest;
+    journal = into;
+    stopped = stopped;
+  }
+
+  -- turns behind turns
+  into_through : (old mid new : Log D) (seats after : List (Four T1 T2 T3 T4)) (now : Option Halted) → mid.header ≡ old.header
+      → Into old mid seats None → Into mid new after now → Into old new after now
+  into_through old mid new seats after now header a b =
+      let all : a.upto ≡ acknowledged seen mid = a.all refl in
+      let begins : Begins a.upto b.upto = subst (λ (l : List Record). Begins l b.upto) (sym all) b.longer in
+      let pending : List Record = pending_in after now in
+      record {
+        upto = b.upto;
+        longer = through (acknowledged seen old) a.upto b.upto a.longer begins;
+        stands = b.stands;
+        all = b.all;
+        any_moment = composed moment left_since old.disk mid.disk new.disk
+            (Between old.header (acknowledged seen old) (a.upto ++ []))
+            (Between mid.header (acknowledged seen mid) (b.upto ++ pending))
+            (Between old.header (acknowledged seen old) (b.upto ++ pending))
+            a.any_moment b.any_moment
+            (λ c w. wider old.header old.header (acknowledged seen old) (a.upto ++ []) (acknowledged seen old) (b.upto ++ pending) c refl (same_begins (acknowledged seen old))
+            (subst (λ (rs : List Record). Begins rs (b.upto ++ pending)) (sym (append-nil a.upto)) (longer a.upto b.upto pending begins)) w)
+            (λ c w. wider mid.header old.header (acknowledged seen mid) (b.upto ++ pending) (acknowledged seen old) (b.upto ++ pending) c header
+            (subst (λ (l : List Record). Begins (acknowledged seen old) l) all a.longer) (same_begins (b.upto ++ pending)) w);
+      }
+
+  pub came_through : (old mid new : Log D) (seats among after : List (Four T1 T2 T3 T4)) (halted then now : Option Halted)
+      → Came old mid seats among halted then → Came mid new among after then now → Came old new seats after halted now
+  came_through old mid new seats among after halted then now a b = record {
+    functions = b.functions ∙ a.functions;
+    rooms = λ f s u e g.
+        let low : f < length seats = slice_get_within seats f s e in
+        let same : length among ≡ length seats = a.functions in
+        let t = found among f (omega arith) in
+        keep_through s t.0 u (a.rooms f s t.0 e t.1) (b.rooms f t.0 u t.1 g);
+    header = b.header ∙ a.header;
+    honest = (λ h. a.honest.0 (b.honest.0 h), λ h. b.honest.1 (a.honest.1 h));
+    journal = λ honest none.
+        by_halt then (λ going. into_through old mid new among after now a.header
+        (subst (λ (h : Option Halted). Into old mid among h) going (a.journal honest none)) (b.journal (a.honest.1 honest) going))
+        (λ some. let still = b.stopped some in
+        subst (λ (l : Log D). Into old l after now) (sym still.0)
+        (subst (λ (l : List (Four T1 T2 T3 T4)). Into old mid l now) (sym still.1)
+        (subst (λ (h : Option Halted). Into old mid among h) (sym still.2) (a.journal honest none))));
+    stopped = λ some.
+        let first = a.stopped some in
+        let later = b.stopped (λ none. some (sym first.2 ∙ none)) in
+        (later.0 ∙ first.0, later.1 ∙ first.1, later.2 ∙ first.2);
+  }
+
+-- the seats of the function of the room that a turn was taken in
+pub keeps_at : {X A1 A2 A3 A4 A5 C1 C2 C3 C4 : Type 0} (f : X → Four (Parts A1 A2 C1) (Parts A2 A3 C2) (Parts A3 A4 C3) (Parts A4 A5 C4))
+    (functions : List (Named A1)) (room : ℕ) (old new : List X) → function_of room < length functions
+    → OfFunction functions (function_of room) (λ function. AtPlace f (Leaves function (pass_of room)) (function_of room) old new)
+    → (s t : Four (Parts A1 A2 C1) (Parts A2 A3 C2) (Parts A3 A4 C3) (Parts A4 A5 C4))
+    → slice_get (map f old) (function_of room) ≡ Some s → slice_get (map f new) (function_of room) ≡ Some t → Keep s t
+keeps_at f functions room old new low leaves s t e g =
+    let named = found functions (function_of room) low in
+    let x = mapped f old (function_of room) s e in
+    let y = mapped f new (function_of room) t g in
+    let it = leaves named.0 named.1 x.0 y.0 x.1 y.1 in
+    subst₂ (λ a b. Keep a b) x.2 y.2 (keep_by (pass_of room) (f x.0) (f y.0) it.stays it.others)
+
+-- A node is seen as its program, its journal, its seats and what stopped it.
+module _ {N G D T1 T2 T3 T4 : Type 0} (is_honest : D → Type 0) (seen : D → List ℕ) (may_leave : D → List ℕ → Type 0)
+    (moment : D → ℕ) (left_since : D → ℕ → List ℕ → Type 0) (program : N → G) (log : N → Log D)
+    (fours : N → List (Four T1 T2 T3 T4)) (halted : N → Option Halted)
+    (now : (d : D) → is_honest d → (c : List ℕ) → left_since d (moment d) c → may_leave d c) where
+  abbrev pub Turned : N → N → Type 0
+  Turned x y = (program y ≡ program x)
+      × CameBack is_honest seen may_leave moment left_since (log x) (log y) (fours x) (fours y) (halted x) (halted y)
+
+  pub after_many : (n : ℕ) (x y : N) → IsSoundNode is_honest seen may_leave (log x) (fours x) (halted x) → After Turned n x y → Turned x y
+  after_many zero x y sound same = subst (λ z. Turned x z) (sym same)
+      (refl, came_none is_honest seen may_leave moment left_since (log x) (fours x) (halted x) (now (log x).disk) sound)
+  after_many (suc n) x y sound turns =
+      let before = after_many n x turns.0 sound turns.1 in
+      let last : Turned turns.0 y = turns.2 in (
+        last.0 ∙ before.0,
+        came_through is_honest seen may_leave moment left_since (log x) (log turns.0) (log y) (fours x) (fours turns.0) (fours y)
+            (halted x) (halted turns.0) (halted y) before.1 last.1,
+      )
+
+  -- of all nodes, each of which is sound and waits for what it is stopped at
+  module _ (waiting : N → Type 0) (most : ℕ) where
+    abbrev pub Fit : N → Type 0
+    Fit x = IsSoundNode is_honest seen may_leave (log x) (fours x) (halted x) × waiting x
+
+    pub all_stay : (xs : List N) → AllByRecursion Fit xs → AllZip Turned xs xs
+    all_stay [] fit = tt
+    all_stay (x ∷ xs) fit = (after_many zero x x fit.0.0 refl, all_stay xs fit.1)
+
+    pub all_long : (xs ys : List N) → AllZip (HasTaken Turned Fit most) xs ys → length ys ≡ length xs
+    all_long [] [] z = refl
+    all_long [] (y ∷ ys) z = absurd z
+    all_long (x ∷ xs) [] z = absurd z
+    all_long (x ∷ xs) (y ∷ ys) z = ap suc (all_long xs ys z.1)
+
+    pub all_fit : (xs ys : List N) → AllByRecursion Fit xs → AllZip (HasTaken Turned Fit most) xs ys → AllByRecursion Fit ys
+    all_fit [] [] fit z = tt
+    all_fit [] (y ∷ ys) fit z = absurd z
+    all_fit (x ∷ xs) [] fit z = absurd z
+    all_fit (x ∷ xs) (y ∷ ys) fit z = (z.0.fit fit.0, all_fit xs ys fit.1 z.1)
+
+    pub all_came : (xs ys : List N) → AllByRecursion Fit xs → AllZip (HasTaken Turned Fit most) xs ys → AllZip Turned xs ys
+    all_came [] [] fit z = tt
+    all_came [] (y ∷ ys) fit z = absurd z
+    all_came (x ∷ xs) [] fit z = absurd z
+    all_came (x ∷ xs) (y ∷ ys) fit z = (after_many z.0.taken x y fit.0.0 z.0.after, all_came xs ys fit.1 z.1)

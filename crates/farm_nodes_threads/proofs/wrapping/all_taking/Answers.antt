@@ -1,0 +1,30 @@
+use Rattle.std.proofs.Common.{◌++◌, map, length, sym, ap, ◌∙◌, append-nil, arith}
+use Rattle.std.specs.Vec.Iter.{into_iter_items}
+use Rattle.farm_nodes_threads.proofs.Mapped.{map_more, nothing_left}
+use Rattle.farm_nodes_threads.proofs.wrapping.all_taking.Goals as goal
+
+pub loop-node-init : goal.loop-node-init
+loop-node-init g c =
+    let gives = c.into_iter-node-iterator.ensures.into_iter_gives in
+    record {
+      whole = ap (λ l. map (λ t. t.node) l ++ into_iter_items c.into_iter-node-iterator.result) c.requires.none ∙ gives.0;
+      counted = omega (arith, gives.1, ap length gives.0, c.args.nodes.ok.0);
+      room = omega (arith, gives.1, ap length gives.0, c.args.nodes.ok.0, c.requires.room, ap length c.requires.none, c.args.room.ok.0);
+    }
+
+pub loop-node-preserved : goal.loop-node-preserved
+loop-node-preserved g c =
+    let i = c.loop-node.invariant in let steps = c.in-Some.ensures.steps in let rest = into_iter_items c.next.new.self in
+    record {
+      whole = ap (λ l. map (λ t. t.node) l ++ rest) c.put.ensures.items
+          ∙ (map_more (λ t. t.node) c.loop-node.all.items (record { node = c.in-Some.node }) rest
+          ∙ (ap (λ l. map (λ t. t.node) c.loop-node.all.items ++ l) (sym steps.0) ∙ i.whole));
+      counted = omega (arith, steps.1, ap length steps.0, i.counted);
+      room = omega (arith, steps.1, c.put.ensures.len, c.put.ensures.room, i.room);
+    }
+
+pub returns : goal.returns
+returns g c =
+    let i = c.loop-node.invariant in
+    let none = nothing_left (into_iter_items c.loop-node.node-iterator) (omega (arith, c.in-None.ensures.steps.0, i.counted)) in
+    sym (append-nil (map (λ t. t.node) c.loop-node.all.items)) ∙ (ap (λ l. map (λ t. t.node) c.loop-node.all.items ++ l) (sym none) ∙ i.whole)

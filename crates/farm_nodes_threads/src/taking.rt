@@ -1,0 +1,63 @@
+//! How a node of a farm takes the turns that it is asked for.
+
+ghost use Rattle.std.specs.Prelude.{◌<◌, ℕ};
+ghost use Rattle.farm_nodes_passes.specs.Numbers.{function_of};
+
+use crate::wrapping::Taking;
+use durable_model::Disk;
+use farm_nodes_node::{FarmNode, Turn};
+use farm_nodes_passes::Oracles;
+use farm_nodes_rounds::{Outcome, TakesTurns};
+use rooms_hall::Naming;
+
+/// How many functions have rooms with numbers.
+const MOST_FUNCTIONS: usize = 16_384;
+
+/// How many rooms so many functions have that have numbers.
+fn rooms_of(functions: usize) -> u32
+    ensures { (room : ℕ) → room < result → function_of room < functions }
+{
+    match u32::try_from(functions.min(MOST_FUNCTIONS)) {
+        Ok(functions) => functions.saturating_mul(4),
+        Err(_) => 0,
+    }
+}
+
+/// What a turn brought, for the order of turns.
+fn outcome_of(turn: Turn) -> Outcome {
+    match turn {
+        Turn::Learned(_) | Turn::Moved => Outcome::Moved,
+        Turn::Idle => Outcome::Idle,
+        Turn::Failed(_) => Outcome::Failed,
+    }
+}
+
+impl<D: Disk + Drop, O: Oracles + Drop, H: Naming> TakesTurns for Taking<FarmNode<D, O, H>> {
+    ghost use Rattle.std.specs.Prelude.{◌≡◌, ◌<◌, ◌/◌, length};
+    ghost use Rattle.farm_nodes_passes.specs.Numbers.{function_of};
+    ghost use Rattle.farm_nodes_passes.specs.Fours.{fours_of};
+    ghost use Rattle.farm_nodes_node.specs.Held.{IsSoundNode};
+    ghost use Rattle.farm_nodes_node.specs.Waiting.{IsWaiting};
+    ghost use Rattle.farm_nodes_threads.specs.CameBack.{CameBack};
+
+    ghost is_fit = { λ t. IsSoundNode D.is_honest D.seen D.may_leave t.node.log
+        (fours_of t.node.seats.items) t.node.halted × IsWaiting t.node.seats.items t.node.halted };
+
+    ghost has_room = { λ t room. function_of room < length t.node.seats.items };
+
+    ghost turned = { λ t u. (u.node.program ≡ t.node.program)
+        × CameBack D.is_honest D.seen D.may_leave D.moment D.left_since t.node.log u.node.log
+        (fours_of t.node.seats.items) (fours_of u.node.seats.items) t.node.halted u.node.halted };
+
+    fn rooms(&self) -> u32 {
+        rooms_of(self.node.seats.len())
+    }
+
+    fn has_learned(&self, room: u16) -> bool {
+        self.node.learned(room).is_some()
+    }
+
+    fn take_turn(&mut self, room: u16) -> Outcome {
+        outcome_of(self.node.turn(room))
+    }
+}

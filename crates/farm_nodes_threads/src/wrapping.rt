@@ -1,0 +1,63 @@
+//! Nodes in a type of this crate, of which it is said here how it takes turns.
+
+ghost use Rattle.std.specs.Prelude.{◌≡◌, ◌<◌, ◌≤◌, ◌+◌, [], ◌∷◌, ◌++◌, map, vec_len, vec_capacity, IfSome};
+
+use std::alloc::Global;
+
+/// A node that takes turns.
+#[derive(Drop)]
+pub(crate) struct Taking<N> {
+    pub node: N,
+}
+
+/// Puts one more behind these, which have room for it.
+fn put<T: Drop>(all: &mut Vec<T>, one: T)
+    requires { vec_len all.old < vec_capacity all.old }
+    ensures items { all.new.items ≡ all.old.items ++ one ∷ [] }
+    ensures len { vec_len all.new ≡ vec_len all.old + 1 }
+    ensures room { vec_capacity all.old ≤ vec_capacity all.new }
+{
+    if all.push(one).is_err() {
+        unreachable!();
+    }
+}
+
+/// Room for so many nodes that take turns, and for as many when they come back.
+pub(crate) fn two_rooms<N: Drop>(alloc: Global, count: usize) -> Option<(Vec<Taking<N>>, Vec<N>)>
+    ensures { IfSome result (λ r. (r.0.items ≡ []) × (r.1.items ≡ [])
+        × (count ≤ vec_capacity r.0) × (count ≤ vec_capacity r.1)) }
+{
+    let Ok(room) = Vec::with_capacity(alloc, count) else {
+        return None;
+    };
+    let Ok(home) = Vec::with_capacity(alloc, count) else {
+        return None;
+    };
+    Some((room, home))
+}
+
+/// Each of the nodes as one that takes turns, where there is room.
+pub(crate) fn all_taking<N: Drop>(nodes: Vec<N>, room: Vec<Taking<N>>) -> Vec<Taking<N>>
+    requires none { room.items ≡ [] }
+    requires room { vec_len nodes ≤ vec_capacity room }
+    ensures { map (λ t. t.node) result.items ≡ nodes.items }
+{
+    let mut all = room;
+    for node in nodes {
+        put(&mut all, Taking { node });
+    }
+    all
+}
+
+/// The nodes alone, where there is room.
+pub(crate) fn all_nodes<N: Drop>(all: Vec<Taking<N>>, room: Vec<N>) -> Vec<N>
+    requires none { room.items ≡ [] }
+    requires room { vec_len all ≤ vec_capacity room }
+    ensures { result.items ≡ map (λ t. t.node) all.items }
+{
+    let mut nodes = room;
+    for taking in all {
+        put(&mut nodes, taking.node);
+    }
+    nodes
+}
