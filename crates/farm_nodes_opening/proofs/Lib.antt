@@ -1,0 +1,3 @@
+pub mod OneRoom
+pub mod Left
+pub mod Seated

@@ -1,0 +1,114 @@
+-- The seats of a room as it opens are of one room, and as many as its nodes.
+use Rattle.std.proofs.Common.{◌≡◌, inl, inr, ℕ, zero, suc, ◌<◌, List, [], ◌∷◌, length, map, set, get_or, All, Option, Some, None, refl, sym, ap, subst, ◌∙◌, arith}
+use Rattle.std.proofs.lemmas.List.{length_push, length-map}
+use Rattle.std.proofs.lemmas.List.Elements.{All-nil, All-push, All-same, All-get_or, All-weaker}
+use Rattle.atomic_table.specs.Seated.{TableId}
+use Rattle.paxos_core_law.specs.NodeState.{IsRoomSize}
+use Rattle.paxos_core_world.specs.KeptPart.{KeptPart}
+use Rattle.rooms_cells.specs.Seen.{SightOf, names_of, nothing_seen, sight_at, unseen}
+use Rattle.rooms_hall.specs.Claimed.{Claimed}
+use Rattle.rooms_hall.specs.RoomId.{RoomId}
+use Rattle.rooms_rule.specs.declared.view.Opening.{Opening}
+use Rattle.rooms_state.specs.SeatState.{opening_of}
+use Rattle.rooms.specs.Opened.{offer_at, opened, opened_first, with_seen, AreOffersOf, AreOpened}
+use Rattle.rooms.specs.SeatValue.{SeatValue}
+use Rattle.rooms_numbered.specs.RoomOf.{room_of}
+use Rattle.farm_nodes_opening.specs.Numbered.{AreOfOneRoom, HaveOneClaim, IsOpenedRoom}
+
+map-map : {A B C : Type 0} (f : B → C) (g : A → B) (xs : List A) → map f (map g xs) ≡ map (λ x. f (g x)) xs
+map-map f g [] = refl
+map-map f g (x ∷ xs) = ap (λ ys. f (g x) ∷ ys) (map-map f g xs)
+
+map-set_same : {A B : Type 0} (f : A → B) (xs : List A) (j : ℕ) (y d : A) → f y ≡ f (get_or xs j d) → map f (set xs j y) ≡ map f xs
+map-set_same f [] j y d e = refl
+map-set_same f (x ∷ xs) zero y d e = ap (λ z. z ∷ map f xs) e
+map-set_same f (x ∷ xs) (suc j) y d e = ap (λ zs. f x ∷ zs) (map-set_same f xs j y d e)
+
+names_of-unseen : (T : Type 0) (names : List ℕ) → names_of (unseen {T = T} names) ≡ names
+names_of-unseen T [] = refl
+names_of-unseen T (n ∷ ns) = ap (λ ms. n ∷ ms) (names_of-unseen T ns)
+
+abbrev pub room : TableId → List ℕ → RoomId
+room table cells = record { table = table; cells = cells }
+
+module _ {T : Type 0} (table : TableId) (cells : List ℕ) (o : Opening) where
+  names_of-seen : (i : ℕ) (x : Option T) → names_of (with_seen i x (unseen {T = T} cells)) ≡ cells
+  names_of-seen i None = names_of-unseen T cells
+  names_of-seen i (Some x) =
+      map-set_same (λ (s : SightOf T). s.cell) (unseen {T = T} cells) i record (sight_at (unseen {T = T} cells) i) { value = Some x } nothing_seen refl
+      ∙ names_of-unseen T cells
+
+  abbrev pub IsHere : SeatValue T → Type 0
+  IsHere s = room_of s ≡ room table cells
+
+  is_here : (i : ℕ) (x : Option T) → IsHere (opened table cells o i x)
+  is_here i x = let as_room : List ℕ → RoomId = λ ns. record { table = table; cells = ns } in ap as_room (names_of-seen i x)
+
+  module _ (offers : List (Option T)) where
+    all_here : (k : ℕ) → All IsHere (opened_first table cells o offers k)
+    all_here zero = All-nil IsHere
+    all_here (suc k) =
+        All-push IsHere (opened_first table cells o offers k) (opened table cells o k (offer_at offers k)) (all_here k) (is_here k (offer_at offers k))
+
+    pub so_many : (k : ℕ) → length (opened_first table cells o offers k) ≡ k
+    so_many zero = refl
+    so_many (suc k) =
+        length_push (opened_first table cells o offers k) (opened table cells o k (offer_at offers k)) ∙ omega (arith, so_many k)
+
+module _ {T : Type 0} (kept : List KeptPart) (offers : List (Option T)) (seats : List (SeatValue T)) (are : AreOpened kept offers seats) where
+  pub one_room : AreOfOneRoom seats
+  one_room =
+      let here = all_here {T = T} are.table are.cells (opening_of kept) offers (length kept) in
+      record {
+        room = room are.table are.cells;
+        each = All-same (IsHere {T = T} are.table are.cells (opening_of kept)) seats (opened_first are.table are.cells (opening_of kept) offers (length kept)) are.seats_are here;
+      }
+
+  pub as_many : length seats ≡ length kept
+  as_many = ap length are.seats_are ∙ so_many {T = T} are.table are.cells (opening_of kept) offers (length kept)
+
+  pub some_seat : IsRoomSize (length kept) → 0 < length seats
+  some_seat (inl three) = omega (arith, three, as_many)
+  some_seat (inr (inl five)) = omega (arith, five, as_many)
+  some_seat (inr (inr seven)) = omega (arith, seven, as_many)
+
+-- a claim of the room of one of them is one of each one's room
+pub claimed_by_all : {T : Type 0} (seats : List (SeatValue T)) (one : SeatValue T) (claimed : RoomId) → AreOfOneRoom seats → 0 < length seats → one ≡ get_or seats 0 one → claimed ≡ room_of one → All (λ s. room_of s ≡ claimed) seats
+claimed_by_all {T} seats one claimed are some is named =
+    let Here : SeatValue T → Type 0 = λ s. room_of s ≡ are.room in
+    let here : room_of one ≡ are.room = ap room_of is ∙ All-get_or Here seats 0 one some are.each in
+    All-weaker Here (λ s. room_of s ≡ claimed) (λ s e. e ∙ sym here ∙ sym named) seats are.each
+
+-- seats and claims side by side
+pub opened_pairs : {T N : Type 0} (kept : List KeptPart) (offers : List (Option T)) (seat : N → SeatValue T) (claim : N → Claimed) (found : List N) (seats : List (SeatValue T)) → map seat found ≡ seats → HaveOneClaim (map claim found) → AreOpened kept offers seats → IsOpenedRoom kept offers (map (λ n. (seat n, claim n)) found)
+opened_pairs {T} {N} kept offers seat claim found seats are one opened =
+    let pair : N → SeatValue T × Claimed = λ n. (seat n, claim n) in
+    let firsts : map (λ (p : SeatValue T × Claimed). p.0) (map pair found) ≡ map seat found = map-map (λ (p : SeatValue T × Claimed). p.0) pair found in
+    let seconds : map (λ (p : SeatValue T × Claimed). p.1) (map pair found) ≡ map claim found = map-map (λ (p : SeatValue T × Claimed). p.1) pair found in
+    record {
+      opened = record { table = opened.table; cells = opened.cells; size = opened.size; seats_are = firsts ∙ are ∙ opened.seats_are };
+      one = record { claim = one.claim; each = All-same (λ c. c ≡ one.claim) (map (λ (p : SeatValue T × Claimed). p.1) (map pair found)) (map claim found) seconds one.each };
+    }
+
+-- the same of the nodes that hold them
+pub opened_through : {T N F : Type 0} (kept : List KeptPart) (offers : List (Option T)) (show : N → SeatValue T × Claimed) (part : F → N) (nodes : List F) (seats : List N) → map part nodes ≡ seats → IsOpenedRoom kept offers (map show seats) → IsOpenedRoom kept offers (map (λ n. show (part n)) nodes)
+opened_through {T} {N} {F} kept offers show part nodes seats are is =
+    let same : map (λ n. show (part n)) nodes ≡ map show seats = sym (map-map show part nodes) ∙ ap (map show) are in
+    subst (λ (ps : List (SeatValue T × Claimed)). IsOpenedRoom kept offers ps) (sym same) is
+
+-- of kept parts and offers that are the same
+pub as_given : {T : Type 0} (kept parts : List KeptPart) (offers here : List (Option T)) (seats : List (SeatValue T × Claimed)) → parts ≡ kept → here ≡ offers → IsOpenedRoom parts here seats → IsOpenedRoom kept offers seats
+as_given {T} kept parts offers here seats same given is =
+    subst (λ (os : List (Option T)). IsOpenedRoom kept os seats) given (subst (λ (k : List KeptPart). IsOpenedRoom k here seats) same is)
+
+pub offers_as_given : {T : Type 0} (kept parts : List KeptPart) (offers here : List (Option T)) → parts ≡ kept → here ≡ offers → AreOffersOf kept offers → AreOffersOf parts here
+offers_as_given {T} kept parts offers here same given are =
+    subst (λ (os : List (Option T)). AreOffersOf parts os) (sym given) (subst (λ (k : List KeptPart). AreOffersOf k offers) (sym same) are)
+
+-- how many they are
+pub pairs_count : {T N : Type 0} (kept : List KeptPart) (offers : List (Option T)) (show : N → SeatValue T × Claimed) (found : List N) → IsOpenedRoom kept offers (map show found) → length found ≡ length kept
+pairs_count kept offers show found is =
+    sym (length-map found show) ∙ sym (length-map (map show found) (λ p. p.0)) ∙ as_many kept offers (map (λ p. p.0) (map show found)) is.opened
+
+pub sized : {X : Type 0} (nodes : List X) (kept : List KeptPart) → length kept ≡ length nodes → IsRoomSize (length nodes) → IsRoomSize (length kept)
+sized nodes kept same size = subst IsRoomSize (sym same) size
