@@ -1,0 +1,91 @@
+-- The rooms of one function more are open.
+use Rattle.std.proofs.Common.{◌≡◌, ℕ, length, All, sym, subst, ◌∙◌, arith}
+use Rattle.std.proofs.lemmas.List.{length-map}
+use Rattle.farm_nodes_passes.specs.declared.which.Which.TheVariants.{First, Second, Third, Fourth}
+use Rattle.farm_nodes_lists.specs.Rows.{rows_of}
+use Rattle.farm_nodes_functions.proofs.Rooms.{all_left_next, before_first, before_room, none_open, none_taken, offers_here, open_next, settled_again}
+use Rattle.farm_nodes_functions.proofs.opening.open_functions.Goals as goal
+
+pub returns-in-Err-clause-before : goal.returns-in-Err-clause-before
+returns-in-Err-clause-before g c = before_first c.args.kept.now 0 c.no_memory.result.room (λ f low. absurd (omega (arith, low))) c.no_memory.ensures.room
+
+pub loop-function-init : goal.loop-function-init
+loop-function-init g c = record {
+  count = c.in-Ok.ensures.count;
+  opened = none_open c.args.kept.now c.args.offers (rows_of c.in-Ok.nodes.items) c.in-Ok.ensures.none;
+  left = none_taken c.args.offers;
+}
+
+pub open_function-requires-clause-offers1 : goal.open_function-requires-clause-offers1
+open_function-requires-clause-offers1 g c =
+    offers_here c.args.kept.now First c.args.functions c.loop-function.function (rows_of c.args.offers.first.items) (rows_of c.loop-function.left.first.items)
+    c.requires.offers1 c.loop-function-test.true c.loop-function.invariant.left.first
+
+pub open_function-requires-clause-offers2 : goal.open_function-requires-clause-offers2
+open_function-requires-clause-offers2 g c =
+    offers_here c.args.kept.now Second c.args.functions c.loop-function.function (rows_of c.args.offers.second.items) (rows_of c.loop-function.left.second.items)
+    c.requires.offers2 c.loop-function-test.true c.loop-function.invariant.left.second
+
+pub open_function-requires-clause-offers3 : goal.open_function-requires-clause-offers3
+open_function-requires-clause-offers3 g c =
+    offers_here c.args.kept.now Third c.args.functions c.loop-function.function (rows_of c.args.offers.third.items) (rows_of c.loop-function.left.third.items)
+    c.requires.offers3 c.loop-function-test.true c.loop-function.invariant.left.third
+
+pub open_function-requires-clause-offers4 : goal.open_function-requires-clause-offers4
+open_function-requires-clause-offers4 g c =
+    offers_here c.args.kept.now Fourth c.args.functions c.loop-function.function (rows_of c.args.offers.fourth.items) (rows_of c.loop-function.left.fourth.items)
+    c.requires.offers4 c.loop-function-test.true c.loop-function.invariant.left.fourth
+
+pub add_each-requires : goal.add_each-requires
+add_each-requires g c = c.in-Ok-open_function.ensures.opened.count ∙ sym c.loop-function.invariant.count
+
+pub loop-function-preserved : goal.loop-function-preserved
+loop-function-preserved g c =
+    let n = c.loop-function.function in
+    let i = c.loop-function.invariant in
+    let nodes = c.loop-function.nodes.items in
+    let left = c.loop-function.left in
+    record {
+      count = c.add_each.ensures.count ∙ i.count;
+      opened =
+          open_next c.args.kept.now n c.args.offers left (rows_of nodes) (rows_of c.add_each.new.lists.items) c.in-Ok-open_function.seats.items
+          (length-map nodes (λ v. v.items) ∙ i.count) c.in-Ok-add_each.ensures.added i.left c.in-Ok-open_function.ensures.opened i.opened;
+      left = all_left_next n c.args.offers left c.open_function.new.offers i.left c.in-Ok-open_function.ensures.others;
+    }
+
+pub returns-in-Err-open_function-clause-room : goal.returns-in-Err-open_function-clause-room
+returns-in-Err-open_function-clause-room g c memory = omega (arith, c.in-Err-open_function.ensures.told.of_function, c.loop-function-test.true)
+
+pub returns-in-Err-open_function-clause-before : goal.returns-in-Err-open_function-clause-before
+returns-in-Err-open_function-clause-before g c =
+    before_room c.args.kept.now c.loop-function.function c.in-Err-open_function.unopened.room c.loop-function.invariant.opened.settled
+    c.in-Err-open_function.ensures.told.of_function c.in-Err-open_function.ensures.told.before
+
+pub returns-in-Err-open_function-clause-left : goal.returns-in-Err-open_function-clause-left
+returns-in-Err-open_function-clause-left g c left is =
+    c.in-Err-open_function.ensures.told.unsettled is
+    (settled_again c.args.kept.now c.args.functions c.in-Err-open_function.unopened.room (omega (arith, c.in-Err-open_function.ensures.told.of_function, c.loop-function-test.true)) left)
+
+pub returns-in-Err-add_each-clause-before : goal.returns-in-Err-add_each-clause-before
+returns-in-Err-add_each-clause-before g c =
+    before_first c.args.kept.now c.loop-function.function c.no_memory-in-Err-add_each.result.room c.loop-function.invariant.opened.settled c.no_memory-in-Err-add_each.ensures.room
+
+pub returns-clause-functions : goal.returns-clause-functions
+returns-clause-functions g c =
+    let all : c.loop-function.function ≡ c.args.functions = omega (arith, c.loop-function-test.false, c.loop-function.auto.function-end) in
+    subst (λ (k : ℕ). All (λ row. length row ≡ k) (rows_of c.loop-function.nodes.items)) all c.loop-function.invariant.opened.long
+
+pub returns-clause-first : goal.returns-clause-first
+returns-clause-first g c f low = c.loop-function.invariant.opened.first f (omega (arith, low, c.loop-function-test.false, c.loop-function.auto.function-end))
+
+pub returns-clause-second : goal.returns-clause-second
+returns-clause-second g c f low = c.loop-function.invariant.opened.second f (omega (arith, low, c.loop-function-test.false, c.loop-function.auto.function-end))
+
+pub returns-clause-third : goal.returns-clause-third
+returns-clause-third g c f low = c.loop-function.invariant.opened.third f (omega (arith, low, c.loop-function-test.false, c.loop-function.auto.function-end))
+
+pub returns-clause-fourth : goal.returns-clause-fourth
+returns-clause-fourth g c f low = c.loop-function.invariant.opened.fourth f (omega (arith, low, c.loop-function-test.false, c.loop-function.auto.function-end))
+
+pub returns-clause-settled : goal.returns-clause-settled
+returns-clause-settled g c f low = c.loop-function.invariant.opened.settled f (omega (arith, low, c.loop-function-test.false, c.loop-function.auto.function-end))

@@ -1,0 +1,43 @@
+-- The four rooms of a function, as they open.
+use Rattle.std.specs.Prelude.{◌≡◌, ℕ, List, Option, length, map}
+use Rattle.std.specs.Global.{Vec}
+use Rattle.paxos_core_world.specs.KeptPart.{KeptPart}
+use Rattle.rooms_hall.specs.declared.hall.Naming as naming
+use Rattle.farm_nodes_passes.specs.Numbers.{function_of, room_at}
+use Rattle.farm_nodes_passes.specs.Offers.{Constants, Expressions, Allocation, Order}
+use Rattle.farm_nodes_passes.specs.declared.passes.Passes.{Passes}
+use Rattle.farm_nodes_passes.specs.declared.seats.Seats.{Seats}
+use Rattle.farm_nodes_passes.specs.declared.which.Which.TheVariants.{First, Second, Third, Fourth}
+use Rattle.farm_nodes_lists.specs.Rows.{offers_of, rows_of, AreForOthers}
+use Rattle.farm_nodes_opening.specs.Kept.{kept_of, AreSettled, AreSettledBefore, IsOfferedIn, IsSettledIn}
+use Rattle.farm_nodes_opening.specs.Numbered.{IsOpenedRoom}
+use Rattle.farm_nodes_opening.specs.declared.fault.RoomFault.{RoomFault}
+use Rattle.farm_nodes_opening.specs.declared.fault.RoomFault.TheVariants.{CellRefused, Unsettled}
+
+-- the offers of the nodes, pass by pass: node by node, for each function
+abbrev pub Offered : Type 0
+Offered = Passes (Vec (Vec (Option Constants))) (Vec (Vec (Option Expressions))) (Vec (Vec (Option Allocation))) (Vec (Vec (Option Order)))
+
+-- those for other functions are left
+pub record AreTaken (function : ℕ) (before after : Offered) : Type 0 where
+  pub first : AreForOthers function (rows_of before.first.items) (rows_of after.first.items)
+  pub second : AreForOthers function (rows_of before.second.items) (rows_of after.second.items)
+  pub third : AreForOthers function (rows_of before.third.items) (rows_of after.third.items)
+  pub fourth : AreForOthers function (rows_of before.fourth.items) (rows_of after.fourth.items)
+
+-- in each room the nodes' seats are those of the room as it opens from what was kept of it and offered there
+pub record IsOpenFunction {H : Type 0} {h : naming.Ghosts H} (kept : List (Vec KeptPart)) (f : ℕ) (offers : Offered) (nodes : List (Seats H h)) : Type 0 where
+  pub first : IsOpenedRoom (kept_of kept (room_at f First)) (offers_of (rows_of offers.first.items) f) (map (λ n. (n.first.seat, n.first.claim)) nodes)
+  pub second : IsOpenedRoom (kept_of kept (room_at f Second)) (offers_of (rows_of offers.second.items) f) (map (λ n. (n.second.seat, n.second.claim)) nodes)
+  pub third : IsOpenedRoom (kept_of kept (room_at f Third)) (offers_of (rows_of offers.third.items) f) (map (λ n. (n.third.seat, n.third.claim)) nodes)
+  pub fourth : IsOpenedRoom (kept_of kept (room_at f Fourth)) (offers_of (rows_of offers.fourth.items) f) (map (λ n. (n.fourth.seat, n.fourth.claim)) nodes)
+  pub count : length nodes ≡ length kept
+  pub settled : AreSettled kept f
+
+-- The room is one of the function's, and what was kept of those in front of it is settled. Of this one it is not, where it is said so;
+-- and where a cell refused, somebody has offered there.
+pub record IsTold (nodes : List (Vec KeptPart)) (function room : ℕ) (fault : RoomFault) : Type 0 where
+  pub of_function : function_of room ≡ function
+  pub before : AreSettledBefore nodes function room
+  pub unsettled : fault ≡ Unsettled → ¬ IsSettledIn nodes room
+  pub refused : fault ≡ CellRefused → IsOfferedIn nodes room

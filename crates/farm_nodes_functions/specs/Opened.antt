@@ -1,0 +1,25 @@
+-- The rooms of one pass of all functions, as they open.
+use Rattle.std.specs.Prelude.{ℕ, ◌<◌, List, Option, map}
+use Rattle.std.specs.Global.{Vec}
+use Rattle.paxos_core_world.specs.KeptPart.{KeptPart}
+use Rattle.rooms_hall.specs.Claimed.{Claimed}
+use Rattle.rooms.specs.Opened.{AreOffersOf}
+use Rattle.rooms.specs.SeatValue.{SeatValue}
+use Rattle.farm_nodes_passes.specs.Numbers.{room_at}
+use Rattle.farm_nodes_passes.specs.declared.which.Which.{Which}
+use Rattle.farm_nodes_opening.specs.Kept.{kept_of, IsSettledIn}
+use Rattle.farm_nodes_opening.specs.Numbered.{IsOpenedRoom}
+use Rattle.farm_nodes_lists.specs.Rows.{column, offers_of}
+
+-- the offers are those of the nodes that have kept that they made one in the room of the function's pass
+abbrev pub AreOfferedIn : {T : Type 0} → List (Vec KeptPart) → Which → ℕ → List (List (Option T)) → Type 0
+AreOfferedIn kept pass functions offers = (f : ℕ) → f < functions → AreOffersOf (kept_of kept (room_at f pass)) (offers_of offers f)
+
+-- what the nodes have for each function shows the seats of the room of its pass, as it opens
+abbrev pub AreOpenedIn : {T N : Type 0} → List (Vec KeptPart) → Which → ℕ → List (List (Option T)) → (N → SeatValue T × Claimed) → List (List N) → Type 0
+AreOpenedIn kept pass functions offers show nodes =
+    (f : ℕ) → f < functions → IsOpenedRoom (kept_of kept (room_at f pass)) (offers_of offers f) (map show (column nodes f))
+
+-- what was kept of each room in front of this one is settled
+abbrev pub IsSettledBefore : List (Vec KeptPart) → ℕ → Type 0
+IsSettledBefore kept room = (m : ℕ) → m < room → IsSettledIn kept m
