@@ -1,0 +1,217 @@
+-- What records leave of a node's seats once what was pending is done, and once the seats have forgotten.
+use Rattle.std.proofs.Common.{◌≡◌, ◌≢◌, ℕ, ◌<◌, List, [], ◌∷◌, length, map, get_or, Option, Some, None, Result, Ok, Err, OnOk, OnErr, set, refl, sym, ap, ◌∙◌, subst, arith, inl, inr}
+use Rattle.std.specs.Prelude.{slice_get}
+use Rattle.std.proofs.lemmas.Bool.{cases_eq}
+use Rattle.std.proofs.lemmas.List.{length-map, length-set}
+use Rattle.std.proofs.lemmas.Option.{slice_get_within}
+use Rattle.paxos_core_world.specs.KeptPart.{KeptPart}
+use Rattle.acceptor_log_form.specs.declared.record.Record.{Record}
+use Rattle.acceptor_log_form.specs.Leaves.{kept_by, kept_in}
+use Rattle.rooms_state.specs.SeatState.{SeatState}
+use Rattle.farm_nodes_acting.specs.declared.stop.Pending.{Pending}
+use Rattle.farm_nodes_acting.specs.Noted.{pending_of}
+use Rattle.farm_nodes_acting.proofs.Records.{kept_own, kept_other}
+use Rattle.farm_nodes_passes.specs.Numbers.{function_of, pass_of}
+use Rattle.farm_nodes_passes.specs.declared.which.Which.{Which}
+use Rattle.farm_nodes_passes.specs.declared.which.Which.TheVariants.{First, Second, Third, Fourth}
+use Rattle.farm_nodes_passes.specs.Fours.{words_of, Four}
+use Rattle.farm_nodes_passes.specs.Leaves.{left_in, pending_at, IsPendingIn, Leave, MayPend}
+use Rattle.farm_nodes_restart_records.specs.Found.{EndsWith, IsFound, LeaveWith}
+use Rattle.farm_nodes_restart_records.specs.declared.finding.Found.{Found}
+use Rattle.farm_nodes_restart_seat.specs.Places.{AllChanged}
+use Rattle.farm_nodes_restart.specs.Returned.{HasStepped, HaveForgotten, HaveReturned, IsTaken, TookAt, TookIn}
+use Rattle.farm_nodes_restart_seat.proofs.Records.{forgotten_kept, took_record, IsRecordOf}
+use Rattle.farm_nodes_restart_seat.proofs.Places.{get_set_other, get_set_same, lent_at, ok_changed_at, seen_at, some_same, there_is}
+use Rattle.farm_nodes_restart_records.proofs.Rooms.{same_room}
+
+-- ---- with the four of a function
+
+module _ {X1 X2 X3 X4 : Type 0} (IsText1 : List ℕ → X1 → Type 0) (IsText2 : List ℕ → X2 → Type 0)
+    (IsText3 : List ℕ → X3 → Type 0) (IsText4 : List ℕ → X4 → Type 0) (room : ℕ) where
+  abbrev Taken : Which → Pending → Four X1 X2 X3 X4 → Four X1 X2 X3 X4 → Type 0
+  Taken w p old new = TookIn IsText1 IsText2 IsText3 IsText4 room w p old new
+
+  taken_record : (w : Which) (p : Pending) (old new : Four X1 X2 X3 X4) (last : Record) → Taken w p old new → pending_of room (words_of old w) p ≡ last ∷ [] → IsRecordOf room (words_of old w) (words_of new w) last
+  taken_record First p old new last took e = took_record IsText1 room p old.first new.first last took.0 e
+  taken_record Second p old new last took e = took_record IsText2 room p old.second new.second last took.0 e
+  taken_record Third p old new last took e = took_record IsText3 room p old.third new.third last took.0 e
+  taken_record Fourth p old new last took e = took_record IsText4 room p old.fourth new.fourth last took.0 e
+
+  others_words : (w v : Which) (p : Pending) (old new : Four X1 X2 X3 X4) → Taken w p old new → v ≢ w → words_of new v ≡ words_of old v
+  others_words First First p old new took other = absurd (other refl)
+  others_words First Second p old new took other = ap (λ (s : Four X1 X2 X3 X4). s.second.words) took.1
+  others_words First Third p old new took other = ap (λ (s : Four X1 X2 X3 X4). s.third.words) took.1
+  others_words First Fourth p old new took other = ap (λ (s : Four X1 X2 X3 X4). s.fourth.words) took.1
+  others_words Second First p old new took other = ap (λ (s : Four X1 X2 X3 X4). s.first.words) took.1
+  others_words Second Second p old new took other = absurd (other refl)
+  others_words Second Third p old new took other = ap (λ (s : Four X1 X2 X3 X4). s.third.words) took.1
+  others_words Second Fourth p old new took other = ap (λ (s : Four X1 X2 X3 X4). s.fourth.words) took.1
+  others_words Third First p old new took other = ap (λ (s : Four X1 X2 X3 X4). s.first.words) took.1
+  others_words Third Second p old new took other = ap (λ (s : Four X1 X2 X3 X4). s.second.words) took.1
+  others_words Third Third p old new took other = absurd (other refl)
+  others_words Third Fourth p old new took other = ap (λ (s : Four X1 X2 X3 X4). s.fourth.words) took.1
+  others_words Fourth First p old new took other = ap (λ (s : Four X1 X2 X3 X4). s.first.words) took.1
+  others_words Fourth Second p old new took other = ap (λ (s : Four X1 X2 X3 X4). s.second.words) took.1
+  others_words Fourth Third p old new took other = ap (λ (s : Four X1 X2 X3 X4). s.third.words) took.1
+  others_words Fourth Fourth p old new took other = absurd (other refl)
+
+  -- ---- with all
+
+  module _ (p : Pending) (old new : List (Four X1 X2 X3 X4)) (took : TookAt IsText1 IsText2 IsText3 IsText4 room p old new) (front rs : List Record)
+      (ends : EndsWith (pending_at old room (Some p)) front rs) (leave : Leave old front) where
+    own : IsRecordOf room (words_of took.before (pass_of room)) (words_of took.after (pass_of room)) ends.0
+    own =
+        taken_record (pass_of room) p took.before took.after ends.0 took.change
+        (ap (λ (o : Option (Four X1 X2 X3 X4)). left_in o room (Some p)) (sym took.there) ∙ ends.1)
+
+    now_at : (f : ℕ) → slice_get new f ≡ slice_get (set old (function_of room) took.after) f
+    now_at f = ap (λ (l : List (Four X1 X2 X3 X4)). slice_get l f) took.new_is
+
+    is_after : (f : ℕ) (s : Four X1 X2 X3 X4) → f ≡ function_of room → slice_get new f ≡ Some s → took.after ≡ s
+    is_after f s same at =
+        some_same (slice_get new f) took.after s
+        (now_at f ∙ (ap (λ (j : ℕ). slice_get (set old (function_of room) took.after) j) same ∙ get_set_same old (function_of room) took.before took.after took.there)) at
+
+    elsewhere : (m : ℕ) → m ≢ room → kept_in rs m ≡ kept_in front m
+    elsewhere m other =
+        ap (λ (l : List Record). kept_in l m) ends.2
+        ∙ kept_other front ends.0 m (λ e. other (sym e ∙ own.0))
+
+    room_here : (m : ℕ) (s : Four X1 X2 X3 X4) → m ≡ room → slice_get new (function_of m) ≡ Some s → kept_in rs m ≡ (words_of s (pass_of m)).node.kept
+    room_here m s same at =
+        let after : took.after ≡ s = is_after (function_of m) s (ap function_of same) at in
+        ap (λ (l : List Record). kept_in l m) ends.2
+        ∙ (kept_own front ends.0 m (own.0 ∙ sym same)
+        ∙ (ap (λ (k : KeptPart). kept_by k ends.0) (ap (λ (j : ℕ). kept_in front j) same ∙ leave.rooms room took.before took.there)
+        ∙ (own.1
+        ∙ (ap (λ (t : Four X1 X2 X3 X4). (words_of t (pass_of room)).node.kept) after
+        ∙ ap (λ (j : ℕ). (words_of s (pass_of j)).node.kept) (sym same)))))
+
+    beside : (m : ℕ) (s : Four X1 X2 X3 X4) → m ≢ room → function_of m ≡ function_of room → slice_get new (function_of m) ≡ Some s → kept_in rs m ≡ (words_of s (pass_of m)).node.kept
+    beside m s other same at =
+        let after : took.after ≡ s = is_after (function_of m) s same at in
+        let there : slice_get old (function_of m) ≡ Some took.before = ap (λ (j : ℕ). slice_get old j) same ∙ took.there in
+        let words : words_of took.after (pass_of m) ≡ words_of took.before (pass_of m) =
+        others_words (pass_of room) (pass_of m) p took.before took.after took.change (λ e. other (same_room m room same e)) in
+        elsewhere m other
+        ∙ (leave.rooms m took.before there
+        ∙ (ap (λ (u : SeatState). u.node.kept) (sym words)
+        ∙ ap (λ (t : Four X1 X2 X3 X4). (words_of t (pass_of m)).node.kept) after))
+
+    away : (m : ℕ) (s : Four X1 X2 X3 X4) → m ≢ room → function_of m ≢ function_of room → slice_get new (function_of m) ≡ Some s → kept_in rs m ≡ (words_of s (pass_of m)).node.kept
+    away m s other apart at =
+        elsewhere m other
+        ∙ leave.rooms m s (sym (get_set_other old (function_of room) (function_of m) took.after apart) ∙ (sym (now_at (function_of m)) ∙ at))
+
+    leave_taken : Leave new rs
+    leave_taken = record {
+      rooms = λ m s at.
+          elim (cases_eq m room) [
+            | inl same ↦ room_here m s same at
+            | inr other ↦ elim (cases_eq (function_of m) (function_of room)) [
+              | inl same ↦ beside m s other same at
+              | inr apart ↦ away m s other apart at
+            ]
+          ];
+      no_others = λ m above.
+          let size : length new ≡ length old = ap length took.new_is ∙ length-set old (function_of room) took.after in
+          let within : function_of room < length old = slice_get_within old (function_of room) took.before took.there in
+          let apart : m ≢ room = (λ e. let same : function_of m ≡ function_of room = ap function_of e in absurd (omega (arith, above, size, within, same))) in
+          elsewhere m apart ∙ leave.no_others m (omega (arith, above, size));
+    }
+
+  leave_done : (p : Option Pending) (old new : List (Four X1 X2 X3 X4)) (rs : List Record) → LeaveWith old room p rs → IsTaken IsText1 IsText2 IsText3 IsText4 room p old new → Leave new rs
+  leave_done None old new rs all taken = absurd taken
+  leave_done (Some p) old new rs all taken = leave_taken p old new taken all.front rs all.ends all.leave
+
+  leave_stepped : (p : Option Pending) (old new : List (Four X1 X2 X3 X4)) (rs : List Record) → HasStepped IsText1 IsText2 IsText3 IsText4 room p rs old new → Leave new rs
+  leave_stepped p old new rs (inl done) = leave_done p old new rs done.0 done.1
+  leave_stepped p old new rs (inr none) = subst (λ (l : List (Four X1 X2 X3 X4)). Leave l rs) (sym none.2) none.1
+
+-- ---- once they have forgotten
+
+four_kept : {X1 X2 X3 X4 : Type 0} (old new : Four X1 X2 X3 X4) (w : Which) → HaveForgotten old new → (words_of new w).node.kept ≡ (words_of old w).node.kept
+four_kept old new First forgot = forgotten_kept old.first new.first forgot.first
+four_kept old new Second forgot = forgotten_kept old.second new.second forgot.second
+four_kept old new Third forgot = forgotten_kept old.third new.third forgot.third
+four_kept old new Fourth forgot = forgotten_kept old.fourth new.fourth forgot.fourth
+
+leave_forgot : {X1 X2 X3 X4 : Type 0} (old new : List (Four X1 X2 X3 X4)) (rs : List Record) → AllChanged HaveForgotten old new → Leave old rs → Leave new rs
+leave_forgot old new rs forgot leave = record {
+  rooms = λ m t at.
+      let within : function_of m < length new = slice_get_within new (function_of m) t at in
+      let before = there_is old (function_of m) (omega (arith, within, forgot.count)) in
+      leave.rooms m before.0 before.1
+      ∙ sym (four_kept before.0 t (pass_of m) (forgot.each (function_of m) before.0 t before.1 at));
+  no_others = λ m above. leave.no_others m (omega (arith, above, forgot.count));
+}
+
+module _ {X1 X2 X3 X4 : Type 0} (IsText1 : List ℕ → X1 → Type 0) (IsText2 : List ℕ → X2 → Type 0)
+    (IsText3 : List ℕ → X3 → Type 0) (IsText4 : List ℕ → X4 → Type 0) (room : ℕ) where
+  pub returned : (p : Option Pending) (rs : List Record) (old mid new : List (Four X1 X2 X3 X4)) → HasStepped IsText1 IsText2 IsText3 IsText4 room p rs old mid → AllChanged HaveForgotten mid new
+      → HaveReturned IsText1 IsText2 IsText3 IsText4 room p rs old new
+  returned p rs old mid new stepped forgot = record {
+    between = mid;
+    stepped = stepped;
+    forgot = forgot;
+    leave = leave_forgot mid new rs forgot (leave_stepped IsText1 IsText2 IsText3 IsText4 room p old mid rs stepped);
+  }
+
+-- ---- what calls answer
+
+pub ok_with : {A E P Q : Type 0} (told : Result A E) → (P → Q) → OnOk told P → OnOk told Q
+ok_with (Ok a) f p = f p
+ok_with (Err e) f p = tt
+
+pub err_with : {A E P Q : Type 0} (told : Result A E) → (P → Q) → OnErr told P → OnErr told Q
+err_with (Ok a) f p = tt
+err_with (Err e) f p = f p
+
+module _ {X1 X2 X3 X4 : Type 0} (IsText1 : List ℕ → X1 → Type 0) (IsText2 : List ℕ → X2 → Type 0)
+    (IsText3 : List ℕ → X3 → Type 0) (IsText4 : List ℕ → X4 → Type 0) where
+  -- with the seats of the room's function, as they are lent
+  module _ {S : Type 0} (view : S → Four X1 X2 X3 X4) (seats : List S) (room : ℕ) (p : Pending) (may : MayPend IsText1 IsText2 IsText3 IsText4 room (map view seats) (Some p)) where
+    pub pending_within : function_of room < length seats
+    pending_within = omega (arith, slice_get_within (map view seats) (function_of room) may.0 may.1, length-map seats view)
+
+    module _ (i : ℕ) (s : S) (function : i ≡ function_of room) (is : s ≡ get_or seats i s) where
+      pub pending_there : slice_get seats i ≡ Some s
+      pending_there = lent_at view seats i (function_of room) may.0 s function may.1 is
+
+      pub pending_lent : (w : Which) → w ≡ pass_of room → IsPendingIn IsText1 IsText2 IsText3 IsText4 room w (view s) p
+      pending_lent w pass =
+          let here : slice_get (map view seats) (function_of room) ≡ Some (view s) =
+          ap (λ (j : ℕ). slice_get (map view seats) j) (sym function) ∙ seen_at view seats i s pending_there in
+          subst (λ (v : Which). IsPendingIn IsText1 IsText2 IsText3 IsText4 room v (view s) p) (sym pass)
+          (subst (λ (t : Four X1 X2 X3 X4). IsPendingIn IsText1 IsText2 IsText3 IsText4 room (pass_of room) t p)
+          (some_same (slice_get (map view seats) (function_of room)) may.0 (view s) may.1 here) may.2)
+
+      pub took_lent : {A E : Type 0} (w : Which) (t : S) (told : Result A E) → w ≡ pass_of room
+          → OnOk told (TookIn IsText1 IsText2 IsText3 IsText4 room w p (view s) (view t))
+          → OnOk told (TookAt IsText1 IsText2 IsText3 IsText4 room p (map view seats) (map view (set seats i t)))
+      took_lent w t told pass took =
+          ok_changed_at view (TookIn IsText1 IsText2 IsText3 IsText4 room (pass_of room) p) i (function_of room) seats s t told function pending_there
+          (subst (λ (v : Which). OnOk told (TookIn IsText1 IsText2 IsText3 IsText4 room v p (view s) (view t))) pass took)
+
+  pub may_at : (room : ℕ) (seats : List (Four X1 X2 X3 X4)) (p q : Option Pending) → p ≡ q → MayPend IsText1 IsText2 IsText3 IsText4 room seats p
+      → MayPend IsText1 IsText2 IsText3 IsText4 room seats q
+  may_at room seats p q same may = subst (λ (r : Option Pending). MayPend IsText1 IsText2 IsText3 IsText4 room seats r) same may
+
+  pub is_taken : {A E : Type 0} (told : Result A E) (room : ℕ) (q : Option Pending) (p : Pending) (old new : List (Four X1 X2 X3 X4)) → q ≡ Some p
+      → OnOk told (TookAt IsText1 IsText2 IsText3 IsText4 room p old new) → OnOk told (IsTaken IsText1 IsText2 IsText3 IsText4 room q old new)
+  is_taken told room q p old new is took = subst (λ (r : Option Pending). OnOk told (IsTaken IsText1 IsText2 IsText3 IsText4 room r old new)) (sym is) took
+
+  -- the record of what is pending stands last, and it is done
+  pub stepped_taken : {A E : Type 0} (told : Result A E) (room : ℕ) (p : Option Pending) (rs : List Record) (old new : List (Four X1 X2 X3 X4)) → LeaveWith old room p rs
+      → OnOk told (IsTaken IsText1 IsText2 IsText3 IsText4 room p old new) → OnOk told (HasStepped IsText1 IsText2 IsText3 IsText4 room p rs old new)
+  stepped_taken (Ok a) room p rs old new all taken = inl (all, taken)
+  stepped_taken (Err e) room p rs old new all taken = tt
+
+  pub returned_over : (room : ℕ) (p : Option Pending) (rs qs : List Record) (old new : List (Four X1 X2 X3 X4)) → rs ≡ qs
+      → HaveReturned IsText1 IsText2 IsText3 IsText4 room p rs old new → HaveReturned IsText1 IsText2 IsText3 IsText4 room p qs old new
+  returned_over room p rs qs old new same back = subst (λ (l : List Record). HaveReturned IsText1 IsText2 IsText3 IsText4 room p l old new) same back
+
+-- what the records were found to be
+module _ {X1 X2 X3 X4 : Type 0} (seats : List (Four X1 X2 X3 X4)) (room : ℕ) (p : Option Pending) (rs : List Record) (f : Found) where
+  pub found_at : (g : Found) → f ≡ g → IsFound seats room p rs f → IsFound seats room p rs g
+  found_at g is found = subst (λ (x : Found). IsFound seats room p rs x) is found

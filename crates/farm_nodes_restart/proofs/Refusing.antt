@@ -1,0 +1,73 @@
+-- Why a node does not come back: by what the journal answers, and by what its records are.
+use Rattle.std.proofs.Common.{◌≡◌, ◌≢◌, ℕ, List, Option, Some, None, Result, Ok, Err, IfErr, OnOk, refl, sym, subst, inl, inr}
+use Rattle.acceptor_log_form.specs.declared.errors.LogError.{LogError}
+use Rattle.acceptor_log_form.specs.declared.errors.LogError.TheVariants as log
+use Rattle.acceptor_log_form.specs.declared.header.Header.{Header}
+use Rattle.acceptor_log_form.specs.declared.record.Record.{Record}
+use Rattle.acceptor_log_form.specs.Fault.{HasFault}
+use Rattle.farm_nodes_acting.specs.declared.stop.Pending.{Pending}
+use Rattle.farm_nodes_acting.specs.declared.stop.Pending.TheVariants.{Act, Offer}
+use Rattle.farm_nodes_passes.specs.Fours.{Four}
+use Rattle.farm_nodes_restart_seat.specs.declared.fault.RestartFault.{RestartFault}
+use Rattle.farm_nodes_restart_seat.specs.declared.fault.RestartFault.TheVariants.{NoMemory, Journal, OtherRecords, CellRefused}
+use Rattle.farm_nodes_restart_seat.specs.Refusals.{fault_of}
+use Rattle.farm_nodes_restart_seat.specs.Taken.{IsTakeFault}
+use Rattle.farm_nodes_restart_records.specs.Found.{LeaveWith}
+use Rattle.farm_nodes_restart.specs.Returned.{HasCause, HoldsBack, IsPendingFault}
+use Rattle.farm_nodes_restart_records.proofs.Leaving.{IsRefused}
+
+pub device_of : (e : LogError) → fault_of e ≡ Journal log.Device → e ≡ log.Device
+device_of log.NoMemory is = absurd (cc)
+device_of log.Device is = refl
+device_of log.NotAJournal is = absurd (cc)
+device_of log.BadRecord is = absurd (cc)
+device_of log.OtherSource is = absurd (cc)
+device_of log.Stopped is = absurd (cc)
+device_of log.Full is = absurd (cc)
+
+module _ {X1 X2 X3 X4 : Type 0} (h : Header) (rooms : ℕ) (seats : List (Four X1 X2 X3 X4)) (room : ℕ) (p : Option Pending) where
+  pub not_opened : (bytes : List ℕ) (e : LogError) → (e ≢ log.NoMemory → e ≢ log.Device → HasFault h bytes e) → HasCause h rooms seats room p bytes (fault_of e)
+  not_opened bytes log.NoMemory fault = inl refl
+  not_opened bytes log.Device fault = inr (inl refl)
+  not_opened bytes log.NotAJournal fault = inr (inr (inl (log.NotAJournal, refl, fault (λ e. absurd (cc)) (λ e. absurd (cc)))))
+  not_opened bytes log.BadRecord fault = inr (inr (inl (log.BadRecord, refl, fault (λ e. absurd (cc)) (λ e. absurd (cc)))))
+  not_opened bytes log.OtherSource fault = inr (inr (inl (log.OtherSource, refl, fault (λ e. absurd (cc)) (λ e. absurd (cc)))))
+  not_opened bytes log.Stopped fault = absurd (fault (λ e. absurd (cc)) (λ e. absurd (cc)))
+  not_opened bytes log.Full fault = absurd (fault (λ e. absurd (cc)) (λ e. absurd (cc)))
+
+  module _ (rs : List Record) where
+    pub out_of_order : (e : LogError) → IsRefused h.nodes h.node rooms rs e → HoldsBack h rooms seats room p rs (fault_of e)
+    out_of_order log.NoMemory refused = tt
+    out_of_order log.Device refused = refused (λ e. absurd (cc))
+    out_of_order log.NotAJournal refused = refused (λ e. absurd (cc))
+    out_of_order log.BadRecord refused = refused (λ e. absurd (cc))
+    out_of_order log.OtherSource refused = refused (λ e. absurd (cc))
+    out_of_order log.Stopped refused = refused (λ e. absurd (cc))
+    out_of_order log.Full refused = refused (λ e. absurd (cc))
+
+    pub no_device : (fault : RestartFault) → HoldsBack h rooms seats room p rs fault → fault ≡ Journal log.Device → ⊥
+    no_device fault held is =
+        let bad : log.Device ≡ log.BadRecord = (subst (λ (f : RestartFault). HoldsBack h rooms seats room p rs f) is held).0 in
+        absurd (cc)
+
+pub not_taken : {X1 X2 X3 X4 : Type 0} (h : Header) (rooms : ℕ) (seats : List (Four X1 X2 X3 X4)) (room : ℕ) (p : Option Pending) (rs : List Record) → LeaveWith seats room p rs
+    → (fault : RestartFault) → IsPendingFault p fault → HoldsBack h rooms seats room p rs fault
+not_taken h rooms seats room None rs all fault is = absurd is
+not_taken h rooms seats room (Some (Act a)) rs all fault is = absurd is
+not_taken h rooms seats room (Some (Offer r)) rs all NoMemory is = tt
+not_taken h rooms seats room (Some (Offer r)) rs all (Journal e) is = absurd is
+not_taken h rooms seats room (Some (Offer r)) rs all OtherRecords is = absurd is
+not_taken h rooms seats room (Some (Offer r)) rs all CellRefused is = (all, tt)
+
+module _ {X1 X2 X3 X4 A : Type 0} (seats : List (Four X1 X2 X3 X4)) (room : ℕ) (p : Option Pending) (rs : List Record) where
+  pub held_taken : (told : Result A RestartFault) → LeaveWith seats room p rs → IfErr told (IsPendingFault p)
+      → (h : Header) (rooms : ℕ) → IfErr told (HoldsBack h rooms seats room p rs)
+  held_taken (Ok a) all fault h rooms = tt
+  held_taken (Err e) all fault h rooms = not_taken h rooms seats room p rs all e fault
+
+pub when_ok : {A E P : Type 0} (told : Result A E) → P → OnOk told P
+when_ok (Ok a) p = p
+when_ok (Err e) p = tt
+
+pub take_fault : {A : Type 0} (told : Result A RestartFault) (q : Option Pending) (p : Pending) → q ≡ Some p → IfErr told (IsTakeFault p) → IfErr told (IsPendingFault q)
+take_fault told q p is fault = subst (λ (r : Option Pending). IfErr told (IsPendingFault r)) (sym is) fault

@@ -1,0 +1,53 @@
+use Rattle.std.proofs.Common.{◌*◌, List, length, sym, ◌∙◌, subst, inr}
+use Rattle.acceptor_log_form.specs.declared.record.Record.{Record}
+use Rattle.acceptor_log_form.specs.Order.{AreInOrder}
+use Rattle.acceptor_log_form.specs.Text.{StandsFor}
+use Rattle.farm_nodes_passes.specs.Offers.{IsConstants, IsExpressions, IsAllocation, IsOrder}
+use Rattle.farm_nodes_passes.specs.Fours.{fours_of}
+use Rattle.farm_nodes_restart.specs.Returned.{HoldsBack}
+use Rattle.farm_nodes_restart.proofs.Afterwards.{returned_over}
+use Rattle.farm_nodes_restart.proofs.returning.come_back.Goals as goal
+
+pub returns-in-Ok-return_over-clause-sound : goal.returns-in-Ok-return_over-clause-sound
+returns-in-Ok-return_over-clause-sound g c = c.in-Ok.ensures.sound
+
+pub returns-in-Ok-return_over-clause-ok : goal.returns-in-Ok-return_over-clause-ok
+returns-in-Ok-return_over-clause-ok g c = c.in-Ok.ensures.ok
+
+pub returns-in-Ok-return_over-clause-honest : goal.returns-in-Ok-return_over-clause-honest
+returns-in-Ok-return_over-clause-honest g c = c.in-Ok.ensures.honest
+
+pub returns-in-Ok-return_over-clause-unchanged : goal.returns-in-Ok-return_over-clause-unchanged
+returns-in-Ok-return_over-clause-unchanged g c = c.in-Ok.ensures.unchanged
+
+pub returns-in-Ok-return_over-clause-any_moment : goal.returns-in-Ok-return_over-clause-any_moment
+returns-in-Ok-return_over-clause-any_moment g c = c.in-Ok.ensures.any_moment
+
+pub returns-in-Ok-return_over-clause-later : goal.returns-in-Ok-return_over-clause-later
+returns-in-Ok-return_over-clause-later g c = c.in-Ok.ensures.later
+
+pub returns-in-Ok-return_over-clause-unfailed : goal.returns-in-Ok-return_over-clause-unfailed
+returns-in-Ok-return_over-clause-unfailed g c = c.in-Ok.ensures.unfailed
+
+pub returns-in-Ok-return_over-clause-listed : goal.returns-in-Ok-return_over-clause-listed
+returns-in-Ok-return_over-clause-listed g c honest =
+    subst (λ (rs : List Record). StandsFor c.args.header.now rs (g.D.Disk.seen c.args.disk)) (sym (c.in-Ok.ensures.acknowledged honest)) (c.in-Ok.ensures.listed honest)
+
+pub returns-in-Ok-return_over-clause-in_order : goal.returns-in-Ok-return_over-clause-in_order
+returns-in-Ok-return_over-clause-in_order g c honest =
+    subst (λ (rs : List Record). AreInOrder c.args.header.now.nodes c.args.header.now.node (4 * length c.args.seats.now.items) rs)
+    (c.as_slice.ensures.value ∙ sym (c.in-Ok.ensures.acknowledged honest)) c.in-Ok-return_over.ensures.in_order
+
+pub returns-in-Ok-return_over-clause-seats : goal.returns-in-Ok-return_over-clause-seats
+returns-in-Ok-return_over-clause-seats g c honest =
+    returned_over IsConstants IsExpressions IsAllocation IsOrder c.args.room c.args.pending.now c.as_slice.result.now _ (fours_of c.args.seats.now.items) _
+    (c.as_slice.ensures.value ∙ sym (c.in-Ok.ensures.acknowledged honest)) c.in-Ok-return_over.ensures.seats
+
+pub returns-in-Ok-return_over-clause-count : goal.returns-in-Ok-return_over-clause-count
+returns-in-Ok-return_over-clause-count g c = c.return_over.ensures.count
+
+pub returns-in-Ok-clause-refused : goal.returns-in-Ok-clause-refused
+returns-in-Ok-clause-refused g c honest =
+    let held = subst (λ (rs : List Record). HoldsBack c.args.header.now (4 * length c.args.seats.now.items) (fours_of c.args.seats.now.items)
+    c.args.room c.args.pending.now rs c.in-Err-return_over.fault) c.as_slice.ensures.value c.in-Err-return_over.ensures.refused in
+    inr (inr (inr (c.in-Ok.opened.1.items, c.in-Ok.ensures.listed honest, held)))

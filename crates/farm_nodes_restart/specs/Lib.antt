@@ -1,0 +1,2 @@
+pub mod Returned
+pub mod Seats

@@ -1,0 +1,89 @@
+-- A node's seats come back over its records.
+use Rattle.std.specs.Prelude.{◌≡◌, ◌⊎◌, ℕ, List, Option, Some, None}
+use Rattle.acceptor_log_form.specs.declared.errors.LogError.{LogError}
+use Rattle.acceptor_log_form.specs.declared.errors.LogError.TheVariants as log
+use Rattle.acceptor_log_form.specs.declared.header.Header.{Header}
+use Rattle.acceptor_log_form.specs.declared.record.Record.{Record}
+use Rattle.acceptor_log_form.specs.Fault.{HasFault}
+use Rattle.acceptor_log_form.specs.Order.{AreInOrder}
+use Rattle.acceptor_log_form.specs.Text.{StandsFor}
+use Rattle.farm_nodes_acting.specs.declared.stop.Pending.{Pending}
+use Rattle.farm_nodes_acting.specs.declared.stop.Pending.TheVariants.{Act, Offer}
+use Rattle.farm_nodes_passes.specs.Fours.{Four}
+use Rattle.farm_nodes_passes.specs.Leaves.{Leave}
+use Rattle.farm_nodes_passes.specs.Numbers.{function_of, pass_of}
+use Rattle.farm_nodes_passes.specs.declared.which.Which.{Which}
+use Rattle.farm_nodes_passes.specs.declared.which.Which.TheVariants.{First, Second, Third, Fourth}
+use Rattle.farm_nodes_restart_seat.specs.declared.fault.RestartFault.{RestartFault}
+use Rattle.farm_nodes_restart_seat.specs.declared.fault.RestartFault.TheVariants.{NoMemory, Journal, OtherRecords, CellRefused}
+use Rattle.farm_nodes_restart_seat.specs.Taken.{HasForgotten, IsTakeFault, Took}
+use Rattle.farm_nodes_restart_records.specs.Found.{AreOther, LeaveWith}
+use Rattle.farm_nodes_restart_seat.specs.Places.{AllChanged, ChangedAt}
+
+-- each of a function's seats has forgotten all but what its node keeps, and is of the room that it was of
+pub record HaveForgotten {X1 X2 X3 X4 : Type 0} (old new : Four X1 X2 X3 X4) : Type 0 where
+  pub first : HasForgotten old.first new.first
+  pub second : HasForgotten old.second new.second
+  pub third : HasForgotten old.third new.third
+  pub fourth : HasForgotten old.fourth new.fourth
+  pub numbers : new.numbers ≡ old.numbers
+
+-- Each pass has its own offers, and texts of them.
+module _ {X1 X2 X3 X4 : Type 0} (IsText1 : List ℕ → X1 → Type 0) (IsText2 : List ℕ → X2 → Type 0)
+    (IsText3 : List ℕ → X3 → Type 0) (IsText4 : List ℕ → X4 → Type 0) (room : ℕ) where
+  -- it is done there, and the other seats are as they were
+  abbrev pub TookIn : Which → Pending → Four X1 X2 X3 X4 → Four X1 X2 X3 X4 → Type 0
+  TookIn First p old new = Took IsText1 room p old.first new.first × (new ≡ record old { first = new.first })
+  TookIn Second p old new = Took IsText2 room p old.second new.second × (new ≡ record old { second = new.second })
+  TookIn Third p old new = Took IsText3 room p old.third new.third × (new ≡ record old { third = new.third })
+  TookIn Fourth p old new = Took IsText4 room p old.fourth new.fourth × (new ≡ record old { fourth = new.fourth })
+
+  -- it is done with the seat of the room
+  abbrev pub TookAt : Pending → List (Four X1 X2 X3 X4) → List (Four X1 X2 X3 X4) → Type 0
+  TookAt p old new = ChangedAt (TookIn (pass_of room) p) (function_of room) old new
+
+  abbrev pub IsTaken : Option Pending → List (Four X1 X2 X3 X4) → List (Four X1 X2 X3 X4) → Type 0
+  IsTaken None old new = ⊥
+  IsTaken (Some p) old new = TookAt p old new
+
+  -- What is pending is done where its record stands last, behind those that leave what the seats keep. Else all of the
+  -- records leave that, and the seats are as they were.
+  abbrev pub HasStepped : Option Pending → List Record → List (Four X1 X2 X3 X4) → List (Four X1 X2 X3 X4) → Type 0
+  HasStepped p rs old new =
+      (LeaveWith old room p rs × IsTaken p old new)
+      ⊎ ((LeaveWith old room p rs → ⊥) × Leave old rs × (new ≡ old))
+
+  -- then all seats have forgotten; the records leave what they keep
+  pub record HaveReturned (p : Option Pending) (rs : List Record) (old new : List (Four X1 X2 X3 X4)) : Type 0 where
+    pub between : List (Four X1 X2 X3 X4)
+    pub stepped : HasStepped p rs old between
+    pub forgot : AllChanged HaveForgotten between new
+    pub leave : Leave new rs
+
+-- why what is pending can't be done
+abbrev pub IsPendingFault : Option Pending → RestartFault → Type 0
+IsPendingFault None fault = ⊥
+IsPendingFault (Some p) fault = IsTakeFault p fault
+
+-- what is pending is an offer
+abbrev pub IsOfferPending : Option Pending → Type 0
+IsOfferPending None = ⊥
+IsOfferPending (Some (Act a)) = ⊥
+IsOfferPending (Some (Offer r)) = Unit {0}
+
+module _ {X1 X2 X3 X4 : Type 0} where
+  -- Why the seats don't come back over these records: memory was refused, they are out of order, they are records of
+  -- other kept parts, or the cell refused the offer whose record stands last.
+  abbrev pub HoldsBack : Header → ℕ → List (Four X1 X2 X3 X4) → ℕ → Option Pending → List Record → RestartFault → Type 0
+  HoldsBack h rooms seats room p rs NoMemory = Unit {0}
+  HoldsBack h rooms seats room p rs (Journal e) = (e ≡ log.BadRecord) × (AreInOrder h.nodes h.node rooms rs → ⊥)
+  HoldsBack h rooms seats room p rs OtherRecords = AreOther seats room p rs
+  HoldsBack h rooms seats room p rs CellRefused = LeaveWith seats room p rs × IsOfferPending p
+
+  -- Why a node doesn't come back over bytes: the journal can't be opened, or its records hold the node back. A device's
+  -- failure has a clause of its own.
+  abbrev pub HasCause : Header → ℕ → List (Four X1 X2 X3 X4) → ℕ → Option Pending → List ℕ → RestartFault → Type 0
+  HasCause h rooms seats room p bytes fault =
+      (fault ≡ NoMemory) ⊎ (fault ≡ Journal log.Device)
+      ⊎ ((e : LogError) × (fault ≡ Journal e) × HasFault h bytes e)
+      ⊎ ((rs : List Record) × StandsFor h rs bytes × HoldsBack h rooms seats room p rs fault)

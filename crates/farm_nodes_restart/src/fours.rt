@@ -1,0 +1,44 @@
+//! A node's seats in the four rooms of a function come back.
+
+ghost use Rattle.std.specs.Prelude.{◌≡◌, IfErr, OnOk, OnErr};
+ghost use Rattle.farm_nodes_passes.specs.Fours.{four_of};
+ghost use Rattle.farm_nodes_restart_seat.specs.Taken.{IsTakeFault};
+ghost use Rattle.farm_nodes_restart.specs.Returned.{HaveForgotten};
+ghost use Rattle.farm_nodes_restart.specs.Seats.{IsPendingWith, TookWith};
+
+use farm_nodes_acting::Pending;
+use farm_nodes_passes::{Seats, Which};
+use farm_nodes_restart_seat::{RestartFault, forget, take};
+use rooms_hall::Naming;
+use std::alloc::Global;
+
+/// Does what is pending in the room, which is the one of this pass.
+pub(crate) fn take_in<H: Naming>(
+    alloc: Global,
+    seats: &mut Seats<H>,
+    pass: Which,
+    room: u16,
+    pending: &Pending,
+) -> Result<(), RestartFault>
+    requires { IsPendingWith seats.old room pass pending.now }
+    ensures ok { OnOk result (TookWith room pass pending.now seats.old seats.new) }
+    ensures err { OnErr result (four_of seats.new ≡ four_of seats.old) }
+    ensures faults { IfErr result (IsTakeFault pending.now) }
+{
+    match pass {
+        Which::First => take(alloc, &mut seats.first.seat, room, pending),
+        Which::Second => take(alloc, &mut seats.second.seat, room, pending),
+        Which::Third => take(alloc, &mut seats.third.seat, room, pending),
+        Which::Fourth => take(alloc, &mut seats.fourth.seat, room, pending),
+    }
+}
+
+/// All four forget.
+pub(crate) fn forget_in<H: Naming>(seats: &mut Seats<H>)
+    ensures { HaveForgotten (four_of seats.old) (four_of seats.new) }
+{
+    forget(&mut seats.first.seat);
+    forget(&mut seats.second.seat);
+    forget(&mut seats.third.seat);
+    forget(&mut seats.fourth.seat);
+}

@@ -1,0 +1,4 @@
+pub mod Rooms
+pub mod Leaving
+pub mod Own
+pub mod Keeping

@@ -1,0 +1,70 @@
+-- Whether records leave what a node's seats keep, with the record that was pending or without.
+use Rattle.std.specs.Prelude.{◌≡◌, ◌⊎◌, ℕ, ◌+◌, ◌*◌, ◌<◌, Bool, IsTrue, List, [], ◌∷◌, ◌++◌, length, Option, Some, slice_get}
+use Rattle.paxos_core_world.specs.KeptPart.{KeptPart}
+use Rattle.acceptor_log_form.specs.declared.record.Record.{Record}
+use Rattle.acceptor_log_form.specs.Leaves.{kept_in}
+use Rattle.farm_nodes_acting.specs.declared.stop.Pending.{Pending}
+use Rattle.farm_nodes_passes.specs.Fours.{Four}
+use Rattle.farm_nodes_passes.specs.Leaves.{pending_at, Leave}
+use Rattle.farm_nodes_restart_records.specs.declared.finding.Found.{Found}
+use Rattle.farm_nodes_restart_records.specs.declared.finding.Found.TheVariants as found
+
+-- behind these records stands the pending one, if there is one, and no other
+abbrev pub EndsWith : List Record → List Record → List Record → Type 0
+EndsWith pending front rs = (last : Record) × (pending ≡ last ∷ []) × (rs ≡ front ++ last ∷ [])
+
+-- and it does
+abbrev pub EndsSo : List Record → List Record → Type 0
+EndsSo pending rs = (front : List Record) × EndsWith pending front rs
+
+-- these stand before the last one; of none, none
+abbrev pub IsButLast : List Record → List Record → Type 0
+IsButLast rs front = ((rs ≡ []) × (front ≡ [])) ⊎ ((last : Record) × (rs ≡ front ++ last ∷ []))
+
+-- so many parts are what the records leave, by room
+abbrev pub ShowParts : ℕ → List KeptPart → List Record → Type 0
+ShowParts rooms parts rs =
+    (length parts ≡ rooms) × ((m : ℕ) → m < rooms → slice_get parts m ≡ Some (kept_in rs m))
+
+-- what those before the last one leave
+abbrev pub ShowFront : ℕ → List KeptPart → List Record → Type 0
+ShowFront rooms parts rs = (front : List Record) × IsButLast rs front × ShowParts rooms parts front
+
+module _ {X1 X2 X3 X4 : Type 0} where
+  -- the four parts from this place on are what the seats keep
+  pub record AreKeptAt (parts : List KeptPart) (place : ℕ) (s : Four X1 X2 X3 X4) : Type 0 where
+    pub first : slice_get parts place ≡ Some s.first.words.node.kept
+    pub second : slice_get parts (place + 1) ≡ Some s.second.words.node.kept
+    pub third : slice_get parts (place + 2) ≡ Some s.third.words.node.kept
+    pub fourth : slice_get parts (place + 3) ≡ Some s.fourth.words.node.kept
+
+  -- the parts, by room, are what the seats of this function keep
+  abbrev pub IsKeptAt : List KeptPart → List (Four X1 X2 X3 X4) → ℕ → Type 0
+  IsKeptAt parts seats f = (s : Four X1 X2 X3 X4) → slice_get seats f ≡ Some s → AreKeptAt parts (4 * f) s
+
+  -- they are what all seats keep
+  abbrev pub AreKept : List KeptPart → List (Four X1 X2 X3 X4) → Type 0
+  AreKept parts seats = (f : ℕ) → IsKeptAt parts seats f
+
+  -- what parts say, of all records and of those before the last, which may be that of what is pending
+  abbrev pub IsJudged : Bool → List KeptPart → List KeptPart → List (Four X1 X2 X3 X4) → Found → Type 0
+  IsJudged last whole front seats found.Pending = IsTrue last × AreKept front seats
+  IsJudged last whole front seats found.Whole = (IsTrue last × AreKept front seats → ⊥) × AreKept whole seats
+  IsJudged last whole front seats found.Neither = (IsTrue last × AreKept front seats → ⊥) × (AreKept whole seats → ⊥)
+
+  -- the last record is the pending one, and the others leave what the seats keep
+  pub record LeaveWith (seats : List (Four X1 X2 X3 X4)) (room : ℕ) (p : Option Pending) (rs : List Record) : Type 0 where
+    pub front : List Record
+    pub ends : EndsWith (pending_at seats room p) front rs
+    pub leave : Leave seats front
+
+  -- they are records of other kept parts, with the pending one or without
+  pub record AreOther (seats : List (Four X1 X2 X3 X4)) (room : ℕ) (p : Option Pending) (rs : List Record) : Type 0 where
+    pub whole : Leave seats rs → ⊥
+    pub pending : LeaveWith seats room p rs → ⊥
+
+  -- which of these it is
+  abbrev pub IsFound : List (Four X1 X2 X3 X4) → ℕ → Option Pending → List Record → Found → Type 0
+  IsFound seats room p rs found.Pending = LeaveWith seats room p rs
+  IsFound seats room p rs found.Whole = (LeaveWith seats room p rs → ⊥) × Leave seats rs
+  IsFound seats room p rs found.Neither = AreOther seats room p rs

@@ -1,0 +1,55 @@
+//! A node's seats in the four rooms of a function, over records and kept parts.
+
+ghost use Rattle.std.specs.Prelude.{◌≡◌, ◌<◌, ◌+◌, ◌↔◌, [], ◌∷◌, length, IsTrue};
+ghost use Rattle.farm_nodes_acting.specs.Noted.{pending_of};
+ghost use Rattle.farm_nodes_offers.specs.Pending.{IsAsked};
+ghost use Rattle.farm_nodes_passes.specs.Fours.{four_of, words_of};
+ghost use Rattle.farm_nodes_restart_records.specs.Found.{AreKeptAt};
+
+use crate::seat::is_kept_in;
+use acceptor_log::Record;
+use farm_nodes_acting::Pending;
+use farm_nodes_passes::{Seats, Which};
+use farm_nodes_restart_seat::is_pending;
+use paxos_core::Kept;
+use rooms_hall::Naming;
+
+/// Whether the record is that of what is pending in the room, which is the one of this pass.
+pub(crate) fn is_pending_in<H: Naming>(
+    seats: &Seats<H>,
+    pass: Which,
+    room: u16,
+    pending: &Pending,
+    entry: &Record,
+) -> bool
+    requires { IsAsked (words_of (four_of seats.now) pass) pending.now }
+    ensures { IsTrue result
+        ↔ (pending_of room (words_of (four_of seats.now) pass) pending.now ≡ entry.now ∷ []) }
+{
+    match pass {
+        Which::First => is_pending(&seats.first.seat, room, pending, entry),
+        Which::Second => is_pending(&seats.second.seat, room, pending, entry),
+        Which::Third => is_pending(&seats.third.seat, room, pending, entry),
+        Which::Fourth => is_pending(&seats.fourth.seat, room, pending, entry),
+    }
+}
+
+/// Whether the four parts from this place on are what the seats keep.
+pub(crate) fn are_kept_at<H: Naming>(seats: &Seats<H>, parts: &[Kept], place: usize) -> bool
+    requires { place + 3 < length parts.now }
+    ensures { IsTrue result ↔ AreKeptAt parts.now place (four_of seats.now) }
+{
+    let first = is_kept_in(parts, place, &seats.first.seat);
+    let second = is_kept_in(parts, place + 1, &seats.second.seat);
+    let third = is_kept_in(parts, place + 2, &seats.third.seat);
+    let fourth = is_kept_in(parts, place + 3, &seats.fourth.seat);
+    let front = both(first, second);
+    let back = both(third, fourth);
+    both(front, back)
+}
+
+pub(crate) fn both(first: bool, second: bool) -> bool
+    ensures { IsTrue result ↔ (IsTrue first × IsTrue second) }
+{
+    first && second
+}

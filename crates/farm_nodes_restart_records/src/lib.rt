@@ -1,0 +1,12 @@
+//! What the records of a journal are to a node's seats: they leave what the seats keep, with the record of what the node was
+//! about to do or without, or they are others. What a crash leaves of a node's own journal is never others.
+#![tactic(auto)]
+
+mod finding;
+mod fours;
+mod laws;
+mod parts;
+mod seat;
+
+pub use finding::{Found, find};
+pub use laws::own_journal;

@@ -1,0 +1,48 @@
+-- What a crash leaves of a node's own disk, and that it is never told as other records.
+use Rattle.std.proofs.Common.{◌≡◌, ℕ, List, [], ◌++◌, Option, Some, None, refl, sym, ◌∙◌, subst, inl, inr}
+use Rattle.std.specs.Prelude.{slice_get}
+use Rattle.acceptor_log_form.specs.declared.header.Header.{Header}
+use Rattle.acceptor_log_form.specs.declared.record.Record.{Record}
+use Rattle.acceptor_log_form.specs.Lists.{Between}
+use Rattle.acceptor_log_form.specs.Text.{StandsFor}
+use Rattle.acceptor_log.specs.declared.log.Log.{Log}
+use Rattle.farm_nodes_acting.specs.declared.stop.Pending.{Pending}
+use Rattle.farm_nodes_passes.specs.Numbers.{function_of}
+use Rattle.farm_nodes_passes.specs.Fours.{Four}
+use Rattle.farm_nodes_passes.specs.Leaves.{left_in, pending_at}
+use Rattle.farm_nodes_node.specs.declared.halted.Halted.{Halted}
+use Rattle.farm_nodes_node.specs.Held.{pending_in, IsSoundNode}
+use Rattle.farm_nodes_restart_seat.specs.declared.fault.RestartFault.{RestartFault}
+use Rattle.farm_nodes_restart_seat.specs.declared.fault.RestartFault.TheVariants.{OtherRecords}
+use Rattle.farm_nodes_restart_records.specs.Found.{AreOther}
+use Rattle.farm_nodes_restart.specs.Returned.{HasCause, HoldsBack}
+use Rattle.farm_nodes_restart_records.proofs.Own.{own}
+use Rattle.farm_nodes_returning.specs.Stopped.{left_by, room_in}
+
+module _ {T1 T2 T3 T4 : Type 0} where
+  none_left : (o : Option (Four T1 T2 T3 T4)) (room : ℕ) → left_in o room None ≡ []
+  none_left None room = refl
+  none_left (Some s) room = refl
+
+  pub pending_left : (seats : List (Four T1 T2 T3 T4)) (halted : Option Halted) → pending_in seats halted ≡ pending_at seats (room_in halted) (left_by halted)
+  pending_left seats None = sym (none_left (slice_get seats (function_of 0)) 0)
+  pending_left seats (Some h) = refl
+
+  pub never_others : {D : Type 0} (is_honest : D → Type 0) (seen : D → List ℕ) (may_leave : D → List ℕ → Type 0) (log : Log D) (seats : List (Four T1 T2 T3 T4))
+      (halted : Option Halted) (bytes : List ℕ) (rs : List Record) → IsSoundNode is_honest seen may_leave log seats halted → is_honest log.disk → may_leave log.disk bytes
+      → StandsFor log.header rs bytes → AreOther seats (room_in halted) (left_by halted) rs → ⊥
+  never_others is_honest seen may_leave log seats halted bytes rs sound honest left stands others =
+      let u = sound.upto honest in
+      own seats (room_in halted) (left_by halted) log.header u.0 rs bytes u.1.leave
+      (subst (λ (ps : List Record). Between log.header u.0 (u.0 ++ ps) bytes) (pending_left seats halted) (u.1.left bytes left))
+      stands others
+
+  module _ (h : Header) (rooms : ℕ) (seats : List (Four T1 T2 T3 T4)) (room : ℕ) (p : Option Pending) (bytes : List ℕ) where
+    -- why it is not: no others stand there
+    pub not_others : (fault : RestartFault) → HasCause h rooms seats room p bytes fault
+        → ((rs : List Record) → StandsFor h rs bytes → AreOther seats room p rs → ⊥) → fault ≡ OtherRecords → ⊥
+    not_others fault (inl memory) never is = let bad = sym memory ∙ is in absurd (cc)
+    not_others fault (inr (inl device)) never is = let bad = sym device ∙ is in absurd (cc)
+    not_others fault (inr (inr (inl journal))) never is = let bad = sym journal.1 ∙ is in absurd (cc)
+    not_others fault (inr (inr (inr held))) never is =
+        never held.0 held.1 (subst (λ (f : RestartFault). HoldsBack h rooms seats room p held.0 f) is held.2)

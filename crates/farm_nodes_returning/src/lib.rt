@@ -1,0 +1,11 @@
+//! A node of a farm is restarted over a disk: it comes back and goes on, or it is stopped, and says why. Over what a
+//! crash of its own disk leaves it is never refused for other records.
+#![tactic(auto)]
+
+mod laws;
+mod restarting;
+mod stopping;
+
+pub use farm_nodes_restart::RestartFault;
+pub use laws::own_disk;
+pub use restarting::restart;
