@@ -1,0 +1,73 @@
+-- Two nodes that hold the same offers link one program.
+use Rattle.std.proofs.Common.{◌≡◌, ℕ, zero, suc, ◌<◌, List, [], ◌∷◌, length, map, get_or, Option, Some, None, refl, sym, ap, subst, ◌∙◌, arith}
+use Rattle.std.specs.Prelude.{slice_get, IsSome}
+use Rattle.std.proofs.lemmas.Option.{slice_get-get_or, slice_get_within}
+use Rattle.lang_base.specs.declared.program.Program.{Program}
+use Rattle.rooms_hall.specs.declared.hall.Naming as naming
+use Rattle.rtl_language.specs.Function as rtl
+use Rattle.farm_nodes_passes.specs.Offers.{Constants, Expressions, Allocation, Order}
+use Rattle.farm_nodes_passes.specs.declared.seats.Seats.{Seats}
+use Rattle.farm_nodes_meeting.specs.Functions.{BothLink, HoldSame}
+use Rattle.farm_nodes_meeting.specs.Held.{held_of}
+use Rattle.farm_nodes_linked.specs.Alike.{HaveCountedAll, LinkOne}
+use Rattle.farm_nodes_linked.specs.Learned.{all_four, learned_four, learned_by, IsUndecided}
+use Rattle.farm_nodes_linked.specs.Offered.{linked_offers}
+
+equal_maps : {S T : Type 0} (v : S → T) (xs ys : List S) → length xs ≡ length ys
+    → ((k : ℕ) (a b : S) → slice_get xs k ≡ Some a → slice_get ys k ≡ Some b → v a ≡ v b) → map v xs ≡ map v ys
+equal_maps v [] [] long same = refl
+equal_maps v [] (y ∷ ys) long same = absurd (omega (arith, long))
+equal_maps v (x ∷ xs) [] long same = absurd (omega (arith, long))
+equal_maps v (x ∷ xs) (y ∷ ys) long same =
+    let head : v x ≡ v y = same zero x y refl refl in
+    let tail : map v xs ≡ map v ys = equal_maps v xs ys (omega (arith, long)) (λ k a b ea eb. same (suc k) a b ea eb) in
+    λ i. head i ∷ tail i
+
+found : {S T : Type 0} (v : S → Option T) (xs : List S) (k : ℕ) → slice_get (map v xs) k ≡ Some None → (a : S) × (slice_get xs k ≡ Some a) × (v a ≡ None)
+found v [] k e = absurd (cc e)
+found v (x ∷ xs) zero e = (x, refl, cc e)
+found v (x ∷ xs) (suc k) e = found v xs k e
+
+none_wanting : (a : Option Constants) (b : Option Expressions) (c : Option Allocation) (d : Option Order)
+    → IsSome a → IsSome b → IsSome c → IsSome d → all_four a b c d ≡ None → ⊥
+none_wanting None b c d sa sb sc sd e = absurd (cc sa)
+none_wanting (Some w) None c d sa sb sc sd e = absurd (cc sb)
+none_wanting (Some w) (Some x) None d sa sb sc sd e = absurd (cc sc)
+none_wanting (Some w) (Some x) (Some y) None sa sb sc sd e = absurd (cc sd)
+none_wanting (Some w) (Some x) (Some y) (Some z) sa sb sc sd e = absurd (cc e)
+
+module _ {H : Type 0} {h : naming.Ghosts H} (xs ys : List (Seats H h)) (counted : HaveCountedAll xs ys) where
+  as_long : length xs ≡ length ys
+  as_long = let met = counted.met.met counted.alike in met.first ∙ counted.alike ∙ sym met.second
+
+  link_at : (k : ℕ) (a b : Seats H h) → slice_get xs k ≡ Some a → slice_get ys k ≡ Some b → BothLink (held_of a) (held_of b)
+  link_at k a b ea eb =
+      let within : k < length xs = slice_get_within xs k a ea in
+      let long : length xs ≡ length counted.first = (counted.met.met counted.alike).first in
+      counted.met.all counted.alike refl k (omega (arith, within, long)) a b ea eb
+
+  same_at : (k : ℕ) (a b : Seats H h) → slice_get xs k ≡ Some a → slice_get ys k ≡ Some b → learned_four a ≡ learned_four b
+  same_at k a b ea eb =
+      let hold : HoldSame (held_of a) (held_of b) = counted.met.same counted.alike k (λ a' b' ea' eb'. link_at k a' b' ea' eb') a b ea eb in
+      λ i. all_four (hold.first i) (hold.second i) (hold.third i) (hold.fourth i)
+
+  same_learned : learned_by xs ≡ learned_by ys
+  same_learned = equal_maps learned_four xs ys as_long same_at
+
+  decided : IsUndecided (learned_by xs) → ⊥
+  decided is =
+      let at = found learned_four xs is.function is.wanting in
+      let within : is.function < length xs = slice_get_within xs is.function at.0 at.1 in
+      let there : slice_get ys is.function ≡ Some (get_or ys is.function at.0) = slice_get-get_or ys is.function at.0 (omega (arith, within, as_long)) in
+      let link : BothLink (held_of at.0) (held_of (get_or ys is.function at.0)) = link_at is.function at.0 (get_or ys is.function at.0) at.1 there in
+      none_wanting _ _ _ _ link.first.first link.second.first link.third.first link.fourth.first at.2
+
+pub link_one : {H : Type 0} {h : naming.Ghosts H} (program : Program rtl.FunctionData) (xs ys : List (Seats H h)) → HaveCountedAll xs ys → LinkOne program xs ys
+link_one program xs ys counted =
+    let same : learned_by xs ≡ learned_by ys = same_learned xs ys counted in
+    record {
+      first = decided xs ys counted;
+      second = λ is. decided xs ys counted (subst (λ l. IsUndecided l) (sym same) is);
+      same = same;
+      one = λ p q e e'. e ∙ (ap (λ l. linked_offers program l) same ∙ sym e');
+    }

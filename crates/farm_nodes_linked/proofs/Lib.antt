@@ -1,0 +1,5 @@
+mod Lists
+mod Wanting
+mod Beside
+mod Exits
+mod Alike

@@ -1,0 +1,35 @@
+-- The four offers of a function that a node has learned, as it has seen them.
+use Rattle.std.specs.Prelude.{◌≡◌, ℕ, List, map, slice_get, Option, Some, None}
+use Rattle.rooms_hall.specs.declared.hall.Naming as naming
+use Rattle.farm_nodes_passes.specs.Offers.{Constants, Expressions, Allocation, Order}
+use Rattle.farm_nodes_passes.specs.declared.seats.Seats.{Seats}
+use Rattle.farm_nodes_meeting.specs.Learned.{learned_offer}
+
+-- an offer of each pass
+pub record FourOffers : Type 0 where
+  pub first : Constants
+  pub second : Expressions
+  pub third : Allocation
+  pub fourth : Order
+
+-- all four, where none is wanting
+abbrev pub all_four : Option Constants → Option Expressions → Option Allocation → Option Order → Option FourOffers
+all_four None b c d = None
+all_four (Some w) None c d = None
+all_four (Some w) (Some x) None d = None
+all_four (Some w) (Some x) (Some y) None = None
+all_four (Some w) (Some x) (Some y) (Some z) = Some (record { first = w; second = x; third = y; fourth = z })
+
+module _ {H : Type 0} {h : naming.Ghosts H} where
+  -- the offers learned in the four rooms, where in each one is learned and seen
+  abbrev pub learned_four : Seats H h → Option FourOffers
+  learned_four s = all_four (learned_offer s.first.seat) (learned_offer s.second.seat) (learned_offer s.third.seat) (learned_offer s.fourth.seat)
+
+  -- by function
+  abbrev pub learned_by : List (Seats H h) → List (Option FourOffers)
+  learned_by seats = map learned_four seats
+
+-- of one of the functions the four offers are not learned and seen
+pub record IsUndecided (learned : List (Option FourOffers)) : Type 0 where
+  pub function : ℕ
+  pub wanting : slice_get learned function ≡ Some None

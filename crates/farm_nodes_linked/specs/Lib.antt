@@ -1,0 +1,11 @@
+pub mod Learned
+pub mod Lent
+pub mod Offered
+pub mod Refused
+pub mod Alike
+pub use Rattle.farm_nodes_meeting.specs.Held
+pub use Rattle.farm_nodes_meeting.specs.Lists
+pub use Rattle.linker.specs.Chains
+pub use Rattle.rtlgen_definition.specs.Gen
+pub use Rattle.cminor_lowering.specs.Programs
+pub use Rattle.lang_base.specs.Keeps
