@@ -5,6 +5,7 @@ use Rattle.acceptor_log_form.specs.declared.errors.LogError.TheVariants as log
 use Rattle.acceptor_log_form.specs.declared.header.Header.{Header}
 use Rattle.acceptor_log_form.specs.declared.record.Record.{Record}
 use Rattle.acceptor_log_form.specs.Fault.{HasFault}
+use Rattle.acceptor_log_form.specs.Order.{AreInOrder}
 use Rattle.farm_nodes_acting.specs.declared.stop.Pending.{Pending}
 use Rattle.farm_nodes_acting.specs.declared.stop.Pending.TheVariants.{Act, Offer}
 use Rattle.farm_nodes_passes.specs.Fours.{Four}
@@ -50,20 +51,19 @@ module _ {X1 X2 X3 X4 : Type 0} (h : Header) (rooms : ℕ) (seats : List (Four X
         let bad : log.Device ≡ log.BadRecord = (subst (λ (f : RestartFault). HoldsBack h rooms seats room p rs f) is held).0 in
         absurd (cc)
 
-pub not_taken : {X1 X2 X3 X4 : Type 0} (h : Header) (rooms : ℕ) (seats : List (Four X1 X2 X3 X4)) (room : ℕ) (p : Option Pending) (rs : List Record) → LeaveWith seats room p rs
-    → (fault : RestartFault) → IsPendingFault p fault → HoldsBack h rooms seats room p rs fault
-not_taken h rooms seats room None rs all fault is = absurd is
-not_taken h rooms seats room (Some (Act a)) rs all fault is = absurd is
-not_taken h rooms seats room (Some (Offer r)) rs all NoMemory is = tt
-not_taken h rooms seats room (Some (Offer r)) rs all (Journal e) is = absurd is
-not_taken h rooms seats room (Some (Offer r)) rs all OtherRecords is = absurd is
-not_taken h rooms seats room (Some (Offer r)) rs all CellRefused is = (all, tt)
+module _ {X1 X2 X3 X4 : Type 0} (h : Header) (rooms : ℕ) (seats : List (Four X1 X2 X3 X4)) (room : ℕ) (rs : List Record) (order : AreInOrder h.nodes h.node rooms rs) where
+  not_taken : (p : Option Pending) → LeaveWith seats room p rs → (fault : RestartFault) → IsPendingFault p fault → HoldsBack h rooms seats room p rs fault
+  not_taken None all fault is = absurd is
+  not_taken (Some (Act a)) all fault is = absurd is
+  not_taken (Some (Offer r)) all NoMemory is = tt
+  not_taken (Some (Offer r)) all (Journal e) is = absurd is
+  not_taken (Some (Offer r)) all OtherRecords is = absurd is
+  not_taken (Some (Offer r)) all CellRefused is = (order, all, tt)
 
-module _ {X1 X2 X3 X4 A : Type 0} (seats : List (Four X1 X2 X3 X4)) (room : ℕ) (p : Option Pending) (rs : List Record) where
-  pub held_taken : (told : Result A RestartFault) → LeaveWith seats room p rs → IfErr told (IsPendingFault p)
-      → (h : Header) (rooms : ℕ) → IfErr told (HoldsBack h rooms seats room p rs)
-  held_taken (Ok a) all fault h rooms = tt
-  held_taken (Err e) all fault h rooms = not_taken h rooms seats room p rs all e fault
+  pub held_taken : {A : Type 0} (p : Option Pending) (told : Result A RestartFault) → LeaveWith seats room p rs → IfErr told (IsPendingFault p)
+      → IfErr told (HoldsBack h rooms seats room p rs)
+  held_taken p (Ok a) all fault = tt
+  held_taken p (Err e) all fault = not_taken p all e fault
 
 pub when_ok : {A E P : Type 0} (told : Result A E) → P → OnOk told P
 when_ok (Ok a) p = p

@@ -72,13 +72,13 @@ IsOfferPending (Some (Act a)) = ⊥
 IsOfferPending (Some (Offer r)) = Unit {0}
 
 module _ {X1 X2 X3 X4 : Type 0} where
-  -- Why the seats don't come back over these records: memory was refused, they are out of order, they are records of
-  -- other kept parts, or the cell refused the offer whose record stands last.
+  -- Why the seats don't come back over these records: memory was refused; they are out of order; or they are in order,
+  -- and are records of other kept parts, or the cell refused the offer whose record stands last.
   abbrev pub HoldsBack : Header → ℕ → List (Four X1 X2 X3 X4) → ℕ → Option Pending → List Record → RestartFault → Type 0
   HoldsBack h rooms seats room p rs NoMemory = Unit {0}
   HoldsBack h rooms seats room p rs (Journal e) = (e ≡ log.BadRecord) × (AreInOrder h.nodes h.node rooms rs → ⊥)
-  HoldsBack h rooms seats room p rs OtherRecords = AreOther seats room p rs
-  HoldsBack h rooms seats room p rs CellRefused = LeaveWith seats room p rs × IsOfferPending p
+  HoldsBack h rooms seats room p rs OtherRecords = AreInOrder h.nodes h.node rooms rs × AreOther seats room p rs
+  HoldsBack h rooms seats room p rs CellRefused = AreInOrder h.nodes h.node rooms rs × LeaveWith seats room p rs × IsOfferPending p
 
   -- Why a node doesn't come back over bytes: the journal can't be opened, or its records hold the node back. A device's
   -- failure has a clause of its own.

@@ -45,4 +45,4 @@ module _ {T1 T2 T3 T4 : Type 0} where
     not_others fault (inr (inl device)) never is = let bad = sym device ∙ is in absurd (cc)
     not_others fault (inr (inr (inl journal))) never is = let bad = sym journal.1 ∙ is in absurd (cc)
     not_others fault (inr (inr (inr held))) never is =
-        never held.0 held.1 (subst (λ (f : RestartFault). HoldsBack h rooms seats room p held.0 f) is held.2)
+        never held.0 held.1 (subst (λ (f : RestartFault). HoldsBack h rooms seats room p held.0 f) is held.2).1

@@ -25,7 +25,10 @@ returns-in-Ok-Pending-clause-in_order g c = when_ok c.take_pending.result c.in-O
 
 pub returns-in-Ok-Pending-clause-refused : goal.returns-in-Ok-Pending-clause-refused
 returns-in-Ok-Pending-clause-refused g c =
-    held_taken (fours_of c.args.seats.now.items) c.args.room c.args.pending.now c.args.records.now c.take_pending.result (found_at (fours_of c.args.seats.now.items) c.args.room c.args.pending.now c.args.records.now c.in-Ok-Pending.field-0 found.Pending c.in-Ok-Pending.field-0-is c.in-Ok-Pending.ensures.found) c.take_pending.ensures.faults c.args.header.now (4 * length c.args.seats.now.items)
+    held_taken c.args.header.now (4 * length c.args.seats.now.items) (fours_of c.args.seats.now.items) c.args.room c.args.records.now
+    c.in-Ok-Pending.ensures.in_order c.args.pending.now c.take_pending.result
+    (found_at (fours_of c.args.seats.now.items) c.args.room c.args.pending.now c.args.records.now c.in-Ok-Pending.field-0 found.Pending c.in-Ok-Pending.field-0-is c.in-Ok-Pending.ensures.found)
+    c.take_pending.ensures.faults
 
 pub returns-in-Ok-Whole-clause-stepped : goal.returns-in-Ok-Whole-clause-stepped
 returns-in-Ok-Whole-clause-stepped g c =
@@ -33,7 +36,10 @@ returns-in-Ok-Whole-clause-stepped g c =
     inr (whole.0, whole.1, refl)
 
 pub returns-in-Ok-Neither-clause-refused : goal.returns-in-Ok-Neither-clause-refused
-returns-in-Ok-Neither-clause-refused g c = found_at (fours_of c.args.seats.now.items) c.args.room c.args.pending.now c.args.records.now c.in-Ok-Neither.field-0 found.Neither c.in-Ok-Neither.field-0-is c.in-Ok-Neither.ensures.found
+returns-in-Ok-Neither-clause-refused g c = (
+  c.in-Ok-Neither.ensures.in_order,
+  found_at (fours_of c.args.seats.now.items) c.args.room c.args.pending.now c.args.records.now c.in-Ok-Neither.field-0 found.Neither c.in-Ok-Neither.field-0-is c.in-Ok-Neither.ensures.found,
+)
 
 pub returns-in-Err-clause-refused : goal.returns-in-Err-clause-refused
 returns-in-Err-clause-refused g c =
