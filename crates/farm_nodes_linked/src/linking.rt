@@ -71,7 +71,12 @@ pub fn linked<D, O, H: Naming>(
     // Where the C program's functions have C names, as those of a text do, what is linked may be written.
     ensures spelled { HaveNames (program_tree program.now) → IfOk result (IsProgram IsFunction) }
 
-    // Why it is refused. The names are those of the node's own program.
+    // Tested behind that: the names of the node's own program are others, or not as many.
+    ensures names { names_of (arc_value node.now.program).functions ≢ names_of (low (program_tree program.now)).functions →
+        IsErrAnd result (λ e. e ≢ LinkedError.Undecided → e ≢ LinkedError.Link LinkError.NoMemory →
+        e ≡ LinkedError.Link LinkError.Names) }
+
+    // Why it is refused.
     ensures refused { IfErr result (IsRefused (low (program_tree program.now))
         (names_of (arc_value node.now.program).functions) (learned_by node.now.seats.items)) }
 

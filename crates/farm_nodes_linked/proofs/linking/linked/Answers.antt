@@ -54,3 +54,18 @@ returns-clause-whole g c = λ names few all.
     let memory = c.in-Err-link.ensures.whole (beside ∙ names) few
     (chain (low (program_tree c.args.program.now)) (learned_by c.args.node.now.seats.items) named same all) in
     λ i. Link (memory i)
+
+pub returns-in-Ok-link-clause-names : goal.returns-in-Ok-link-clause-names
+returns-in-Ok-link-clause-names g c = λ others.
+    let named = c.deref-4.result.now in
+    let beside : names_beside named ≡ names_of (arc_value c.args.node.now.program).functions =
+    ap (λ l. names_beside l) c.deref-4.ensures.value ∙ (c.in-Ok.ensures.names ∙ ap (λ l. names_of l) (c.as_slice.ensures ∙ ap (λ p. p.functions) c.deref-2.ensures)) in
+    absurd (c.in-Ok-link.ensures.names (λ same. others (sym beside ∙ same)))
+
+pub returns-clause-names : goal.returns-clause-names
+returns-clause-names g c = λ others decided room.
+    let named = c.deref-4.result.now in
+    let beside : names_beside named ≡ names_of (arc_value c.args.node.now.program).functions =
+    ap (λ l. names_beside l) c.deref-4.ensures.value ∙ (c.in-Ok.ensures.names ∙ ap (λ l. names_of l) (c.as_slice.ensures ∙ ap (λ p. p.functions) c.deref-2.ensures)) in
+    let told = c.in-Err-link.ensures.names (λ same. others (sym beside ∙ same)) (λ memory. room (λ i. Link (memory i))) in
+    λ i. Link (told i)
