@@ -1,0 +1,33 @@
+-- What is said of journals and functions is said of the same told otherwise.
+use Rattle.std.proofs.Common.{◌≡◌, ℕ, List, map, sym, ap, subst, ◌∙◌}
+use Rattle.std.specs.Global.{Vec}
+use Rattle.acceptor_log_form.specs.declared.record.Record.{Record}
+use Rattle.rooms_hall.specs.declared.hall.Naming as naming
+use Rattle.farm_nodes_passes.specs.declared.seats.Seats.{Seats}
+use Rattle.farm_nodes_lists.specs.Rows.{rows_of}
+use Rattle.farm_nodes_opening.specs.declared.fault.RoomFault.{RoomFault}
+use Rattle.farm_nodes_joining.proofs.Moving.{map-map}
+use Rattle.farm_nodes_opened.specs.Refused.{HasBadRecord, HasRefusedOffer, IsUnopened}
+use Rattle.farm_nodes_opened.specs.Seated.{AreSeated}
+
+module _ {J : Type 0} (f g : ℕ) (js ks : List (J × Vec Record)) (same : f ≡ g) (are : js ≡ ks) where
+  pub bad_of : (node : ℕ) → HasBadRecord f js node → HasBadRecord g ks node
+  bad_of node told =
+      subst (λ (n : ℕ). HasBadRecord n ks node) same (subst (λ (l : List (J × Vec Record)). HasBadRecord f l node) are told)
+
+  pub refused_of : (node : ℕ) → HasRefusedOffer f js node → HasRefusedOffer g ks node
+  refused_of node told =
+      subst (λ (n : ℕ). HasRefusedOffer n ks node) same (subst (λ (l : List (J × Vec Record)). HasRefusedOffer f l node) are told)
+
+  pub unopened_of : (room : ℕ) (fault : RoomFault) → IsUnopened f js room fault → IsUnopened g ks room fault
+  unopened_of room fault told =
+      subst (λ (n : ℕ). IsUnopened n ks room fault) same (subst (λ (l : List (J × Vec Record)). IsUnopened f l room fault) are told)
+
+  pub seated_of : {H : Type 0} {h : naming.Ghosts H} (rows more : List (List (Seats H h))) → rows ≡ more → AreSeated f js rows → AreSeated g ks more
+  seated_of {H} {h} rows more rows_are told =
+      subst (λ (r : List (List (Seats H h))). AreSeated g ks r) rows_are
+      (subst (λ (n : ℕ). AreSeated n ks rows) same (subst (λ (l : List (J × Vec Record)). AreSeated f l rows) are told))
+
+-- what stands in the lists of the nodes
+pub rows_from : {N X : Type 0} (list : N → Vec X) (nodes : List N) (lists : List (Vec X)) → map list nodes ≡ lists → rows_of lists ≡ map (λ n. (list n).items) nodes
+rows_from {N} {X} list nodes lists are = ap (λ (l : List (Vec X)). rows_of l) (sym are) ∙ map-map (λ (v : Vec X). v.items) list nodes

@@ -1,0 +1,8 @@
+pub mod Lists
+pub mod Records
+pub mod Held
+pub mod Offered
+pub mod Disks
+pub mod Told
+pub mod FromJournals
+pub mod Carried

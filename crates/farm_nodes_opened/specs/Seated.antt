@@ -1,0 +1,64 @@
+-- The seats of a farm's nodes, as they open from what stands in their journals.
+use Rattle.std.specs.Prelude.{◌≡◌, ℕ, ◌<◌, List, length, All, Option}
+use Rattle.std.specs.Global.{Vec}
+use Rattle.lang_base.specs.declared.language.Language as language
+use Rattle.lang_base.specs.declared.pass.Pass as pass
+use Rattle.rtl_language.specs.contracts.language.RtlLanguage.TheImpl as rtl_language
+use Rattle.ltl.specs.contracts.language.LtlLanguage.TheImpl as ltl_language
+use Rattle.linear_language.specs.contracts.language.LinearLanguage.TheImpl as linear_language
+use Rattle.constprop_check.specs.contracts.pass.ConstPropPass.TheImpl as constants
+use Rattle.cse_check.specs.contracts.pass.CsePass.TheImpl as expressions
+use Rattle.alloc_check.specs.contracts.pass.AllocPass.TheImpl as allocation
+use Rattle.linearize_check.specs.contracts.pass.LinearizePass.TheImpl as order
+use Rattle.paxos_core_world.specs.KeptPart.{KeptPart}
+use Rattle.acceptor_log_form.specs.declared.record.Record.{Record}
+use Rattle.offers.specs.declared.parts.Parts.{Parts}
+use Rattle.rooms.specs.SeatValue.{SeatValue}
+use Rattle.rooms_hall.specs.Claimed.{Claimed}
+use Rattle.rooms_hall.specs.declared.hall.Naming as naming
+use Rattle.farm_nodes_passes.specs.Offers.{Constants, Expressions, Allocation, Order}
+use Rattle.farm_nodes_passes.specs.declared.seats.Seats.{Seats}
+use Rattle.farm_nodes_passes.specs.declared.which.Which.{Which}
+use Rattle.farm_nodes_passes.specs.declared.which.Which.TheVariants.{First, Second, Third, Fourth}
+use Rattle.farm_nodes_lists.specs.Rows.{rows_of}
+use Rattle.farm_nodes_opening.specs.Kept.{AreSettled}
+use Rattle.farm_nodes_functions.specs.Opened.{AreOpenedIn}
+use Rattle.farm_nodes_stored.specs.Nodes.{AreMade}
+use Rattle.farm_nodes_stored.specs.Read.{IsKeptPart}
+use Rattle.farm_nodes_stored.specs.Checked.{IsOffersPart}
+
+module _ {J P A B C I O N : Type 0} (from : language.Ghosts A I) (to : language.Ghosts B O) (by : pass.Ghosts P A B C I O) (which : Which) where
+  -- those in the rooms of a pass of all functions, from the kept parts and the offers among the records, each of which was checked again
+  pub record AreSeatedIn (functions : ℕ) (journals : List (J × Vec Record)) (kept : List (Vec KeptPart))
+      (show : N → SeatValue (Parts I O C) × Claimed) (rows : List (List N)) : Type 0 where
+    pub offers : List (Vec (Option (Parts I O C)))
+    pub are_offers : AreMade (IsOffersPart from to by which functions) journals (length journals) offers
+    pub opened : AreOpenedIn kept which functions (rows_of offers) show rows
+
+module _ {H : Type 0} {h : naming.Ghosts H} where
+  -- the seats of each pass, with the numbers of their rooms
+  abbrev pub first_seat : Seats H h → SeatValue Constants × Claimed
+  first_seat s = (s.first.seat, s.first.claim)
+
+  abbrev pub second_seat : Seats H h → SeatValue Expressions × Claimed
+  second_seat s = (s.second.seat, s.second.claim)
+
+  abbrev pub third_seat : Seats H h → SeatValue Allocation × Claimed
+  third_seat s = (s.third.seat, s.third.claim)
+
+  abbrev pub fourth_seat : Seats H h → SeatValue Order × Claimed
+  fourth_seat s = (s.fourth.seat, s.fourth.claim)
+
+  -- so it is of all passes
+  pub record AreSeated {J : Type 0} (functions : ℕ) (journals : List (J × Vec Record)) (rows : List (List (Seats H h))) : Type 0 where
+    pub count : length rows ≡ length journals
+    pub long : All (λ row. length row ≡ functions) rows
+    pub kept : List (Vec KeptPart)
+    pub are_kept : AreMade (IsKeptPart functions (length journals)) journals (length journals) kept
+    pub settled : (f : ℕ) → f < functions → AreSettled kept f
+    pub first : AreSeatedIn rtl_language.ghosts rtl_language.ghosts constants.ghosts First functions journals kept first_seat rows
+    pub second : AreSeatedIn rtl_language.ghosts rtl_language.ghosts expressions.ghosts Second functions journals kept
+        second_seat rows
+    pub third : AreSeatedIn rtl_language.ghosts ltl_language.ghosts allocation.ghosts Third functions journals kept third_seat rows
+    pub fourth : AreSeatedIn ltl_language.ghosts linear_language.ghosts order.ghosts Fourth functions journals kept
+        fourth_seat rows
