@@ -48,7 +48,7 @@ FLOORS = [
      "farm_nodes_restart_records farm_nodes_restart farm_nodes_returning farm_nodes_records farm_nodes_disks "
      "farm_nodes_stored farm_nodes_lists farm_nodes_opening farm_nodes_functions farm_nodes_joining "
      "farm_nodes_opened farm_nodes_rounds farm_nodes_workers farm_nodes_threads farm_nodes_source "
-     "farm_nodes_compiling farm_nodes_linked"),
+     "farm_nodes_compiling farm_nodes_linked farm_nodes"),
     ("The program",
      "cfarm_output cfarm_settle_nodes cfarm_commands cfarm_schedules_lines "
      "cfarm_schedules cfarm_program cfarm"),

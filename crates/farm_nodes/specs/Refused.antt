@@ -1,0 +1,30 @@
+-- Why the disks of a farm are refused: over what its text is compiled from, the first fault of what stands on them.
+use Rattle.std.specs.Prelude.{◌≡◌, ◌⊎◌, ℕ, List, length}
+use Rattle.std.specs.Arc.{arc_value}
+use Rattle.durable_model.specs.declared.disk.Disk as disks
+use Rattle.acceptor_log_form.specs.declared.errors.LogError.{LogError}
+use Rattle.acceptor_log_form.specs.declared.errors.LogError.TheVariants.{BadRecord}
+use Rattle.farm_nodes_source.specs.declared.source.Source.{Source}
+use Rattle.farm_nodes_stored.specs.Nodes.{AreMade}
+use Rattle.farm_nodes_opening.specs.declared.fault.RoomFault.{RoomFault}
+use Rattle.farm_nodes_opened.specs.Back.{IsBack}
+use Rattle.farm_nodes_opened.specs.Refused.{HasBadRecord, HasRefusedOffer, IsRefusedJournal, IsUnopened, OfJournals}
+use Rattle.farm_nodes_opened.specs.declared.fault.OpenFault.{OpenFault}
+use Rattle.farm_nodes_opened.specs.declared.fault.OpenFault.TheVariants.{Journal, Refused, Room}
+use Rattle.farm_nodes.specs.Prepared.{IsSourceOf}
+
+pub record AreRefused {D : Type 0} (disk : disks.Ghosts D) (text : List ℕ) (given back : List D) (fault : OpenFault) : Type 0 where
+  pub source : Source
+  pub is : IsSourceOf text source
+  -- all disks come back
+  pub returned : AreMade (IsBack disk (length given) source.digest) given (length given) back
+  -- a journal is refused, or its records are
+  pub journal : (node : ℕ) (told : LogError) → fault ≡ Journal node told → IsRefusedJournal disk (length given) source.digest given node told
+      ⊎ ((told ≡ BadRecord) × OfJournals disk (length given) source.digest given
+      (λ journals. HasBadRecord (length (arc_value source.translated).functions) journals node))
+  -- an offer is refused by its pass
+  pub refused : (node : ℕ) → fault ≡ Refused node → OfJournals disk (length given) source.digest given
+      (λ journals. HasRefusedOffer (length (arc_value source.translated).functions) journals node)
+  -- a room is not opened
+  pub unopened : (room : ℕ) (told : RoomFault) → fault ≡ Room room told → OfJournals disk (length given) source.digest given
+      (λ journals. IsUnopened (length (arc_value source.translated).functions) journals room told)

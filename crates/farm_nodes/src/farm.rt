@@ -1,0 +1,101 @@
+ghost use Rattle.std.specs.Prelude.{◌≡◌, None, All, length, map, IfOk, IfErr};
+ghost use Rattle.std.specs.Arc.{arc_value};
+ghost use Rattle.std.specs.List.{AllByRecursion};
+ghost use Rattle.paxos_core_law.specs.NodeState.{IsRoomSize};
+ghost use Rattle.farm_nodes_passes.specs.Fours.{fours_of};
+ghost use Rattle.farm_nodes_opened.specs.declared.fault.OpenFault.{OpenFault};
+ghost use Rattle.farm_nodes_node.specs.Held.{IsSoundNode};
+ghost use Rattle.farm_nodes_node.specs.Waiting.{IsWaiting};
+ghost use Rattle.farm_nodes_stored.specs.Nodes.{AreMade};
+ghost use Rattle.farm_nodes_joining.specs.Words.{generators};
+ghost use Rattle.farm_nodes_opened.specs.Back.{IsJournalOn};
+ghost use Rattle.farm_nodes_opened.specs.Opened.{AreOpenFrom};
+ghost use Rattle.farm_nodes_source.specs.declared.fault.SourceFault.{SourceFault};
+ghost use Rattle.farm_nodes_source.specs.Refused.{IsUnprepared};
+ghost use Rattle.farm_nodes.specs.Prepared.{IsSourceOf};
+ghost use Rattle.farm_nodes.specs.Refused.{AreRefused};
+
+use crate::error::FarmError;
+use durable_model::Disk;
+use farm_nodes_node::FarmNode;
+use farm_nodes_opened::open_nodes;
+use farm_nodes_source::{Source, prepare};
+use rooms_hall::{Hall, Naming};
+use std::alloc::Global;
+use std::sync::Wait;
+use std::thread::Threads;
+
+/// A farm: what it compiles, and its nodes in their order.
+#[derive(Drop)]
+pub struct Farm<D, O, H: Naming> {
+    pub source: Source,
+    pub nodes: Vec<FarmNode<D, O, H>>,
+}
+
+impl<D: Disk + Drop, O: Drop, H: Naming> Farm<D, O, H> {
+    /// The farm of a C text, with a node for each disk: each has the journal on its disk, which is created where the disk is empty, the
+    /// seats that come from what stands there, its optimisers, and the generator of the seed and its number. The text comes first, then the
+    /// journals in the order of the nodes (401 to 404), then what stands in them (403), then that the passes accept each offer, which as
+    /// many threads as there are nodes check again (301), then the rooms in order (510, 511). The first fault is told, and all disks come
+    /// back.
+    pub fn open<R: Threads + Wait + Sync>(
+        rt: &R,
+        alloc: Global,
+        hall: &Hall<H>,
+        text: &[u8],
+        disks: Vec<D>,
+        oracles: Vec<O>,
+        seed: u64,
+    ) -> Result<Farm<D, O, H>, (Vec<D>, FarmError)>
+        requires size { IsRoomSize (length disks.items) }
+        requires oracles { length oracles.items ≡ length disks.items }
+
+        // It compiles the program of the text. Each node has its share of the translation, its optimisers and its generator.
+        ensures source { IfOk result (λ farm. IsSourceOf text.now farm.source) }
+        ensures program { IfOk result (λ farm.
+            All (λ n. arc_value n.program ≡ arc_value farm.source.translated) farm.nodes.items) }
+        ensures oracles { IfOk result (λ farm. map (λ n. n.oracles) farm.nodes.items ≡ oracles.items) }
+        ensures words { IfOk result (λ farm.
+            map (λ n. n.words) farm.nodes.items ≡ generators seed (length disks.items)) }
+
+        // Each has the journal on its disk, and may be asked; none is stopped. The rooms open from what the journals have acknowledged.
+        ensures journals { IfOk result (λ farm. AreMade (IsJournalOn D.Disk (length disks.items) farm.source.digest)
+            disks.items (length disks.items) (map (λ n. n.log) farm.nodes.items)) }
+        ensures going { IfOk result (λ farm. All (λ n. n.halted ≡ None) farm.nodes.items) }
+        ensures fit { IfOk result (λ farm. AllByRecursion (λ n.
+            IsSoundNode D.is_honest D.seen D.may_leave n.log (fours_of n.seats.items) n.halted
+            × IsWaiting n.seats.items n.halted) farm.nodes.items) }
+        ensures rooms { IfOk result (λ farm. AreOpenFrom D.is_honest D.seen
+            (length (arc_value farm.source.translated).functions)
+            (map (λ n. n.log) farm.nodes.items) (map (λ n. n.seats.items) farm.nodes.items)) }
+
+        // A text that is not compiled leaves the disks as they are.
+        ensures untouched { IfErr result (λ it. (fault : SourceFault) → it.1 ≡ FarmError.Source fault →
+            IsUnprepared text.now fault × (it.0 ≡ disks)) }
+
+        // What is refused of the disks is refused over the source of the text, and all of them come back.
+        ensures refused { IfErr result (λ it. (fault : OpenFault) → it.1 ≡ FarmError.Disks fault →
+            AreRefused D.Disk text.now disks.items it.0.items fault) }
+    {
+        let source = match prepare(alloc, text) {
+            Ok(source) => source,
+            Err(fault) => return Err((disks, FarmError::Source(fault))),
+        };
+        let workers = disks.len();
+        let opened = open_nodes(
+            rt,
+            alloc,
+            hall,
+            &source.digest,
+            &source.translated,
+            disks,
+            oracles,
+            seed,
+            workers,
+        );
+        match opened {
+            Ok(nodes) => Ok(Farm { source, nodes }),
+            Err((disks, fault)) => Err((disks, FarmError::Disks(fault))),
+        }
+    }
+}

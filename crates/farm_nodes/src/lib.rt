@@ -1,0 +1,20 @@
+//! A farm of compiler nodes over one C text. Its nodes come from their journals, take turns on threads, one at a time in each of four
+//! rooms a function, meet, come back after a failure, and link the offers that they have learned. Nodes that met, and all of whose
+//! functions were counted, link one program, which does exactly what the C program does.
+#![tactic(auto)]
+
+mod error;
+mod farm;
+
+pub use error::FarmError;
+pub use farm::Farm;
+pub use farm_nodes_compiling::{Optimisers, optimisers_of};
+pub use farm_nodes_linked::{LinkedError, linked, one_program};
+pub use farm_nodes_node::{FarmNode, Halted, Turn};
+pub use farm_nodes_nodes::meet;
+pub use farm_nodes_opened::OpenFault;
+pub use farm_nodes_passes::Oracles;
+pub use farm_nodes_returning::{RestartFault, own_disk, restart};
+pub use farm_nodes_source::{Source, SourceFault, prepare};
+pub use farm_nodes_threads::{RunError, run_threads};
+pub use rooms_hall::{Hall, Naming, Opened};
