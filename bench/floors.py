@@ -53,7 +53,7 @@ FLOORS = [
      "cfarm_output cfarm_report cfarm_settle_nodes cfarm_commands cfarm_schedules_lines "
      "cfarm_schedules cfarm_program cfarm"),
     ("Tests",
-     "program_rows paxos_reference worked_commands worked_agreement worked_texts worked_forms worked_offers "
+     "program_rows paxos_reference worked_farm worked_commands worked_agreement worked_texts worked_forms worked_offers "
      "worked_rows worked_disk worked_journals worked_rooms"),
 ]
 ORDER = [crate for _, crates in FLOORS for crate in crates.split()]

@@ -1,7 +1,7 @@
 //! Asks for every row of the data files, and tells how many of each file are answered as they say, and which are not.
 //!
-//! The crates [`worked_commands`], [`worked_agreement`], [`worked_texts`], [`worked_forms`] and [`worked_offers`] ask for theirs. This one runs C texts with known
-//! answers through the commands `check` and `interpret`, and those that end as programs of RTL and as linked programs
+//! The crates [`worked_commands`], [`worked_agreement`], [`worked_texts`], [`worked_forms`], [`worked_offers`] and
+//! [`worked_farm`] ask for theirs. This one runs C texts with known answers through the commands `check` and `interpret`, and those that end as programs of RTL and as linked programs
 //! too, once of the baselines and once of the optimisers' offers. `vectors.txt` was made by an independent reading of the
 //! language, the answers in `gcc.txt`, `examples.txt` and `drawn.txt`, whose programs were drawn by chance, are those of a
 //! C compiler, and `rows.txt` was written by hand. `links.txt` links the baselines of two programs of known answers, and
@@ -44,6 +44,7 @@ fn main(rt: HostRuntime) -> io::Result<()> {
     worked_texts::tell(&rt)?;
     worked_forms::tell(&rt)?;
     worked_offers::tell(&rt, &rt)?;
+    worked_farm::tell(&rt, &rt)?;
     tell(&rt)
 }
 

@@ -1,0 +1,72 @@
+//! Farms, from their text to their answer.
+
+ghost use Rattle.std.specs.Prelude.{◌≡◌, ◌<◌};
+ghost use Rattle.paxos_core_law.specs.NodeState.{IsRoomSize};
+
+use crate::linking::{TURNS, all_alike, all_meet, disks_of, ran};
+use crate::rows::Row;
+use farm_nodes::{Farm, Hall, Naming, Opened, optimisers_of, run_threads};
+use parallel_validate::OpenGate;
+use program_rows::owned;
+use std::alloc::Global;
+use std::marker::Brand;
+use std::sync::Wait;
+use std::thread::Threads;
+
+/// The answer, in a hall of its own.
+pub(crate) fn told<R: Threads + Wait + Sync>(threads: &R, alloc: Global, row: Row) -> Option<String>
+    requires size { IsRoomSize row.nodes }
+    requires workers { 0 < row.workers }
+{
+    let Ok(opened) = Opened::new(alloc) else {
+        return None;
+    };
+    told_in::<Brand, R>(threads, alloc, opened, row)
+}
+
+/// The same in a hall that has a name.
+fn told_in<H: Naming + Send, R: Threads + Wait + Sync>(
+    threads: &R,
+    alloc: Global,
+    opened: Opened,
+    row: Row,
+) -> Option<String>
+    requires hall { opened ≡ H.hall }
+    requires size { IsRoomSize row.nodes }
+    requires workers { 0 < row.workers }
+{
+    let hall = opened.named::<H>();
+    farm_told(threads, alloc, &hall, &row)
+}
+
+/// What a farm links and runs.
+fn farm_told<H: Naming + Send, R: Threads + Wait + Sync>(
+    threads: &R,
+    alloc: Global,
+    hall: &Hall<H>,
+    row: &Row,
+) -> Option<String>
+    requires size { IsRoomSize row.now.nodes }
+    requires workers { 0 < row.now.workers }
+{
+    let Some(disks) = disks_of(alloc, row.nodes) else {
+        return None;
+    };
+    let Ok(oracles) = optimisers_of(alloc, row.nodes) else {
+        return None;
+    };
+    let Ok(farm) = Farm::open(threads, alloc, hall, &row.text, disks, oracles, row.seed) else {
+        return None;
+    };
+    let Farm { source, nodes } = farm;
+    let Ok(mut nodes) = run_threads(threads, alloc, nodes, TURNS, row.workers, &OpenGate) else {
+        return None;
+    };
+    if nodes.is_empty() || !all_meet(&mut nodes) {
+        return owned(alloc, "not all met");
+    }
+    if !all_alike(alloc, &source, &nodes) {
+        return owned(alloc, "other programs");
+    }
+    ran(alloc, &source, &nodes[0])
+}

@@ -1,0 +1,52 @@
+//! Farms of compiler nodes on disks in memory: what the nodes agree on, link and run. Tells how many rows of the file are answered as they
+//! say, and which are not.
+//!
+//! | Question | Answer |
+//! |---|---|
+//! | `NODES WORKERS SEED TEXT` | what a farm of so many nodes, whose turns so many threads take, links for the C text, where all nodes met and link one program: its output in hex, `-` for none, and its closing line |
+#![tactic(auto)]
+
+mod farms;
+mod linking;
+mod rows;
+
+use crate::farms::told;
+use crate::rows::row_of;
+use program_rows::{agrees, parts_of_row};
+use std::sync::Wait;
+use std::thread::Threads;
+use std::{fs, io};
+
+/// The file of the rows.
+const FARMS: &str = "farms.txt";
+
+/// What a farm links and runs; none where the question asks for no farm.
+fn answer<R: Threads + Wait + Sync>(
+    rt: &HostRuntime,
+    threads: &R,
+    question: &str,
+) -> Option<String> {
+    let Some(row) = row_of(rt.alloc(), question) else {
+        return None;
+    };
+    told(threads, rt.alloc(), row)
+}
+
+/// Asks for each row of the file that lies beside the program, and tells how many agree. The farms take threads.
+pub fn tell<R: Threads + Wait + Sync>(rt: &HostRuntime, threads: &R) -> io::Result<()> {
+    let text = fs::read_to_string(rt, FARMS)?;
+    let mut all = 0u64;
+    let mut agree = 0u64;
+    for line in text.lines() {
+        if line.starts_with('#') {
+            continue;
+        }
+        all = all.saturating_add(1);
+        let (question, _said) = parts_of_row(line);
+        let answered = answer(rt, threads, question);
+        if agrees(rt, FARMS, line, all, answered)? {
+            agree = agree.saturating_add(1);
+        }
+    }
+    println!(rt; "{FARMS}: {agree} of {all} agree")
+}
