@@ -103,7 +103,7 @@ class Bench:
         )
 
     def words(self, path):
-        return [self.given.program, "build", path, "--nodes", str(self.given.nodes), "--dir", self.folder]
+        return [self.given.program, "build", path, "--nodes", str(self.given.nodes), "--turns", "1000000", "--dir", self.folder]
 
     def empty(self):
         shutil.rmtree(self.folder, ignore_errors=True)
