@@ -3,7 +3,6 @@
 ghost use Rattle.std.specs.Prelude.{◌≡◌, ◌<◌, ℕ, All, Some, IsTrue, length, map, IfOk, IfErr};
 ghost use Rattle.std.specs.Arc.{arc_value};
 ghost use Rattle.std.specs.List.{AllByRecursion};
-ghost use Rattle.std.specs.String.{string_bytes};
 ghost use Rattle.c_checker_rules.specs.Checked.{program_tree};
 ghost use Rattle.cminor_lowering.specs.Programs.{low};
 ghost use Rattle.cminor_program_ranges.specs.Names.{HaveNames};
@@ -11,9 +10,9 @@ ghost use Rattle.rtlgen.specs.Refused.{HasFewNodes};
 ghost use Rattle.rtlgen_definition.specs.Gen.{gen};
 ghost use Rattle.linker.specs.Numbers.{function_of_link_error};
 ghost use Rattle.farm_nodes_linked.specs.Learned.{learned_by, IsUndecided};
-ghost use Rattle.cfarm_build.specs.Built.{AllDecided, IsBuiltBy, IsLinkedBy, IsReportOf};
+ghost use Rattle.cfarm_build.specs.Built.{IsBuiltBy};
 ghost use Rattle.cfarm_build.specs.Nodes.{node};
-ghost use Rattle.cfarm_build.specs.Refused.{IsNotLinked, IsRefusedBy, IsToldOf, IsUnlinkedBy};
+ghost use Rattle.cfarm_build.specs.Refused.{IsNotLinked, IsRefusedBy, IsToldOf};
 
 use crate::built::Built;
 use crate::error::BuildError;
@@ -28,7 +27,7 @@ use std::alloc::Global;
 
 /// Whether each node links all functions.
 fn all_link<D, O, H: Naming>(nodes: &[FarmNode<D, O, H>]) -> bool
-    ensures yes { IsTrue result → AllDecided (map (λ n. node n.log n.seats.items n.halted) nodes.now) }
+    ensures yes { IsTrue result → AllByRecursion (λ n. IsUndecided (learned_by n.seats.items) → ⊥) nodes.now }
     ensures no { (IsTrue result → ⊥) → IsNotLinked (map (λ n. node n.log n.seats.items n.halted) nodes.now) }
 {
     for number in 0..nodes.len() {
@@ -57,24 +56,24 @@ fn unlinked(alloc: Global, program: &CProgram, fault: LinkError) -> BuildError
     }
 }
 
-/// The bytes of what a node links, and the report with the numbers that it has learned.
+/// The bytes of what the first of the nodes links, and the report with the numbers that it has learned. Each of them links all functions.
 fn made_by<D, O, H: Naming>(
     alloc: Global,
     source: &Source,
-    node: &FarmNode<D, O, H>,
-    count: usize,
+    nodes: &[FarmNode<D, O, H>],
 ) -> Result<Built, BuildError>
-    requires decided { IsUndecided (learned_by node.now.seats.items) → ⊥ }
+    requires some { 0 < length nodes.now }
+    requires decided { AllByRecursion (λ n. IsUndecided (learned_by n.seats.items) → ⊥) nodes.now }
     requires translated { arc_value source.now.translated ≡ gen (low (program_tree source.now.program)) }
     requires names { HaveNames (program_tree source.now.program) }
     requires few { All HasFewNodes (low (program_tree source.now.program)).functions }
-    requires program { arc_value node.now.program ≡ arc_value source.now.translated }
-    ensures linked { IfOk result (λ built. IsLinkedBy source.now node.now.seats.items built.program.items) }
-    ensures report { IfOk result (λ built.
-        IsReportOf source.now node.now.seats.items built.program.items count (string_bytes built.report)) }
-    ensures refused { IfErr result (IsUnlinkedBy source.now node.now.seats.items) }
+    requires program { AllByRecursion (λ n. arc_value n.program ≡ arc_value source.now.translated) nodes.now }
+    ensures built { IfOk result (IsBuiltBy source.now (map (λ n. node n.log n.seats.items n.halted) nodes.now)) }
+    ensures refused { IfErr result
+        (IsRefusedBy source.now (map (λ n. node n.log n.seats.items n.halted) nodes.now)) }
 {
-    let program = match linked(node, &source.program) {
+    let first = &nodes[0];
+    let program = match linked(first, &source.program) {
         Ok(program) => program,
         Err(LinkedError::Undecided) => return Err(BuildError::Undecided),
         Err(LinkedError::Link(fault)) => return Err(unlinked(alloc, &source.program, fault)),
@@ -82,10 +81,10 @@ fn made_by<D, O, H: Naming>(
     let Ok(bytes) = written(alloc, &program) else {
         return Err(BuildError::NoMemory);
     };
-    let Ok(functions) = numbers_of(alloc, &source.program, &node.seats) else {
+    let Ok(functions) = numbers_of(alloc, &source.program, &first.seats) else {
         return Err(BuildError::NoMemory);
     };
-    match report(alloc, &functions, &bytes, count) {
+    match report(alloc, &functions, &bytes, nodes.len()) {
         Ok(report) => Ok(Built {
             program: bytes,
             report,
@@ -112,5 +111,5 @@ pub(crate) fn built_by<D, O, H: Naming>(
     if !all_link(nodes) {
         return Err(BuildError::Undecided);
     }
-    made_by(alloc, source, &nodes[0], nodes.len())
+    made_by(alloc, source, nodes)
 }

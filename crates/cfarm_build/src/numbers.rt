@@ -122,8 +122,10 @@ pub(crate) fn name_of(
     ensures { IfOk result (λ name.
         slice_get (map (λ f. f.name) program.now.functions) function ≡ Some (string_bytes name)) }
 {
-    let name = program.functions()[function].name.copied(alloc)?;
-    Ok(text_of(name.into_vec()))
+    match program.functions()[function].name.copied(alloc) {
+        Ok(name) => Ok(text_of(name.into_vec())),
+        Err(NoMemory) => Err(NoMemory),
+    }
 }
 
 /// All functions with what the node has learned, which links them all.

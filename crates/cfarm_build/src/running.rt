@@ -18,8 +18,23 @@ use std::alloc::Global;
 use std::sync::Wait;
 use std::thread::Threads;
 
-/// How many turns each node takes at most before it is told how far they are.
-const ROUND: u64 = 32;
+/// How many turns at least each node takes in a round, behind which it is told how far they are.
+const LEAST: u64 = 32;
+
+/// How many turns each node takes for each function in a round: two in each of its rooms. A round begins with the first room, so one of
+/// fewer turns than there are rooms would never come to the last.
+const FOR_FUNCTION: usize = 8;
+
+/// How many turns a round has.
+fn turns_of<D, O, H: Naming>(nodes: &[FarmNode<D, O, H>]) -> u64
+    ensures { 0 < result }
+{
+    let functions = match nodes.first() {
+        Some(first) => first.seats.len(),
+        None => 0,
+    };
+    LEAST.max(functions.saturating_mul(FOR_FUNCTION) as u64)
+}
 
 /// Whether no node takes turns any more: each has failed, or has learned in all its rooms.
 fn are_done<D, O, H: Naming>(nodes: &[FarmNode<D, O, H>]) -> bool {
@@ -102,7 +117,7 @@ pub(crate) fn run_rounds<
     let mut nodes = nodes;
     let mut left = turns;
     while left > 0 {
-        let round = left.min(ROUND);
+        let round = left.min(turns_of(&nodes));
         nodes = match one_round(rt, alloc, nodes, round) {
             Ok(nodes) => nodes,
             Err(fault) => return Err(fault),

@@ -103,20 +103,20 @@ impl<D: Disk + Drop, O: Drop, H: Naming> Farm<D, O, H> {
         // It compiles the source. Each node has its share of the translation, its optimisers and its generator.
         ensures source { IfOk result (λ farm. farm.source ≡ source) }
         ensures program { IfOk result (λ farm.
-            All (λ n. arc_value n.program ≡ arc_value source.translated) farm.nodes.items) }
+            All (λ n. arc_value n.program ≡ arc_value farm.source.translated) farm.nodes.items) }
         ensures oracles { IfOk result (λ farm. map (λ n. n.oracles) farm.nodes.items ≡ oracles.items) }
         ensures words { IfOk result (λ farm.
             map (λ n. n.words) farm.nodes.items ≡ generators seed (length disks.items)) }
 
         // Each has the journal on its disk, and may be asked; none is stopped. The rooms open from what the journals have acknowledged.
-        ensures journals { IfOk result (λ farm. AreMade (IsJournalOn D.Disk (length disks.items) source.digest)
+        ensures journals { IfOk result (λ farm. AreMade (IsJournalOn D.Disk (length disks.items) farm.source.digest)
             disks.items (length disks.items) (map (λ n. n.log) farm.nodes.items)) }
         ensures going { IfOk result (λ farm. All (λ n. n.halted ≡ None) farm.nodes.items) }
         ensures fit { IfOk result (λ farm. AllByRecursion (λ n.
             IsSoundNode D.is_honest D.seen D.may_leave n.log (fours_of n.seats.items) n.halted
             × IsWaiting n.seats.items n.halted) farm.nodes.items) }
         ensures rooms { IfOk result (λ farm. AreOpenFrom D.is_honest D.seen
-            (length (arc_value source.translated).functions)
+            (length (arc_value farm.source.translated).functions)
             (map (λ n. n.log) farm.nodes.items) (map (λ n. n.seats.items) farm.nodes.items)) }
 
         // What is told is the first fault of the disks, and all of them come back.
