@@ -2,7 +2,6 @@
 use Rattle.std.specs.Prelude.{ℕ, zero, suc, List, ◌++◌, codes}
 use Rattle.std.specs.Fmt.{decimal}
 use Rattle.std.specs.String.{string_bytes}
-use Rattle.acceptor_log_form.specs.declared.errors.LogError.{LogError}
 use Rattle.acceptor_log_form.specs.Refusals as journals
 use Rattle.farm_nodes_source.specs.Told.{source_line}
 use Rattle.farm_nodes_offers.specs.declared.halt.Fault.{Fault}
