@@ -1,8 +1,6 @@
 -- What the linker's refusals are of, where the names are the program's and no function needs too many nodes.
-use Rattle.std.proofs.Common.{◌≡◌, ℕ, zero, suc, ◌<◌, List, [], ◌∷◌, All, length, map, Option, Some, None, refl, sym, ap, subst, ◌∙◌, arith}
-use Rattle.std.specs.Prelude.{slice_get}
+use Rattle.std.proofs.Common.{◌≡◌, ℕ, zero, suc, ◌<◌, List, [], ◌∷◌, All, length, map, Option, Some, ap, subst, ◌∙◌, arith}
 use Rattle.std.specs.List.{AllByRecursion}
-use Rattle.std.specs.String.{string_bytes}
 use Rattle.std.proofs.lemmas.List.{length-map}
 use Rattle.std.proofs.lemmas.List.Elements.{recursion_from_All}
 use Rattle.lang_base.specs.declared.program.Named.{Named}
@@ -24,7 +22,7 @@ use Rattle.farm_nodes_source.specs.declared.source.Source.{Source}
 use Rattle.farm_nodes_source.proofs.Numbered.{translated_names}
 use Rattle.farm_nodes_linked.specs.Learned.{FourOffers, learned_by}
 use Rattle.farm_nodes_linked.specs.Refused.{IsFirstBroken, IsUnlinked}
-use Rattle.cfarm_build_linking.specs.Refused.{IsBroken, IsToldOf, IsUnlinkedBy}
+use Rattle.cfarm_build_linking.specs.Refused.{IsToldOf, IsUnlinkedBy}
 use Rattle.cfarm_build_faults.specs.declared.error.BuildError.{BuildError}
 use Rattle.cfarm_build_faults.specs.declared.error.BuildError.TheVariants.{NoMemory, NoThread, Source as TextFault, Disks, Failed, Undecided, Unlinked, Names}
 
@@ -46,6 +44,10 @@ is_function : (fs : List Function) (learned : List (Option FourOffers)) (i : ℕ
 is_function fs learned i broken =
     let below = is_one (map gen_named (map low_named (map function_tree fs))) learned i broken in
     omega (arith, below, length-map (map low_named (map function_tree fs)) gen_named, length-map (map function_tree fs) low_named, length-map fs function_tree)
+
+-- a function is translated for each
+pub as_many : (fs : List Function) → length (map gen_named (map low_named (map function_tree fs))) ≡ length fs
+as_many fs = length-map (map low_named (map function_tree fs)) gen_named ∙ (length-map (map function_tree fs) low_named ∙ length-map fs function_tree)
 
 -- The one refusal that is left, where memory is not refused: the offers of this function do not go on.
 pub record IsOfFunction (p : Contents) (learned : List (Option FourOffers)) (fault : LinkError) (i : ℕ) : Type 0 where
@@ -86,6 +88,6 @@ module _ {H : Type 0} {h : naming.Ghosts H} (source : Source) (names : List (Lis
   refused (Failed n f) is = is
   refused Undecided is = is
   refused (Unlinked f function) is =
-      let of = of_function source.program names (learned_by seats) same few fault is.0 told is.2.1 in
-      record { number = is.0; fault_is = is.1 ∙ of.fault_is; broken = of.broken; named = is.2.2 }
+      let of = of_function source.program names (learned_by seats) same few fault is.0 told is.2 in
+      record { number = is.0; fault_is = is.1 ∙ of.fault_is; broken = of.broken; named = is.3 }
   refused Names is = never_names source.program names (learned_by seats) same few fault told is

@@ -44,15 +44,15 @@ fn unlinked(alloc: Global, program: &CProgram, fault: LinkError) -> BuildError
     requires number { (i : ℕ) → function_of_link_error fault ≡ Some i → i < length program.now.functions }
     ensures { IsToldOf (map (λ f. f.name) program.now.functions) fault result }
 {
-    match fault {
-        LinkError::NoMemory => BuildError::NoMemory,
-        LinkError::Names => BuildError::Names,
-        LinkError::TooManyNodes(function)
-        | LinkError::Missing(function)
-        | LinkError::Unchained(function) => match name_of(alloc, program, function) {
-            Ok(name) => BuildError::Unlinked(fault, name),
-            Err(NoMemory) => BuildError::NoMemory,
-        },
+    let Some(function) = fault.function() else {
+        return match fault {
+            LinkError::Names => BuildError::Names,
+            _ => BuildError::NoMemory,
+        };
+    };
+    match name_of(alloc, program, function) {
+        Ok(name) => BuildError::Unlinked(fault, name),
+        Err(NoMemory) => BuildError::NoMemory,
     }
 }
 
