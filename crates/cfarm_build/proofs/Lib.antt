@@ -1,3 +1,4 @@
 mod Lowest
 mod Turning
+mod Unbuilt
 mod Zips

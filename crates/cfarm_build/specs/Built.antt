@@ -9,4 +9,4 @@ use Rattle.cfarm_build.specs.Nodes.{AfterMeeting}
 
 -- The source is compiled by nodes over these disks, none of which failed.
 abbrev pub IsBuilt : {D : Type 0} → disks.Ghosts D → {H : Type 0} → naming.Ghosts H → ℕ → Source → List D → Built → Type 0
-IsBuilt disk {H} h seed source given built = AfterMeeting disk {H} {h} seed source given (λ nodes. IsBuiltBy source nodes built)
+IsBuilt disk {H} h seed source given built = AfterMeeting disk {H = H} {h = h} seed source given (λ nodes. IsBuiltBy source nodes built)

@@ -1,7 +1,9 @@
 -- The nodes of a farm, from their disks to the end of their turns, and behind their meetings.
-use Rattle.std.specs.Prelude.{◌≡◌, ℕ, zero, suc, List, [], ◌∷◌, length, map, Option, Some, None}
+use Rattle.std.specs.Prelude.{◌≡◌, ◌≤◌, ℕ, zero, suc, List, [], ◌∷◌, length, map, Option, Some, None}
 use Rattle.std.specs.Arc.{arc_value}
 use Rattle.std.specs.List.{AllByRecursion, AllZip}
+use Rattle.lang_base.specs.declared.program.Program.{Program}
+use Rattle.rtl_language.specs.Function.{FunctionData}
 use Rattle.rand_pcg.specs.Lcg.{Lcg}
 use Rattle.durable_model.specs.declared.disk.Disk as disks
 use Rattle.acceptor_log.specs.declared.log.Log.{Log}
@@ -18,6 +20,10 @@ use Rattle.farm_nodes_stored.specs.Nodes.{AreMade}
 use Rattle.farm_nodes_opened.specs.Back.{IsJournalOn}
 use Rattle.farm_nodes_opened.specs.Opened.{AreOpenFrom}
 use Rattle.cfarm_build_linking.specs.Node.{Node}
+
+-- a program of as many functions at most as a text that was made ready has
+abbrev pub HasFewFunctions : Program FunctionData → Type 0
+HasFewFunctions p = length p.functions ≤ 64
 
 -- A node as it opened, which nothing has stopped: its journal, its seats, and its generator.
 pub record Begun (D : Type 0) (H : Type 0) (h : naming.Ghosts H) : Type 0 where

@@ -36,6 +36,6 @@ module _ {D : Type 0} (disk : disks.Ghosts D) {H : Type 0} (h : naming.Ghosts H)
   IsUnbuilt (TextFault fault) = ⊥
   IsUnbuilt (Disks fault) = (back : List D) × AreRefusedOver disk source given back fault
   IsUnbuilt (Failed number fault) = HasFailed number fault
-  IsUnbuilt Undecided = AfterMeeting disk {H} {h} seed source given (λ nodes. IsRefusedBy source nodes Undecided)
-  IsUnbuilt (Unlinked fault function) = AfterMeeting disk {H} {h} seed source given (λ nodes. IsRefusedBy source nodes (Unlinked fault function))
+  IsUnbuilt Undecided = AfterMeeting disk {H = H} {h = h} seed source given (λ nodes. IsRefusedBy source nodes Undecided)
+  IsUnbuilt (Unlinked fault function) = AfterMeeting disk {H = H} {h = h} seed source given (λ nodes. IsRefusedBy source nodes (Unlinked fault function))
   IsUnbuilt Names = ⊥

@@ -13,8 +13,9 @@ pub(crate) fn first_failed<D: Disk, O, H: Naming>(
     ensures { result ≡ lowest_failed 0 (map (λ n. fault_in n.halted) nodes.now) }
 {
     for number in 0..nodes.len() {
-        if let Some(fault) = nodes[number].fault() {
-            return Some((number, *fault));
+        match nodes[number].fault() {
+            Some(fault) => return Some((number, *fault)),
+            None => {}
         }
     }
     None

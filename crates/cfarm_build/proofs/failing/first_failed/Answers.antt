@@ -15,7 +15,7 @@ pub loop-number-preserved : goal.loop-number-preserved
 loop-number-preserved g c =
     let x = c.index-nodes-number.result in
     let next = none_here (λ n. fault_in n.halted) c.args.nodes.now c.loop-number.number x c.loop-number.number
-    c.loop-number-test.true c.index-nodes-number.is (sym c.fault.ensures) in
+    c.loop-number-test.true c.index-nodes-number.is (sym c.in-None.ensures) in
     simp unary_clauses (c.loop-number.invariant ∙ next)
 
 pub returns : goal.returns

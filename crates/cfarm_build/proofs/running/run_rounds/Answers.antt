@@ -6,8 +6,8 @@ use Rattle.farm_nodes_threads.proofs.Coming.{all_stay}
 use Rattle.cfarm_build.proofs.Turning.{turns_through}
 use Rattle.cfarm_build.proofs.running.run_rounds.Goals as goal
 
-pub loop-init : goal.loop-init
-loop-init g c =
+pub loop-left-init : goal.loop-left-init
+loop-left-init g c =
     let disk = g.D.Disk in
     record {
       left = omega arith;
@@ -17,9 +17,9 @@ loop-init g c =
           (λ n. IsWaiting n.seats.items n.halted) c.args.turns c.args.nodes.items c.requires.fit;
     }
 
-pub loop-preserved : goal.loop-preserved
-loop-preserved g c = record {
+pub loop-left-preserved : goal.loop-left-preserved
+loop-left-preserved g c = record {
   left = omega arith;
   fit = c.in-Ok.ensures.fit;
-  came = turns_through g.D.Disk (λ n. n.program) (λ n. n.log) (λ n. fours_of n.seats.items) (λ n. n.halted) _ _ _ c.loop.invariant.came c.in-Ok.ensures.came;
+  came = turns_through g.D.Disk (λ n. n.program) (λ n. n.log) (λ n. fours_of n.seats.items) (λ n. n.halted) _ _ _ c.loop-left.invariant.came c.in-Ok.ensures.came;
 }

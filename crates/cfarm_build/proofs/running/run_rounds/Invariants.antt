@@ -7,8 +7,8 @@ use Rattle.cfarm_build.proofs.Turning.{Turns}
 use Rattle.cfarm_build.proofs.running.run_rounds.Given as goal
 
 -- they come from those that began, and may take more turns
-abbrev pub invariant-loop : goal.invariant-loop
-invariant-loop g l = record {
+abbrev pub invariant-loop-left : goal.invariant-loop-left
+invariant-loop-left g l = record {
   left : l.left ≤ l.turns;
   fit : AllByRecursion (λ n. IsSoundNode g.D.Disk.is_honest g.D.Disk.seen g.D.Disk.may_leave n.log (fours_of n.seats.items) n.halted
       × IsWaiting n.seats.items n.halted) l.nodes.items;
