@@ -188,6 +188,13 @@ impl<D: Disk> Log<D> {
         &self.disk
     }
 
+    /// What is said of the journal at its beginning: whose it is, of how many nodes, and over which source.
+    pub fn header(&self) -> &Header
+        ensures { result.now ≡ self.now.header }
+    {
+        &self.header
+    }
+
     /// Gives the disk back; takes no memory.
     pub fn into_disk(self) -> D
         ensures { result ≡ self.disk }

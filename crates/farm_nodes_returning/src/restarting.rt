@@ -14,23 +14,21 @@ ghost use Rattle.farm_nodes_restart.specs.Seats.{HaveComeBack};
 ghost use Rattle.farm_nodes_returning.specs.Stopped.{left_by, room_in, stopped_by};
 
 use crate::stopping::{told, unfinished};
-use acceptor_log::{Header, LogError, at_rest};
+use acceptor_log::{LogError, at_rest};
 use durable_model::Disk;
 use farm_nodes_node::{FarmNode, Halted};
 use farm_nodes_offers::Halt;
 use farm_nodes_restart::{RestartFault, come_back};
 use rooms_hall::Naming;
 
-/// Restarts a node over the journal on a disk, whose header is that of its own. What it had not done is done where its
+/// Restarts a node over the journal on a disk, whose header has to be that of its own. What it had not done is done where its
 /// record stands last there, and then all of its seats forget; it goes on from there. The disk that it was on comes back.
 /// A node that is refused is stopped, on its own disk, with the same left to do, and the disk comes back beside it.
 pub fn restart<D: Disk, O, H: Naming>(
     node: FarmNode<D, O, H>,
-    header: &Header,
     disk: D,
 ) -> Result<(FarmNode<D, O, H>, D), (FarmNode<D, O, H>, D, RestartFault)>
-    requires nodes { 0 < header.now.nodes }
-    requires header { header.now ≡ node.log.header }
+    requires nodes { 0 < node.log.header.nodes }
     requires rooms { 4 * length node.seats.items ≤ 65535 }
     requires sound { IsSoundNode D.is_honest D.seen D.may_leave node.log (fours_of node.seats.items) node.halted }
     requires waiting { IsWaiting node.seats.items node.halted }
@@ -51,12 +49,12 @@ pub fn restart<D: Disk, O, H: Naming>(
 
     // It is on the new disk and goes on; its seats came back over just the records that stand there.
     ensures ok { IfOk result (λ back. (back.0.halted ≡ None) × (back.0.log.going ≡ true)
-        × (back.0.log.header ≡ header.now) × (back.1 ≡ node.log.disk)) }
+        × (back.0.log.header ≡ node.log.header) × (back.1 ≡ node.log.disk)) }
     ensures honest { MatchResult result (λ back. D.is_honest back.0.log.disk ↔ D.is_honest disk)
         (λ refused. D.is_honest refused.1 ↔ D.is_honest disk) }
     ensures listed { D.is_honest disk
-        → IfOk result (λ back. StandsFor header.now (acknowledged D.seen back.0.log) (D.seen disk)) }
-    ensures in_order { D.is_honest disk → IfOk result (λ back. AreInOrder header.now.nodes header.now.node
+        → IfOk result (λ back. StandsFor node.log.header (acknowledged D.seen back.0.log) (D.seen disk)) }
+    ensures in_order { D.is_honest disk → IfOk result (λ back. AreInOrder node.log.header.nodes node.log.header.node
         (4 * length node.seats.items) (acknowledged D.seen back.0.log)) }
     ensures returned { D.is_honest disk → IfOk result (λ back. HaveComeBack
         (room_in node.halted) (left_by node.halted) (acknowledged D.seen back.0.log)
@@ -76,7 +74,7 @@ pub fn restart<D: Disk, O, H: Naming>(
     ensures stopped { IfErr result (λ refused. refused.0.halted ≡ Some (stopped_by refused.2 node.halted)) }
 
     // It does not give up by itself; what a crash left of its own disk holds no other records.
-    ensures refused { D.is_honest disk → IfErr result (λ refused. HasCause header.now (4 * length node.seats.items)
+    ensures refused { D.is_honest disk → IfErr result (λ refused. HasCause node.log.header (4 * length node.seats.items)
         (fours_of node.seats.items) (room_in node.halted) (left_by node.halted) (D.seen disk) refused.2) }
     ensures own { D.is_honest disk → D.is_honest node.log.disk → D.may_leave node.log.disk (D.seen disk)
         → IfErr result (λ refused. refused.2 ≢ RestartFault.OtherRecords) }
@@ -97,7 +95,8 @@ pub fn restart<D: Disk, O, H: Naming>(
         halted,
     } = node;
     let (room, pending) = unfinished(halted);
-    match come_back(alloc, disk, header, &mut seats, room, &pending) {
+    let header = *log.header();
+    match come_back(alloc, disk, &header, &mut seats, room, &pending) {
         Ok(fresh) => {
             at_rest::<D>();
             let back = FarmNode {

@@ -3,8 +3,14 @@
 ghost use Rattle.std.specs.Prelude.{◌≡◌, ◌<◌};
 ghost use Rattle.paxos_core_law.specs.NodeState.{IsRoomSize};
 
-use crate::linking::{TURNS, all_alike, all_meet, disks_of, ran};
-use crate::rows::Row;
+use crate::failing::failing_told;
+use crate::fixed::fixed_told;
+use crate::linking::{all_alike, all_meet, disks_of, ran};
+use crate::reopened::reopened_told;
+use crate::rows::{Row, Trial};
+use crate::stranger::stranger_told;
+use crate::together::together_told;
+use crate::turning::TURNS;
 use farm_nodes::{Farm, Hall, Naming, Opened, optimisers_of, run_threads};
 use parallel_validate::OpenGate;
 use program_rows::owned;
@@ -36,7 +42,14 @@ fn told_in<H: Naming + Send, R: Threads + Wait + Sync>(
     requires workers { 0 < row.workers }
 {
     let hall = opened.named::<H>();
-    farm_told(threads, alloc, &hall, &row)
+    match row.trial {
+        Trial::Run => farm_told(threads, alloc, &hall, &row),
+        Trial::Fixed => fixed_told(threads, alloc, &hall, &row.text),
+        Trial::Together => together_told(threads, alloc, &hall, &row.text),
+        Trial::Failing => failing_told(threads, alloc, &hall, &row.text),
+        Trial::Reopened => reopened_told(threads, alloc, &hall, &row.text),
+        Trial::Stranger => stranger_told(threads, alloc, &hall, &row.text),
+    }
 }
 
 /// What a farm links and runs.

@@ -12,10 +12,8 @@ use lang::write_program;
 use lang_base::{Program, Shown};
 use linear::run;
 use linear_language::{Function, Linear};
+use rand_pcg::Pcg32;
 use std::alloc::Global;
-
-/// More turns than any of the farms takes.
-pub(crate) const TURNS: u64 = 100_000;
 
 /// More instructions than any of the programs does.
 const LIMIT: u64 = 1_000_000_000;
@@ -28,13 +26,37 @@ const BYTES: usize = 2_000_000;
 /// A node of these farms.
 pub(crate) type Node<H> = FarmNode<MemoryDisk, Optimisers, H>;
 
+/// An empty disk.
+pub(crate) fn empty_disk(alloc: Global) -> Option<MemoryDisk> {
+    MemoryDisk::new(alloc, CALLS, BYTES).ok()
+}
+
 /// Empty disks for so many nodes.
 pub(crate) fn disks_of(alloc: Global, nodes: usize) -> Option<Vec<MemoryDisk>>
     ensures { IfSome result (λ disks. length disks.items ≡ nodes) }
 {
     let mut disks = Vec::new(alloc);
     for _node in 0..nodes {
-        let Ok(disk) = MemoryDisk::new(alloc, CALLS, BYTES) else {
+        let Some(disk) = empty_disk(alloc) else {
+            return None;
+        };
+        if disks.push(disk).is_err() {
+            return None;
+        }
+    }
+    Some(disks)
+}
+
+/// What a crash leaves of the disks of all nodes.
+pub(crate) fn crashed_of<O, H: Naming>(
+    alloc: Global,
+    nodes: &[FarmNode<MemoryDisk, O, H>],
+    seed: u64,
+) -> Option<Vec<MemoryDisk>> {
+    let mut words = Pcg32::new(seed, 0);
+    let mut disks = Vec::new(alloc);
+    for node in nodes {
+        let Ok(disk) = node.disk().crash(alloc, &mut words) else {
             return None;
         };
         if disks.push(disk).is_err() {
@@ -99,6 +121,33 @@ pub(crate) fn all_alike<H: Naming>(alloc: Global, source: &Source, nodes: &[Node
         }
     }
     true
+}
+
+/// The bytes of the program that all nodes link, each of which meets the next; none where two do not meet in all functions, or link
+/// other programs.
+pub(crate) fn all_linked<H: Naming>(
+    alloc: Global,
+    source: &Source,
+    nodes: &mut [Node<H>],
+) -> Option<Vec<u8>>
+    requires { HaveNames (program_tree source.now.program) }
+{
+    if nodes.is_empty() || !all_meet(nodes) || !all_alike(alloc, source, nodes) {
+        return None;
+    }
+    bytes_linked(alloc, source, &nodes[0])
+}
+
+/// What the first node links that links anything; no bytes where none does.
+pub(crate) fn first_linked<H: Naming>(alloc: Global, source: &Source, nodes: &[Node<H>]) -> Vec<u8>
+    requires { HaveNames (program_tree source.now.program) }
+{
+    for node in nodes {
+        if let Some(bytes) = bytes_linked(alloc, source, node) {
+            return bytes;
+        }
+    }
+    Vec::new(alloc)
 }
 
 /// What the program that the node links prints, in hex, and how its run stands.

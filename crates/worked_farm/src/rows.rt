@@ -5,9 +5,27 @@ ghost use Rattle.paxos_core_law.specs.NodeState.{IsRoomSize};
 
 use std::alloc::Global;
 
+/// What is done with a farm.
+#[derive(Clone, Copy, Debug, PartialEq, Eq)]
+pub(crate) enum Trial {
+    /// It links, and what it links runs.
+    Run,
+    /// Its optimisers are known.
+    Fixed,
+    /// Two turns are taken at the same time.
+    Together,
+    /// A node's disk fails.
+    Failing,
+    /// All nodes crash.
+    Reopened,
+    /// A node is restarted over another's disk.
+    Stranger,
+}
+
 /// A farm that is asked for.
 #[derive(Drop)]
 pub(crate) struct Row {
+    pub trial: Trial,
     pub nodes: usize,
     pub workers: usize,
     pub seed: u64,
@@ -36,8 +54,37 @@ fn workers_of(word: &str) -> Option<usize>
     }
 }
 
-/// The farm of a question, if it is one.
-pub(crate) fn row_of(alloc: Global, words: &str) -> Option<Row>
+/// What the first word of a row asks for that does not ask for a run.
+fn trial_of(word: &str) -> Option<Trial> {
+    match word {
+        "fixed" => Some(Trial::Fixed),
+        "together" => Some(Trial::Together),
+        "failing" => Some(Trial::Failing),
+        "reopened" => Some(Trial::Reopened),
+        "stranger" => Some(Trial::Stranger),
+        _ => None,
+    }
+}
+
+/// A farm of three nodes of this text.
+fn three_of(alloc: Global, trial: Trial, text: &str) -> Option<Row>
+    ensures size { IfSome result (λ row. IsRoomSize row.nodes) }
+    ensures workers { IfSome result (λ row. 0 < row.workers) }
+{
+    let Ok(text) = text.as_bytes().to_vec(alloc) else {
+        return None;
+    };
+    Some(Row {
+        trial,
+        nodes: 3,
+        workers: 3,
+        seed: 1,
+        text,
+    })
+}
+
+/// The farm of a question that asks for a run, if it is one.
+fn run_of(alloc: Global, words: &str) -> Option<Row>
     ensures size { IfSome result (λ row. IsRoomSize row.nodes) }
     ensures workers { IfSome result (λ row. 0 < row.workers) }
 {
@@ -51,9 +98,24 @@ pub(crate) fn row_of(alloc: Global, words: &str) -> Option<Row>
         return None;
     };
     Some(Row {
+        trial: Trial::Run,
         nodes,
         workers,
         seed: seed.parse().ok()?,
         text: text.as_bytes().to_vec(alloc).ok()?,
     })
+}
+
+/// The farm of a question, if it is one.
+pub(crate) fn row_of(alloc: Global, words: &str) -> Option<Row>
+    ensures size { IfSome result (λ row. IsRoomSize row.nodes) }
+    ensures workers { IfSome result (λ row. 0 < row.workers) }
+{
+    let Some((word, text)) = words.split_once(' ') else {
+        return None;
+    };
+    match trial_of(word) {
+        Some(trial) => three_of(alloc, trial, text),
+        None => run_of(alloc, words),
+    }
 }

@@ -1,7 +1,7 @@
 use Rattle.std.proofs.Common.{◌*◌, ℕ, length, Option, refl, sym, ap, ◌∙◌, subst}
 use Rattle.std.proofs.lemmas.List.{length-map}
 use Rattle.acceptor_log_form.specs.declared.header.Header.{Header}
-use Rattle.acceptor_log_form.specs.Text.{StandsFor}
+use Rattle.acceptor_log_form.specs.Order.{AreInOrder}
 use Rattle.farm_nodes_acting.specs.declared.stop.Pending.{Pending}
 use Rattle.farm_nodes_passes.specs.Fours.{four_of, fours_of}
 use Rattle.acceptor_log.specs.Acknowledged.{acknowledged}
@@ -18,15 +18,20 @@ come_back-requires-clause-pending g c =
     still_pending c.args.node.seats.items c.args.node.seats.items c.args.node.halted c.unfinished-room.result.0 c.unfinished-room.result.1
     c.unfinished-room.ensures.room c.unfinished-room.ensures.pending refl c.requires.waiting
 
+pub returns-in-Ok-clause-in_order : goal.returns-in-Ok-clause-in_order
+returns-in-Ok-clause-in_order g c honest =
+    subst (λ (h : Header). AreInOrder h.nodes h.node (4 * length c.args.node.seats.items) (acknowledged g.D.Disk.seen c.in-Ok.fresh))
+    c.header.ensures (c.in-Ok.ensures.in_order honest)
+
 pub returns-in-Ok-clause-sound : goal.returns-in-Ok-clause-sound
 returns-in-Ok-clause-sound g c =
     let disk = g.D.Disk in
     sound_back disk.is_honest disk.seen disk.may_leave c.in-Ok.fresh (fours_of c.come_back.new.seats.items)
-    c.args.header.now.nodes c.args.header.now.node (4 * length c.args.node.seats.items)
+    c.args.node.log.header.nodes c.args.node.log.header.node (4 * length c.args.node.seats.items)
     c.in-Ok.ensures.sound c.in-Ok.ensures.ok.0
     (ap (λ (n : ℕ). 4 * n) (sym (length-map c.come_back.new.seats.items four_of ∙ c.come_back.ensures.count)))
     (λ honest. (c.in-Ok.ensures.seats (c.in-Ok.ensures.honest.0 honest)).leave)
-    (λ honest. c.in-Ok.ensures.in_order (c.in-Ok.ensures.honest.0 honest))
+    (λ honest. returns-in-Ok-clause-in_order g c (c.in-Ok.ensures.honest.0 honest))
     (λ bytes honest left. c.at_rest.ensures c.in-Ok.fresh bytes c.in-Ok.ensures.sound honest c.in-Ok.ensures.ok.0 left)
 
 pub returns-in-Err-clause-sound : goal.returns-in-Err-clause-sound
@@ -50,16 +55,18 @@ returns-in-Ok-clause-returned g c honest =
 
 pub returns-in-Err-clause-refused : goal.returns-in-Err-clause-refused
 returns-in-Err-clause-refused g c honest =
-    at_both (λ (m : ℕ) (p : Option Pending). HasCause c.args.header.now (4 * length c.args.node.seats.items) (fours_of c.args.node.seats.items) m p (g.D.Disk.seen c.args.disk) c.in-Err.fault)
+    at_both (λ (m : ℕ) (p : Option Pending). HasCause c.args.node.log.header (4 * length c.args.node.seats.items) (fours_of c.args.node.seats.items) m p (g.D.Disk.seen c.args.disk) c.in-Err.fault)
     c.unfinished-room.result.0 (room_in c.args.node.halted) c.unfinished-room.result.1 (left_by c.args.node.halted)
-    c.unfinished-room.ensures.room c.unfinished-room.ensures.pending (c.in-Err.ensures.refused honest)
+    c.unfinished-room.ensures.room c.unfinished-room.ensures.pending
+    (subst (λ (h : Header). HasCause h (4 * length c.args.node.seats.items) (fours_of c.args.node.seats.items) c.unfinished-room.result.0
+    c.unfinished-room.result.1 (g.D.Disk.seen c.args.disk) c.in-Err.fault) c.header.ensures (c.in-Err.ensures.refused honest))
 
 pub returns-in-Err-clause-own : goal.returns-in-Err-clause-own
 returns-in-Err-clause-own g c honest own left is =
     let disk = g.D.Disk in
-    not_others c.args.header.now (4 * length c.args.node.seats.items) (fours_of c.args.node.seats.items)
+    not_others c.args.node.log.header (4 * length c.args.node.seats.items) (fours_of c.args.node.seats.items)
     (room_in c.args.node.halted) (left_by c.args.node.halted) (disk.seen c.args.disk) c.in-Err.fault
     (returns-in-Err-clause-refused g c honest)
     (λ rs stands others. never_others disk.is_honest disk.seen disk.may_leave c.args.node.log (fours_of c.args.node.seats.items) c.args.node.halted
-    (disk.seen c.args.disk) rs c.requires.sound own left (subst (λ (h : Header). StandsFor h rs (disk.seen c.args.disk)) c.requires.header stands) others)
+    (disk.seen c.args.disk) rs c.requires.sound own left stands others)
     is

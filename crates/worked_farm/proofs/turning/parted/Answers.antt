@@ -1,0 +1,14 @@
+use Rattle.std.proofs.Common.{arith}
+use Rattle.worked_farm.specs.Nodes.{IsFit}
+use Rattle.worked_farm.proofs.Thirds.{all_apart, third_last}
+use Rattle.worked_farm.proofs.turning.parted.Goals as goal
+
+pub returns-in-Some-clause-last : goal.returns-in-Some-clause-last
+returns-in-Some-clause-last g c =
+    (all_apart (λ n. IsFit g.D.Disk n.log n.seats.items n.halted) c.args.nodes.items c.pop.new.self.items c.in-Some.node
+    c.in-Some.ensures.items c.requires.fit).1
+
+pub returns-in-Some-clause-third : goal.returns-in-Some-clause-third
+returns-in-Some-clause-third g c digest third =
+    third_last (λ n. n.log) digest c.args.nodes.items c.pop.new.self.items c.in-Some.node c.in-Some.ensures.items
+    (omega (arith, c.if-len-ne3.false, c.len.ensures, c.args.nodes.ok.0)) third

@@ -1,0 +1,151 @@
+//! A node whose disk fails, and that is restarted.
+
+ghost use Rattle.std.specs.Prelude.{◌≡◌, length, map, IfSome};
+ghost use Rattle.std.specs.List.{AllByRecursion};
+ghost use Rattle.durable_model.specs.contracts.memory.MemoryDiskDisk.TheImpl as memory;
+ghost use Rattle.c_checker_rules.specs.Checked.{program_tree};
+ghost use Rattle.cminor_program_ranges.specs.Names.{HaveNames};
+ghost use Rattle.worked_farm.specs.Nodes.{IsFit, IsThird};
+
+use crate::linking::{Node, all_linked, disks_of, empty_disk};
+use crate::turning::{back_over, joined, open_three, parted, turned, was_stopped};
+use acceptor_log::LogError;
+use durable_model::MemoryDisk;
+use farm_nodes::{Farm, FarmError, Hall, Naming, OpenFault, Source, optimisers_of};
+use program_rows::owned;
+use rand_pcg::Pcg32;
+use std::alloc::Global;
+use std::sync::Wait;
+use std::thread::Threads;
+
+/// How many crashes are tried of each failure.
+const CRASHES: u64 = 16;
+
+/// So many calls of the disk may fail at most.
+const MOST: usize = 400;
+
+/// Fewer calls than a node's journal needs.
+const FEW: usize = 20;
+
+/// Three empty disks, the third of which fails at this call.
+fn disks_failing(alloc: Global, call: usize) -> Option<Vec<MemoryDisk>>
+    ensures { IfSome result (λ disks. length disks.items ≡ 3) }
+{
+    let Some(mut disks) = disks_of(alloc, 2) else {
+        return None;
+    };
+    let Some(mut disk) = empty_disk(alloc) else {
+        return None;
+    };
+    disk.fail_at(call);
+    if disks.push(disk).is_err() {
+        return None;
+    }
+    Some(disks)
+}
+
+/// Whether the third node stopped when its disk failed; none where it did not stop as it should, or where not all nodes link one
+/// program when it is back over what a crash left.
+fn lives<H: Naming + Send, R: Threads + Wait + Sync>(
+    threads: &R,
+    alloc: Global,
+    source: &Source,
+    nodes: Vec<Node<H>>,
+    seed: u64,
+) -> Option<bool>
+    requires fit { AllByRecursion (λ n. IsFit memory.ghosts n.log n.seats.items n.halted) nodes.items }
+    requires third { IsThird source.now.digest (map (λ n. n.log) nodes.items) }
+    requires names { HaveNames (program_tree source.now.program) }
+{
+    let Some(nodes) = turned(threads, alloc, nodes) else {
+        return None;
+    };
+    let Some((others, mut node)) = parted(nodes) else {
+        return None;
+    };
+    let Some(stopped) = was_stopped(&mut node) else {
+        return None;
+    };
+    let Ok(disk) = node.disk().crash(alloc, &mut Pcg32::new(seed, 0)) else {
+        return None;
+    };
+    let Some(back) = back_over(node, disk) else {
+        return None;
+    };
+    let Some(nodes) = joined(others, back) else {
+        return None;
+    };
+    let Some(mut nodes) = turned(threads, alloc, nodes) else {
+        return None;
+    };
+    if all_linked(alloc, source, &mut nodes).is_none() {
+        return None;
+    }
+    Some(stopped)
+}
+
+/// The same of a farm whose third node's disk fails at this call, also where the node does not even open.
+fn fails<H: Naming + Send, R: Threads + Wait + Sync>(
+    threads: &R,
+    alloc: Global,
+    hall: &Hall<H>,
+    text: &[u8],
+    call: usize,
+    seed: u64,
+) -> Option<bool> {
+    let Some(disks) = disks_failing(alloc, call) else {
+        return None;
+    };
+    let Ok(oracles) = optimisers_of(alloc, 3) else {
+        return None;
+    };
+    match open_three(threads, alloc, hall, text, disks, oracles, seed) {
+        Ok(farm) => {
+            let Farm { source, nodes } = farm;
+            lives(threads, alloc, &source, nodes, seed)
+        }
+        Err((_disks, fault)) => {
+            if fault == FarmError::Disks(OpenFault::Journal(2, LogError::Device)) {
+                Some(true)
+            } else {
+                None
+            }
+        }
+    }
+}
+
+/// Whether the node stopped in one of the farms whose third node's disk fails at this call, each with another crash.
+fn fails_at<H: Naming + Send, R: Threads + Wait + Sync>(
+    threads: &R,
+    alloc: Global,
+    hall: &Hall<H>,
+    text: &[u8],
+    call: usize,
+) -> Option<bool> {
+    let mut stopped = false;
+    for seed in 0..CRASHES {
+        let Some(failed) = fails(threads, alloc, hall, text, call, seed) else {
+            return None;
+        };
+        stopped = stopped || failed;
+    }
+    Some(stopped)
+}
+
+/// Each call of the disk fails in turn, until there are no more.
+pub(crate) fn failing_told<H: Naming + Send, R: Threads + Wait + Sync>(
+    threads: &R,
+    alloc: Global,
+    hall: &Hall<H>,
+    text: &[u8],
+) -> Option<String> {
+    for call in 1..MOST {
+        let Some(stopped) = fails_at(threads, alloc, hall, text, call) else {
+            return None;
+        };
+        if !stopped {
+            return owned(alloc, if call > FEW { "linked" } else { "not stopped" });
+        }
+    }
+    owned(alloc, "no end")
+}
