@@ -1,0 +1,4 @@
+mod Lowest
+mod Turning
+mod Unbuilt
+mod Zips

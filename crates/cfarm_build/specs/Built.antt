@@ -1,0 +1,12 @@
+-- What a build makes.
+use Rattle.std.specs.Prelude.{ℕ, List}
+use Rattle.durable_model.specs.declared.disk.Disk as disks
+use Rattle.rooms_hall.specs.declared.hall.Naming as naming
+use Rattle.farm_nodes_source.specs.declared.source.Source.{Source}
+use Rattle.cfarm_build_linking.specs.Built.{IsBuiltBy}
+use Rattle.cfarm_build_linking.specs.declared.built.Built.{Built}
+use Rattle.cfarm_build.specs.Nodes.{AfterMeeting}
+
+-- The source is compiled by nodes over these disks, none of which failed.
+abbrev pub IsBuilt : {D : Type 0} → disks.Ghosts D → {H : Type 0} → naming.Ghosts H → ℕ → Source → List D → Built → Type 0
+IsBuilt disk {H} h seed source given built = AfterMeeting disk {H = H} {h = h} seed source given (λ nodes. IsBuiltBy source nodes built)

@@ -1,0 +1,41 @@
+-- Why nothing is built. That memory or a thread was refused says nothing.
+use Rattle.std.specs.Prelude.{◌≡◌, ℕ, List, Some}
+use Rattle.durable_model.specs.declared.disk.Disk as disks
+use Rattle.rooms_hall.specs.declared.hall.Naming as naming
+use Rattle.farm_nodes_source.specs.declared.source.Source.{Source}
+use Rattle.farm_nodes_offers.specs.declared.halt.Fault.{Fault}
+use Rattle.farm_nodes.specs.Refused.{AreRefusedOver}
+use Rattle.cfarm_build_faults.specs.declared.error.BuildError.{BuildError}
+use Rattle.cfarm_build_faults.specs.declared.error.BuildError.TheVariants.{NoMemory, NoThread, Source as TextFault, Disks, Failed, Undecided, Unlinked, Names}
+use Rattle.cfarm_build_linking.specs.Node.{Node}
+use Rattle.cfarm_build_linking.specs.Refused.{IsRefusedBy}
+use Rattle.cfarm_build.specs.Nodes.{AfterMeeting, HaveRun, failed_of}
+
+-- the nodes do not take their turns only for want of memory or of a thread
+abbrev pub IsNotRun : BuildError → Type 0
+IsNotRun NoMemory = Unit {0}
+IsNotRun NoThread = Unit {0}
+IsNotRun (TextFault fault) = ⊥
+IsNotRun (Disks fault) = ⊥
+IsNotRun (Failed number fault) = ⊥
+IsNotRun Undecided = ⊥
+IsNotRun (Unlinked fault function) = ⊥
+IsNotRun Names = ⊥
+
+module _ {D : Type 0} (disk : disks.Ghosts D) {H : Type 0} (h : naming.Ghosts H) (seed : ℕ) (source : Source) (given : List D) where
+  -- the nodes took their turns, and the lowest one that failed is this
+  pub record HasFailed (number : ℕ) (fault : Fault) : Type 0 where
+    pub nodes : List (Node D H h)
+    pub run : HaveRun disk seed source given nodes
+    pub failed : failed_of nodes ≡ Some (number, fault)
+
+  -- In this order: the disks, the lowest node that failed, what is not linked. The names are the program's.
+  abbrev pub IsUnbuilt : BuildError → Type 0
+  IsUnbuilt NoMemory = Unit {0}
+  IsUnbuilt NoThread = Unit {0}
+  IsUnbuilt (TextFault fault) = ⊥
+  IsUnbuilt (Disks fault) = (back : List D) × AreRefusedOver disk source given back fault
+  IsUnbuilt (Failed number fault) = HasFailed number fault
+  IsUnbuilt Undecided = AfterMeeting disk {H = H} {h = h} seed source given (λ nodes. IsRefusedBy source nodes Undecided)
+  IsUnbuilt (Unlinked fault function) = AfterMeeting disk {H = H} {h = h} seed source given (λ nodes. IsRefusedBy source nodes (Unlinked fault function))
+  IsUnbuilt Names = ⊥
