@@ -49,10 +49,10 @@ module _ {A : Type 0} (R : A → A → Type 0) where
     all_same (x ∷ xs) = (same x, all_same xs)
 
     -- one of them changes
-    pub one_set : (xs : List A) (i : ℕ) (x v : A) → i < length xs → x ≡ get_or xs i x → R x v → AllZip R xs (set xs i v)
-    one_set [] i x v below is r = absurd (omega (arith, below))
-    one_set (y ∷ ys) zero x v below is r = (subst (λ z. R z v) is r, all_same ys)
-    one_set (y ∷ ys) (suc i) x v below is r = (same y, one_set ys i x v (omega (arith, below)) is r)
+    pub one_set : (xs : List A) (i : ℕ) (d v : A) → i < length xs → R (get_or xs i d) v → AllZip R xs (set xs i v)
+    one_set [] i d v below r = absurd (omega (arith, below))
+    one_set (y ∷ ys) zero d v below r = (r, all_same ys)
+    one_set (y ∷ ys) (suc i) d v below r = (same y, one_set ys i d v (omega (arith, below)) r)
 
 -- what is so of all is so of the one at a place
 pub all_at : {A : Type 0} (P : A → Type 0) (xs : List A) (i : ℕ) (x : A) → AllByRecursion P xs → i < length xs → x ≡ get_or xs i x → P x

@@ -22,9 +22,9 @@ returns g c =
     (append (Meets g.D.Disk (λ n. n.program) (λ n. n.log) (λ n. fours_of n.seats.items) (λ n. n.halted)) front (set front at first) back (set back 0 second)
     (one_set (Meets g.D.Disk (λ n. n.program) (λ n. n.log) (λ n. fours_of n.seats.items) (λ n. n.halted))
     (meets_none g.D.Disk (λ n. n.program) (λ n. n.log) (λ n. fours_of n.seats.items) (λ n. n.halted))
-    front at c.index-front-number.result first in_front c.index-front-number.is
+    front at c.index-front-number.result first in_front
     (told.first_stays.1, record { log = told.first_stays.0; halted_same = told.first_stays.4; sound = told.first_sound }))
     (one_set (Meets g.D.Disk (λ n. n.program) (λ n. n.log) (λ n. fours_of n.seats.items) (λ n. n.halted))
     (meets_none g.D.Disk (λ n. n.program) (λ n. n.log) (λ n. fours_of n.seats.items) (λ n. n.halted))
-    back 0 c.index-back-0.result second in_back c.index-back-0.is
+    back 0 c.index-back-0.result second in_back
     (told.second_stays.1, record { log = told.second_stays.0; halted_same = told.second_stays.4; sound = told.second_sound })))

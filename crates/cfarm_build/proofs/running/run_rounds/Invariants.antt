@@ -14,3 +14,6 @@ invariant-loop-left g l = record {
       × IsWaiting n.seats.items n.halted) l.nodes.items;
   came : AllZip (Turns g.D.Disk (λ n. n.program) (λ n. n.log) (λ n. fours_of n.seats.items) (λ n. n.halted)) l.fn.nodes.items l.nodes.items;
 }
+
+abbrev pub decreases-loop-left : goal.decreases-loop-left
+decreases-loop-left g l = l.left
