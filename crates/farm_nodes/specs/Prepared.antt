@@ -1,5 +1,5 @@
 -- What a farm compiles: the program of an accepted text, and its translation, with which the first pass begins.
-use Rattle.std.specs.Prelude.{◌≡◌, ℕ, List}
+use Rattle.std.specs.Prelude.{◌≡◌, ◌≤◌, ℕ, List, length}
 use Rattle.std.specs.Arc.{arc_value}
 use Rattle.sha2.specs.Sha256.{sha256}
 use Rattle.lang_base.specs.Keeps.{Keeps}
@@ -20,4 +20,5 @@ pub record IsSourceOf (text : List ℕ) (source : Source) : Type 0 where
   pub translated : arc_value source.translated ≡ gen (low (program_tree source.program))
   pub keeps : Keeps (crun (program_tree source.program)) (rtl.run (arc_value source.translated))
   pub names : HaveNames (program_tree source.program)
+  pub count : length (arc_value source.translated).functions ≤ 64
   pub digest : source.digest ≡ sha256 text

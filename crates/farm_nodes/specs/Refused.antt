@@ -13,9 +13,8 @@ use Rattle.farm_nodes_opened.specs.declared.fault.OpenFault.{OpenFault}
 use Rattle.farm_nodes_opened.specs.declared.fault.OpenFault.TheVariants.{Journal, Refused, Room}
 use Rattle.farm_nodes.specs.Prepared.{IsSourceOf}
 
-pub record AreRefused {D : Type 0} (disk : disks.Ghosts D) (text : List ℕ) (given back : List D) (fault : OpenFault) : Type 0 where
-  pub source : Source
-  pub is : IsSourceOf text source
+-- what is compiled is this; the first fault of what stands on the disks
+pub record AreRefusedOver {D : Type 0} (disk : disks.Ghosts D) (source : Source) (given back : List D) (fault : OpenFault) : Type 0 where
   -- all disks come back
   pub returned : AreMade (IsBack disk (length given) source.digest) given (length given) back
   -- a journal is refused, or its records are
@@ -28,3 +27,8 @@ pub record AreRefused {D : Type 0} (disk : disks.Ghosts D) (text : List ℕ) (gi
   -- a room is not opened
   pub unopened : (room : ℕ) (told : RoomFault) → fault ≡ Room room told → OfJournals disk (length given) source.digest given
       (λ journals. IsUnopened (length (arc_value source.translated).functions) journals room told)
+
+pub record AreRefused {D : Type 0} (disk : disks.Ghosts D) (text : List ℕ) (given back : List D) (fault : OpenFault) : Type 0 where
+  pub source : Source
+  pub is : IsSourceOf text source
+  pub over : AreRefusedOver disk source given back fault

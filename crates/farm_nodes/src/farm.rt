@@ -1,9 +1,8 @@
-ghost use Rattle.std.specs.Prelude.{◌≡◌, None, All, length, map, IfOk, IfErr};
+ghost use Rattle.std.specs.Prelude.{◌≡◌, ◌≤◌, None, All, length, map, IfOk, IfErr};
 ghost use Rattle.std.specs.Arc.{arc_value};
 ghost use Rattle.std.specs.List.{AllByRecursion};
 ghost use Rattle.paxos_core_law.specs.NodeState.{IsRoomSize};
 ghost use Rattle.farm_nodes_passes.specs.Fours.{fours_of};
-ghost use Rattle.farm_nodes_opened.specs.declared.fault.OpenFault.{OpenFault};
 ghost use Rattle.farm_nodes_node.specs.Held.{IsSoundNode};
 ghost use Rattle.farm_nodes_node.specs.Waiting.{IsWaiting};
 ghost use Rattle.farm_nodes_stored.specs.Nodes.{AreMade};
@@ -13,12 +12,12 @@ ghost use Rattle.farm_nodes_opened.specs.Opened.{AreOpenFrom};
 ghost use Rattle.farm_nodes_source.specs.declared.fault.SourceFault.{SourceFault};
 ghost use Rattle.farm_nodes_source.specs.Refused.{IsUnprepared};
 ghost use Rattle.farm_nodes.specs.Prepared.{IsSourceOf};
-ghost use Rattle.farm_nodes.specs.Refused.{AreRefused};
+ghost use Rattle.farm_nodes.specs.Refused.{AreRefused, AreRefusedOver};
 
 use crate::error::FarmError;
 use durable_model::Disk;
 use farm_nodes_node::FarmNode;
-use farm_nodes_opened::open_nodes;
+use farm_nodes_opened::{OpenFault, open_nodes};
 use farm_nodes_source::{Source, prepare};
 use rooms_hall::{Hall, Naming};
 use std::alloc::Global;
@@ -81,6 +80,48 @@ impl<D: Disk + Drop, O: Drop, H: Naming> Farm<D, O, H> {
             Ok(source) => source,
             Err(fault) => return Err((disks, FarmError::Source(fault))),
         };
+        match Farm::over(rt, alloc, hall, source, disks, oracles, seed) {
+            Ok(farm) => Ok(farm),
+            Err((disks, fault)) => Err((disks, FarmError::Disks(fault))),
+        }
+    }
+
+    /// The farm of a text that was made ready, as `open` opens it behind the text.
+    pub fn over<R: Threads + Wait + Sync>(
+        rt: &R,
+        alloc: Global,
+        hall: &Hall<H>,
+        source: Source,
+        disks: Vec<D>,
+        oracles: Vec<O>,
+        seed: u64,
+    ) -> Result<Farm<D, O, H>, (Vec<D>, OpenFault)>
+        requires size { IsRoomSize (length disks.items) }
+        requires oracles { length oracles.items ≡ length disks.items }
+        requires functions { length (arc_value source.translated).functions ≤ 64 }
+
+        // It compiles the source. Each node has its share of the translation, its optimisers and its generator.
+        ensures source { IfOk result (λ farm. farm.source ≡ source) }
+        ensures program { IfOk result (λ farm.
+            All (λ n. arc_value n.program ≡ arc_value farm.source.translated) farm.nodes.items) }
+        ensures oracles { IfOk result (λ farm. map (λ n. n.oracles) farm.nodes.items ≡ oracles.items) }
+        ensures words { IfOk result (λ farm.
+            map (λ n. n.words) farm.nodes.items ≡ generators seed (length disks.items)) }
+
+        // Each has the journal on its disk, and may be asked; none is stopped. The rooms open from what the journals have acknowledged.
+        ensures journals { IfOk result (λ farm. AreMade (IsJournalOn D.Disk (length disks.items) farm.source.digest)
+            disks.items (length disks.items) (map (λ n. n.log) farm.nodes.items)) }
+        ensures going { IfOk result (λ farm. All (λ n. n.halted ≡ None) farm.nodes.items) }
+        ensures fit { IfOk result (λ farm. AllByRecursion (λ n.
+            IsSoundNode D.is_honest D.seen D.may_leave n.log (fours_of n.seats.items) n.halted
+            × IsWaiting n.seats.items n.halted) farm.nodes.items) }
+        ensures rooms { IfOk result (λ farm. AreOpenFrom D.is_honest D.seen
+            (length (arc_value farm.source.translated).functions)
+            (map (λ n. n.log) farm.nodes.items) (map (λ n. n.seats.items) farm.nodes.items)) }
+
+        // What is told is the first fault of the disks, and all of them come back.
+        ensures refused { IfErr result (λ it. AreRefusedOver D.Disk source disks.items it.0.items it.1) }
+    {
         let workers = disks.len();
         let opened = open_nodes(
             rt,
@@ -95,7 +136,7 @@ impl<D: Disk + Drop, O: Drop, H: Naming> Farm<D, O, H> {
         );
         match opened {
             Ok(nodes) => Ok(Farm { source, nodes }),
-            Err((disks, fault)) => Err((disks, FarmError::Disks(fault))),
+            Err(refused) => Err(refused),
         }
     }
 }

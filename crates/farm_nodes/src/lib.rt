@@ -1,6 +1,6 @@
 //! A farm of compiler nodes over one C text. Its nodes come from their journals, take turns on threads, one at a time in each of four
-//! rooms a function, meet, come back after a failure, and link the offers that they have learned. Nodes that met, and all of whose
-//! functions were counted, link one program, which does exactly what the C program does.
+//! rooms a function, meet, come back after a failure, and link the offers that they have learned. What nodes link that met, and all of
+//! whose functions were counted, is one program, which does exactly what the C program does.
 #![tactic(auto)]
 
 mod error;

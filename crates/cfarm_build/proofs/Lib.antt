@@ -1,0 +1,7 @@
+mod Zips
+mod Lowest
+mod Turning
+mod Learning
+mod Numbering
+mod Refusing
+mod Firsts

@@ -1,0 +1,91 @@
+-- What the linker's refusals are of, where the names are the program's and no function needs too many nodes.
+use Rattle.std.proofs.Common.{◌≡◌, ℕ, zero, suc, ◌<◌, List, [], ◌∷◌, All, length, map, Option, Some, None, refl, sym, ap, subst, ◌∙◌, arith}
+use Rattle.std.specs.Prelude.{slice_get}
+use Rattle.std.specs.List.{AllByRecursion}
+use Rattle.std.specs.String.{string_bytes}
+use Rattle.std.proofs.lemmas.List.{length-map}
+use Rattle.std.proofs.lemmas.List.Elements.{recursion_from_All}
+use Rattle.lang_base.specs.declared.program.Named.{Named}
+use Rattle.c_checker_rules.specs.Checked.{Contents, program_tree}
+use Rattle.c_program.specs.declared.function.Function.{Function}
+use Rattle.c_program.specs.Views.{function_tree}
+use Rattle.cminor_syntax.specs.Trees.{FunctionTree}
+use Rattle.cminor_lowering.specs.Programs.{low, low_named}
+use Rattle.rtl_language.specs.Function.{FunctionData}
+use Rattle.rtlgen.specs.Refused.{HasFewNodes, IsFirstTooLarge}
+use Rattle.rtlgen_definition.specs.Gen.{gen, gen_named}
+use Rattle.linker.specs.Chains.{names_of}
+use Rattle.linker.specs.Numbers.{function_of_link_error}
+use Rattle.linker.specs.declared.errors.LinkError.{LinkError}
+use Rattle.linker.specs.declared.errors.LinkError.TheVariants as links
+use Rattle.rooms_hall.specs.declared.hall.Naming as naming
+use Rattle.farm_nodes_passes.specs.declared.seats.Seats.{Seats}
+use Rattle.farm_nodes_source.specs.declared.source.Source.{Source}
+use Rattle.farm_nodes_source.proofs.Numbered.{translated_names}
+use Rattle.farm_nodes_linked.specs.Learned.{FourOffers, learned_by}
+use Rattle.farm_nodes_linked.specs.Refused.{IsFirstBroken, IsUnlinked}
+use Rattle.cfarm_build.specs.Refused.{IsBroken, IsToldOf, IsUnlinkedBy}
+use Rattle.cfarm_build.specs.declared.error.BuildError.{BuildError}
+use Rattle.cfarm_build.specs.declared.error.BuildError.TheVariants.{NoMemory, NoThread, Source as TextFault, Disks, Failed, Undecided, Unlinked, Names}
+
+-- none needs too many nodes
+none_large : (fs : List (Named FunctionTree)) (i : ℕ) → AllByRecursion HasFewNodes fs → IsFirstTooLarge fs i → ⊥
+none_large [] i few large = large
+none_large (f ∷ fs) zero few large = let fits = few.0 in omega (arith, fits, large)
+none_large (f ∷ fs) (suc i) few large = none_large fs i few.1 large.1
+
+-- the first function whose offers do not go on is one of them
+is_one : (fs : List (Named FunctionData)) (learned : List (Option FourOffers)) (i : ℕ) → IsFirstBroken fs learned i → i < length fs
+is_one [] learned i broken = absurd broken
+is_one (f ∷ fs) [] i broken = absurd broken
+is_one (f ∷ fs) (o ∷ learned) zero broken = omega arith
+is_one (f ∷ fs) (o ∷ learned) (suc i) broken = let below = is_one fs learned i broken.1 in omega (arith, below)
+
+is_function : (fs : List Function) (learned : List (Option FourOffers)) (i : ℕ)
+    → IsFirstBroken (map gen_named (map low_named (map function_tree fs))) learned i → i < length fs
+is_function fs learned i broken =
+    let below = is_one (map gen_named (map low_named (map function_tree fs))) learned i broken in
+    omega (arith, below, length-map (map low_named (map function_tree fs)) gen_named, length-map (map function_tree fs) low_named, length-map fs function_tree)
+
+-- The one refusal that is left, where memory is not refused: the offers of this function do not go on.
+pub record IsOfFunction (p : Contents) (learned : List (Option FourOffers)) (fault : LinkError) (i : ℕ) : Type 0 where
+  pub fault_is : fault ≡ links.Unchained i
+  pub broken : IsFirstBroken (gen (low (program_tree p))).functions learned i
+  pub within : i < length p.functions
+
+module _ (p : Contents) (names : List (List ℕ)) (learned : List (Option FourOffers))
+    (same : names ≡ names_of (gen (low (program_tree p))).functions) (few : All HasFewNodes (low (program_tree p)).functions) where
+  pub of_function : (fault : LinkError) (i : ℕ) → IsUnlinked (low (program_tree p)) names learned fault
+      → function_of_link_error fault ≡ Some i → IsOfFunction p learned fault i
+  of_function links.NoMemory i told e = absurd (cc e)
+  of_function links.Names i told e = absurd (cc e)
+  of_function (links.TooManyNodes n) i told e =
+      absurd (none_large (low (program_tree p)).functions n (recursion_from_All HasFewNodes (low (program_tree p)).functions few) told)
+  of_function (links.Missing n) i told e = absurd told
+  of_function (links.Unchained n) i told e =
+      let same_number : n ≡ i = cc e in
+      let broken = subst (λ j. IsFirstBroken (gen (low (program_tree p))).functions learned j) same_number told in
+      record { fault_is = ap (λ j. links.Unchained j) same_number; broken = broken; within = is_function p.functions learned i broken }
+
+  pub never_names : (fault : LinkError) → IsUnlinked (low (program_tree p)) names learned fault → fault ≡ links.Names → ⊥
+  never_names links.NoMemory told e = absurd (cc e)
+  never_names links.Names told e = told (same ∙ translated_names p.functions)
+  never_names (links.TooManyNodes n) told e = absurd (cc e)
+  never_names (links.Missing n) told e = absurd (cc e)
+  never_names (links.Unchained n) told e = absurd (cc e)
+
+-- a refusal as it is told
+module _ {H : Type 0} {h : naming.Ghosts H} (source : Source) (names : List (List ℕ)) (seats : List (Seats H h))
+    (same : names ≡ names_of (gen (low (program_tree source.program))).functions) (few : All HasFewNodes (low (program_tree source.program)).functions)
+    (fault : LinkError) (told : IsUnlinked (low (program_tree source.program)) names (learned_by seats) fault) where
+  pub refused : (e : BuildError) → IsToldOf (map (λ f. f.name) source.program.functions) fault e → IsUnlinkedBy source seats e
+  refused NoMemory is = tt
+  refused NoThread is = is
+  refused (TextFault f) is = is
+  refused (Disks f) is = is
+  refused (Failed n f) is = is
+  refused Undecided is = is
+  refused (Unlinked f function) is =
+      let of = of_function source.program names (learned_by seats) same few fault is.0 told is.2.1 in
+      record { number = is.0; fault_is = is.1 ∙ of.fault_is; broken = of.broken; named = is.2.2 }
+  refused Names is = never_names source.program names (learned_by seats) same few fault told is

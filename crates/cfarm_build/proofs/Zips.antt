@@ -1,0 +1,69 @@
+-- Lists beside one another, of which it is said place by place.
+use Rattle.std.proofs.Common.{◌≡◌, ℕ, zero, suc, ◌<◌, List, [], ◌∷◌, ◌++◌, map, length, get_or, set, refl, sym, ap, subst, arith}
+use Rattle.std.specs.List.{AllByRecursion, AllZip}
+
+pub map_twice : {A B C : Type 0} (f : A → B) (g : B → C) (xs : List A) → map g (map f xs) ≡ map (λ x. g (f x)) xs
+map_twice f g [] = refl
+map_twice f g (x ∷ xs) = ap (λ l. g (f x) ∷ l) (map_twice f g xs)
+
+module _ {A B : Type 0} (R : A → B → Type 0) where
+  -- what holds of each, and is kept
+  pub kept : (P : A → Type 0) (Q : B → Type 0) → ((x : A) (y : B) → R x y → P x → Q y) → (xs : List A) (ys : List B)
+      → AllZip R xs ys → AllByRecursion P xs → AllByRecursion Q ys
+  kept P Q keep [] [] z p = tt
+  kept P Q keep [] (y ∷ ys) z p = absurd z
+  kept P Q keep (x ∷ xs) [] z p = absurd z
+  kept P Q keep (x ∷ xs) (y ∷ ys) z p = (keep x y z.0 p.0, kept P Q keep xs ys z.1 p.1)
+
+  -- as they are seen
+  pub seen : {C E : Type 0} (f : A → C) (g : B → E) (P : A → Type 0) (S : C → E → Type 0) → ((x : A) (y : B) → P x → R x y → S (f x) (g y))
+      → (xs : List A) (ys : List B) → AllByRecursion P xs → AllZip R xs ys → AllZip S (map f xs) (map g ys)
+  seen f g P S so [] [] p z = tt
+  seen f g P S so [] (y ∷ ys) p z = absurd z
+  seen f g P S so (x ∷ xs) [] p z = absurd z
+  seen f g P S so (x ∷ xs) (y ∷ ys) p z = (so x y p.0 z.0, seen f g P S so xs ys p.1 z.1)
+
+  pub as_long : (xs : List A) (ys : List B) → AllZip R xs ys → length ys ≡ length xs
+  as_long [] [] z = refl
+  as_long [] (y ∷ ys) z = absurd z
+  as_long (x ∷ xs) [] z = absurd z
+  as_long (x ∷ xs) (y ∷ ys) z = ap suc (as_long xs ys z.1)
+
+module _ {A : Type 0} (R : A → A → Type 0) where
+  pub append : (xs ys zs ws : List A) → AllZip R xs ys → AllZip R zs ws → AllZip R (xs ++ zs) (ys ++ ws)
+  append [] [] zs ws z w = w
+  append [] (y ∷ ys) zs ws z w = absurd z
+  append (x ∷ xs) [] zs ws z w = absurd z
+  append (x ∷ xs) (y ∷ ys) zs ws z w = (z.0, append xs ys zs ws z.1 w)
+
+  pub through : ((x y z : A) → R x y → R y z → R x z) → (xs ys zs : List A) → AllZip R xs ys → AllZip R ys zs → AllZip R xs zs
+  through one [] [] zs z w = w
+  through one [] (y ∷ ys) zs z w = absurd z
+  through one (x ∷ xs) [] zs z w = absurd z
+  through one (x ∷ xs) (y ∷ ys) [] z w = absurd w
+  through one (x ∷ xs) (y ∷ ys) (u ∷ us) z w = (one x y u z.0 w.0, through one xs ys us z.1 w.1)
+
+  module _ (same : (x : A) → R x x) where
+    pub all_same : (xs : List A) → AllZip R xs xs
+    all_same [] = tt
+    all_same (x ∷ xs) = (same x, all_same xs)
+
+    -- one of them changes
+    pub one_set : (xs : List A) (i : ℕ) (x v : A) → i < length xs → x ≡ get_or xs i x → R x v → AllZip R xs (set xs i v)
+    one_set [] i x v below is r = absurd (omega (arith, below))
+    one_set (y ∷ ys) zero x v below is r = (subst (λ z. R z v) is r, all_same ys)
+    one_set (y ∷ ys) (suc i) x v below is r = (same y, one_set ys i x v (omega (arith, below)) is r)
+
+-- what is so of all is so of the one at a place
+pub all_at : {A : Type 0} (P : A → Type 0) (xs : List A) (i : ℕ) (x : A) → AllByRecursion P xs → i < length xs → x ≡ get_or xs i x → P x
+all_at P [] i x all below is = absurd (omega (arith, below))
+all_at P (y ∷ ys) zero x all below is = subst P (sym is) all.0
+all_at P (y ∷ ys) (suc i) x all below is = all_at P ys i x all.1 (omega (arith, below)) is
+
+pub all_weaker : {A : Type 0} (P Q : A → Type 0) → ((x : A) → P x → Q x) → (xs : List A) → AllByRecursion P xs → AllByRecursion Q xs
+all_weaker P Q so [] all = tt
+all_weaker P Q so (x ∷ xs) all = (so x all.0, all_weaker P Q so xs all.1)
+
+pub all_mapped : {A B : Type 0} (f : A → B) (P : B → Type 0) (xs : List A) → AllByRecursion (λ x. P (f x)) xs → AllByRecursion P (map f xs)
+all_mapped f P [] all = tt
+all_mapped f P (x ∷ xs) all = (all.0, all_mapped f P xs all.1)

@@ -1,0 +1,49 @@
+-- The line that a user is shown where nothing is built.
+use Rattle.std.specs.Prelude.{ℕ, zero, suc, List, ◌++◌, codes}
+use Rattle.std.specs.Fmt.{decimal}
+use Rattle.std.specs.String.{string_bytes}
+use Rattle.acceptor_log_form.specs.declared.errors.LogError.{LogError}
+use Rattle.acceptor_log_form.specs.Refusals as journals
+use Rattle.farm_nodes_source.specs.Told.{source_line}
+use Rattle.farm_nodes_offers.specs.declared.halt.Fault.{Fault}
+use Rattle.farm_nodes_offers.specs.Halted as halts
+use Rattle.farm_nodes_opening.specs.declared.fault.RoomFault.{RoomFault}
+use Rattle.farm_nodes_opening.specs.declared.fault.RoomFault.TheVariants as R
+use Rattle.farm_nodes_opened.specs.declared.fault.OpenFault.{OpenFault}
+use Rattle.farm_nodes_opened.specs.declared.fault.OpenFault.TheVariants as O
+use Rattle.linker.specs.Numbers.{number_of_link_error}
+use Rattle.cfarm_build.specs.Names.{fault_name, journal_name, link_name}
+use Rattle.cfarm_build.specs.declared.error.BuildError.{BuildError}
+use Rattle.cfarm_build.specs.declared.error.BuildError.TheVariants.{NoMemory, NoThread, Source, Disks, Failed, Undecided, Unlinked, Names}
+
+-- a fault of a node, by its number and its name; want of memory is told as such
+abbrev pub node_line : ℕ → List ℕ → ℕ → List ℕ
+node_line zero name node = codes "journal " ++ (decimal 0 ++ (codes " " ++ (name ++ (codes " node " ++ decimal node))))
+node_line (suc zero) name node = codes "memory"
+node_line (suc (suc n)) name node = codes "journal " ++ (decimal (suc (suc n)) ++ (codes " " ++ (name ++ (codes " node " ++ decimal node))))
+
+abbrev pub failed_line : ℕ → Fault → List ℕ
+failed_line node fault = node_line (halts.number_of fault) (fault_name fault) node
+
+abbrev pub room_line : ℕ → RoomFault → List ℕ
+room_line room R.NoMemory = codes "memory"
+room_line room R.Spent = codes "memory"
+room_line room R.Unsettled = codes "journal 510 Unsettled room " ++ decimal room
+room_line room R.CellRefused = codes "journal 511 CellRefused room " ++ decimal room
+
+abbrev pub disks_line : OpenFault → List ℕ
+disks_line O.NoMemory = codes "memory"
+disks_line (O.Journal node fault) = node_line (journals.number_of fault) (journal_name fault) node
+disks_line (O.Refused node) = codes "journal 301 Refused node " ++ decimal node
+disks_line (O.Room room fault) = room_line room fault
+
+abbrev pub build_line : BuildError → List ℕ
+build_line NoMemory = codes "memory"
+build_line NoThread = codes "memory"
+build_line (Source fault) = source_line fault
+build_line (Disks fault) = disks_line fault
+build_line (Failed node fault) = failed_line node fault
+build_line Undecided = codes "undecided"
+build_line (Unlinked fault function) =
+    codes "link " ++ (decimal (number_of_link_error fault) ++ (codes " " ++ (link_name fault ++ (codes " in " ++ string_bytes function))))
+build_line Names = codes "link 603 Names"

@@ -1,0 +1,85 @@
+-- The nodes of a farm, from their disks to the end of their turns, and behind their meetings.
+use Rattle.std.specs.Prelude.{◌≡◌, ℕ, zero, suc, List, [], ◌∷◌, length, map, Option, Some, None}
+use Rattle.std.specs.Arc.{arc_value}
+use Rattle.std.specs.List.{AllByRecursion, AllZip}
+use Rattle.rand_pcg.specs.Lcg.{Lcg}
+use Rattle.durable_model.specs.declared.disk.Disk as disks
+use Rattle.acceptor_log.specs.declared.log.Log.{Log}
+use Rattle.rooms_hall.specs.declared.hall.Naming as naming
+use Rattle.farm_nodes_offers.specs.declared.halt.Fault.{Fault}
+use Rattle.farm_nodes_passes.specs.Fours.{Four, fours_of}
+use Rattle.farm_nodes_passes.specs.declared.seats.Seats.{Seats}
+use Rattle.farm_nodes_node.specs.declared.halted.Halted.{Halted}
+use Rattle.farm_nodes_node.specs.Held.{fault_in, IsSoundNode}
+use Rattle.farm_nodes_source.specs.declared.source.Source.{Source}
+use Rattle.farm_nodes_threads.specs.CameBack.{CameBack}
+use Rattle.farm_nodes_joining.specs.Words.{generators}
+use Rattle.farm_nodes_stored.specs.Nodes.{AreMade}
+use Rattle.farm_nodes_opened.specs.Back.{IsJournalOn}
+use Rattle.farm_nodes_opened.specs.Opened.{AreOpenFrom}
+
+-- what is said of a node
+pub record Node (D : Type 0) (H : Type 0) (h : naming.Ghosts H) : Type 0 where
+  pub log : Log D
+  pub seats : List (Seats H h)
+  pub halted : Option Halted
+
+abbrev pub node : {D : Type 0} {H : Type 0} {h : naming.Ghosts H} → Log D → List (Seats H h) → Option Halted → Node D H h
+node log seats halted = record { log = log; seats = seats; halted = halted }
+
+-- A node as it opened, which nothing has stopped: its journal, its seats, and its generator.
+pub record Begun (D : Type 0) (H : Type 0) (h : naming.Ghosts H) : Type 0 where
+  pub log : Log D
+  pub seats : List (Seats H h)
+  pub words : Lcg
+
+module _ {D : Type 0} (disk : disks.Ghosts D) where
+  -- its journal stands for what it keeps
+  abbrev pub IsSound : {H : Type 0} {h : naming.Ghosts H} → Node D H h → Type 0
+  IsSound n = IsSoundNode disk.is_honest disk.seen disk.may_leave n.log (fours_of n.seats) n.halted
+
+  -- turns led from the node as it opened to this one
+  abbrev pub TurnedInto : {H : Type 0} {h : naming.Ghosts H} → Begun D H h → Node D H h → Type 0
+  TurnedInto b n = CameBack disk.is_honest disk.seen disk.may_leave disk.moment disk.left_since b.log n.log
+      (fours_of b.seats) (fours_of n.seats) None n.halted
+
+  -- They were opened on these disks, with the generators of the seed, and have taken turns.
+  pub record HaveRun {H : Type 0} {h : naming.Ghosts H} (seed : ℕ) (source : Source) (given : List D) (nodes : List (Node D H h)) : Type 0 where
+    pub begun : List (Begun D H h)
+    pub journals : AreMade (IsJournalOn disk (length given) source.digest) given (length given) (map (λ b. b.log) begun)
+    pub rooms : AreOpenFrom disk.is_honest disk.seen (length (arc_value source.translated).functions)
+        (map (λ b. b.log) begun) (map (λ b. b.seats) begun)
+    pub words : map (λ b. b.words) begun ≡ generators seed (length given)
+    pub turned : AllZip TurnedInto begun nodes
+    pub sound : AllByRecursion IsSound nodes
+
+  -- A meeting leaves the journal, and what stopped the node; its seats stand for what the journal holds as they did.
+  pub record Stays {T1 T2 T3 T4 : Type 0} (old new : Log D) (seats after : List (Four T1 T2 T3 T4)) (halted now : Option Halted) : Type 0 where
+    pub log : new ≡ old
+    pub halted_same : now ≡ halted
+    pub sound : IsSoundNode disk.is_honest disk.seen disk.may_leave old seats halted
+        → IsSoundNode disk.is_honest disk.seen disk.may_leave new after now
+
+  -- so it is of the nodes after their meetings
+  pub record HaveMet {H : Type 0} {h : naming.Ghosts H} (ran nodes : List (Node D H h)) : Type 0 where
+    pub stay : AllZip (λ n m. (m.log ≡ n.log) × (m.halted ≡ n.halted)) ran nodes
+    pub sound : AllByRecursion IsSound nodes
+
+-- the lowest node that a fault stopped, and the fault; the first one has this number
+abbrev pub lowest_failed : ℕ → List (Option Fault) → Option (ℕ × Fault)
+lowest_failed number [] = None
+lowest_failed number (None ∷ faults) = lowest_failed (suc number) faults
+lowest_failed number (Some fault ∷ faults) = Some (number, fault)
+
+abbrev pub failed_of : {D : Type 0} {H : Type 0} {h : naming.Ghosts H} → List (Node D H h) → Option (ℕ × Fault)
+failed_of nodes = lowest_failed 0 (map (λ n. fault_in n.halted) nodes)
+
+-- None failed in their turns, then they met, and so it is of them.
+pub record AfterMeeting {D : Type 0} (disk : disks.Ghosts D) {H : Type 0} {h : naming.Ghosts H} (seed : ℕ) (source : Source) (given : List D)
+    (Is : List (Node D H h) → Type 0) : Type 0 where
+  pub ran : List (Node D H h)
+  pub run : HaveRun disk seed source given ran
+  pub going : failed_of ran ≡ None
+  pub nodes : List (Node D H h)
+  pub met : HaveMet disk ran nodes
+  pub is : Is nodes

@@ -1,0 +1,74 @@
+ghost use Rattle.std.specs.Prelude.{◌≡◌, ◌≤◌, All, length, IfOk, IfErr};
+ghost use Rattle.std.specs.Arc.{arc_value};
+ghost use Rattle.c_checker_rules.specs.Checked.{program_tree};
+ghost use Rattle.cminor_lowering.specs.Programs.{low};
+ghost use Rattle.cminor_program_ranges.specs.Names.{HaveNames};
+ghost use Rattle.rtlgen_definition.specs.Gen.{gen};
+ghost use Rattle.rtlgen.specs.Refused.{HasFewNodes};
+ghost use Rattle.paxos_core_law.specs.NodeState.{IsRoomSize};
+ghost use Rattle.cfarm_build.specs.Built.{IsBuilt};
+ghost use Rattle.cfarm_build.specs.Refused.{IsUnbuilt};
+
+use crate::built::Built;
+use crate::error::BuildError;
+use crate::failing::first_failed;
+use crate::linking::built_by;
+use crate::meeting::meet_neighbours;
+use crate::progress::Progress;
+use crate::running::run_rounds;
+use durable_model::Disk;
+use farm_nodes::{Farm, Hall, Naming, Oracles, Source};
+use std::alloc::Global;
+use std::sync::Wait;
+use std::thread::Threads;
+
+/// Compiles a C text that was made ready by a farm of a node for each disk, a thread for each node, each of which takes so many turns at
+/// most. Then each two neighbours meet, and node 0 links the program. Between rounds of turns it is told how far they are.
+pub fn build<
+    D: Disk + Drop + Send,
+    O: Oracles + Drop + Send,
+    H: Naming + Send,
+    R: Threads + Wait + Sync,
+    P: Progress,
+>(
+    rt: &R,
+    alloc: Global,
+    hall: &Hall<H>,
+    source: Source,
+    disks: Vec<D>,
+    oracles: Vec<O>,
+    turns: u64,
+    seed: u64,
+    progress: &mut P,
+) -> Result<Built, BuildError>
+    requires size { IsRoomSize (length disks.items) }
+    requires oracles { length oracles.items ≡ length disks.items }
+
+    // What is compiled was made ready.
+    requires translated { arc_value source.translated ≡ gen (low (program_tree source.program)) }
+    requires names { HaveNames (program_tree source.program) }
+    requires count { length (arc_value source.translated).functions ≤ 64 }
+    requires few { All HasFewNodes (low (program_tree source.program)).functions }
+
+    // The bytes are the text of a program that keeps the meaning of the C program, linked from what node 0 has learned, as the
+    // report says.
+    ensures built { IfOk result (IsBuilt D.Disk H.Naming seed source disks.items) }
+
+    // The disks come first, then the lowest node that failed, then what is not linked.
+    ensures refused { IfErr result (IsUnbuilt D.Disk H.Naming seed source disks.items) }
+{
+    let farm = match Farm::over(rt, alloc, hall, source, disks, oracles, seed) {
+        Ok(farm) => farm,
+        Err((_disks, fault)) => return Err(BuildError::Disks(fault)),
+    };
+    let Farm { source, nodes } = farm;
+    let mut nodes = match run_rounds(rt, alloc, nodes, turns, progress) {
+        Ok(nodes) => nodes,
+        Err(fault) => return Err(fault),
+    };
+    if let Some((node, fault)) = first_failed(&nodes) {
+        return Err(BuildError::Failed(node, fault));
+    }
+    meet_neighbours(&mut nodes);
+    built_by(alloc, &source, &nodes)
+}

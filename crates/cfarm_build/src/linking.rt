@@ -1,0 +1,115 @@
+//! What nodes that took their turns, and have met, make.
+
+ghost use Rattle.std.specs.Prelude.{◌≡◌, ◌<◌, ℕ, All, Some, IsTrue, length, map, IfOk, IfErr};
+ghost use Rattle.std.specs.Arc.{arc_value};
+ghost use Rattle.std.specs.List.{AllByRecursion};
+ghost use Rattle.c_checker_rules.specs.Checked.{program_tree};
+ghost use Rattle.cminor_lowering.specs.Programs.{low};
+ghost use Rattle.cminor_program_ranges.specs.Names.{HaveNames};
+ghost use Rattle.rtlgen.specs.Refused.{HasFewNodes};
+ghost use Rattle.rtlgen_definition.specs.Gen.{gen};
+ghost use Rattle.linker.specs.Numbers.{function_of_link_error};
+ghost use Rattle.farm_nodes_linked.specs.Learned.{learned_by, IsUndecided};
+ghost use Rattle.cfarm_build.specs.Built.{IsBuiltBy};
+ghost use Rattle.cfarm_build.specs.Nodes.{node};
+ghost use Rattle.cfarm_build.specs.Refused.{IsNotLinked, IsRefusedBy, IsToldOf};
+
+use crate::built::Built;
+use crate::error::BuildError;
+use crate::numbers::{links_all, name_of, numbers_of};
+use crate::writing::written;
+use c_checker_rules::CProgram;
+use cfarm_report::report;
+use farm_nodes::{FarmNode, LinkedError, Naming, Source, linked};
+use lang_base::NoMemory;
+use linker::LinkError;
+use std::alloc::Global;
+
+/// Whether each node links all functions.
+fn all_link<D, O, H: Naming>(nodes: &[FarmNode<D, O, H>]) -> bool
+    ensures yes { IsTrue result → AllByRecursion (λ n. IsUndecided (learned_by n.seats.items) → ⊥) nodes.now }
+    ensures no { (IsTrue result → ⊥) → IsNotLinked (map (λ n. node n.log n.seats.items n.halted) nodes.now) }
+{
+    for number in 0..nodes.len() {
+        if !links_all(&nodes[number].seats) {
+            return false;
+        }
+    }
+    true
+}
+
+/// A refusal of the linker, with the name of its function.
+fn unlinked(alloc: Global, program: &CProgram, fault: LinkError) -> BuildError
+    requires names { HaveNames (program_tree program.now) }
+    requires number { (i : ℕ) → function_of_link_error fault ≡ Some i → i < length program.now.functions }
+    ensures { IsToldOf (map (λ f. f.name) program.now.functions) fault result }
+{
+    match fault {
+        LinkError::NoMemory => BuildError::NoMemory,
+        LinkError::Names => BuildError::Names,
+        LinkError::TooManyNodes(function)
+        | LinkError::Missing(function)
+        | LinkError::Unchained(function) => match name_of(alloc, program, function) {
+            Ok(name) => BuildError::Unlinked(fault, name),
+            Err(NoMemory) => BuildError::NoMemory,
+        },
+    }
+}
+
+/// The bytes of what the first of the nodes links, and the report with the numbers that it has learned. Each of them links all functions.
+fn made_by<D, O, H: Naming>(
+    alloc: Global,
+    source: &Source,
+    nodes: &[FarmNode<D, O, H>],
+) -> Result<Built, BuildError>
+    requires some { 0 < length nodes.now }
+    requires decided { AllByRecursion (λ n. IsUndecided (learned_by n.seats.items) → ⊥) nodes.now }
+    requires translated { arc_value source.now.translated ≡ gen (low (program_tree source.now.program)) }
+    requires names { HaveNames (program_tree source.now.program) }
+    requires few { All HasFewNodes (low (program_tree source.now.program)).functions }
+    requires program { AllByRecursion (λ n. arc_value n.program ≡ arc_value source.now.translated) nodes.now }
+    ensures built { IfOk result (IsBuiltBy source.now (map (λ n. node n.log n.seats.items n.halted) nodes.now)) }
+    ensures refused { IfErr result
+        (IsRefusedBy source.now (map (λ n. node n.log n.seats.items n.halted) nodes.now)) }
+{
+    let first = &nodes[0];
+    let program = match linked(first, &source.program) {
+        Ok(program) => program,
+        Err(LinkedError::Undecided) => return Err(BuildError::Undecided),
+        Err(LinkedError::Link(fault)) => return Err(unlinked(alloc, &source.program, fault)),
+    };
+    let Ok(bytes) = written(alloc, &program) else {
+        return Err(BuildError::NoMemory);
+    };
+    let Ok(functions) = numbers_of(alloc, &source.program, &first.seats) else {
+        return Err(BuildError::NoMemory);
+    };
+    match report(alloc, &functions, &bytes, nodes.len()) {
+        Ok(report) => Ok(Built {
+            program: bytes,
+            report,
+        }),
+        Err(_) => Err(BuildError::NoMemory),
+    }
+}
+
+/// What the first of the nodes links, once each of them links all functions.
+pub(crate) fn built_by<D, O, H: Naming>(
+    alloc: Global,
+    source: &Source,
+    nodes: &[FarmNode<D, O, H>],
+) -> Result<Built, BuildError>
+    requires some { 0 < length nodes.now }
+    requires translated { arc_value source.now.translated ≡ gen (low (program_tree source.now.program)) }
+    requires names { HaveNames (program_tree source.now.program) }
+    requires few { All HasFewNodes (low (program_tree source.now.program)).functions }
+    requires program { AllByRecursion (λ n. arc_value n.program ≡ arc_value source.now.translated) nodes.now }
+    ensures built { IfOk result (IsBuiltBy source.now (map (λ n. node n.log n.seats.items n.halted) nodes.now)) }
+    ensures refused { IfErr result
+        (IsRefusedBy source.now (map (λ n. node n.log n.seats.items n.halted) nodes.now)) }
+{
+    if !all_link(nodes) {
+        return Err(BuildError::Undecided);
+    }
+    made_by(alloc, source, nodes)
+}

@@ -1,0 +1,17 @@
+use Rattle.farm_nodes_passes.specs.Fours.{fours_of}
+use Rattle.farm_nodes_node.specs.Held.{IsSoundNode}
+use Rattle.farm_nodes_node.specs.Waiting.{IsWaiting}
+use Rattle.farm_nodes.proofs.Fit.{all_both}
+use Rattle.farm_nodes.proofs.farm.Farm.over.Goals as goal
+
+pub returns-in-Ok-clause-fit : goal.returns-in-Ok-clause-fit
+returns-in-Ok-clause-fit g c =
+    let disk = g.D.Disk in
+    all_both (λ n. IsSoundNode disk.is_honest disk.seen disk.may_leave n.log (fours_of n.seats.items) n.halted)
+    (λ n. IsWaiting n.seats.items n.halted)
+    c.in-Ok.nodes.items c.in-Ok.ensures.sound c.in-Ok.ensures.waiting
+
+pub returns-in-Err-clause-refused : goal.returns-in-Err-clause-refused
+returns-in-Err-clause-refused g c =
+    let told = c.in-Err.ensures in
+    record { returned = told.back; journal = told.journal; refused = told.refused; unopened = told.unopened }
