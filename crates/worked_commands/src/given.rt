@@ -35,7 +35,7 @@ impl<'a> Given<'a> {
     }
 }
 
-/// A disk that can note so many calls and fails at this one, and holds the bytes.
+/// A disk that holds the bytes, by its first two calls; it can note so many, and fails at this one.
 fn disk_of(alloc: Global, calls: usize, fails: usize, bytes: &[u8]) -> Option<MemoryDisk> {
     let mut disk = MemoryDisk::new(alloc, calls, BYTES).ok()?;
     disk.write_at(0, bytes).ok()?;
@@ -50,7 +50,7 @@ fn disk_in(alloc: Global, folder: &str, name: &str) -> Option<MemoryDisk> {
         "missing" => None,
         "behind" if name == "node1.cfj" => None,
         "broken" => disk_of(alloc, CALLS, 3, &[]),
-        "worn" => disk_of(alloc, 40, 0, &[]),
+        "worn" => disk_of(alloc, 14, 0, &[]),
         _ => match folder.strip_prefix("%") {
             Some(digits) => disk_of(alloc, CALLS, 0, &bytes_of(alloc, digits)?),
             None => disk_of(alloc, CALLS, 0, &[]),

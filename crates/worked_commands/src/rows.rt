@@ -5,10 +5,10 @@ ghost use Rattle.std.specs.Prelude.{◌≡◌};
 use crate::failing::failing;
 use crate::held::Held;
 use crate::machine::{answer_here, answer_twice};
-use crate::runs::{Here, answer, words_of};
-use program_rows::{agrees, bytes_of, parts_of_row};
+use crate::runs::{Here, answer, linked, words_of};
+use crate::texts::text_of;
+use program_rows::{agrees, parts_of_row};
 use rooms_hall::{Naming, Opened};
-use std::alloc::Global;
 use std::marker::Brand;
 use std::sync::Wait;
 use std::thread::Threads;
@@ -16,14 +16,6 @@ use std::{fs, io};
 
 /// The file of the rows.
 const NAME: &str = "commands.txt";
-
-/// The bytes of a text, which is in hex behind `%`.
-fn text_of(alloc: Global, text: &str) -> Option<Vec<u8>> {
-    match text.strip_prefix("%") {
-        Some(digits) => bytes_of(alloc, digits),
-        None => text.as_bytes().to_vec(alloc).ok(),
-    }
-}
 
 /// The answer about a command line and the text of its file.
 fn told<H: Naming + Send, R: Threads + Wait + Sync>(
@@ -41,6 +33,7 @@ fn told<H: Naming + Send, R: Threads + Wait + Sync>(
         "unflushed" => (Held::stuck(alloc), Held::ample(alloc)),
         "untold" => (Held::ample(alloc), Held::stuck(alloc)),
         "failing" => return failing(here, &words, &text),
+        "linked" => return linked(here, &words, &text),
         _ => return None,
     };
     answer(here, &words, &text, out, err)

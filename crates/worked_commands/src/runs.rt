@@ -78,6 +78,19 @@ pub fn told(alloc: Global, ran: &Ran, built: &[u8]) -> Option<String> {
     format!(in alloc; "{} {written} {told}", ran.status).ok()
 }
 
+/// The output of a run; of one that is broken off and writes one byte again and again, that byte once.
+fn folded(ran: &Ran) -> &[u8] {
+    let bytes = ran.out.as_slice();
+    let Some(first) = bytes.first() else {
+        return bytes;
+    };
+    if ran.status == 6 && bytes.iter().all(|byte| byte == first) {
+        &bytes[..1]
+    } else {
+        bytes
+    }
+}
+
 /// What the program does that is in these bytes.
 pub fn executed<H: Naming + Send, R: Threads + Wait + Sync>(
     here: &Here<'_, H, R>,
@@ -93,10 +106,32 @@ pub fn executed<H: Naming + Send, R: Threads + Wait + Sync>(
         Held::ample(alloc),
         Held::ample(alloc),
     );
-    told(alloc, &ran, &[])
+    let written = shown(alloc, folded(&ran))?;
+    let told = shown(alloc, &ran.err)?;
+    format!(in alloc; "{} {written} {told}", ran.status).ok()
 }
 
-/// The status of a run, what it wrote and its standard error, and each file that it put, with what the program in it does.
+/// The status of a run, what it wrote and its standard error, and the file that it put.
+pub fn linked<H: Naming + Send, R: Threads + Wait + Sync>(
+    here: &Here<'_, H, R>,
+    words: &[String],
+    text: &[u8],
+) -> Option<String> {
+    let alloc = here.alloc;
+    let mut files = Given::of(alloc, text);
+    let ran = ran(
+        here,
+        words,
+        &mut files,
+        Held::ample(alloc),
+        Held::ample(alloc),
+    );
+    let put = files.put.first()?;
+    let told = told(alloc, &ran, &put.bytes)?;
+    format!(in alloc; "{told} {}", put.path).ok()
+}
+
+/// The same, and what the program in the file does that was put, if any was.
 pub fn answer<H: Naming + Send, R: Threads + Wait + Sync>(
     here: &Here<'_, H, R>,
     words: &[String],
