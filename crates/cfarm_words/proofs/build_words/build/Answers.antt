@@ -1,6 +1,6 @@
 use Rattle.std.specs.Prelude.{◌≡◌, codes, false}
 use Rattle.std.proofs.Common.{ap, ◌∙◌}
-use Rattle.clap.specs.Words.{new_app, app_of, with_rule}
+use Rattle.clap.specs.Words.{new_app, app_of}
 use Rattle.clap.specs.declared.builder.command.Command.TheViews.{out-Command as fields_of}
 use Rattle.clap.specs.Simple.{app_of_fields}
 use Rattle.cfarm_words.specs.Words.{file_rule, folder_rule, nodes_rule, seed_rule, turns_rule}

@@ -1,6 +1,6 @@
-use Rattle.std.specs.Prelude.{◌≡◌, codes, true}
+use Rattle.std.specs.Prelude.{◌≡◌, true}
 use Rattle.std.proofs.Common.{ap, ◌∙◌}
-use Rattle.clap.specs.Words.{app_of, with_subcommand}
+use Rattle.clap.specs.Words.{app_of}
 use Rattle.clap.specs.Simple.{app_of_fields, on_top}
 use Rattle.cfarm_words.specs.Words.{build_app, check_app, exec_app, interpret_app, settle_app, sim_app, top_app}
 use Rattle.cfarm_words.proofs.Commands.{with_command}
