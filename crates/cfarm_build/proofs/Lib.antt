@@ -1,7 +1,3 @@
-mod Zips
 mod Lowest
 mod Turning
-mod Learning
-mod Numbering
-mod Refusing
-mod Firsts
+mod Zips

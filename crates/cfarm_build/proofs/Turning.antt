@@ -10,7 +10,8 @@ use Rattle.farm_nodes_passes.specs.declared.seats.Seats.{Seats}
 use Rattle.farm_nodes_node.specs.declared.halted.Halted.{Halted}
 use Rattle.farm_nodes_threads.specs.CameBack.{CameBack}
 use Rattle.farm_nodes_threads.proofs.Coming.{came_through}
-use Rattle.cfarm_build.specs.Nodes.{Begun, Node, node, Stays, TurnedInto}
+use Rattle.cfarm_build_linking.specs.Node.{Node, node}
+use Rattle.cfarm_build.specs.Nodes.{Begun, Stays, TurnedInto}
 use Rattle.cfarm_build.proofs.Zips.{seen, through}
 
 -- A node is seen as its program, its journal, its seats and what stopped it.

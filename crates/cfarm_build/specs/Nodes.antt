@@ -17,15 +17,7 @@ use Rattle.farm_nodes_joining.specs.Words.{generators}
 use Rattle.farm_nodes_stored.specs.Nodes.{AreMade}
 use Rattle.farm_nodes_opened.specs.Back.{IsJournalOn}
 use Rattle.farm_nodes_opened.specs.Opened.{AreOpenFrom}
-
--- what is said of a node
-pub record Node (D : Type 0) (H : Type 0) (h : naming.Ghosts H) : Type 0 where
-  pub log : Log D
-  pub seats : List (Seats H h)
-  pub halted : Option Halted
-
-abbrev pub node : {D : Type 0} {H : Type 0} {h : naming.Ghosts H} → Log D → List (Seats H h) → Option Halted → Node D H h
-node log seats halted = record { log = log; seats = seats; halted = halted }
+use Rattle.cfarm_build_linking.specs.Node.{Node}
 
 -- A node as it opened, which nothing has stopped: its journal, its seats, and its generator.
 pub record Begun (D : Type 0) (H : Type 0) (h : naming.Ghosts H) : Type 0 where

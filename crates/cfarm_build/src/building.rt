@@ -9,13 +9,12 @@ ghost use Rattle.paxos_core_law.specs.NodeState.{IsRoomSize};
 ghost use Rattle.cfarm_build.specs.Built.{IsBuilt};
 ghost use Rattle.cfarm_build.specs.Refused.{IsUnbuilt};
 
-use crate::built::Built;
-use crate::error::BuildError;
 use crate::failing::first_failed;
-use crate::linking::built_by;
 use crate::meeting::meet_neighbours;
 use crate::progress::Progress;
 use crate::running::run_rounds;
+use cfarm_build_faults::BuildError;
+use cfarm_build_linking::{Built, built_by};
 use durable_model::Disk;
 use farm_nodes::{Farm, Hall, Naming, Oracles, Source};
 use std::alloc::Global;

@@ -8,11 +8,12 @@ ghost use Rattle.farm_nodes_node.specs.Waiting.{IsWaiting};
 ghost use Rattle.farm_nodes_threads.specs.CameBack.{CameBack};
 ghost use Rattle.cfarm_build.specs.Refused.{IsNotRun};
 
-use crate::error::BuildError;
-use crate::numbers::{has_learned_all, linked_functions};
 use crate::progress::Progress;
+use cfarm_build_faults::BuildError;
+use cfarm_build_linking::linked_functions;
 use durable_model::Disk;
 use farm_nodes::{FarmNode, Naming, Oracles, RunError, run_threads};
+use farm_nodes_passes::Seats;
 use parallel_validate::OpenGate;
 use std::alloc::Global;
 use std::sync::Wait;
@@ -34,6 +35,24 @@ fn turns_of<D, O, H: Naming>(nodes: &[FarmNode<D, O, H>]) -> u64
         None => 0,
     };
     LEAST.max(functions.saturating_mul(FOR_FUNCTION) as u64)
+}
+
+/// Whether in all four rooms of a function a value is learned.
+fn has_learned<H: Naming>(seats: &Seats<H>) -> bool {
+    seats.first.seat.learned().is_some()
+        && seats.second.seat.learned().is_some()
+        && seats.third.seat.learned().is_some()
+        && seats.fourth.seat.learned().is_some()
+}
+
+/// Whether in all rooms of all functions a value is learned.
+fn has_learned_all<H: Naming>(seats: &[Seats<H>]) -> bool {
+    for function in 0..seats.len() {
+        if !has_learned(&seats[function]) {
+            return false;
+        }
+    }
+    true
 }
 
 /// Whether no node takes turns any more: each has failed, or has learned in all its rooms.

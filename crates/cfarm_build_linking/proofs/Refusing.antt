@@ -24,9 +24,9 @@ use Rattle.farm_nodes_source.specs.declared.source.Source.{Source}
 use Rattle.farm_nodes_source.proofs.Numbered.{translated_names}
 use Rattle.farm_nodes_linked.specs.Learned.{FourOffers, learned_by}
 use Rattle.farm_nodes_linked.specs.Refused.{IsFirstBroken, IsUnlinked}
-use Rattle.cfarm_build.specs.Refused.{IsBroken, IsToldOf, IsUnlinkedBy}
-use Rattle.cfarm_build.specs.declared.error.BuildError.{BuildError}
-use Rattle.cfarm_build.specs.declared.error.BuildError.TheVariants.{NoMemory, NoThread, Source as TextFault, Disks, Failed, Undecided, Unlinked, Names}
+use Rattle.cfarm_build_linking.specs.Refused.{IsBroken, IsToldOf, IsUnlinkedBy}
+use Rattle.cfarm_build_faults.specs.declared.error.BuildError.{BuildError}
+use Rattle.cfarm_build_faults.specs.declared.error.BuildError.TheVariants.{NoMemory, NoThread, Source as TextFault, Disks, Failed, Undecided, Unlinked, Names}
 
 -- none needs too many nodes
 none_large : (fs : List (Named FunctionTree)) (i : ℕ) → AllByRecursion HasFewNodes fs → IsFirstTooLarge fs i → ⊥

@@ -10,15 +10,15 @@ ghost use Rattle.rtlgen.specs.Refused.{HasFewNodes};
 ghost use Rattle.rtlgen_definition.specs.Gen.{gen};
 ghost use Rattle.linker.specs.Numbers.{function_of_link_error};
 ghost use Rattle.farm_nodes_linked.specs.Learned.{learned_by, IsUndecided};
-ghost use Rattle.cfarm_build.specs.Built.{IsBuiltBy};
-ghost use Rattle.cfarm_build.specs.Nodes.{node};
-ghost use Rattle.cfarm_build.specs.Refused.{IsNotLinked, IsRefusedBy, IsToldOf};
+ghost use Rattle.cfarm_build_linking.specs.Built.{IsBuiltBy};
+ghost use Rattle.cfarm_build_linking.specs.Node.{node};
+ghost use Rattle.cfarm_build_linking.specs.Refused.{IsNotLinked, IsRefusedBy, IsToldOf};
 
 use crate::built::Built;
-use crate::error::BuildError;
 use crate::numbers::{links_all, name_of, numbers_of};
 use crate::writing::written;
 use c_checker_rules::CProgram;
+use cfarm_build_faults::BuildError;
 use cfarm_report::report;
 use farm_nodes::{FarmNode, LinkedError, Naming, Source, linked};
 use lang_base::NoMemory;
@@ -94,7 +94,7 @@ fn made_by<D, O, H: Naming>(
 }
 
 /// What the first of the nodes links, once each of them links all functions.
-pub(crate) fn built_by<D, O, H: Naming>(
+pub fn built_by<D, O, H: Naming>(
     alloc: Global,
     source: &Source,
     nodes: &[FarmNode<D, O, H>],

@@ -1,6 +1,6 @@
 use Rattle.std.proofs.Common.{map}
-use Rattle.cfarm_build.proofs.Numbering.{AreTolds}
-use Rattle.cfarm_build.proofs.numbers.numbers_of.Given as goal
+use Rattle.cfarm_build_linking.proofs.Numbering.{AreTolds}
+use Rattle.cfarm_build_linking.proofs.numbers.numbers_of.Given as goal
 
 -- of the first functions it is told
 abbrev pub invariant-loop-function : goal.invariant-loop-function

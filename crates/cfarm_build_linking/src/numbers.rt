@@ -1,12 +1,12 @@
 //! What a node has learned, by functions.
 
-ghost use Rattle.std.specs.Prelude.{◌≡◌, ◌<◌, ◌↔◌, IsTrue, IsSome, length, map, IfOk, Some, slice_get};
+ghost use Rattle.std.specs.Prelude.{◌≡◌, ◌<◌, ◌↔◌, IsTrue, IsSome, is_some, count_by, length, map, IfOk, Some, slice_get};
 ghost use Rattle.std.specs.String.{string_bytes};
 ghost use Rattle.c_lexer_parts.specs.Lexemes.{IsName};
 ghost use Rattle.c_checker_rules.specs.Checked.{program_tree};
 ghost use Rattle.cminor_program_ranges.specs.Names.{HaveNames};
 ghost use Rattle.farm_nodes_linked.specs.Learned.{learned_by, learned_four, IsUndecided};
-ghost use Rattle.cfarm_build.specs.Told.{AreTold, IsTold};
+ghost use Rattle.cfarm_build_linking.specs.Told.{AreTold, IsTold};
 
 use c_checker_rules::CProgram;
 use cfarm_report::FunctionRooms;
@@ -18,18 +18,12 @@ use std::alloc::Global;
 
 /// Whether in all four rooms of a function an offer is learned, and seen.
 fn is_linked<H: Naming>(seats: &Seats<H>) -> bool
-    ensures { IsTrue result ↔ IsSome (learned_four seats.now) }
+    ensures { result ≡ is_some (learned_four seats.now) }
 {
-    if !has_learned_offer(&seats.first.seat) {
-        return false;
-    }
-    if !has_learned_offer(&seats.second.seat) {
-        return false;
-    }
-    if !has_learned_offer(&seats.third.seat) {
-        return false;
-    }
-    has_learned_offer(&seats.fourth.seat)
+    has_learned_offer(&seats.first.seat)
+        && has_learned_offer(&seats.second.seat)
+        && has_learned_offer(&seats.third.seat)
+        && has_learned_offer(&seats.fourth.seat)
 }
 
 /// Whether all functions are linked.
@@ -45,33 +39,15 @@ pub(crate) fn links_all<H: Naming>(seats: &[Seats<H>]) -> bool
     true
 }
 
-/// How many functions are linked.
-pub(crate) fn linked_functions<H: Naming>(seats: &[Seats<H>]) -> usize {
+/// How many functions are linked: of each of them all four offers are learned, and seen.
+pub fn linked_functions<H: Naming>(seats: &[Seats<H>]) -> usize
+    ensures { result ≡ count_by is_some (learned_by seats.now) }
+{
     let mut linked = 0;
     for function in 0..seats.len() {
-        if is_linked(&seats[function]) {
-            linked += 1;
-        }
+        linked += usize::from(is_linked(&seats[function]));
     }
     linked
-}
-
-/// Whether in all rooms of all functions a value is learned.
-pub(crate) fn has_learned_all<H: Naming>(seats: &[Seats<H>]) -> bool {
-    for function in 0..seats.len() {
-        if !has_learned(&seats[function]) {
-            return false;
-        }
-    }
-    true
-}
-
-/// Whether in all four rooms of a function a value is learned.
-fn has_learned<H: Naming>(seats: &Seats<H>) -> bool {
-    seats.first.seat.learned().is_some()
-        && seats.second.seat.learned().is_some()
-        && seats.third.seat.learned().is_some()
-        && seats.fourth.seat.learned().is_some()
 }
 
 /// What is told of a function of this name: the four numbers, where all are learned.

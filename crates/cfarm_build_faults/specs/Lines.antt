@@ -2,7 +2,6 @@
 use Rattle.std.specs.Prelude.{ℕ, zero, suc, List, ◌++◌, codes}
 use Rattle.std.specs.Fmt.{decimal}
 use Rattle.std.specs.String.{string_bytes}
-use Rattle.acceptor_log_form.specs.declared.errors.LogError.{LogError}
 use Rattle.acceptor_log_form.specs.Refusals as journals
 use Rattle.farm_nodes_source.specs.Told.{source_line}
 use Rattle.farm_nodes_offers.specs.declared.halt.Fault.{Fault}
@@ -12,9 +11,9 @@ use Rattle.farm_nodes_opening.specs.declared.fault.RoomFault.TheVariants as R
 use Rattle.farm_nodes_opened.specs.declared.fault.OpenFault.{OpenFault}
 use Rattle.farm_nodes_opened.specs.declared.fault.OpenFault.TheVariants as O
 use Rattle.linker.specs.Numbers.{number_of_link_error}
-use Rattle.cfarm_build.specs.Names.{fault_name, journal_name, link_name}
-use Rattle.cfarm_build.specs.declared.error.BuildError.{BuildError}
-use Rattle.cfarm_build.specs.declared.error.BuildError.TheVariants.{NoMemory, NoThread, Source, Disks, Failed, Undecided, Unlinked, Names}
+use Rattle.cfarm_build_faults.specs.Names.{fault_name, journal_name, link_name}
+use Rattle.cfarm_build_faults.specs.declared.error.BuildError.{BuildError}
+use Rattle.cfarm_build_faults.specs.declared.error.BuildError.TheVariants.{NoMemory, NoThread, Source, Disks, Failed, Undecided, Unlinked, Names}
 
 -- a fault of a node, by its number and its name; want of memory is told as such
 abbrev pub node_line : ℕ → List ℕ → ℕ → List ℕ

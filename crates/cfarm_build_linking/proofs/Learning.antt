@@ -1,6 +1,6 @@
 -- Where all four offers of a function are learned and seen, and where of all functions.
-use Rattle.std.proofs.Common.{◌≡◌, ◌≢◌, ℕ, zero, suc, ◌+◌, ◌<◌, ◌≤◌, List, map, length, get_or, Bool, true, false, Option, Some, None, refl, sym, ap, subst, ◌∙◌, arith, inl, inr}
-use Rattle.std.specs.Prelude.{slice_get, option_map, IsSome}
+use Rattle.std.proofs.Common.{◌≡◌, ◌≢◌, ℕ, zero, suc, ◌+◌, ◌<◌, ◌≤◌, List, map, length, get_or, take, [], ◌∷◌, cond, Bool, true, false, Option, Some, None, refl, sym, ap, subst, ◌∙◌, arith, inl, inr}
+use Rattle.std.specs.Prelude.{slice_get, option_map, is_some, count_by, IsSome}
 use Rattle.std.proofs.lemmas.Bool.{cases_eq}
 use Rattle.std.proofs.lemmas.Option.{slice_get-get_or, slice_get-map, slice_get_within}
 use Rattle.rooms.specs.SeatValue.{SeatValue}
@@ -75,3 +75,17 @@ all_decided learned n end none is =
 pub some_at : (learned : List (Option FourOffers)) (n : ℕ) (o : Option FourOffers) → (IsUndecided learned → ⊥) → slice_get learned n ≡ Some o → IsSome o
 some_at learned n None decided here = absurd (decided (record { function = n; wanting = here }))
 some_at learned n (Some x) decided here = refl
+
+-- two tests of one thing
+pub same_test : (r b : Bool) → (r ≡ true → b ≡ true) → (b ≡ true → r ≡ true) → r ≡ b
+same_test true b there back = sym (there refl)
+same_test false true there back = back refl
+same_test false false there back = refl
+
+-- one function more is counted, where it is linked
+pub one_more : {S T : Type 0} (v : S → Option T) (seats : List S) (n : ℕ) (s : S) → n < length seats → s ≡ get_or seats n s
+    → count_by is_some (map v (take (suc n) seats)) ≡ count_by is_some (map v (take n seats)) + cond (is_some (v s)) 1 0
+one_more v [] n s within is = absurd (omega (arith, within))
+one_more v (y ∷ seats) zero s within is =
+    let same : cond (is_some (v s)) 1 0 ≡ cond (is_some (v y)) 1 0 = ap (λ t. cond (is_some (v t)) 1 0) is in omega (arith, same)
+one_more v (y ∷ seats) (suc n) s within is = let more = one_more v seats n s (omega (arith, within)) is in omega (arith, more)

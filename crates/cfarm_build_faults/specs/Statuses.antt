@@ -7,8 +7,8 @@ use Rattle.farm_nodes_opened.specs.declared.fault.OpenFault.{OpenFault}
 use Rattle.farm_nodes_offers.specs.declared.halt.Fault.{Fault}
 use Rattle.farm_nodes_offers.specs.Halted as halts
 use Rattle.farm_nodes.specs.Numbers.{disks_number_of}
-use Rattle.cfarm_build.specs.declared.error.BuildError.{BuildError}
-use Rattle.cfarm_build.specs.declared.error.BuildError.TheVariants.{NoMemory, NoThread, Source, Disks, Failed, Undecided, Unlinked, Names}
+use Rattle.cfarm_build_faults.specs.declared.error.BuildError.{BuildError}
+use Rattle.cfarm_build_faults.specs.declared.error.BuildError.TheVariants.{NoMemory, NoThread, Source, Disks, Failed, Undecided, Unlinked, Names}
 
 -- 7 for the number of want of memory, this one for others
 abbrev pub unless_memory : ℕ → ℕ → ℕ

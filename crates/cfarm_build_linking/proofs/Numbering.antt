@@ -6,7 +6,7 @@ use Rattle.std.proofs.lemmas.Option.{slice_get_within}
 use Rattle.rooms_hall.specs.declared.hall.Naming as naming
 use Rattle.farm_nodes_passes.specs.declared.seats.Seats.{Seats}
 use Rattle.cfarm_report.specs.declared.function.FunctionRooms.{FunctionRooms}
-use Rattle.cfarm_build.specs.Told.{AreTold, IsTold}
+use Rattle.cfarm_build_linking.specs.Told.{AreTold, IsTold}
 
 -- one behind the others
 front : {A : Type 0} (xs : List A) (x y : A) (k : ℕ) → k < length xs → slice_get (xs ++ x ∷ []) k ≡ Some y → slice_get xs k ≡ Some y

@@ -1,5 +1,5 @@
 ghost use Rattle.std.specs.Prelude.{◌≡◌};
-ghost use Rattle.cfarm_build.specs.Statuses.{disks_status_of, failed_status_of, source_status_of, status_of};
+ghost use Rattle.cfarm_build_faults.specs.Statuses.{disks_status_of, failed_status_of, source_status_of, status_of};
 
 use farm_nodes::{FarmError, OpenFault, SourceFault};
 use farm_nodes_offers::Fault;

@@ -1,7 +1,7 @@
 use Rattle.std.proofs.Common.{take}
 use Rattle.std.specs.List.{AllByRecursion}
 use Rattle.farm_nodes_linked.specs.Learned.{learned_by, IsUndecided}
-use Rattle.cfarm_build.proofs.linking.all_link.Given as goal
+use Rattle.cfarm_build_linking.proofs.linking.all_link.Given as goal
 
 -- the first nodes link all functions
 abbrev pub invariant-loop-number : goal.invariant-loop-number

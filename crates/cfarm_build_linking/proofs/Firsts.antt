@@ -5,12 +5,11 @@ use Rattle.std.specs.String.{string_bytes}
 use Rattle.rooms_hall.specs.declared.hall.Naming as naming
 use Rattle.farm_nodes_passes.specs.declared.seats.Seats.{Seats}
 use Rattle.farm_nodes_source.specs.declared.source.Source.{Source}
-use Rattle.cfarm_build.specs.Built.{AllDecided, IsBuiltBy, IsLinkedBy, IsReportOf}
-use Rattle.cfarm_build.specs.Nodes.{Node}
-use Rattle.cfarm_build.specs.Refused.{IsRefusedBy, IsUnlinkedBy}
-use Rattle.cfarm_build.specs.declared.built.Built.{Built}
-use Rattle.cfarm_build.specs.declared.error.BuildError.{BuildError}
-use Rattle.cfarm_build.specs.declared.error.BuildError.TheVariants.{NoMemory, NoThread, Source as TextFault, Disks, Failed, Undecided, Unlinked, Names}
+use Rattle.cfarm_build_linking.specs.Built.{AllDecided}
+use Rattle.cfarm_build_linking.specs.Node.{Node}
+use Rattle.cfarm_build_linking.specs.Refused.{IsRefusedBy, IsUnlinkedBy}
+use Rattle.cfarm_build_faults.specs.declared.error.BuildError.{BuildError}
+use Rattle.cfarm_build_faults.specs.declared.error.BuildError.TheVariants.{NoMemory, NoThread, Source as TextFault, Disks, Failed, Undecided, Unlinked, Names}
 
 module _ {D : Type 0} {H : Type 0} {h : naming.Ghosts H} (source : Source) (nodes : List (Node D H h)) (node : Node D H h)
     (decided : AllDecided nodes) (first : slice_get nodes 0 ≡ Some node) where

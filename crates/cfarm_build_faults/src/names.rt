@@ -1,7 +1,7 @@
 //! The names that a user is shown beside the numbers of faults.
 
 ghost use Rattle.std.specs.Prelude.{◌≡◌};
-ghost use Rattle.cfarm_build.specs.Names.{fault_name, journal_name, link_name};
+ghost use Rattle.cfarm_build_faults.specs.Names.{fault_name, journal_name, link_name};
 
 use acceptor_log_form::LogError;
 use farm_nodes_offers::Fault;

@@ -1,0 +1,4 @@
+mod Firsts
+mod Learning
+mod Numbering
+mod Refusing

@@ -1,0 +1,4 @@
+pub mod Built
+pub mod Node
+pub mod Refused
+pub mod Told

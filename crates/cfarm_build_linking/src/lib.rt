@@ -1,0 +1,12 @@
+//! What nodes make that took their turns and have met: the bytes of the program that the first of them links, and the report of what it
+//! has learned, where each of them links all functions.
+#![tactic(auto)]
+
+mod built;
+mod linking;
+mod numbers;
+mod writing;
+
+pub use built::Built;
+pub use linking::built_by;
+pub use numbers::linked_functions;
