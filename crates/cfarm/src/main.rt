@@ -1,12 +1,19 @@
-//! `cfarm`: a farm of compiler nodes in one process. `main` hands the words of the command line, the files and the standard
-//! streams to [`cfarm_program::run`].
+//! `cfarm`: a farm of C compiler nodes in one process. `main` hands the words of the command line, the files, the hall of the rooms
+//! and the standard streams to [`cfarm_program::run`].
 #![tactic(auto)]
 
-ghost use Rattle.std.specs.Prelude.{◌≤◌};
+ghost use Rattle.std.specs.Prelude.{◌≡◌, ◌≤◌};
 
-use cfarm_program::{HostFiles, run, tell_no_memory, tell_no_text};
-use std::io::{BufWriter, ErrorKind};
+mod screen;
+
+use crate::screen::Screen;
+use cfarm_files::HostFiles;
+use cfarm_program::{run, tell_no_memory, tell_no_text};
+use rooms_hall::{Naming, Opened};
+use std::io::{BufWriter, ErrorKind, Write};
+use std::marker::Brand;
 use std::process::ExitCode;
+use std::sync::Wait;
 use std::thread::Threads;
 use std::{env, io};
 
@@ -15,12 +22,40 @@ fn words_of(rt: &HostRuntime) -> io::Result<Vec<String>> {
     Ok(env::args(rt)?.collect(rt.alloc())?)
 }
 
-/// Runs the program on the real files and streams, and on threads where it takes them. The output is kept until it is flushed, or much
-/// of it is there.
-fn run_here<R: Threads + Sync>(rt: &HostRuntime, threads: &R) -> u8
+/// Runs the program in the hall, under its name. The output is kept until it is flushed, or much of it is there.
+fn run_in<H: Naming + Send, R: Threads + Wait + Sync, E: Write>(
+    rt: &HostRuntime,
+    threads: &R,
+    opened: Opened,
+    words: &[String],
+    err: &mut E,
+) -> u8
+    requires hall { opened ≡ H.hall }
     ensures table { result ≤ 7 }
 {
     let alloc = rt.alloc();
+    let hall = opened.named::<H>();
+    let mut files = HostFiles(rt);
+    let mut screen = Screen::over(rt);
+    match BufWriter::new(alloc, io::writer(rt)) {
+        Ok(mut out) => run(
+            threads,
+            alloc,
+            &hall,
+            words,
+            &mut files,
+            &mut screen,
+            &mut out,
+            err,
+        ),
+        Err(_) => tell_no_memory(err),
+    }
+}
+
+/// Runs the program on the real files and streams, and on threads where it takes them.
+fn run_here<R: Threads + Wait + Sync>(rt: &HostRuntime, threads: &R) -> u8
+    ensures table { result ≤ 7 }
+{
     let standard_error = rt.stderr();
     let mut err = io::writer(&standard_error);
     let words = match words_of(rt) {
@@ -28,8 +63,8 @@ fn run_here<R: Threads + Sync>(rt: &HostRuntime, threads: &R) -> u8
         Err(fault) if fault.kind() == ErrorKind::InvalidData => return tell_no_text(&mut err),
         Err(_) => return tell_no_memory(&mut err),
     };
-    match BufWriter::new(alloc, io::writer(rt)) {
-        Ok(mut out) => run(threads, alloc, &words, &HostFiles(rt), &mut out, &mut err),
+    match Opened::new(rt.alloc()) {
+        Ok(opened) => run_in::<Brand, R, _>(rt, threads, opened, &words, &mut err),
         Err(_) => tell_no_memory(&mut err),
     }
 }

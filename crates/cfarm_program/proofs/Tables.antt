@@ -1,5 +1,5 @@
 -- Each status of the commands is at most 7.
-use Rattle.std.specs.Prelude.{ℕ, ◌≤◌, ◌==◌, Bool, true, false, if◌then◌else◌}
+use Rattle.std.specs.Prelude.{ℕ, zero, suc, ◌≤◌, ◌==◌, Bool, true, false, if◌then◌else◌}
 use Rattle.std.proofs.Common.{arith}
 use Rattle.lang_base.specs.declared.errors.FormError.TheVariants as F
 use Rattle.lang_base.specs.declared.shown.Shown.{Shown}
@@ -16,6 +16,14 @@ use Rattle.cfarm_commands.specs.SettleStatuses as settle
 use Rattle.cfarm_schedules.specs.Lines as schedule
 use Rattle.cfarm_schedules.specs.declared.error.ScheduleError.{ScheduleError}
 use Rattle.cfarm_schedules.specs.declared.error.ScheduleError.TheVariants as P
+use Rattle.cfarm_build_faults.specs.Statuses.{unless_memory}
+use Rattle.cfarm_build_faults.specs.declared.error.BuildError.TheVariants as B
+use Rattle.cfarm_building.specs.Answers as building
+use Rattle.cfarm_building.specs.declared.error.BuildingError.{BuildingError}
+use Rattle.cfarm_building.specs.declared.error.BuildingError.TheVariants as G
+use Rattle.farm_nodes.specs.Numbers.{disks_number_of}
+use Rattle.farm_nodes_offers.specs.Halted as halts
+use Rattle.farm_nodes_source.specs.Told as texts
 use Rattle.cfarm_commands.specs.declared.settle_error.SettleError.{SettleError}
 use Rattle.cfarm_commands.specs.declared.settle_error.SettleError.TheVariants as T
 
@@ -52,3 +60,20 @@ pub schedule_in_table : (e : ScheduleError) → schedule.status_of e ≤ 7
 schedule_in_table P.NoMemory = omega arith
 schedule_in_table (P.Schedule line) = omega arith
 schedule_in_table P.Write = omega arith
+
+unless : (n status : ℕ) → status ≤ 7 → unless_memory n status ≤ 7
+unless zero status small = small
+unless (suc zero) status small = omega arith
+unless (suc (suc n)) status small = small
+
+pub building_in_table : (e : BuildingError) → building.status_of e ≤ 7
+building_in_table (G.Build B.NoMemory) = omega arith
+building_in_table (G.Build B.NoThread) = omega arith
+building_in_table (G.Build (B.Source fault)) = unless (texts.number_of fault) 1 (omega arith)
+building_in_table (G.Build (B.Disks fault)) = unless (disks_number_of fault) 4 (omega arith)
+building_in_table (G.Build (B.Failed node fault)) = unless (halts.number_of fault) 4 (omega arith)
+building_in_table (G.Build B.Undecided) = omega arith
+building_in_table (G.Build (B.Unlinked fault name)) = omega arith
+building_in_table (G.Build B.Names) = omega arith
+building_in_table (G.File path) = omega arith
+building_in_table G.Write = omega arith

@@ -1,5 +1,3 @@
-pub mod Words
-pub mod Reading
 pub mod Telling
 pub mod Outcomes
 pub mod Performed

@@ -18,6 +18,13 @@ use Rattle.cfarm_commands.specs.SettleStatuses as settle_status
 use Rattle.cfarm_schedules.specs.declared.error.ScheduleError.{ScheduleError}
 use Rattle.cfarm_schedules.specs.Lines as schedule
 use Rattle.cfarm_schedules.specs.Plays.{IsShown, IsStopped}
+use Rattle.durable_model.specs.declared.disk.Disk as disks
+use Rattle.rooms_hall.specs.declared.hall.Naming as naming
+use Rattle.cfarm_files.specs.Placing.{Placed}
+use Rattle.cfarm_building.specs.Answers as building
+use Rattle.cfarm_building.specs.Done.{HasBuilt, IsNotBuilt}
+use Rattle.cfarm_building.specs.declared.error.BuildingError.{BuildingError}
+use Rattle.cfarm_options.specs.declared.options.BuildOptions.{BuildOptions}
 use Rattle.cfarm_program.specs.Telling.{Answer, quiet, told}
 
 -- the answer after a run, and after each command that is not done
@@ -36,6 +43,9 @@ settle_fault fault = told (settle_status.status_of fault) (settle_line fault)
 abbrev pub schedule_fault : ScheduleError → Answer
 schedule_fault fault = told (schedule.status_of fault) (schedule.schedule_line fault)
 
+abbrev pub building_fault : BuildingError → Answer
+building_fault fault = told (building.status_of fault) (building.building_line fault)
+
 -- `check`: an accepted text's counts are printed, or its first fault is told
 abbrev pub Checked : List ℕ → Answer → Option (List ℕ) → Option (List ℕ) → Type 0
 Checked bytes answer before after =
@@ -47,6 +57,13 @@ abbrev pub Interpreted : List ℕ → ℕ → Answer → Option (List ℕ) → O
 Interpreted bytes depth answer before after =
     ((shown : Shown) × text.HasRun bytes depth shown before after × (answer ≡ closed shown))
     ⊎ ((fault : CommandError) × text.IsTold bytes fault × text.Ran bytes depth fault before after × (answer ≡ text_fault fault))
+
+-- `build`: what a farm links of the text is put in its file and the report printed, or why not is told
+abbrev pub Builds : {D : Type 0} → disks.Ghosts D → {H : Type 0} → naming.Ghosts H → (List ℕ → D → Type 0) →
+    (placed now_placed : Option (List Placed)) → BuildOptions → List ℕ → Answer → (before after : Option (List ℕ)) → Type 0
+Builds disk h may_give placed now_placed options bytes answer before after =
+    (HasBuilt disk h may_give options bytes placed now_placed before after × (answer ≡ quiet))
+    ⊎ ((fault : BuildingError) × IsNotBuilt disk h may_give options bytes placed now_placed fault before after × (answer ≡ building_fault fault))
 
 -- `exec`: what the program of Linear that the bytes spell does within the bound is written and told, or why there is none
 abbrev pub Executed : List ℕ → ℕ → Answer → Option (List ℕ) → Option (List ℕ) → Type 0

@@ -2,15 +2,20 @@
 
 ghost use Rattle.std.specs.Prelude.{◌≤◌};
 ghost use Rattle.cfarm_program.specs.Telling.{Answer, IsTold};
-ghost use Rattle.cfarm_program.specs.Outcomes.{Checked, Executed, Interpreted, Settled, Simulated};
+ghost use Rattle.cfarm_program.specs.Outcomes.{Builds, Checked, Executed, Interpreted, Settled, Simulated};
 ghost use Rattle.cfarm_program.specs.Performed.{Performs};
 
-use crate::task::Task;
 use crate::telling::tell;
+use cfarm_building::{Meter, build_text};
 use cfarm_commands::{Closing, check_text, exec, interpret, settle, status_of};
+use cfarm_files::Files;
+use cfarm_options::BuildOptions;
 use cfarm_schedules::simulate;
+use cfarm_words::Task;
+use rooms_hall::{Hall, Naming};
 use std::alloc::Global;
 use std::io::Write;
+use std::sync::Wait;
 use std::thread::Threads;
 
 #[tactic(auto, using(crate::proofs::Tables::error_in_table))]
@@ -91,23 +96,60 @@ fn play<W: Write, E: Write>(alloc: Global, schedule: &[u8], out: &mut W, err: &m
     }
 }
 
-/// Does the task on the bytes of its file: writes the output, tells a line on standard error where there is one, and
-/// gives the exit status. `rt` starts the threads of the nodes that settle.
-pub(crate) fn perform<R: Threads + Sync, W: Write, E: Write>(
+#[tactic(auto, using(crate::proofs::Tables::building_in_table))]
+fn build<H: Naming + Send, R: Threads + Wait + Sync, F: Files, M: Meter, W: Write, E: Write>(
     rt: &R,
     alloc: Global,
-    task: Task,
-    bytes: &[u8],
+    hall: &Hall<H>,
+    options: BuildOptions<'_>,
+    text: &[u8],
+    files: &mut F,
+    meter: &mut M,
     out: &mut W,
     err: &mut E,
 ) -> u8
-    ensures does { Performs task bytes.now result (W.contents out.old) (W.contents out.new)
-        (E.contents err.old) (E.contents err.new) }
+    ensures does { (answer : Answer) × Builds F.Disk.Disk H.Naming (F.may_give files.old) (F.placed files.old)
+        (F.placed files.new) options text.now answer (W.contents out.old) (W.contents out.new)
+        × IsTold answer result (E.contents err.old) (E.contents err.new) }
+    ensures table { result ≤ 7 }
+{
+    match build_text(rt, alloc, hall, text, options, files, meter, out) {
+        Ok(()) => 0,
+        Err(fault) => {
+            let status = fault.status();
+            tell(err, fault, status)
+        }
+    }
+}
+
+/// Does the task on the bytes of its file: writes the output, tells a line on standard error where there is one, and
+/// gives the exit status. `rt` starts the threads of the nodes that settle or build, and `hall` gives the rooms of a build their numbers.
+pub(crate) fn perform<
+    H: Naming + Send,
+    R: Threads + Wait + Sync,
+    F: Files,
+    M: Meter,
+    W: Write,
+    E: Write,
+>(
+    rt: &R,
+    alloc: Global,
+    hall: &Hall<H>,
+    task: Task<'_>,
+    bytes: &[u8],
+    files: &mut F,
+    meter: &mut M,
+    out: &mut W,
+    err: &mut E,
+) -> u8
+    ensures does { Performs F.Disk.Disk H.Naming (F.may_give files.old) (F.placed files.old) (F.placed files.new)
+        task bytes.now result (W.contents out.old) (W.contents out.new) (E.contents err.old) (E.contents err.new) }
     ensures table { result ≤ 7 }
 {
     match task {
         Task::Check => check(alloc, bytes, out, err),
         Task::Interpret(depth) => run_text(alloc, bytes, depth, out, err),
+        Task::Build(options) => build(rt, alloc, hall, options, bytes, files, meter, out, err),
         Task::Exec(limit) => run_bytes(alloc, bytes, limit, out, err),
         Task::Settle => lay_out(rt, alloc, bytes, out, err),
         Task::Simulate => play(alloc, bytes, out, err),

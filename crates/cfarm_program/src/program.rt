@@ -4,14 +4,18 @@ ghost use Rattle.std.specs.Prelude.{◌≡◌, ◌≢◌, ◌≤◌, ◌⊎◌, 
 ghost use Rattle.clap.specs.Words.{kind_of};
 ghost use Rattle.cfarm_program.specs.Telling.{IsTold, no_memory};
 ghost use Rattle.cfarm_program.specs.Runs.{IsHelped, Runs, no_text};
+ghost use Rattle.cfarm_words.specs.Words.{AreCounts, Counts};
 
-use crate::command_line::asked_for;
-use crate::files::Files;
 use crate::running::run_task;
 use crate::telling::{UNWRITTEN, tell, tell_no_memory};
+use cfarm_building::Meter;
+use cfarm_files::Files;
+use cfarm_words::asked_for;
 use clap::error::ErrorKind;
+use rooms_hall::{Hall, Naming};
 use std::alloc::Global;
 use std::io::Write;
+use std::sync::Wait;
 use std::thread::Threads;
 
 /// The status for the command line.
@@ -56,22 +60,36 @@ fn tell_refused<W: Write, E: Write>(fault: &clap::Error, out: &mut W, err: &mut 
     }
 }
 
+/// The numbers of nodes that a farm can have.
+fn node_counts<'a>() -> &'a [&'a str]
+    ensures { AreCounts result }
+{
+    &["3", "5", "7"]
+}
+
 /// Does what the words of a command line ask for, the first of which is the program's name: reads the file, writes the
-/// output, tells a line on standard error where there is one, and gives the exit status. `rt` starts threads for `settle`.
-pub fn run<R: Threads + Sync, F: Files, W: Write, E: Write>(
+/// output, tells a line on standard error where there is one, and gives the exit status. `rt` starts threads for `settle` and `build`,
+/// `hall` gives the rooms of a build their numbers, and `meter` shows how far it is.
+pub fn run<H: Naming + Send, R: Threads + Wait + Sync, F: Files, M: Meter, W: Write, E: Write>(
     rt: &R,
     alloc: Global,
+    hall: &Hall<H>,
     words: &[String],
-    files: &F,
+    files: &mut F,
+    meter: &mut M,
     out: &mut W,
     err: &mut E,
 ) -> u8
-    ensures does { Runs (map string_bytes words.now) (F.known files.now) result (W.contents out.old) (W.contents out.new)
-        (E.contents err.old) (E.contents err.new) }
+    ensures does { (counts : Counts) × AreCounts counts × Runs F.Disk.Disk H.Naming (F.may_give files.old)
+        (F.placed files.old) (F.placed files.new) counts (map string_bytes words.now) (F.known files.old) result
+        (W.contents out.old) (W.contents out.new) (E.contents err.old) (E.contents err.new) }
     ensures table { result ≤ 7 }
 {
-    match asked_for(alloc, words) {
-        Ok(Some(asked)) => run_task(rt, alloc, asked.task, asked.path, files, out, err),
+    let counts = node_counts();
+    match asked_for(alloc, words, counts) {
+        Ok(Some(asked)) => run_task(
+            rt, alloc, hall, asked.task, asked.path, files, meter, out, err,
+        ),
         Ok(None) => MISTAKEN,
         Err(fault) => tell_refused(&fault, out, err),
     }

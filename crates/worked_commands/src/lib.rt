@@ -3,20 +3,34 @@
 //!
 //! | Question | Answer |
 //! |---|---|
-//! | `run WORDS < TEXT` | the status, the output and standard error, each in quotes |
+//! | `run WORDS < TEXT` | the status, the output and standard error, each in quotes; where a file was put its path, and the same of `exec --limit 1000` on it |
 //! | `interrupted WORDS < TEXT` | the same, where a signal interrupts every other write |
 //! | `failing WORDS < TEXT` | the bytes of the output and of standard error, where the program answers 4 with a writer that fails at any of them |
 //! | `unflushed WORDS < TEXT`, `untold WORDS < TEXT` | the same as `run`, where the output, or standard error, cannot be flushed |
+//! | `linked WORDS < TEXT` | the same as `run`, without what the program does that was put |
 //! | `here WORDS` | the same as `run`, with the files of the machine |
+//! | `twice FOLDER WORDS` | the same, of a build in the folder, and the same of `exec --limit 1000` on its `linked.cfp`; and `same` where a second build answers the same and leaves the same file |
 //!
 //! The words have blanks between; `''` is an empty one. The file `f` has the text, for `big` there is no memory, and no
-//! other can be read. A text that begins with `%` is in hex. An end of line is shown as `\n`; of a text that goes on behind an
-//! empty line only what stands before that is shown, with `..` behind it.
+//! other can be read. A text that begins with `%` is in hex; in another a number and a text between
+//! backquotes stand for so many copies of it. An end of line is shown as `\n`; of a text that goes on behind an
+//! empty line only what stands before that is shown, with `..` behind it. In a report `v` is shown for a number of a node, and `H` for the
+//! SHA-256 of the file that was put; of a program that was put and is still running, one byte that it writes again and again is shown once.
+//!
+//! Journals are disks in memory, which are empty in most folders. The folder `missing` has none, and `behind` not that of node 1; there is
+//! no memory for those in `scarce`. They fail at the first call in `broken`, and after the twelfth in `worn`. In a folder whose name is `%`
+//! and hex digits each holds these bytes. No file can be put in `full`, and for one in `tight` there is no memory.
 #![tactic(auto)]
 
+mod failing;
+mod given;
 mod held;
+mod machine;
+mod masked;
+mod quiet;
 mod rows;
 mod runs;
 mod shown;
+mod texts;
 
 pub use rows::tell;

@@ -1,91 +1,75 @@
 //! The questions.
 
+ghost use Rattle.std.specs.Prelude.{◌≡◌};
+
+use crate::failing::failing;
 use crate::held::Held;
-use crate::runs::{Given, answer, failing, words_of};
-use cfarm_program::HostFiles;
-use program_rows::{agrees, bytes_of, parts_of_row};
-use std::alloc::Global;
+use crate::machine::{answer_here, answer_twice};
+use crate::runs::{Here, answer, linked, words_of};
+use crate::texts::text_of;
+use program_rows::{agrees, parts_of_row};
+use rooms_hall::{Naming, Opened};
+use std::marker::Brand;
+use std::sync::Wait;
 use std::thread::Threads;
 use std::{fs, io};
 
 /// The file of the rows.
 const NAME: &str = "commands.txt";
 
-/// The bytes of a text, which is in hex behind `%`.
-fn text_of(alloc: Global, text: &str) -> Option<Vec<u8>> {
-    match text.strip_prefix("%") {
-        Some(digits) => bytes_of(alloc, digits),
-        None => text.as_bytes().to_vec(alloc).ok(),
-    }
-}
-
 /// The answer about a command line and the text of its file.
-fn told<R: Threads + Sync>(
-    threads: &R,
-    alloc: Global,
+fn told<H: Naming + Send, R: Threads + Wait + Sync>(
+    here: &Here<'_, H, R>,
     kind: &str,
     line: &str,
     text: &str,
 ) -> Option<String> {
+    let alloc = here.alloc;
     let words = words_of(alloc, line)?;
     let text = text_of(alloc, text)?;
-    let files = Given { alloc, text: &text };
-    match kind {
-        "run" => answer(
-            threads,
-            alloc,
-            &words,
-            &files,
-            Held::ample(alloc),
-            Held::ample(alloc),
-        ),
-        "interrupted" => {
-            let (out, err) = (Held::with_signals(alloc), Held::with_signals(alloc));
-            answer(threads, alloc, &words, &files, out, err)
-        }
-        "unflushed" => answer(
-            threads,
-            alloc,
-            &words,
-            &files,
-            Held::stuck(alloc),
-            Held::ample(alloc),
-        ),
-        "untold" => answer(
-            threads,
-            alloc,
-            &words,
-            &files,
-            Held::ample(alloc),
-            Held::stuck(alloc),
-        ),
-        "failing" => failing(threads, alloc, &words, &files),
-        _ => None,
-    }
+    let (out, err) = match kind {
+        "run" => (Held::ample(alloc), Held::ample(alloc)),
+        "interrupted" => (Held::with_signals(alloc), Held::with_signals(alloc)),
+        "unflushed" => (Held::stuck(alloc), Held::ample(alloc)),
+        "untold" => (Held::ample(alloc), Held::stuck(alloc)),
+        "failing" => return failing(here, &words, &text),
+        "linked" => return linked(here, &words, &text),
+        _ => return None,
+    };
+    answer(here, &words, &text, out, err)
 }
 
 /// The answer to any question. Some are about the files of the machine.
-fn asked<R: Threads + Sync>(rt: &HostRuntime, threads: &R, question: &str) -> Option<String> {
-    let alloc = rt.alloc();
+fn asked<H: Naming + Send, R: Threads + Wait + Sync>(
+    rt: &HostRuntime,
+    here: &Here<'_, H, R>,
+    question: &str,
+) -> Option<String> {
     let (kind, rest) = question.split_once(' ').unwrap_or((question, ""));
-    if kind == "here" {
-        let words = words_of(alloc, rest)?;
-        let files = HostFiles(rt);
-        return answer(
-            threads,
-            alloc,
-            &words,
-            &files,
-            Held::ample(alloc),
-            Held::ample(alloc),
-        );
+    match kind {
+        "here" => answer_here(rt, here, rest),
+        "twice" => answer_twice(rt, here, rest),
+        _ => {
+            let (line, text) = rest.split_once(" <").unwrap_or((rest, ""));
+            told(here, kind, line, text.trim_start())
+        }
     }
-    let (line, text) = rest.split_once(" <").unwrap_or((rest, ""));
-    told(threads, alloc, kind, line, text.trim_start())
 }
 
-/// Asks for each row of the file that lies beside the program, and tells how many agree. Nodes that settle take threads.
-pub fn tell<R: Threads + Sync>(rt: &HostRuntime, threads: &R) -> io::Result<()> {
+/// The same in a hall, under its name.
+fn tell_in<H: Naming + Send, R: Threads + Wait + Sync>(
+    rt: &HostRuntime,
+    threads: &R,
+    opened: Opened,
+) -> io::Result<()>
+    requires hall { opened ≡ H.hall }
+{
+    let hall = opened.named::<H>();
+    let here = Here {
+        threads,
+        hall: &hall,
+        alloc: rt.alloc(),
+    };
     let text = fs::read_to_string(rt, NAME)?;
     let mut all = 0u64;
     let mut agree = 0u64;
@@ -95,10 +79,16 @@ pub fn tell<R: Threads + Sync>(rt: &HostRuntime, threads: &R) -> io::Result<()> 
         }
         all = all.saturating_add(1);
         let (question, _said) = parts_of_row(line);
-        let told = asked(rt, threads, question);
+        let told = asked(rt, &here, question);
         if agrees(rt, NAME, line, all, told)? {
             agree = agree.saturating_add(1);
         }
     }
     println!(rt; "{NAME}: {agree} of {all} agree")
+}
+
+/// Asks for each row of the file that lies beside the program, and tells how many agree. Nodes that settle or build take threads.
+pub fn tell<R: Threads + Wait + Sync>(rt: &HostRuntime, threads: &R) -> io::Result<()> {
+    let opened = Opened::new(rt.alloc())?;
+    tell_in::<Brand, R>(rt, threads, opened)
 }

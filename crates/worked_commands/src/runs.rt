@@ -1,29 +1,30 @@
 //! Runs of the program over files and writers in memory.
 
+use crate::given::Given;
 use crate::held::Held;
+use crate::masked::masked;
+use crate::quiet::Quiet;
 use crate::shown::shown;
-use cfarm_program::{FileFault, Files, run};
+use cfarm_files::Files;
+use cfarm_program::run;
+use rooms_hall::{Hall, Naming};
 use std::alloc::Global;
+use std::sync::Wait;
 use std::thread::Threads;
 
-/// The one file that can be read.
-#[derive(Drop)]
-pub struct Given<'a> {
+/// The threads and the hall of all runs.
+pub struct Here<'a, H: Naming, R> {
+    pub threads: &'a R,
+    pub hall: &'a Hall<H>,
     pub alloc: Global,
-    pub text: &'a [u8],
 }
 
-impl Files for Given<'_> {
-    fn read(&self, path: &str) -> Result<Vec<u8>, FileFault> {
-        match path {
-            "f" => match self.text.to_vec(self.alloc) {
-                Ok(bytes) => Ok(bytes),
-                Err(_) => Err(FileFault::NoMemory),
-            },
-            "big" => Err(FileFault::NoMemory),
-            _ => Err(FileFault::Unreadable),
-        }
-    }
+/// What a run came to.
+#[derive(Drop)]
+pub struct Ran {
+    pub status: u8,
+    pub out: Vec<u8>,
+    pub err: Vec<u8>,
 }
 
 /// The words of a command line, the program's name first.
@@ -40,77 +41,114 @@ pub fn words_of(alloc: Global, line: &str) -> Option<Vec<String>> {
     Some(words)
 }
 
-/// The status of a run, what it wrote and its standard error.
-pub fn answer<R: Threads + Sync, F: Files>(
-    threads: &R,
-    alloc: Global,
+/// Runs the program over these files, with these writers.
+pub fn ran<H: Naming + Send, R: Threads + Wait + Sync, F: Files>(
+    here: &Here<'_, H, R>,
     words: &[String],
-    files: &F,
+    files: &mut F,
     mut out: Held,
     mut err: Held,
-) -> Option<String> {
-    let status = run(threads, alloc, words, files, &mut out, &mut err);
-    let written = shown(alloc, &out.bytes)?;
-    let told = shown(alloc, &err.bytes)?;
-    format!(in alloc; "{status} {written} {told}").ok()
-}
-
-/// Whether a run answers 4 where the output can hold only so many bytes: these are written, and 701 is told.
-fn fails_at_output<R: Threads + Sync>(
-    threads: &R,
-    alloc: Global,
-    words: &[String],
-    files: &Given<'_>,
-    all: &[u8],
-    space: usize,
-) -> bool {
-    let mut out = Held::failing_at(alloc, space);
-    let mut err = Held::ample(alloc);
-    let status = run(threads, alloc, words, files, &mut out, &mut err);
-    status == 4
-        && out.bytes.len() == space
-        && all.starts_with(&out.bytes)
-        && err.bytes.as_slice() == b"write 701\n".as_slice()
-}
-
-/// Whether a run answers 4 where standard error can hold only so many bytes: these are told, and the output is whole.
-fn fails_at_error<R: Threads + Sync>(
-    threads: &R,
-    alloc: Global,
-    words: &[String],
-    files: &Given<'_>,
-    ample: (&[u8], &[u8]),
-    space: usize,
-) -> bool {
-    let mut out = Held::ample(alloc);
-    let mut err = Held::failing_at(alloc, space);
-    let status = run(threads, alloc, words, files, &mut out, &mut err);
-    status == 4
-        && out.bytes.as_slice() == ample.0
-        && err.bytes.len() == space
-        && ample.1.starts_with(&err.bytes)
-}
-
-/// At how many bytes of the output and of standard error a writer may fail, where the answer is then 4.
-pub fn failing<R: Threads + Sync>(
-    threads: &R,
-    alloc: Global,
-    words: &[String],
-    files: &Given<'_>,
-) -> Option<String> {
-    let mut out = Held::ample(alloc);
-    let mut err = Held::ample(alloc);
-    let _status = run(threads, alloc, words, files, &mut out, &mut err);
-    let (written, told) = (out.bytes.as_slice(), err.bytes.as_slice());
-    for space in 0..written.len() {
-        if !fails_at_output(threads, alloc, words, files, written, space) {
-            return format!(in alloc; "output at {space}").ok();
-        }
+) -> Ran {
+    let mut quiet = Quiet {
+        told: 0,
+        cleared: 0,
+    };
+    let status = run(
+        here.threads,
+        here.alloc,
+        here.hall,
+        words,
+        files,
+        &mut quiet,
+        &mut out,
+        &mut err,
+    );
+    Ran {
+        status,
+        out: out.bytes,
+        err: err.bytes,
     }
-    for space in 0..told.len() {
-        if !fails_at_error(threads, alloc, words, files, (written, told), space) {
-            return format!(in alloc; "error at {space}").ok();
-        }
+}
+
+/// The status of a run, what it wrote and its standard error. What was built is these bytes.
+pub fn told(alloc: Global, ran: &Ran, built: &[u8]) -> Option<String> {
+    let text = String::from_utf8_lossy(alloc, &ran.out).ok()?;
+    let written = shown(alloc, masked(alloc, &text, built)?.as_bytes())?;
+    let told = shown(alloc, &ran.err)?;
+    format!(in alloc; "{} {written} {told}", ran.status).ok()
+}
+
+/// The output of a run; of one that is broken off and writes one byte again and again, that byte once.
+fn folded(ran: &Ran) -> &[u8] {
+    let bytes = ran.out.as_slice();
+    let Some(first) = bytes.first() else {
+        return bytes;
+    };
+    if ran.status == 6 && bytes.iter().all(|byte| byte == first) {
+        &bytes[..1]
+    } else {
+        bytes
     }
-    format!(in alloc; "{} {}", written.len(), told.len()).ok()
+}
+
+/// What the program does that is in these bytes.
+pub fn executed<H: Naming + Send, R: Threads + Wait + Sync>(
+    here: &Here<'_, H, R>,
+    bytes: &[u8],
+) -> Option<String> {
+    let alloc = here.alloc;
+    let words = words_of(alloc, "exec f --limit 1000")?;
+    let mut files = Given::of(alloc, bytes);
+    let ran = ran(
+        here,
+        &words,
+        &mut files,
+        Held::ample(alloc),
+        Held::ample(alloc),
+    );
+    let written = shown(alloc, folded(&ran))?;
+    let told = shown(alloc, &ran.err)?;
+    format!(in alloc; "{} {written} {told}", ran.status).ok()
+}
+
+/// The status of a run, what it wrote and its standard error, and the file that it put.
+pub fn linked<H: Naming + Send, R: Threads + Wait + Sync>(
+    here: &Here<'_, H, R>,
+    words: &[String],
+    text: &[u8],
+) -> Option<String> {
+    let alloc = here.alloc;
+    let mut files = Given::of(alloc, text);
+    let ran = ran(
+        here,
+        words,
+        &mut files,
+        Held::ample(alloc),
+        Held::ample(alloc),
+    );
+    let put = files.put.first()?;
+    let told = told(alloc, &ran, &put.bytes)?;
+    format!(in alloc; "{told} {}", put.path).ok()
+}
+
+/// The same, and what the program in the file does that was put, if any was.
+pub fn answer<H: Naming + Send, R: Threads + Wait + Sync>(
+    here: &Here<'_, H, R>,
+    words: &[String],
+    text: &[u8],
+    out: Held,
+    err: Held,
+) -> Option<String> {
+    let alloc = here.alloc;
+    let mut files = Given::of(alloc, text);
+    let ran = ran(here, words, &mut files, out, err);
+    let Some(put) = files.put.first() else {
+        return told(alloc, &ran, &[]);
+    };
+    if files.put.len() > 1 {
+        return None;
+    }
+    let told = told(alloc, &ran, &put.bytes)?;
+    let does = executed(here, &put.bytes)?;
+    format!(in alloc; "{told} {} {does}", put.path).ok()
 }

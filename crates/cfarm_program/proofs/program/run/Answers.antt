@@ -1,25 +1,26 @@
 use Rattle.std.proofs.Common.{refl, inl, inr}
 use Rattle.clap.specs.Words.{kind_of}
+use Rattle.cfarm_program.proofs.Answering.{keeps_same}
 use Rattle.cfarm_program.proofs.program.run.Goals as goal
 
 pub returns-in-Ok-Some-clause-does : goal.returns-in-Ok-Some-clause-does
 returns-in-Ok-Some-clause-does g c =
     let asked = c.in-Ok-Some.asked in
     let asks = rw c.in-Ok-Some.field-0-is at c.in-Ok-Some.ensures.asks in
-    inl (asked.task, asked.path.now, asks, c.in-Ok-Some.ensures.right, c.run_task.ensures.does)
+    (c.node_counts.result, c.node_counts.ensures, inl (asked.task, asked.path.now, asks, c.in-Ok-Some.ensures.right, c.run_task.ensures.does))
 
 pub returns-in-Ok-None-clause-does : goal.returns-in-Ok-None-clause-does
 returns-in-Ok-None-clause-does g c =
     let nothing = rw c.in-Ok-None.field-0-is at c.in-Ok-None.ensures.none in
-    inr (inr (nothing refl, refl, refl, refl))
+    (c.node_counts.result, c.node_counts.ensures, inr (inr (keeps_same _, nothing refl, refl, refl, refl)))
 
 pub returns-in-Err-clause-does : goal.returns-in-Err-clause-does
 returns-in-Err-clause-does g c =
-    inr (inl (record {
+    (c.node_counts.result, c.node_counts.ensures, inr (inl (keeps_same _, record {
       kind = kind_of c.in-Err.fault;
       among = c.in-Err.ensures.right;
       only = c.in-Err.ensures.refused;
       memory = c.tell_refused.ensures.memory;
       mistake = c.tell_refused.ensures.mistake;
       help = c.tell_refused.ensures.help;
-    }))
+    })))

@@ -1,0 +1,3 @@
+mod Given
+mod Refusing
+mod Ready

@@ -1,0 +1,69 @@
+-- What is refused, step by step.
+use Rattle.std.proofs.Common.{◌≡◌, ◌⊎◌, ℕ, List, Option, refl, inl, inr, subst}
+use Rattle.durable_model.specs.declared.disk.Disk as disks
+use Rattle.rooms_hall.specs.declared.hall.Naming as naming
+use Rattle.farm_nodes_source.specs.Refused.{IsUnprepared}
+use Rattle.farm_nodes_source.specs.declared.source.Source.{Source}
+use Rattle.farm_nodes_source.specs.declared.fault.SourceFault.{SourceFault}
+use Rattle.farm_nodes.specs.Prepared.{IsSourceOf}
+use Rattle.cfarm_build.specs.Refused.{IsUnbuilt}
+use Rattle.cfarm_build_linking.specs.declared.built.Built.{Built}
+use Rattle.cfarm_build_faults.specs.declared.error.BuildError.{BuildError}
+use Rattle.cfarm_build_faults.specs.declared.error.BuildError.TheVariants.{NoMemory, NoThread, Source as TextFault, Disks, Failed, Undecided, Unlinked, Names}
+use Rattle.cfarm_files.specs.Placing.{Placed, Keeps}
+use Rattle.cfarm_options.specs.Counts.{count_of}
+use Rattle.cfarm_options.specs.Paths.{linked_path}
+use Rattle.cfarm_options.specs.declared.options.BuildOptions.{BuildOptions}
+use Rattle.cfarm_building.specs.Compiled.{HasNotBuilt, IsCompiled, IsUncompiled, OfSource, OverDisks}
+use Rattle.cfarm_building.specs.Disks.{AreGiven, HasNoDisk, IsRefusedAt}
+use Rattle.cfarm_building.specs.Done.{IsNotBuilt, IsRefused, IsUnplaced}
+use Rattle.cfarm_building.specs.declared.error.BuildingError.{BuildingError}
+use Rattle.cfarm_building.specs.declared.error.BuildingError.TheVariants.{Build, File, Write}
+
+module _ {D : Type 0} (disk : disks.Ghosts D) {H : Type 0} (h : naming.Ghosts H) (may_give : List ℕ → D → Type 0)
+    (options : BuildOptions) (text : List ℕ) where
+  -- the first journal that is refused
+  pub no_disk : (source : Source) → IsSourceOf text source → (e : BuildingError)
+      → HasNoDisk may_give options.folder.now (count_of options.nodes) e → IsUncompiled disk h may_give options text e
+  no_disk source is (Build NoMemory) none = tt
+  no_disk source is (Build NoThread) none = tt
+  no_disk source is (Build (TextFault f)) none = absurd none.refused
+  no_disk source is (Build (Disks f)) none = absurd none.refused
+  no_disk source is (Build (Failed n f)) none = absurd none.refused
+  no_disk source is (Build Undecided) none = absurd none.refused
+  no_disk source is (Build (Unlinked f name)) none = absurd none.refused
+  no_disk source is (Build Names) none = absurd none.refused
+  no_disk source is (File path) none = record { source = source; is = is; so = none }
+  no_disk source is Write none = absurd none.refused
+
+  -- what the farm refuses
+  pub not_built : (source : Source) → IsSourceOf text source → (given : List D)
+      → AreGiven may_give options.folder.now (count_of options.nodes) given → (e : BuildError)
+      → IsUnbuilt disk h options.seed source given e → IsUncompiled disk h may_give options text (Build e)
+  not_built source is given are NoMemory un = tt
+  not_built source is given are NoThread un = tt
+  not_built source is given are (TextFault f) un = absurd un
+  not_built source is given are (Disks f) un = record { source = source; is = is; so = record { given = given; are = are; so = un } }
+  not_built source is given are (Failed n f) un = record { source = source; is = is; so = record { given = given; are = are; so = un } }
+  not_built source is given are Undecided un = record { source = source; is = is; so = record { given = given; are = are; so = un } }
+  not_built source is given are (Unlinked f name) un = record { source = source; is = is; so = record { given = given; are = are; so = un } }
+  not_built source is given are Names un = record { source = source; is = is; so = record { given = given; are = are; so = un } }
+
+  -- the text is refused
+  pub unprepared : (e : SourceFault) → IsUnprepared text e → IsUncompiled disk h may_give options text (Build (TextFault e))
+  unprepared e un = un
+
+  module _ (placed now_placed : Option (List Placed)) (before after : Option (List ℕ)) where
+    -- nothing was put and nothing printed
+    pub not_compiled : (e : BuildingError) → IsUncompiled disk h may_give options text e → Keeps placed now_placed → after ≡ before
+        → IsNotBuilt disk h may_give options text placed now_placed e before after
+    not_compiled (Build f) un keeps same = record { why = inl un; put = keeps; printed = same }
+    not_compiled (File path) un keeps same = record { why = inl un; put = keeps; printed = same }
+    not_compiled Write un keeps same = absurd un
+
+    pub not_placed : (built : Built) → IsCompiled disk h may_give options text built → (e : BuildingError)
+        → IsRefusedAt (linked_path options.folder.now) e → Keeps placed now_placed → after ≡ before
+        → IsNotBuilt disk h may_give options text placed now_placed e before after
+    not_placed built compiled (Build f) un keeps same = record { why = inr (built, compiled, un); put = keeps; printed = same }
+    not_placed built compiled (File path) un keeps same = record { why = inr (built, compiled, un); put = keeps; printed = same }
+    not_placed built compiled Write un keeps same = absurd un

@@ -1,0 +1,52 @@
+-- What is built of a text by a farm over the journals of a folder.
+use Rattle.std.specs.Prelude.{ℕ, List}
+use Rattle.durable_model.specs.declared.disk.Disk as disks
+use Rattle.rooms_hall.specs.declared.hall.Naming as naming
+use Rattle.farm_nodes_source.specs.Refused.{IsUnprepared}
+use Rattle.farm_nodes_source.specs.declared.source.Source.{Source}
+use Rattle.farm_nodes.specs.Prepared.{IsSourceOf}
+use Rattle.cfarm_build.specs.Built.{IsBuilt}
+use Rattle.cfarm_build.specs.Refused.{IsUnbuilt}
+use Rattle.cfarm_build_linking.specs.declared.built.Built.{Built}
+use Rattle.cfarm_build_faults.specs.declared.error.BuildError.TheVariants.{NoMemory, NoThread, Source as TextFault, Disks, Failed, Undecided, Unlinked, Names}
+use Rattle.cfarm_build_faults.specs.declared.error.BuildError.{BuildError}
+use Rattle.cfarm_options.specs.Counts.{count_of}
+use Rattle.cfarm_building.specs.Disks.{AreGiven, HasNoDisk}
+use Rattle.cfarm_building.specs.declared.error.BuildingError.{BuildingError}
+use Rattle.cfarm_building.specs.declared.error.BuildingError.TheVariants.{Build, File, Write}
+use Rattle.cfarm_options.specs.declared.options.BuildOptions.{BuildOptions}
+
+module _ {D : Type 0} (disk : disks.Ghosts D) {H : Type 0} (h : naming.Ghosts H) (may_give : List ℕ → D → Type 0)
+    (options : BuildOptions) (text : List ℕ) where
+  -- the text was made ready, and so it is of what it was made
+  pub record OfSource (Is : Source → Type 0) : Type 0 where
+    pub source : Source
+    pub is : IsSourceOf text source
+    pub so : Is source
+
+  -- and so it is over the disks of the folder
+  pub record OverDisks (Is : List D → Type 0) : Type 0 where
+    pub given : List D
+    pub are : AreGiven may_give options.folder.now (count_of options.nodes) given
+    pub so : Is given
+
+  -- a farm builds it of the text over the disks of the folder, with the generators of the seed
+  abbrev pub IsCompiled : Built → Type 0
+  IsCompiled built = OfSource (λ source. OverDisks (λ given. IsBuilt disk h options.seed source given built))
+
+  -- it builds nothing over them
+  abbrev pub HasNotBuilt : BuildError → Type 0
+  HasNotBuilt fault = OfSource (λ source. OverDisks (λ given. IsUnbuilt disk h options.seed source given fault))
+
+  -- In this order: the text, the files, the farm. That memory or a thread was refused says nothing.
+  abbrev pub IsUncompiled : BuildingError → Type 0
+  IsUncompiled (Build NoMemory) = Unit {0}
+  IsUncompiled (Build NoThread) = Unit {0}
+  IsUncompiled (Build (TextFault fault)) = IsUnprepared text fault
+  IsUncompiled (Build (Disks fault)) = HasNotBuilt (Disks fault)
+  IsUncompiled (Build (Failed node fault)) = HasNotBuilt (Failed node fault)
+  IsUncompiled (Build Undecided) = HasNotBuilt Undecided
+  IsUncompiled (Build (Unlinked fault name)) = HasNotBuilt (Unlinked fault name)
+  IsUncompiled (Build Names) = HasNotBuilt Names
+  IsUncompiled (File path) = OfSource (λ source. HasNoDisk may_give options.folder.now (count_of options.nodes) (File path))
+  IsUncompiled Write = ⊥

@@ -1,0 +1,49 @@
+-- What a build does: what it puts, and what it prints.
+use Rattle.std.specs.Prelude.{◌≡◌, ◌⊎◌, ℕ, List, [], ◌∷◌, ◌++◌, Option}
+use Rattle.std.specs.Io.KnownBytes.{Appends}
+use Rattle.std.specs.String.{string_bytes}
+use Rattle.durable_model.specs.declared.disk.Disk as disks
+use Rattle.rooms_hall.specs.declared.hall.Naming as naming
+use Rattle.cfarm_build_linking.specs.declared.built.Built.{Built}
+use Rattle.cfarm_build_faults.specs.declared.error.BuildError.{BuildError}
+use Rattle.cfarm_files.specs.Placing.{Placed, Keeps, Places}
+use Rattle.cfarm_output.specs.Begun.{IsBegun}
+use Rattle.cfarm_building.specs.Compiled.{IsCompiled, IsUncompiled}
+use Rattle.cfarm_building.specs.Disks.{IsRefusedAt}
+use Rattle.cfarm_options.specs.Paths.{linked_path}
+use Rattle.cfarm_building.specs.declared.error.BuildingError.{BuildingError}
+use Rattle.cfarm_building.specs.declared.error.BuildingError.TheVariants.{Build, File, Write}
+use Rattle.cfarm_options.specs.declared.options.BuildOptions.{BuildOptions}
+
+-- the report, on a line
+abbrev pub report_line : Built → List ℕ
+report_line built = string_bytes built.report ++ 10 ∷ []
+
+module _ {D : Type 0} (disk : disks.Ghosts D) {H : Type 0} (h : naming.Ghosts H) (may_give : List ℕ → D → Type 0)
+    (options : BuildOptions) (text : List ℕ) (placed now_placed : Option (List Placed)) where
+  -- the program that a farm built of the text was put in its file, and so it is of what was built
+  pub record HasPut (Is : Built → Type 0) : Type 0 where
+    pub built : Built
+    pub compiled : IsCompiled disk h may_give options text built
+    pub put : Places placed now_placed (linked_path options.folder.now) built.program.items
+    pub so : Is built
+
+  -- and its report was printed
+  abbrev pub HasBuilt : (before after : Option (List ℕ)) → Type 0
+  HasBuilt before after = HasPut (λ built. Appends before after (report_line built))
+
+  -- what was built could not be put in its file
+  abbrev pub IsUnplaced : BuildingError → Type 0
+  IsUnplaced fault = (built : Built) × IsCompiled disk h may_give options text built × IsRefusedAt (linked_path options.folder.now) fault
+
+  -- nothing was put and nothing printed, for this
+  pub record IsRefused (fault : BuildingError) (before after : Option (List ℕ)) : Type 0 where
+    pub why : IsUncompiled disk h may_give options text fault ⊎ IsUnplaced fault
+    pub put : Keeps placed now_placed
+    pub printed : after ≡ before
+
+  -- In this order: what is not built, the file of the program, the output, of which a beginning may have been printed.
+  abbrev pub IsNotBuilt : BuildingError → (before after : Option (List ℕ)) → Type 0
+  IsNotBuilt (Build fault) before after = IsRefused (Build fault) before after
+  IsNotBuilt (File path) before after = IsRefused (File path) before after
+  IsNotBuilt Write before after = HasPut (λ built. IsBegun (report_line built) before after)

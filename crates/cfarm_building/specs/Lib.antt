@@ -1,0 +1,4 @@
+pub mod Answers
+pub mod Compiled
+pub mod Disks
+pub mod Done

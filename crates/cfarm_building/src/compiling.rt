@@ -1,0 +1,46 @@
+//! From a text and its journals to what is built.
+
+ghost use Rattle.std.specs.Prelude.{IfOk, IfErr};
+ghost use Rattle.cfarm_building.specs.Compiled.{IsCompiled, IsUncompiled};
+
+use crate::error::BuildingError;
+use crate::meter::Meter;
+use crate::opening::open_disks;
+use cfarm_build::{BuildError, Built, build};
+use cfarm_files::Files;
+use cfarm_options::BuildOptions;
+use farm_nodes::{Hall, Naming, Source, optimisers_of, prepare};
+use std::alloc::Global;
+use std::sync::Wait;
+use std::thread::Threads;
+
+/// What is built of a text by a farm over the journals of the folder. The text comes first, then the files, then the farm.
+pub(crate) fn compiled<H: Naming + Send, R: Threads + Wait + Sync, F: Files, M: Meter>(
+    rt: &R,
+    alloc: Global,
+    hall: &Hall<H>,
+    text: &[u8],
+    options: BuildOptions<'_>,
+    files: &F,
+    meter: &mut M,
+) -> Result<Built, BuildingError>
+    ensures built { IfOk result (IsCompiled F.Disk.Disk H.Naming (F.may_give files.now) options text.now) }
+    ensures refused { IfErr result (IsUncompiled F.Disk.Disk H.Naming (F.may_give files.now) options text.now) }
+{
+    let source = match prepare(alloc, text) {
+        Ok(source) => source,
+        Err(fault) => return Err(BuildingError::Build(BuildError::Source(fault))),
+    };
+    let disks = match open_disks(alloc, options, files) {
+        Ok(disks) => disks,
+        Err(fault) => return Err(fault),
+    };
+    let Ok(oracles) = optimisers_of(alloc, options.nodes.count()) else {
+        return Err(BuildingError::Build(BuildError::NoMemory));
+    };
+    let (turns, seed) = (u64::from(options.turns), options.seed);
+    match build(rt, alloc, hall, source, disks, oracles, turns, seed, meter) {
+        Ok(built) => Ok(built),
+        Err(fault) => Err(BuildingError::Build(fault)),
+    }
+}

@@ -1,0 +1,12 @@
+-- The files of a build, in its folder.
+use Rattle.std.specs.Prelude.{ℕ, List, ◌++◌, codes}
+use Rattle.std.specs.Fmt.{decimal}
+use Rattle.std.specs.Path.{path_join}
+
+-- the journal of a node
+abbrev pub journal_path : List ℕ → ℕ → List ℕ
+journal_path folder node = path_join folder (codes "node" ++ (decimal node ++ codes ".cfj"))
+
+-- the linked program
+abbrev pub linked_path : List ℕ → List ℕ
+linked_path folder = path_join folder (codes "linked.cfp")

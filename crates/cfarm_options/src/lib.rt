@@ -1,0 +1,8 @@
+//! What a build is asked for beside its text, and the files that it has in its folder.
+#![tactic(auto)]
+
+mod options;
+mod paths;
+
+pub use options::{BuildOptions, Nodes};
+pub use paths::{journal_path, linked_path};
