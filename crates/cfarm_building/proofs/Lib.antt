@@ -1,3 +1,2 @@
 mod Given
 mod Refusing
-mod Ready

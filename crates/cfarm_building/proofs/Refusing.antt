@@ -1,5 +1,16 @@
 -- What is refused, step by step.
-use Rattle.std.proofs.Common.{◌≡◌, ◌⊎◌, ℕ, List, Option, refl, inl, inr, subst}
+use Rattle.std.proofs.Common.{◌≡◌, ◌≤◌, ◌⊎◌, ℕ, List, Option, None, Some, length, refl, inl, inr, subst}
+use Rattle.std.specs.Arc.{arc_value}
+use Rattle.sha2.specs.Sha256.{sha256}
+use Rattle.lang_base.specs.Keeps.{Keeps as KeepsMeaning}
+use Rattle.c_syntax.specs.Trees.{UnitTree}
+use Rattle.c_program.specs.Meaning.{crun}
+use Rattle.c_checker_rules.specs.Checked.{program_tree}
+use Rattle.c_texts.specs.Accepted.{IsAccepted, IsProgramOf}
+use Rattle.cminor_lowering.specs.Programs.{low}
+use Rattle.cminor_program_ranges.specs.Names.{HaveNames}
+use Rattle.rtl_language.specs.Meaning as rtl
+use Rattle.rtlgen_definition.specs.Gen.{gen}
 use Rattle.durable_model.specs.declared.disk.Disk as disks
 use Rattle.rooms_hall.specs.declared.hall.Naming as naming
 use Rattle.farm_nodes_source.specs.Refused.{IsUnprepared}
@@ -19,6 +30,27 @@ use Rattle.cfarm_building.specs.Disks.{AreGiven, HasNoDisk, IsRefusedAt}
 use Rattle.cfarm_building.specs.Done.{IsNotBuilt, IsRefused, IsUnplaced}
 use Rattle.cfarm_building.specs.declared.error.BuildingError.{BuildingError}
 use Rattle.cfarm_building.specs.declared.error.BuildingError.TheVariants.{Build, File, Write}
+
+-- a text that was made ready
+pub ready : (text : List ℕ) (s : Source) → (u : UnitTree) × IsAccepted text u × IsProgramOf u s.program
+    → arc_value s.translated ≡ gen (low (program_tree s.program))
+    → KeepsMeaning (crun (program_tree s.program)) (rtl.run (arc_value s.translated)) → HaveNames (program_tree s.program)
+    → length (arc_value s.translated).functions ≤ 64 → s.digest ≡ sha256 text → IsSourceOf text s
+ready text s accepted translated keeps names count digest = record {
+  tree = accepted.0;
+  accepted = accepted.1;
+  program = accepted.2;
+  translated = translated;
+  keeps = keeps;
+  names = names;
+  count = count;
+  digest = digest;
+}
+
+-- what is known of the files is kept where nothing is put
+pub keeps_same : (o : Option (List Placed)) → Keeps o o
+keeps_same None = tt
+keeps_same (Some placed) = refl
 
 module _ {D : Type 0} (disk : disks.Ghosts D) {H : Type 0} (h : naming.Ghosts H) (may_give : List ℕ → D → Type 0)
     (options : BuildOptions) (text : List ℕ) where

@@ -1,21 +1,33 @@
 //! The whole command.
 
-ghost use Rattle.std.specs.Prelude.{OnOk, IfErr};
+ghost use Rattle.std.specs.Prelude.{◌≡◌, ◌++◌, ◌∷◌, [], OnOk, IfOk, IfErr};
+ghost use Rattle.std.specs.String.{string_bytes};
 ghost use Rattle.cfarm_building.specs.Done.{HasBuilt, IsNotBuilt};
 
 use crate::compiling::compiled;
 use crate::error::BuildingError;
 use crate::meter::Meter;
 use crate::placing::place;
-use cfarm_build::BuildError;
+use cfarm_build::{BuildError, Built};
 use cfarm_files::Files;
 use cfarm_options::BuildOptions;
 use cfarm_output::print_whole;
 use farm_nodes::{Hall, Naming};
-use std::alloc::Global;
+use std::alloc::{AllocError, Global};
 use std::io::Write;
 use std::sync::Wait;
 use std::thread::Threads;
+
+/// The report, with the end of the line.
+fn line_of(report: String) -> Result<String, AllocError>
+    ensures { IfOk result (λ line. string_bytes line ≡ string_bytes report ++ 10 ∷ []) }
+{
+    let mut line = report;
+    match line.push('\n') {
+        Ok(()) => Ok(line),
+        Err(fault) => Err(fault),
+    }
+}
 
 /// Builds a C text in the folder: the linked program is put in its file, and then the report is printed on one line and flushed. What
 /// is shown while the farm runs is taken away before.
@@ -30,27 +42,26 @@ pub fn build_text<H: Naming + Send, R: Threads + Wait + Sync, F: Files, M: Meter
     out: &mut W,
 ) -> Result<(), BuildingError>
     // Exactly one file is put, and its bytes are the text of a program that keeps the meaning of the C program. The report is printed.
-    ensures built { OnOk result (HasBuilt F.Disk.Disk H.Naming (F.may_give files.old) options text.now
+    ensures built { OnOk result (HasBuilt F.Disk.Disk H.Naming (F.may_give files.old) options.entry text.now
         (F.placed files.old) (F.placed files.new) (W.contents out.old) (W.contents out.new)) }
 
     // What is refused puts nothing and prints nothing. The output is the last that can be refused.
-    ensures refused { IfErr result (IsNotBuilt F.Disk.Disk H.Naming (F.may_give files.old) options text.now
-        (F.placed files.old) (F.placed files.new) (W.contents out.old) (W.contents out.new)) }
+    ensures refused { IfErr result (λ fault. IsNotBuilt F.Disk.Disk H.Naming (F.may_give files.old) options.entry
+        text.now (F.placed files.old) (F.placed files.new) fault (W.contents out.old) (W.contents out.new)) }
 {
-    let compiled = compiled(rt, alloc, hall, text, options, &*files, meter);
-    meter.clear();
-    let mut built = match compiled {
+    let built = match compiled(rt, alloc, hall, text, options, &*files, meter) {
         Ok(built) => built,
         Err(fault) => return Err(fault),
     };
-    let Ok(()) = built.report.push('\n') else {
+    let Built { program, report } = built;
+    let Ok(line) = line_of(report) else {
         return Err(BuildingError::Build(BuildError::NoMemory));
     };
-    match place(alloc, options.folder, files, &built.program) {
+    match place(alloc, options.folder, files, &program) {
         Ok(()) => {}
         Err(fault) => return Err(fault),
     }
-    match print_whole(out, built.report.as_bytes()) {
+    match print_whole(out, line.as_bytes()) {
         Ok(()) => Ok(()),
         Err(_) => Err(BuildingError::Write),
     }

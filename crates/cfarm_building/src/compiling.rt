@@ -15,7 +15,7 @@ use std::sync::Wait;
 use std::thread::Threads;
 
 /// What is built of a text by a farm over the journals of the folder. The text comes first, then the files, then the farm.
-pub(crate) fn compiled<H: Naming + Send, R: Threads + Wait + Sync, F: Files, M: Meter>(
+fn compiled_by<H: Naming + Send, R: Threads + Wait + Sync, F: Files, M: Meter>(
     rt: &R,
     alloc: Global,
     hall: &Hall<H>,
@@ -24,8 +24,8 @@ pub(crate) fn compiled<H: Naming + Send, R: Threads + Wait + Sync, F: Files, M: 
     files: &F,
     meter: &mut M,
 ) -> Result<Built, BuildingError>
-    ensures built { IfOk result (IsCompiled F.Disk.Disk H.Naming (F.may_give files.now) options text.now) }
-    ensures refused { IfErr result (IsUncompiled F.Disk.Disk H.Naming (F.may_give files.now) options text.now) }
+    ensures built { IfOk result (IsCompiled F.Disk.Disk H.Naming (F.may_give files.now) options.entry text.now) }
+    ensures refused { IfErr result (IsUncompiled F.Disk.Disk H.Naming (F.may_give files.now) options.entry text.now) }
 {
     let source = match prepare(alloc, text) {
         Ok(source) => source,
@@ -43,4 +43,22 @@ pub(crate) fn compiled<H: Naming + Send, R: Threads + Wait + Sync, F: Files, M: 
         Ok(built) => Ok(built),
         Err(fault) => Err(BuildingError::Build(fault)),
     }
+}
+
+/// The same, with nothing shown any more behind it.
+pub(crate) fn compiled<H: Naming + Send, R: Threads + Wait + Sync, F: Files, M: Meter>(
+    rt: &R,
+    alloc: Global,
+    hall: &Hall<H>,
+    text: &[u8],
+    options: BuildOptions<'_>,
+    files: &F,
+    meter: &mut M,
+) -> Result<Built, BuildingError>
+    ensures built { IfOk result (IsCompiled F.Disk.Disk H.Naming (F.may_give files.now) options.entry text.now) }
+    ensures refused { IfErr result (IsUncompiled F.Disk.Disk H.Naming (F.may_give files.now) options.entry text.now) }
+{
+    let made = compiled_by(rt, alloc, hall, text, options, files, meter);
+    meter.clear();
+    made
 }

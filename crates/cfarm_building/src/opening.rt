@@ -38,8 +38,9 @@ pub(crate) fn open_disks<F: Files>(
     files: &F,
 ) -> Result<Vec<F::Disk>, BuildingError>
     ensures given { IfOk result (λ disks.
-        AreGiven (F.may_give files.now) options.folder.now (count_of options.nodes) disks.items) }
-    ensures refused { IfErr result (HasNoDisk (F.may_give files.now) options.folder.now (count_of options.nodes)) }
+        AreGiven (F.may_give files.now) options.entry.folder.now (count_of options.entry.nodes) disks.items) }
+    ensures refused { IfErr result
+        (HasNoDisk (F.may_give files.now) options.entry.folder.now (count_of options.entry.nodes)) }
 {
     let count = options.nodes.count();
     let Ok(mut disks) = Vec::with_capacity(alloc, count) else {

@@ -1,6 +1,6 @@
 //! The linked program in its file.
 
-ghost use Rattle.std.specs.Prelude.{OnOk, IfErr};
+ghost use Rattle.std.specs.Prelude.{OnOk, OnErr, IfErr};
 ghost use Rattle.cfarm_files.specs.Placing.{Keeps, Places};
 ghost use Rattle.cfarm_options.specs.Paths.{linked_path};
 ghost use Rattle.cfarm_building.specs.Disks.{IsRefusedAt};
@@ -19,7 +19,8 @@ pub(crate) fn place<F: Files>(
     program: &[u8],
 ) -> Result<(), BuildingError>
     ensures put { OnOk result (Places (F.placed files.old) (F.placed files.new) (linked_path folder.now) program.now) }
-    ensures refused { IfErr result (λ fault. IsRefusedAt (linked_path folder.now) fault × Keeps (F.placed files.old) (F.placed files.new)) }
+    ensures refused { IfErr result (IsRefusedAt (linked_path folder.now)) }
+    ensures kept { OnErr result (Keeps (F.placed files.old) (F.placed files.new)) }
 {
     let Ok(path) = linked_path(alloc, folder) else {
         return Err(BuildingError::Build(BuildError::NoMemory));

@@ -109,7 +109,7 @@ fn build<H: Naming + Send, R: Threads + Wait + Sync, F: Files, M: Meter, W: Writ
     err: &mut E,
 ) -> u8
     ensures does { (answer : Answer) × Builds F.Disk.Disk H.Naming (F.may_give files.old) (F.placed files.old)
-        (F.placed files.new) options text.now answer (W.contents out.old) (W.contents out.new)
+        (F.placed files.new) options.entry text.now answer (W.contents out.old) (W.contents out.new)
         × IsTold answer result (E.contents err.old) (E.contents err.new) }
     ensures table { result ≤ 7 }
 {
@@ -143,7 +143,7 @@ pub(crate) fn perform<
     err: &mut E,
 ) -> u8
     ensures does { Performs F.Disk.Disk H.Naming (F.may_give files.old) (F.placed files.old) (F.placed files.new)
-        task bytes.now result (W.contents out.old) (W.contents out.new) (E.contents err.old) (E.contents err.new) }
+        task.entry bytes.now result (W.contents out.old) (W.contents out.new) (E.contents err.old) (E.contents err.new) }
     ensures table { result ≤ 7 }
 {
     match task {

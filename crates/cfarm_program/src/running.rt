@@ -54,7 +54,7 @@ pub(crate) fn run_task<
     err: &mut E,
 ) -> u8
     ensures does { Does F.Disk.Disk H.Naming (F.may_give files.old) (F.placed files.old) (F.placed files.new)
-        (F.known files.old path.now) task path.now result (W.contents out.old) (W.contents out.new)
+        (F.known files.old path.now) task.entry path.now result (W.contents out.old) (W.contents out.new)
         (E.contents err.old) (E.contents err.new) }
     ensures table { result ≤ 7 }
 {

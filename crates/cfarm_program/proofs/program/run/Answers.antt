@@ -15,12 +15,18 @@ returns-in-Ok-None-clause-does g c =
     (c.node_counts.result, c.node_counts.ensures, inr (inr (keeps_same _, nothing refl, refl, refl, refl)))
 
 pub returns-in-Err-clause-does : goal.returns-in-Err-clause-does
-returns-in-Err-clause-does g c =
-    (c.node_counts.result, c.node_counts.ensures, inr (inl (keeps_same _, record {
+returns-in-Err-clause-does g c = (
+  c.node_counts.result,
+  c.node_counts.ensures,
+  inr (inl (
+    keeps_same _,
+    record {
       kind = kind_of c.in-Err.fault;
       among = c.in-Err.ensures.right;
       only = c.in-Err.ensures.refused;
       memory = c.tell_refused.ensures.memory;
       mistake = c.tell_refused.ensures.mistake;
       help = c.tell_refused.ensures.help;
-    })))
+    },
+  )),
+)

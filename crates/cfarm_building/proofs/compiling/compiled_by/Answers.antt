@@ -1,0 +1,36 @@
+use Rattle.std.proofs.Common.{◌≡◌, length, sym, subst, ◌∙◌}
+use Rattle.paxos_core_law.specs.NodeState.{IsRoomSize}
+use Rattle.cfarm_building.proofs.Refusing.{no_disk, not_built, ready}
+use Rattle.cfarm_building.proofs.compiling.compiled_by.Goals as goal
+
+pub returns-in-Err-clause-refused : goal.returns-in-Err-clause-refused
+returns-in-Err-clause-refused g c = c.in-Err.ensures.refused
+
+pub returns-in-Err-open_disks-clause-refused : goal.returns-in-Err-open_disks-clause-refused
+returns-in-Err-open_disks-clause-refused g c =
+    let made = c.in-Ok.ensures in
+    no_disk g.F.Disk.Disk g.H.Naming (g.F.Files.may_give c.args.files.now) c.args.options c.args.text.now c.in-Ok.source
+    (ready _ _ made.accepted made.translated made.keeps made.names made.count made.digest) c.in-Err-open_disks.fault c.in-Err-open_disks.ensures.refused
+
+pub build-requires-clause-size : goal.build-requires-clause-size
+build-requires-clause-size g c =
+    subst IsRoomSize (c.count.ensures.number ∙ sym c.in-Ok-open_disks.ensures.given.count_is) c.count.ensures.size
+
+pub build-requires-clause-oracles : goal.build-requires-clause-oracles
+build-requires-clause-oracles g c = c.in-Ok-optimisers_of.ensures ∙ c.count.ensures.number ∙ sym c.in-Ok-open_disks.ensures.given.count_is
+
+pub returns-in-Ok-build-clause-built : goal.returns-in-Ok-build-clause-built
+returns-in-Ok-build-clause-built g c =
+    let made = c.in-Ok.ensures in
+    record {
+      source = c.in-Ok.source;
+      is = ready _ _ made.accepted made.translated made.keeps made.names made.count made.digest;
+      so = record { given = c.in-Ok-open_disks.disks.items; are = c.in-Ok-open_disks.ensures.given; so = c.in-Ok-build.ensures.built };
+    }
+
+pub returns-in-Err-build-clause-refused : goal.returns-in-Err-build-clause-refused
+returns-in-Err-build-clause-refused g c =
+    let made = c.in-Ok.ensures in
+    not_built g.F.Disk.Disk g.H.Naming (g.F.Files.may_give c.args.files.now) c.args.options c.args.text.now c.in-Ok.source
+    (ready _ _ made.accepted made.translated made.keeps made.names made.count made.digest)
+    c.in-Ok-open_disks.disks.items c.in-Ok-open_disks.ensures.given c.in-Err-build.fault c.in-Err-build.ensures.refused
