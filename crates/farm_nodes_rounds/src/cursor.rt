@@ -6,23 +6,37 @@ use crate::turns::TakesTurns;
 /// the others alone, which may still have to learn.
 const ALL_ROOMS_EVERY: u32 = 8;
 
+/// In one of so many rounds a node takes a turn in a room that it does not lead, and each node in another round: so one that leads
+/// reaches a majority before others start ballots. It has no factor in common with the rounds over all rooms.
+const FOLLOWS_EVERY: u32 = 5;
+
 /// How far a node is in its rooms, which it goes over in their order, round and round. No contract speaks of it but that the room is
 /// one of them.
 #[derive(Drop)]
 pub(crate) struct Cursor {
+    /// Round 0 of the node: each node has another one.
+    first: u32,
     next: u32,
     round: u32,
     learned: u32,
+    /// Whether a turn of this round brought something new.
+    has_moved: bool,
     pub has_all: bool,
 }
 
 impl Cursor {
-    /// Before the first round.
-    pub(crate) fn new() -> Cursor {
+    /// Before the first round of the node of this number.
+    pub(crate) fn new(number: usize) -> Cursor {
+        let first = match u32::try_from(number) {
+            Ok(number) => number,
+            Err(_) => 0,
+        };
         Cursor {
+            first,
             next: 0,
             round: 0,
             learned: 0,
+            has_moved: false,
             has_all: false,
         }
     }
@@ -34,20 +48,30 @@ impl Cursor {
         }
     }
 
+    /// Notes that a turn brought something new.
+    pub(crate) fn note_move(&mut self) {
+        self.has_moved = true;
+    }
+
     /// Ends a round over so many rooms: the node has all where it had learned in each.
     fn end_round(&mut self, rooms: u32) {
         self.has_all = self.learned >= rooms;
         self.next = 0;
         self.learned = 0;
+        self.has_moved = false;
         self.round = self.round.wrapping_add(1);
     }
 
-    /// The next of so many rooms.
+    /// The next of so many rooms. There is none at the end of a round that brought nothing new.
     fn advance(&mut self, rooms: u32) -> Option<u16>
         ensures { IfSome result (λ room. room < rooms) }
     {
         if self.next >= rooms {
+            let has_moved = self.has_moved;
             self.end_round(rooms);
+            if !has_moved {
+                return None;
+            }
         }
         let room = self.next;
         if room >= rooms {
@@ -64,6 +88,12 @@ impl Cursor {
     fn is_round_of_all(&self) -> bool {
         self.round % ALL_ROOMS_EVERY == 0
     }
+
+    /// Whether this is the node's round in a room that it does not lead.
+    fn is_round_in(&self, room: u16) -> bool {
+        let first = self.first.wrapping_add(u32::from(room));
+        self.round.wrapping_add(first) % FOLLOWS_EVERY == 0
+    }
 }
 
 /// Whether the node has learned in all its rooms.
@@ -79,7 +109,8 @@ pub(crate) fn has_learned_all<N: TakesTurns>(node: &N) -> bool {
     true
 }
 
-/// The next room for a turn. There is none where the rooms that were left in this round are those where the node has learned.
+/// The next room for a turn: one that the node leads, or whose round it is. There is none where a round ended that brought nothing
+/// new, or where no room was left.
 pub(crate) fn next_room<N: TakesTurns>(node: &N, cursor: &mut Cursor) -> Option<u16>
     ensures { IfSome result (λ room. N.has_room node.now room) }
 {
@@ -88,10 +119,12 @@ pub(crate) fn next_room<N: TakesTurns>(node: &N, cursor: &mut Cursor) -> Option<
         let Some(room) = cursor.advance(rooms) else {
             return None;
         };
-        if cursor.is_round_of_all() || !node.has_learned(room) {
+        let has_learned = node.has_learned(room);
+        let is_open = cursor.is_round_of_all() || !has_learned;
+        if is_open && (cursor.is_round_in(room) || node.leads(room)) {
             return Some(room);
         }
-        cursor.note(true);
+        cursor.note(has_learned);
     }
     None
 }

@@ -17,6 +17,7 @@ struct Place {
 #[derive(Drop)]
 pub struct Pace {
     places: Vec<Place>,
+    moves: AtomicU64,
     is_refused: AtomicBool,
 }
 
@@ -32,6 +33,7 @@ impl Pace {
         }
         Ok(Pace {
             places,
+            moves: AtomicU64::new(0),
             is_refused: AtomicBool::new(false),
         })
     }
@@ -60,6 +62,16 @@ impl Pace {
             place.turns.store(turns, Ordering::SeqCst);
             place.is_content.store(is_content, Ordering::SeqCst);
         }
+    }
+
+    /// Notes that a turn brought something new.
+    pub fn note_move(&self) {
+        self.moves.fetch_add(1, Ordering::SeqCst);
+    }
+
+    /// How many turns brought something new, of all nodes.
+    pub fn moves(&self) -> u64 {
+        self.moves.load(Ordering::SeqCst)
     }
 
     /// Notes that the node takes no more turns: nobody waits for it, nor goes on for it where it is content.

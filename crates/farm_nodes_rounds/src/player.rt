@@ -3,6 +3,7 @@ ghost use Rattle.farm_nodes_rounds.specs.After.{Goes};
 
 use crate::cursor::{Cursor, has_learned_all, next_room};
 use crate::pace::Pace;
+use crate::patience::Patience;
 use crate::turns::{Outcome, TakesTurns};
 use parallel_validate::Gate;
 
@@ -14,6 +15,7 @@ pub struct Player<N: TakesTurns> {
     pub left: u64,
     taken: u64,
     cursor: Cursor,
+    patience: Patience,
     is_running: bool,
 }
 
@@ -40,7 +42,8 @@ impl<N: TakesTurns> Player<N> {
             number,
             left,
             taken: 0,
-            cursor: Cursor::new(),
+            cursor: Cursor::new(number),
+            patience: Patience::none(),
             is_running: true,
         }
     }
@@ -55,6 +58,7 @@ impl<N: TakesTurns> Player<N> {
             left: _,
             taken: _,
             cursor: _cursor,
+            patience: _patience,
             is_running: _,
         } = self;
         node
@@ -96,6 +100,10 @@ fn turn<N: TakesTurns, G: Gate>(player: &mut Player<N>, room: u16, pace: &Pace, 
     gate.after(player.number);
     let has_learned = player.node.has_learned(room);
     player.cursor.note(has_learned);
+    if outcome.is_new() {
+        player.cursor.note_move();
+        pace.note_move();
+    }
     if outcome.has_failed() {
         end(player, pace, true);
     } else {
@@ -122,11 +130,12 @@ pub(crate) fn take_turn<N: TakesTurns, G: Gate>(
         end(player, pace, has_all);
         return Step::Ended;
     }
-    if pace.is_ahead(player.taken) {
+    if pace.is_ahead(player.taken) || player.patience.waits(pace.moves()) {
         return Step::Waited;
     }
     let Some(room) = next_room(&player.node, &mut player.cursor) else {
         pace.note(player.number, player.taken, player.cursor.has_all);
+        player.patience.begin(pace.moves());
         return Step::Waited;
     };
     Step::of(turn(player, room, pace, gate))

@@ -15,6 +15,11 @@ impl Outcome {
     pub(crate) fn has_failed(self) -> bool {
         matches!(self, Outcome::Failed)
     }
+
+    /// Whether it brought something new.
+    pub(crate) fn is_new(self) -> bool {
+        matches!(self, Outcome::Moved)
+    }
 }
 
 /// Who takes turns in rooms.
@@ -34,6 +39,10 @@ pub trait TakesTurns {
 
     /// Whether it has learned in the room.
     fn has_learned(&self, room: u16) -> bool
+        requires { has_room self.now room };
+
+    /// Whether its own ballot is under way in the room, and it has promised no higher one.
+    fn leads(&self, room: u16) -> bool
         requires { has_room self.now room };
 
     /// One turn in the room.

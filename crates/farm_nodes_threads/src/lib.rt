@@ -3,6 +3,7 @@
 #![tactic(auto)]
 
 mod coming_back;
+mod leading;
 mod taking;
 mod wrapping;
 

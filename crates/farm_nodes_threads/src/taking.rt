@@ -3,10 +3,11 @@
 ghost use Rattle.std.specs.Prelude.{◌<◌, ℕ};
 ghost use Rattle.farm_nodes_passes.specs.Numbers.{function_of};
 
+use crate::leading::leads_in;
 use crate::wrapping::Taking;
 use durable_model::Disk;
 use farm_nodes_node::{FarmNode, Turn};
-use farm_nodes_passes::Oracles;
+use farm_nodes_passes::{Oracles, Which};
 use farm_nodes_rounds::{Outcome, TakesTurns};
 use rooms_hall::Naming;
 
@@ -55,6 +56,13 @@ impl<D: Disk + Drop, O: Oracles + Drop, H: Naming> TakesTurns for Taking<FarmNod
 
     fn has_learned(&self, room: u16) -> bool {
         self.node.learned(room).is_some()
+    }
+
+    fn leads(&self, room: u16) -> bool {
+        match self.node.seats.get(usize::from(room / 4)) {
+            Some(seats) => leads_in(seats, Which::of_room(room)),
+            None => false,
+        }
     }
 
     fn take_turn(&mut self, room: u16) -> Outcome {

@@ -1,0 +1,23 @@
+//! Whether a node leads a room.
+
+use farm_nodes_passes::{Seats, Which};
+use rooms_hall::Naming;
+use rooms_seat::WordSeat;
+
+/// Whether the node's own ballot is under way, and it has promised no higher one.
+fn leads(seat: &WordSeat) -> bool {
+    match seat.ballot() {
+        Some(ballot) => ballot >= seat.kept().promised(),
+        None => false,
+    }
+}
+
+/// Whether the node leads the room of one pass of the function.
+pub(crate) fn leads_in<H: Naming>(seats: &Seats<H>, pass: Which) -> bool {
+    match pass {
+        Which::First => leads(&seats.first.seat.words),
+        Which::Second => leads(&seats.second.seat.words),
+        Which::Third => leads(&seats.third.seat.words),
+        Which::Fourth => leads(&seats.fourth.seat.words),
+    }
+}
