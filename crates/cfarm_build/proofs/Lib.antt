@@ -1,4 +1,5 @@
 mod Lowest
+mod Made
 mod Turning
 mod Unbuilt
 mod Zips

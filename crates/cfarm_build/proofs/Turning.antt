@@ -1,7 +1,7 @@
 -- What turns and meetings leave of a node, one behind another.
-use Rattle.std.proofs.Common.{◌≡◌, ℕ, List, map, length, Option, None, refl, sym, ap, subst, subst₂, ◌∙◌}
+use Rattle.std.proofs.Common.{◌≡◌, ℕ, List, map, length, ◌++◌, take, drop, Option, None, refl, sym, ap, subst, subst₂, ◌∙◌}
 use Rattle.std.specs.Arc.{arc_value}
-use Rattle.std.specs.List.{AllByRecursion, AllZip}
+use Rattle.std.specs.List.{All, AllByRecursion, AllZip}
 use Rattle.durable_model.specs.declared.disk.Disk as disks
 use Rattle.acceptor_log.specs.declared.log.Log.{Log}
 use Rattle.rand_pcg.specs.Lcg.{Lcg}
@@ -19,7 +19,7 @@ use Rattle.farm_nodes_threads.specs.CameBack.{CameBack}
 use Rattle.farm_nodes_threads.proofs.Coming.{came_through}
 use Rattle.cfarm_build_linking.specs.Node.{Node, node}
 use Rattle.cfarm_build.specs.Nodes.{Begun, HaveMet, HaveRun, IsSound, Stays, TurnedInto, failed_of, lowest_failed}
-use Rattle.cfarm_build.proofs.Zips.{all_mapped, kept, map_twice, seen, through}
+use Rattle.cfarm_build.proofs.Zips.{all_mapped, all_of, all_weaker, as_long, kept, map_twice, seen, through, written}
 
 -- A node is seen as its program, its journal, its seats and what stopped it.
 module _ {N G D T1 T2 T3 T4 : Type 0} (disk : disks.Ghosts D) (program : N → G) (log : N → Log D) (fours : N → List (Four T1 T2 T3 T4))
@@ -47,6 +47,13 @@ module _ {N G D T1 T2 T3 T4 : Type 0} (disk : disks.Ghosts D) (program : N → G
     record { log = q.1.log ∙ p.1.log; halted_same = q.1.halted_same ∙ p.1.halted_same; sound = λ s. q.1.sound (p.1.sound s) },
   ))
 
+  -- those that met in place, in a list of so many
+  pub meets_there : (n : ℕ) (ys old new now : List N) → old ≡ ys → n ≡ length ys → now ≡ take n (new ++ drop (length new) ys)
+      → AllZip Meets old new → AllZip Meets ys now
+  meets_there n ys old new now same count is met =
+      let over : AllZip Meets ys new = subst (λ l. AllZip Meets l new) same met in
+      subst (λ l. AllZip Meets ys l) (sym (is ∙ written n new ys count (as_long Meets ys new over))) over
+
 -- those that took turns and met, as they opened and as they are
 module _ {N G D H : Type 0} {h : naming.Ghosts H} (disk : disks.Ghosts D) (program : N → G) (log : N → Log D) (seats : N → List (Seats H h))
     (words : N → Lcg) (halted : N → Option Halted) where
@@ -66,6 +73,9 @@ module _ {N G D H : Type 0} {h : naming.Ghosts H} (disk : disks.Ghosts D) (progr
       (TurnedInto disk) (λ x y none it. subst (λ o. CameBack disk.is_honest disk.seen disk.may_leave disk.moment disk.left_since
       (log x) (log y) (fours_of (seats x)) (fours_of (seats y)) o (halted y)) none it.1) xs ys going turns
 
+  sounds : (Q : N → Type 0) (ys : List N) → AllByRecursion (λ n. SoundOf n × Q n) ys → AllByRecursion SoundOf ys
+  sounds Q ys fit = all_weaker (λ n. SoundOf n × Q n) SoundOf (λ n both. both.0) ys fit
+
   pub have_run : (seed : ℕ) (source : Source) (given : List D) (xs ys : List N)
       → AreMade (IsJournalOn disk (length given) source.digest) given (length given) (map log xs)
       → AreOpenFrom disk.is_honest disk.seen (length (arc_value source.translated).functions) (map log xs) (map seats xs)
@@ -83,6 +93,18 @@ module _ {N G D H : Type 0} {h : naming.Ghosts H} (disk : disks.Ghosts D) (progr
     sound = all_mapped node_of (IsSound disk) ys sound;
   }
 
+  -- the same of a farm that opened, whose nodes came back
+  pub ran : (Q : N → Type 0) (seed : ℕ) (source opened : Source) (given : List D) (xs ys : List N) → opened ≡ source
+      → AreMade (IsJournalOn disk (length given) opened.digest) given (length given) (map log xs)
+      → AreOpenFrom disk.is_honest disk.seen (length (arc_value opened.translated).functions) (map log xs) (map seats xs)
+      → map words xs ≡ generators seed (length given) → All (λ n. halted n ≡ None) xs
+      → AllZip (Turns disk program log (λ n. fours_of (seats n)) halted) xs ys → AllByRecursion (λ n. SoundOf n × Q n) ys
+      → HaveRun disk seed source given (map node_of ys)
+  ran Q seed source opened given xs ys same journals rooms drawn going turns fit = have_run seed source given xs ys
+      (subst (λ (s : Source). AreMade (IsJournalOn disk (length given) s.digest) given (length given) (map log xs)) same journals)
+      (subst (λ (s : Source). AreOpenFrom disk.is_honest disk.seen (length (arc_value s.translated).functions) (map log xs) (map seats xs)) same rooms)
+      drawn (all_of (λ n. halted n ≡ None) xs going) turns (sounds Q ys fit)
+
   pub have_met : (ys zs : List N) → AllByRecursion SoundOf ys → AllZip (Meets disk program log (λ n. fours_of (seats n)) halted) ys zs
       → HaveMet disk (map node_of ys) (map node_of zs)
   have_met ys zs sound met = record {
@@ -91,6 +113,10 @@ module _ {N G D H : Type 0} {h : naming.Ghosts H} (disk : disks.Ghosts D) (progr
     sound = all_mapped node_of (IsSound disk) zs (kept (Meets disk program log (λ n. fours_of (seats n)) halted) SoundOf SoundOf
         (λ x y it s. it.1.sound s) ys zs met sound);
   }
+
+  pub have_met_fit : (Q : N → Type 0) (ys zs : List N) → AllByRecursion (λ n. SoundOf n × Q n) ys
+      → AllZip (Meets disk program log (λ n. fours_of (seats n)) halted) ys zs → HaveMet disk (map node_of ys) (map node_of zs)
+  have_met_fit Q ys zs fit met = have_met ys zs (sounds Q ys fit) met
 
   -- the first that failed
   pub failed_same : (ys : List N) → failed_of (map node_of ys) ≡ lowest_failed 0 (map (λ n. fault_in (halted n)) ys)
@@ -106,3 +132,18 @@ module _ {N G D H : Type 0} {h : naming.Ghosts H} (disk : disks.Ghosts D) (progr
       → AllByRecursion (λ n. P (program n)) ys → AllByRecursion (λ n. P (program n)) zs
   programs_meet P ys zs met so = kept (Meets disk program log (λ n. fours_of (seats n)) halted) (λ n. P (program n)) (λ n. P (program n))
       (λ x y it p. subst P (sym it.0) p) ys zs met so
+
+  -- what they all compile
+  pub share : {V : Type 0} (value : G → V) (t : V) (xs ys : List N)
+      → AllZip (Turns disk program log (λ n. fours_of (seats n)) halted) xs ys
+      → All (λ n. value (program n) ≡ t) xs → AllByRecursion (λ n. value (program n) ≡ t) ys
+  share value t xs ys turns all = programs_turn (λ p. value p ≡ t) xs ys turns (all_of (λ n. value (program n) ≡ t) xs all)
+
+  pub share_such : {V : Type 0} (value : G → V) (t : V) (P : V → Type 0) → P t → (ys : List N)
+      → AllByRecursion (λ n. value (program n) ≡ t) ys → AllByRecursion (λ n. P (value (program n))) ys
+  share_such value t P such ys all = all_weaker (λ n. value (program n) ≡ t) (λ n. P (value (program n))) (λ n same. subst P (sym same) such) ys all
+
+  pub share_met : {V : Type 0} (value : G → V) (t : V) (ys zs : List N)
+      → AllZip (Meets disk program log (λ n. fours_of (seats n)) halted) ys zs
+      → AllByRecursion (λ n. value (program n) ≡ t) ys → AllByRecursion (λ n. value (program n) ≡ t) zs
+  share_met value t ys zs met all = programs_meet (λ p. value p ≡ t) ys zs met all

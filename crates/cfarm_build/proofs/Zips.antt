@@ -1,6 +1,6 @@
 -- Lists beside one another, of which it is said place by place.
-use Rattle.std.proofs.Common.{◌≡◌, ℕ, zero, suc, ◌<◌, List, [], ◌∷◌, ◌++◌, map, length, get_or, set, refl, sym, ap, subst, arith}
-use Rattle.std.specs.List.{AllByRecursion, AllZip}
+use Rattle.std.proofs.Common.{◌≡◌, ℕ, zero, suc, ◌<◌, List, [], ◌∷◌, ◌++◌, map, length, get_or, set, take, drop, refl, sym, ap, subst, arith}
+use Rattle.std.specs.List.{All, AllByRecursion, AllZip}
 
 pub map_twice : {A B C : Type 0} (f : A → B) (g : B → C) (xs : List A) → map g (map f xs) ≡ map (λ x. g (f x)) xs
 map_twice f g [] = refl
@@ -67,3 +67,17 @@ all_weaker P Q so (x ∷ xs) all = (so x all.0, all_weaker P Q so xs all.1)
 pub all_mapped : {A B : Type 0} (f : A → B) (P : B → Type 0) (xs : List A) → AllByRecursion (λ x. P (f x)) xs → AllByRecursion P (map f xs)
 all_mapped f P [] all = tt
 all_mapped f P (x ∷ xs) all = (all.0, all_mapped f P xs all.1)
+
+-- what is so at each place is so of all
+pub all_of : {A : Type 0} (P : A → Type 0) (xs : List A) → All P xs → AllByRecursion P xs
+all_of P [] each = tt
+all_of P (x ∷ xs) each = (each 0 x (omega arith), all_of P xs (λ k d below. each (suc k) d (omega (arith, below))))
+
+-- A list of which as many were written over, from its front, is what was written.
+pub written : {A : Type 0} (n : ℕ) (new old : List A) → n ≡ length old → length new ≡ length old → take n (new ++ drop (length new) old) ≡ new
+written zero [] [] all same = refl
+written (suc n) [] [] all same = refl
+written n [] (y ∷ ys) all same = absurd (omega (arith, same))
+written n (x ∷ xs) [] all same = absurd (omega (arith, same))
+written zero (x ∷ xs) (y ∷ ys) all same = absurd (omega (arith, all))
+written (suc n) (x ∷ xs) (y ∷ ys) all same = ap (λ l. x ∷ l) (written n xs ys (omega (arith, all)) (omega (arith, same)))

@@ -23,3 +23,10 @@ loop-left-preserved g c = record {
   fit = c.in-Ok.ensures.fit;
   came = turns_through g.D.Disk (λ n. n.program) (λ n. n.log) (λ n. fours_of n.seats.items) (λ n. n.halted) _ _ _ c.loop-left.invariant.came c.in-Ok.ensures.came;
 }
+
+pub loop-left-preserved-then-are_done : goal.loop-left-preserved-then-are_done
+loop-left-preserved-then-are_done g c = record {
+  left = omega arith;
+  fit = c.in-Ok.ensures.fit;
+  came = turns_through g.D.Disk (λ n. n.program) (λ n. n.log) (λ n. fours_of n.seats.items) (λ n. n.halted) _ _ _ c.loop-left.invariant.came c.in-Ok.ensures.came;
+}

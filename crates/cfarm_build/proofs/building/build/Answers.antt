@@ -1,0 +1,100 @@
+-- From the farm that opened to what it has linked.
+use Rattle.std.proofs.Common.{◌≡◌, ◌≤◌, ◌<◌, All, length, map, sym, ap, subst, ◌∙◌, arith}
+use Rattle.std.proofs.lemmas.List.{length-map}
+use Rattle.std.specs.Arc.{arc_value}
+use Rattle.std.specs.List.{AllByRecursion}
+use Rattle.c_checker_rules.specs.Checked.{program_tree}
+use Rattle.cminor_lowering.specs.Programs.{low}
+use Rattle.rtlgen.specs.Refused.{HasFewNodes}
+use Rattle.farm_nodes_node.specs.Held.{fault_in}
+use Rattle.farm_nodes_passes.specs.Fours.{fours_of}
+use Rattle.farm_nodes_source.specs.declared.source.Source.{Source}
+use Rattle.cfarm_build.specs.Nodes.{HasFewFunctions, lowest_failed}
+use Rattle.cfarm_build.proofs.Made.{built_so, refused_so}
+use Rattle.cfarm_build.proofs.Turning.{Meets, Turns, failed_same, have_met_fit, meets_there, ran, share, share_met, share_such}
+use Rattle.cfarm_build.proofs.Zips.{as_long}
+use Rattle.cfarm_build.proofs.building.build.Goals as goal
+
+pub returns-in-Some-clause-refused : goal.returns-in-Some-clause-refused
+returns-in-Some-clause-refused g c = record {
+  nodes = _;
+  run = ran g.D.Disk (λ n. n.program) (λ n. n.log) (λ n. n.seats.items) (λ n. n.words) (λ n. n.halted) _ c.args.seed c.args.source
+      c.in-Ok.farm.source c.args.disks.items c.in-Ok.farm.nodes.items c.in-Ok-run_rounds.nodes.items c.in-Ok.ensures.source
+      c.in-Ok.ensures.journals c.in-Ok.ensures.rooms c.in-Ok.ensures.words c.in-Ok.ensures.going c.in-Ok-run_rounds.ensures.came
+      c.in-Ok-run_rounds.ensures.fit;
+  failed = failed_same g.D.Disk (λ n. n.program) (λ n. n.log) (λ n. n.seats.items) (λ n. n.words) (λ n. n.halted)
+      c.in-Ok-run_rounds.nodes.items ∙ ap (λ l. lowest_failed 0 (map (λ n. fault_in n.halted) l)) (sym c.deref.ensures.value)
+      ∙ sym c.in-Some.ensures;
+}
+
+pub meet_neighbours-requires : goal.meet_neighbours-requires
+meet_neighbours-requires g c = record {
+  few = subst (λ l. AllByRecursion (λ n. HasFewFunctions (arc_value n.program)) l) (sym c.deref_mut.ensures.value)
+      (share_such g.D.Disk (λ n. n.program) (λ n. n.log) (λ n. n.seats.items) (λ n. n.words) (λ n. n.halted) arc_value
+      (arc_value c.in-Ok.farm.source.translated) HasFewFunctions
+      (subst (λ (s : Source). length (arc_value s.translated).functions ≤ 64) (sym c.in-Ok.ensures.source) c.requires.count)
+      c.in-Ok-run_rounds.nodes.items (share g.D.Disk (λ n. n.program) (λ n. n.log) (λ n. n.seats.items) (λ n. n.words) (λ n. n.halted) arc_value
+      (arc_value c.in-Ok.farm.source.translated) c.in-Ok.farm.nodes.items c.in-Ok-run_rounds.nodes.items c.in-Ok-run_rounds.ensures.came
+      c.in-Ok.ensures.program));
+}
+
+pub built_by-requires-clause-few : goal.built_by-requires-clause-few
+built_by-requires-clause-few g c = subst (λ (s : Source). All HasFewNodes (low (program_tree s.program)).functions) (sym c.in-Ok.ensures.source) c.requires.few
+
+pub built_by-requires-clause-some : goal.built_by-requires-clause-some
+built_by-requires-clause-some g c =
+    let meets = meets_there g.D.Disk (λ n. n.program) (λ n. n.log) (λ n. fours_of n.seats.items) (λ n. n.halted) c.in-Ok-run_rounds.nodes.len
+    c.in-Ok-run_rounds.nodes.items c.deref_mut.result.now c.meet_neighbours.new.nodes c.deref-2.result.now c.deref_mut.ensures.value
+    c.in-Ok-run_rounds.nodes.ok.0 c.deref-2.ensures.value c.meet_neighbours.ensures in
+    let first : 0 < length c.in-Ok.farm.nodes.items =
+    omega (arith, c.requires.size, c.requires.oracles, ap length c.in-Ok.ensures.oracles, length-map c.in-Ok.farm.nodes.items (λ n. n.oracles)) in
+    omega (
+      arith,
+      first,
+      as_long (Turns g.D.Disk (λ n. n.program) (λ n. n.log) (λ n. fours_of n.seats.items) (λ n. n.halted))
+          c.in-Ok.farm.nodes.items c.in-Ok-run_rounds.nodes.items c.in-Ok-run_rounds.ensures.came,
+      as_long (Meets g.D.Disk (λ n. n.program) (λ n. n.log) (λ n. fours_of n.seats.items) (λ n. n.halted))
+          c.in-Ok-run_rounds.nodes.items c.deref-2.result.now meets,
+    )
+
+pub built_by-requires-clause-program : goal.built_by-requires-clause-program
+built_by-requires-clause-program g c =
+    let meets = meets_there g.D.Disk (λ n. n.program) (λ n. n.log) (λ n. fours_of n.seats.items) (λ n. n.halted) c.in-Ok-run_rounds.nodes.len
+    c.in-Ok-run_rounds.nodes.items c.deref_mut.result.now c.meet_neighbours.new.nodes c.deref-2.result.now c.deref_mut.ensures.value
+    c.in-Ok-run_rounds.nodes.ok.0 c.deref-2.ensures.value c.meet_neighbours.ensures in
+    share_met g.D.Disk (λ n. n.program) (λ n. n.log) (λ n. n.seats.items) (λ n. n.words) (λ n. n.halted) arc_value
+    (arc_value c.in-Ok.farm.source.translated) c.in-Ok-run_rounds.nodes.items c.deref-2.result.now meets (share g.D.Disk (λ n. n.program) (λ n. n.log) (λ n. n.seats.items) (λ n. n.words) (λ n. n.halted) arc_value
+    (arc_value c.in-Ok.farm.source.translated) c.in-Ok.farm.nodes.items c.in-Ok-run_rounds.nodes.items c.in-Ok-run_rounds.ensures.came
+    c.in-Ok.ensures.program)
+
+pub returns-clause-built : goal.returns-clause-built
+returns-clause-built g c =
+    let ran_there = ran g.D.Disk (λ n. n.program) (λ n. n.log) (λ n. n.seats.items) (λ n. n.words) (λ n. n.halted) _ c.args.seed c.args.source
+    c.in-Ok.farm.source c.args.disks.items c.in-Ok.farm.nodes.items c.in-Ok-run_rounds.nodes.items c.in-Ok.ensures.source
+    c.in-Ok.ensures.journals c.in-Ok.ensures.rooms c.in-Ok.ensures.words c.in-Ok.ensures.going c.in-Ok-run_rounds.ensures.came
+    c.in-Ok-run_rounds.ensures.fit in
+    let meets = meets_there g.D.Disk (λ n. n.program) (λ n. n.log) (λ n. fours_of n.seats.items) (λ n. n.halted) c.in-Ok-run_rounds.nodes.len
+    c.in-Ok-run_rounds.nodes.items c.deref_mut.result.now c.meet_neighbours.new.nodes c.deref-2.result.now c.deref_mut.ensures.value
+    c.in-Ok-run_rounds.nodes.ok.0 c.deref-2.ensures.value c.meet_neighbours.ensures in
+    built_so g.D.Disk g.H.Naming c.args.seed c.args.source c.in-Ok.farm.source c.args.disks.items c.in-Ok.ensures.source _ _ ran_there
+    (failed_same g.D.Disk (λ n. n.program) (λ n. n.log) (λ n. n.seats.items) (λ n. n.words) (λ n. n.halted)
+    c.in-Ok-run_rounds.nodes.items ∙ ap (λ l. lowest_failed 0 (map (λ n. fault_in n.halted) l)) (sym c.deref.ensures.value)
+    ∙ sym c.in_default.ensures)
+    (have_met_fit g.D.Disk (λ n. n.program) (λ n. n.log) (λ n. n.seats.items) (λ n. n.words) (λ n. n.halted) _
+    c.in-Ok-run_rounds.nodes.items c.deref-2.result.now c.in-Ok-run_rounds.ensures.fit meets) c.built_by.result c.built_by.ensures.built
+
+pub returns-clause-refused : goal.returns-clause-refused
+returns-clause-refused g c =
+    let ran_there = ran g.D.Disk (λ n. n.program) (λ n. n.log) (λ n. n.seats.items) (λ n. n.words) (λ n. n.halted) _ c.args.seed c.args.source
+    c.in-Ok.farm.source c.args.disks.items c.in-Ok.farm.nodes.items c.in-Ok-run_rounds.nodes.items c.in-Ok.ensures.source
+    c.in-Ok.ensures.journals c.in-Ok.ensures.rooms c.in-Ok.ensures.words c.in-Ok.ensures.going c.in-Ok-run_rounds.ensures.came
+    c.in-Ok-run_rounds.ensures.fit in
+    let meets = meets_there g.D.Disk (λ n. n.program) (λ n. n.log) (λ n. fours_of n.seats.items) (λ n. n.halted) c.in-Ok-run_rounds.nodes.len
+    c.in-Ok-run_rounds.nodes.items c.deref_mut.result.now c.meet_neighbours.new.nodes c.deref-2.result.now c.deref_mut.ensures.value
+    c.in-Ok-run_rounds.nodes.ok.0 c.deref-2.ensures.value c.meet_neighbours.ensures in
+    refused_so g.D.Disk g.H.Naming c.args.seed c.args.source c.in-Ok.farm.source c.args.disks.items c.in-Ok.ensures.source _ _ ran_there
+    (failed_same g.D.Disk (λ n. n.program) (λ n. n.log) (λ n. n.seats.items) (λ n. n.words) (λ n. n.halted)
+    c.in-Ok-run_rounds.nodes.items ∙ ap (λ l. lowest_failed 0 (map (λ n. fault_in n.halted) l)) (sym c.deref.ensures.value)
+    ∙ sym c.in_default.ensures)
+    (have_met_fit g.D.Disk (λ n. n.program) (λ n. n.log) (λ n. n.seats.items) (λ n. n.words) (λ n. n.halted) _
+    c.in-Ok-run_rounds.nodes.items c.deref-2.result.now c.in-Ok-run_rounds.ensures.fit meets) c.built_by.result c.built_by.ensures.refused
