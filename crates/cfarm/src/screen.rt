@@ -26,7 +26,10 @@ impl Progress for Screen<'_> {
         if self.is_shown {
             let standard_error = self.rt.stderr();
             let mut line = io::writer(&standard_error);
-            let _ = write!(line, "\r{linked} of {functions} functions linked, {turns} turns\x1b[K");
+            let _ = write!(
+                line,
+                "\r{linked} of {functions} functions linked, {turns} turns\x1b[K"
+            );
             let _ = line.flush();
         }
     }

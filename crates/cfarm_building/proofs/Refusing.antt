@@ -1,5 +1,5 @@
 -- What is refused, step by step.
-use Rattle.std.proofs.Common.{◌≡◌, ◌≤◌, ◌⊎◌, ℕ, List, Option, None, Some, length, refl, inl, inr, subst}
+use Rattle.std.proofs.Common.{◌≡◌, ◌≤◌, ℕ, List, Option, None, Some, length, refl, inl, inr, subst}
 use Rattle.std.specs.Arc.{arc_value}
 use Rattle.sha2.specs.Sha256.{sha256}
 use Rattle.lang_base.specs.Keeps.{Keeps as KeepsMeaning}
@@ -21,13 +21,13 @@ use Rattle.cfarm_build.specs.Refused.{IsUnbuilt}
 use Rattle.cfarm_build_linking.specs.declared.built.Built.{Built}
 use Rattle.cfarm_build_faults.specs.declared.error.BuildError.{BuildError}
 use Rattle.cfarm_build_faults.specs.declared.error.BuildError.TheVariants.{NoMemory, NoThread, Source as TextFault, Disks, Failed, Undecided, Unlinked, Names}
-use Rattle.cfarm_files.specs.Placing.{Placed, Keeps}
+use Rattle.cfarm_files.specs.Placing.{Placed, Keeps, Places}
 use Rattle.cfarm_options.specs.Counts.{count_of}
 use Rattle.cfarm_options.specs.Paths.{linked_path}
 use Rattle.cfarm_options.specs.declared.options.BuildOptions.{BuildOptions}
-use Rattle.cfarm_building.specs.Compiled.{HasNotBuilt, IsCompiled, IsUncompiled, OfSource, OverDisks}
+use Rattle.cfarm_building.specs.Compiled.{IsCompiled, IsUncompiled}
 use Rattle.cfarm_building.specs.Disks.{AreGiven, HasNoDisk, IsRefusedAt}
-use Rattle.cfarm_building.specs.Done.{IsNotBuilt, IsRefused, IsUnplaced}
+use Rattle.cfarm_building.specs.Done.{HasPut, IsNotBuilt}
 use Rattle.cfarm_building.specs.declared.error.BuildingError.{BuildingError}
 use Rattle.cfarm_building.specs.declared.error.BuildingError.TheVariants.{Build, File, Write}
 
@@ -84,6 +84,17 @@ module _ {D : Type 0} (disk : disks.Ghosts D) {H : Type 0} (h : naming.Ghosts H)
   -- the text is refused
   pub unprepared : (e : SourceFault) → IsUnprepared text e → IsUncompiled disk h may_give options text (Build (TextFault e))
   unprepared e un = un
+
+  -- what was put is what was built
+  pub has_put : (placed now_placed : Option (List Placed)) (Is : Built → Type 0) (built : Built) → IsCompiled disk h may_give options text built
+      → (program : List ℕ) → program ≡ built.program.items → Places placed now_placed (linked_path options.folder.now) program
+      → Is built → HasPut disk h may_give options text placed now_placed Is
+  has_put placed now_placed Is built compiled program same put so = record {
+    built = built;
+    compiled = compiled;
+    put = subst (λ p. Places placed now_placed (linked_path options.folder.now) p) same put;
+    so = so;
+  }
 
   module _ (placed now_placed : Option (List Placed)) (before after : Option (List ℕ)) where
     -- nothing was put and nothing printed

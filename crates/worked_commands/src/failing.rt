@@ -2,7 +2,7 @@
 
 use crate::given::Given;
 use crate::held::Held;
-use crate::runs::{Here, Ran, ran};
+use crate::runs::{Here, Ran, run_over};
 use rooms_hall::Naming;
 use std::sync::Wait;
 use std::thread::Threads;
@@ -17,7 +17,7 @@ fn fails_at_output<H: Naming + Send, R: Threads + Wait + Sync>(
 ) -> bool {
     let alloc = here.alloc;
     let (out, err) = (Held::failing_at(alloc, space), Held::ample(alloc));
-    let ran = ran(here, words, &mut Given::of(alloc, text), out, err);
+    let ran = run_over(here, words, &mut Given::of(alloc, text), out, err);
     ran.status == 4
         && ran.out.len() == space
         && ample.out.starts_with(&ran.out)
@@ -34,7 +34,7 @@ fn fails_at_error<H: Naming + Send, R: Threads + Wait + Sync>(
 ) -> bool {
     let alloc = here.alloc;
     let (out, err) = (Held::ample(alloc), Held::failing_at(alloc, space));
-    let ran = ran(here, words, &mut Given::of(alloc, text), out, err);
+    let ran = run_over(here, words, &mut Given::of(alloc, text), out, err);
     ran.status == 4
         && ran.out.as_slice() == ample.out.as_slice()
         && ran.err.len() == space
@@ -49,7 +49,7 @@ pub fn failing<H: Naming + Send, R: Threads + Wait + Sync>(
 ) -> Option<String> {
     let alloc = here.alloc;
     let (out, err) = (Held::ample(alloc), Held::ample(alloc));
-    let ample = ran(here, words, &mut Given::of(alloc, text), out, err);
+    let ample = run_over(here, words, &mut Given::of(alloc, text), out, err);
     for space in 0..ample.out.len() {
         if !fails_at_output(here, words, text, &ample, space) {
             return format!(in alloc; "output at {space}").ok();

@@ -25,7 +25,7 @@
 mod failing;
 mod given;
 mod held;
-mod machine;
+mod machine_files;
 mod masked;
 mod quiet;
 mod rows;

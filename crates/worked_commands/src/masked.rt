@@ -25,19 +25,19 @@ pub fn masked(alloc: Global, text: &str, bytes: &[u8]) -> Option<String> {
     let digits = hex::encode(alloc, digest.as_slice()).ok()?;
     let most = nodes_of(text);
     let mut out = String::new(alloc);
-    let mut last = "";
+    let mut is_of_rooms = false;
     for part in text.split('"') {
         if !out.is_empty() {
             out.push('"').ok()?;
         }
-        if last == "rooms" {
+        if is_of_rooms {
             numbers_masked(&mut out, part, most)?;
         } else if part == digits.as_str() {
             out.push('H').ok()?;
         } else {
             out.push_str(part).ok()?;
         }
-        last = part;
+        is_of_rooms = part == "rooms";
     }
     Some(out)
 }

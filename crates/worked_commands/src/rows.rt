@@ -4,7 +4,7 @@ ghost use Rattle.std.specs.Prelude.{◌≡◌};
 
 use crate::failing::failing;
 use crate::held::Held;
-use crate::machine::{answer_here, answer_twice};
+use crate::machine_files::{answer_here, answer_twice};
 use crate::runs::{Here, answer, linked, words_of};
 use crate::texts::text_of;
 use program_rows::{agrees, parts_of_row};

@@ -13,6 +13,7 @@ use std::sync::Wait;
 use std::thread::Threads;
 
 /// The threads and the hall of all runs.
+#[derive(Drop)]
 pub struct Here<'a, H: Naming, R> {
     pub threads: &'a R,
     pub hall: &'a Hall<H>,
@@ -42,7 +43,7 @@ pub fn words_of(alloc: Global, line: &str) -> Option<Vec<String>> {
 }
 
 /// Runs the program over these files, with these writers.
-pub fn ran<H: Naming + Send, R: Threads + Wait + Sync, F: Files>(
+pub fn run_over<H: Naming + Send, R: Threads + Wait + Sync, F: Files>(
     here: &Here<'_, H, R>,
     words: &[String],
     files: &mut F,
@@ -99,7 +100,7 @@ pub fn executed<H: Naming + Send, R: Threads + Wait + Sync>(
     let alloc = here.alloc;
     let words = words_of(alloc, "exec f --limit 1000")?;
     let mut files = Given::of(alloc, bytes);
-    let ran = ran(
+    let ran = run_over(
         here,
         &words,
         &mut files,
@@ -119,7 +120,7 @@ pub fn linked<H: Naming + Send, R: Threads + Wait + Sync>(
 ) -> Option<String> {
     let alloc = here.alloc;
     let mut files = Given::of(alloc, text);
-    let ran = ran(
+    let ran = run_over(
         here,
         words,
         &mut files,
@@ -141,7 +142,7 @@ pub fn answer<H: Naming + Send, R: Threads + Wait + Sync>(
 ) -> Option<String> {
     let alloc = here.alloc;
     let mut files = Given::of(alloc, text);
-    let ran = ran(here, words, &mut files, out, err);
+    let ran = run_over(here, words, &mut files, out, err);
     let Some(put) = files.put.first() else {
         return told(alloc, &ran, &[]);
     };

@@ -1,4 +1,4 @@
-use Rattle.std.proofs.Common.{◌≡◌, length, sym, subst, ◌∙◌}
+use Rattle.std.proofs.Common.{sym, subst, ◌∙◌}
 use Rattle.paxos_core_law.specs.NodeState.{IsRoomSize}
 use Rattle.cfarm_building.proofs.Refusing.{no_disk, not_built, ready}
 use Rattle.cfarm_building.proofs.compiling.compiled_by.Goals as goal
@@ -13,11 +13,11 @@ returns-in-Err-open_disks-clause-refused g c =
     (ready _ _ made.accepted made.translated made.keeps made.names made.count made.digest) c.in-Err-open_disks.fault c.in-Err-open_disks.ensures.refused
 
 pub build-requires-clause-size : goal.build-requires-clause-size
-build-requires-clause-size g c =
+build-requires-clause-size g c κs within =
     subst IsRoomSize (c.count.ensures.number ∙ sym c.in-Ok-open_disks.ensures.given.count_is) c.count.ensures.size
 
 pub build-requires-clause-oracles : goal.build-requires-clause-oracles
-build-requires-clause-oracles g c = c.in-Ok-optimisers_of.ensures ∙ c.count.ensures.number ∙ sym c.in-Ok-open_disks.ensures.given.count_is
+build-requires-clause-oracles g c κs within = c.in-Ok-optimisers_of.ensures ∙ c.count.ensures.number ∙ sym c.in-Ok-open_disks.ensures.given.count_is
 
 pub returns-in-Ok-build-clause-built : goal.returns-in-Ok-build-clause-built
 returns-in-Ok-build-clause-built g c =

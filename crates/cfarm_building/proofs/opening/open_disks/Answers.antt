@@ -1,6 +1,5 @@
-use Rattle.std.proofs.Common.{◌≡◌, ◌<◌, ◌∷◌, ◌++◌, [], length, ap, sym, subst, ◌∙◌, arith}
+use Rattle.std.proofs.Common.{length, ap, sym, subst, arith}
 use Rattle.std.proofs.lemmas.List.{length_push}
-use Rattle.cfarm_options.specs.Counts.{count_of}
 use Rattle.cfarm_options.specs.Paths.{journal_path}
 use Rattle.cfarm_building.specs.Disks.{AreSome, IsRefusedAt}
 use Rattle.cfarm_building.proofs.Given.{none_given, one_more}
@@ -34,6 +33,6 @@ pub returns-in-Err-clause-refused : goal.returns-in-Err-clause-refused
 returns-in-Err-clause-refused g c = record {
   given = c.loop-node.disks.items;
   some = c.loop-node.invariant.some;
-  below = omega (arith, c.loop-node.invariant.count, c.loop-node-test.true, c.count.ensures.number);
+  below = omega (arith, c.loop-node.invariant.count, c.loop-node-test.true, c.count-count.ensures.number);
   refused = subst (λ n. IsRefusedAt (journal_path c.args.options.folder.now n) c.in-Err.fault) (sym c.loop-node.invariant.count) c.in-Err.ensures.refused;
 }

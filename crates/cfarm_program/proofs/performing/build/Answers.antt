@@ -11,4 +11,4 @@ returns-in-Ok-clause-does g c = (quiet, inl (c.in-Ok.ensures.built, refl), (refl
 pub returns-in-Err-clause-does : goal.returns-in-Err-clause-does
 returns-in-Err-clause-does g c =
     let fault = c.in-Err.fault in
-    (building_fault fault, inr (fault, c.in-Err.ensures.refused, refl), told_by _ _ (building_line fault) _ _ _ c.status.ensures (c.tell.ensures.told (building_line fault) refl))
+    (building_fault fault, inr (fault, c.in-Err.ensures.refused, refl), told_by _ _ (building_line fault) _ _ _ c.status-status.ensures (c.tell.ensures.told (building_line fault) refl))

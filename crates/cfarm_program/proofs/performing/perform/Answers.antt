@@ -4,24 +4,24 @@ use Rattle.cfarm_program.proofs.performing.perform.Goals as goal
 pub returns-in-Check-clause-does : goal.returns-in-Check-clause-does
 returns-in-Check-clause-does g c =
     let it = c.check.ensures.does in
-    (it.0, (keeps_same _, it.1), it.2)
+    rw c.in-Check.is (it.0, (keeps_same _, it.1), it.2)
 
 pub returns-in-Interpret-clause-does : goal.returns-in-Interpret-clause-does
 returns-in-Interpret-clause-does g c =
     let it = c.run_text.ensures.does in
-    (it.0, (keeps_same _, it.1), it.2)
+    rw c.in-Interpret.is (it.0, (keeps_same _, it.1), it.2)
 
 pub returns-in-Exec-clause-does : goal.returns-in-Exec-clause-does
 returns-in-Exec-clause-does g c =
     let it = c.run_bytes.ensures.does in
-    (it.0, (keeps_same _, it.1), it.2)
+    rw c.in-Exec.is (it.0, (keeps_same _, it.1), it.2)
 
 pub returns-in-Settle-clause-does : goal.returns-in-Settle-clause-does
 returns-in-Settle-clause-does g c =
     let it = c.lay_out.ensures.does in
-    (it.0, (keeps_same _, it.1), it.2)
+    rw c.in-Settle.is (it.0, (keeps_same _, it.1), it.2)
 
 pub returns-in-Simulate-clause-does : goal.returns-in-Simulate-clause-does
 returns-in-Simulate-clause-does g c =
     let it = c.play.ensures.does in
-    (it.0, (keeps_same _, it.1), it.2)
+    rw c.in-Simulate.is (it.0, (keeps_same _, it.1), it.2)

@@ -1,7 +1,7 @@
 //! Runs over the files of the machine.
 
 use crate::held::Held;
-use crate::runs::{Here, Ran, executed, ran, told, words_of};
+use crate::runs::{Here, Ran, executed, run_over, told, words_of};
 use cfarm_files::HostFiles;
 use rooms_hall::Naming;
 use std::fs;
@@ -15,7 +15,7 @@ fn ran_here<H: Naming + Send, R: Threads + Wait + Sync>(
     words: &[String],
 ) -> Ran {
     let alloc = here.alloc;
-    ran(
+    run_over(
         here,
         words,
         &mut HostFiles(rt),
