@@ -81,7 +81,7 @@ def main():
                 wrong += 1
                 print(f"{folder}: the last build: status {status}, {err.decode(errors='replace').strip()}")
                 continue
-            if told("exec", linked) != told("interpret", text, "--depth", "1000000"):
+            if told("exec", linked, "--limit", "1000000000") != told("interpret", text, "--depth", "1000000"):
                 wrong += 1
                 print(f"{folder}: exec tells something else than interpret")
     print(f"{kills} kills, {stood} times linked.cfp stood behind one, {wrong} wrong")

@@ -14,7 +14,8 @@ int cube(int n) {
 int main(void) {
   int n = 1;
   while (n <= 5) {
-    total = total + cube(n);
+    int next = cube(n);
+    total = total + next;
     print(total);
     putchar('\n');
     n = n + 1;
