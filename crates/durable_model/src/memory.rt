@@ -211,7 +211,7 @@ impl MemoryDisk {
         ensures { IsTrue result ↔ FailsAt (calls_made self.now + 1) self.now }
     {
         let made = self.calls.len();
-        self.fails != 0 && made == self.fails - 1 || self.stops != 0 && self.stops - 1 <= made
+        (self.fails != 0 && made == self.fails - 1) || (self.stops != 0 && self.stops - 1 <= made)
     }
 
     /// The capacity suffices for one call more, which writes so many bytes.
@@ -280,6 +280,7 @@ impl Disk for MemoryDisk {
         ensures memory { IsErrOf result DiskError.NoMemory → Lengthens at (length bytes.now) (seen_by_memory self.old) }
         ensures unwritten { IsErrOf result DiskError.NoMemory
             → Unchanged seen_by_memory memory_may_leave self.old self.new }
+        ensures unseen { IsErrOf result DiskError.Device → seen_by_memory self.new ≡ seen_by_memory self.old }
         ensures failures { Counts result (memory_faults self.old) (memory_faults self.new) }
         ensures fails { IsErrOf result DiskError.Device ↔ MustFail (length bytes.now) self.old }
         ensures count { KeepsCount (length bytes.now) result self.old self.new }
