@@ -55,13 +55,9 @@ pub record HasCapacity (calls bytes : ℕ) (disk : MemoryDisk) : Type 0 where
 abbrev pub IsPastCapacity : ℕ → MemoryDisk → Type 0
 IsPastCapacity bytes disk = (disk.call_capacity ≤ calls_made disk) ⊎ (disk.byte_capacity < bytes_noted disk + bytes)
 
--- the disk stops from call number n on, counted from 1, or from an earlier one
-abbrev pub StopsBy : ℕ → MemoryDisk → Type 0
-StopsBy n disk = (1 ≤ disk.stops) × (disk.stops ≤ n)
-
 -- call number n, counted from 1, is the one that is to fail, or the disk stops from it or an earlier one
 abbrev pub FailsAt : ℕ → MemoryDisk → Type 0
-FailsAt n disk = (disk.fails ≡ n) ⊎ StopsBy n disk
+FailsAt n disk = (disk.fails ≡ n) ⊎ ((1 ≤ disk.stops) × (disk.stops ≤ n))
 
 -- no call is to fail, and it does not stop: there is no call 0
 pub record NoneFails (disk : MemoryDisk) : Type 0 where

@@ -197,6 +197,7 @@ impl MemoryDisk {
         requires capacity { calls_made self.old < self.old.call_capacity }
         requires nothing { size_of call ≡ 0 }
         ensures notes { Notes call [] self.old self.new }
+        ensures time { Elapses memory_moment memory_left_since memory_may_leave self.old self.new }
         ensures bytes { self.new.bytes ≡ self.old.bytes }
         ensures capacity { KeepsCapacity self.old self.new }
         ensures told { IsToldAs self.old self.new }
