@@ -46,8 +46,3 @@ pub record Counts {T : Type 0} (result : Result T DiskError) (before now : ℕ) 
 -- a count that rose in a part of a run rose in the run
 pub risen_within : (a b c d : ℕ) → a ≤ b → Risen b c → c ≤ d → Risen a d
 risen_within a b c d first rise last = grind (arith, first, rise, last)
-
--- what a call that answered `Device` counted
-pub risen_by : {T : Type 0} {result : Result T DiskError} {before now : ℕ} → Counts result before now
-    → IsErrOf result Device → Risen before now
-risen_by counts failed = omega (arith, counts.device failed)

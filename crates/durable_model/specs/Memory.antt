@@ -55,11 +55,16 @@ pub record HasCapacity (calls bytes : ℕ) (disk : MemoryDisk) : Type 0 where
 abbrev pub IsPastCapacity : ℕ → MemoryDisk → Type 0
 IsPastCapacity bytes disk = (disk.call_capacity ≤ calls_made disk) ⊎ (disk.byte_capacity < bytes_noted disk + bytes)
 
--- call number n is the one that is to fail, counted from 1
+-- call number n, counted from 1, is the one that is to fail, or the disk stops from it or an earlier one
 abbrev pub FailsAt : ℕ → MemoryDisk → Type 0
-FailsAt n disk = disk.fails ≡ n
+FailsAt n disk = (disk.fails ≡ n) ⊎ ((1 ≤ disk.stops) × (disk.stops ≤ n))
 
--- a call that writes so many bytes fails now: it is the one that is to fail, or is past the capacity
+-- no call is to fail, and it does not stop: there is no call 0
+pub record NoneFails (disk : MemoryDisk) : Type 0 where
+  pub none : disk.fails ≡ 0
+  pub never : disk.stops ≡ 0
+
+-- a call that writes so many bytes fails now: it is one of those that are to fail, or is past the capacity
 abbrev pub MustFail : ℕ → MemoryDisk → Type 0
 MustFail bytes disk = IsPastCapacity bytes disk ⊎ FailsAt (calls_made disk + 1) disk
 
@@ -77,15 +82,24 @@ pub record HasNotCounted (old new : MemoryDisk) : Type 0 where
 abbrev pub told_to_fail : MemoryDisk → ℕ → MemoryDisk
 told_to_fail disk n = record disk { fails = n }
 
+-- the same, where each call from number n on is to fail, or none if n is 0
+abbrev pub told_to_stop : MemoryDisk → ℕ → MemoryDisk
+told_to_stop disk n = record disk { stops = n }
+
+-- which calls are to fail is as it was
+pub record IsToldAs (old new : MemoryDisk) : Type 0 where
+  pub fails_are : new.fails ≡ old.fails
+  pub stops_are : new.stops ≡ old.stops
+
 -- the capacities are as they were
 abbrev pub KeepsCapacity : MemoryDisk → MemoryDisk → Type 0
 KeepsCapacity old = HasCapacity old.call_capacity old.byte_capacity
 
--- What a call that was to write so many bytes leaves of what the next ones fail by: the capacities, and which call is to
+-- What a call that was to write so many bytes leaves of what the next ones fail by: the capacities, and which calls are to
 -- fail. It is counted, with no bytes where the device failed, unless it was past the capacity or found no memory.
 pub record KeepsCount {T : Type 0} (bytes : ℕ) (result : Result T DiskError) (old new : MemoryDisk) : Type 0 where
   pub capacity : KeepsCapacity old new
-  pub told : new.fails ≡ old.fails
+  pub told : IsToldAs old new
   pub ok : OnOk result (HasCounted bytes old new)
   pub memory : IsErrOf result NoMemory → HasNotCounted old new
   pub past : IsPastCapacity bytes old → HasNotCounted old new

@@ -29,8 +29,10 @@ pub struct MemoryDisk {
     byte_capacity: usize,
     /// How many calls stand up to the last sync.
     synced: usize,
-    /// Which call is to fail, counted from 1.
+    /// Which call is to fail, counted from 1; 0 for none.
     fails: usize,
+    /// From which call on each is to fail, counted from 1; 0 for none.
+    stops: usize,
     failures: u64,
     ghost kept: { bytes.items ≡ seen_after (noted calls.items written.items []) first.items },
     ghost whole: { sum_by size_of calls.items ≡ length written.items },
@@ -43,7 +45,8 @@ impl MemoryDisk {
     ghost use Rattle.durable_model.specs.Honest.{Only, Follows, Unchanged, Elapses};
     ghost use Rattle.durable_model.specs.History.{size_of};
     ghost use Rattle.durable_model.specs.Memory.{seen_by_memory, memory_may_leave, memory_faults, memory_moment};
-    ghost use Rattle.durable_model.specs.Memory.{memory_left_since, calls_made, bytes_noted, told_to_fail, FailsAt};
+    ghost use Rattle.durable_model.specs.Memory.{memory_left_since, calls_made, bytes_noted, told_to_fail};
+    ghost use Rattle.durable_model.specs.Memory.{told_to_stop, FailsAt, NoneFails, IsToldAs};
     ghost use Rattle.durable_model.specs.Memory.{IsPastCapacity, IsSettled, HasCapacity, KeepsCapacity, HasCounted};
     ghost use Rattle.durable_model.specs.Memory.{HasNotCounted, Notes, StandsAs};
     ghost use Rattle.durable_model_writes.specs.Writes.{overwritten, Lengthens, Torn};
@@ -54,7 +57,7 @@ impl MemoryDisk {
         ensures empty { IfOk result (λ disk. seen_by_memory disk ≡ []) }
         ensures settled { IfOk result IsSettled }
         ensures capacity { IfOk result (HasCapacity calls bytes) }
-        ensures none_fails { IfOk result (FailsAt 0) }
+        ensures none_fails { IfOk result NoneFails }
         ensures whole { IfOk result (λ disk. memory_faults disk ≡ 0) }
     {
         MemoryDisk::holding(alloc, Vec::new(alloc), calls, bytes)
@@ -70,7 +73,7 @@ impl MemoryDisk {
         ensures seen { IfOk result (λ disk. seen_by_memory disk ≡ content.items) }
         ensures settled { IfOk result IsSettled }
         ensures capacity { IfOk result (HasCapacity calls bytes) }
-        ensures none_fails { IfOk result (FailsAt 0) }
+        ensures none_fails { IfOk result NoneFails }
         ensures whole { IfOk result (λ disk. memory_faults disk ≡ 0) }
     {
         Ok(MemoryDisk {
@@ -82,6 +85,7 @@ impl MemoryDisk {
             byte_capacity: bytes,
             synced: 0,
             fails: 0,
+            stops: 0,
             failures: 0,
         })
     }
@@ -94,13 +98,21 @@ impl MemoryDisk {
         self.fails = n;
     }
 
-    /// A disk that a crash now may leave, with as much capacity anew, and with no call that is to fail. Each write that
-    /// was not synced is lost, done, mixed with what was there, or garbage, as the words choose.
+    /// Lets its device stop: from its nth call on, counted from the first after it was made, each fails; 0 lets none
+    /// fail so. A write that fails so may tear its range. The one call that [`MemoryDisk::fail_at`] told fails too.
+    pub fn stop_from(&mut self, n: usize)
+        ensures { self.new ≡ told_to_stop self.old n }
+    {
+        self.stops = n;
+    }
+
+    /// A disk that a crash now may leave, with as much capacity anew, with no call that is to fail, and which does not
+    /// stop. Each write that was not synced is lost, done, mixed with what was there, or garbage, as the words choose.
     pub fn crash(&self, alloc: Global, words: &mut Pcg32) -> Result<MemoryDisk, NoMemory>
         ensures image { IfOk result (λ disk. memory_may_leave self.now (seen_by_memory disk)) }
         ensures settled { IfOk result IsSettled }
         ensures capacity { IfOk result (KeepsCapacity self.now) }
-        ensures none_fails { IfOk result (FailsAt 0) }
+        ensures none_fails { IfOk result NoneFails }
         ensures whole { IfOk result (λ disk. memory_faults disk ≡ 0) }
     {
         let image = torn_image(
@@ -153,7 +165,7 @@ impl MemoryDisk {
         ensures memory { OnErr result (Lengthens at (length bytes.now) (seen_by_memory self.old)) }
         ensures unwritten { OnErr result (Unchanged seen_by_memory memory_may_leave self.old self.new) }
         ensures capacity { KeepsCapacity self.old self.new }
-        ensures told { self.new.fails ≡ self.old.fails }
+        ensures told { IsToldAs self.old self.new }
         ensures counted { OnOk result (HasCounted (length bytes.now) self.old self.new) }
         ensures uncounted { OnErr result (HasNotCounted self.old self.new) }
         ensures calls { calls_made self.new ≤ calls_made self.old + 1 }
@@ -172,7 +184,7 @@ impl MemoryDisk {
         ensures unchanged { Unchanged seen_by_memory memory_may_leave self.old self.new }
         ensures time { Elapses memory_moment memory_left_since memory_may_leave self.old self.new }
         ensures capacity { KeepsCapacity self.old self.new }
-        ensures told { self.new.fails ≡ self.old.fails }
+        ensures told { IsToldAs self.old self.new }
         ensures counted { HasCounted 0 self.old self.new }
         ensures failures { self.new.failures ≡ self.old.failures }
     {
@@ -185,20 +197,22 @@ impl MemoryDisk {
         requires capacity { calls_made self.old < self.old.call_capacity }
         requires nothing { size_of call ≡ 0 }
         ensures notes { Notes call [] self.old self.new }
+        ensures time { Elapses memory_moment memory_left_since memory_may_leave self.old self.new }
         ensures bytes { self.new.bytes ≡ self.old.bytes }
         ensures capacity { KeepsCapacity self.old self.new }
-        ensures told { self.new.fails ≡ self.old.fails }
+        ensures told { IsToldAs self.old self.new }
         ensures counted { HasCounted 0 self.old self.new }
         ensures failures { self.new.failures ≡ self.old.failures }
     {
         note(&mut self.calls, call);
     }
 
-    /// The next call is the one that is to fail.
+    /// The next call is one of those that are to fail.
     fn fails_now(&self) -> bool
         ensures { IsTrue result ↔ FailsAt (calls_made self.now + 1) self.now }
     {
-        self.fails != 0 && self.calls.len() == self.fails - 1
+        let made = self.calls.len();
+        (self.fails != 0 && made == self.fails - 1) || (self.stops != 0 && self.stops - 1 <= made)
     }
 
     /// The capacity suffices for one call more, which writes so many bytes.
@@ -267,6 +281,7 @@ impl Disk for MemoryDisk {
         ensures memory { IsErrOf result DiskError.NoMemory → Lengthens at (length bytes.now) (seen_by_memory self.old) }
         ensures unwritten { IsErrOf result DiskError.NoMemory
             → Unchanged seen_by_memory memory_may_leave self.old self.new }
+        ensures unseen { IsErrOf result DiskError.Device → seen_by_memory self.new ≡ seen_by_memory self.old }
         ensures failures { Counts result (memory_faults self.old) (memory_faults self.new) }
         ensures fails { IsErrOf result DiskError.Device ↔ MustFail (length bytes.now) self.old }
         ensures count { KeepsCount (length bytes.now) result self.old self.new }

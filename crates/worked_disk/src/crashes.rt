@@ -1,6 +1,6 @@
 //! What a crash leaves of a disk in memory, under sixteen generators each.
 
-use durable_model::{Disk, MemoryDisk};
+use durable_model::{Disk, DiskError, MemoryDisk};
 use rand_pcg::Pcg32;
 use std::alloc::Global;
 use std::test::Fail;
@@ -75,6 +75,36 @@ fn a_sync_that_failed_leaves_writes_torn(rt: HostRuntime) -> Result<(), Fail> {
             b"a longer text".as_slice()
         );
     }
+    Ok(())
+}
+
+#[test]
+fn a_disk_that_stopped_leaves_what_was_synced(rt: HostRuntime) -> Result<(), Fail> {
+    let alloc = rt.alloc();
+    let mut disk = MemoryDisk::new(alloc, 100, 100)?;
+    disk.stop_from(3);
+    disk.write_at(0, b"abcdef")?;
+    disk.sync()?;
+    assert_eq!(rt; disk.write_at(2, b"XY"), Err(DiskError::Device));
+    assert_eq!(rt; disk.sync(), Err(DiskError::Device));
+    assert!(rt; disk.read(alloc).is_err());
+    assert_eq!(rt; disk.failures(), 3);
+    let mut torn = 0u32;
+    for s in 1..17 {
+        let left = crashed(alloc, &disk, s)?;
+        assert!(rt; left.starts_with(b"ab") && left.len() == 6);
+        assert_eq!(rt; left.get(4..6), Some(b"ef".as_slice()));
+        if left.get(2..4) != Some(b"cd".as_slice()) {
+            torn = torn.saturating_add(1);
+        }
+    }
+    assert!(rt; torn > 0);
+    let mut left = disk.crash(alloc, &mut Pcg32::new(1, 0))?;
+    left.write_at(2, b"XY")?;
+    left.sync()?;
+    left.write_at(0, b"AB")?;
+    assert_eq!(rt; left.read(alloc)?.as_slice(), b"ABXYef".as_slice());
+    assert_eq!(rt; left.failures(), 0);
     Ok(())
 }
 

@@ -39,6 +39,46 @@ fn fails_the_nth_call_alone(rt: HostRuntime) -> Result<(), Fail> {
 }
 
 #[test]
+fn a_disk_that_stops_fails_each_call_from_the_nth_on(rt: HostRuntime) -> Result<(), Fail> {
+    let alloc = rt.alloc();
+    for n in 0..8usize {
+        let mut disk = MemoryDisk::new(alloc, 100, 100)?;
+        disk.stop_from(n);
+        let wanted = if n <= 6 { n as u64 } else { 0 };
+        let failures = if wanted == 0 {
+            0
+        } else {
+            7u64.saturating_sub(wanted)
+        };
+        assert_eq!(rt; first_failed(alloc, &mut disk), wanted);
+        assert_eq!(rt; disk.failures(), failures);
+        disk.stop_from(0);
+        let held = match n {
+            1 => b"".as_slice(),
+            2 | 3 | 4 => b"abc".as_slice(),
+            _ => b"abcdef".as_slice(),
+        };
+        assert_eq!(rt; disk.read(alloc)?.as_slice(), held);
+    }
+    Ok(())
+}
+
+#[test]
+fn one_call_may_fail_before_the_disk_stops(rt: HostRuntime) -> Result<(), Fail> {
+    let alloc = rt.alloc();
+    for n in 0..8usize {
+        let mut disk = MemoryDisk::new(alloc, 100, 100)?;
+        disk.fail_at(n);
+        disk.stop_from(5);
+        let wanted = if 1 <= n && n <= 4 { n as u64 } else { 5 };
+        let failures = if wanted == 5 { 2 } else { 3 };
+        assert_eq!(rt; first_failed(alloc, &mut disk), wanted);
+        assert_eq!(rt; disk.failures(), failures);
+    }
+    Ok(())
+}
+
+#[test]
 fn a_call_past_the_capacity_fails(rt: HostRuntime) -> Result<(), Fail> {
     let alloc = rt.alloc();
     for calls in 0..8usize {

@@ -1,5 +1,6 @@
 use Rattle.std.proofs.Common.{[], refl, ap, arith, ◌∙◌}
 use Rattle.durable_model.specs.History.{noted}
+use Rattle.durable_model.proofs.Elapsed.{noted_elapses}
 use Rattle.durable_model.proofs.Noted.{noted_none, kept_none, whole_more}
 use Rattle.durable_model.proofs.memory.MemoryDisk.note_call.Goals as goal
 
@@ -23,3 +24,6 @@ returns-clause-notes c =
           ∙ noted_none old.calls.items old.written.items [] c.args.call c.requires.nothing;
       first_is = refl;
     }
+
+pub returns-clause-time : goal.returns-clause-time
+returns-clause-time c = noted_elapses _ _ c.args.call [] (returns-clause-notes c)

@@ -1,13 +1,7 @@
 use Rattle.std.proofs.Common.{ap, sym, ◌∙◌, subst}
 use Rattle.durable_model.specs.History.{MayLeave}
 use Rattle.durable_model.specs.Memory.{history, left_as_kept}
-use Rattle.durable_model.proofs.Elapsed.{noted_elapses}
 use Rattle.durable_model.proofs.memory.MemoryDisk.note_sync.Goals as goal
-
-pub returns-clause-time : goal.returns-clause-time
-returns-clause-time c =
-    let notes = c.note_call.ensures.notes in
-    noted_elapses _ _ _ _ (record { history_is = notes.history_is; first_is = notes.first_is })
 
 pub returns-clause-unchanged : goal.returns-clause-unchanged
 returns-clause-unchanged c =
