@@ -17,6 +17,9 @@ struct Place {
 #[derive(Drop)]
 pub struct Pace {
     places: Vec<Place>,
+    /// How many turns are under way.
+    turning: AtomicU64,
+    /// How many turns brought something new.
     moves: AtomicU64,
     is_refused: AtomicBool,
 }
@@ -33,6 +36,7 @@ impl Pace {
         }
         Ok(Pace {
             places,
+            turning: AtomicU64::new(0),
             moves: AtomicU64::new(0),
             is_refused: AtomicBool::new(false),
         })
@@ -64,9 +68,22 @@ impl Pace {
         }
     }
 
-    /// Notes that a turn brought something new.
-    pub fn note_move(&self) {
-        self.moves.fetch_add(1, Ordering::SeqCst);
+    /// Notes that a turn begins.
+    pub fn begin_turn(&self) {
+        self.turning.fetch_add(1, Ordering::SeqCst);
+    }
+
+    /// Notes that a turn is over, and whether it brought something new.
+    pub fn end_turn(&self, is_new: bool) {
+        if is_new {
+            self.moves.fetch_add(1, Ordering::SeqCst);
+        }
+        self.turning.fetch_sub(1, Ordering::SeqCst);
+    }
+
+    /// Whether a turn is under way.
+    pub fn is_turning(&self) -> bool {
+        self.turning.load(Ordering::SeqCst) != 0
     }
 
     /// How many turns brought something new, of all nodes.

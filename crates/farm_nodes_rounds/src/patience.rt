@@ -1,35 +1,35 @@
 //! How long a node waits for others.
 
-/// How often a node is asked in vain before it goes on though no other took a step.
-const MOST_WAITS: u32 = 1_000;
+use crate::pace::Pace;
 
-/// A node that took no step in a whole round waits until another one takes a step, but not for ever: it may be that all wait. No
-/// contract speaks of it.
+/// A node that took no step in a whole round waits while another's turn is under way, until one brings something new. No contract
+/// speaks of it.
 #[derive(Drop)]
 pub(crate) struct Patience {
-    moves: u64,
-    left: u32,
+    /// How many turns had brought something new when it began to wait; none where it does not wait.
+    moves: Option<u64>,
 }
 
 impl Patience {
     /// It does not wait.
     pub(crate) fn none() -> Patience {
-        Patience { moves: 0, left: 0 }
+        Patience { moves: None }
     }
 
-    /// It begins to wait, when so many steps were taken in all.
-    pub(crate) fn begin(&mut self, moves: u64) {
-        self.moves = moves;
-        self.left = MOST_WAITS;
+    /// It begins to wait.
+    pub(crate) fn begin(&mut self, pace: &Pace) {
+        self.moves = Some(pace.moves());
     }
 
-    /// Whether it waits on, when so many steps were taken in all.
-    pub(crate) fn waits(&mut self, moves: u64) -> bool {
-        if self.left == 0 || moves != self.moves {
-            self.left = 0;
+    /// Whether it waits on.
+    pub(crate) fn waits(&mut self, pace: &Pace) -> bool {
+        let Some(moves) = self.moves else {
             return false;
+        };
+        if pace.is_turning() && pace.moves() == moves {
+            return true;
         }
-        self.left -= 1;
-        true
+        self.moves = None;
+        false
     }
 }

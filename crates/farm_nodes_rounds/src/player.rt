@@ -94,7 +94,9 @@ fn turn<N: TakesTurns, G: Gate>(player: &mut Player<N>, room: u16, pace: &Pace, 
     ensures { Goes N.turned N.is_fit player.old.node player.old.left player.new.node player.new.left }
 {
     gate.before(player.number);
+    pace.begin_turn();
     let outcome = player.node.take_turn(room);
+    pace.end_turn(outcome.is_new());
     player.left -= 1;
     player.taken = player.taken.saturating_add(1);
     gate.after(player.number);
@@ -102,7 +104,6 @@ fn turn<N: TakesTurns, G: Gate>(player: &mut Player<N>, room: u16, pace: &Pace, 
     player.cursor.note(has_learned);
     if outcome.is_new() {
         player.cursor.note_move();
-        pace.note_move();
     }
     if outcome.has_failed() {
         end(player, pace, true);
@@ -130,12 +131,12 @@ pub(crate) fn take_turn<N: TakesTurns, G: Gate>(
         end(player, pace, has_all);
         return Step::Ended;
     }
-    if pace.is_ahead(player.taken) || player.patience.waits(pace.moves()) {
+    if pace.is_ahead(player.taken) || player.patience.waits(pace) {
         return Step::Waited;
     }
     let Some(room) = next_room(&player.node, &mut player.cursor) else {
         pace.note(player.number, player.taken, player.cursor.has_all);
-        player.patience.begin(pace.moves());
+        player.patience.begin(pace);
         return Step::Waited;
     };
     Step::of(turn(player, room, pace, gate))
