@@ -19,7 +19,10 @@ use std::sync::Wait;
 use std::thread::Threads;
 
 /// How many crashes are tried of each failure.
-const CRASHES: u64 = 16;
+const CRASHES: u64 = 4;
+
+/// How many generators the crashes are drawn by, four for a failure, and others for the next.
+const GENERATORS: u64 = 16;
 
 /// So many calls of the disk may fail at most.
 const MOST: usize = 400;
@@ -123,7 +126,9 @@ fn fails_at<H: Naming + Send, R: Threads + Wait + Sync>(
     call: usize,
 ) -> Option<bool> {
     let mut stopped = false;
-    for seed in 0..CRASHES {
+    let first = (call as u64).wrapping_mul(CRASHES);
+    for crash in 0..CRASHES {
+        let seed = first.wrapping_add(crash) % GENERATORS;
         let Some(failed) = fails(threads, alloc, hall, text, call, seed) else {
             return None;
         };

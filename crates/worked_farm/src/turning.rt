@@ -19,7 +19,7 @@ use std::sync::Wait;
 use std::thread::Threads;
 
 /// How many turns each node may take: more than any of the farms needs.
-pub(crate) const TURNS: u64 = 100_000;
+pub(crate) const TURNS: u64 = 10_000;
 
 /// A node of more functions is none of these farms'.
 const MOST_FUNCTIONS: usize = 64;
