@@ -54,7 +54,7 @@ FLOORS = [
      "cfarm_schedules cfarm_words cfarm_program cfarm"),
     ("Tests",
      "program_rows paxos_reference worked_farm worked_commands worked_agreement worked_texts worked_forms worked_offers "
-     "worked_rows worked_disk worked_journals worked_rooms"),
+     "worked_rows worked_disk worked_journals worked_rooms worked_hostile"),
 ]
 ORDER = [crate for _, crates in FLOORS for crate in crates.split()]
 

@@ -1,0 +1,51 @@
+//! What is told of farms, in words.
+
+use crate::running::opened_on;
+use acceptor_log::LogError;
+use cfarm_build::BuildError;
+use durable_model::MemoryDisk;
+use farm_nodes::{FarmError, Hall, Naming, OpenFault};
+use program_rows::owned;
+use std::alloc::Global;
+use std::sync::Wait;
+use std::thread::Threads;
+
+/// The status and the line of a build that is refused.
+pub(crate) fn line_of(alloc: Global, fault: &BuildError) -> Option<String> {
+    let status = fault.status();
+    format!(in alloc; "{status} {fault}").ok()
+}
+
+/// The same of a farm that does not open, if that was told.
+pub(crate) fn line_of_farm(alloc: Global, fault: Option<FarmError>) -> Option<String> {
+    let Some(fault) = fault else {
+        return None;
+    };
+    let fault = match fault {
+        FarmError::Source(fault) => BuildError::Source(fault),
+        FarmError::Disks(fault) => BuildError::Disks(fault),
+    };
+    line_of(alloc, &fault)
+}
+
+/// Whether a farm is refused since this node's disk failed.
+pub(crate) fn is_failure(fault: &Option<FarmError>, node: u8) -> bool {
+    match fault {
+        Some(FarmError::Disks(OpenFault::Journal(number, LogError::Device))) => *number == node,
+        _ => false,
+    }
+}
+
+/// Whether a farm opens over the disks; else its line.
+pub(crate) fn opening_told<H: Naming, R: Threads + Wait + Sync>(
+    threads: &R,
+    alloc: Global,
+    hall: &Hall<H>,
+    text: &[u8],
+    disks: Vec<MemoryDisk>,
+) -> Option<String> {
+    match opened_on(threads, alloc, hall, text, disks) {
+        Ok(_farm) => owned(alloc, "opened"),
+        Err((_disks, fault)) => line_of_farm(alloc, fault),
+    }
+}

@@ -1,0 +1,123 @@
+//! Journals in which two functions have exchanged their rooms.
+
+use crate::answers::line_of;
+use crate::disks::empty_disk;
+use crate::running::TURNS;
+use crate::whole::whole_disks;
+use acceptor_log::{Header, Log, Record};
+use cfarm_build::{Progress, build};
+use durable_model::{Disk, MemoryDisk};
+use farm_nodes::{Hall, Naming, optimisers_of, prepare};
+use program_rows::owned;
+use std::alloc::Global;
+use std::sync::Wait;
+use std::thread::Threads;
+
+/// The same record in the room of the same pass of the other function, of the first two: they have the rooms 0 to 3, and 4 to 7.
+fn moved(entry: Record) -> Record {
+    match entry {
+        Record::Offered(room, offer) => Record::Offered(room ^ 4, offer),
+        Record::Started(room, ballot) => Record::Started(room ^ 4, ballot),
+        Record::Proposed(room, ballot, value) => Record::Proposed(room ^ 4, ballot, value),
+        Record::Promised(room, ballot) => Record::Promised(room ^ 4, ballot),
+        Record::Accepted(room, ballot, value) => Record::Accepted(room ^ 4, ballot, value),
+    }
+}
+
+/// The disk with a new journal of the records in the other rooms.
+fn appended<D: Disk + Drop>(
+    alloc: Global,
+    disk: D,
+    header: &Header,
+    records: Vec<Record>,
+) -> Option<D> {
+    let Ok(mut log) = Log::create(alloc, disk, header) else {
+        return None;
+    };
+    for entry in records {
+        if log.append(&moved(entry)).is_err() {
+            return None;
+        }
+    }
+    Some(log.into_disk())
+}
+
+/// The disks of three nodes with the same records in the other rooms.
+fn crossed(alloc: Global, disks: Vec<MemoryDisk>, digest: [u8; 32]) -> Option<Vec<MemoryDisk>> {
+    let mut all = Vec::new(alloc);
+    let mut number = 0u8;
+    for disk in disks {
+        let header = Header {
+            nodes: 3,
+            node: number,
+            digest,
+        };
+        let Ok((_log, records)) = Log::open(alloc, disk, &header) else {
+            return None;
+        };
+        let Some(empty) = empty_disk(alloc) else {
+            return None;
+        };
+        let Some(disk) = appended(alloc, empty, &header, records) else {
+            return None;
+        };
+        if all.push(disk).is_err() {
+            return None;
+        }
+        number = number.saturating_add(1);
+    }
+    Some(all)
+}
+
+/// Is told how far a build is, and shows nothing.
+#[derive(Drop)]
+struct Quiet;
+
+impl Progress for Quiet {
+    fn tell(&mut self, _linked: usize, _functions: usize, _turns: u64) {}
+}
+
+/// Whether a farm of three nodes builds a program over the disks; else its line.
+fn build_told<H: Naming + Send, R: Threads + Wait + Sync>(
+    threads: &R,
+    alloc: Global,
+    hall: &Hall<H>,
+    text: &[u8],
+    disks: Vec<MemoryDisk>,
+) -> Option<String> {
+    if disks.len() != 3 {
+        return None;
+    }
+    let Ok(oracles) = optimisers_of(alloc, 3) else {
+        return None;
+    };
+    let Ok(source) = prepare(alloc, text) else {
+        return None;
+    };
+    let made = build(
+        threads, alloc, hall, source, disks, oracles, TURNS, 1, &mut Quiet,
+    );
+    match made {
+        Ok(_built) => owned(alloc, "linked"),
+        Err(fault) => line_of(alloc, &fault),
+    }
+}
+
+/// A whole farm's journals are read as those of a farm whose first two functions have exchanged their rooms.
+pub(crate) fn crossed_told<H: Naming + Send, R: Threads + Wait + Sync>(
+    threads: &R,
+    alloc: Global,
+    hall: &Hall<H>,
+    text: &[u8],
+) -> Option<String> {
+    let Ok(source) = prepare(alloc, text) else {
+        return None;
+    };
+    let Some(disks) = whole_disks(threads, alloc, hall, text) else {
+        return None;
+    };
+    let Some(disks) = crossed(alloc, disks, source.digest) else {
+        return None;
+    };
+    build_told(threads, alloc, hall, text, disks)
+}

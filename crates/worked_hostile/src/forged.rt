@@ -1,0 +1,69 @@
+//! Journals of records that are listed.
+
+use crate::answers::opening_told;
+use crate::disks::disk_of;
+use acceptor_log::{Header, header_bytes};
+use durable_model::MemoryDisk;
+use farm_nodes::{Hall, Naming, prepare};
+use program_rows::bytes_of;
+use std::alloc::Global;
+use std::sync::Wait;
+use std::thread::Threads;
+
+/// Adds a record to a journal: its gate, its length, and its bytes.
+fn add(journal: &mut Vec<u8>, body: &[u8]) -> Option<()> {
+    let size = u32::try_from(body.len()).ok()?;
+    journal.push(1).ok()?;
+    journal.extend_from_slice(&size.to_be_bytes()).ok()?;
+    journal.extend_from_slice(body).ok()
+}
+
+/// A journal of the records.
+fn journal_of(alloc: Global, header: &Header, records: &str) -> Option<Vec<u8>> {
+    let mut journal = header_bytes(alloc, header).ok()?;
+    for word in records.split(',') {
+        if word != "-" {
+            let body = bytes_of(alloc, word)?;
+            add(&mut journal, body.as_slice())?;
+        }
+    }
+    journal.push(0).ok()?;
+    Some(journal)
+}
+
+/// The disks of the nodes whose records are listed.
+fn forged_disks(alloc: Global, digest: [u8; 32], records: &str) -> Option<Vec<MemoryDisk>> {
+    let mut disks = Vec::new(alloc);
+    let mut number = 0u8;
+    for node in records.split(';') {
+        let header = Header {
+            nodes: 3,
+            node: number,
+            digest,
+        };
+        let journal = journal_of(alloc, &header, node)?;
+        let disk = disk_of(alloc, journal.as_slice())?;
+        if disks.push(disk).is_err() {
+            return None;
+        }
+        number = number.saturating_add(1);
+    }
+    Some(disks)
+}
+
+/// What opening over them tells.
+pub(crate) fn forged_told<H: Naming, R: Threads + Wait + Sync>(
+    threads: &R,
+    alloc: Global,
+    hall: &Hall<H>,
+    records: &str,
+    text: &[u8],
+) -> Option<String> {
+    let Ok(source) = prepare(alloc, text) else {
+        return None;
+    };
+    let Some(disks) = forged_disks(alloc, source.digest, records) else {
+        return None;
+    };
+    opening_told(threads, alloc, hall, text, disks)
+}

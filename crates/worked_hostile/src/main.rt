@@ -1,0 +1,76 @@
+//! Farms of three nodes on disks in memory, under hostile use: what they answer where journals are forged, exchanged, cut and changed, and
+//! where disks fail and stop. Tells how many rows of the file are answered as they say, and which are not.
+//!
+//! | Question | Answer |
+//! |---|---|
+//! | `forged RECORDS TEXT` | what opening over these journals tells: the records of a node have commas between, those of the nodes `;`, and `-` is none. A record is its bytes in hex |
+//! | `exchanged - TEXT` | what opening tells over the journals of a whole farm, of which the first two are exchanged |
+//! | `edited - TEXT` | the same over those of the text with a blank behind |
+//! | `joined - TEXT` | the same over those of three nodes and two empty disks |
+//! | `crossed - TEXT` | what a build tells over the journals of a whole farm in which the first two functions have exchanged their rooms |
+//! | `unread - TEXT` | `linked`, where opening over the journals of a whole farm tells each call of a disk that fails, and a farm on the disks that come back links what was linked |
+//! | `stopped STEP TEXT` | `linked`, where farms whose disks all stop, so many calls later each, and crash, open again, link all functions, and those that a node had linked with the same code. While the first journal is made it may also be refused as none, as bad or as another's |
+//! | `swept STEP TEXT` | `answered`, where a farm opens, or is refused for the node's journal or for a room that is not settled, with each journal of a whole farm cut at each length and with each of its bytes changed, one at a time: at every so many bytes |
+//!
+//! What opening tells is `opened`, and what a build tells `linked`; or a status and a line. A farm is whole once its nodes have learned in
+//! all rooms.
+#![tactic(auto)]
+
+mod answers;
+mod codes;
+mod crossed;
+mod disks;
+mod farms;
+mod forged;
+mod rows;
+mod running;
+mod stopped;
+mod strangers;
+mod swept;
+mod unread;
+mod whole;
+
+use crate::farms::told;
+use crate::rows::row_of;
+use program_rows::{agrees, parts_of_row};
+use std::sync::Wait;
+use std::thread::Threads;
+use std::{fs, io};
+
+/// The file of the rows.
+const HOSTILE: &str = "hostile.txt";
+
+fn main(rt: HostRuntime) -> io::Result<()> {
+    tell(&rt, &rt)
+}
+
+/// What is told of a question; none where it is no question.
+fn answer<R: Threads + Wait + Sync>(
+    rt: &HostRuntime,
+    threads: &R,
+    question: &str,
+) -> Option<String> {
+    let Some(row) = row_of(rt.alloc(), question) else {
+        return None;
+    };
+    told(threads, rt.alloc(), row)
+}
+
+/// Asks for each row of the file that lies beside the program, and tells how many agree.
+fn tell<R: Threads + Wait + Sync>(rt: &HostRuntime, threads: &R) -> io::Result<()> {
+    let text = fs::read_to_string(rt, HOSTILE)?;
+    let mut all = 0u64;
+    let mut agree = 0u64;
+    for line in text.lines() {
+        if line.starts_with('#') {
+            continue;
+        }
+        all = all.saturating_add(1);
+        let (question, _said) = parts_of_row(line);
+        let answered = answer(rt, threads, question);
+        if agrees(rt, HOSTILE, line, all, answered)? {
+            agree = agree.saturating_add(1);
+        }
+    }
+    println!(rt; "{HOSTILE}: {agree} of {all} agree")
+}

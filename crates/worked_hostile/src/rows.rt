@@ -1,0 +1,60 @@
+//! What a row asks for.
+
+use std::alloc::Global;
+
+/// What a farm suffers.
+#[derive(Clone, Copy, Debug, PartialEq, Eq)]
+pub(crate) enum Trial {
+    /// Its journals are forged.
+    Forged,
+    /// Two of its journals are exchanged.
+    Exchanged,
+    /// Its text is edited.
+    Edited,
+    /// Two nodes join it.
+    Joined,
+    /// Two functions have exchanged their rooms.
+    Crossed,
+    /// A disk fails while it opens.
+    Unread,
+    /// All disks stop, and crash.
+    Stopped,
+    /// Its journals are cut and changed.
+    Swept,
+}
+
+/// What is asked for: what a farm of this text suffers, and how.
+#[derive(Drop)]
+pub(crate) struct Row {
+    pub trial: Trial,
+    pub how: String,
+    pub text: Vec<u8>,
+}
+
+fn trial_of(word: &str) -> Option<Trial> {
+    match word {
+        "forged" => Some(Trial::Forged),
+        "exchanged" => Some(Trial::Exchanged),
+        "edited" => Some(Trial::Edited),
+        "joined" => Some(Trial::Joined),
+        "crossed" => Some(Trial::Crossed),
+        "unread" => Some(Trial::Unread),
+        "stopped" => Some(Trial::Stopped),
+        "swept" => Some(Trial::Swept),
+        _ => None,
+    }
+}
+
+/// What a question asks for, if it is one.
+pub(crate) fn row_of(alloc: Global, question: &str) -> Option<Row> {
+    let (word, rest) = question.split_once(' ')?;
+    let (how, text) = rest.split_once(' ')?;
+    let Some(trial) = trial_of(word) else {
+        return None;
+    };
+    Some(Row {
+        trial,
+        how: how.to_string(alloc).ok()?,
+        text: text.as_bytes().to_vec(alloc).ok()?,
+    })
+}

@@ -1,0 +1,66 @@
+//! Journals of another farm.
+
+use crate::answers::opening_told;
+use crate::disks::empty_disk;
+use crate::whole::whole_disks;
+use farm_nodes::{Hall, Naming};
+use std::alloc::Global;
+use std::sync::Wait;
+use std::thread::Threads;
+
+/// The journals of the first two nodes are exchanged.
+pub(crate) fn exchanged_told<H: Naming + Send, R: Threads + Wait + Sync>(
+    threads: &R,
+    alloc: Global,
+    hall: &Hall<H>,
+    text: &[u8],
+) -> Option<String> {
+    let Some(mut disks) = whole_disks(threads, alloc, hall, text) else {
+        return None;
+    };
+    if disks.len() < 2 {
+        return None;
+    }
+    disks.swap(0, 1);
+    opening_told(threads, alloc, hall, text, disks)
+}
+
+/// The journals are of the text with a blank behind.
+pub(crate) fn edited_told<H: Naming + Send, R: Threads + Wait + Sync>(
+    threads: &R,
+    alloc: Global,
+    hall: &Hall<H>,
+    text: &[u8],
+) -> Option<String> {
+    let Ok(mut longer) = text.to_vec(alloc) else {
+        return None;
+    };
+    if longer.push(b' ').is_err() {
+        return None;
+    }
+    let Some(disks) = whole_disks(threads, alloc, hall, &longer) else {
+        return None;
+    };
+    opening_told(threads, alloc, hall, text, disks)
+}
+
+/// The journals are of three nodes, and two more nodes have empty disks.
+pub(crate) fn joined_told<H: Naming + Send, R: Threads + Wait + Sync>(
+    threads: &R,
+    alloc: Global,
+    hall: &Hall<H>,
+    text: &[u8],
+) -> Option<String> {
+    let Some(mut disks) = whole_disks(threads, alloc, hall, text) else {
+        return None;
+    };
+    for _more in 0..2usize {
+        let Some(disk) = empty_disk(alloc) else {
+            return None;
+        };
+        if disks.push(disk).is_err() {
+            return None;
+        }
+    }
+    opening_told(threads, alloc, hall, text, disks)
+}

@@ -1,0 +1,38 @@
+//! Whole farms: their disks do not fail, and their nodes learn in all rooms.
+
+use crate::disks::{crashed_of, three_disks};
+use crate::running::{Node, ran_on};
+use durable_model::MemoryDisk;
+use farm_nodes::{Hall, Naming};
+use std::alloc::Global;
+use std::sync::Wait;
+use std::thread::Threads;
+
+/// The nodes of a whole farm of the text.
+pub(crate) fn whole<H: Naming + Send, R: Threads + Wait + Sync>(
+    threads: &R,
+    alloc: Global,
+    hall: &Hall<H>,
+    text: &[u8],
+) -> Option<Vec<Node<H>>> {
+    let Some(disks) = three_disks(alloc, 0) else {
+        return None;
+    };
+    match ran_on(threads, alloc, hall, text, disks) {
+        Ok(nodes) => Some(nodes),
+        Err(_) => None,
+    }
+}
+
+/// What a crash leaves of their disks.
+pub(crate) fn whole_disks<H: Naming + Send, R: Threads + Wait + Sync>(
+    threads: &R,
+    alloc: Global,
+    hall: &Hall<H>,
+    text: &[u8],
+) -> Option<Vec<MemoryDisk>> {
+    match whole(threads, alloc, hall, text) {
+        Some(nodes) => crashed_of(alloc, &nodes, 1),
+        None => None,
+    }
+}
