@@ -601,14 +601,21 @@ def linked_in(folder):
 
 
 def replaced(make, path=journal):
-    """Makes another file of a journal: `make` gets its path, and nothing stands there."""
+    """Makes another file of a journal: `make` gets its path, where nothing stands, since the file is put aside."""
 
     def prepare(folder):
         if os.path.exists(path(folder)):
-            os.remove(path(folder))
+            os.rename(path(folder), path(folder) + ".aside")
         make(path(folder))
 
     return prepare
+
+
+def put_back(folder, path=journal):
+    """Puts back the file that was put aside. A node that has lost its journal has forgotten what it acknowledged, and need not come back."""
+    if os.path.isdir(path(folder)):
+        os.rmdir(path(folder))
+    os.replace(path(folder) + ".aside", path(folder))
 
 
 def sparse(path):
@@ -636,20 +643,19 @@ def forbid_folder(folder):
 
 def journal_cases():
     """A journal that is none."""
-    aside = lambda folder: shutil.rmtree(journal(folder)) if os.path.isdir(journal(folder)) else os.remove(journal(folder))
     link = lambda target: replaced(lambda path: os.symlink(target, path))
     five = lambda text, folder: ["build", text, "--nodes", "5", "--dir", folder]
     return [
         Case("no journal", ("done", "journal"), lambda folder: os.remove(journal(folder))),
-        Case("journal of 0 bytes", ("done", "journal"), replaced(lambda path: write(path, b"")), mends=aside),
-        Case("journal of 4 GB of zeros", ("journal", "memory"), replaced(sparse), mends=aside),
-        Case("journal of 64 MB of noise", ("journal",), replaced(noise), mends=aside, most=512 * MEGA),
-        Case("journal is a folder", ("file",), replaced(os.mkdir), mends=aside),
-        Case("journal is a pipe", ("file", "journal"), replaced(os.mkfifo), mends=aside),
-        Case("journal is endless", ("file", "journal", "memory"), link("/dev/zero"), mends=aside),
-        Case("journal is a full device", ("file", "journal", "memory"), link("/dev/full"), mends=aside),
-        Case("journal is no device", ("done", "file", "journal"), link("/dev/null"), mends=aside),
-        Case("journal is a link to nothing", ("done", "file"), link("none/none"), mends=aside),
+        Case("journal of 0 bytes", ("done", "journal"), replaced(lambda path: write(path, b"")), mends=put_back),
+        Case("journal of 4 GB of zeros", ("journal", "memory"), replaced(sparse), mends=put_back),
+        Case("journal of 64 MB of noise", ("journal",), replaced(noise), mends=put_back, most=512 * MEGA),
+        Case("journal is a folder", ("file",), replaced(os.mkdir), mends=put_back),
+        Case("journal is a pipe", ("file", "journal"), replaced(os.mkfifo), mends=put_back),
+        Case("journal is endless", ("file", "journal", "memory"), link("/dev/zero"), mends=put_back),
+        Case("journal is a full device", ("file", "journal", "memory"), link("/dev/full"), mends=put_back),
+        Case("journal is no device", ("done", "file", "journal"), link("/dev/null"), mends=put_back),
+        Case("journal is a link to nothing", ("done", "file"), link("none/none"), mends=put_back),
         Case("journals exchanged", ("journal",), swap, mends=swap),
         Case("journals of another number of nodes", ("journal",), words=five, mends=lambda folder: None),
     ]
@@ -661,7 +667,6 @@ def folder_cases():
     in_file = lambda text, folder: ["build", text, "--dir", journal(folder)]
     no_text = lambda text, folder: ["build", text + ".none", "--dir", folder]
     beside = lambda folder: linked_in(folder) + ".new"
-    away = lambda path: lambda folder: shutil.rmtree(path(folder))
     kept = lambda folder: None
     return [
         Case("no folder", ("file",), words=no_folder, mends=kept),
@@ -671,8 +676,8 @@ def folder_cases():
         Case("text is a folder", ("file",), words=lambda text, folder: ["build", folder, "--dir", folder], mends=kept),
         Case("text is endless", ("file", "memory"), words=lambda text, folder: ["build", "/dev/zero", "--dir", folder], mends=kept),
         Case("text is empty", ("refused",), words=lambda text, folder: ["build", "/dev/null", "--dir", folder], mends=kept),
-        Case("linked.cfp is a folder", ("file",), replaced(os.mkdir, linked_in), mends=away(linked_in)),
-        Case("linked.cfp.new is a folder", ("file",), lambda folder: os.mkdir(beside(folder)), mends=away(beside)),
+        Case("linked.cfp is a folder", ("file",), replaced(os.mkdir, linked_in), mends=lambda folder: put_back(folder, linked_in)),
+        Case("linked.cfp.new is a folder", ("file",), lambda folder: os.mkdir(beside(folder)), mends=lambda folder: os.rmdir(beside(folder))),
         Case("linked.cfp.new is left", ("done",), lambda folder: write(beside(folder), b"left"), mends=kept),
         Case("no turns", ("undecided",), words=lambda text, folder: ["build", text, "--turns", "0", "--dir", folder], is_built=False, mends=kept),
     ]
