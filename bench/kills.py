@@ -113,7 +113,7 @@ def main():
         before = len(sweep.wrong)
         sweep.directory(number)
         for what in sweep.wrong[before:]:
-            print(what)
+            print(what, flush=True)
     print(f"{sweep.kills} kills, {sweep.stood} times linked.cfp stood behind one, {sweep.told} reports, {len(sweep.wrong)} wrong")
     return 1 if sweep.wrong else 0
 
