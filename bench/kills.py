@@ -4,12 +4,15 @@
     bench/kills.py                 100 directories, each with one to five kills
     bench/kills.py --times 10      so many directories
     bench/kills.py --nodes 3       so many nodes (5)
+    bench/kills.py --program PATH  this program
 
 In each directory a build of an example is killed (SIGKILL) one to five times, each at another moment, and then one goes on to its end.
-Whatever stood in linked.cfp behind a kill must be the bytes that the last build leaves, a program that was reported must stay, and what
-`exec` prints and tells must be what `interpret` does. Its last line counts the kills, those behind which linked.cfp stood, and what went
-wrong."""
+Whatever stood in linked.cfp behind a kill must be the bytes that the last build leaves, a program that was reported must be that one and
+stay, and what `exec` prints and tells must be what `interpret` does. Its last line counts the kills, those behind which linked.cfp stood,
+and what went wrong."""
 import argparse
+import hashlib
+import json
 import os
 import random
 import signal
@@ -20,12 +23,7 @@ import time
 
 ROOT = os.path.dirname(os.path.dirname(os.path.abspath(__file__)))
 PROGRAM = os.path.join(ROOT, "crates", "cfarm", "out", "cfarm")
-
-
-def told(*words):
-    """What the program prints, tells and answers."""
-    ran = subprocess.run([PROGRAM, *words], capture_output=True, check=False)
-    return ran.stdout, ran.stderr, ran.returncode
+NAMES = ("cubes", "queens", "collatz")
 
 
 def content(path):
@@ -36,14 +34,71 @@ def content(path):
         return None
 
 
-def killed(words, after):
-    """Starts a build and kills it after so many seconds. Answers whether it had printed its report, and whether it was killed."""
-    with subprocess.Popen([PROGRAM, *words], stdout=subprocess.PIPE, stderr=subprocess.DEVNULL) as run:
-        time.sleep(after)
-        run.send_signal(signal.SIGKILL)
-        out = run.stdout.read()
-        run.wait()
-    return out.endswith(b"\n"), run.returncode == -signal.SIGKILL
+def reported(out):
+    """The hash that a report tells; none where there is no whole report."""
+    return json.loads(out)["linked"] if out.endswith(b"\n") else None
+
+
+class Kills:
+    """What is killed, and what came of it."""
+
+    def __init__(self, program, nodes, draw):
+        self.program, self.nodes, self.draw = program, str(nodes), random.Random(draw)
+        self.kills = self.stood = self.told = 0
+        self.wrong = []
+
+    def answer(self, *words):
+        """What the program prints, tells and answers."""
+        ran = subprocess.run([self.program, *words], capture_output=True, check=False)
+        return ran.stdout, ran.stderr, ran.returncode
+
+    def lasted(self, words):
+        """How long this build takes in another directory."""
+        with tempfile.TemporaryDirectory(dir=ROOT) as other:
+            start = time.perf_counter()
+            self.answer(*words, other)
+            return time.perf_counter() - start
+
+    def kill(self, words, after):
+        """Starts a build and kills it after so many seconds. Answers the hash that it had reported, if it had."""
+        with subprocess.Popen([self.program, *words], stdout=subprocess.PIPE, stderr=subprocess.DEVNULL) as run:
+            time.sleep(after)
+            run.send_signal(signal.SIGKILL)
+            out = run.stdout.read()
+            run.wait()
+        self.kills += run.returncode == -signal.SIGKILL
+        return reported(out)
+
+    def expect(self, is_right, what):
+        if not is_right:
+            self.wrong.append(f"{what}, behind kill {self.kills}")
+
+    def behind(self, first, told, linked):
+        """Compares what stands in linked.cfp with what stood there first and with what was reported. Answers what stood there first."""
+        found = content(linked)
+        self.expect(first is None or found == first, "linked.cfp is lost or another")
+        self.expect(told is None or (found is not None and hashlib.sha256(found).hexdigest() == told), "not what was reported")
+        return found if first is None else first
+
+    def directory(self, number):
+        """A build that is killed again and again in a directory, and then one that is not."""
+        text = os.path.join(ROOT, "examples", NAMES[number % len(NAMES)] + ".c")
+        words = ["build", text, "--nodes", self.nodes, "--seed", str(number), "--dir"]
+        whole = self.lasted(words)
+        with tempfile.TemporaryDirectory(dir=ROOT) as folder:
+            linked, first = os.path.join(folder, "linked.cfp"), None
+            for _ in range(self.draw.randint(1, 5)):
+                told = self.kill([*words, folder], self.draw.uniform(0, 1.1 * whole))
+                first = self.behind(first, told, linked)
+                self.stood += os.path.exists(linked)
+                self.told += told is not None
+            out, err, status = self.answer(*words, folder)
+            self.expect(status == 0, f"the last build: status {status}, {err.decode(errors='replace').strip()}")
+            if status == 0:
+                self.behind(first, reported(out), linked)
+                self.expect(not os.path.exists(linked + ".new"), "linked.cfp.new stays")
+                ran = self.answer("exec", linked, "--limit", "1000000000")
+                self.expect(ran == self.answer("interpret", text, "--depth", "1000000"), "exec tells something else than interpret")
 
 
 def main():
@@ -51,41 +106,16 @@ def main():
     ask.add_argument("--times", type=int, default=100)
     ask.add_argument("--nodes", default="5")
     ask.add_argument("--draw", type=int, default=1, help="what the moments are drawn from")
+    ask.add_argument("--program", default=PROGRAM)
     asked = ask.parse_args()
-    draw = random.Random(asked.draw)
-    names = ("cubes", "queens", "collatz")
-    texts = [os.path.join(ROOT, "examples", name + ".c") for name in names]
-    kills = stood = wrong = 0
-    for time_number in range(asked.times):
-        text = texts[time_number % len(texts)]
-        with tempfile.TemporaryDirectory(dir=ROOT) as folder:
-            words = ["build", text, "--nodes", asked.nodes, "--seed", str(time_number), "--dir", folder]
-            linked = os.path.join(folder, "linked.cfp")
-            with tempfile.TemporaryDirectory(dir=ROOT) as other:
-                start = time.perf_counter()
-                told(*words[:-1], other)
-                whole = time.perf_counter() - start
-            first = None
-            for _ in range(draw.randint(1, 5)):
-                reported, was_killed = killed(words, draw.uniform(0, 1.1 * whole))
-                kills += was_killed
-                found = content(linked)
-                stood += found is not None
-                if first is None:
-                    first = found
-                if (reported and found is None) or (first is not None and found != first):
-                    wrong += 1
-                    print(f"{folder}: linked.cfp is lost or another, behind kill {kills}")
-            out, err, status = told(*words)
-            if status != 0 or (first is not None and content(linked) != first):
-                wrong += 1
-                print(f"{folder}: the last build: status {status}, {err.decode(errors='replace').strip()}")
-                continue
-            if told("exec", linked, "--limit", "1000000000") != told("interpret", text, "--depth", "1000000"):
-                wrong += 1
-                print(f"{folder}: exec tells something else than interpret")
-    print(f"{kills} kills, {stood} times linked.cfp stood behind one, {wrong} wrong")
-    return 1 if wrong else 0
+    sweep = Kills(os.path.abspath(asked.program), asked.nodes, asked.draw)
+    for number in range(asked.times):
+        before = len(sweep.wrong)
+        sweep.directory(number)
+        for what in sweep.wrong[before:]:
+            print(what, flush=True)
+    print(f"{sweep.kills} kills, {sweep.stood} times linked.cfp stood behind one, {sweep.told} reports, {len(sweep.wrong)} wrong")
+    return 1 if sweep.wrong else 0
 
 
 if __name__ == "__main__":

@@ -1,0 +1,906 @@
+#!/usr/bin/env python3
+"""Runs the built program under faults, from outside, and tells how it answers.
+
+    bench/hostile.py                  all parts, the whole sweep
+    bench/hostile.py memory files     these parts
+    bench/hostile.py --quick          a sample of each part
+    bench/hostile.py --program PATH   this program
+    bench/hostile.py --jobs 2         so many runs at once (4)
+    bench/hostile.py --most 500       at most so many faults in a row of the table, spread evenly (2,000)
+    bench/hostile.py calls --row 'build, fresh' --at 57 --keep
+                                      one fault of one row; what is left stays in the folder that is told
+
+    memory    the nth allocation is refused, or thread not made, once and from then on, in each command
+    calls     the nth call of the system fails, once and from then on, or is interrupted, or reads or writes less than it was asked to
+    kills     a build is killed at its nth call of the system, and builds are killed at random moments (bench/kills.py)
+    journals  each journal of a small build is cut at each length and changed at each byte, one at a time
+    files     what else may stand in the way: files that are none, endless, huge, forbidden, full devices, closed streams
+    examples  each example is built with 3, 5 and 7 nodes and four seeds, and run
+
+An answer is right where it is the one without a fault, or a status and a line of the program's table; want of memory is answered by `memory`,
+7, alone. Never is it a signal, nor an output that is not a beginning of the right one. Behind each fault of a build linked.cfp is whole or
+is not there, and a build without faults ends with 0 and leaves what stood there. It prints a table: what was tried, how often, and what was
+answered; then what was wrong, which must be nothing. Its status is 1 where something was."""
+import argparse
+import collections
+import concurrent.futures
+import hashlib
+import json
+import os
+import random
+import re
+import shutil
+import signal
+import struct
+import subprocess
+import sys
+import tempfile
+
+import kills
+
+ROOT = os.path.dirname(os.path.dirname(os.path.abspath(__file__)))
+TEXT = """int putchar(int);
+int f(int n){int r; putchar('0'+n); if(n<2)return 1; r=f(n-1); putchar('a'+n); return n*r;}
+int main(void){int x=f(5); return x;}
+"""
+SMALL = "int putchar(int); int main(void){putchar('7'); return 7;}\n"
+MEGA = 1 << 20
+LIMITED = 3000 * MEGA
+
+SHIM = r"""
+#define _GNU_SOURCE
+#include <dlfcn.h>
+#include <errno.h>
+#include <fcntl.h>
+#include <pthread.h>
+#include <signal.h>
+#include <stdarg.h>
+#include <stdlib.h>
+#include <string.h>
+#include <sys/mman.h>
+#include <sys/stat.h>
+#include <sys/uio.h>
+#include <unistd.h>
+/* A process may end with no destructor run, so what is told stands in a file that is mapped: how many calls there were, and the name of the
+   first that failed. FAULT_OF says which calls count: (m)emory, or (c)alls of the system, which (k)ill, are (i)nterrupted or do (l)ess. */
+struct told { long seen; char name[24]; };
+static struct told none, *told = &none;
+static long at;
+static int onward, of;
+__attribute__((constructor)) static void begin(void) {
+  char *name = getenv("FAULT_TOLD"), *nth = getenv("FAULT_AT"), *kind = getenv("FAULT_OF");
+  if (!name || !kind) return;
+  int file = open(name, O_RDWR | O_CREAT | O_TRUNC, 0644);
+  void *made = file < 0 || ftruncate(file, sizeof none) ? MAP_FAILED : mmap(0, sizeof none, PROT_READ | PROT_WRITE, MAP_SHARED, file, 0);
+  if (made == MAP_FAILED) _exit(99);
+  close(file);
+  told = made, at = nth ? atol(nth) : 0, onward = getenv("FAULT_ONWARD") != 0, of = *kind;
+}
+static int due(int is_memory, const char *name) {
+  if (!of || is_memory != (of == 'm')) return 0;
+  long n = __atomic_add_fetch(&told->seen, 1, __ATOMIC_SEQ_CST);
+  if (at == 0 || n < at || (n > at && !onward)) return 0;
+  if (n == at) strncpy(told->name, name, sizeof told->name - 1);
+  if (of == 'k') for (;;) kill(getpid(), SIGKILL);
+  return 1;
+}
+static void *refused(void) { errno = ENOMEM; return 0; }
+extern void *__libc_malloc(size_t), *__libc_calloc(size_t, size_t), *__libc_realloc(void *, size_t), *__libc_memalign(size_t, size_t);
+void *malloc(size_t n) { return due(1, "malloc") ? refused() : __libc_malloc(n); }
+void *calloc(size_t c, size_t n) { return due(1, "calloc") ? refused() : __libc_calloc(c, n); }
+void *realloc(void *p, size_t n) { return due(1, "realloc") ? refused() : __libc_realloc(p, n); }
+void *memalign(size_t a, size_t n) { return due(1, "memalign") ? refused() : __libc_memalign(a, n); }
+void *aligned_alloc(size_t a, size_t n) { return due(1, "aligned_alloc") ? refused() : __libc_memalign(a, n); }
+int posix_memalign(void **p, size_t a, size_t n) {
+  void *made = due(1, "posix_memalign") ? 0 : __libc_memalign(a, n);
+  if (made) *p = made;
+  return made ? 0 : ENOMEM;
+}
+#define REAL(type, name, ...) static type (*real)(__VA_ARGS__); if (!real) real = dlsym(RTLD_NEXT, #name)
+#define MAP(name) void *name(void *p, size_t n, int prot, int flags, int f, off_t o) { \
+  REAL(void *, name, void *, size_t, int, int, int, off_t); \
+  if (due(1, #name)) { errno = ENOMEM; return MAP_FAILED; } return real(p, n, prot, flags, f, o); }
+MAP(mmap) MAP(mmap64)
+int pthread_create(pthread_t *t, const pthread_attr_t *a, void *(*run)(void *), void *with) {
+  REAL(int, pthread_create, pthread_t *, const pthread_attr_t *, void *(*)(void *), void *);
+  return due(1, "pthread_create") ? EAGAIN : real(t, a, run, with);
+}
+static int fails(void) { errno = of == 'i' ? EINTR : EIO; return -1; }
+#define CALL(type, name, given, passed) type name given { REAL(type, name, GIVEN given); if (of != 'l' && due(0, #name)) return fails(); return real passed; }
+#define GIVEN(...) __VA_ARGS__
+#define MOVES(name, buffer) ssize_t name(int f, buffer b, size_t n) { REAL(ssize_t, name, int, buffer, size_t); \
+  if (n > 0 && due(0, #name)) { if (of != 'l') return fails(); n = (n + 1) / 2; } return real(f, b, n); }
+#define MOVES_AT(name, buffer) ssize_t name(int f, buffer b, size_t n, off_t o) { REAL(ssize_t, name, int, buffer, size_t, off_t); \
+  if (n > 0 && due(0, #name)) { if (of != 'l') return fails(); n = (n + 1) / 2; } return real(f, b, n, o); }
+MOVES(read, void *) MOVES(write, const void *)
+MOVES_AT(pread, void *) MOVES_AT(pread64, void *) MOVES_AT(pwrite, const void *) MOVES_AT(pwrite64, const void *)
+CALL(ssize_t, readv, (int f, const struct iovec *v, int n), (f, v, n))
+CALL(ssize_t, writev, (int f, const struct iovec *v, int n), (f, v, n))
+CALL(int, fsync, (int f), (f))
+CALL(int, fdatasync, (int f), (f))
+CALL(int, ftruncate, (int f, off_t n), (f, n))
+CALL(int, ftruncate64, (int f, off_t n), (f, n))
+CALL(off_t, lseek, (int f, off_t n, int from), (f, n, from))
+CALL(off_t, lseek64, (int f, off_t n, int from), (f, n, from))
+CALL(int, fstat, (int f, struct stat *s), (f, s))
+CALL(int, fstat64, (int f, struct stat64 *s), (f, s))
+CALL(int, stat, (const char *p, struct stat *s), (p, s))
+CALL(int, lstat, (const char *p, struct stat *s), (p, s))
+CALL(int, fstatat, (int d, const char *p, struct stat *s, int g), (d, p, s, g))
+CALL(int, statx, (int d, const char *p, int g, unsigned m, struct statx *s), (d, p, g, m, s))
+CALL(int, access, (const char *p, int m), (p, m))
+CALL(int, flock, (int f, int o), (f, o))
+CALL(int, rename, (const char *a, const char *b), (a, b))
+CALL(int, renameat, (int d, const char *a, int e, const char *b), (d, a, e, b))
+CALL(int, unlink, (const char *p), (p))
+CALL(int, unlinkat, (int d, const char *p, int g), (d, p, g))
+/* A close that fails has closed. */
+int close(int f) { REAL(int, close, int); int done = real(f); return of != 'l' && due(0, "close") ? fails() : done; }
+#define MODE int mode; va_list more; va_start(more, flags); mode = va_arg(more, int); va_end(more); if (of != 'l' && due(0, __func__)) return fails();
+int open(const char *p, int flags, ...) { REAL(int, open, const char *, int, ...); MODE return real(p, flags, mode); }
+int open64(const char *p, int flags, ...) { REAL(int, open64, const char *, int, ...); MODE return real(p, flags, mode); }
+int openat(int d, const char *p, int flags, ...) { REAL(int, openat, int, const char *, int, ...); MODE return real(d, p, flags, mode); }
+int openat64(int d, const char *p, int flags, ...) { REAL(int, openat64, int, const char *, int, ...); MODE return real(d, p, flags, mode); }
+"""
+
+MEASURED = r"""
+#define _GNU_SOURCE
+#include <signal.h>
+#include <stdio.h>
+#include <stdlib.h>
+#include <sys/prctl.h>
+#include <sys/resource.h>
+#include <sys/wait.h>
+#include <time.h>
+#include <unistd.h>
+/* measured FILE BYTES PROGRAM WORD..: runs the program with so many bytes of addresses (0: as many as it wants), and writes its status, its
+   milliseconds and its peak kilobytes to the file. */
+int main(int count, char **words) {
+  struct timespec from, to; struct rusage used; int status;
+  struct rlimit most = {strtoul(words[2], 0, 10), strtoul(words[2], 0, 10)};
+  clock_gettime(CLOCK_MONOTONIC, &from);
+  pid_t child = fork();
+  if (child == 0) {
+    prctl(PR_SET_PDEATHSIG, SIGKILL);
+    if (most.rlim_cur) setrlimit(RLIMIT_AS, &most);
+    execvp(words[3], words + 3);
+    _exit(127);
+  }
+  if (child < 0 || wait4(child, &status, 0, &used) < 0) return 1;
+  clock_gettime(CLOCK_MONOTONIC, &to);
+  FILE *file = fopen(words[1], "w");
+  if (!file) return 1;
+  fprintf(file, "%d %ld %ld\n", WIFSIGNALED(status) ? -WTERMSIG(status) : WEXITSTATUS(status),
+    (to.tv_sec - from.tv_sec) * 1000 + (to.tv_nsec - from.tv_nsec) / 1000000, used.ru_maxrss);
+  return fclose(file) != 0;
+}
+"""
+
+# The parts whose rows are of one way of failing each.
+WAYED = ("memory", "calls")
+
+# The table of the program: the name under which an answer is counted, its status, and its line.
+TABLE = (
+    ("done", 0, rb"(ended -?\d+\n)?"),
+    ("refused", 1, rb"refused \d+ \w+( at \d+| in \w+)?\n"),
+    ("file", 2, rb"file [^\n]*\n"),
+    ("schedule", 2, rb"schedule \d+\n"),
+    ("words", 2, rb"error: .*"),
+    ("undecided", 3, rb"undecided\n"),
+    ("journal", 4, rb"journal \d+ \w+ (node|room) \d+\n"),
+    ("link", 4, rb"link \d+ \w+( in \w+)?\n"),
+    ("write 701", 4, rb"write 701\n"),
+    ("no line", 4, rb"[^\n]*"),
+    ("wrong", 5, rb"wrong\n"),
+    ("running", 6, rb"running\n"),
+    ("memory", 7, rb"memory\n"),
+)
+
+Answer = collections.namedtuple("Answer", "status out err")
+ENDLESS = Answer(None, b"", b"does not end")
+
+
+def name_of(answer):
+    """Under which name of the table an answer stands, if it does."""
+    for name, status, line in TABLE:
+        if answer.status == status and re.fullmatch(line, answer.err, re.DOTALL):
+            return name
+    return None
+
+
+def shown(answer):
+    return f"status {answer.status}, {answer.err[:80]!r}, output {answer.out[:60]!r}"
+
+
+def content(path):
+    """The bytes of a file, if it is there."""
+    return kills.content(path) if not os.path.isdir(path) else None
+
+
+def write(path, data):
+    with open(path, "wb") as file:
+        file.write(data)
+
+
+def tell(line):
+    if sys.stderr.isatty():
+        print(f"\r{line}\x1b[K", end="", file=sys.stderr, flush=True)
+
+
+class Sweep:
+    """The program, where it is run, what was tried, and what was wrong."""
+
+    def __init__(self, given, scratch):
+        self.given, self.scratch = given, scratch
+        self.program = shutil.copy(given.program, os.path.join(scratch, "cfarm"))
+        self.shim, self.measured = os.path.join(scratch, "shim.so"), os.path.join(scratch, "measured")
+        self.rows, self.wrong, self.ran = {}, [], {}
+        self.compile("shim.c", SHIM, "-shared", "-fPIC", "-o", self.shim, "-ldl")
+        self.compile("measured.c", MEASURED, "-o", self.measured)
+
+    def compile(self, name, code, *words):
+        path = os.path.join(self.scratch, name)
+        write(path, code.encode())
+        before, libraries = [w for w in words if w != "-ldl"], [w for w in words if w == "-ldl"]
+        subprocess.run(["cc", "-O2", "-w", *before, path, *libraries], check=True)
+
+    def file(self, name, data):
+        """A file of the scratch folder with these bytes."""
+        path = os.path.join(self.scratch, name)
+        write(path, data)
+        return path
+
+    def folder(self, like=None):
+        """A folder of its own, empty or like another."""
+        made = tempfile.mkdtemp(dir=self.scratch)
+        os.chmod(made, 0o777)
+        if like:
+            shutil.copytree(like, made, dirs_exist_ok=True)
+        return made
+
+    def leave(self, folder):
+        if not self.given.keep:
+            shutil.rmtree(folder, ignore_errors=True)
+
+    def run(self, words, seconds=300, **more):
+        """What the program answers to these words."""
+        try:
+            env = {**os.environ, **more}
+            ran = subprocess.run([self.program, *words], capture_output=True, stdin=subprocess.DEVNULL, check=False, timeout=seconds, env=env)
+        except subprocess.TimeoutExpired:
+            return ENDLESS
+        return Answer(ran.returncode, ran.stdout, ran.stderr)
+
+    def faulty(self, words, way, number, told):
+        """Its answer where the call of this number fails; how many calls there were, and the name of the one that failed, if one did."""
+        more = {"LD_PRELOAD": self.shim, "FAULT_TOLD": told, "FAULT_OF": way[0], "FAULT_AT": str(number)}
+        answer = self.run(words, **more, **({"FAULT_ONWARD": "1"} if way[1] else {}))
+        data = content(told) or bytes(32)
+        return answer, struct.unpack("l", data[:8])[0], data[8:].rstrip(b"\0").decode()
+
+    def measure(self, words, seconds=60, limit=0, around=None, folder=None):
+        """Its answer in a folder, its milliseconds and its peak kilobytes. `around` is a script of the shell that runs "$@"."""
+        file = os.path.join(self.folder(), "measured")
+        called = [self.measured, file, str(limit), *(["sh", "-c", around, "sh"] if around else []), self.program, *words]
+        try:
+            ran = subprocess.run(called, capture_output=True, stdin=subprocess.DEVNULL, check=False, timeout=seconds, cwd=folder)
+            status, millis, peak = (int(word) for word in (content(file) or b"99 0 0").split())
+            return Answer(status, ran.stdout, ran.stderr), millis, peak
+        except subprocess.TimeoutExpired:
+            return ENDLESS, seconds * 1000, 0
+        finally:
+            shutil.rmtree(os.path.dirname(file))
+
+    def executed(self, linked):
+        """What `exec` answers to a linked program. Equal bytes are run once."""
+        key = hashlib.sha256(content(linked)).digest()
+        if key not in self.ran:
+            self.ran[key] = self.run(["exec", linked, "--limit", "1000000000000"])
+        return self.ran[key]
+
+    def interpreted(self, text):
+        return self.run(["interpret", text, "--depth", "4294967295"])
+
+    def count(self, row, name, wrong):
+        self.rows.setdefault(row, collections.Counter())[name or "another"] += 1
+        for one in wrong:
+            self.wrong.append(f"{row}: {one}")
+            print(f"WRONG {row}: {one}", file=sys.stderr, flush=True)
+
+    def wants(self, row):
+        return self.given.row in row
+
+    def spread(self, numbers):
+        """These numbers, or as many of them as are asked for, evenly."""
+        most = min(self.given.most, 40 if self.given.quick else self.given.most)
+        numbers = list(numbers)
+        return numbers[:: max(1, -(-len(numbers) // most))]
+
+    def try_all(self, row, numbers, job):
+        """Does the job for each number, several at once. It answers the name of what was answered, if anything was tried, and what was wrong."""
+        numbers = [self.given.at] if self.given.at else self.spread(numbers)
+        with concurrent.futures.ThreadPoolExecutor(self.given.jobs) as pool:
+            for done, (name, wrong) in enumerate(pool.map(job, numbers), 1):
+                if name or wrong:
+                    self.count(row, name, wrong)
+                tell(f"{row}: {done} of {len(numbers)}")
+
+
+# Faults of memory and of calls.
+
+WAYS = {
+    "memory": (("once", "m", False), ("from then on", "m", True)),
+    "calls": (
+        ("once", "c", False),
+        ("from then on", "c", True),
+        ("interrupted", "i", False),
+        ("less", "l", False),
+        ("less from then on", "l", True),
+    ),
+    "kills": (("killed", "k", False),),
+}
+
+
+def judge(answer, wanted, part):
+    """The name of an answer of a command that only reads, and what is wrong with it."""
+    name = name_of(answer)
+    if answer == wanted:
+        return "the same", []
+    # Of a mistake in the command line a part of the text may be left out for want of memory.
+    right = {
+        "memory": ("memory", *(["words"] if wanted.status == 2 else [])),
+        "calls": ("file", "undecided", "write 701", "no line"),
+    }[part]
+    if name in right and wanted.out.startswith(answer.out):
+        return name, []
+    return name, [shown(answer)]
+
+
+def readers(sweep):
+    """The commands that only read, each with its words."""
+    text, built = sweep.file("text.c", TEXT.encode()), sweep.folder()
+    sweep.run(["build", text, "--dir", built])
+    linked = shutil.copy(os.path.join(built, "linked.cfp"), os.path.join(sweep.scratch, "text.cfp"))
+    example = os.path.join(ROOT, "examples", "")
+    return {
+        "check": ["check", text],
+        "check, refused": ["check", sweep.file("refused.c", b"int main(void){return x;}\n")],
+        "check, no file": ["check", text + ".none"],
+        "interpret": ["interpret", text],
+        "exec": ["exec", linked],
+        "exec, bounded": ["exec", linked, "--limit", "20"],
+        "settle": ["settle", example + "branch.ltl"],
+        "sim": ["sim", example + "adoption.txt"],
+        "help": ["build", "--help"],
+        "no command": ["chek", text],
+    }
+
+
+def calls_of(sweep, words, way, like=None):
+    """How many calls there are to fail, in a folder like this one."""
+    folder = sweep.folder(like)
+    _, seen, _ = sweep.faulty(words(folder), way, 0, os.path.join(folder, "told"))
+    sweep.leave(folder)
+    return seen
+
+
+def try_readers(sweep, part):
+    for title, words in readers(sweep).items():
+        wanted = sweep.run(words)
+        for way, *how in WAYS[part]:
+            row = f"{part}, {title}, {way}"
+            if not sweep.wants(row):
+                continue
+
+            def job(number, words=words, wanted=wanted, how=how):
+                folder = sweep.folder()
+                answer, _, failed = sweep.faulty(words, how, number, os.path.join(folder, "told"))
+                sweep.leave(folder)
+                if not failed:
+                    return None, [] if answer == wanted else [f"no fault, {shown(answer)}"]
+                name, wrong = judge(answer, wanted, part)
+                return name, [f"call {number}, {failed}: {one}" for one in wrong]
+
+            sweep.try_all(row, range(1, calls_of(sweep, lambda _, words=words: words, how) + 1), job)
+
+
+class Building:
+    """A build of a text over folders like one that is given, and what must stand there behind a fault of it."""
+
+    def __init__(self, sweep, text, like=None):
+        self.sweep, self.text, self.like = sweep, text, like
+        self.wanted = sweep.interpreted(text)
+
+    def words(self, folder):
+        return ["build", self.text, "--seed", "1", "--dir", folder]
+
+    def sound(self, folder):
+        """What is wrong with a linked program that stands there."""
+        ran = self.sweep.executed(os.path.join(folder, "linked.cfp"))
+        return [] if ran == self.wanted else [f"linked.cfp runs otherwise: {shown(ran)}"]
+
+    def report(self, folder, answer):
+        """What is wrong with a build that is done."""
+        found = content(os.path.join(folder, "linked.cfp"))
+        try:
+            told = json.loads(answer.out)["linked"]
+        except (ValueError, KeyError):
+            told = None
+        if found is None or hashlib.sha256(found).hexdigest() != told or answer.err:
+            return [f"not what was reported: {shown(answer)}"]
+        return self.sound(folder)
+
+    def again(self, folder, stood):
+        """What is wrong with a further build, without faults, where this stood in linked.cfp."""
+        answer = self.sweep.run(self.words(folder))
+        if answer.status != 0:
+            return [f"the build behind it: {shown(answer)}"]
+        wrong = self.report(folder, answer)
+        if stood is not None and content(os.path.join(folder, "linked.cfp")) != stood:
+            wrong.append("the build behind it leaves another linked.cfp")
+        if os.path.exists(os.path.join(folder, "linked.cfp.new")):
+            wrong.append("the build behind it leaves linked.cfp.new")
+        return wrong
+
+    def behind(self, folder, answer, old):
+        """What is wrong behind a build that was to fail, where this stood before in linked.cfp."""
+        now = content(os.path.join(folder, "linked.cfp"))
+        wrong = self.report(folder, answer) if answer.status == 0 else []
+        if answer.status != 0 and not b'{"functions":'.startswith(answer.out[:13]):
+            wrong.append(f"its output is no beginning of a report: {shown(answer)}")
+        if old is not None and now != old:
+            wrong.append("linked.cfp is lost or another")
+        if now is not None and answer.status != 0:
+            wrong += self.sound(folder)
+        return wrong + self.again(folder, now)
+
+    def fault(self, how, right, number):
+        """Tries one fault: the name of its answer, and what was wrong."""
+        folder = self.sweep.folder(self.like)
+        old = content(os.path.join(folder, "linked.cfp"))
+        told = os.path.join(folder, "told")
+        answer, _, failed = self.sweep.faulty(self.words(folder), how, number, told)
+        name = "killed" if how[0] == "k" and answer.status == -signal.SIGKILL else name_of(answer)
+        wrong = [] if name in (right if failed else ("done",)) else [shown(answer)]
+        wrong += self.behind(folder, answer, old)
+        self.sweep.leave(folder)
+        return name if failed else None, [f"call {number}, {failed or 'no fault'}: {one}" for one in wrong]
+
+
+def killed_folder(sweep, text):
+    """The folder of a build that was killed halfway, before it had linked."""
+    folder = sweep.folder()
+    words = Building(sweep, text).words(folder)
+    seen = calls_of(sweep, Building(sweep, text).words, ("k", False))
+    sweep.faulty(words, ("k", False), max(1, seen // 2), os.path.join(sweep.scratch, "told"))
+    return folder
+
+
+def try_builds(sweep, part):
+    """Faults of a build in a fresh folder, over one that a killed build left, and over one of a build that was done."""
+    text = sweep.file("built.c", TEXT.encode())
+    done = sweep.folder()
+    sweep.run(Building(sweep, text).words(done))
+    right = {
+        "memory": ("done", "memory"),
+        "calls": ("done", "file", "journal", "undecided", "write 701", "no line"),
+        "kills": ("killed",),
+    }[part]
+    for title, like in (("fresh", None), ("after a kill", killed_folder(sweep, text)), ("again", done)):
+        building = Building(sweep, text, like)
+        for way, *how in WAYS[part]:
+            row = f"{part}, build, {title}, {way}"
+            if sweep.wants(row):
+                seen = calls_of(sweep, building.words, how, like)
+                # Threads make it differ how many calls there are.
+                sweep.try_all(row, range(1, seen + seen // 16 + 1), lambda number: building.fault(how, right, number))
+
+
+def try_memory(sweep):
+    try_readers(sweep, "memory")
+    try_builds(sweep, "memory")
+
+
+def try_calls(sweep):
+    try_readers(sweep, "calls")
+    try_builds(sweep, "calls")
+
+
+def try_kills(sweep):
+    try_builds(sweep, "kills")
+    row = "kills, at random moments"
+    if not sweep.wants(row) or sweep.given.at:
+        return
+    random_kills = kills.Kills(sweep.program, 5, 1)
+    for number in range(5 if sweep.given.quick else sweep.given.times):
+        before = len(random_kills.wrong)
+        random_kills.directory(number)
+        tell(f"{row}: {random_kills.kills}")
+        for one in random_kills.wrong[before:]:
+            sweep.count(row, None, [one])
+    sweep.rows.setdefault(row, collections.Counter())["killed"] += random_kills.kills
+
+
+# Journals from strangers.
+
+
+class Journals:
+    """The journals of a small build, of which one is another."""
+
+    def __init__(self, sweep):
+        self.sweep = sweep
+        self.like = sweep.folder()
+        self.building = Building(sweep, sweep.file("small.c", SMALL.encode()), self.like)
+        sweep.run(self.building.words(self.like))
+        self.linked = content(os.path.join(self.like, "linked.cfp"))
+        self.usual = max(sweep.measure(self.building.words(self.like))[2] for _ in range(5))
+
+    def too_much(self, folder, size, tries=3):
+        """Builds over a folder; again where it took too long, as it may where other runs go on. Its answer, and whether it took too much."""
+        answer, millis, peak = self.sweep.measure(self.building.words(folder), 20)
+        most = self.usual + 16 * size // 1024 + 4096
+        wrong = [f"{peak} KB at most, {self.usual} usually"] if peak > most else []
+        if millis < 1000 or tries == 0:
+            return answer, wrong + ([f"{millis} ms"] if millis >= 1000 else [])
+        again, wrong_again = self.too_much(folder, size, tries - 1)
+        return (answer if again.status == 0 else again), wrong_again
+
+    def over(self, node, data, what):
+        """Builds where the journal of a node has these bytes."""
+        folder = self.sweep.folder(self.like)
+        write(os.path.join(folder, f"node{node}.cfj"), data)
+        answer, wrong = self.too_much(folder, len(data))
+        name, linked = name_of(answer), os.path.join(folder, "linked.cfp")
+        if name not in ("done", "journal", "link", "undecided"):
+            wrong.append(shown(answer))
+        if name == "done":
+            wrong += self.building.report(folder, answer)
+            name += ", the same" if content(linked) == self.linked else ", another"
+        elif content(linked) != self.linked:
+            wrong.append("linked.cfp is lost or another")
+        self.sweep.leave(folder)
+        return name, [f"node {node}, {what}: {one}" for one in wrong]
+
+
+def try_journals(sweep):
+    journals, draw = Journals(sweep), random.Random(1)
+    for node in range(3):
+        data = content(os.path.join(journals.like, f"node{node}.cfj"))
+        row = f"journals, node {node}, cut"
+        if sweep.wants(row):
+            sweep.try_all(row, range(len(data)), lambda length: journals.over(node, data[:length], f"cut to {length}"))
+        row = f"journals, node {node}, changed"
+        changes = [draw.randrange(1, 256) for _ in data]
+
+        def changed(place):
+            byte = (data[place] + changes[place]) % 256
+            return journals.over(node, data[:place] + bytes([byte]) + data[place + 1 :], f"byte {place} is {byte}")
+
+        if sweep.wants(row):
+            sweep.try_all(row, range(len(data)), changed)
+
+
+# What else may stand in the way.
+
+
+class Case:
+    """One case of files and streams: how it is called, which answers are right, what is made of a folder, the words, what runs them.
+    `mends` takes away what stood in the way; a build behind it must then be done. `most` is how many bytes of memory it may take."""
+
+    def __init__(self, title, right, prepare=None, words=None, around=None, mends=None, is_built=True, most=LIMITED):
+        self.title, self.right, self.prepare, self.words = title, right, prepare, words
+        self.around, self.mends, self.is_built, self.most = around, mends, is_built, most
+
+
+def journal(folder, node=1):
+    return os.path.join(folder, f"node{node}.cfj")
+
+
+def linked_in(folder):
+    return os.path.join(folder, "linked.cfp")
+
+
+def replaced(make, path=journal):
+    """Makes another file of a journal: `make` gets its path, where nothing stands, since the file is put aside."""
+
+    def prepare(folder):
+        if os.path.exists(path(folder)):
+            os.rename(path(folder), path(folder) + ".aside")
+        make(path(folder))
+
+    return prepare
+
+
+def put_back(folder, path=journal):
+    """Puts back the file that was put aside. A node that has lost its journal has forgotten what it acknowledged, and need not come back."""
+    if os.path.isdir(path(folder)):
+        os.rmdir(path(folder))
+    os.replace(path(folder) + ".aside", path(folder))
+
+
+def sparse(path):
+    with open(path, "wb") as file:
+        file.truncate(4 << 30)
+
+
+def noise(path):
+    write(path, os.urandom(64 * MEGA))
+
+
+def swap(folder):
+    one, two = content(journal(folder, 0)), content(journal(folder, 1))
+    write(journal(folder, 0), two)
+    write(journal(folder, 1), one)
+
+
+def forbid(folder):
+    os.chmod(journal(folder), 0o600)
+
+
+def forbid_folder(folder):
+    os.chmod(folder, 0o555)
+
+
+def journal_cases():
+    """A journal that is none."""
+    link = lambda target: replaced(lambda path: os.symlink(target, path))
+    five = lambda text, folder: ["build", text, "--nodes", "5", "--dir", folder]
+    return [
+        Case("no journal", ("done", "journal"), lambda folder: os.remove(journal(folder))),
+        Case("journal of 0 bytes", ("done", "journal"), replaced(lambda path: write(path, b"")), mends=put_back),
+        Case("journal of 4 GB of zeros", ("journal", "memory"), replaced(sparse), mends=put_back),
+        Case("journal of 64 MB of noise", ("journal",), replaced(noise), mends=put_back, most=512 * MEGA),
+        Case("journal is a folder", ("file",), replaced(os.mkdir), mends=put_back),
+        Case("journal is a pipe", ("file", "journal"), replaced(os.mkfifo), mends=put_back),
+        Case("journal is endless", ("file", "journal", "memory"), link("/dev/zero"), mends=put_back),
+        Case("journal is a full device", ("file", "journal", "memory"), link("/dev/full"), mends=put_back),
+        Case("journal is no device", ("done", "file", "journal"), link("/dev/null"), mends=put_back),
+        Case("journal is a link to nothing", ("done", "file"), link("none/none"), mends=put_back),
+        Case("journals exchanged", ("journal",), swap, mends=swap),
+        Case("journals of another number of nodes", ("journal",), words=five, mends=lambda folder: None),
+    ]
+
+
+def folder_cases():
+    """Folders and files that are none."""
+    no_folder = lambda text, folder: ["build", text, "--dir", os.path.join(folder, "none")]
+    in_file = lambda text, folder: ["build", text, "--dir", journal(folder)]
+    no_text = lambda text, folder: ["build", text + ".none", "--dir", folder]
+    beside = lambda folder: linked_in(folder) + ".new"
+    kept = lambda folder: None
+    return [
+        Case("no folder", ("file",), words=no_folder, mends=kept),
+        Case("folder is a file", ("file",), words=in_file, mends=kept),
+        Case("folder has no name", ("done", "file", "words"), words=lambda text, folder: ["build", text, "--dir", ""], mends=kept),
+        Case("no text", ("file",), words=no_text, mends=kept),
+        Case("text is a folder", ("file",), words=lambda text, folder: ["build", folder, "--dir", folder], mends=kept),
+        Case("text is endless", ("file", "memory"), words=lambda text, folder: ["build", "/dev/zero", "--dir", folder], mends=kept),
+        Case("text is empty", ("refused",), words=lambda text, folder: ["build", "/dev/null", "--dir", folder], mends=kept),
+        Case("linked.cfp is a folder", ("file",), replaced(os.mkdir, linked_in), mends=lambda folder: put_back(folder, linked_in)),
+        Case("linked.cfp.new is a folder", ("file",), lambda folder: os.mkdir(beside(folder)), mends=lambda folder: os.rmdir(beside(folder))),
+        Case("linked.cfp.new is left", ("done",), lambda folder: write(beside(folder), b"left"), mends=kept),
+        Case("no turns", ("undecided",), words=lambda text, folder: ["build", text, "--turns", "0", "--dir", folder], is_built=False, mends=kept),
+    ]
+
+
+def stream_cases():
+    """Streams that are closed or full, and limits of the shell."""
+    kept = lambda folder: None
+    shell = lambda title, right, around: Case(title, right, around=around, mends=kept)
+    fresh = lambda title, right, around: Case(title + ", fresh", right, around=around, mends=kept, is_built=False)
+    scripts = [
+        ("input closed", ("done",), 'exec "$@" <&-'),
+        ("output closed", ("done", "write 701"), 'exec "$@" >&-'),
+        ("errors closed", ("done",), 'exec "$@" 2>&-'),
+        ("all closed", ("done", "write 701", "no line"), 'exec "$@" <&- >&- 2>&-'),
+        ("output on a full device", ("write 701",), 'exec "$@" >/dev/full'),
+        ("errors on a full device", ("done",), 'exec "$@" 2>/dev/full'),
+        ("output that nobody reads", ("write 701",), 's=$({ { sleep 0.1; "$@"; echo $? >&4; } | true; } 4>&1); exit $s'),
+        ("output and errors on a full device", ("no line",), 'exec "$@" >/dev/full 2>&1'),
+        ("files of 1 KB at most", ("done", "file", "journal"), 'trap "" XFSZ; ulimit -f 2; exec "$@"'),
+        ("four open files", ("done", "file"), 'ulimit -n 4; exec "$@"'),
+        ("six open files", ("done", "file"), 'ulimit -n 6; exec "$@"'),
+        ("a stack of 256 KB", ("done",), 'ulimit -s 256; exec "$@"'),
+    ]
+    return [shell(*one) for one in scripts] + [fresh(*one) for one in scripts]
+
+
+def text_cases(sweep):
+    """Texts that are huge, deep or no text."""
+    deep = 200_000
+    huge = sweep.file("huge.c", b" " * (64 * MEGA) + TEXT.encode())
+    waste = sweep.file("noise.c", random.Random(1).randbytes(64 * MEGA))
+    nested = sweep.file("deep.c", b"int main(void){return " + b"(" * deep + b"1" + b")" * deep + b";}")
+    blocks = sweep.file("blocks.c", b"int main(void){" + b"{" * deep + b"}" * deep + b"return 1;}")
+    minus = sweep.file("minus.c", b"int main(void){return " + b"- " * deep + b"1;}")
+    found = []
+    for command, more in (("check", ()), ("interpret", ()), ("build", ("--dir",))):
+        for name, path, right in (
+            ("64 MB of blanks", huge, ("done", "refused")),
+            ("64 MB of noise", waste, ("refused",)),
+            ("brackets in one another", nested, ("refused",)),
+            ("blocks in one another", blocks, ("refused",)),
+            ("signs in one another", minus, ("refused",)),
+        ):
+            words = lambda text, folder, c=command, p=path, m=more: [c, p, *m, *([folder] if m else [])]
+            found.append(Case(f"{command}, {name}", right, words=words, is_built=False))
+    for command in ("exec", "settle", "sim"):
+        for name, path in (("endless", "/dev/zero"), ("empty", "/dev/null"), ("64 MB of noise", waste), ("a folder", sweep.scratch)):
+            right = {"endless": ("memory",), "a folder": ("file",)}.get(name, ("done", "refused", "schedule"))
+            found.append(Case(f"{command}, {name}", right, words=lambda text, folder, c=command, p=path: [c, p], is_built=False))
+    return found
+
+
+def forbidden_cases():
+    """What another user may not do. Only root can be another one."""
+    if os.geteuid() != 0 or not shutil.which("setpriv"):
+        return []
+    other = 'exec setpriv --reuid 65534 --regid 65534 --clear-groups "$@"'
+    allow = lambda folder: os.chmod(journal(folder), 0o666)
+    allow_folder = lambda folder: os.chmod(folder, 0o777)
+    open_all = lambda folder: [os.chmod(os.path.join(folder, name), 0o666) for name in os.listdir(folder)]
+    forbidden = lambda folder: (open_all(folder), forbid(folder))
+    closed = lambda folder: (open_all(folder), forbid_folder(folder))
+    return [
+        Case("another user", ("done",), open_all, around=other, mends=lambda folder: None),
+        Case("journal is forbidden", ("file",), forbidden, around=other, mends=allow),
+        Case("folder is forbidden", ("file",), closed, around=other, mends=allow_folder),
+        Case("folder is forbidden, fresh", ("file",), forbid_folder, around=other, mends=allow_folder, is_built=False),
+    ]
+
+
+def mounted(folder, options):
+    """Whether a file system in memory is mounted there; only root can do that, and not everywhere."""
+    ran = subprocess.run(["mount", "-t", "tmpfs", "-o", options, "tmpfs", folder], capture_output=True, check=False)
+    return ran.returncode == 0
+
+
+def unmounted(folder):
+    if os.path.ismount(folder):
+        subprocess.run(["umount", folder], capture_output=True, check=False)
+
+
+def full_cases(sweep):
+    """Small file systems, in memory, which grow behind the build."""
+    tried = sweep.folder()
+    if not mounted(tried, "size=4k"):
+        return []
+    unmounted(tried)
+    grown = lambda folder: mounted(folder, "remount,size=4m")
+    return [
+        Case(f"file system of {size} KB", ("done", "file", "journal"), lambda folder, s=size: mounted(folder, f"size={s}k"), mends=grown, is_built=False)
+        for size in (4, 8, 12, 16, 20, 24, 32, 48)
+    ]
+
+
+def try_case(sweep, case, building, built):
+    """Tries one case: the name of its answer, and what was wrong."""
+    folder = sweep.folder(built if case.is_built else None)
+    try:
+        if case.prepare:
+            case.prepare(folder)
+        old = content(linked_in(folder))
+        words = case.words(building.text, folder) if case.words else building.words(folder)
+        answer, millis, peak = sweep.measure(words, 60, LIMITED, case.around, folder)
+        name, wrong = name_of(answer), []
+        if name not in case.right:
+            wrong.append(f"{shown(answer)}, {millis} ms, words {words}")
+        if peak * 1024 > case.most:
+            wrong.append(f"it takes {peak} KB")
+        # The report is printed last: a fresh program stands there where that failed.
+        is_placed = old is None and name in ("done", "write 701", "no line")
+        if content(linked_in(folder)) != old and not is_placed:
+            wrong.append(f"linked.cfp is lost or another: {shown(answer)}")
+        if case.mends:
+            now = content(linked_in(folder))
+            case.mends(folder)
+            wrong += building.again(folder, now)
+        return name, [f"{case.title}: {one}" for one in wrong]
+    finally:
+        unmounted(folder)
+        sweep.leave(folder)
+
+
+def try_files(sweep):
+    building, built = Building(sweep, sweep.file("files.c", TEXT.encode())), sweep.folder()
+    sweep.run(building.words(built))
+    groups = {
+        "journals": journal_cases(),
+        "folders and files": folder_cases(),
+        "streams and limits": stream_cases(),
+        "texts": text_cases(sweep),
+        "another user": forbidden_cases(),
+        "full file systems": full_cases(sweep),
+    }
+    for title, cases in groups.items():
+        row = f"files, {title}"
+        if sweep.wants(row):
+            # One by one: some are huge.
+            for number, case in enumerate(cases, 1):
+                if not sweep.given.at or sweep.given.at == number:
+                    tell(f"{row}: {case.title}")
+                    sweep.count(row, *try_case(sweep, case, building, built))
+
+
+# Examples.
+
+
+def try_examples(sweep):
+    folder = os.path.join(ROOT, "examples")
+    for name in sorted(file for file in os.listdir(folder) if file.endswith(".c")):
+        text = os.path.join(folder, name)
+        building = Building(sweep, text)
+        pairs = [(nodes, seed) for nodes in (3, 5, 7) for seed in (1, 2, 3, 4)][:: 6 if sweep.given.quick else 1]
+
+        def job(number):
+            nodes, seed = pairs[number]
+            made = sweep.folder()
+            answer = sweep.run(["build", text, "--nodes", str(nodes), "--seed", str(seed), "--dir", made])
+            wrong = building.report(made, answer) if answer.status == 0 else [shown(answer)]
+            sweep.leave(made)
+            return name_of(answer), [f"--nodes {nodes} --seed {seed}: {one}" for one in wrong]
+
+        if sweep.wants(f"examples, {name}"):
+            sweep.try_all(f"examples, {name}", range(len(pairs)), job)
+
+
+PARTS = {
+    "examples": try_examples,
+    "files": try_files,
+    "kills": try_kills,
+    "memory": try_memory,
+    "calls": try_calls,
+    "journals": try_journals,
+}
+
+
+def show(sweep):
+    """Prints the table; one row for all ways in which a command's calls fail."""
+    table = {}
+    for row, answers in sweep.rows.items():
+        for title in (row.rsplit(", ", 1)[0] if row.startswith(WAYED) else row, "all"):
+            table.setdefault(title, collections.Counter()).update(answers)
+    table["all"] = table.pop("all", collections.Counter())
+    for title, answers in table.items():
+        print(f"{title:32}{sum(answers.values()):7}  " + ", ".join(f"{name} {count}" for name, count in answers.most_common()))
+    print(f"wrong: {len(sweep.wrong) or 'nothing'}")
+    for one in sweep.wrong:
+        print(f"  {one}")
+
+
+def main():
+    ask = argparse.ArgumentParser(description=__doc__, formatter_class=argparse.RawDescriptionHelpFormatter)
+    ask.add_argument("parts", nargs="*", metavar="PART")
+    ask.add_argument("--program", default=os.path.join(ROOT, "crates", "cfarm", "out", "cfarm"))
+    ask.add_argument("--quick", action="store_true")
+    ask.add_argument("--jobs", type=int, default=4)
+    ask.add_argument("--most", type=int, default=2000)
+    ask.add_argument("--times", type=int, default=130, help="in how many directories builds are killed at random moments")
+    ask.add_argument("--row", default="", help="only the rows of the table with this in their names")
+    ask.add_argument("--at", type=int, default=0, help="only the fault of this number")
+    ask.add_argument("--keep", action="store_true")
+    ask.add_argument("--folder", help="what is built stands below this folder")
+    given = ask.parse_args()
+    if not os.path.exists(given.program):
+        sys.exit("build the program first: ./cfarm --help")
+    for part in given.parts:
+        if part not in PARTS:
+            sys.exit(f"{part}: the parts are {', '.join(PARTS)}")
+    scratch = tempfile.mkdtemp(prefix="hostile", dir=given.folder)
+    os.chmod(scratch, 0o755)
+    try:
+        sweep = Sweep(given, scratch)
+        for part in given.parts or PARTS:
+            PARTS[part](sweep)
+        tell("")
+        show(sweep)
+    finally:
+        if given.keep:
+            print(f"kept: {scratch}")
+        else:
+            shutil.rmtree(scratch, ignore_errors=True)
+    return 1 if sweep.wrong else 0
+
+
+if __name__ == "__main__":
+    sys.exit(main())
