@@ -50,7 +50,7 @@ FLOORS = [
      "farm_nodes_opened farm_nodes_rounds farm_nodes_workers farm_nodes_threads farm_nodes_source "
      "farm_nodes_compiling farm_nodes_linked farm_nodes"),
     ("The program",
-     "cfarm_files cfarm_options cfarm_output cfarm_report cfarm_build_faults cfarm_build_linking cfarm_build cfarm_building cfarm_settle_nodes cfarm_commands cfarm_schedules_lines "
+     "cfarm_files cfarm_options cfarm_output cfarm_meter cfarm_report cfarm_build_faults cfarm_build_linking cfarm_build cfarm_building cfarm_settle_nodes cfarm_commands cfarm_schedules_lines "
      "cfarm_schedules cfarm_words cfarm_program cfarm"),
     ("Tests",
      "program_rows paxos_reference worked_farm worked_commands worked_agreement worked_texts worked_forms worked_offers "

@@ -1,7 +1,6 @@
 //! Where a user sees how far a build is.
 
-use cfarm_build::Progress;
-use cfarm_building::Meter;
+use cfarm_meter::Meter;
 use std::io;
 use std::io::{IsTerminal, Write};
 
@@ -21,7 +20,7 @@ impl<'a> Screen<'a> {
     }
 }
 
-impl Progress for Screen<'_> {
+impl Meter for Screen<'_> {
     fn tell(&mut self, linked: usize, functions: usize, turns: u64) {
         if self.is_shown {
             let standard_error = self.rt.stderr();
@@ -33,9 +32,7 @@ impl Progress for Screen<'_> {
             let _ = line.flush();
         }
     }
-}
 
-impl Meter for Screen<'_> {
     fn clear(&mut self) {
         if self.is_shown {
             let standard_error = self.rt.stderr();

@@ -11,10 +11,10 @@ ghost use Rattle.cfarm_build.specs.Refused.{IsUnbuilt};
 
 use crate::failing::first_failed;
 use crate::meeting::meet_neighbours;
-use crate::progress::Progress;
 use crate::running::run_rounds;
 use cfarm_build_faults::BuildError;
 use cfarm_build_linking::{Built, built_by};
+use cfarm_meter::Meter;
 use durable_model::Disk;
 use farm_nodes::{Farm, Hall, Naming, Oracles, Source};
 use std::alloc::Global;
@@ -28,7 +28,7 @@ pub fn build<
     O: Oracles + Drop + Send,
     H: Naming + Send,
     R: Threads + Wait + Sync,
-    P: Progress,
+    M: Meter,
 >(
     rt: &R,
     alloc: Global,
@@ -38,7 +38,7 @@ pub fn build<
     oracles: Vec<O>,
     turns: u64,
     seed: u64,
-    progress: &mut P,
+    meter: &mut M,
 ) -> Result<Built, BuildError>
     requires size { IsRoomSize (length disks.items) }
     requires oracles { length oracles.items ≡ length disks.items }
@@ -61,7 +61,7 @@ pub fn build<
         Err((_disks, fault)) => return Err(BuildError::Disks(fault)),
     };
     let Farm { source, nodes } = farm;
-    let mut nodes = match run_rounds(rt, alloc, nodes, turns, progress) {
+    let mut nodes = match run_rounds(rt, alloc, nodes, turns, meter) {
         Ok(nodes) => nodes,
         Err(fault) => return Err(fault),
     };

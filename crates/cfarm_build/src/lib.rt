@@ -5,10 +5,8 @@
 mod building;
 mod failing;
 mod meeting;
-mod progress;
 mod running;
 
 pub use building::build;
 pub use cfarm_build_faults::BuildError;
 pub use cfarm_build_linking::Built;
-pub use progress::Progress;

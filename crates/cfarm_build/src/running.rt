@@ -8,9 +8,9 @@ ghost use Rattle.farm_nodes_node.specs.Waiting.{IsWaiting};
 ghost use Rattle.farm_nodes_threads.specs.CameBack.{CameBack};
 ghost use Rattle.cfarm_build.specs.Refused.{IsNotRun};
 
-use crate::progress::Progress;
 use cfarm_build_faults::BuildError;
 use cfarm_build_linking::linked_functions;
+use cfarm_meter::Meter;
 use durable_model::Disk;
 use farm_nodes::{FarmNode, Naming, Oracles, RunError, run_threads};
 use farm_nodes_passes::Seats;
@@ -66,13 +66,9 @@ fn are_done<D, O, H: Naming>(nodes: &[FarmNode<D, O, H>]) -> bool {
 }
 
 /// Tells how many functions the first node links.
-fn tell_of<D, O, H: Naming, P: Progress>(
-    nodes: &[FarmNode<D, O, H>],
-    turns: u64,
-    progress: &mut P,
-) {
+fn tell_of<D, O, H: Naming, M: Meter>(nodes: &[FarmNode<D, O, H>], turns: u64, meter: &mut M) {
     if let Some(first) = nodes.first() {
-        progress.tell(linked_functions(&first.seats), first.seats.len(), turns);
+        meter.tell(linked_functions(&first.seats), first.seats.len(), turns);
     }
 }
 
@@ -114,13 +110,13 @@ pub(crate) fn run_rounds<
     O: Oracles + Drop + Send,
     H: Naming + Send,
     R: Threads + Wait + Sync,
-    P: Progress,
+    M: Meter,
 >(
     rt: &R,
     alloc: Global,
     nodes: Vec<FarmNode<D, O, H>>,
     turns: u64,
-    progress: &mut P,
+    meter: &mut M,
 ) -> Result<Vec<FarmNode<D, O, H>>, BuildError>
     requires some { 0 < length nodes.items }
     requires fit { AllByRecursion (λ n. IsSoundNode D.is_honest D.seen D.may_leave n.log (fours_of n.seats.items) n.halted
@@ -142,7 +138,7 @@ pub(crate) fn run_rounds<
             Err(fault) => return Err(fault),
         };
         left -= round;
-        tell_of(&nodes, turns - left, progress);
+        tell_of(&nodes, turns - left, meter);
         if are_done(&nodes) {
             left = 0;
         }

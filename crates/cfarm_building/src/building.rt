@@ -6,10 +6,10 @@ ghost use Rattle.cfarm_building.specs.Done.{HasBuilt, IsNotBuilt};
 
 use crate::compiling::compiled;
 use crate::error::BuildingError;
-use crate::meter::Meter;
 use crate::placing::place;
 use cfarm_build::{BuildError, Built};
 use cfarm_files::Files;
+use cfarm_meter::Meter;
 use cfarm_options::BuildOptions;
 use cfarm_output::print_whole;
 use farm_nodes::{Hall, Naming};

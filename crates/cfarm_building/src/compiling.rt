@@ -4,10 +4,10 @@ ghost use Rattle.std.specs.Prelude.{IfOk, IfErr};
 ghost use Rattle.cfarm_building.specs.Compiled.{IsCompiled, IsUncompiled};
 
 use crate::error::BuildingError;
-use crate::meter::Meter;
 use crate::opening::open_disks;
 use cfarm_build::{BuildError, Built, build};
 use cfarm_files::Files;
+use cfarm_meter::Meter;
 use cfarm_options::BuildOptions;
 use farm_nodes::{Hall, Naming, Source, optimisers_of, prepare};
 use std::alloc::Global;

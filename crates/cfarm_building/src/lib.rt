@@ -6,10 +6,8 @@
 mod building;
 mod compiling;
 mod error;
-mod meter;
 mod opening;
 mod placing;
 
 pub use building::build_text;
 pub use error::BuildingError;
-pub use meter::Meter;

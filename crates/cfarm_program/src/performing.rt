@@ -6,9 +6,10 @@ ghost use Rattle.cfarm_program.specs.Outcomes.{Builds, Checked, Executed, Interp
 ghost use Rattle.cfarm_program.specs.Performed.{Performs};
 
 use crate::telling::tell;
-use cfarm_building::{Meter, build_text};
+use cfarm_building::build_text;
 use cfarm_commands::{Closing, check_text, exec, interpret, settle, status_of};
 use cfarm_files::Files;
+use cfarm_meter::Meter;
 use cfarm_options::BuildOptions;
 use cfarm_schedules::simulate;
 use cfarm_words::Task;

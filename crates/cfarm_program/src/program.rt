@@ -8,8 +8,8 @@ ghost use Rattle.cfarm_words.specs.Words.{AreCounts, Counts};
 
 use crate::running::run_task;
 use crate::telling::{UNWRITTEN, tell, tell_no_memory};
-use cfarm_building::Meter;
 use cfarm_files::Files;
+use cfarm_meter::Meter;
 use cfarm_words::asked_for;
 use clap::error::ErrorKind;
 use rooms_hall::{Hall, Naming};

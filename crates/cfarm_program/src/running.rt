@@ -5,8 +5,8 @@ ghost use Rattle.cfarm_program.specs.Performed.{Does};
 
 use crate::performing::perform;
 use crate::telling::{tell, tell_no_memory};
-use cfarm_building::Meter;
 use cfarm_files::{FileFault, Files};
+use cfarm_meter::Meter;
 use cfarm_words::Task;
 use rooms_hall::{Hall, Naming};
 use std::alloc::Global;

@@ -1,7 +1,6 @@
 //! A meter that shows nothing.
 
-use cfarm_build::Progress;
-use cfarm_building::Meter;
+use cfarm_meter::Meter;
 
 /// Counts how often it was told and cleared.
 #[derive(Drop)]
@@ -10,13 +9,11 @@ pub struct Quiet {
     pub cleared: u64,
 }
 
-impl Progress for Quiet {
+impl Meter for Quiet {
     fn tell(&mut self, _linked: usize, _functions: usize, _turns: u64) {
         self.told = self.told.saturating_add(1);
     }
-}
 
-impl Meter for Quiet {
     fn clear(&mut self) {
         self.cleared = self.cleared.saturating_add(1);
     }

@@ -5,7 +5,8 @@ use crate::disks::empty_disk;
 use crate::running::TURNS;
 use crate::whole::whole_disks;
 use acceptor_log::{Header, Log, Record};
-use cfarm_build::{Progress, build};
+use cfarm_build::build;
+use cfarm_meter::Meter;
 use durable_model::{Disk, MemoryDisk};
 use farm_nodes::{Hall, Naming, optimisers_of, prepare};
 use program_rows::owned;
@@ -73,8 +74,10 @@ fn crossed(alloc: Global, disks: Vec<MemoryDisk>, digest: [u8; 32]) -> Option<Ve
 #[derive(Drop)]
 struct Quiet;
 
-impl Progress for Quiet {
+impl Meter for Quiet {
     fn tell(&mut self, _linked: usize, _functions: usize, _turns: u64) {}
+
+    fn clear(&mut self) {}
 }
 
 /// Whether a farm of three nodes builds a program over the disks; else its line.
