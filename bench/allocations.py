@@ -5,7 +5,7 @@
     bench/allocations.py --nodes 5000         fewer nodes
     bench/allocations.py --only moves         one of the inputs alone
 
-Inputs of the check: `plain`, 40 equations at each node and one move in each block; `moves`, 256 equations
+Inputs of the check: `plain`, 40 equations filled in at each node and two moves in each block; `moves`, 256 equations
 and 255 moves before and behind each block's instruction, the most that a block can have. Inputs of the
 optimiser: `chain`, each register defined and used soon after, with loops; `live`, almost each register live
 at almost each node; `tangle`, each fourth node a branch to a node drawn by chance. Build the program first:
@@ -53,28 +53,30 @@ def touched(count, size):
 
 
 def checked(nodes, registers, equations, before, after):
-    """Constants, each stored to its register's slot: at each node the equations of the latest."""
-    code, blocks, lists = [], [], []
+    """Each node doubles the word of so many nodes before, the first are constants; each word is stored to its register's
+    slot. So at each node the equations of the latest are filled in, and no node has a row."""
+    code, blocks = [], []
     for node in range(nodes - 1):
-        latest = sorted((node - 1 - k) % registers for k in range(min(node, equations, registers)))
-        lists.append(u16(len(latest)) + b"".join(u16(r) + slot(r) for r in latest))
-        target = node % registers
-        constant = b"\x01" + u16(target) + node.to_bytes(4, "big")
-        code.append(constant + u16(node + 1))
-        body = b"\x01\x00" + node.to_bytes(4, "big") + u16(node + 1)
+        target, source = node % registers, (node - equations) % registers
         stored = [(slot(target), in_register(0))] + touched(after - 1, registers)
-        blocks.append(moves(touched(before, registers)) + body + moves(stored))
+        if node < equations:
+            code.append(b"\x01" + u16(target) + node.to_bytes(4, "big") + u16(node + 1))
+            loaded, body = touched(before, registers), b"\x01\x00" + node.to_bytes(4, "big")
+        else:
+            code.append(sum_of(target, source, source, node))
+            loaded = touched(before - 1, registers) + [(in_register(0), slot(source))]
+            body = b"\x03" + bytes([ADD, 0, 0, 0])
+        blocks.append(moves(loaded) + body + u16(node + 1) + moves(stored))
     code.append(b"\x09\x00")
     blocks.append(b"\x00\x09\x00")
-    lists.append(u16(0))
-    return b"\x03" + head(2, registers, nodes) + b"".join(code) + head(3, registers, nodes) + b"".join(blocks) + b"".join(lists)
+    return b"\x13" + head(2, registers, nodes) + b"".join(code) + head(3, registers, nodes) + b"".join(blocks) + u16(0)
 
 
 def proposed(nodes, registers, instruction):
     """The instructions, with an output that says nothing."""
     code = [instruction(node) for node in range(nodes - 1)] + [b"\x09\x01" + u16(0)]
     output = head(3, 0, 1) + b"\x00\x09\x00"
-    return b"\x03" + head(2, registers, nodes) + b"".join(code) + output + u16(0) * nodes
+    return b"\x13" + head(2, registers, nodes) + b"".join(code) + output + u16(0)
 
 
 def sum_of(target, first, second, node):
@@ -145,7 +147,7 @@ def main():
     of_check = ["reading", "check"]
     of_oracle = ["oracle", "check of the oracle's"]
     inputs = {
-        "plain": (lambda: checked(*size, 40, 0, 1), of_check),
+        "plain": (lambda: checked(*size, 40, 1, 1), of_check),
         "moves": (lambda: checked(*size, 256, 255, 255), of_check),
         "chain": (lambda: chain(*size), of_oracle),
         "live": (lambda: live(*size), of_oracle),

@@ -28,12 +28,13 @@ FLOORS = [
      "c_checker_bodies c_checker_declarations c_checker c_meaning_machine c_meaning c_texts"),
     ("Languages: whole programs of any, Cminor, RTL, LTL, Linear",
      "lang locations machine lang_running cminor_syntax cminor_form cminor_codec cminor_language rtl_parts "
-     "rtl_language rtl_decoded rtl ltl linear_language linear_decoded linear"),
+     "rtl_language rtl_decoded rtl ltl linear_language linear_decoded linear_fused linear_fusing linear"),
     ("Lowerings: C to Cminor, Cminor to RTL",
      "cminor_lowering cminor_lowering_ranges cminor_program_ranges cminor rtlgen_definition rtlgen_code rtlgen"),
     ("Passes: the rules of each, that they keep the meaning, the check",
-     "rtl_passes rtl_passes_facts constprop_check_rules constprop_check cse_check_rules cse_check "
-     "alloc_check_rules alloc_check_laws alloc_check_blocks alloc_check_verdict alloc_check_live alloc_check "
+     "rtl_passes rtl_passes_marks rtl_passes_filled rtl_passes_facts constprop_check_rules constprop_check cse_check_rules cse_check "
+     "alloc_check_rules alloc_check_blocks alloc_check_fill alloc_check_filled alloc_check_lists alloc_check_laws alloc_check_verdict alloc_check_live "
+     "alloc_check "
      "linearize_check_proof linearize_check_layout linearize_check"),
     ("Optimisers: they propose, and nothing is claimed of them",
      "oracle_facts oracle_const oracle_cse oracle_alloc_blocks oracle_alloc oracle_order"),

@@ -4,7 +4,7 @@
     bench/validations.py            functions of 20,000 nodes, median of five runs
     bench/validations.py --runs 1   one run
 
-The offer is one of the first pass: constants and sums in turn, with eight facts at each node. Seconds are
+The offer is one of the first pass: constants and sums in turn, with eight facts filled in at each node. Seconds are
 those of the call `parallel_validate::check_all`, its threads among them; the ratio is to one worker.
 """
 import argparse
@@ -31,10 +31,8 @@ def offer(nodes):
     """Each node gives the next register a word: a constant, or the sum of the two registers before it."""
     words = [0] * REGISTERS
     known = [False] * REGISTERS
-    code, proposed, facts = [], [], []
+    code, proposed = [], []
     for node in range(nodes - 1):
-        listed = [u16(r) + u32(words[r]) for r in range(REGISTERS) if known[r]]
-        facts.append(u16(len(listed)) + b"".join(listed))
         target = node % REGISTERS
         left, right = (target - 1) % REGISTERS, (target - 2) % REGISTERS
         if node % 3 == 2 and known[left] and known[right]:
@@ -47,9 +45,8 @@ def offer(nodes):
         words[target], known[target] = word, True
     for each in (code, proposed):
         each.append(b"\x09\x01" + u16(0))
-    facts.append(u16(0))
     head = b"\x02\x00" + u16(REGISTERS) + u16(0) + u16(nodes)
-    return b"\x01" + head + b"".join(code) + head + b"".join(proposed) + b"".join(facts)
+    return b"\x11" + head + b"".join(code) + head + b"".join(proposed) + u16(0)
 
 
 def run(program, path):

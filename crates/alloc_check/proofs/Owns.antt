@@ -9,7 +9,7 @@ use Rattle.alloc_check_rules.specs.Rules.{EquationFits, equations_at, Rise, IsIn
 use Rattle.alloc_check_live.specs.Lists.{registers_at, RisesFrom, AreLive}
 use Rattle.alloc_check_live.proofs.Risings.{rises_few}
 use Rattle.alloc_check.specs.Slots.{own}
-use Rattle.alloc_check.specs.Baseline.{IsLiveList, AreLiveLists}
+use Rattle.alloc_check.specs.Baseline.{IsLiveList}
 
 pub own_at : (lists : List (List ℕ)) (n : ℕ) → equations_at (map (map own) lists) n ≡ map own (registers_at lists n)
 own_at [] n = refl
@@ -39,15 +39,12 @@ own_in_order count rs few fit rises = record {
   rising = own_rises 0 rs rises;
 }
 
--- the lists of live registers, with their slots
-pub own_live : (nodes : List Instruction) (lists : List (List ℕ)) → AreLive nodes lists → AreLiveLists nodes (map (map own) lists)
-own_live nodes lists live = record {
-  count = length-map lists (map own) ∙ live.count;
-  each = λ n. subst (IsLiveList nodes n) (sym (own_at lists n)) (record {
-    rising = own_rises 0 (registers_at lists n) (live.rising n);
-    exactly = λ e. (
-      λ h. let is = own_is (registers_at lists n) e h in (is.0, (live.exactly n e.register).0 is.1),
-      λ h. subst (Contains (map own (registers_at lists n))) (sym h.0) (own_has (registers_at lists n) e.register ((live.exactly n e.register).1 h.1)),
-    );
-  });
+-- the list of live registers at a node, with their slots
+pub own_live : (nodes : List Instruction) (lists : List (List ℕ)) → AreLive nodes lists → (n : ℕ) → IsLiveList nodes n (map own (registers_at lists n))
+own_live nodes lists live n = record {
+  rising = own_rises 0 (registers_at lists n) (live.rising n);
+  exactly = λ e. (
+    λ h. let is = own_is (registers_at lists n) e h in (is.0, (live.exactly n e.register).0 is.1),
+    λ h. subst (Contains (map own (registers_at lists n))) (sym h.0) (own_has (registers_at lists n) e.register ((live.exactly n e.register).1 h.1)),
+  );
 }

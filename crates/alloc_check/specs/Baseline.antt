@@ -1,10 +1,13 @@
--- The baseline of the pass: each register in a slot of its own, and at each node the equations of the live registers.
-use Rattle.std.specs.Prelude.{◌≡◌, ℕ, ◌↔◌, List, length, Contains}
+-- The baseline of the pass: each register in a slot of its own, and at each marked node the equations of the live registers.
+use Rattle.std.specs.Prelude.{◌≡◌, ℕ, ◌<◌, ◌↔◌, List, [], length, true, false, Contains}
 use Rattle.rtl_language.specs.declared.instruction.Instruction.{Instruction}
 use Rattle.rtl_language.specs.Function as rtl
 use Rattle.ltl.specs.Function as ltl
+use Rattle.rtl_passes_marks.specs.declared.row.NodeRow.{NodeRow}
+use Rattle.rtl_passes_marks.specs.Rows.{entries_at, AreRows}
 use Rattle.alloc_check_rules.specs.declared.equation.Equation.{Equation}
-use Rattle.alloc_check_rules.specs.Rules.{equations_at, Rise}
+use Rattle.alloc_check_rules.specs.Rules.{Rise, IsInOrder}
+use Rattle.alloc_check_filled.specs.Allocated.{is_marked}
 use Rattle.alloc_check_live.specs.Liveness.{IsLive}
 use Rattle.alloc_check.specs.Slots.{own, function_in}
 
@@ -13,10 +16,10 @@ pub record IsLiveList (nodes : List Instruction) (n : ℕ) (equations : List Equ
   pub rising : Rise equations
   pub exactly : (e : Equation) → Contains equations e ↔ ((e ≡ own e.register) × IsLive nodes n e.register)
 
--- so at each node
-pub record AreLiveLists (nodes : List Instruction) (lists : List (List Equation)) : Type 0 where
-  pub count : length lists ≡ length nodes
-  pub each : (n : ℕ) → IsLiveList nodes n (equations_at lists n)
+-- so at each marked node, and rows for no others
+pub record AreLiveRows (input : rtl.FunctionData) (rows : List (NodeRow Equation)) : Type 0 where
+  pub form : AreRows (IsInOrder input.registers input.registers) input.entry input.nodes rows
+  pub each : (n : ℕ) → n < length input.nodes → is_marked input n ≡ true → IsLiveList input.nodes n (entries_at rows n)
 
-abbrev pub IsBaseline : rtl.FunctionData → ltl.FunctionData → List (List Equation) → Type 0
-IsBaseline input output lists = (output ≡ function_in input) × AreLiveLists input.nodes lists
+abbrev pub IsBaseline : rtl.FunctionData → ltl.FunctionData → List (NodeRow Equation) → Type 0
+IsBaseline input output rows = (output ≡ function_in input) × AreLiveRows input rows

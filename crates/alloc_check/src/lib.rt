@@ -1,4 +1,4 @@
-//! The third pass, from RTL to LTL: anybody may propose an output and equations for each node, and the check says whether
+//! The third pass, from RTL to LTL: anybody may propose an output and equations at marked nodes, and the check says whether
 //! they keep the rules of register allocation. What is accepted keeps the meaning of whole programs. The baseline is made
 //! with no choice: each pseudo-register lies in a slot of its own, and instructions reach it by moves through r0 and r1.
 #![tactic(auto)]
@@ -10,6 +10,7 @@ mod lists;
 mod nodes;
 mod pass;
 
-pub use alloc_check_verdict::{Equation, EquationLists, Fault, check, equations_of, why};
+pub use alloc_check_verdict::{Equation, EquationLists, Fault, check, why};
 pub use base::baseline;
 pub use pass::Alloc;
+pub use rtl_passes_marks::{NodeRow, entries_of as equations_of};

@@ -1,9 +1,9 @@
 use crate::base::baseline;
-use alloc_check_laws::{push_lists, read_lists};
-use alloc_check_verdict::{EquationLists, check};
+use alloc_check_verdict::{EquationLists, Equations, Sizes, check};
 use lang_base::{FormError, NoMemory, Pass, PassError, Row};
 use ltl::Ltl;
 use rtl_language::Rtl;
+use rtl_passes_marks::{read_rows, write_rows};
 use std::alloc::Global;
 
 /// Pass 3: pseudo-registers lie in registers and slots.
@@ -11,7 +11,8 @@ pub struct Alloc;
 
 impl Pass for Alloc {
     ghost use Rattle.std.specs.Prelude.{◌≡◌, ◌≢◌, ◌≤◌, ℕ, List, ◌++◌, length, take, IsTrue, ◌↔◌, OnOk, OnErr, IfOk, IfErr};
-    ghost use Rattle.alloc_check_rules.specs.Rules.{IsTooLarge, IsAllocated};
+    ghost use Rattle.alloc_check_rules.specs.Rules.{IsTooLarge};
+    ghost use Rattle.alloc_check_filled.specs.Allocated.{IsAllocated};
     ghost use Rattle.alloc_check_laws.specs.Text.{CertFits, cert_text};
     ghost use Rattle.alloc_check.specs.Baseline.{IsBaseline};
     ghost use Rattle.alloc_check.specs.PassLaws.{allocated_fits, one_cert, sound_law};
@@ -22,9 +23,9 @@ impl Pass for Alloc {
 
     type Cert = EquationLists;
 
-    const NUMBER: u8 = 3;
+    const NUMBER: u8 = 19;
 
-    ghost NUMBER = { 3 };
+    ghost NUMBER = { 19 };
 
     ghost accepts = { IsAllocated };
 
@@ -60,12 +61,7 @@ impl Pass for Alloc {
         equations: &EquationLists,
         out: &mut Vec<u8>,
     ) -> Result<(), NoMemory> {
-        let length = out.len();
-        let written = push_lists(out, equations.as_slice());
-        if written.is_err() {
-            out.truncate(length);
-        }
-        written
+        write_rows::<Equations>(equations.as_slice(), out)
     }
 
     fn read_cert(
@@ -74,13 +70,15 @@ impl Pass for Alloc {
         output: &ltl::Function,
         bytes: &[u8],
     ) -> Result<(EquationLists, usize), FormError> {
-        let registers = u32::from(input.registers());
-        let slots = u32::from(output.slots());
+        let sizes = Sizes {
+            registers: input.registers(),
+            slots: output.slots(),
+        };
         let nodes = input.nodes().len() as u32;
         let _blocks = output.blocks();
         let mut rest = bytes;
-        let lists = read_lists(alloc, registers, slots, nodes, &mut rest)?;
-        Ok((Row::from_vec(lists), bytes.len() - rest.len()))
+        let rows = read_rows::<Equations>(alloc, sizes, nodes, &mut rest)?;
+        Ok((Row::from_vec(rows), bytes.len() - rest.len()))
     }
 
     ghost sound = { sound_law };

@@ -1,4 +1,4 @@
--- Equations are a form: each text is read again, and nothing else is.
+-- Rows of equations are a form: each text is read again, and nothing else is.
 use Rattle.std.proofs.Common.{ℕ, ◌≤◌, ◌^◌, refl}
 use Rattle.lang_base.proofs.Forms.{IsForm}
 use Rattle.lang_base.proofs.Parts.{made_form, both_form}
@@ -11,7 +11,7 @@ use Rattle.rtl_parts.specs.Fits.{RegisterFits}
 use Rattle.rtl_parts.specs.Spelling.{register_text}
 use Rattle.rtl_parts.specs.Reading.{register}
 use Rattle.rtl_parts.proofs.Forms.{register_form}
-use Rattle.rtl_passes.specs.ListForm.{ListsFit, lists, lists_form}
+use Rattle.rtl_passes_marks.specs.RowForm.{RowsFit, rows, rows_form}
 use Rattle.alloc_check_rules.specs.Rules.{EquationFits}
 use Rattle.alloc_check_laws.specs.Text.{equation_text, cert_text}
 use Rattle.alloc_check_laws.specs.Reading.{equation}
@@ -27,5 +27,5 @@ module _ (registers slots : ℕ) (few : registers ≤ 2 ^ 16) (also : slots ≤ 
       (λ e fits. ((e.register, e.location), fits, refl))
 
 -- what is read is spelled so, and what is spelled so is read
-pub equations_form : (registers slots count : ℕ) → registers ≤ 2 ^ 16 → slots ≤ 2 ^ 16 → IsForm (lists (equation registers slots) count) cert_text (ListsFit (EquationFits registers slots) count)
-equations_form registers slots count few also = lists_form (equation_form registers slots few also) count
+pub rows_of_equations : (registers slots nodes : ℕ) → registers ≤ 2 ^ 16 → slots ≤ 2 ^ 16 → nodes ≤ 2 ^ 16 → IsForm (rows (equation registers slots) nodes) cert_text (RowsFit (EquationFits registers slots) nodes)
+rows_of_equations registers slots nodes few also most = rows_form (equation_form registers slots few also) nodes most

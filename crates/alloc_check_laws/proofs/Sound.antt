@@ -21,7 +21,10 @@ use Rattle.machine.specs.Frames.{State, printed, main_number, begins}
 use Rattle.ltl.specs.Function as ltl
 use Rattle.ltl.specs.Meaning.{takes_none, next, entry_of, slots_of, run}
 use Rattle.ltl.specs.Growth.{grows}
-use Rattle.alloc_check_rules.specs.Rules.{equations_at, IsAllocated}
+use Rattle.alloc_check_rules.specs.Rules.{equations_at}
+use Rattle.alloc_check_fill.specs.Right.{AreRight}
+use Rattle.alloc_check_filled.specs.Allocated.{filled, IsAllocated}
+use Rattle.alloc_check_filled.proofs.Right.{right_from}
 use Rattle.alloc_check_laws.specs.Related.{IsSound, Pair, Related}
 use Rattle.alloc_check_rules.proofs.Locations.{covers_none}
 use Rattle.alloc_check_rules.proofs.Entries.{nothing_there}
@@ -83,8 +86,8 @@ starts globals fs gs accepted number (Some f) e =
     subst (λ x. Keeps (λ n. shows (rtl_meaning.next fs) rtl_frames.printed n (rtl_meaning.begins globals number (Some f))) (λ n. shows (next gs) printed n (begins globals number (entry_of x) (slots_of x)))) (sym p.is_target)
     (subst (λ x. Keeps (λ n. shows (rtl_meaning.next fs) rtl_frames.printed n (rtl_meaning.begins globals number (Some x))) (λ n. shows (next gs) printed n (begins globals number p.target.function.entry p.target.function.slots))) found.1 both)
 
--- functions that are accepted and in range
-all_sound : (fs : List (Named rtl.FunctionData)) (gs : List (Named ltl.FunctionData)) → All (λ f. rtl.IsFunction f.function) fs → All (λ g. ltl.IsFunction g.function) gs → AcceptedInTurn IsAllocated fs gs → AcceptedInTurn IsSound fs gs
+-- functions that stand for each other and are in range
+all_sound : (fs : List (Named rtl.FunctionData)) (gs : List (Named ltl.FunctionData)) → All (λ f. rtl.IsFunction f.function) fs → All (λ g. ltl.IsFunction g.function) gs → AcceptedInTurn AreRight fs gs → AcceptedInTurn IsSound fs gs
 all_sound [] [] fits also accepted = tt
 all_sound [] (g ∷ gs) fits also accepted = absurd accepted
 all_sound (f ∷ fs) [] fits also accepted = absurd accepted
@@ -94,11 +97,26 @@ all_sound (f ∷ fs) (g ∷ gs) fits also accepted =
       all_sound fs gs (All-tail (λ f. rtl.IsFunction f.function) f fs fits) (All-tail (λ g. ltl.IsFunction g.function) g gs also) accepted.1,
     )
 
-pub sound : (p : Program rtl.FunctionData) (q : Program ltl.FunctionData) → AllFit rtl.IsFunction p → AllFit ltl.IsFunction q → Accepted IsAllocated p q → Keeps (rtl_meaning.run p) (run q)
-sound p q fits also accepted =
+pub right_keep : (p : Program rtl.FunctionData) (q : Program ltl.FunctionData) → AllFit rtl.IsFunction p → AllFit ltl.IsFunction q → Accepted AreRight p q → Keeps (rtl_meaning.run p) (run q)
+right_keep p q fits also accepted =
     let sounds = all_sound p.functions q.functions fits also accepted.functions in
     let number = main_number rtl_meaning.takes_none p.functions in
     let both = starts p.globals p.functions q.functions sounds number (slice_get p.functions number) refl in
     let at_same : Keeps (rtl_meaning.run p) (λ n. shows (next q.functions) printed n (begins p.globals (main_number takes_none q.functions) (entry_of (slice_get q.functions (main_number takes_none q.functions))) (slots_of (slice_get q.functions (main_number takes_none q.functions))))) =
     subst (λ k. Keeps (rtl_meaning.run p) (λ n. shows (next q.functions) printed n (begins p.globals k (entry_of (slice_get q.functions k)) (slots_of (slice_get q.functions k))))) (main_number_same p.functions q.functions sounds) both in
     subst (λ globals. Keeps (rtl_meaning.run p) (λ n. shows (next q.functions) printed n (begins globals (main_number takes_none q.functions) (entry_of (slice_get q.functions (main_number takes_none q.functions))) (slots_of (slice_get q.functions (main_number takes_none q.functions)))))) accepted.globals at_same
+
+-- accepted rows tell lists that are right
+all_right : (fs : List (Named rtl.FunctionData)) (gs : List (Named ltl.FunctionData)) → All (λ f. rtl.IsFunction f.function) fs → All (λ g. ltl.IsFunction g.function) gs → AcceptedInTurn IsAllocated fs gs → AcceptedInTurn AreRight fs gs
+all_right [] [] fits also accepted = tt
+all_right [] (g ∷ gs) fits also accepted = absurd accepted
+all_right (f ∷ fs) [] fits also accepted = absurd accepted
+all_right (f ∷ fs) (g ∷ gs) fits also accepted =
+    let one = accepted.0.1 in (
+      (accepted.0.0, (filled f.function g.function one.0, right_from f.function g.function one.0 (All-head (λ f. rtl.IsFunction f.function) f fs fits) (All-head (λ g. ltl.IsFunction g.function) g gs also) one.1)),
+      all_right fs gs (All-tail (λ f. rtl.IsFunction f.function) f fs fits) (All-tail (λ g. ltl.IsFunction g.function) g gs also) accepted.1,
+    )
+
+pub sound : (p : Program rtl.FunctionData) (q : Program ltl.FunctionData) → AllFit rtl.IsFunction p → AllFit ltl.IsFunction q → Accepted IsAllocated p q → Keeps (rtl_meaning.run p) (run q)
+sound p q fits also accepted =
+    right_keep p q fits also (record { globals = accepted.globals; functions = all_right p.functions q.functions fits also accepted.functions })

@@ -109,7 +109,7 @@ module _ (f : rtl.FunctionData) (g : ltl.FunctionData) (lists : List (List Equat
   pub location_fits : (n k : ℕ) (q : Equation) → k < length (equations_at lists n) → LocationFits g.slots (get_or (equations_at lists n) k q).location
   location_fits n k q below =
       elim (cases_lt n (length lists)) [
-        | inl there ↦ ((sound.allocated.shape.each n [] there).each k q below).1
+        | inl there ↦ (sound.allocated.each n [] there k q below).location
         | inr past ↦ absurd (let none : equations_at lists n ≡ [] = get_or_past lists n [] past in let short : length (equations_at lists n) ≡ 0 = ap length none in omega (arith, below, short))
       ]
 

@@ -3,5 +3,6 @@ pub mod Reading
 pub mod Related
 pub mod Theorem
 pub use Rattle.alloc_check_rules.specs.Rules
-pub use Rattle.rtl_passes.specs.ListForm
+pub use Rattle.alloc_check_fill.specs.Right
+pub use Rattle.alloc_check_filled.specs.Allocated
 pub use Rattle.alloc_check_rules.specs.Holding

@@ -9,7 +9,8 @@ use Rattle.machine.specs.Data.{Data, all_moved}
 use Rattle.machine.specs.Frames.{Frame, State, after_call, with_result}
 use Rattle.ltl.specs.Function as ltl
 use Rattle.alloc_check_rules.specs.declared.equation.Equation.{Equation}
-use Rattle.alloc_check_rules.specs.Rules.{equations_at, IsAllocated}
+use Rattle.alloc_check_rules.specs.Rules.{equations_at}
+use Rattle.alloc_check_fill.specs.Right.{AreRight}
 use Rattle.alloc_check_rules.specs.Holding.{Holds, HasFrame}
 
 -- the equations hold, and globals and output are the same
@@ -19,13 +20,13 @@ pub record Agrees (slots : ℕ) (es : List Equation) (d : rtl_data.Data) (e : Da
   pub output : e.output ≡ d.output
   pub holds : All (Holds d e) es
 
--- both functions are in range, and the one is accepted for the other
+-- both functions are in range, and the one stands for the other with lists that are right
 pub record IsSound (f : rtl.FunctionData) (g : ltl.FunctionData) (lists : List (List Equation)) : Type 0 where
   pub input : rtl.IsFunction f
   pub output : ltl.IsFunction g
-  pub allocated : IsAllocated f g lists
+  pub allocated : AreRight f g lists
 
--- the functions of a number in both programs, and the equations with which the one is accepted for the other
+-- the functions of a number in both programs, and the equations with which the one stands for the other
 pub record Pair (sources : List (Named rtl.FunctionData)) (targets : List (Named ltl.FunctionData)) (number : ℕ) : Type 0 where
   pub source : Named rtl.FunctionData
   pub target : Named ltl.FunctionData

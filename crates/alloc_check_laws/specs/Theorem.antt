@@ -6,7 +6,13 @@ use Rattle.rtl_language.specs.Function as rtl
 use Rattle.rtl_language.specs.Meaning as rtl_meaning
 use Rattle.ltl.specs.Function.{FunctionData, IsFunction}
 use Rattle.ltl.specs.Meaning.{run}
-use Rattle.alloc_check_rules.specs.Rules.{IsAllocated}
+use Rattle.alloc_check_fill.specs.Right.{AreRight}
+use Rattle.alloc_check_filled.specs.Allocated.{IsAllocated}
 
+-- with any lists of equations that are right at each node
+abbrev pub RightKeep : Type 0
+RightKeep = (p : Program rtl.FunctionData) (q : Program FunctionData) → AllFit rtl.IsFunction p → AllFit IsFunction q → Accepted AreRight p q → Keeps (rtl_meaning.run p) (run q)
+
+-- with accepted rows
 abbrev pub AllocatedKeeps : Type 0
 AllocatedKeeps = (p : Program rtl.FunctionData) (q : Program FunctionData) → AllFit rtl.IsFunction p → AllFit IsFunction q → Accepted IsAllocated p q → Keeps (rtl_meaning.run p) (run q)

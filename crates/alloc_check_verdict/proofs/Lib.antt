@@ -1,5 +1,5 @@
-pub mod Each
-pub mod Locations
-pub mod Ranks
 pub mod Readings
-pub mod Searches
+pub mod Taken
+pub mod Turns
+pub mod Known
+pub mod Lowest

@@ -1,5 +1,5 @@
-pub mod Ranks
-pub mod Given
 pub mod Right
+pub mod Walk
 pub use Rattle.alloc_check_rules.specs.Rules
+pub use Rattle.alloc_check_filled.specs.Allocated
 pub use Rattle.rtl_passes.specs.Faults

@@ -1,17 +1,14 @@
-//! The check of the third pass, from RTL to LTL: anybody may propose an output and equations for each
-//! node, between registers of the input and locations of the output, and the check says whether they
-//! keep the rules of register allocation.
+//! The check of the third pass, from RTL to LTL: anybody may propose an output and rows of equations
+//! at marked nodes, between registers of the input and locations of the output, and the check says
+//! whether they keep the rules of register allocation, with the equations of the other nodes told from
+//! the rows.
 #![tactic(auto)]
 
-mod among;
-mod answers;
-mod entry;
-mod lists;
-mod nodes;
-mod uses;
+mod rows;
 mod verdict;
+mod walk;
 
 pub use alloc_check_rules::Equation;
-pub use lists::{EquationLists, equations_of};
+pub use rows::{EquationLists, Equations, Sizes};
 pub use rtl_passes::Fault;
 pub use verdict::{check, why};

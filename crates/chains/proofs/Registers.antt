@@ -4,13 +4,14 @@ use Rattle.std.specs.Prelude.{All}
 use Rattle.std.proofs.lemmas.List.Elements.{All-get_or}
 use Rattle.lang_base.specs.declared.program.Named.{Named}
 use Rattle.rtl_language.specs.Function.{FunctionData}
+use Rattle.rtl_passes_marks.specs.declared.row.NodeRow.{NodeRow}
 use Rattle.constprop_check_rules.specs.declared.fact.Fact.{Fact}
 use Rattle.constprop_check_rules.specs.Rules.{IsPropagated}
 use Rattle.cse_check_rules.specs.declared.equation.Equation.{Equation}
 use Rattle.cse_check_rules.specs.Rules.{IsEliminated}
 use Rattle.alloc_check_rules.specs.Rules.{IsTooLarge, baseline_limit}
 
-pub large_from_the_start : (f a b : FunctionData) (facts : List (List Fact)) (equations : List (List Equation)) → IsPropagated f a facts → IsEliminated a b equations → IsTooLarge b → IsTooLarge f
+pub large_from_the_start : (f a b : FunctionData) (facts : List (NodeRow Fact)) (equations : List (NodeRow Equation)) → IsPropagated f a facts → IsEliminated a b equations → IsTooLarge b → IsTooLarge f
 large_from_the_start f a b facts equations first second large =
     subst (λ n. baseline_limit < n) (second.shape.same.registers ∙ first.shape.same.registers) large
 

@@ -6,7 +6,7 @@ use Rattle.alloc_check.specs.Baseline as allocation
 use Rattle.linearize_check.specs.Baseline as order
 use Rattle.constprop_check_rules.specs.Rules.{IsPropagated}
 use Rattle.cse_check_rules.specs.Rules.{IsEliminated}
-use Rattle.alloc_check_rules.specs.Rules.{IsAllocated}
+use Rattle.alloc_check_filled.specs.Allocated.{IsAllocated}
 use Rattle.linearize_check_proof.specs.Rules.{IsLaidOut}
 use Rattle.chains.specs.declared.offering.Offers.{Offers}
 

@@ -5,6 +5,7 @@ use Rattle.offers.specs.declared.parts.Parts.{Parts}
 use Rattle.rtl_language.specs.Function as rtl
 use Rattle.ltl.specs.Function as ltl
 use Rattle.linear_language.specs.Function as linear
+use Rattle.rtl_passes_marks.specs.declared.row.NodeRow.{NodeRow}
 use Rattle.constprop_check_rules.specs.declared.fact.Fact.{Fact}
 use Rattle.cse_check_rules.specs.declared.equation.Equation as cse
 use Rattle.alloc_check_rules.specs.declared.equation.Equation as alloc
@@ -14,13 +15,13 @@ use Rattle.chains.specs.declared.offering.Offers.{Offers}
 
 -- the parts of an offer of each pass
 abbrev pub OfConstants : Type 0
-OfConstants = Parts rtl.FunctionData rtl.FunctionData (List (List Fact))
+OfConstants = Parts rtl.FunctionData rtl.FunctionData (List (NodeRow Fact))
 
 abbrev pub OfExpressions : Type 0
-OfExpressions = Parts rtl.FunctionData rtl.FunctionData (List (List cse.Equation))
+OfExpressions = Parts rtl.FunctionData rtl.FunctionData (List (NodeRow cse.Equation))
 
 abbrev pub OfAllocation : Type 0
-OfAllocation = Parts rtl.FunctionData ltl.FunctionData (List (List alloc.Equation))
+OfAllocation = Parts rtl.FunctionData ltl.FunctionData (List (NodeRow alloc.Equation))
 
 abbrev pub OfOrder : Type 0
 OfOrder = Parts ltl.FunctionData linear.FunctionData (List ℕ)

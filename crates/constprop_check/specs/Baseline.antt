@@ -1,7 +1,8 @@
--- The baseline of the pass: the function itself, and no fact at any node.
-use Rattle.std.specs.Prelude.{◌≡◌, List, [], length, replicate}
+-- The baseline of the pass: the function itself, and no rows.
+use Rattle.std.specs.Prelude.{◌≡◌, List, []}
 use Rattle.rtl_language.specs.Function.{FunctionData}
+use Rattle.rtl_passes_marks.specs.declared.row.NodeRow.{NodeRow}
 use Rattle.constprop_check_rules.specs.declared.fact.Fact.{Fact}
 
-abbrev pub IsBaseline : FunctionData → FunctionData → List (List Fact) → Type 0
-IsBaseline input output facts = (output ≡ input) × (facts ≡ replicate (length input.nodes) [])
+abbrev pub IsBaseline : FunctionData → FunctionData → List (NodeRow Fact) → Type 0
+IsBaseline input output rows = (output ≡ input) × (rows ≡ [])

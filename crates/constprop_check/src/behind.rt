@@ -5,7 +5,7 @@ ghost use Rattle.rtl_passes_facts.specs.Edges.{nodes_of};
 ghost use Rattle.constprop_check_rules.specs.Known.{names, decided, edges_of};
 ghost use Rattle.constprop_check_rules.specs.Known.{arms as arms_of};
 ghost use Rattle.constprop_check_rules.specs.Rules.{FactFits, IsFolded};
-ghost use Rattle.constprop_check.specs.Behind.{change_of, IsMade, IsKept};
+ghost use Rattle.constprop_check.specs.Behind.{change_of, makes, keeps};
 
 use constprop_check_rules::{Fact, decision, fold, value, written};
 use rtl_language::Instruction;
@@ -46,14 +46,18 @@ fn is_named(register: Option<Register>, fact: &Fact) -> bool
     }
 }
 
-pub(crate) fn is_made(change: Written, fact: &Fact) -> bool
-    ensures { IsTrue result ↔ IsMade change fact.now }
+/// The fact of the register that is written, if its word is known.
+pub(crate) fn made(change: Written) -> Option<Fact>
+    ensures { result ≡ makes change }
 {
-    is_named(change.register, fact) && change.word == Some(fact.word)
+    match (change.register, change.word) {
+        (Some(register), Some(word)) => Some(Fact { register, word }),
+        _ => None,
+    }
 }
 
 pub(crate) fn is_kept(change: Written, fact: &Fact) -> bool
-    ensures { IsTrue result ↔ IsKept change fact.now }
+    ensures { result ≡ keeps change fact.now }
 {
     !is_named(change.register, fact)
 }

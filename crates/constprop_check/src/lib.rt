@@ -1,4 +1,4 @@
-//! The first pass, from RTL to RTL: anybody may propose an output and facts for each node, and the
+//! The first pass, from RTL to RTL: anybody may propose an output and facts for marked nodes, and the
 //! check says whether they keep the rules of constant propagation. What is accepted keeps the
 //! meaning of whole programs.
 #![tactic(auto)]
@@ -17,4 +17,5 @@ pub use constprop_check_rules::Fact;
 pub use lang_base::Fault;
 pub use lists::{FactLists, facts_of};
 pub use pass::ConstProp;
+pub use rtl_passes_marks::NodeRow;
 pub use verdict::{check, why};

@@ -1,17 +1,17 @@
 ghost use Rattle.std.specs.Prelude.{◌≡◌};
-ghost use Rattle.rtl_passes_facts.specs.Rules.{facts_at};
+ghost use Rattle.rtl_passes_marks.specs.Rows.{entries_at};
 
 use constprop_check_rules::Fact;
 use lang_base::Row;
-use rtl_passes_facts::list_at;
+use rtl_passes_marks::{NodeRow, entries_of};
 
-/// The certificate: for each node the facts that hold there. Anybody may propose one, so nothing is
+/// The certificate: for marked nodes the facts that hold there, by rising nodes. Anybody may propose one, so nothing is
 /// promised of it.
-pub type FactLists = Row<Row<Fact>>;
+pub type FactLists = Row<NodeRow<Fact>>;
 
-/// The facts at a node.
-pub fn facts_of(lists: &[Row<Fact>], node: usize) -> &[Fact]
-    ensures facts { result.now ≡ facts_at lists.now node }
+/// The facts of a node's row, none where it has no row.
+pub fn facts_of(rows: &[NodeRow<Fact>], node: u16) -> &[Fact]
+    ensures { result.now ≡ entries_at rows.now node }
 {
-    list_at(lists, node)
+    entries_of(rows, node)
 }

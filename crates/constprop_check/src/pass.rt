@@ -11,7 +11,7 @@ pub struct ConstProp;
 
 impl Pass for ConstProp {
     ghost use Rattle.std.specs.Prelude.{◌≡◌, ◌≢◌, ◌≤◌, ℕ, List, ◌++◌, length, take, IsTrue, ◌↔◌, OnOk, OnErr, IfOk, IfErr};
-    ghost use Rattle.rtl_passes.specs.ListForm.{lists_text};
+    ghost use Rattle.rtl_passes_marks.specs.RowForm.{rows_text};
     ghost use Rattle.rtl_passes_facts.specs.Certificates.{CertFits};
     ghost use Rattle.constprop_check_rules.specs.Rules.{propagation, IsPropagated};
     ghost use Rattle.constprop_check.specs.FactForm.{fact_text};
@@ -24,15 +24,15 @@ impl Pass for ConstProp {
 
     type Cert = FactLists;
 
-    const NUMBER: u8 = 1;
+    const NUMBER: u8 = 17;
 
-    ghost NUMBER = { 1 };
+    ghost NUMBER = { 17 };
 
     ghost accepts = { IsPropagated };
 
     ghost cert_fits = { λ i o c. CertFits propagation i c };
 
-    ghost cert_spelling = { λ i o c. lists_text fact_text c };
+    ghost cert_spelling = { λ i o c. rows_text fact_text c };
 
     ghost too_large = { never };
 
@@ -54,12 +54,12 @@ impl Pass for ConstProp {
     }
 
     fn write_cert(
-        _input: &Function,
+        input: &Function,
         _output: &Function,
         facts: &FactLists,
         out: &mut Vec<u8>,
     ) -> Result<(), NoMemory> {
-        write_certificate::<ConstProp>(facts.as_slice(), out)
+        write_certificate::<ConstProp>(input, facts.as_slice(), out)
     }
 
     fn read_cert(

@@ -1,4 +1,4 @@
-use crate::behind::{Written, change_by, edges, fits, is_folded, is_kept, is_made};
+use crate::behind::{Written, change_by, edges, fits, is_folded, is_kept, made};
 use crate::form::{push_fact, read_fact};
 use crate::pass::ConstProp;
 use constprop_check_rules::Fact;
@@ -7,10 +7,10 @@ use rtl_language::Instruction;
 use rtl_passes_facts::{Edges, Rules};
 
 impl Rules for ConstProp {
-    ghost use Rattle.constprop_check_rules.specs.Rules.{rank, propagation};
-    ghost use Rattle.constprop_check.specs.Behind.{change_of, IsMade, IsKept};
+    ghost use Rattle.constprop_check_rules.specs.Rules.{propagation};
+    ghost use Rattle.constprop_check.specs.Behind.{change_of, makes, keeps};
     ghost use Rattle.constprop_check.specs.FactForm.{fact, fact_text, fact_form};
-    ghost use Rattle.constprop_check.specs.PassLaws.{ranked_law, known_law};
+    ghost use Rattle.constprop_check.specs.PassLaws.{ranked_law, known_law, changes_law, along_law};
 
     type Fact = Fact;
 
@@ -18,17 +18,15 @@ impl Rules for ConstProp {
 
     ghost rules = { propagation };
 
-    ghost rank = { rank };
-
     ghost part = { λ registers. fact registers };
 
     ghost text = { fact_text };
 
     ghost change_of = { change_of };
 
-    ghost makes = { IsMade };
+    ghost makes = { makes };
 
-    ghost keeps = { λ change i fact. IsKept change fact };
+    ghost keeps = { λ change i fact. keeps change fact };
 
     fn place(fact: &Fact) -> u64 {
         u64::from(fact.register)
@@ -58,8 +56,8 @@ impl Rules for ConstProp {
         change_by(instruction, facts)
     }
 
-    fn is_made(change: Written, fact: &Fact) -> bool {
-        is_made(change, fact)
+    fn made(change: Written) -> Option<Fact> {
+        made(change)
     }
 
     fn is_kept(change: Written, _instruction: &Instruction, fact: &Fact) -> bool {
@@ -73,6 +71,10 @@ impl Rules for ConstProp {
     ghost ranked = { ranked_law };
 
     ghost known = { known_law };
+
+    ghost changes = { changes_law };
+
+    ghost along = { along_law };
 
     ghost form = { fact_form };
 }

@@ -4,23 +4,25 @@ use Rattle.std.specs.Prelude.{All}
 use Rattle.std.specs.Option.{option_map}
 use Rattle.lang_base.specs.Keeps.{Keeps}
 use Rattle.lang_base.specs.declared.program.Program.{Program}
-use Rattle.lang_base.specs.Soundness.{Accepted}
+use Rattle.lang_base.specs.Soundness.{AllFit, Accepted}
 use Rattle.ints.specs.MachineTable.{machine_table}
 use Rattle.rtl_parts.specs.declared.act.Act.{Act}
 use Rattle.rtl_parts.specs.declared.act.Act.TheVariants.{Nop, Constant, Move, Operate, Load, Store, Put}
 use Rattle.rtl_parts.specs.declared.test.Test.{Test}
+use Rattle.rtl_parts.specs.Fits.{ActFits}
 use Rattle.rtl_parts.specs.Data.{Data, value_at, put_at}
 use Rattle.rtl_parts.specs.Acts.{given, does, holds}
 use Rattle.rtl_language.specs.declared.instruction.Instruction.{Instruction}
 use Rattle.rtl_language.specs.declared.instruction.Instruction.TheVariants.{Do, Call, Branch, Return}
-use Rattle.rtl_language.specs.Function.{FunctionData}
+use Rattle.rtl_language.specs.Function.{FunctionData, InstructionFits, IsFunction}
 use Rattle.rtl_language.specs.Meaning.{run}
 use Rattle.rtl_passes.specs.Effects.{onward, chooses, effect_of, HoldsAfter}
-use Rattle.rtl_passes_facts.specs.Rules.{facts_at, LeadsTo, LeadsOn, MayBecome}
-use Rattle.rtl_passes_facts.proofs.Sound.{AreSound, facts_keep}
+use Rattle.rtl_passes_filled.specs.Rules.{facts_at, LeadsTo, LeadsOn, MayBecome, AreRight}
+use Rattle.rtl_passes_filled.proofs.Sound.{AreSound, AreThere, facts_keep, filled_keep}
 use Rattle.constprop_check_rules.specs.declared.fact.Fact.{Fact}
-use Rattle.constprop_check_rules.specs.Known.{fact_at, known_value, known_behind, decided, arms, folded_act, folded, written_by, value_by}
-use Rattle.constprop_check_rules.specs.Rules.{FactFits, propagation, IsPropagated}
+use Rattle.constprop_check_rules.specs.Known.{fact_at, known_value, known_behind, decided, arms, folded_act, folded, target_of, written_by, value_by}
+use Rattle.constprop_check_rules.specs.Rules.{propagation, IsPropagated}
+use Rattle.constprop_check_rules.proofs.Behind.{made_is}
 use Rattle.constprop_check_rules.proofs.Holding.{FactsHold, fact_among, decided_holds, operate_known, act_known, call_known}
 
 -- the facts at a node hold
@@ -121,8 +123,38 @@ are_sound : AreSound propagation FactsHold
 are_sound = record {
   none = λ d r w said. cc;
   becomes = λ facts d hold i o runs becomes. becomes_alike facts d hold i o becomes;
-  leads = λ lists n d hold fit i leads. leads_on lists n d hold (λ s r w said. (fact_among (FactFits (length d.registers)) (facts_at lists s) (fit s) r w said).0) i leads;
+  leads = λ lists n d hold fit i leads. leads_on lists n d hold (λ s r w said. fact_among (λ (fact : Fact). fact.register < length d.registers) (facts_at lists s) (fit s) r w said) i leads;
 }
 
-pub sound : (p q : Program FunctionData) → Accepted IsPropagated p q → Keeps (run p) (run q)
-sound p q accepted = facts_keep propagation FactsHold are_sound p q accepted
+-- ---- what is filled in speaks of registers that are there
+
+target_there : (registers : ℕ) (act : Act) → ActFits registers act → (r : ℕ) → target_of act ≡ Some r → r < registers
+target_there registers Nop fits r e = cc (e)
+target_there registers (Constant target word) fits r e = let same : target ≡ r = cc in subst (λ x. x < registers) same fits.0
+target_there registers (Move target source) fits r e = let same : target ≡ r = cc in subst (λ x. x < registers) same fits.0
+target_there registers (Operate op target arguments) fits r e = let same : target ≡ r = cc in subst (λ x. x < registers) same fits.0
+target_there registers (Load target global index) fits r e = let same : target ≡ r = cc in subst (λ x. x < registers) same fits.0
+target_there registers (Store global index source) fits r e = cc (e)
+target_there registers (Put source None) fits r e = cc (e)
+target_there registers (Put source (Some target)) fits r e = let same : target ≡ r = cc in subst (λ x. x < registers) same fits.1
+
+written_there : (registers nodes : ℕ) (i : Instruction) → InstructionFits registers nodes i → (r : ℕ) → written_by i ≡ Some r → r < registers
+written_there registers nodes (Do act successor) fits r e = target_there registers act fits.0 r e
+written_there registers nodes (Call function arguments None successor) fits r e = cc (e)
+written_there registers nodes (Call function arguments (Some target) successor) fits r e = let same : target ≡ r = cc in subst (λ x. x < registers) same fits.0.target
+written_there registers nodes (Branch test taken other) fits r e = cc (e)
+written_there registers nodes (Return value) fits r e = cc (e)
+
+are_there : AreThere propagation
+are_there = record {
+  row = λ registers fact fits. fits.0;
+  made = λ registers nodes i before fact fits made. written_there registers nodes i fits fact.register (made_is (written_by i) (value_by i before) fact made).0;
+}
+
+-- facts that are right at each node, in lists of any length and order
+pub sound : (p q : Program FunctionData) → Accepted (AreRight propagation) p q → Keeps (run p) (run q)
+sound p q right = facts_keep propagation FactsHold are_sound p q right
+
+-- and rows that are accepted
+pub rows_sound : (p q : Program FunctionData) → AllFit IsFunction p → Accepted IsPropagated p q → Keeps (run p) (run q)
+rows_sound p q fit accepted = filled_keep propagation are_there FactsHold are_sound p q fit accepted

@@ -54,6 +54,12 @@ abbrev pub names : Option ℕ → ℕ → Bool
 names None r = false
 names (Some target) r = nat_eq target r
 
+-- the fact of the register that was written, if its word is known
+abbrev pub known_fact : Option ℕ → Option ℕ → Option Fact
+known_fact None value = None
+known_fact (Some r) None = None
+known_fact (Some r) (Some w) = Some (record { register = r; word = w })
+
 -- the word of a register where this one was written, with that word if it is known
 abbrev pub known_behind : Option ℕ → Option ℕ → List Fact → ℕ → Option ℕ
 known_behind written value facts r = if names written r then value else fact_at facts r

@@ -1,11 +1,13 @@
--- What the pass accepts: an output that differs by constants, and for each node the facts that hold there.
-use Rattle.std.specs.Prelude.{◌≡◌, ℕ, ◌<◌, ◌^◌, List, Some}
+-- What the pass accepts: an output that differs by constants, and for marked nodes the facts that hold there.
+use Rattle.std.specs.Prelude.{◌≡◌, ℕ, ◌<◌, ◌^◌, Bool, List, Option, Some, not}
 use Rattle.rtl_language.specs.declared.instruction.Instruction.{Instruction}
 use Rattle.rtl_language.specs.Function.{FunctionData}
-use Rattle.rtl_passes_facts.specs.Ranked.{RiseFrom}
-use Rattle.rtl_passes_facts.specs.Rules.{RulesOf, IsAccepted}
+use Rattle.rtl_passes_marks.specs.Ranked.{RiseFrom}
+use Rattle.rtl_passes_marks.specs.declared.row.NodeRow.{NodeRow}
+use Rattle.rtl_passes_filled.specs.Rules.{RulesOf}
+use Rattle.rtl_passes_filled.specs.Accepted.{IsAccepted}
 use Rattle.constprop_check_rules.specs.declared.fact.Fact.{Fact}
-use Rattle.constprop_check_rules.specs.Known.{known_behind, written_by, value_by, edges_of, folded}
+use Rattle.constprop_check_rules.specs.Known.{names, known_fact, known_behind, written_by, value_by, edges_of, folded}
 
 -- facts stand in the order of their registers
 abbrev pub rank : Fact → ℕ
@@ -23,15 +25,27 @@ IsKnown i before fact = known_behind (written_by i) (value_by i before) before f
 abbrev pub IsFolded : List Fact → Instruction → Instruction → Type 0
 IsFolded facts i o = folded i facts ≡ Some o
 
+-- the fact of the register that an instruction writes, if its word is known
+abbrev pub made_by : Instruction → List Fact → Option Fact
+made_by i before = known_fact (written_by i) (value_by i before)
+
+-- whether an instruction does not write the register that a fact speaks of
+abbrev pub keeps_by : Instruction → Fact → Bool
+keeps_by i fact = not (names (written_by i) fact.register)
+
 abbrev pub propagation : RulesOf Fact
 propagation = record {
   Fits = FactFits;
   Rise = RiseFrom rank 0;
+  rank = rank;
+  register = rank;
   edges = edges_of;
+  made = made_by;
+  keeps = keeps_by;
   IsKnown = IsKnown;
   Becomes = IsFolded;
 }
 
--- What is accepted: the form is kept, and each node keeps the rules.
-abbrev pub IsPropagated : FunctionData → FunctionData → List (List Fact) → Type 0
-IsPropagated input output lists = IsAccepted propagation input output lists
+-- What is accepted: the form is kept, and each node keeps the rules with the facts that are filled in.
+abbrev pub IsPropagated : FunctionData → FunctionData → List (NodeRow Fact) → Type 0
+IsPropagated input output rows = IsAccepted propagation input output rows

@@ -2,13 +2,16 @@
 
 ghost use Rattle.lang_base.specs.Keeps.{Keeps};
 ghost use Rattle.lang_base.specs.declared.program.Program.{Program};
-ghost use Rattle.lang_base.specs.Soundness.{Accepted};
-ghost use Rattle.rtl_language.specs.Function.{FunctionData};
+ghost use Rattle.lang_base.specs.Soundness.{AllFit, Accepted};
+ghost use Rattle.rtl_language.specs.Function.{FunctionData, IsFunction};
 ghost use Rattle.rtl_language.specs.Meaning.{run};
-ghost use Rattle.constprop_check_rules.specs.Rules.{IsPropagated};
+ghost use Rattle.rtl_passes_filled.specs.Rules.{AreRight};
+ghost use Rattle.constprop_check_rules.specs.Rules.{propagation, IsPropagated};
 
-/// A program of RTL keeps the meaning of another where each of its functions is accepted for the
-/// function of the same number with some facts, under the same name and beside the same globals.
+/// A program of RTL keeps the meaning of another where the functions of one number have one shape, one name and beside
+/// them the same globals, and at each node of the first stand facts, in a list of any length and order, that speak of
+/// registers which are there and are right. Rows that are accepted beside functions in range are filled to such lists.
 pub fn propagated_keeps()
-    ensures { (p q : Program FunctionData) → Accepted IsPropagated p q → Keeps (run p) (run q) }
+    ensures lists { (p q : Program FunctionData) → Accepted (AreRight propagation) p q → Keeps (run p) (run q) }
+    ensures rows { (p q : Program FunctionData) → AllFit IsFunction p → Accepted IsPropagated p q → Keeps (run p) (run q) }
 {}

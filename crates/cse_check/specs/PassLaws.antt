@@ -1,23 +1,27 @@
 -- The laws that the pass owes as one of the pipeline.
-use Rattle.std.proofs.Common.{◌≡◌, ℕ, List, ◌++◌, ◌≤◌, ◌^◌, Some, false}
-use Rattle.std.specs.Prelude.{◌↔◌}
+use Rattle.std.proofs.Common.{◌≡◌, ℕ, List, [], ◌∷◌, ◌++◌, get_or, Bool, true, false, ◌≤◌, ◌^◌, refl, ap, inl, inr}
+use Rattle.std.specs.Prelude.{◌↔◌, All, Contains, not}
 use Rattle.std.specs.List.{AllByRecursion}
+use Rattle.std.proofs.lemmas.List.{get_or_default}
 use Rattle.lang_base.specs.Keeps.{Keeps}
 use Rattle.lang_base.specs.declared.program.Program.{Program}
 use Rattle.lang_base.specs.Soundness.{AllFit, Accepted}
 use Rattle.rtl_language.specs.declared.instruction.Instruction.{Instruction}
+use Rattle.rtl_language.specs.declared.instruction.Instruction.TheVariants.{Do, Call, Branch, Return}
 use Rattle.rtl_language.specs.Function.{FunctionData, IsFunction}
 use Rattle.rtl_language.specs.Meaning.{run}
-use Rattle.rtl_passes.specs.ListForm.{lists_text}
-use Rattle.rtl_passes_facts.specs.Known.{IsMadeOrKept}
-use Rattle.rtl_passes_facts.specs.Ranked.{RiseFrom}
+use Rattle.rtl_passes_marks.specs.declared.row.NodeRow.{NodeRow}
+use Rattle.rtl_passes_marks.specs.RowForm.{rows_text}
+use Rattle.rtl_passes_marks.specs.Edges.{edges_of}
+use Rattle.rtl_passes_filled.specs.Known.{IsMadeOrKept}
+use Rattle.rtl_passes_marks.specs.Ranked.{RiseFrom}
 use Rattle.rtl_passes_facts.specs.Certificates.{CertFits}
 use Rattle.rtl_passes_facts.specs.Laws.{accepted_fits, one_certificate}
 use Rattle.cse_check_rules.specs.declared.equation.Equation.{Equation}
-use Rattle.cse_check_rules.specs.Equations.{equation_by, kills}
+use Rattle.cse_check_rules.specs.Equations.{equation_by, kills, successors_of}
 use Rattle.cse_check_rules.specs.Order.{rank, equation_text}
-use Rattle.cse_check_rules.specs.Rules.{EquationFits, Rise, IsKnown, elimination, IsEliminated}
-use Rattle.cse_check_rules.proofs.Sound.{sound}
+use Rattle.cse_check_rules.specs.Rules.{EquationFits, Rise, IsKnown, keeps_by, elimination, IsEliminated}
+use Rattle.cse_check_rules.proofs.Sound.{rows_sound}
 use Rattle.cse_check_rules.specs.Reading.{equation}
 use Rattle.cse_check_rules.proofs.Forms.{equation_form}
 use Rattle.cse_check_rules.proofs.Ranks.{rise_ranks}
@@ -28,14 +32,14 @@ never f = ⊥
 
 -- what is accepted keeps the meaning, also where every function is in range
 pub sound_law : (p q : Program FunctionData) → AllFit IsFunction p → AllFit IsFunction q → Accepted IsEliminated p q → Keeps (run p) (run q)
-sound_law p q fits also accepted = sound p q accepted
+sound_law p q fits also accepted = rows_sound p q fits accepted
 
 -- equations that are accepted can be written
-pub eliminated_fits : (i o : FunctionData) (c : List (List Equation)) → IsFunction i → IsFunction o → IsEliminated i o c → CertFits elimination i c
+pub eliminated_fits : (i o : FunctionData) (c : List (NodeRow Equation)) → IsFunction i → IsFunction o → IsEliminated i o c → CertFits elimination i c
 eliminated_fits i o c fits also accepted = accepted_fits elimination i o c fits accepted
 
 -- one certificate a spelling
-pub one_cert : (i o : FunctionData) (c d : List (List Equation)) (x y : List ℕ) → CertFits elimination i c → CertFits elimination i d → lists_text equation_text c ++ x ≡ lists_text equation_text d ++ y → (c ≡ d) × (x ≡ y)
+pub one_cert : (i o : FunctionData) (c d : List (NodeRow Equation)) (x y : List ℕ) → CertFits elimination i c → CertFits elimination i d → rows_text equation_text c ++ x ≡ rows_text equation_text d ++ y → (c ≡ d) × (x ≡ y)
 one_cert i o c d x y fits also e = one_certificate elimination (λ registers. equation registers) equation_text (λ registers few. equation_form registers few) i c d x y fits also e
 
 -- equations are in order by their bytes exactly as by their ranks
@@ -43,5 +47,31 @@ pub ranked_law : (registers : ℕ) → registers ≤ 2 ^ 16 → (equations : Lis
 ranked_law registers few equations fits = rise_ranks registers few equations fits
 
 -- what is known is made, or known before and kept
-pub known_law : (i : Instruction) (before : List Equation) (e : Equation) → RiseFrom rank 0 before → IsKnown i before e ↔ IsMadeOrKept (λ it. equation_by i ≡ Some it) (λ it. kills i it ≡ false) before e
-known_law i before e rise = (λ known. known, λ known. known)
+turned : (b : Bool) → not b ≡ true → b ≡ false
+turned true e = cc (e)
+turned false e = refl
+
+known_one : (i : Instruction) (before : List Equation) (e : Equation) → IsKnown i before e → IsMadeOrKept (equation_by i) (keeps_by i) before e
+known_one i before e (inl made) = inl made
+known_one i before e (inr kept) = inr (kept.0, ap not kept.1)
+
+known_other : (i : Instruction) (before : List Equation) (e : Equation) → IsMadeOrKept (equation_by i) (keeps_by i) before e → IsKnown i before e
+known_other i before e (inl made) = inl made
+known_other i before e (inr kept) = inr (kept.0, turned (kills i e) kept.1)
+
+pub known_law : (i : Instruction) (before : List Equation) (e : Equation) → RiseFrom rank 0 before → IsKnown i before e ↔ IsMadeOrKept (equation_by i) (keeps_by i) before e
+known_law i before e rise = (known_one i before e, known_other i before e)
+
+-- a change makes and keeps what its instruction does
+pub changes_law : (i : Instruction) (before : List Equation) → (equation_by i ≡ equation_by i) × ((λ equation. keeps_by i equation) ≡ keeps_by i)
+changes_law i before = (refl, refl)
+
+-- an instruction goes on along its edges
+each_there : (ts : List ℕ) → All (Contains ts) ts
+each_there ts = λ k d below. (k, below, get_or_default ts k (get_or ts k d) d below)
+
+pub along_law : (i : Instruction) → All (Contains (edges_of i)) (successors_of i)
+along_law (Do act successor) = each_there (successor ∷ [])
+along_law (Call function arguments target successor) = each_there (successor ∷ [])
+along_law (Branch test taken other) = each_there (taken ∷ other ∷ [])
+along_law (Return value) = each_there []

@@ -1,29 +1,18 @@
 //! What an instruction does to equations, and which of them can be there.
 
-ghost use Rattle.std.specs.Prelude.{◌≡◌, ◌↔◌, ◌<◌, false, Some, IsTrue};
+ghost use Rattle.std.specs.Prelude.{◌≡◌, ◌↔◌, ◌<◌, IsTrue};
 ghost use Rattle.rtl_parts.specs.Fits.{ArgumentsFit};
 ghost use Rattle.rtl_passes_facts.specs.Edges.{nodes_of};
 ghost use Rattle.cse_check_rules.specs.Equations.{successors_of};
-ghost use Rattle.cse_check_rules.specs.Equations.{kills as killed_by};
-ghost use Rattle.cse_check_rules.specs.Rules.{RightFits, EquationFits};
+ghost use Rattle.cse_check_rules.specs.Rules.{RightFits, EquationFits, keeps_by};
 
-use cse_check_rules::{Equation, RightSide, is_same, kills};
+use cse_check_rules::{Equation, RightSide, kills};
 use rtl_language::Instruction;
 use rtl_parts::Arguments;
 use rtl_passes_facts::Edges;
 
-/// Whether the equation is the one that was made, if one was.
-pub(crate) fn is_made(made: Option<Equation>, equation: &Equation) -> bool
-    ensures { IsTrue result ↔ (made ≡ Some equation.now) }
-{
-    match made {
-        Some(own) => is_same(own, *equation),
-        None => false,
-    }
-}
-
 pub(crate) fn is_kept(instruction: &Instruction, equation: &Equation) -> bool
-    ensures { IsTrue result ↔ (killed_by instruction.now equation.now ≡ false) }
+    ensures { result ≡ keeps_by instruction.now equation.now }
 {
     !kills(instruction, equation)
 }

@@ -1,4 +1,4 @@
-//! The second pass, from RTL to RTL: anybody may propose an output and equations for each node, and
+//! The second pass, from RTL to RTL: anybody may propose an output and equations for marked nodes, and
 //! the check says whether they keep the rules by which what is known already is not computed again.
 //! What is accepted keeps the meaning of whole programs.
 #![tactic(auto)]
@@ -16,4 +16,5 @@ pub use cse_check_rules::{Equation, RightSide};
 pub use lang_base::Fault;
 pub use lists::{EquationLists, equations_of};
 pub use pass::Cse;
+pub use rtl_passes_marks::NodeRow;
 pub use verdict::{check, why};

@@ -1,17 +1,17 @@
 ghost use Rattle.std.specs.Prelude.{◌≡◌};
-ghost use Rattle.rtl_passes_facts.specs.Rules.{facts_at};
+ghost use Rattle.rtl_passes_marks.specs.Rows.{entries_at};
 
 use cse_check_rules::Equation;
 use lang_base::Row;
-use rtl_passes_facts::list_at;
+use rtl_passes_marks::{NodeRow, entries_of};
 
-/// The certificate: for each node the equations that hold there. Anybody may propose one, so nothing
+/// The certificate: for marked nodes the equations that hold there, by rising nodes. Anybody may propose one, so nothing
 /// is promised of it.
-pub type EquationLists = Row<Row<Equation>>;
+pub type EquationLists = Row<NodeRow<Equation>>;
 
-/// The equations at a node.
-pub fn equations_of(lists: &[Row<Equation>], node: usize) -> &[Equation]
-    ensures equations { result.now ≡ facts_at lists.now node }
+/// The equations of a node's row, none where it has no row.
+pub fn equations_of(rows: &[NodeRow<Equation>], node: u16) -> &[Equation]
+    ensures { result.now ≡ entries_at rows.now node }
 {
-    list_at(lists, node)
+    entries_of(rows, node)
 }

@@ -11,7 +11,7 @@ pub struct Cse;
 
 impl Pass for Cse {
     ghost use Rattle.std.specs.Prelude.{◌≡◌, ◌≢◌, ◌≤◌, ℕ, List, ◌++◌, length, take, IsTrue, ◌↔◌, OnOk, OnErr, IfOk, IfErr};
-    ghost use Rattle.rtl_passes.specs.ListForm.{lists_text};
+    ghost use Rattle.rtl_passes_marks.specs.RowForm.{rows_text};
     ghost use Rattle.rtl_passes_facts.specs.Certificates.{CertFits};
     ghost use Rattle.cse_check_rules.specs.Order.{equation_text};
     ghost use Rattle.cse_check_rules.specs.Rules.{elimination, IsEliminated};
@@ -24,15 +24,15 @@ impl Pass for Cse {
 
     type Cert = EquationLists;
 
-    const NUMBER: u8 = 2;
+    const NUMBER: u8 = 18;
 
-    ghost NUMBER = { 2 };
+    ghost NUMBER = { 18 };
 
     ghost accepts = { IsEliminated };
 
     ghost cert_fits = { λ i o c. CertFits elimination i c };
 
-    ghost cert_spelling = { λ i o c. lists_text equation_text c };
+    ghost cert_spelling = { λ i o c. rows_text equation_text c };
 
     ghost too_large = { never };
 
@@ -54,12 +54,12 @@ impl Pass for Cse {
     }
 
     fn write_cert(
-        _input: &Function,
+        input: &Function,
         _output: &Function,
         equations: &EquationLists,
         out: &mut Vec<u8>,
     ) -> Result<(), NoMemory> {
-        write_certificate::<Cse>(equations.as_slice(), out)
+        write_certificate::<Cse>(input, equations.as_slice(), out)
     }
 
     fn read_cert(

@@ -1,4 +1,4 @@
-use crate::behind::{edges, fits, is_kept, is_made};
+use crate::behind::{edges, fits, is_kept};
 use crate::moves::is_shared;
 use crate::pass::Cse;
 use cse_check_rules::{Equation, is_same, made, push_equation, rank, read_equation};
@@ -7,13 +7,12 @@ use rtl_language::Instruction;
 use rtl_passes_facts::{Edges, Rules};
 
 impl Rules for Cse {
-    ghost use Rattle.std.specs.Prelude.{◌≡◌, Some, false};
-    ghost use Rattle.cse_check_rules.specs.Equations.{equation_by, kills};
-    ghost use Rattle.cse_check_rules.specs.Order.{rank, equation_text};
-    ghost use Rattle.cse_check_rules.specs.Rules.{elimination};
+    ghost use Rattle.cse_check_rules.specs.Equations.{equation_by};
+    ghost use Rattle.cse_check_rules.specs.Order.{equation_text};
+    ghost use Rattle.cse_check_rules.specs.Rules.{elimination, keeps_by};
     ghost use Rattle.cse_check_rules.specs.Reading.{equation};
     ghost use Rattle.cse_check_rules.proofs.Forms.{equation_form};
-    ghost use Rattle.cse_check.specs.PassLaws.{ranked_law, known_law};
+    ghost use Rattle.cse_check.specs.PassLaws.{ranked_law, known_law, changes_law, along_law};
 
     type Fact = Equation;
 
@@ -21,17 +20,15 @@ impl Rules for Cse {
 
     ghost rules = { elimination };
 
-    ghost rank = { rank };
-
     ghost part = { λ registers. equation registers };
 
     ghost text = { equation_text };
 
     ghost change_of = { λ i before. equation_by i };
 
-    ghost makes = { λ made fact. made ≡ Some fact };
+    ghost makes = { λ made. made };
 
-    ghost keeps = { λ made i fact. kills i fact ≡ false };
+    ghost keeps = { λ made i fact. keeps_by i fact };
 
     fn place(equation: &Equation) -> u64 {
         rank(equation)
@@ -61,8 +58,8 @@ impl Rules for Cse {
         made(instruction)
     }
 
-    fn is_made(made: Option<Equation>, equation: &Equation) -> bool {
-        is_made(made, equation)
+    fn made(made: Option<Equation>) -> Option<Equation> {
+        made
     }
 
     fn is_kept(_made: Option<Equation>, instruction: &Instruction, equation: &Equation) -> bool {
@@ -76,6 +73,10 @@ impl Rules for Cse {
     ghost ranked = { ranked_law };
 
     ghost known = { known_law };
+
+    ghost changes = { changes_law };
+
+    ghost along = { λ i equations. along_law i };
 
     ghost form = { λ registers few. equation_form registers few };
 }

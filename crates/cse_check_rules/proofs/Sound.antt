@@ -1,27 +1,29 @@
 -- What the pass accepts keeps the meaning of whole programs.
-use Rattle.std.proofs.Common.{◌≡◌, ◌≢◌, ℕ, ◌<◌, List, [], ◌∷◌, length, Option, Some, None, Bool, true, false, get_or, refl, sym, ap, subst, ◌∙◌, arith, inl, inr}
+use Rattle.std.proofs.Common.{◌≡◌, ◌≢◌, ℕ, ◌<◌, List, [], ◌∷◌, length, Option, Some, None, Bool, true, false, cond, get_or, refl, sym, ap, subst, ◌∙◌, arith, inl, inr}
 use Rattle.std.specs.Prelude.{◌||◌, All}
 use Rattle.std.specs.Option.{option_map}
 use Rattle.std.proofs.lemmas.List.Elements.{All-contains}
 use Rattle.lang_base.specs.Keeps.{Keeps}
 use Rattle.lang_base.specs.declared.program.Program.{Program}
-use Rattle.lang_base.specs.Soundness.{Accepted}
+use Rattle.lang_base.specs.Soundness.{AllFit, Accepted}
 use Rattle.rtl_parts.specs.declared.act.Act.{Act}
 use Rattle.rtl_parts.specs.declared.act.Act.TheVariants.{Nop, Constant, Move, Operate, Load, Store, Put}
 use Rattle.rtl_parts.specs.declared.test.Test.{Test}
+use Rattle.rtl_parts.specs.Fits.{ActFits}
 use Rattle.rtl_parts.specs.Data.{Data, value_at, put_at}
 use Rattle.rtl_parts.specs.Acts.{given, does, holds}
 use Rattle.rtl_language.specs.declared.instruction.Instruction.{Instruction}
 use Rattle.rtl_language.specs.declared.instruction.Instruction.TheVariants.{Do, Call, Branch, Return}
-use Rattle.rtl_language.specs.Function.{FunctionData}
+use Rattle.rtl_language.specs.Function.{FunctionData, InstructionFits, IsFunction}
 use Rattle.rtl_language.specs.Meaning.{run}
 use Rattle.rtl_passes.specs.Effects.{Faults, onward, chooses, effect_of, HoldsAfter}
-use Rattle.rtl_passes_facts.specs.Rules.{facts_at, LeadsTo, LeadsOn, MayBecome}
-use Rattle.rtl_passes_facts.proofs.Sound.{AreSound, facts_keep}
+use Rattle.rtl_passes_filled.specs.Rules.{facts_at, LeadsTo, LeadsOn, MayBecome, AreRight}
+use Rattle.rtl_passes_filled.proofs.Sound.{AreSound, AreThere, facts_keep, filled_keep}
 use Rattle.constprop_check_rules.specs.Known.{target_of}
+use Rattle.cse_check_rules.specs.declared.equation.RightSide.{RightSide}
 use Rattle.cse_check_rules.specs.declared.equation.RightSide.TheVariants.{Operation, Cell, Copy}
 use Rattle.cse_check_rules.specs.declared.equation.Equation.{Equation}
-use Rattle.cse_check_rules.specs.Equations.{made_by, equation_by, act_disturbs, overwrites, kills, shared_by, shared}
+use Rattle.cse_check_rules.specs.Equations.{reads, equation_of, made_by, equation_by, act_disturbs, overwrites, kills, shared_by, shared}
 use Rattle.cse_check_rules.specs.Rules.{IsKnown, elimination, IsEliminated}
 use Rattle.cse_check_rules.proofs.Holding.{gives, Holds, MadeOrKept, act_holds, call_holds}
 
@@ -145,8 +147,46 @@ are_sound : AreSound elimination (λ equations d. All (Holds d) equations)
 are_sound = record {
   none = λ d k z below. absurd (omega (arith, below));
   becomes = becomes_alike;
-  leads = λ lists n d hold fit i leads. leads_on lists n d hold (λ s k z below. (fit s k z below).0) i leads;
+  leads = λ lists n d hold fit i leads. leads_on lists n d hold fit i leads;
 }
 
-pub sound : (p q : Program FunctionData) → Accepted IsEliminated p q → Keeps (run p) (run q)
-sound p q accepted = facts_keep elimination (λ equations d. All (Holds d) equations) are_sound p q accepted
+-- ---- what is filled in speaks of registers that are there
+
+abbrev own : ℕ → RightSide → Equation
+own target right = record { register = target; right = right }
+
+own_there : (registers target : ℕ) (right : RightSide) (equation : Equation) → target < registers → equation_of target right ≡ Some equation → equation.register < registers
+own_there registers target right equation below e = at (reads right target) e
+  where
+    at : (b : Bool) → cond b None (Some (own target right)) ≡ Some equation → equation.register < registers
+    at true e = cc (e)
+    at false e = subst (λ (x : Equation). x.register < registers) (there_is (own target right) equation e) below
+
+made_there : (registers : ℕ) (act : Act) → ActFits registers act → (equation : Equation) → made_by act ≡ Some equation → equation.register < registers
+made_there registers Nop fits equation e = cc (e)
+made_there registers (Constant target word) fits equation e = cc (e)
+made_there registers (Move target source) fits equation e = own_there registers target (Copy source) equation fits.0 e
+made_there registers (Operate op target arguments) fits equation e = own_there registers target (Operation op arguments) equation fits.0 e
+made_there registers (Load target global index) fits equation e = own_there registers target (Cell global index) equation fits.0 e
+made_there registers (Store global index source) fits equation e = cc (e)
+made_there registers (Put source target) fits equation e = cc (e)
+
+equation_there : (registers nodes : ℕ) (i : Instruction) → InstructionFits registers nodes i → (equation : Equation) → equation_by i ≡ Some equation → equation.register < registers
+equation_there registers nodes (Do act successor) fits equation e = made_there registers act fits.0 equation e
+equation_there registers nodes (Call function arguments target successor) fits equation e = cc (e)
+equation_there registers nodes (Branch test taken other) fits equation e = cc (e)
+equation_there registers nodes (Return value) fits equation e = cc (e)
+
+are_there : AreThere elimination
+are_there = record {
+  row = λ registers equation fits. fits.0;
+  made = λ registers nodes i before equation fits made. equation_there registers nodes i fits equation made;
+}
+
+-- equations that are right at each node, in lists of any length and order
+pub sound : (p q : Program FunctionData) → Accepted (AreRight elimination) p q → Keeps (run p) (run q)
+sound p q right = facts_keep elimination (λ equations d. All (Holds d) equations) are_sound p q right
+
+-- and rows that are accepted
+pub rows_sound : (p q : Program FunctionData) → AllFit IsFunction p → Accepted IsEliminated p q → Keeps (run p) (run q)
+rows_sound p q fit accepted = filled_keep elimination are_there (λ equations d. All (Holds d) equations) are_sound p q fit accepted

@@ -1,15 +1,17 @@
--- What the pass accepts: an output that differs by moves, and for each node the equations that hold there.
-use Rattle.std.specs.Prelude.{◌≡◌, ◌⊎◌, ℕ, false, List, [], ◌∷◌, Some, Contains}
+-- What the pass accepts: an output that differs by moves, and for marked nodes the equations that hold there.
+use Rattle.std.specs.Prelude.{◌≡◌, ◌⊎◌, ℕ, Bool, false, List, [], ◌∷◌, Option, Some, Contains, not}
 use Rattle.ints.specs.Codes.{argument_count_of}
 use Rattle.rtl_parts.specs.Fits.{RegisterFits, GlobalFits, ArgumentsFit}
 use Rattle.rtl_language.specs.declared.instruction.Instruction.{Instruction}
 use Rattle.rtl_language.specs.Function.{FunctionData}
-use Rattle.rtl_passes_facts.specs.Rules.{RulesOf, IsAccepted}
+use Rattle.rtl_passes_marks.specs.declared.row.NodeRow.{NodeRow}
+use Rattle.rtl_passes_filled.specs.Rules.{RulesOf}
+use Rattle.rtl_passes_filled.specs.Accepted.{IsAccepted}
 use Rattle.cse_check_rules.specs.declared.equation.RightSide.{RightSide}
 use Rattle.cse_check_rules.specs.declared.equation.RightSide.TheVariants.{Operation, Cell, Copy}
 use Rattle.cse_check_rules.specs.declared.equation.Equation.{Equation}
 use Rattle.cse_check_rules.specs.Equations.{equation_by, kills, shared, successors_of}
-use Rattle.cse_check_rules.specs.Order.{IsBefore}
+use Rattle.cse_check_rules.specs.Order.{IsBefore, rank}
 
 -- an operator with as many arguments as it takes, a cell of a global that can be, or a register
 abbrev pub RightFits : ℕ → RightSide → Type 0
@@ -37,15 +39,23 @@ pub record IsShared (equations : List Equation) (i o : Instruction) : Type 0 whe
   pub allows : shared i source ≡ Some (equation, o)
   pub known : Contains equations equation
 
+-- whether an instruction does not kill an equation
+abbrev pub keeps_by : Instruction → Equation → Bool
+keeps_by i equation = not (kills i equation)
+
 abbrev pub elimination : RulesOf Equation
 elimination = record {
   Fits = EquationFits;
   Rise = Rise;
+  rank = rank;
+  register = λ equation. equation.register;
+  made = λ i equations. equation_by i;
+  keeps = keeps_by;
   edges = λ i equations. successors_of i;
   IsKnown = IsKnown;
   Becomes = IsShared;
 }
 
--- What is accepted: the form is kept, and each node keeps the rules.
-abbrev pub IsEliminated : FunctionData → FunctionData → List (List Equation) → Type 0
-IsEliminated input output lists = IsAccepted elimination input output lists
+-- What is accepted: the form is kept, and each node keeps the rules with the equations that are filled in.
+abbrev pub IsEliminated : FunctionData → FunctionData → List (NodeRow Equation) → Type 0
+IsEliminated input output rows = IsAccepted elimination input output rows

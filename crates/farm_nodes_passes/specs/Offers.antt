@@ -7,6 +7,7 @@ use Rattle.ltl.specs.Function as ltl
 use Rattle.ltl.specs.contracts.language.LtlLanguage.TheImpl as ltl_language
 use Rattle.linear_language.specs.Function as linear
 use Rattle.linear_language.specs.contracts.language.LinearLanguage.TheImpl as linear_language
+use Rattle.rtl_passes_marks.specs.declared.row.NodeRow.{NodeRow}
 use Rattle.constprop_check_rules.specs.declared.fact.Fact.{Fact}
 use Rattle.constprop_check.specs.contracts.pass.ConstPropPass.TheImpl as constants
 use Rattle.cse_check_rules.specs.declared.equation.Equation as expressions_held
@@ -17,13 +18,13 @@ use Rattle.linearize_check.specs.contracts.pass.LinearizePass.TheImpl as order
 use Rattle.farm_nodes_offers.specs.Pending.{IsTextOf}
 
 abbrev pub Constants : Type 0
-Constants = Parts rtl.FunctionData rtl.FunctionData (List (List Fact))
+Constants = Parts rtl.FunctionData rtl.FunctionData (List (NodeRow Fact))
 
 abbrev pub Expressions : Type 0
-Expressions = Parts rtl.FunctionData rtl.FunctionData (List (List expressions_held.Equation))
+Expressions = Parts rtl.FunctionData rtl.FunctionData (List (NodeRow expressions_held.Equation))
 
 abbrev pub Allocation : Type 0
-Allocation = Parts rtl.FunctionData ltl.FunctionData (List (List places_held.Equation))
+Allocation = Parts rtl.FunctionData ltl.FunctionData (List (NodeRow places_held.Equation))
 
 abbrev pub Order : Type 0
 Order = Parts ltl.FunctionData linear.FunctionData (List ℕ)

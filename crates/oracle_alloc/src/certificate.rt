@@ -1,7 +1,7 @@
-//! The certificate: at each node, that each live register's word lies in the register's location.
+//! The certificate: at each marked node, that each live register's word lies in the register's location.
 
 use crate::register_set::RegisterSet;
-use alloc_check::{Equation, EquationLists};
+use alloc_check::{Equation, EquationLists, NodeRow};
 use lang_base::{NoMemory, Row};
 use oracle_alloc_blocks::Assignment;
 use std::alloc::Global;
@@ -22,15 +22,21 @@ fn equations_at(
     Ok(Row::from_vec(equations))
 }
 
-/// The equations at each node, where these registers are live.
-pub(crate) fn equations_of(
+/// The rows of marked nodes, where these registers are live; none where none is.
+pub(crate) fn rows_of(
     alloc: Global,
     assignment: &Assignment,
+    feeders: &[Option<u16>],
     live: &[RegisterSet],
 ) -> Result<EquationLists, NoMemory> {
-    let mut lists = Vec::new(alloc);
-    for set in live {
-        lists.push(equations_at(alloc, assignment, set)?)?;
+    let mut rows = Vec::new(alloc);
+    for (feeder, (node, set)) in feeders.iter().zip((0..=u16::MAX).zip(live.iter())) {
+        if feeder.is_none() {
+            let entries = equations_at(alloc, assignment, set)?;
+            if !entries.is_empty() {
+                rows.push(NodeRow { node, entries })?;
+            }
+        }
     }
-    Ok(Row::from_vec(lists))
+    Ok(Row::from_vec(rows))
 }

@@ -1,4 +1,4 @@
-use crate::certificate::equations_of;
+use crate::certificate::rows_of;
 use crate::choosing::assignment_for;
 use crate::interference::interference_of;
 use crate::liveness::live_before;
@@ -9,6 +9,7 @@ use lang_base::{NoMemory, Oracle, Row};
 use ltl::Function;
 use oracle_alloc_blocks::{Assignment, are_distinct, blocks_of, locations_of};
 use rand_pcg::Pcg32;
+use rtl_passes_marks::feeders_of;
 use std::alloc::Global;
 
 /// Proposes locations for registers, each a draw of those that are free for it; none where it takes too
@@ -57,7 +58,8 @@ fn with_assignment(
     }
     let left_out = needless(alloc, input.nodes().as_slice(), live, words)?;
     let blocks = blocks_of(alloc, input, assignment, &left_out)?;
-    let equations = equations_of(alloc, assignment, live)?;
+    let feeders = feeders_of(alloc, input)?;
+    let equations = rows_of(alloc, assignment, &feeders, live)?;
     let output = Function::new(
         Row::from_vec(parameters),
         assignment.slots,

@@ -10,44 +10,63 @@ use rand_core::utils::NextWord;
 use rand_pcg::Pcg32;
 use rtl_language::{Function, Instruction, copy_instruction};
 use rtl_passes::with_nodes;
-use rtl_passes_facts::list_at;
+use rtl_passes_filled::list_at;
+use rtl_passes_marks::NodeRow;
 use std::alloc::Global;
 
-/// The function with the changes that the words choose among those that the facts allow, and the facts of each node.
+/// The function with the changes that the words choose among those that the facts allow, and the facts at marked
+/// nodes.
 pub fn proposed<F: Follows>(
     alloc: Global,
     follows: F,
     input: &Function,
     words: &mut Pcg32,
-) -> Result<(Function, Row<Row<FactOf<F>>>), NoMemory> {
-    let lists = followed(alloc, follows, input)?;
+) -> Result<(Function, Row<NodeRow<FactOf<F>>>), NoMemory> {
+    let (lists, feeders) = followed(alloc, follows, input)?;
     let nodes = changed::<F>(alloc, input, &lists, words)?;
     let output = with_nodes(alloc, input, nodes)?;
-    Ok((output, Row::from_vec(lists)))
+    let rows = rows_of(alloc, &feeders, lists)?;
+    Ok((output, Row::from_vec(rows)))
 }
 
-/// The facts that hold at each node.
+/// The lists of marked nodes that are not empty.
+fn rows_of<T: Drop>(
+    alloc: Global,
+    feeders: &[Option<u16>],
+    lists: Vec<Row<T>>,
+) -> Result<Vec<NodeRow<T>>, NoMemory> {
+    let mut rows = Vec::new(alloc);
+    let mut node: u16 = 0;
+    for entries in lists {
+        if !entries.is_empty() && matches!(feeders.get(usize::from(node)), Some(None)) {
+            rows.push(NodeRow { node, entries })?;
+        }
+        node = node.saturating_add(1);
+    }
+    Ok(rows)
+}
+
+/// The facts that hold at each node, and what feeds it.
 fn followed<F: Follows>(
     alloc: Global,
     follows: F,
     input: &Function,
-) -> Result<Vec<Row<FactOf<F>>>, NoMemory> {
+) -> Result<(Vec<Row<FactOf<F>>>, Vec<Option<u16>>), NoMemory> {
     let nodes = input.nodes().as_slice();
-    let mut analysis = Analysis::new(alloc, follows, nodes.len())?;
+    let mut analysis = Analysis::new(alloc, follows, input)?;
     analysis.reach(alloc, input.entry(), &[])?;
     analysis.settle(alloc, nodes)?;
     give_each(alloc, &mut analysis, nodes, nodes.len() as u16)?;
     analysis.settle(alloc, nodes)?;
-    lists_of(alloc, analysis)
+    let Analysis { feeders, known, .. } = analysis;
+    let lists = lists_of(alloc, known)?;
+    Ok((lists, feeders))
 }
 
 /// What is known at each node, which is nothing where it is not reached.
-fn lists_of<F: Follows>(
-    alloc: Global,
-    analysis: Analysis<F>,
-) -> Result<Vec<Row<FactOf<F>>>, NoMemory> {
+fn lists_of<T: Drop>(alloc: Global, known: Vec<Option<Vec<T>>>) -> Result<Vec<Row<T>>, NoMemory> {
     let mut lists = Vec::new(alloc);
-    for known in analysis.known {
+    for known in known {
         lists.push(list_of(alloc, known))?;
     }
     Ok(lists)

@@ -1,5 +1,5 @@
-//! Nodes that are not reached: their edges are tested too, so they take over what is known where
-//! they lead, as far as they can.
+//! Marked nodes that are not reached: their edges are tested too, so they take over what is known where
+//! they lead, as far as they can. Those that are not marked are reached with them.
 
 use crate::analysis::Analysis;
 use crate::follows::{FactOf, Follows};
@@ -40,7 +40,7 @@ fn take_over<F: Follows>(
     nodes: &[Instruction],
     node: u16,
 ) -> Result<(), NoMemory> {
-    if analysis.facts(node).is_some() {
+    if analysis.facts(node).is_some() || !analysis.is_marked(node) {
         return Ok(());
     }
     let Some(instruction) = nodes.get(usize::from(node)) else {
@@ -52,7 +52,7 @@ fn take_over<F: Follows>(
     }
 }
 
-/// Gives every node a list: most lead to nodes of higher numbers, so they are gone through downward,
+/// Gives every marked node a list: most lead to nodes of higher numbers, so they are gone through downward,
 /// once more upward, and what is left then begins with nothing.
 pub(crate) fn give_each<F: Follows>(
     alloc: Global,
@@ -67,7 +67,7 @@ pub(crate) fn give_each<F: Follows>(
         take_over(alloc, analysis, nodes, node)?;
     }
     for node in 0..count {
-        if analysis.facts(node).is_none() {
+        if analysis.facts(node).is_none() && analysis.is_marked(node) {
             analysis.learn(node, Vec::new(alloc))?;
         }
     }

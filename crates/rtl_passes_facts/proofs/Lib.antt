@@ -1,4 +1,5 @@
 pub mod Readings
 pub mod Rising
-pub mod Shapes
-pub mod Sound
+pub mod Shorts
+pub mod Tested
+pub mod Walked

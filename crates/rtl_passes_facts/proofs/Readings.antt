@@ -2,7 +2,7 @@
 use Rattle.std.proofs.Common.{◌≡◌, ℕ, List, Some, subst}
 use Rattle.std.specs.Prelude.{slice_get}
 use Rattle.rtl_language.specs.declared.instruction.Instruction.{Instruction}
-use Rattle.rtl_passes_facts.specs.Rules.{RulesOf, IsRightAs, IsRightIn}
+use Rattle.rtl_passes_filled.specs.Rules.{RulesOf, IsRightAs, IsRightIn}
 
 module _ {A : Type 0} (rules : RulesOf A) (first : ℕ) (inputs outputs : List Instruction) (lists : List (List A)) (n : ℕ) (i o : Instruction) (is_input : slice_get inputs n ≡ Some i) (is_output : slice_get outputs n ≡ Some o) where
   pub right_read : IsRightAs rules first lists n i o → IsRightIn rules first inputs outputs lists n

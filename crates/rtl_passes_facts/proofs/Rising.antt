@@ -1,10 +1,10 @@
 -- What facts in order say of those among them.
-use Rattle.std.proofs.Common.{◌≡◌, ℕ, zero, suc, ◌+◌, ◌<◌, ◌≤◌, List, [], ◌∷◌, length, get_or, drop, true, false, sym, ap, ◌∙◌, subst, arith, inl, inr}
+use Rattle.std.proofs.Common.{◌≡◌, ℕ, zero, suc, ◌+◌, ◌<◌, ◌≤◌, List, [], ◌∷◌, length, get_or, drop, Option, Bool, true, false, sym, ap, ◌∙◌, subst, arith, inl, inr}
 use Rattle.std.specs.Prelude.{◌↔◌, All, Contains}
 use Rattle.std.proofs.lemmas.Bool.{cases_eq}
 use Rattle.std.proofs.lemmas.List.{get_or_default}
-use Rattle.rtl_passes_facts.specs.Known.{IsMadeOrKept}
-use Rattle.rtl_passes_facts.specs.Ranked.{RiseFrom}
+use Rattle.rtl_passes_filled.specs.Known.{IsMadeOrKept}
+use Rattle.rtl_passes_marks.specs.Ranked.{RiseFrom}
 
 module _ {A : Type 0} (rank : A → ℕ) where
   -- none is below the least
@@ -72,17 +72,17 @@ left_rest rank least all left d some lower is = record {
       (λ among. there.0 (here.0 among), λ among. here.1 (there.1 among));
 }
 
-pub known_same : {A : Type 0} (Made Kept : A → Type 0) (before left : List A) (e : A) → Contains left e ↔ Contains before e → IsMadeOrKept Made Kept left e → IsMadeOrKept Made Kept before e
-known_same Made Kept before left e same (inl made) = inl made
-known_same Made Kept before left e same (inr kept) = inr (same.0 kept.0, kept.1)
+pub known_same : {A : Type 0} (made : Option A) (keeps : A → Bool) (before left : List A) (e : A) → Contains left e ↔ Contains before e → IsMadeOrKept made keeps left e → IsMadeOrKept made keeps before e
+known_same made keeps before left e same (inl m) = inl m
+known_same made keeps before left e same (inr kept) = inr (same.0 kept.0, kept.1)
 
 -- what is left of the facts before, at a place of those behind
-pub record IsLeftAt {A : Type 0} (rank : A → ℕ) (Made Kept : A → Type 0) (before after left : List A) (place : ℕ) : Type 0 where
+pub record IsLeftAt {A : Type 0} (rank : A → ℕ) (made : Option A) (keeps : A → Bool) (before after left : List A) (place : ℕ) : Type 0 where
   pub rising : RiseFrom rank 0 left
   pub same : (k : ℕ) (d : A) → place ≤ k → k < length after → Contains left (get_or after k d) ↔ Contains before (get_or after k d)
-  pub known : (k : ℕ) (d : A) → k < place → k < length after → IsMadeOrKept Made Kept before (get_or after k d)
+  pub known : (k : ℕ) (d : A) → k < place → k < length after → IsMadeOrKept made keeps before (get_or after k d)
 
-module _ {A : Type 0} (rank : A → ℕ) (Made Kept : A → Type 0) (before after left left' : List A) (place : ℕ) (e : A) (is : e ≡ get_or after place e) (within : place < length after) (rise : RiseFrom rank 0 after) (at : IsLeftAt rank Made Kept before after left place) (rising : RiseFrom rank (rank e) left') (same : (f : A) → rank e ≤ rank f → Contains left' f ↔ Contains left f) where
+module _ {A : Type 0} (rank : A → ℕ) (made : Option A) (keeps : A → Bool) (before after left left' : List A) (place : ℕ) (e : A) (is : e ≡ get_or after place e) (within : place < length after) (rise : RiseFrom rank 0 after) (at : IsLeftAt rank made keeps before after left place) (rising : RiseFrom rank (rank e) left') (same : (f : A) → rank e ≤ rank f → Contains left' f ↔ Contains left f) where
   still_same : (k : ℕ) (d : A) → place ≤ k → k < length after → rank e ≤ rank (get_or after k d) → Contains left' (get_or after k d) ↔ Contains before (get_or after k d)
   still_same k d le below higher =
       let here = same (get_or after k d) higher in
@@ -94,7 +94,7 @@ module _ {A : Type 0} (rank : A → ℕ) (Made Kept : A → Type 0) (before afte
   same_here = subst (λ (f : A). Contains left' f ↔ Contains before f) (sym is) (still_same place e (omega arith) within (omega (arith, ap rank is)))
 
   -- one place on, where the fact is known
-  pub left_on : IsMadeOrKept Made Kept left' e → IsLeftAt rank Made Kept before after left' (place + 1)
+  pub left_on : IsMadeOrKept made keeps left' e → IsLeftAt rank made keeps before after left' (place + 1)
   left_on known = record {
     rising = RiseFrom-lower rank left' (rank e) 0 (omega arith) rising;
     same = λ k d le below.
@@ -105,14 +105,14 @@ module _ {A : Type 0} (rank : A → ℕ) (Made Kept : A → Type 0) (before afte
         elim (cases_eq k place) [
           | inl here ↦
               let is_e : get_or after k d ≡ e = ap (λ j. get_or after j d) here ∙ get_or_default after place d e within ∙ sym is in
-              subst (IsMadeOrKept Made Kept before) (sym is_e) (known_same Made Kept before left' e same_here known)
+              subst (IsMadeOrKept made keeps before) (sym is_e) (known_same made keeps before left' e same_here known)
           | inr other ↦ at.known k d (omega arith) below
         ];
   }
 
   -- where it is not known, not all are
-  pub unknown_here : ¬ IsMadeOrKept Made Kept left' e → (false ≡ true) ↔ All (IsMadeOrKept Made Kept before) after
+  pub unknown_here : ¬ IsMadeOrKept made keeps left' e → (false ≡ true) ↔ All (IsMadeOrKept made keeps before) after
   unknown_here wrong = (
     λ no. absurd (let impossible : false ≡ true = no in cc),
-    λ all. absurd (wrong (known_same Made Kept left' before e (same_here.1, same_here.0) (subst (IsMadeOrKept Made Kept before) (sym is) (all place e within)))),
+    λ all. absurd (wrong (known_same made keeps left' before e (same_here.1, same_here.0) (subst (IsMadeOrKept made keeps before) (sym is) (all place e within)))),
   )

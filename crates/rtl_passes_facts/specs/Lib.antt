@@ -1,7 +1,5 @@
-pub mod Ranked
 pub mod Edges
-pub mod Known
-pub mod Rules
 pub mod Certificates
 pub mod Laws
+pub mod Handed
 pub use Rattle.rtl_passes.specs.Faults

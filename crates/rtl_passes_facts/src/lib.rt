@@ -1,9 +1,11 @@
-//! Passes from RTL to RTL that go by facts of each node, over the rules of any such pass: how the lists of facts are
-//! read and written, whether they are in order, and whether each node keeps the rules.
+//! Passes from RTL to RTL that go by facts of each node, over the rules of any such pass: how rows of
+//! facts at marked nodes are read and written, what is known at the other nodes, and whether each node keeps the rules.
 #![tactic(auto)]
 
 mod base;
+mod carry;
 mod edges;
+mod entries;
 mod nodes;
 mod order;
 mod reading;
@@ -14,7 +16,6 @@ mod writing;
 
 pub use base::unchanged;
 pub use edges::Edges;
-pub use order::list_at;
 pub use reading::read_certificate;
 pub use rules::Rules;
 pub use verdict::{check, why};

@@ -1,13 +1,14 @@
-ghost use Rattle.std.specs.Prelude.{◌≡◌, ◌↔◌, ℕ, ◌+◌, ◌<◌, ◌≤◌, ◌^◌, List, IsTrue};
+ghost use Rattle.std.specs.Prelude.{◌≡◌, ◌↔◌, ℕ, ◌+◌, ◌<◌, ◌≤◌, ◌^◌, Bool, List, Option, All, Contains, IsTrue};
 ghost use Rattle.std.specs.List.{AllByRecursion};
 ghost use Rattle.lang_base.specs.Reading.{Reading, IsRead};
 ghost use Rattle.lang_base.specs.Texts.{Appends};
 ghost use Rattle.lang_base.proofs.Forms.{IsForm};
 ghost use Rattle.rtl_language.specs.declared.instruction.Instruction.{Instruction};
+ghost use Rattle.rtl_passes_marks.specs.Edges.{edges_of};
+ghost use Rattle.rtl_passes_marks.specs.Ranked.{RiseFrom};
 ghost use Rattle.rtl_passes_facts.specs.Edges.{nodes_of};
-ghost use Rattle.rtl_passes_facts.specs.Ranked.{RiseFrom};
-ghost use Rattle.rtl_passes_facts.specs.Known.{IsMadeOrKept};
-ghost use Rattle.rtl_passes_facts.specs.Rules.{RulesOf};
+ghost use Rattle.rtl_passes_filled.specs.Known.{IsMadeOrKept};
+ghost use Rattle.rtl_passes_filled.specs.Rules.{RulesOf};
 
 use crate::edges::Edges;
 use lang_base::{FormError, NoMemory};
@@ -24,9 +25,6 @@ pub trait Rules {
     /// Which facts and which output are accepted.
     ghost rules: { RulesOf Self.Fact };
 
-    /// The place of a fact among all.
-    ghost rank: { Self.Fact → ℕ };
-
     /// How a fact is read, among so many registers.
     ghost part: { ℕ → Reading Self.Fact };
 
@@ -36,15 +34,15 @@ pub trait Rules {
     /// What the instruction does where these are known before it.
     ghost change_of: { Instruction → List Self.Fact → Self.Change };
 
-    /// The fact is made by the change.
-    ghost makes: { Self.Change → Self.Fact → Type 0 };
+    /// The fact that the change makes, if it makes one.
+    ghost makes: { Self.Change → Option Self.Fact };
 
-    /// The fact holds on over the change that this instruction is.
-    ghost keeps: { Self.Change → Instruction → Self.Fact → Type 0 };
+    /// Whether the fact holds on over the change that this instruction is.
+    ghost keeps: { Self.Change → Instruction → Self.Fact → Bool };
 
     /// The place of the fact among all.
     fn place(fact: &Self::Fact) -> u64
-        ensures value { result ≡ rank fact.now }
+        ensures value { result ≡ rules.rank fact.now }
         ensures small { result + 1 < 2 ^ 64 };
 
     /// Whether the two are one.
@@ -71,24 +69,30 @@ pub trait Rules {
     fn change_by(instruction: &Instruction, facts: &[Self::Fact]) -> Self::Change
         ensures { result ≡ change_of instruction.now facts.now };
 
-    /// Whether the change makes the fact.
-    fn is_made(change: Self::Change, fact: &Self::Fact) -> bool
-        ensures { IsTrue result ↔ makes change fact.now };
+    /// The fact that the change makes, if it makes one.
+    fn made(change: Self::Change) -> Option<Self::Fact>
+        ensures { result ≡ makes change };
 
     /// Whether the fact holds on over the change that this instruction is.
     fn is_kept(change: Self::Change, instruction: &Instruction, fact: &Self::Fact) -> bool
-        ensures { IsTrue result ↔ keeps change instruction.now fact.now };
+        ensures { result ≡ keeps change instruction.now fact.now };
 
     /// Whether the facts allow the input to be made the output.
     fn is_allowed(facts: &[Self::Fact], input: &Instruction, output: &Instruction) -> bool
-        requires { RiseFrom rank 0 facts.now }
+        requires { RiseFrom rules.rank 0 facts.now }
         ensures { IsTrue result ↔ rules.Becomes facts.now input.now output.now };
 
     /// Lists of facts that can be there are in order exactly where their places rise.
-    ghost ranked: { (registers : ℕ) → registers ≤ 2 ^ 16 → (facts : List Self.Fact) → AllByRecursion (rules.Fits registers) facts → rules.Rise facts ↔ RiseFrom rank 0 facts };
+    ghost ranked: { (registers : ℕ) → registers ≤ 2 ^ 16 → (facts : List Self.Fact) → AllByRecursion (rules.Fits registers) facts → rules.Rise facts ↔ RiseFrom rules.rank 0 facts };
 
     /// Among facts in order, those are known behind an instruction that it makes, or that are known before it and kept.
-    ghost known: { (i : Instruction) (before : List Self.Fact) (fact : Self.Fact) → RiseFrom rank 0 before → rules.IsKnown i before fact ↔ IsMadeOrKept (makes (change_of i before)) (keeps (change_of i before) i) before fact };
+    ghost known: { (i : Instruction) (before : List Self.Fact) (fact : Self.Fact) → RiseFrom rules.rank 0 before → rules.IsKnown i before fact ↔ IsMadeOrKept (rules.made i before) (rules.keeps i) before fact };
+
+    /// A change makes and keeps what the instruction does.
+    ghost changes: { (i : Instruction) (before : List Self.Fact) → (makes (change_of i before) ≡ rules.made i before) × (keeps (change_of i before) i ≡ rules.keeps i) };
+
+    /// An instruction goes on along its edges alone.
+    ghost along: { (i : Instruction) (facts : List Self.Fact) → All (Contains (edges_of i)) (rules.edges i facts) };
 
     /// What is read of a fact is spelled so, and what is spelled so is read.
     ghost form: { (registers : ℕ) → registers ≤ 2 ^ 16 → IsForm (part registers) text (rules.Fits registers) };

@@ -1,29 +1,45 @@
 //! Whether an output is accepted, and where it is not.
 
-ghost use Rattle.std.specs.Prelude.{◌↔◌, IsTrue};
-ghost use Rattle.rtl_passes_facts.specs.Rules.{IsAccepted, TellsWhy};
+ghost use Rattle.std.specs.Prelude.{◌↔◌, IsTrue, IfOk};
+ghost use Rattle.rtl_passes_filled.specs.Accepted.{IsAccepted, TellsWhy};
 
+use crate::entries::Facts;
 use crate::nodes::lowest_wrong;
-use crate::order::has_shape;
 use crate::rules::Rules;
-use lang_base::{Fault, Row};
+use lang_base::{Fault, NoMemory};
 use rtl_language::Function;
+use rtl_passes::has_same_shape;
+use rtl_passes_marks::{NodeRow, are_rows, feeders_of};
+use std::alloc::Global;
 
-/// What is wrong with the output and the facts, if anything is.
-pub fn why<R: Rules>(input: &Function, output: &Function, lists: &[Row<R::Fact>]) -> Option<Fault>
-    ensures { TellsWhy R.rules input.now output.now lists.now result }
+/// What is wrong with the output and the rows, if anything is. Time is linear in nodes, rows and what is filled in; of
+/// what is filled in, the lists of those nodes alone take memory that wait for their turn, so along a chain one list.
+pub fn why<R: Rules>(
+    alloc: Global,
+    input: &Function,
+    output: &Function,
+    rows: &[NodeRow<R::Fact>],
+) -> Result<Option<Fault>, NoMemory>
+    ensures { IfOk result (TellsWhy R.rules input.now output.now rows.now) }
 {
-    if !has_shape::<R>(input, output, lists) {
-        return Some(Fault::Shape);
+    let feeders = feeders_of(alloc, input)?;
+    if !has_same_shape(input, output)
+        || !are_rows::<Facts<R>>(input.registers(), input, &feeders, rows)
+    {
+        return Ok(Some(Fault::Shape));
     }
-    let inputs = input.nodes().as_slice();
-    let outputs = output.nodes().as_slice();
-    lowest_wrong::<R>(input.entry(), inputs, outputs, lists).map(Fault::Node)
+    let wrong = lowest_wrong::<R>(alloc, input, output, &feeders, rows)?;
+    Ok(wrong.map(Fault::Node))
 }
 
-/// Whether the output and the facts keep the rules.
-pub fn check<R: Rules>(input: &Function, output: &Function, lists: &[Row<R::Fact>]) -> bool
-    ensures { IsTrue result ↔ IsAccepted R.rules input.now output.now lists.now }
+/// Whether the output and the rows keep the rules.
+pub fn check<R: Rules>(
+    alloc: Global,
+    input: &Function,
+    output: &Function,
+    rows: &[NodeRow<R::Fact>],
+) -> Result<bool, NoMemory>
+    ensures { IfOk result (λ yes. IsTrue yes ↔ IsAccepted R.rules input.now output.now rows.now) }
 {
-    why::<R>(input, output, lists).is_none()
+    Ok(why::<R>(alloc, input, output, rows)?.is_none())
 }

@@ -1,17 +1,17 @@
 //! Whether facts are among others, or known behind them: both lists are in order, so one walk along both tells.
 
-ghost use Rattle.std.specs.Prelude.{◌↔◌, ◌≤◌, All, IsTrue, Contains};
-ghost use Rattle.rtl_passes_facts.specs.Ranked.{RiseFrom};
-ghost use Rattle.rtl_passes_facts.specs.Known.{IsMadeOrKept};
+ghost use Rattle.std.specs.Prelude.{◌≡◌, ◌↔◌, ◌≤◌, Some, All, IsTrue, Contains};
+ghost use Rattle.rtl_passes_marks.specs.Ranked.{RiseFrom};
+ghost use Rattle.rtl_passes_filled.specs.Known.{IsMadeOrKept};
 
 use crate::rules::Rules;
 use rtl_language::Instruction;
 
 /// The facts from this place on.
 fn from_place<R: Rules>(facts: &[R::Fact], least: u64) -> &[R::Fact]
-    requires { RiseFrom R.rank 0 facts.now }
-    ensures rising { RiseFrom R.rank least result.now }
-    ensures same { (e : R.Fact) → least ≤ R.rank e → Contains result.now e ↔ Contains facts.now e }
+    requires { RiseFrom R.rules.rank 0 facts.now }
+    ensures rising { RiseFrom R.rules.rank least result.now }
+    ensures same { (e : R.Fact) → least ≤ R.rules.rank e → Contains result.now e ↔ Contains facts.now e }
 {
     let mut left = facts;
     while let [first, rest @ ..] = left {
@@ -25,12 +25,22 @@ fn from_place<R: Rules>(facts: &[R::Fact], least: u64) -> &[R::Fact]
 
 /// Whether the fact is among these, of which none has a lower place.
 fn begin_with<R: Rules>(facts: &[R::Fact], fact: &R::Fact) -> bool
-    requires { RiseFrom R.rank (R.rank fact.now) facts.now }
+    requires { RiseFrom R.rules.rank (R.rules.rank fact.now) facts.now }
     ensures { IsTrue result ↔ Contains facts.now fact.now }
 {
     match facts {
         [first, _rest @ ..] => R::is_one(first, fact),
         [] => false,
+    }
+}
+
+/// Whether the fact is the one that the change makes, if it makes one.
+fn is_made<R: Rules>(change: R::Change, fact: &R::Fact) -> bool
+    ensures { IsTrue result ↔ (R.makes change ≡ Some fact.now) }
+{
+    match R::made(change) {
+        Some(own) => R::is_one(&own, fact),
+        None => false,
     }
 }
 
@@ -41,10 +51,10 @@ fn is_known<R: Rules>(
     before: &[R::Fact],
     fact: &R::Fact,
 ) -> bool
-    requires { RiseFrom R.rank (R.rank fact.now) before.now }
+    requires { RiseFrom R.rules.rank (R.rules.rank fact.now) before.now }
     ensures { IsTrue result ↔ IsMadeOrKept (R.makes change) (R.keeps change instruction.now) before.now fact.now }
 {
-    R::is_made(change, fact)
+    is_made::<R>(change, fact)
         || (begin_with::<R>(before, fact) && R::is_kept(change, instruction, fact))
 }
 
@@ -55,8 +65,8 @@ fn are_made_or_kept<R: Rules>(
     before: &[R::Fact],
     after: &[R::Fact],
 ) -> bool
-    requires before { RiseFrom R.rank 0 before.now }
-    requires after { RiseFrom R.rank 0 after.now }
+    requires before { RiseFrom R.rules.rank 0 before.now }
+    requires after { RiseFrom R.rules.rank 0 after.now }
     ensures { IsTrue result ↔ All (IsMadeOrKept (R.makes change) (R.keeps change instruction.now) before.now) after.now }
 {
     let mut left = before;
@@ -75,8 +85,8 @@ pub(crate) fn are_known<R: Rules>(
     before: &[R::Fact],
     after: &[R::Fact],
 ) -> bool
-    requires before { RiseFrom R.rank 0 before.now }
-    requires after { RiseFrom R.rank 0 after.now }
+    requires before { RiseFrom R.rules.rank 0 before.now }
+    requires after { RiseFrom R.rules.rank 0 after.now }
     ensures { IsTrue result ↔ All (R.rules.IsKnown instruction.now before.now) after.now }
 {
     let change = R::change_by(instruction, before);

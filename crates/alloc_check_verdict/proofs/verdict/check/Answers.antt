@@ -1,11 +1,12 @@
 use Rattle.std.proofs.Common.{length}
 use Rattle.rtl_passes.proofs.Verdicts.{told-exact}
-use Rattle.alloc_check_rules.specs.Rules.{HasShape, IsRightAt}
+use Rattle.alloc_check_rules.specs.Rules.{IsRightAt}
+use Rattle.alloc_check_filled.specs.Allocated.{filled, HasForm}
 use Rattle.alloc_check_verdict.proofs.verdict.check.Goals as goal
 
 pub returns : goal.returns
 returns c =
     let input = c.args.input.now in
     let output = c.args.output.now in
-    let equations = c.args.equations.now in
-    told-exact (HasShape input output equations) (IsRightAt input output equations) (length input.nodes) c.in_ok-why.field-0 c.is_none.result c.is_none.ensures c.in_ok-why.ensures
+    let rows = c.args.equations.now in
+    told-exact (HasForm input output rows) (IsRightAt input output (filled input output rows)) (length input.nodes) c.in_ok-why.field-0 c.is_none.result c.is_none.ensures c.in_ok-why.ensures

@@ -1,9 +1,8 @@
-use Rattle.std.proofs.Common.{◌≤◌, ◌^◌, arith}
-use Rattle.rtl_passes_facts.proofs.Shapes.{none_accepted}
+use Rattle.rtl_passes_filled.proofs.Marked.{AreCarried}
+use Rattle.rtl_passes_filled.proofs.Shapes.{none_accepted}
 use Rattle.rtl_passes_facts.proofs.base.unchanged.Goals as goal
 
 pub returns-clause-accepted : goal.returns-clause-accepted
 returns-clause-accepted g c =
-    let input = c.args.input.now in
-    let few : input.registers ≤ 2 ^ 16 = omega (arith, c.nodes.ensures.in_range.registers) in
-    rw (c.in_ok-output.ensures, c.in_ok-facts.ensures, c.len.ensures, c.nodes.ensures.nodes) (none_accepted g.R.Rules.rules g.R.Rules.rank input (g.met.R.Rules.ranked input.registers few))
+    let carried : AreCarried g.R.Rules.rules = record { along = g.met.R.Rules.along; known = λ i before fact rise either. (g.met.R.Rules.known i before fact rise).1 either } in
+    rw (c.in_ok-output.ensures, c.from_vec.ensures, c.new.ensures.items) (none_accepted g.R.Rules.rules carried c.args.input.now)

@@ -1,0 +1,3 @@
+pub mod Marks
+pub mod Right
+pub mod Kept

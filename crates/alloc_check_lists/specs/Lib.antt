@@ -1,0 +1,2 @@
+pub mod Ranks
+pub use Rattle.alloc_check_rules.specs.Rules

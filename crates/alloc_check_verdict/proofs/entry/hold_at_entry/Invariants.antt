@@ -1,6 +1,0 @@
-use Rattle.alloc_check_rules.specs.Rules.{HoldsAtEntry}
-use Rattle.alloc_check_verdict.proofs.Each.{HoldsBelow}
-use Rattle.alloc_check_verdict.proofs.entry.hold_at_entry.Given as goal
-
-abbrev pub invariant-loop-equation : goal.invariant-loop-equation
-invariant-loop-equation l = HoldsBelow (HoldsAtEntry l.registers l.locations) l.equations l.equation-index

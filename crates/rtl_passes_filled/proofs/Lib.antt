@@ -1,0 +1,6 @@
+pub mod Carrying
+pub mod Filling
+pub mod Marked
+pub mod Shapes
+pub mod Sound
+pub mod Places

@@ -1,0 +1,4 @@
+pub mod Fed
+pub mod Feeders
+pub mod Short
+pub mod Handings

@@ -1,0 +1,9 @@
+pub mod Ranked
+pub mod Edges
+pub mod Marks
+pub mod Tables
+pub mod Rows
+pub mod RowForm
+pub mod Within
+pub mod Short
+pub mod Handing
