@@ -11,6 +11,7 @@ use linearize_check::Linearize;
 use ltl::Function;
 use rooms::Seat;
 use std::alloc::Global;
+use std::sync::Wait;
 use std::thread::Threads;
 
 /// The code that three seats agree on whose nodes have taken their turns.
@@ -31,7 +32,7 @@ fn code_of_three(
 
 /// Opens a room of three nodes, each on a thread, which agree on an order of the function's blocks: the bytes of the Linear code in it.
 /// Each node offers what the optimiser of orders draws. None where the nodes have not all learned one node's offer.
-pub fn agree<R: Threads + Sync>(
+pub fn agree<R: Threads + Wait>(
     rt: &R,
     alloc: Global,
     input: &Function,
@@ -40,7 +41,6 @@ pub fn agree<R: Threads + Sync>(
 {
     match play_all(rt, alloc, input) {
         Ok((first, second, third)) => code_of_three(alloc, first, second, third, input),
-        // Each function of LTL has a layout, so only refused memory is told.
         Err(_) => Err(NoMemory),
     }
 }

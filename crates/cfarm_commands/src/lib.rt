@@ -15,6 +15,7 @@ mod interpreting;
 mod playing;
 mod reading;
 mod settle_error;
+mod settler;
 mod settling;
 
 pub use agreeing::agree;

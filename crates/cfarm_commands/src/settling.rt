@@ -12,6 +12,7 @@ use lang_base::{FormError, Language, NoMemory};
 use ltl::{Function, Ltl};
 use std::alloc::Global;
 use std::io::Write;
+use std::sync::Wait;
 use std::thread::Threads;
 
 /// The one function that the bytes spell: bytes behind it are a fault.
@@ -30,7 +31,7 @@ fn read_function(alloc: Global, bytes: &[u8]) -> Result<Function, FormError>
 
 /// Settles one LTL function: three nodes, each on a thread, agree on an order of its blocks, and the Linear code in that
 /// order is written in lower case hex on one line, and then `agreed 3`, and flushed.
-pub fn settle<R: Threads + Sync, W: Write>(
+pub fn settle<R: Threads + Wait, W: Write>(
     rt: &R,
     alloc: Global,
     bytes: &[u8],

@@ -16,12 +16,12 @@ use Rattle.cfarm_commands.specs.SettleStatuses as settle
 use Rattle.cfarm_schedules.specs.Lines as schedule
 use Rattle.cfarm_schedules.specs.declared.error.ScheduleError.{ScheduleError}
 use Rattle.cfarm_schedules.specs.declared.error.ScheduleError.TheVariants as P
-use Rattle.cfarm_build_faults.specs.Statuses.{unless_memory}
-use Rattle.cfarm_build_faults.specs.declared.error.BuildError.TheVariants as B
+use Rattle.cfarm_building.specs.Statuses.{unless_memory}
+use Rattle.cfarm_building.specs.BuildError.TheVariants as B
 use Rattle.cfarm_building.specs.Answers as building
 use Rattle.cfarm_building.specs.declared.error.BuildingError.{BuildingError}
 use Rattle.cfarm_building.specs.declared.error.BuildingError.TheVariants as G
-use Rattle.farm_nodes.specs.Numbers.{disks_number_of}
+use Rattle.cfarm_building.specs.Numbers.{disks_number_of}
 use Rattle.farm_nodes_offers.specs.Halted as halts
 use Rattle.farm_nodes_source.specs.Told as texts
 use Rattle.cfarm_commands.specs.declared.settle_error.SettleError.{SettleError}

@@ -68,7 +68,7 @@ fn run_bytes<W: Write, E: Write>(
 }
 
 #[tactic(auto, using(crate::proofs::Tables::settle_in_table))]
-fn lay_out<R: Threads + Sync, W: Write, E: Write>(
+fn lay_out<R: Threads + Wait, W: Write, E: Write>(
     rt: &R,
     alloc: Global,
     bytes: &[u8],

@@ -9,7 +9,7 @@ use Rattle.offers.specs.OneFunction.{program_of_one}
 use Rattle.offers.specs.declared.parts.Parts.{Parts}
 use Rattle.rooms.specs.SeatValue.{SeatValue, offer_of}
 use Rattle.cfarm_settle_nodes.specs.Agreed.{HasOffered, IsOfferOf, IsCode, IsCodeOf, IsOwnCode, IsAgreed}
-use Rattle.cfarm_settle_nodes.specs.Goes.{AllGoOn, AllOfferFor, AreThree, GoesOn, IsSeatOf, Stays}
+use Rattle.cfarm_settle_nodes.specs.Goes.{AllOfferFor, AreThree, GoesOn, IsSeatOf, Stays}
 use Rattle.cfarm_settle_nodes.specs.Learned.{IsLearnedByAll}
 use Rattle.cfarm_settle_nodes.proofs.Going.{stays_on}
 
@@ -36,15 +36,6 @@ module _ {F G C : Type 0} (f : F) where
 
   pub all_offer : (a b c x y z : SeatValue (Parts F G C)) → AllOfferFor f a b c → GoesOn f a x → GoesOn f b y → GoesOn f c z → AllOfferFor f x y z
   all_offer a b c x y z s h k l = record { first = h.own s.first; second = k.own s.second; third = l.own s.third }
-
-  -- the three that went on, if all did
-  pub threes_go : {E : Type 0} (r : Result (SeatValue (Parts F G C) × SeatValue (Parts F G C) × SeatValue (Parts F G C)) E) (a b c : SeatValue (Parts F G C)) → AreThree a b c → IfOk r (AllGoOn f a b c) → IfOk r (λ s. AreThree s.0 s.1 s.2)
-  threes_go {E} (Err e) a b c s h = tt
-  threes_go {E} (Ok t) a b c s h = three_go a b c t.0 t.1 t.2 s h.0 h.1 h.2
-
-  pub offers_go : {E : Type 0} (r : Result (SeatValue (Parts F G C) × SeatValue (Parts F G C) × SeatValue (Parts F G C)) E) (a b c : SeatValue (Parts F G C)) → AllOfferFor f a b c → IfOk r (AllGoOn f a b c) → IfOk r (λ s. AllOfferFor f s.0 s.1 s.2)
-  offers_go {E} (Err e) a b c s h = tt
-  offers_go {E} (Ok t) a b c s h = all_offer a b c t.0 t.1 t.2 s h.0 h.1 h.2
 
   -- the offer of one of them is for this input
   for_input : (node : ℕ) (x : Parts F G C) (a b c : SeatValue (Parts F G C)) → AllOfferFor f a b c → IsOfferOf node x a b c → x.input ≡ f
@@ -79,12 +70,6 @@ pub found_too : {V E : Type 0} (r : Result (Option V) E) (X Y : V → Type 0) �
 found_too (Err e) X Y f h = tt
 found_too (Ok None) X Y f h = tt
 found_too (Ok (Some v)) X Y f h = f v h
-
--- what is known of each of three that were made
-pub all_known : {A E : Type 0} (r : Result (A × A × A) E) (x y z : Result A E) (X Y Z : A → Type 0) → IfOk r (λ s. (x ≡ Ok s.0) × (y ≡ Ok s.1) × (z ≡ Ok s.2)) → IfOk x X → IfOk y Y → IfOk z Z → IfOk r (λ s. X s.0 × Y s.1 × Z s.2)
-all_known {A} {E} (Err e) x y z X Y Z all hx hy hz = tt
-all_known {A} {E} (Ok s) x y z X Y Z all hx hy hz =
-    (subst (λ (t : Result A E). IfOk t X) all.0 hx, subst (λ (t : Result A E). IfOk t Y) all.1 hy, subst (λ (t : Result A E). IfOk t Z) all.2 hz)
 
 module _ {P A B C I O : Type 0} (from : language.Ghosts A I) (to : language.Ghosts B O) (by : pass.Ghosts P A B C I O) where
   -- what was written into nothing is the code of the seat's own offer

@@ -56,7 +56,6 @@ pub record AllOfferFor {F G C : Type 0} (f : F) (a b c : SeatValue (Parts F G C)
   pub second : OffersFor f b
   pub third : OffersFor f c
 
--- each of them went on
-abbrev pub AllGoOn : {F G C : Type 0} → F → SeatValue (Parts F G C) → SeatValue (Parts F G C) → SeatValue (Parts F G C)
-    → SeatValue (Parts F G C) × SeatValue (Parts F G C) × SeatValue (Parts F G C) → Type 0
-AllGoOn f a b c after = GoesOn f a after.0 × GoesOn f b after.1 × GoesOn f c after.2
+-- the seats of three nodes of one such room, and what each has offered is for this input
+abbrev pub AreSeatsFor : {F G C : Type 0} → F → SeatValue (Parts F G C) × SeatValue (Parts F G C) × SeatValue (Parts F G C) → Type 0
+AreSeatsFor f s = AreThree s.0 s.1 s.2 × AllOfferFor f s.0 s.1 s.2

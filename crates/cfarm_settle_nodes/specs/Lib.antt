@@ -1,3 +1,4 @@
 pub mod Goes
 pub mod Learned
 pub mod Agreed
+pub mod Nodes

@@ -11,7 +11,6 @@ pub(crate) struct Player<O: Oracle + Drop> {
     pub oracle: O,
     pub words: Pcg32,
     pub seen: Seen,
-    pub turns: u32,
 }
 
 impl<O: Oracle + Drop> Player<O> {
@@ -21,7 +20,6 @@ impl<O: Oracle + Drop> Player<O> {
             oracle,
             words: Pcg32::new(1, u64::from(me)),
             seen: Seen::new(),
-            turns: 0,
         }
     }
 }

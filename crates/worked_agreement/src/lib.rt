@@ -33,10 +33,11 @@ mod words;
 use crate::rows::{Rows, tell_settle};
 use program_rows::compare;
 use std::io;
+use std::sync::Wait;
 use std::thread::Threads;
 
 /// Asks for each row of the files that lie beside the program, and tells how many agree. Nodes that settle take threads.
-pub fn tell<R: Threads + Sync>(rt: &HostRuntime, threads: &R) -> io::Result<()> {
+pub fn tell<R: Threads + Wait>(rt: &HostRuntime, threads: &R) -> io::Result<()> {
     compare(rt, "settled.txt", &mut Rows)?;
     compare(rt, "protocol.txt", &mut Rows)?;
     tell_settle(rt, threads, "settle.txt")?;

@@ -8,6 +8,7 @@ use crate::simulated::simulated;
 use crate::steps::steps_told;
 use program_rows::{Answers, agrees, parts_of_row};
 use std::alloc::Global;
+use std::sync::Wait;
 use std::thread::Threads;
 use std::{fs, io};
 
@@ -31,7 +32,7 @@ impl Answers for Rows {
 }
 
 /// The answer to a question about `settle`.
-fn settle_told<R: Threads + Sync>(threads: &R, alloc: Global, question: &str) -> Option<String> {
+fn settle_told<R: Threads + Wait>(threads: &R, alloc: Global, question: &str) -> Option<String> {
     let (kind, words) = question.split_once(' ').unwrap_or((question, ""));
     match kind {
         "settle" => {
@@ -46,7 +47,7 @@ fn settle_told<R: Threads + Sync>(threads: &R, alloc: Global, question: &str) ->
 }
 
 /// Asks for each row of a file about `settle`, whose nodes take threads, and tells how many agree.
-pub fn tell_settle<R: Threads + Sync>(rt: &HostRuntime, threads: &R, name: &str) -> io::Result<()> {
+pub fn tell_settle<R: Threads + Wait>(rt: &HostRuntime, threads: &R, name: &str) -> io::Result<()> {
     let text = fs::read_to_string(rt, name)?;
     let mut all = 0u64;
     let mut agree = 0u64;

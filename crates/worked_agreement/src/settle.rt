@@ -5,6 +5,7 @@ use program_rows::{bytes_of, numbered, owned};
 use rand_core::utils::NextWord;
 use rand_pcg::Pcg32;
 use std::alloc::Global;
+use std::sync::Wait;
 use std::thread::Threads;
 
 /// What a run leaves for a user: the status, the line on standard error, and standard output.
@@ -16,7 +17,7 @@ struct Ended {
 }
 
 /// What a run on these bytes leaves.
-fn run<R: Threads + Sync>(threads: &R, alloc: Global, bytes: &[u8]) -> Option<Ended> {
+fn run<R: Threads + Wait>(threads: &R, alloc: Global, bytes: &[u8]) -> Option<Ended> {
     let mut output = Vec::new(alloc);
     match settle(threads, alloc, bytes, &mut output) {
         Ok(()) => Some(Ended {
@@ -41,7 +42,7 @@ fn is_printed(output: &[u8], text: &str) -> bool {
 }
 
 /// Whether what is printed is one of the texts.
-pub fn settled_on<R: Threads + Sync>(
+pub fn settled_on<R: Threads + Wait>(
     threads: &R,
     alloc: Global,
     input: &str,
@@ -54,7 +55,7 @@ pub fn settled_on<R: Threads + Sync>(
 }
 
 /// The status of a refusal that prints nothing, and its line.
-pub fn refused<R: Threads + Sync>(threads: &R, alloc: Global, input: &str) -> Option<String> {
+pub fn refused<R: Threads + Wait>(threads: &R, alloc: Global, input: &str) -> Option<String> {
     let bytes = bytes_of(alloc, input)?;
     let ended = run(threads, alloc, &bytes)?;
     if !ended.output.is_empty() {
@@ -64,7 +65,7 @@ pub fn refused<R: Threads + Sync>(threads: &R, alloc: Global, input: &str) -> Op
 }
 
 /// Whether a run on these bytes prints what is settled, or is refused for their form and prints nothing.
-fn ends_well<R: Threads + Sync>(threads: &R, alloc: Global, bytes: &[u8]) -> bool {
+fn ends_well<R: Threads + Wait>(threads: &R, alloc: Global, bytes: &[u8]) -> bool {
     let Some(ended) = run(threads, alloc, bytes) else {
         return false;
     };
@@ -76,7 +77,7 @@ fn ends_well<R: Threads + Sync>(threads: &R, alloc: Global, bytes: &[u8]) -> boo
 }
 
 /// Whether each front ends well.
-fn fronts_end_well<R: Threads + Sync>(threads: &R, alloc: Global, bytes: &[u8]) -> bool {
+fn fronts_end_well<R: Threads + Wait>(threads: &R, alloc: Global, bytes: &[u8]) -> bool {
     for length in 0..bytes.len() {
         if !ends_well(threads, alloc, &bytes[..length]) {
             return false;
@@ -86,7 +87,7 @@ fn fronts_end_well<R: Threads + Sync>(threads: &R, alloc: Global, bytes: &[u8]) 
 }
 
 /// Whether each change of the byte at the place ends well. The byte is left as it was.
-fn changes_end_well<R: Threads + Sync>(
+fn changes_end_well<R: Threads + Wait>(
     threads: &R,
     alloc: Global,
     bytes: &mut [u8],
@@ -105,7 +106,7 @@ fn changes_end_well<R: Threads + Sync>(
 }
 
 /// Whether each front of an input ends well, and each change of one of its bytes.
-pub fn near<R: Threads + Sync>(threads: &R, alloc: Global, input: &str) -> Option<String> {
+pub fn near<R: Threads + Wait>(threads: &R, alloc: Global, input: &str) -> Option<String> {
     let mut bytes = bytes_of(alloc, input)?;
     if !fronts_end_well(threads, alloc, &bytes) {
         return owned(alloc, "a front does not");
@@ -131,7 +132,7 @@ fn noise_of(alloc: Global, words: &mut Pcg32, turn: u16) -> Option<Vec<u8>> {
 }
 
 /// Whether so many random inputs end well.
-pub fn noise<R: Threads + Sync>(threads: &R, alloc: Global, count: &str) -> Option<String> {
+pub fn noise<R: Threads + Wait>(threads: &R, alloc: Global, count: &str) -> Option<String> {
     let mut words = Pcg32::new(1, 0);
     for turn in 0..count.parse().ok()? {
         let bytes = noise_of(alloc, &mut words, turn)?;

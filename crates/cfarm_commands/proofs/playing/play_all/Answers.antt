@@ -1,20 +1,10 @@
-use denote.Param.Send.{sendable}
-use Rattle.cfarm_commands.proofs.Sent.{function_send, function_sync}
-use Rattle.cfarm_settle_nodes.proofs.Three.{offers_go, threes_go}
+use Rattle.cfarm_settle_nodes.proofs.Nodes.{all_fit, nodes_went}
 use Rattle.cfarm_commands.proofs.playing.play_all.Goals as goal
 
-pub returns-in-Ok-clause-three : goal.returns-in-Ok-clause-three
-returns-in-Ok-clause-three g c =
-    let s = c.in-Ok.seats in
-    threes_go c.args.input.now c.play_three.result s.0 s.1 s.2 c.in-Ok.ensures.three c.play_three.ensures
+pub returns-in-Some : goal.returns-in-Some
+returns-in-Some g c =
+    c.in-Some.ensures c.args.input.now
+    (nodes_went (λ s. s.node.seat) (λ s. s.node.input) c.args.input.now 10000 c.in-Ok.all.items c.in-Ok-run_threads.all.items c.in-Ok.ensures c.in-Ok-run_threads.ensures.taken)
 
-pub returns-in-Ok-clause-offers : goal.returns-in-Ok-clause-offers
-returns-in-Ok-clause-offers g c =
-    let s = c.in-Ok.seats in
-    offers_go c.args.input.now c.play_three.result s.0 s.1 s.2 (c.in-Ok.ensures.nothing c.args.input.now) c.play_three.ensures
-
-pub open-requires-send-P-In-Fun : goal.open-requires-send-P-In-Fun
-open-requires-send-P-In-Fun g c κs = search (function_send, sendable) depth 40
-
-pub open-requires-sync-P-In-Fun : goal.open-requires-sync-P-In-Fun
-open-requires-sync-P-In-Fun g c κs = search (function_sync, sendable) depth 40
+pub run_threads-requires-clause-fit : goal.run_threads-requires-clause-fit
+run_threads-requires-clause-fit g c κs within = all_fit c.in-Ok.all.items

@@ -1,6 +1,6 @@
 use Rattle.std.proofs.Common.{refl}
 use Rattle.cfarm_settle_nodes.proofs.Openings.{three_unmade}
-use Rattle.cfarm_settle_nodes.proofs.turns.open.Goals as goal
+use Rattle.cfarm_settle_nodes.proofs.opening.seats.Goals as goal
 
 pub returns-clause-nothing : goal.returns-clause-nothing
 returns-clause-nothing g c f =

@@ -1,0 +1,74 @@
+//! A node of a room of three.
+
+ghost use Rattle.std.specs.Prelude.{◌≡◌, ◌≢◌, IfErr};
+ghost use Rattle.cfarm_settle_nodes.specs.Nodes.{HasTurned};
+
+use crate::node::turn;
+use crate::player::Player;
+use lang_base::{Language, Oracle, Pass, PassError};
+use rooms::Seat;
+use std::alloc::Global;
+
+/// A node of one room. In its first turn it offers what its optimiser draws for its input.
+#[derive(Drop)]
+pub struct SettleNode<O: Oracle + Drop> {
+    alloc: Global,
+    pub seat: Seat<O::P>,
+    player: Player<O>,
+    pub input: <<O::P as Pass>::In as Language>::Fun,
+}
+
+impl<O: Oracle + Drop> SettleNode<O> {
+    /// The seat's node, which has taken no turn.
+    pub(crate) fn new(
+        alloc: Global,
+        seat: Seat<O::P>,
+        oracle: O,
+        input: <<O::P as Pass>::In as Language>::Fun,
+    ) -> Self
+        ensures seat { result.seat ≡ seat }
+        ensures input { result.input ≡ input }
+    {
+        let player = Player::new(oracle, seat.me());
+        SettleNode {
+            alloc,
+            seat,
+            player,
+            input,
+        }
+    }
+
+    /// One turn. Answers whether the node saw anything new. The refusal is the pass's of its baseline, or that there is no memory.
+    pub fn turn(&mut self) -> Result<bool, PassError>
+        ensures turned { HasTurned self.old.input self.new.input self.old.seat self.new.seat }
+        ensures refused { IfErr result (λ e. e ≢ PassError.NoMemory → O.P.too_large self.old.input) }
+    {
+        turn(self.alloc, &mut self.seat, &mut self.player, &self.input)
+    }
+
+    /// Whether it has learned.
+    pub fn has_learned(&self) -> bool {
+        self.seat.learned().is_some()
+    }
+
+    /// Whether its own ballot is under way, and it has promised no higher one.
+    pub fn leads(&self) -> bool {
+        match self.seat.ballot() {
+            Some(ballot) => ballot >= self.seat.kept().promised(),
+            None => false,
+        }
+    }
+
+    /// Its seat alone.
+    pub fn into_seat(self) -> Seat<O::P>
+        ensures { result ≡ self.seat }
+    {
+        let SettleNode {
+            alloc: _,
+            seat,
+            player: _player,
+            input: _input,
+        } = self;
+        seat
+    }
+}
