@@ -1,6 +1,7 @@
 pub mod There
 pub mod Frames
 pub mod States
+pub mod Ready
 pub use Rattle.lang_parts.specs.Written
 pub use Rattle.linear_language.specs.Meaning
 pub use Rattle.linear_language.specs.Function

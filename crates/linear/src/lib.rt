@@ -5,6 +5,7 @@
 
 mod calls;
 mod code;
+mod decoding;
 mod entering;
 mod leaving;
 mod running;
