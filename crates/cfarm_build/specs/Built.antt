@@ -4,7 +4,7 @@ use Rattle.durable_model.specs.declared.disk.Disk as disks
 use Rattle.rooms_hall.specs.declared.hall.Naming as naming
 use Rattle.farm_nodes_source.specs.declared.source.Source.{Source}
 use Rattle.cfarm_build_linking.specs.Built.{IsBuiltBy}
-use Rattle.cfarm_build_linking.specs.declared.built.Built.{Built}
+pub use Rattle.cfarm_build_linking.specs.declared.built.Built.{Built}
 use Rattle.cfarm_build.specs.Nodes.{AfterMeeting}
 
 -- The source is compiled by nodes over these disks, none of which failed.

@@ -17,8 +17,8 @@ use Rattle.farm_nodes_source.specs.declared.source.Source.{Source}
 use Rattle.farm_nodes_threads.specs.CameBack.{CameBack}
 use Rattle.farm_nodes_joining.specs.Words.{generators}
 use Rattle.farm_nodes_stored.specs.Nodes.{AreMade}
-use Rattle.farm_nodes_opened.specs.Back.{IsJournalOn}
-use Rattle.farm_nodes_opened.specs.Opened.{AreOpenFrom}
+use Rattle.cfarm_build_linking.specs.Back.{IsJournalOn}
+use Rattle.cfarm_build_linking.specs.Opened.{AreOpenFrom}
 use Rattle.cfarm_build_linking.specs.Node.{Node}
 
 -- a program of as many functions at most as a text that was made ready has

@@ -4,9 +4,9 @@ use Rattle.durable_model.specs.declared.disk.Disk as disks
 use Rattle.rooms_hall.specs.declared.hall.Naming as naming
 use Rattle.farm_nodes_source.specs.declared.source.Source.{Source}
 use Rattle.farm_nodes_offers.specs.declared.halt.Fault.{Fault}
-use Rattle.farm_nodes.specs.Refused.{AreRefusedOver}
-use Rattle.cfarm_build_faults.specs.declared.error.BuildError.{BuildError}
-use Rattle.cfarm_build_faults.specs.declared.error.BuildError.TheVariants.{NoMemory, NoThread, Source as TextFault, Disks, Failed, Undecided, Unlinked, Names}
+use Rattle.cfarm_build_linking.specs.FarmRefused.{AreRefusedOver}
+use Rattle.cfarm_build_linking.specs.BuildError.{BuildError}
+use Rattle.cfarm_build_linking.specs.BuildError.TheVariants.{NoMemory, NoThread, Source as TextFault, Disks, Failed, Undecided, Unlinked, Names}
 use Rattle.cfarm_build_linking.specs.Node.{Node}
 use Rattle.cfarm_build_linking.specs.Refused.{IsRefusedBy}
 use Rattle.cfarm_build.specs.Nodes.{AfterMeeting, HaveRun, failed_of}

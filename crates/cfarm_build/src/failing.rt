@@ -3,8 +3,9 @@ ghost use Rattle.farm_nodes_node.specs.Held.{fault_in};
 ghost use Rattle.cfarm_build.specs.Nodes.{lowest_failed};
 
 use durable_model::Disk;
-use farm_nodes::{FarmNode, Naming};
+use farm_nodes_node::FarmNode;
 use farm_nodes_offers::Fault;
+use rooms_hall::Naming;
 
 /// The lowest node that a fault stopped.
 pub(crate) fn first_failed<D: Disk, O, H: Naming>(

@@ -8,5 +8,4 @@ mod meeting;
 mod running;
 
 pub use building::build;
-pub use cfarm_build_faults::BuildError;
-pub use cfarm_build_linking::Built;
+pub use cfarm_build_linking::{BuildError, Built};

@@ -6,8 +6,10 @@ ghost use Rattle.std.specs.List.{AllByRecursion, AllZip};
 ghost use Rattle.farm_nodes_passes.specs.Fours.{fours_of};
 ghost use Rattle.cfarm_build.specs.Nodes.{HasFewFunctions, Stays};
 
+use cfarm_build_linking::meet;
 use durable_model::Disk;
-use farm_nodes::{FarmNode, Naming, meet};
+use farm_nodes_node::FarmNode;
+use rooms_hall::Naming;
 
 /// The node of this number and the next one meet.
 fn meet_at<D: Disk, O, H: Naming>(nodes: &mut [FarmNode<D, O, H>], number: usize)

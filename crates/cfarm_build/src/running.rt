@@ -8,13 +8,14 @@ ghost use Rattle.farm_nodes_node.specs.Waiting.{IsWaiting};
 ghost use Rattle.farm_nodes_threads.specs.CameBack.{CameBack};
 ghost use Rattle.cfarm_build.specs.Refused.{IsNotRun};
 
-use cfarm_build_faults::BuildError;
-use cfarm_build_linking::linked_functions;
+use cfarm_build_linking::{BuildError, linked_functions};
 use cfarm_meter::Meter;
 use durable_model::Disk;
-use farm_nodes::{FarmNode, Naming, Oracles, RunError, run_threads};
-use farm_nodes_passes::Seats;
+use farm_nodes_node::FarmNode;
+use farm_nodes_passes::{Oracles, Seats};
+use farm_nodes_threads::{RunError, run_threads};
 use parallel_validate::OpenGate;
+use rooms_hall::Naming;
 use std::alloc::Global;
 use std::sync::Wait;
 use std::thread::Threads;

@@ -8,8 +8,8 @@ use Rattle.farm_nodes_offers.specs.declared.halt.Fault.{Fault}
 use Rattle.farm_nodes_offers.specs.Halted as halts
 use Rattle.farm_nodes_opening.specs.declared.fault.RoomFault.{RoomFault}
 use Rattle.farm_nodes_opening.specs.declared.fault.RoomFault.TheVariants as R
-use Rattle.farm_nodes_opened.specs.declared.fault.OpenFault.{OpenFault}
-use Rattle.farm_nodes_opened.specs.declared.fault.OpenFault.TheVariants as O
+use Rattle.farm_nodes.specs.OpenFault.{OpenFault}
+use Rattle.farm_nodes.specs.OpenFault.TheVariants as O
 use Rattle.linker.specs.Numbers.{number_of_link_error}
 use Rattle.cfarm_build_faults.specs.Names.{fault_name, journal_name, link_name}
 use Rattle.cfarm_build_faults.specs.declared.error.BuildError.{BuildError}

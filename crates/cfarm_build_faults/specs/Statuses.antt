@@ -3,7 +3,7 @@
 use Rattle.std.specs.Prelude.{ℕ, zero, suc}
 use Rattle.farm_nodes_source.specs.declared.fault.SourceFault.{SourceFault}
 use Rattle.farm_nodes_source.specs.Told as texts
-use Rattle.farm_nodes_opened.specs.declared.fault.OpenFault.{OpenFault}
+use Rattle.farm_nodes.specs.OpenFault.{OpenFault}
 use Rattle.farm_nodes_offers.specs.declared.halt.Fault.{Fault}
 use Rattle.farm_nodes_offers.specs.Halted as halts
 use Rattle.farm_nodes.specs.Numbers.{disks_number_of}

@@ -1,4 +1,5 @@
-//! Why `build` makes nothing: each refusal has its exit status, and its line for standard error.
+//! Why `build` makes nothing: each refusal has its exit status, and its line for standard error. The calls of the farm that are refused so
+//! are passed on to the crates above.
 #![tactic(auto)]
 
 mod error;
@@ -6,3 +7,4 @@ mod names;
 mod telling;
 
 pub use error::BuildError;
+pub use farm_nodes::{Farm, meet};

@@ -2,3 +2,11 @@ pub mod Built
 pub mod Node
 pub mod Refused
 pub mod Told
+pub use Rattle.cfarm_build_faults.specs.declared.error.BuildError
+pub use Rattle.cfarm_build_faults.specs.Lines
+pub use Rattle.cfarm_build_faults.specs.Statuses
+pub use Rattle.cfarm_build_faults.specs.Back
+pub use Rattle.cfarm_build_faults.specs.Numbers
+pub use Rattle.cfarm_build_faults.specs.Opened
+pub use Rattle.cfarm_build_faults.specs.Prepared
+pub use Rattle.cfarm_build_faults.specs.FarmRefused

@@ -8,5 +8,6 @@ mod numbers;
 mod writing;
 
 pub use built::Built;
+pub use cfarm_build_faults::{BuildError, Farm, meet};
 pub use linking::built_by;
 pub use numbers::linked_functions;

@@ -20,9 +20,12 @@ use crate::writing::written;
 use c_checker_rules::CProgram;
 use cfarm_build_faults::BuildError;
 use cfarm_report::report;
-use farm_nodes::{FarmNode, LinkedError, Naming, Source, linked};
+use farm_nodes_linked::{LinkedError, linked};
+use farm_nodes_node::FarmNode;
+use farm_nodes_source::Source;
 use lang_base::NoMemory;
 use linker::LinkError;
+use rooms_hall::Naming;
 use std::alloc::Global;
 
 /// Whether each node links all functions.

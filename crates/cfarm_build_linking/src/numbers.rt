@@ -10,10 +10,10 @@ ghost use Rattle.cfarm_build_linking.specs.Told.{AreTold, IsTold};
 
 use c_checker_rules::CProgram;
 use cfarm_report::FunctionRooms;
-use farm_nodes::Naming;
 use farm_nodes_meeting::has_learned_offer;
 use farm_nodes_passes::Seats;
 use lang_base::NoMemory;
+use rooms_hall::Naming;
 use std::alloc::Global;
 
 /// Whether in all four rooms of a function an offer is learned, and seen.

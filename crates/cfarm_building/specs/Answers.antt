@@ -1,8 +1,8 @@
 -- The exit status where a build is not done, and the line that a user is shown.
 use Rattle.std.specs.Prelude.{ℕ, List, ◌++◌, codes}
 use Rattle.std.specs.String.{string_bytes}
-use Rattle.cfarm_build_faults.specs.Lines.{build_line}
-use Rattle.cfarm_build_faults.specs.Statuses as farm
+use Rattle.cfarm_build.specs.Lines.{build_line}
+use Rattle.cfarm_build.specs.Statuses as farm
 use Rattle.cfarm_building.specs.declared.error.BuildingError.{BuildingError}
 use Rattle.cfarm_building.specs.declared.error.BuildingError.TheVariants.{Build, File, Write}
 

@@ -1,7 +1,7 @@
 -- The disks of the nodes, over the files of a folder.
 use Rattle.std.specs.Prelude.{◌≡◌, ◌<◌, ℕ, List, length, Some, slice_get}
 use Rattle.std.specs.String.{string_bytes}
-use Rattle.cfarm_build_faults.specs.declared.error.BuildError.TheVariants.{NoMemory, NoThread, Source, Disks, Failed, Undecided, Unlinked, Names}
+use Rattle.cfarm_build.specs.BuildError.TheVariants.{NoMemory, NoThread, Source, Disks, Failed, Undecided, Unlinked, Names}
 use Rattle.cfarm_building.specs.declared.error.BuildingError.{BuildingError}
 use Rattle.cfarm_building.specs.declared.error.BuildingError.TheVariants.{Build, File, Write}
 use Rattle.cfarm_options.specs.Paths.{journal_path}

@@ -4,7 +4,7 @@ use Rattle.std.specs.Io.KnownBytes.{Appends}
 use Rattle.std.specs.String.{string_bytes}
 use Rattle.durable_model.specs.declared.disk.Disk as disks
 use Rattle.rooms_hall.specs.declared.hall.Naming as naming
-use Rattle.cfarm_build_linking.specs.declared.built.Built.{Built}
+use Rattle.cfarm_build.specs.Built.{Built}
 use Rattle.cfarm_files.specs.Placing.{Placed, Keeps, Places}
 use Rattle.cfarm_output.specs.Begun.{IsBegun}
 use Rattle.cfarm_building.specs.Compiled.{IsCompiled, IsUncompiled}

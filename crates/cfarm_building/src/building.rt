@@ -12,7 +12,7 @@ use cfarm_files::Files;
 use cfarm_meter::Meter;
 use cfarm_options::BuildOptions;
 use cfarm_output::print_whole;
-use farm_nodes::{Hall, Naming};
+use rooms_hall::{Hall, Naming};
 use std::alloc::{AllocError, Global};
 use std::io::Write;
 use std::sync::Wait;
