@@ -6,11 +6,12 @@
     bench/hostile.py --quick          a sample of each part
     bench/hostile.py --program PATH   this program
     bench/hostile.py --jobs 2         so many runs at once (4)
-    bench/hostile.py --most 500       at most so many faults in a row of the table, spread evenly (2,000)
+    bench/hostile.py --most 500       at most so many faults in a row of the table, spread evenly (all)
     bench/hostile.py calls --row 'build, fresh' --at 57 --keep
                                       one fault of one row; what is left stays in the folder that is told
 
     memory    the nth allocation is refused, or thread not made, once and from then on, in each command
+    threads   the nth thread is not made, once and from then on, in each command
     calls     the nth call of the system fails, once and from then on, or is interrupted, or reads or writes less than it was asked to
     kills     a build is killed at its nth call of the system, and builds are killed at random moments (bench/kills.py)
     journals  each journal of a small build is cut at each length and changed at each byte, one at a time
@@ -19,8 +20,8 @@
 
 An answer is right where it is the one without a fault, or a status and a line of the program's table; want of memory is answered by `memory`,
 7, alone. Never is it a signal, nor an output that is not a beginning of the right one. Behind each fault of a build linked.cfp is whole or
-is not there, and a build without faults ends with 0 and leaves what stood there. It prints a table: what was tried, how often, and what was
-answered; then what was wrong, which must be nothing. Its status is 1 where something was."""
+is not there, and a build without faults ends with 0 and leaves what stood there. It prints a table: what was tried, how often, what was
+answered, and how long the slowest trial took; then what was wrong, which must be nothing. Its status is 1 where something was."""
 import argparse
 import collections
 import concurrent.futures
@@ -34,6 +35,7 @@ import signal
 import subprocess
 import sys
 import tempfile
+import time
 
 import kills
 import shim
@@ -81,7 +83,7 @@ int main(int count, char **words) {
 """
 
 # The parts whose rows are of one way of failing each.
-WAYED = ("memory", "calls")
+WAYED = ("memory", "threads", "calls")
 
 # The table of the program: the name under which an answer is counted, its status, and its line.
 TABLE = (
@@ -138,7 +140,7 @@ class Sweep:
         self.given, self.scratch = given, scratch
         self.program = shutil.copy(given.program, os.path.join(scratch, "cfarm"))
         self.shim, self.measured = os.path.join(scratch, "shim.so"), os.path.join(scratch, "measured")
-        self.rows, self.wrong, self.ran = {}, [], {}
+        self.rows, self.slowest, self.wrong, self.ran = {}, {}, [], {}
         shim.build(self.shim)
         self.compile("measured.c", MEASURED, "-o", self.measured)
 
@@ -221,8 +223,15 @@ class Sweep:
     def try_all(self, row, numbers, job):
         """Does the job for each number, several at once. It answers the name of what was answered, if anything was tried, and what was wrong."""
         numbers = [self.given.at] if self.given.at else self.spread(numbers)
+
+        def timed(number):
+            start = time.monotonic()
+            found = job(number)
+            self.slowest[row] = max(self.slowest.get(row, 0), time.monotonic() - start)
+            return found
+
         with concurrent.futures.ThreadPoolExecutor(self.given.jobs) as pool:
-            for done, (name, wrong) in enumerate(pool.map(job, numbers), 1):
+            for done, (name, wrong) in enumerate(pool.map(timed, numbers), 1):
                 if name or wrong:
                     self.count(row, name, wrong)
                 tell(f"{row}: {done} of {len(numbers)}")
@@ -232,6 +241,7 @@ class Sweep:
 
 WAYS = {
     "memory": (("once", "m", False), ("from then on", "m", True)),
+    "threads": (("once", "t", False), ("from then on", "t", True)),
     "calls": (
         ("once", "c", False),
         ("from then on", "c", True),
@@ -251,6 +261,7 @@ def judge(answer, wanted, part):
     # Of a mistake in the command line a part of the text may be left out for want of memory.
     right = {
         "memory": ("memory", *(["words"] if wanted.status == 2 else [])),
+        "threads": ("memory",),
         "calls": ("file", "undecided", "write 701", "no line"),
     }[part]
     if name in right and wanted.out.startswith(answer.out):
@@ -385,6 +396,7 @@ def try_builds(sweep, part):
     sweep.run(Building(sweep, text).words(done))
     right = {
         "memory": ("done", "memory"),
+        "threads": ("done", "memory"),
         "calls": ("done", "file", "journal", "undecided", "write 701", "no line"),
         "kills": ("killed",),
     }[part]
@@ -401,6 +413,11 @@ def try_builds(sweep, part):
 def try_memory(sweep):
     try_readers(sweep, "memory")
     try_builds(sweep, "memory")
+
+
+def try_threads(sweep):
+    try_readers(sweep, "threads")
+    try_builds(sweep, "threads")
 
 
 def try_calls(sweep):
@@ -750,6 +767,7 @@ PARTS = {
     "examples": try_examples,
     "files": try_files,
     "kills": try_kills,
+    "threads": try_threads,
     "memory": try_memory,
     "calls": try_calls,
     "journals": try_journals,
@@ -758,13 +776,15 @@ PARTS = {
 
 def show(sweep):
     """Prints the table; one row for all ways in which a command's calls fail."""
-    table = {}
+    table, slowest = {}, {}
     for row, answers in sweep.rows.items():
         for title in (row.rsplit(", ", 1)[0] if row.startswith(WAYED) else row, "all"):
             table.setdefault(title, collections.Counter()).update(answers)
+            slowest[title] = max(slowest.get(title, 0), sweep.slowest.get(row, 0))
     table["all"] = table.pop("all", collections.Counter())
     for title, answers in table.items():
-        print(f"{title:32}{sum(answers.values()):7}  " + ", ".join(f"{name} {count}" for name, count in answers.most_common()))
+        told = ", ".join(f"{name} {count}" for name, count in answers.most_common())
+        print(f"{title:32}{sum(answers.values()):7} {slowest.get(title, 0):6.1f} s  {told}")
     print(f"wrong: {len(sweep.wrong) or 'nothing'}")
     for one in sweep.wrong:
         print(f"  {one}")
@@ -776,7 +796,7 @@ def main():
     ask.add_argument("--program", default=os.path.join(ROOT, "crates", "cfarm", "out", "cfarm"))
     ask.add_argument("--quick", action="store_true")
     ask.add_argument("--jobs", type=int, default=4)
-    ask.add_argument("--most", type=int, default=2000)
+    ask.add_argument("--most", type=int, default=1_000_000)
     ask.add_argument("--times", type=int, default=130, help="in how many directories builds are killed at random moments")
     ask.add_argument("--row", default="", help="only the rows of the table with this in their names")
     ask.add_argument("--at", type=int, default=0, help="only the fault of this number")

@@ -7,12 +7,13 @@
     bench/refused.py --sweep read   this call
     bench/refused.py --program PATH this program
 
-The calls are `linked`, which hands the chains that a farm has agreed on to `link`, `restart` of one of its nodes, `meet` of two of them, in
-which their seats meet, `Offer::read`, `check_all` of eight jobs with two workers, and every other call of a seat but `offer`. The program makes the input of a call, which is no part of what is
-tried; only what is allocated in the call is refused, and each thread that it makes. An answer is right where it is the one without a fault,
-or NoMemory; then the call, made again on what came back, answers what it answers without a fault. It prints a table, then what was wrong,
-which must be nothing; its status is 1 where something was. It is no part of the gate, so the program stands as a patch, bench/refused.patch,
-and is proved whenever it is used. Remove it before anything is committed."""
+The calls are `Farm::open` of three nodes on empty disks, `linked`, which hands the chains that a farm has agreed on to `link`, `restart` of
+one of its nodes, `meet` of two of them, in which their seats meet, `append` to a journal, `Offer::read`, `check_all` of eight jobs with two
+workers, `offer` of a seat, and every other call of a seat. The program makes the input of a call, which is no part of what is tried; only
+what is allocated in the call is refused, and each thread that it makes. An answer is right where it is the one without a fault, or NoMemory;
+then the call, made again on what came back, answers what it answers without a fault. It prints a table, then what was wrong, which must be
+nothing; its status is 1 where something was. It is no part of the gate, so the program stands as a patch, bench/refused.patch, and is proved
+whenever it is used. Remove it before anything is committed."""
 import argparse
 import os
 import subprocess
@@ -26,11 +27,11 @@ PLAN = os.path.join(ROOT, "crates.txt")
 PATCH = os.path.join(ROOT, "bench", "refused.patch")
 PROGRAM = os.path.join(ROOT, "crates", "refused", "out", "refused")
 LINE = (
-    "refused may_wait=8: cfarm_settle_nodes farm_nodes farm_nodes_node farm_nodes_passes acceptor_log acceptor_log_form rooms_numbered"
+    "refused may_wait=8: farm_nodes farm_nodes_node farm_nodes_passes acceptor_log acceptor_log_form rooms_numbered"
     " rooms_hall rooms_seat rooms rooms_rule paxos_core durable_model parallel_validate offers linker lang linearize_check linear_language"
     " cminor_program_ranges c_checker_rules lang_base hex rand_pcg\n"
 )
-CALLS = ("linked", "restart", "meet", "read", "check_all", "seat")
+CALLS = ("open", "linked", "restart", "meet", "append", "read", "check_all", "offer", "seat")
 MARKS = ("before", "behind")
 
 

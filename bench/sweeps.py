@@ -1,6 +1,6 @@
 #!/usr/bin/env python3
 """The rows of hostile use and of failing disks over all farms of the rows, and those of hostile use over the examples, where the gate tries
-a choice of them.
+a choice of them: also all sixteen generators of crashes behind each failing call of a disk, of which the gate tries four.
 
     bench/sweeps.py                    all of them
     bench/sweeps.py stopped unread     these
@@ -32,7 +32,7 @@ HOSTILE = {
     "stopped": ("stopped 1", "linked"),
     "swept": ("swept 1", "answered"),
 }
-FARMS = {"failing": ("failing", "linked"), "reopened": ("reopened", "linked"), "stranger": ("stranger", "stopped")}
+FARMS = {"failing": ("failing 16", "linked"), "reopened": ("reopened", "linked"), "stranger": ("stranger", "stopped")}
 
 
 # Of the examples, which are longer, every so many moments and bytes are tried.

@@ -18,10 +18,7 @@ use std::alloc::Global;
 use std::sync::Wait;
 use std::thread::Threads;
 
-/// How many crashes are tried of each failure.
-const CRASHES: u64 = 4;
-
-/// How many generators the crashes are drawn by, four for a failure, and others for the next.
+/// How many generators the crashes are drawn by, the first ones for a failure and the following ones for the next.
 const GENERATORS: u64 = 16;
 
 /// So many calls of the disk may fail at most.
@@ -117,37 +114,35 @@ fn fails<H: Naming + Send, R: Threads + Wait + Sync>(
     }
 }
 
-/// Whether the node stopped in one of the farms whose third node's disk fails at this call, each with another crash.
+/// Whether the node stopped in one of so many farms whose third node's disk fails at this call, each with another crash.
 fn fails_at<H: Naming + Send, R: Threads + Wait + Sync>(
     threads: &R,
     alloc: Global,
     hall: &Hall<H>,
     text: &[u8],
     call: usize,
+    crashes: u64,
 ) -> Option<bool> {
     let mut stopped = false;
-    let first = (call as u64).wrapping_mul(CRASHES);
-    for crash in 0..CRASHES {
-        let seed = first.wrapping_add(crash) % GENERATORS;
-        let Some(failed) = fails(threads, alloc, hall, text, call, seed) else {
-            return None;
-        };
+    let first = (call as u64).wrapping_mul(crashes);
+    for crash in 0..crashes {
+        let seed = (first.wrapping_add(crash) % GENERATORS).wrapping_add(1);
+        let failed = fails(threads, alloc, hall, text, call, seed)?;
         stopped = stopped || failed;
     }
     Some(stopped)
 }
 
-/// Each call of the disk fails in turn, until there are no more.
+/// Each call of the disk fails in turn, until there are no more, with so many crashes of each failure.
 pub(crate) fn failing_told<H: Naming + Send, R: Threads + Wait + Sync>(
     threads: &R,
     alloc: Global,
     hall: &Hall<H>,
     text: &[u8],
+    crashes: u64,
 ) -> Option<String> {
     for call in 1..MOST {
-        let Some(stopped) = fails_at(threads, alloc, hall, text, call) else {
-            return None;
-        };
+        let stopped = fails_at(threads, alloc, hall, text, call, crashes)?;
         if !stopped {
             return owned(alloc, if call > FEW { "linked" } else { "not stopped" });
         }

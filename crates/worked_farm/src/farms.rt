@@ -46,7 +46,7 @@ fn told_in<H: Naming + Send, R: Threads + Wait + Sync>(
         Trial::Run => farm_told(threads, alloc, &hall, &row),
         Trial::Fixed => fixed_told(threads, alloc, &hall, &row.text),
         Trial::Together => together_told(threads, alloc, &hall, &row.text),
-        Trial::Failing => failing_told(threads, alloc, &hall, &row.text),
+        Trial::Failing => failing_told(threads, alloc, &hall, &row.text, row.crashes),
         Trial::Reopened => reopened_told(threads, alloc, &hall, &row.text),
         Trial::Stranger => stranger_told(threads, alloc, &hall, &row.text),
     }

@@ -142,9 +142,7 @@ fn reopens_at<H: Naming + Send, R: Threads + Wait + Sync>(
 ) -> Option<bool> {
     let mut stopped = false;
     for seed in 0..CRASHES {
-        let Some(failed) = reopens(threads, alloc, hall, text, call, seed) else {
-            return None;
-        };
+        let failed = reopens(threads, alloc, hall, text, call, seed)?;
         stopped = stopped || failed;
     }
     Some(stopped)
@@ -158,9 +156,7 @@ pub(crate) fn reopened_told<H: Naming + Send, R: Threads + Wait + Sync>(
     text: &[u8],
 ) -> Option<String> {
     for call in 1..MOST {
-        let Some(stopped) = reopens_at(threads, alloc, hall, text, call) else {
-            return None;
-        };
+        let stopped = reopens_at(threads, alloc, hall, text, call)?;
         if !stopped {
             return owned(alloc, if call > FEW { "linked" } else { "not stopped" });
         }

@@ -29,6 +29,8 @@ pub(crate) struct Row {
     pub nodes: usize,
     pub workers: usize,
     pub seed: u64,
+    /// How many crashes are tried of each failure.
+    pub crashes: u64,
     pub text: Vec<u8>,
 }
 
@@ -66,8 +68,8 @@ fn trial_of(word: &str) -> Option<Trial> {
     }
 }
 
-/// A farm of three nodes of this text.
-fn three_of(alloc: Global, trial: Trial, text: &str) -> Option<Row>
+/// A farm of three nodes of this text, with so many crashes.
+fn three_of(alloc: Global, trial: Trial, crashes: u64, text: &str) -> Option<Row>
     ensures size { IfSome result (λ row. IsRoomSize row.nodes) }
     ensures workers { IfSome result (λ row. 0 < row.workers) }
 {
@@ -79,6 +81,7 @@ fn three_of(alloc: Global, trial: Trial, text: &str) -> Option<Row>
         nodes: 3,
         workers: 3,
         seed: 1,
+        crashes,
         text,
     })
 }
@@ -102,6 +105,7 @@ fn run_of(alloc: Global, words: &str) -> Option<Row>
         nodes,
         workers,
         seed: seed.parse().ok()?,
+        crashes: 0,
         text: text.as_bytes().to_vec(alloc).ok()?,
     })
 }
@@ -115,7 +119,11 @@ pub(crate) fn row_of(alloc: Global, words: &str) -> Option<Row>
         return None;
     };
     match trial_of(word) {
-        Some(trial) => three_of(alloc, trial, text),
+        Some(Trial::Failing) => {
+            let (crashes, text) = text.split_once(' ')?;
+            three_of(alloc, Trial::Failing, crashes.parse().ok()?, text)
+        }
+        Some(trial) => three_of(alloc, trial, 0, text),
         None => run_of(alloc, words),
     }
 }
