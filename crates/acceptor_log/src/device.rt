@@ -1,8 +1,8 @@
 //! Writes that are durable where they succeed.
 
 ghost use Rattle.std.specs.Prelude.{◌≡◌, ◌<◌, ◌≤◌, ◌+◌, ◌^◌, ◌↔◌, ◌++◌, [], ◌∷◌, List, ℕ, length, OnOk, IsErrOf};
-ghost use Rattle.durable_model.specs.Writes.{overwritten, Lengthens};
-ghost use Rattle.durable_model.specs.Honest.{Only, Unchanged, Risen};
+ghost use Rattle.durable_model.specs.Writes.{overwritten};
+ghost use Rattle.durable_model.specs.Honest.{Only, Unchanged, MayWantMemory, Risen};
 ghost use Rattle.durable_model.specs.Moments.{LeavesOnly};
 ghost use Rattle.acceptor_log_form.specs.declared.header.Header.{Header};
 ghost use Rattle.acceptor_log_form.specs.declared.record.Record.{Record};
@@ -21,7 +21,7 @@ pub fn write_durably<D: Disk>(disk: &mut D, at: u64, bytes: &[u8]) -> Result<(),
     ensures durable { D.is_honest disk.old → OnOk result (Only (D.seen disk.new) (D.may_leave disk.new)) }
     ensures longer { D.is_honest disk.old → length (D.seen disk.old) ≤ length (D.seen disk.new) }
     ensures memory { D.is_honest disk.old → IsErrOf result DiskError.NoMemory
-        → Lengthens at (length bytes.now) (D.seen disk.old) }
+        → MayWantMemory at (length bytes.now) (D.seen disk.old) }
     ensures unwritten { D.is_honest disk.old → IsErrOf result DiskError.NoMemory
         → Unchanged D.seen D.may_leave disk.old disk.new }
     ensures later { D.faults disk.old ≤ D.faults disk.new }

@@ -1,8 +1,9 @@
 -- What an honest disk does. A disk is told by what a read gives now, by what a crash now may leave, and by a clock.
-use Rattle.std.specs.Prelude.{◌≡◌, ◌⊎◌, ◌≤◌, ◌+◌, ◌-◌, ◌^◌, ℕ, min, List, Result, IsErrOf}
+use Rattle.std.specs.Prelude.{◌≡◌, ◌⊎◌, ◌<◌, ◌≤◌, ◌+◌, ◌-◌, ◌^◌, ℕ, min, List, Result, IsErrOf}
 use Rattle.std.proofs.Common.{arith}
 use Rattle.durable_model.specs.declared.error.DiskError.{DiskError}
 use Rattle.durable_model.specs.declared.error.DiskError.TheVariants.{Device}
+use Rattle.durable_model_writes.specs.Writes.{Lengthens}
 
 -- a crash leaves this and nothing else
 abbrev pub Only : List ℕ → (List ℕ → Type 0) → Type 0
@@ -36,6 +37,11 @@ most_failures = 2 ^ 64 - 1
 -- the count rose, or stands at the last number
 abbrev pub Risen : ℕ → ℕ → Type 0
 Risen before now = min (before + 1) most_failures ≤ now
+
+-- A write of n bytes that may be out of memory: one of more than one byte, or one that makes the disk longer. A byte that
+-- the disk has can be written without.
+abbrev pub MayWantMemory : ℕ → ℕ → List ℕ → Type 0
+MayWantMemory at n old = (1 < n) ⊎ Lengthens at n old
 
 -- a call that answers `Device` is counted, and no other
 pub record Counts {T : Type 0} (result : Result T DiskError) (before now : ℕ) : Type 0 where

@@ -40,19 +40,3 @@ module _ {D : Type 0} (moment : D → ℕ) (left_since : D → ℕ → List ℕ 
         ⊎_elim (λ earlier. ⊎_elim (λ past. inl past) (λ has. inr (p c has)) (first.before t c le earlier)) (λ has. inr (q c has))
         (second.before t c (omega (arith, le, first.later)) left);
   }
-
--- a run after which less is said
-pub weaker : {D : Type 0} {moment : D → ℕ} {left_since : D → ℕ → List ℕ → Type 0} {old new : D} {P Q : List ℕ → Type 0}
-    → LeavesOnly moment left_since old new P → ((c : List ℕ) → P c → Q c) → LeavesOnly moment left_since old new Q
-weaker run says = record {
-  later = run.later;
-  each = λ c left. says c (run.each c left);
-  before = λ t c le left. ⊎_elim (λ past. inl past) (λ has. inr (says c has)) (run.before t c le left);
-}
-
--- what a crash at the end of a run leaves, where this moment counts as one of those since an earlier one
-pub at_end : {D : Type 0} {moment : D → ℕ} {left_since : D → ℕ → List ℕ → Type 0} {old new : D} {P : List ℕ → Type 0}
-    → (may_leave : D → List ℕ → Type 0)
-    → ((t : ℕ) (c : List ℕ) → t ≤ moment new → may_leave new c → left_since new t c)
-    → LeavesOnly moment left_since old new P → (c : List ℕ) → may_leave new c → P c
-at_end {moment = moment} {old = old} may_leave counts run c left = run.each c (counts (moment old) c run.later left)

@@ -2,8 +2,8 @@
 
 ghost use Rattle.std.specs.Prelude.{◌≡◌, ◌≤◌, ◌↔◌, List, ℕ, length, IfOk, OnOk, IsErrOf};
 ghost use Rattle.durable_model.specs.declared.error.DiskError.TheVariants.{NoMemory};
-ghost use Rattle.durable_model_writes.specs.Writes.{overwritten, Lengthens, Torn};
-ghost use Rattle.durable_model.specs.Honest.{Only, NothingNew, Follows, Unchanged, Elapses, Counts};
+ghost use Rattle.durable_model_writes.specs.Writes.{overwritten, Torn};
+ghost use Rattle.durable_model.specs.Honest.{Only, NothingNew, Follows, Unchanged, Elapses, MayWantMemory, Counts};
 
 use crate::error::DiskError;
 use std::alloc::Global;
@@ -48,9 +48,10 @@ pub trait Disk {
         ensures crash { is_honest self.old
             → Follows (Torn at (length bytes.now)) (may_leave self.old) (may_leave self.new) }
         ensures time { is_honest self.old → Elapses moment left_since may_leave self.old self.new }
-        // Only a write that makes the disk longer can be out of memory, and then nothing was written.
+        // Only a write of more than one byte, or one that makes the disk longer, can be out of memory, and then
+        // nothing was written.
         ensures memory { is_honest self.old
-            → IsErrOf result NoMemory → Lengthens at (length bytes.now) (seen self.old) }
+            → IsErrOf result NoMemory → MayWantMemory at (length bytes.now) (seen self.old) }
         ensures unwritten { is_honest self.old → IsErrOf result NoMemory → Unchanged seen may_leave self.old self.new }
         ensures failures { Counts result (faults self.old) (faults self.new) };
 

@@ -20,8 +20,8 @@ use std::path::Path;
 /// and one premise is left, `WasHonest`: that a crash leaves of the file what the contract allows. A sync that failed may
 /// have lost what was written, which no later one would tell: so each later one fails, until the file is opened again.
 ///
-/// A sync takes no memory: a write takes what the note of the sync behind it needs. One that makes the file longer takes
-/// beside this what a write of one byte and its sync need, such as opens a gate.
+/// A sync takes no memory: a write takes what the note of the sync behind it needs. One of more than one byte, or that
+/// makes the file longer, takes beside this what a write of one byte and its sync need, such as opens a gate.
 #[derive(Drop)]
 pub struct FileDisk {
     file: File,
@@ -104,15 +104,15 @@ fn read_all(alloc: Global, file: &File) -> Result<Vec<u8>, DiskError> {
     }
 }
 
-/// Makes space for the notes of a write of so many bytes and of the sync behind it. A write that makes the file longer
-/// takes the space for one more of each as well, the write being of one byte.
-fn make_space(held: &mut MemoryDisk, n: usize, is_longer: bool) -> Result<(), AllocError>
+/// Makes space for the notes of a write of so many bytes and of the sync behind it, and if told so for one more of each as
+/// well, the write being of one byte.
+fn make_space(held: &mut MemoryDisk, n: usize, for_a_byte_more: bool) -> Result<(), AllocError>
     ensures stands { StandsAs held.old held.new }
     ensures capacity { held.old.call_capacity ≤ held.new.call_capacity }
     ensures calls { OnOk result (calls_made held.new + 2 ≤ held.new.call_capacity) }
     ensures bytes { OnOk result (bytes_noted held.new + n ≤ held.new.byte_capacity) }
 {
-    if is_longer {
+    if for_a_byte_more {
         held.grow(4, n.saturating_add(1))
     } else {
         held.grow(2, n)
@@ -120,9 +120,10 @@ fn make_space(held: &mut MemoryDisk, n: usize, is_longer: bool) -> Result<(), Al
 }
 
 impl Disk for FileDisk {
-    ghost use Rattle.std.specs.Prelude.{⊤};
-    ghost use Rattle.durable_model.specs.RealFile.{seen_by_file, file_moment, file_may_leave};
-    ghost use Rattle.durable_model.specs.RealFile.{file_left_since, file_faults};
+    ghost use Rattle.std.specs.Prelude.{◌≡◌, ◌+◌, ⊤, length, OnOk, IsErrOf};
+    ghost use Rattle.durable_model_writes.specs.Writes.{overwritten, Torn};
+    ghost use Rattle.durable_model.specs.Honest.{Follows, Unchanged, Elapses, MayWantMemory, Counts};
+    ghost use Rattle.durable_model.specs.RealFile.{seen_by_file, file_moment, file_may_leave, file_left_since, file_faults};
     ghost use Rattle.durable_model.specs.Memory.{left_as_kept, counts_as_kept, only_as_kept};
 
     ghost is_honest = { λ _. ⊤ };
@@ -157,12 +158,25 @@ impl Disk for FileDisk {
         }
     }
 
-    /// It is noted first, so that what finds no memory is not written. Where a write that makes the file no longer finds
-    /// no memory for its note, the device has failed.
-    fn write_at(&mut self, at: u64, bytes: &[u8]) -> Result<(), DiskError> {
-        let is_longer = self.held.is_lengthened_by(at, bytes.len());
-        if make_space(&mut self.held, bytes.len(), is_longer).is_err() {
-            if is_longer {
+    /// It is noted first, so that what finds no memory is not written. Where a byte that the file has is to be written
+    /// and there is no memory for its note, the device has failed. The first such write behind a longer one finds the
+    /// space that it took, so this can only be a second one, or one with no other write before it since the opening.
+    fn write_at(&mut self, at: u64, bytes: &[u8]) -> Result<(), DiskError>
+        ensures written { OnOk result (seen_by_file self.new ≡ overwritten (seen_by_file self.old) at bytes.now) }
+        ensures others { Torn at (length bytes.now) (seen_by_file self.old) (seen_by_file self.new) }
+        ensures crash { Follows (Torn at (length bytes.now)) (file_may_leave self.old) (file_may_leave self.new) }
+        ensures time { Elapses file_moment file_left_since file_may_leave self.old self.new }
+        ensures memory { IsErrOf result DiskError.NoMemory
+            → MayWantMemory at (length bytes.now) (seen_by_file self.old) }
+        ensures unwritten { IsErrOf result DiskError.NoMemory → Unchanged seen_by_file file_may_leave self.old self.new }
+        ensures failures { Counts result (file_faults self.old) (file_faults self.new) }
+        // A failure of a write that may be out of memory is one of the file's: the write was noted.
+        ensures noted { IsErrOf result DiskError.Device → MayWantMemory at (length bytes.now) (seen_by_file self.old)
+            → calls_made self.new.held ≡ calls_made self.old.held + 1 }
+    {
+        let may_want = bytes.len() > 1 || self.held.is_lengthened_by(at, bytes.len());
+        if make_space(&mut self.held, bytes.len(), may_want).is_err() {
+            if may_want {
                 return Err(DiskError::NoMemory);
             }
             return Err(failed(&mut self.failures));

@@ -44,11 +44,7 @@ impl MemoryDisk {
     ghost use Rattle.std.specs.Prelude.{◌≡◌, ◌<◌, ◌≤◌, ◌↔◌, ◌+◌, [], false, length, IsTrue, IfOk, OnOk, OnErr};
     ghost use Rattle.durable_model.specs.Honest.{Only, Follows, Unchanged, Elapses};
     ghost use Rattle.durable_model.specs.History.{size_of};
-    ghost use Rattle.durable_model.specs.Memory.{seen_by_memory, memory_may_leave, memory_faults, memory_moment};
-    ghost use Rattle.durable_model.specs.Memory.{memory_left_since, calls_made, bytes_noted, told_to_fail};
-    ghost use Rattle.durable_model.specs.Memory.{told_to_stop, FailsAt, NoneFails, IsToldAs};
-    ghost use Rattle.durable_model.specs.Memory.{IsPastCapacity, IsSettled, HasCapacity, KeepsCapacity, HasCounted};
-    ghost use Rattle.durable_model.specs.Memory.{HasNotCounted, Notes, StandsAs};
+    ghost use Rattle.durable_model.specs.Memory.{seen_by_memory, memory_may_leave, memory_faults, memory_moment, memory_left_since, calls_made, bytes_noted, told_to_fail, told_to_stop, FailsAt, NoneFails, IsToldAs, IsPastCapacity, IsSettled, HasCapacity, KeepsCapacity, HasCounted, HasNotCounted, Notes, StandsAs};
     ghost use Rattle.durable_model_writes.specs.Writes.{overwritten, Lengthens, Torn};
 
     /// An empty disk that can note so many calls, and so many bytes in its writes. A call past that is a failure
@@ -135,9 +131,10 @@ impl MemoryDisk {
 
     /// A write of so many bytes would make it longer.
     pub(crate) fn is_lengthened_by(&self, at: u64, n: usize) -> bool
-        ensures { IsTrue result → Lengthens at n (seen_by_memory self.now) }
+        ensures { IsTrue result ↔ Lengthens at n (seen_by_memory self.now) }
     {
-        n != 0 && (self.bytes.len() as u64) < at.saturating_add(n as u64)
+        let len = self.bytes.len() as u64;
+        n != 0 && (len < at || len - at < n as u64)
     }
 
     /// Makes its capacity suffice for so many calls more, and for so many bytes more in their writes.
@@ -231,9 +228,7 @@ impl Disk for MemoryDisk {
     ghost use Rattle.std.specs.Prelude.{◌≡◌, ◌↔◌, length, ⊤, IfOk, OnOk, IsErrOf};
     ghost use Rattle.durable_model_writes.specs.Writes.{overwritten, Lengthens, Torn};
     ghost use Rattle.durable_model.specs.Honest.{Only, Follows, Unchanged, Elapses, Counts};
-    ghost use Rattle.durable_model.specs.Memory.{seen_by_memory, memory_faults, memory_may_leave, memory_moment};
-    ghost use Rattle.durable_model.specs.Memory.{memory_left_since, MustFail, KeepsCount, left_as_kept};
-    ghost use Rattle.durable_model.specs.Memory.{counts_as_kept, only_as_kept};
+    ghost use Rattle.durable_model.specs.Memory.{seen_by_memory, memory_faults, memory_may_leave, memory_moment, memory_left_since, MustFail, KeepsCount, left_as_kept, counts_as_kept, only_as_kept};
 
     ghost is_honest = { λ _. ⊤ };
 

@@ -2,7 +2,7 @@
 use Rattle.std.proofs.Common.{◌≡◌, ◌≢◌, ℕ, ◌+◌, ◌<◌, ◌≤◌, Bool, true, false, ltb, List, [], ◌∷◌, ◌++◌, length, append-nil, append_assoc, refl, sym, ap, ◌∙◌, subst, arith}
 use Rattle.std.proofs.lemmas.List.Elements.{All-push}
 use Rattle.paxos_core_world.specs.KeptPart.{KeptPart}
-use Rattle.durable_model.specs.Moments.{LeavesOnly, started, composed, weaker}
+use Rattle.durable_model.specs.Moments.{LeavesOnly, started, composed}
 use Rattle.acceptor_log_form.specs.declared.header.Header.{Header}
 use Rattle.acceptor_log_form.specs.declared.record.Record.{Record}
 use Rattle.acceptor_log_form.specs.Text.{room_of, StandsFor}
@@ -10,6 +10,7 @@ use Rattle.acceptor_log_form.specs.Leaves.{kept_by, kept_in}
 use Rattle.acceptor_log_form.specs.Lists.{Begins, Between}
 use Rattle.acceptor_log.specs.declared.log.Log.{Log}
 use Rattle.acceptor_log.specs.Acknowledged.{acknowledged, IsReady}
+use Rattle.acceptor_log.proofs.Runs.{weaker}
 use Rattle.farm_nodes_acting.specs.Advances.{Advances, AreOf}
 use Rattle.farm_nodes_acting.proofs.Records.{kept_own, kept_other}
 

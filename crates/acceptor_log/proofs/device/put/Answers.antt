@@ -2,11 +2,11 @@
 use Rattle.std.proofs.Common.{◌≡◌, ◌+◌, [], ◌∷◌, ◌++◌, List, ℕ, length, subst}
 use Rattle.std.specs.Result.{OnOk}
 use Rattle.durable_model.specs.Writes.{overwritten}
-use Rattle.durable_model.specs.Moments.{composed, weaker}
+use Rattle.durable_model.specs.Moments.{composed}
 use Rattle.acceptor_log_form.specs.Lists.{Between}
 use Rattle.acceptor_log.specs.Rest.{MayTear}
 use Rattle.acceptor_log.proofs.Crash.{between-first, between-second, stands-written, next-gate}
-use Rattle.acceptor_log.proofs.Runs.{both_ok}
+use Rattle.acceptor_log.proofs.Runs.{both_ok, weaker}
 use Rattle.acceptor_log.proofs.device.put.Goals as goal
 
 pub returns-in-Err-clause-any_moment : goal.returns-in-Err-clause-any_moment

@@ -1,4 +1,4 @@
-use Rattle.durable_model.specs.Moments.{at_end}
+use Rattle.acceptor_log.proofs.Runs.{at_end}
 use Rattle.acceptor_log.proofs.laws.behind_call.Goals as goal
 
 pub returns : goal.returns
