@@ -1,5 +1,5 @@
 -- What is known once a node was gone back through.
-use Rattle.std.proofs.Common.{◌≡◌, ℕ, suc, ◌<◌, ◌≤◌, List, [], ◌∷◌, length, get_or, replicate, Option, Some, None, Bool, true, false, refl, sym, ap, ◌∙◌, subst, arith, inl, inr}
+use Rattle.std.proofs.Common.{◌≡◌, ℕ, suc, ◌<◌, ◌≤◌, List, [], ◌∷◌, length, get_or, replicate, Option, Some, None, Bool, true, false, cond, refl, sym, ap, ◌∙◌, subst, arith, inl, inr}
 use Rattle.std.specs.Prelude.{◌↔◌, All, Contains, slice_get, slice_set}
 use Rattle.std.specs.List.{AllByRecursion}
 use Rattle.std.proofs.lemmas.Bool.{cases_eq}
@@ -12,8 +12,8 @@ use Rattle.ltl.specs.Function as ltl
 use Rattle.rtl_passes_marks.specs.declared.row.NodeRow.{NodeRow}
 use Rattle.rtl_passes_marks.specs.Marks.{feeder, AreFeeders, IsMarked}
 use Rattle.rtl_passes_marks.specs.Rows.{entries_at}
-use Rattle.rtl_passes_marks.specs.Handing.{spread_on}
-use Rattle.rtl_passes_marks.proofs.Handings.{spread_count, spread_at}
+use Rattle.rtl_passes_marks.specs.Handing.{is_fed_by, spread_on}
+use Rattle.rtl_passes_marks.proofs.Handings.{spread_at}
 use Rattle.alloc_check_rules.specs.declared.equation.Equation.{Equation}
 use Rattle.alloc_check_rules.specs.Pairs.{successors_of}
 use Rattle.alloc_check_rules.specs.Rules.{EquationFits, equations_at, IsInOrder}
@@ -23,7 +23,7 @@ use Rattle.alloc_check_filled.specs.Allocated.{is_none, is_marked, filled, HasFo
 use Rattle.alloc_check_filled.proofs.Marks.{fed_by}
 use Rattle.alloc_check_filled.proofs.Right.{at_rows}
 use Rattle.alloc_check_lists.specs.Ranks.{RiseFrom}
-use Rattle.alloc_check_verdict.specs.Walk.{is_fed_by, AreTaken, IsKnownFrom}
+use Rattle.alloc_check_verdict.specs.Walk.{stands_at, AreTaken, IsSaid, IsKnownFrom}
 use Rattle.alloc_check_lists.proofs.Ranks.{rise_ranks}
 
 -- ---- marks
@@ -49,19 +49,22 @@ fed_as : (input : rtl.FunctionData) (feeders : List (Option ℕ)) → AreFeeders
 fed_as input feeders are k below marked =
     ap is_fed_by (are.each k below ∙ ap (λ f. Some f) (is_marked_from input k marked))
 
--- a marked node's row still rises once lists were taken
-pub rises_still : (input : rtl.FunctionData) (feeders : List (Option ℕ)) → AreFeeders input.entry input.nodes feeders → (n : ℕ) → n < length input.nodes → (ss : List ℕ) (old new : List (List Equation)) → AreTaken feeders ss old new → IsMarked input.entry input.nodes n → (IsMarked input.entry input.nodes n → RiseFrom 0 (equations_at old n)) → RiseFrom 0 (equations_at new n)
-rises_still input feeders are n below ss old new taken marked rises =
-    subst (RiseFrom 0) (sym (taken.kept n (λ h. fed_as input feeders are n below (marked_is input n marked)))) (rises marked)
+-- what stands at a node is said where it is marked, else carried
+pub stands_marked : (input : rtl.FunctionData) (feeders : List (Option ℕ)) → AreFeeders input.entry input.nodes feeders → (said lists : List (List Equation)) (k : ℕ) → k < length input.nodes → is_marked input k ≡ true → stands_at feeders said lists k ≡ equations_at said k
+stands_marked input feeders are said lists k below marked = ap (λ b. cond b (equations_at lists k) (equations_at said k)) (fed_as input feeders are k below marked)
+
+pub stands_fed : (input : rtl.FunctionData) (feeders : List (Option ℕ)) → AreFeeders input.entry input.nodes feeders → (said lists : List (List Equation)) (k : ℕ) → k < length input.nodes → is_marked input k ≡ false → stands_at feeders said lists k ≡ equations_at lists k
+stands_fed input feeders are said lists k below unmarked = ap (λ b. cond b (equations_at lists k) (equations_at said k)) (ap is_fed_by (are.each k below) ∙ at (feeder input.entry input.nodes k) unmarked)
+  where
+    at : (f : Option ℕ) → is_none f ≡ false → is_fed_by (Some f) ≡ true
+    at None none = absurd (let impossible : true ≡ false = none in cc)
+    at (Some m) none = refl
 
 -- ---- one node more
 
 module _ (input : rtl.FunctionData) (output : ltl.FunctionData) (rows : List (NodeRow Equation)) (feeders : List (Option ℕ)) (are : AreFeeders input.entry input.nodes feeders) (n : ℕ) (i : Instruction) (is_i : slice_get input.nodes n ≡ Some i) (old new : List (List Equation)) (known : IsKnownFrom input output rows (suc n) old) (taken : AreTaken feeders (successors_of i) old new) where
   abbrev told : List (List Equation)
   told = filled input output rows
-
-  pub marked_kept : (k : ℕ) → k < length input.nodes → is_marked input k ≡ true → equations_at new k ≡ equations_at told k
-  marked_kept k below marked = taken.kept k (λ h. fed_as input feeders are k below marked) ∙ known.marked k below marked
 
   -- above this node, and not led to by it
   others_kept : (k : ℕ) → suc n ≤ k → k < length input.nodes → is_marked input k ≡ false → ((m : ℕ) → feeder input.entry input.nodes k ≡ Some m → m < n) → SameSet (equations_at new k) (equations_at told k)
@@ -73,7 +76,6 @@ module _ (input : rtl.FunctionData) (output : ltl.FunctionData) (rows : List (No
   pub known_marked : is_marked input n ≡ true → IsKnownFrom input output rows n new
   known_marked marked = record {
     count = taken.count ∙ known.count;
-    marked = marked_kept;
     others = λ k from below unmarked waits.
         elim (cases_eq k n) [
           | inl same ↦ absurd (let impossible : true ≡ false = sym marked ∙ ap (is_marked input) (sym same) ∙ unmarked in cc)
@@ -84,9 +86,6 @@ module _ (input : rtl.FunctionData) (output : ltl.FunctionData) (rows : List (No
   pub known_filled : is_marked input n ≡ false → (es : List Equation) → SameSet es (equations_at told n) → IsKnownFrom input output rows n (slice_set new n es)
   known_filled unmarked es same = record {
     count = length-set new n es ∙ taken.count ∙ known.count;
-    marked = λ k below marked.
-        get_or-set_other new n k es [] (λ at_n. absurd (let impossible : true ≡ false = sym marked ∙ ap (is_marked input) at_n ∙ unmarked in cc))
-        ∙ marked_kept k below marked;
     others = λ k from below unmarked' waits.
         elim (cases_eq k n) [
           | inl at_n ↦
@@ -109,11 +108,16 @@ module _ (input : rtl.FunctionData) (output : ltl.FunctionData) (rows : List (No
       let none : List Equation = [] in
       spread_at rows (replicate (length input.nodes) none) 0 k form.at_marked.rising (omega (arith, length-replicate (length input.nodes) none, below)) (get_or-replicate (length input.nodes) k none none below)
 
-  -- at first the rows are known
-  pub known_first : (n : ℕ) → length input.nodes ≤ n → IsKnownFrom input output rows n spread
-  known_first n past = record {
-    count = spread_count rows (replicate (length input.nodes) []) ∙ length-replicate {A = List Equation} (length input.nodes) [];
+  -- the rows are said
+  pub rows_said : IsSaid input output rows spread
+  rows_said = record {
     marked = λ k below marked. spread_is k below ∙ sym (row_is (is_marked input) (entries_at rows) input.nodes output.blocks form.shape.nodes k below marked);
+  }
+
+  -- at first nothing else is known
+  pub known_first : (n : ℕ) → length input.nodes ≤ n → IsKnownFrom input output rows n (replicate (length input.nodes) [])
+  known_first n past = record {
+    count = length-replicate {A = List Equation} (length input.nodes) [];
     others = λ k from below unmarked waits. absurd (omega (arith, from, below, past));
   }
 
@@ -124,6 +128,6 @@ module _ (input : rtl.FunctionData) (output : ltl.FunctionData) (rows : List (No
       (λ es in_order. (rise_ranks input.registers output.slots few es (recursion_from_All (EquationFits input.registers output.slots) es in_order.each)).0 in_order.rising)
       rows form.at_marked.each n
 
-  pub marked_rises : output.slots ≤ 65536 → (n m : ℕ) (lists : List (List Equation)) → n < length input.nodes → IsKnownFrom input output rows m lists → IsMarked input.entry input.nodes n → RiseFrom 0 (equations_at lists n)
-  marked_rises few n m lists below known marked =
-      subst (RiseFrom 0) (sym (known.marked n below (marked_is input n marked) ∙ row_is (is_marked input) (entries_at rows) input.nodes output.blocks form.shape.nodes n below (marked_is input n marked))) (rows_rise few n)
+  pub marked_rises : output.slots ≤ 65536 → (n : ℕ) (said : List (List Equation)) → n < length input.nodes → IsSaid input output rows said → IsMarked input.entry input.nodes n → RiseFrom 0 (equations_at said n)
+  marked_rises few n said below are_said marked =
+      subst (RiseFrom 0) (sym (are_said.marked n below (marked_is input n marked) ∙ row_is (is_marked input) (entries_at rows) input.nodes output.blocks form.shape.nodes n below (marked_is input n marked))) (rows_rise few n)

@@ -1,26 +1,27 @@
 -- Lists that are taken from where an instruction goes on.
-use Rattle.std.proofs.Common.{◌≡◌, ℕ, zero, suc, ◌<◌, List, [], ◌∷◌, ◌++◌, length, get_or, Option, Some, None, Bool, true, false, refl, sym, ap, ◌∙◌, subst, arith, inl, inr}
-use Rattle.std.specs.Prelude.{◌↔◌, Contains, slice_get}
+use Rattle.std.proofs.Common.{◌≡◌, ℕ, zero, suc, ◌<◌, List, [], ◌∷◌, ◌++◌, length, get_or, Option, Some, None, Bool, true, false, cond, refl, sym, ap, ◌∙◌, subst, arith, inl, inr}
+use Rattle.std.specs.Prelude.{◌↔◌, Contains, slice_get, slice_set}
 use Rattle.std.specs.List.{flat_map}
 use Rattle.std.proofs.lemmas.List.{length-set, get_or-set_other, append-nil}
 use Rattle.std.proofs.lemmas.List.Elements.{Contains-append_left, Contains-append_right, Contains-append_cases}
-use Rattle.rtl_passes_marks.specs.Handing.{left_by}
+use Rattle.rtl_passes_marks.specs.Handing.{is_fed_by, standing, left_by}
+use Rattle.rtl_passes_marks.proofs.Handings.{left_count}
 use Rattle.alloc_check_rules.specs.declared.equation.Equation.{Equation}
 use Rattle.alloc_check_rules.specs.Rules.{equations_at}
 use Rattle.alloc_check_fill.specs.Sets.{SameSet}
 use Rattle.alloc_check_fill.proofs.Members.{first_of, later_of}
 use Rattle.alloc_check_fill.proofs.Blocks.{same_of}
-use Rattle.alloc_check_verdict.specs.Walk.{is_fed_by, AreTaken}
+use Rattle.alloc_check_verdict.specs.Walk.{stands_at, AreTaken}
 
 left_keeps : (o : Option (Option ℕ)) (s k : ℕ) (lists : List (List Equation)) → (k ≡ s → is_fed_by o ≡ false) → equations_at (left_by o s lists) k ≡ equations_at lists k
-left_keeps None s k lists marked = refl
-left_keeps (Some None) s k lists marked = refl
-left_keeps (Some (Some m)) s k lists marked = get_or-set_other lists s k [] [] (λ same. absurd (let impossible : true ≡ false = marked same in cc))
+left_keeps o s k lists marked = at (is_fed_by o) marked
+  where
+    at : (b : Bool) → (k ≡ s → b ≡ false) → equations_at (cond b (slice_set lists s []) lists) k ≡ equations_at lists k
+    at false marked = refl
+    at true marked = get_or-set_other lists s k [] [] (λ same. absurd (let impossible : true ≡ false = marked same in cc))
 
 left_length : (o : Option (Option ℕ)) (s : ℕ) (lists : List (List Equation)) → length (left_by o s lists) ≡ length lists
-left_length None s lists = refl
-left_length (Some None) s lists = refl
-left_length (Some (Some m)) s lists = length-set lists s []
+left_length o s lists = left_count o s lists
 
 pub taken_none : (feeders : List (Option ℕ)) (lists : List (List Equation)) → AreTaken feeders [] lists lists
 taken_none feeders lists = record { count = refl; kept = λ k marked. refl }
@@ -67,6 +68,6 @@ behind_both at s t found same is e = (
   ]),
 )
 
--- a list that another node's taking left
-pub left_is : (feeders : List (Option ℕ)) (s t : ℕ) (lists : List (List Equation)) → ¬ (t ≡ s) → equations_at (left_by (slice_get feeders s) s lists) t ≡ equations_at lists t
-left_is feeders s t lists other = left_keeps (slice_get feeders s) s t lists (λ same. absurd (other same))
+-- what stands at a node is left by another's taking
+pub stands_still : (feeders : List (Option ℕ)) (said : List (List Equation)) (s t : ℕ) (lists : List (List Equation)) → ¬ (t ≡ s) → stands_at feeders said (left_by (slice_get feeders s) s lists) t ≡ stands_at feeders said lists t
+stands_still feeders said s t lists other = ap (λ es. cond (is_fed_by (slice_get feeders t)) es (equations_at said t)) (left_keeps (slice_get feeders s) s t lists (λ same. absurd (other same)))

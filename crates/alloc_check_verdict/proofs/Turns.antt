@@ -9,7 +9,7 @@ use Rattle.rtl_language.specs.Function as rtl
 use Rattle.ltl.specs.declared.block.Block.{Block}
 use Rattle.ltl.specs.Function as ltl
 use Rattle.rtl_passes_marks.specs.declared.row.NodeRow.{NodeRow}
-use Rattle.rtl_passes_marks.specs.Marks.{feeder}
+use Rattle.rtl_passes_marks.specs.Marks.{AreFeeders}
 use Rattle.rtl_passes_marks.specs.Rows.{entries_at}
 use Rattle.alloc_check_rules.specs.declared.equation.Equation.{Equation}
 use Rattle.alloc_check_rules.specs.declared.change.Change.{Change}
@@ -25,7 +25,8 @@ use Rattle.alloc_check_fill.proofs.Fixed.{needed_is}
 use Rattle.alloc_check_filled.specs.Allocated.{is_marked, filled}
 use Rattle.alloc_check_filled.proofs.Marks.{fed_by, entry_marked, within}
 use Rattle.alloc_check_verdict.specs.Right.{BeginsRight}
-use Rattle.alloc_check_verdict.specs.Walk.{IsKnownFrom}
+use Rattle.alloc_check_verdict.specs.Walk.{stands_at, IsSaid, IsKnownFrom}
+use Rattle.alloc_check_verdict.proofs.Known.{stands_marked, stands_fed}
 use Rattle.alloc_check_verdict.proofs.Readings.{right_read}
 
 -- ---- a node
@@ -44,19 +45,23 @@ module _ (input : rtl.FunctionData) (output : ltl.FunctionData) (rows : List (No
       (all_members (λ s. s < length lists) (successors_of i) (λ s h. let there : s < length input.nodes = within input fits n i is_i s h in omega (arith, there, count)))
 
   -- what is known where the instruction goes on
-  pub known_behind : (lists : List (List Equation)) → IsKnownFrom input output rows (suc n) lists → (s : ℕ) → Contains (successors_of i) s → SameSet (equations_at lists s) (equations_at told s)
-  known_behind lists known s h = at (is_marked input s) refl
-    where
-      at : (m : Bool) → is_marked input s ≡ m → SameSet (equations_at lists s) (equations_at told s)
-      at true marked = same_of (equations_at lists s) (equations_at told s) (known.marked s (within input fits n i is_i s h) marked)
-      at false unmarked =
-          let fed = fed_by input.entry input.nodes n s i is_i h unmarked in
-          known.others s fed.lower (within input fits n i is_i s h) unmarked
-          (λ m is. let same : n ≡ m = same_Some n m (sym fed.feeds ∙ is) in omega (arith, same))
+  module _ (feeders : List (Option ℕ)) (are : AreFeeders input.entry input.nodes feeders) (said lists : List (List Equation)) (are_said : IsSaid input output rows said) (known : IsKnownFrom input output rows (suc n) lists) where
+    known_behind : (s : ℕ) → Contains (successors_of i) s → SameSet (stands_at feeders said lists s) (equations_at told s)
+    known_behind s h = at (is_marked input s) refl
+      where
+        there : s < length input.nodes
+        there = within input fits n i is_i s h
 
-  pub after_same : (lists : List (List Equation)) (found : List Equation) → IsKnownFrom input output rows (suc n) lists → SameSet found (behind (equations_at lists) i) → SameSet found after
-  after_same lists found known same =
-      same_through found (behind (equations_at lists) i) after same (joined_sets (equations_at lists) (equations_at told) (successors_of i) (known_behind lists known))
+        at : (m : Bool) → is_marked input s ≡ m → SameSet (stands_at feeders said lists s) (equations_at told s)
+        at true marked = same_of (stands_at feeders said lists s) (equations_at told s) (stands_marked input feeders are said lists s there marked ∙ are_said.marked s there marked)
+        at false unmarked =
+            let fed = fed_by input.entry input.nodes n s i is_i h unmarked in
+            subst (λ es. SameSet es (equations_at told s)) (sym (stands_fed input feeders are said lists s there unmarked))
+            (known.others s fed.lower there unmarked (λ m is. let same : n ≡ m = same_Some n m (sym fed.feeds ∙ is) in omega (arith, same)))
+
+    pub after_same : (found : List Equation) → SameSet found (behind (stands_at feeders said lists) i) → SameSet found after
+    after_same found same =
+        same_through found (behind (stands_at feeders said lists) i) after same (joined_sets (stands_at feeders said lists) (equations_at told) (successors_of i) known_behind)
 
   module _ (found : List Equation) (same : SameSet found after) where
     abbrev o : Option Change

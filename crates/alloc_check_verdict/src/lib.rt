@@ -4,6 +4,8 @@
 //! the rows.
 #![tactic(auto)]
 
+mod carried;
+mod found;
 mod rows;
 mod verdict;
 mod walk;

@@ -1,11 +1,12 @@
 //! Back through all nodes, the last first: a list is carried from where a block goes on to what the
-//! block needs, and only where a node is marked compared with its row. A list that no other node waits
-//! for is let go of, so that of a chain of nodes one list is kept.
+//! block needs, and only where a node is marked compared with its row, which is borrowed. A list that no
+//! other node waits for is let go of, so that of a chain of nodes one list is kept.
 
-ghost use Rattle.std.specs.Prelude.{◌≡◌, ◌↔◌, ◌<◌, [], ◌∷◌, length, All, Contains, Some, slice_get, IsTrue, IfOk, OnOk};
+ghost use Rattle.std.specs.Prelude.{◌≡◌, ◌↔◌, ◌<◌, [], ◌∷◌, ◌++◌, length, All, Contains, Some, slice_get, IsTrue, IfOk, OnOk};
 ghost use Rattle.std.specs.List.{AllByRecursion, flat_map};
 ghost use Rattle.rtl_language.specs.Function.{IsFunction};
 ghost use Rattle.rtl_passes.specs.Faults.{TellsLowest};
+ghost use Rattle.rtl_passes_marks.specs.Handing.{left_by};
 ghost use Rattle.rtl_passes_marks.specs.Marks.{AreFeeders, IsMarked};
 ghost use Rattle.alloc_check_rules.specs.Pairs.{successors_of};
 ghost use Rattle.alloc_check_rules.specs.Rules.{equations_at, IsRightAt};
@@ -15,36 +16,68 @@ ghost use Rattle.alloc_check_fill.specs.Sets.{SameSet};
 ghost use Rattle.alloc_check_filled.specs.Allocated.{filled, HasForm};
 ghost use Rattle.alloc_check_lists.specs.Ranks.{RiseFrom};
 ghost use Rattle.alloc_check_verdict.specs.Right.{BeginsRight};
-ghost use Rattle.alloc_check_verdict.specs.Walk.{AreTaken, GoesBack};
+ghost use Rattle.alloc_check_verdict.specs.Walk.{stands_at, found_in, AreTaken, GoesBack};
 
-use alloc_check_fill::{needed_before, tidy};
+use crate::carried::put_in_order;
+use crate::found::{Found, equations_in};
+use alloc_check_fill::needed_before;
 use alloc_check_lists::{are_among, hold_at_entry};
 use alloc_check_rules::Equation;
 use lang_base::{NoMemory, Row};
 use ltl::Block;
 use rtl_language::Instruction;
-use rtl_passes_marks::{NodeRow, spread, take};
+use rtl_passes::empty_lists;
+use rtl_passes_marks::{NodeRow, Said, is_fed, take};
 use std::alloc::Global;
 
-/// The equations at a node. A list that was carried there is taken away.
-fn take_one(
+/// The equations at a node: a row's are borrowed, and a list that was carried there is taken away.
+fn take_one<'a>(
     alloc: Global,
     feeders: &[Option<u16>],
+    said: &Said<'a, Equation>,
     lists: &mut [Row<Equation>],
     node: u16,
-) -> Result<Vec<Equation>, NoMemory>
+) -> Found<'a>
     requires { node < length lists.old }
-    ensures equations { IfOk result (λ found. SameSet found.items (flat_map (equations_at lists.old) (node ∷ []))) }
-    ensures left { OnOk result (AreTaken feeders.now (node ∷ []) lists.old lists.new) }
+    ensures equations { SameSet (found_in result) (flat_map (stands_at feeders.now said.now lists.old) (node ∷ [])) }
+    ensures left { AreTaken feeders.now (node ∷ []) lists.old lists.new }
 {
-    let found = take(alloc, feeders, lists, usize::from(node))?;
-    Ok(found)
+    let place = usize::from(node);
+    if is_fed(feeders, place) {
+        Found::Taken(take(alloc, lists, place))
+    } else {
+        Found::Borrowed(said.at(place))
+    }
+}
+
+/// The equations at a node, behind those that are there.
+fn take_more(
+    alloc: Global,
+    feeders: &[Option<u16>],
+    said: &Said<Equation>,
+    lists: &mut [Row<Equation>],
+    node: u16,
+    found: &mut Vec<Equation>,
+) -> Result<(), NoMemory>
+    requires { node < length lists.old }
+    ensures equations { OnOk result (found.new.items ≡ found.old.items ++ stands_at feeders.now said.now lists.old node) }
+    ensures left { OnOk result (lists.new ≡ left_by (slice_get feeders.now node) node lists.old) }
+{
+    let place = usize::from(node);
+    if is_fed(feeders, place) {
+        let more = take(alloc, lists, place);
+        found.extend_from_slice(more.as_slice())?;
+    } else {
+        found.extend_from_slice(said.at(place))?;
+    }
+    Ok(())
 }
 
 /// The equations at two nodes, which may be one.
 fn take_two(
     alloc: Global,
     feeders: &[Option<u16>],
+    said: &Said<Equation>,
     lists: &mut [Row<Equation>],
     node: u16,
     other: u16,
@@ -52,35 +85,41 @@ fn take_two(
     requires node { node < length lists.old }
     requires other { other < length lists.old }
     ensures equations { IfOk result
-        (λ found. SameSet found.items (flat_map (equations_at lists.old) (node ∷ (other ∷ [])))) }
+        (λ found. SameSet found.items (flat_map (stands_at feeders.now said.now lists.old) (node ∷ (other ∷ [])))) }
     ensures left { OnOk result (AreTaken feeders.now (node ∷ (other ∷ [])) lists.old lists.new) }
 {
-    let mut found = take(alloc, feeders, lists, usize::from(node))?;
-    if other == node {
-        return Ok(found);
+    let mut found = Vec::new(alloc);
+    take_more(alloc, feeders, said, lists, node, &mut found)?;
+    if other != node {
+        take_more(alloc, feeders, said, lists, other, &mut found)?;
     }
-    let more = take(alloc, feeders, lists, usize::from(other))?;
-    found.extend_from_slice(more.as_slice())?;
     Ok(found)
 }
 
 /// The equations where the instruction can go on. A list that was carried there is taken away, since
 /// this node alone leads there.
-fn take_behind(
+fn take_behind<'a>(
     alloc: Global,
     feeders: &[Option<u16>],
+    said: &Said<'a, Equation>,
     lists: &mut [Row<Equation>],
     instruction: &Instruction,
-) -> Result<Vec<Equation>, NoMemory>
+) -> Result<Found<'a>, NoMemory>
     requires { AllByRecursion (λ s. s < length lists.old) (successors_of instruction.now) }
-    ensures equations { IfOk result (λ found. SameSet found.items (behind (equations_at lists.old) instruction.now)) }
+    ensures equations { IfOk result
+        (λ found. SameSet (found_in found) (behind (stands_at feeders.now said.now lists.old) instruction.now)) }
     ensures left { OnOk result (AreTaken feeders.now (successors_of instruction.now) lists.old lists.new) }
 {
     match instruction {
-        Instruction::Do { successor, .. } => take_one(alloc, feeders, lists, *successor),
-        Instruction::Call { successor, .. } => take_one(alloc, feeders, lists, *successor),
-        Instruction::Branch { taken, other, .. } => take_two(alloc, feeders, lists, *taken, *other),
-        Instruction::Return { .. } => Ok(Vec::new(alloc)),
+        Instruction::Do { successor, .. } => Ok(take_one(alloc, feeders, said, lists, *successor)),
+        Instruction::Call { successor, .. } => {
+            Ok(take_one(alloc, feeders, said, lists, *successor))
+        }
+        Instruction::Branch { taken, other, .. } => {
+            let found = take_two(alloc, feeders, said, lists, *taken, *other)?;
+            Ok(Found::Taken(found))
+        }
+        Instruction::Return { .. } => Ok(Found::Taken(Vec::new(alloc))),
     }
 }
 
@@ -154,6 +193,7 @@ fn go_back(
     input: &rtl_language::Function,
     output: &ltl::Function,
     feeders: &[Option<u16>],
+    said: &Said<Equation>,
     lists: &mut [Row<Equation>],
     n: usize,
     instruction: &Instruction,
@@ -165,21 +205,22 @@ fn go_back(
     requires instruction { slice_get input.now.nodes n ≡ Some instruction.now }
     requires block { slice_get output.now.blocks n ≡ Some block.now }
     requires lists { length lists.old ≡ length input.now.nodes }
-    requires rising { IsMarked input.now.entry input.now.nodes n → RiseFrom 0 (equations_at lists.old n) }
-    ensures { IfOk result (GoesBack input.now output.now n lists.old lists.new) }
+    requires rising { IsMarked input.now.entry input.now.nodes n → RiseFrom 0 (equations_at said.now n) }
+    ensures { IfOk result (GoesBack input.now output.now said.now n lists.old lists.new) }
 {
-    let found = take_behind(alloc, feeders, lists, instruction)?;
-    let mut needed = Vec::new(alloc);
-    let keeps = told_before(alloc, instruction, block, found.as_slice(), &mut needed)?;
+    let found = take_behind(alloc, feeders, said, lists, instruction)?;
+    let found = equations_in(&found);
+    let mut needed = Vec::with_capacity(alloc, found.len())?;
+    let keeps = told_before(alloc, instruction, block, found, &mut needed)?;
     if !is_marked(input, feeders, n) {
-        tidy(&mut needed);
+        put_in_order(&mut needed);
         lists[n] = Row::from_vec(needed);
         return Ok(keeps);
     }
     if !keeps {
         return Ok(false);
     }
-    Ok(is_enough(input, output, n, lists[n].as_slice(), needed.as_slice()))
+    Ok(is_enough(input, output, n, said.at(n), needed.as_slice()))
 }
 
 /// Finds the lowest node that breaks a rule.
@@ -197,7 +238,8 @@ pub(crate) fn lowest_wrong(
 {
     let instructions = input.nodes().as_slice();
     let blocks = output.blocks().as_slice();
-    let mut lists = spread(alloc, instructions.len(), rows)?;
+    let said = Said::of(alloc, instructions.len(), rows)?;
+    let mut lists = empty_lists(alloc, instructions.len())?.into_vec();
     let mut wrong = None;
     let mut n = instructions.len();
     while n > 0 {
@@ -207,6 +249,7 @@ pub(crate) fn lowest_wrong(
             input,
             output,
             feeders,
+            &said,
             &mut lists,
             n,
             &instructions[n],

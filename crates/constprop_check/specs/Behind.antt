@@ -1,5 +1,6 @@
 -- What an instruction does to facts.
-use Rattle.std.specs.Prelude.{List, Bool, Option, not}
+use Rattle.std.specs.Prelude.{ℕ, List, Bool, Option, not, nat_eq}
+use Rattle.std.specs.List.{filter}
 use Rattle.rtl_language.specs.declared.instruction.Instruction.{Instruction}
 use Rattle.constprop_check_rules.specs.declared.fact.Fact.{Fact}
 use Rattle.constprop_check_rules.specs.Known.{names, known_fact, written_by, value_by}
@@ -15,3 +16,7 @@ makes change = known_fact change.register change.word
 -- whether another register is written than the fact's
 abbrev pub keeps : Written → Fact → Bool
 keeps change fact = not (names change.register fact.register)
+
+-- the facts of other registers than this
+abbrev pub others : ℕ → List Fact → List Fact
+others register facts = filter (λ fact. not (nat_eq register fact.register)) facts

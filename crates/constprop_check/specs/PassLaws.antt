@@ -50,7 +50,7 @@ pub known_law : (i : Instruction) (before : List Fact) (fact : Fact) → RiseFro
 known_law i before fact rise = known_splits (written_by i) (value_by i before) before fact rise
 
 -- a change makes and keeps what its instruction does
-pub changes_law : (i : Instruction) (before : List Fact) → (makes (change_of i before) ≡ made_by i before) × ((λ fact. keeps (change_of i before) fact) ≡ keeps_by i)
+pub changes_law : (i : Instruction) (before : List Fact) → (makes (change_of i before) ≡ made_by i before) × (keeps (change_of i before) ≡ keeps_by i)
 changes_law i before = (refl, refl)
 
 -- an instruction goes on along its edges

@@ -6,6 +6,7 @@
 mod base;
 mod behind;
 mod form;
+mod keeping;
 mod lists;
 mod pass;
 mod rules;

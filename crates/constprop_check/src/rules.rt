@@ -1,5 +1,6 @@
 use crate::behind::{Written, change_by, edges, fits, is_folded, is_kept, made};
 use crate::form::{push_fact, read_fact};
+use crate::keeping::keep;
 use crate::pass::ConstProp;
 use constprop_check_rules::Fact;
 use lang_base::{FormError, NoMemory};
@@ -26,7 +27,7 @@ impl Rules for ConstProp {
 
     ghost makes = { makes };
 
-    ghost keeps = { λ change i fact. keeps change fact };
+    ghost keeps = { keeps };
 
     fn place(fact: &Fact) -> u64 {
         u64::from(fact.register)
@@ -60,8 +61,12 @@ impl Rules for ConstProp {
         made(change)
     }
 
-    fn is_kept(change: Written, _instruction: &Instruction, fact: &Fact) -> bool {
+    fn is_kept(change: Written, fact: &Fact) -> bool {
         is_kept(change, fact)
+    }
+
+    fn keep(facts: &mut Vec<Fact>, change: Written) {
+        keep(facts, change);
     }
 
     fn is_allowed(facts: &[Fact], input: &Instruction, output: &Instruction) -> bool {

@@ -1,6 +1,7 @@
 pub mod Baseline
 pub mod Sources
 pub mod PassLaws
+pub mod Change
 pub use Rattle.cse_check_rules.specs.Equations
 pub use Rattle.cse_check_rules.specs.Rules
 pub use Rattle.rtl_passes.specs.Faults

@@ -1,6 +1,6 @@
 -- The laws that the pass owes as one of the pipeline.
 use Rattle.std.proofs.Common.{◌≡◌, ℕ, List, [], ◌∷◌, ◌++◌, get_or, Bool, true, false, ◌≤◌, ◌^◌, refl, ap, inl, inr}
-use Rattle.std.specs.Prelude.{◌↔◌, All, Contains, not}
+use Rattle.std.specs.Prelude.{◌↔◌, ◌||◌, All, Contains, not}
 use Rattle.std.specs.List.{AllByRecursion}
 use Rattle.std.proofs.lemmas.List.{get_or_default}
 use Rattle.lang_base.specs.Keeps.{Keeps}
@@ -18,7 +18,12 @@ use Rattle.rtl_passes_marks.specs.Ranked.{RiseFrom}
 use Rattle.rtl_passes_facts.specs.Certificates.{CertFits}
 use Rattle.rtl_passes_facts.specs.Laws.{accepted_fits, one_certificate}
 use Rattle.cse_check_rules.specs.declared.equation.Equation.{Equation}
-use Rattle.cse_check_rules.specs.Equations.{equation_by, kills, successors_of}
+use Rattle.rtl_parts.specs.declared.act.Act.{Act}
+use Rattle.rtl_parts.specs.declared.act.Act.TheVariants.{Nop, Constant, Move, Operate, Load, Store, Put}
+use Rattle.constprop_check_rules.specs.Known.{written_by}
+use Rattle.cse_check_rules.specs.declared.equation.RightSide.{RightSide}
+use Rattle.cse_check_rules.specs.Equations.{equation_by, kills, overwrites, act_disturbs, disturbs, successors_of}
+use Rattle.cse_check.specs.Change.{cells_of_act, cells_by, disturbed, change_of, keeps}
 use Rattle.cse_check_rules.specs.Order.{rank, equation_text}
 use Rattle.cse_check_rules.specs.Rules.{EquationFits, Rise, IsKnown, keeps_by, elimination, IsEliminated}
 use Rattle.cse_check_rules.proofs.Sound.{rows_sound}
@@ -63,8 +68,24 @@ pub known_law : (i : Instruction) (before : List Equation) (e : Equation) → Ri
 known_law i before e rise = (known_one i before e, known_other i before e)
 
 -- a change makes and keeps what its instruction does
-pub changes_law : (i : Instruction) (before : List Equation) → (equation_by i ≡ equation_by i) × ((λ equation. keeps_by i equation) ≡ keeps_by i)
-changes_law i before = (refl, refl)
+act_same : (act : Act) → disturbed (cells_of_act act) ≡ act_disturbs act
+act_same Nop = refl
+act_same (Constant target word) = refl
+act_same (Move target source) = refl
+act_same (Operate op target arguments) = refl
+act_same (Load target global index) = refl
+act_same (Store global index source) = refl
+act_same (Put source target) = refl
+
+same_cells : (i : Instruction) → disturbed (cells_by i) ≡ disturbs i
+same_cells (Do act successor) = act_same act
+same_cells (Call function arguments target successor) = refl
+same_cells (Branch test taken other) = refl
+same_cells (Return value) = refl
+
+pub changes_law : (i : Instruction) (before : List Equation) → ((change_of i).made ≡ equation_by i) × (keeps (change_of i) ≡ keeps_by i)
+changes_law i before =
+    (refl, ap (λ (changed : RightSide → Bool). λ (equation : Equation). not (overwrites (written_by i) equation || changed equation.right)) (same_cells i))
 
 -- an instruction goes on along its edges
 each_there : (ts : List ℕ) → All (Contains ts) ts

@@ -1,21 +1,15 @@
-//! What an instruction does to equations, and which of them can be there.
+//! Where an instruction can go on, and which equations can be there.
 
 ghost use Rattle.std.specs.Prelude.{◌≡◌, ◌↔◌, ◌<◌, IsTrue};
 ghost use Rattle.rtl_parts.specs.Fits.{ArgumentsFit};
 ghost use Rattle.rtl_passes_facts.specs.Edges.{nodes_of};
 ghost use Rattle.cse_check_rules.specs.Equations.{successors_of};
-ghost use Rattle.cse_check_rules.specs.Rules.{RightFits, EquationFits, keeps_by};
+ghost use Rattle.cse_check_rules.specs.Rules.{RightFits, EquationFits};
 
-use cse_check_rules::{Equation, RightSide, kills};
+use cse_check_rules::{Equation, RightSide};
 use rtl_language::Instruction;
 use rtl_parts::Arguments;
 use rtl_passes_facts::Edges;
-
-pub(crate) fn is_kept(instruction: &Instruction, equation: &Equation) -> bool
-    ensures { result ≡ keeps_by instruction.now equation.now }
-{
-    !kills(instruction, equation)
-}
 
 /// Where the instruction can go on.
 pub(crate) fn edges(instruction: &Instruction) -> Edges

@@ -5,6 +5,7 @@
 
 mod base;
 mod behind;
+mod change;
 mod lists;
 mod moves;
 mod pass;

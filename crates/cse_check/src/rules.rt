@@ -1,22 +1,23 @@
-use crate::behind::{edges, fits, is_kept};
+use crate::behind::{edges, fits};
+use crate::change::{Change, change_by, is_kept, keep};
 use crate::moves::is_shared;
 use crate::pass::Cse;
-use cse_check_rules::{Equation, is_same, made, push_equation, rank, read_equation};
+use cse_check_rules::{Equation, is_same, push_equation, rank, read_equation};
 use lang_base::{FormError, NoMemory};
 use rtl_language::Instruction;
 use rtl_passes_facts::{Edges, Rules};
 
 impl Rules for Cse {
-    ghost use Rattle.cse_check_rules.specs.Equations.{equation_by};
     ghost use Rattle.cse_check_rules.specs.Order.{equation_text};
-    ghost use Rattle.cse_check_rules.specs.Rules.{elimination, keeps_by};
+    ghost use Rattle.cse_check_rules.specs.Rules.{elimination};
     ghost use Rattle.cse_check_rules.specs.Reading.{equation};
     ghost use Rattle.cse_check_rules.proofs.Forms.{equation_form};
+    ghost use Rattle.cse_check.specs.Change.{change_of, keeps};
     ghost use Rattle.cse_check.specs.PassLaws.{ranked_law, known_law, changes_law, along_law};
 
     type Fact = Equation;
 
-    type Change = Option<Equation>;
+    type Change = Change;
 
     ghost rules = { elimination };
 
@@ -24,11 +25,11 @@ impl Rules for Cse {
 
     ghost text = { equation_text };
 
-    ghost change_of = { λ i before. equation_by i };
+    ghost change_of = { λ i before. change_of i };
 
-    ghost makes = { λ made. made };
+    ghost makes = { λ change. change.made };
 
-    ghost keeps = { λ made i fact. keeps_by i fact };
+    ghost keeps = { keeps };
 
     fn place(equation: &Equation) -> u64 {
         rank(equation)
@@ -54,16 +55,20 @@ impl Rules for Cse {
         edges(instruction)
     }
 
-    fn change_by(instruction: &Instruction, _equations: &[Equation]) -> Option<Equation> {
-        made(instruction)
+    fn change_by(instruction: &Instruction, _equations: &[Equation]) -> Change {
+        change_by(instruction)
     }
 
-    fn made(made: Option<Equation>) -> Option<Equation> {
-        made
+    fn made(change: Change) -> Option<Equation> {
+        change.made
     }
 
-    fn is_kept(_made: Option<Equation>, instruction: &Instruction, equation: &Equation) -> bool {
-        is_kept(instruction, equation)
+    fn is_kept(change: Change, equation: &Equation) -> bool {
+        is_kept(change, equation)
+    }
+
+    fn keep(equations: &mut Vec<Equation>, change: Change) {
+        keep(equations, change);
     }
 
     fn is_allowed(equations: &[Equation], input: &Instruction, output: &Instruction) -> bool {

@@ -19,5 +19,5 @@ pub use order::rank;
 pub use reading::read_equation;
 pub use same::is_same;
 pub use sharing::share;
-pub use survival::{kills, made};
+pub use survival::{is_load, is_load_from, is_overwritten, kills, made};
 pub use writing::push_equation;

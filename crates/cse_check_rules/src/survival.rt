@@ -79,7 +79,8 @@ pub fn made(instruction: &Instruction) -> Option<Equation>
     }
 }
 
-fn is_load(right: &RightSide) -> bool
+/// Whether the right side is a cell.
+pub fn is_load(right: &RightSide) -> bool
     ensures { result ≡ loads right.now }
 {
     match right {
@@ -88,7 +89,8 @@ fn is_load(right: &RightSide) -> bool
     }
 }
 
-fn is_load_from(right: &RightSide, other: u16) -> bool
+/// Whether it is a cell of this global.
+pub fn is_load_from(right: &RightSide, other: u16) -> bool
     ensures { result ≡ loads_from right.now other }
 {
     match right {
@@ -118,7 +120,7 @@ fn may_disturb(instruction: &Instruction, right: &RightSide) -> bool
 }
 
 /// Whether the register, if there is one, is one that the equation names.
-fn is_overwritten(written: Option<Register>, equation: &Equation) -> bool
+pub fn is_overwritten(written: Option<Register>, equation: &Equation) -> bool
     ensures { result ≡ overwrites written equation.now }
 {
     match written {

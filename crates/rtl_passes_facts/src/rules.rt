@@ -1,5 +1,5 @@
 ghost use Rattle.std.specs.Prelude.{◌≡◌, ◌↔◌, ℕ, ◌+◌, ◌<◌, ◌≤◌, ◌^◌, Bool, List, Option, All, Contains, IsTrue};
-ghost use Rattle.std.specs.List.{AllByRecursion};
+ghost use Rattle.std.specs.List.{AllByRecursion, filter};
 ghost use Rattle.lang_base.specs.Reading.{Reading, IsRead};
 ghost use Rattle.lang_base.specs.Texts.{Appends};
 ghost use Rattle.lang_base.proofs.Forms.{IsForm};
@@ -37,8 +37,8 @@ pub trait Rules {
     /// The fact that the change makes, if it makes one.
     ghost makes: { Self.Change → Option Self.Fact };
 
-    /// Whether the fact holds on over the change that this instruction is.
-    ghost keeps: { Self.Change → Instruction → Self.Fact → Bool };
+    /// Whether the fact holds on over the change.
+    ghost keeps: { Self.Change → Self.Fact → Bool };
 
     /// The place of the fact among all.
     fn place(fact: &Self::Fact) -> u64
@@ -73,9 +73,14 @@ pub trait Rules {
     fn made(change: Self::Change) -> Option<Self::Fact>
         ensures { result ≡ makes change };
 
-    /// Whether the fact holds on over the change that this instruction is.
-    fn is_kept(change: Self::Change, instruction: &Instruction, fact: &Self::Fact) -> bool
-        ensures { result ≡ keeps change instruction.now fact.now };
+    /// Whether the fact holds on over the change.
+    fn is_kept(change: Self::Change, fact: &Self::Fact) -> bool
+        ensures { result ≡ keeps change fact.now };
+
+    /// Keeps those of the facts, which are in order, that hold on over the change.
+    fn keep(facts: &mut Vec<Self::Fact>, change: Self::Change)
+        requires { RiseFrom rules.rank 0 facts.old.items }
+        ensures { facts.new.items ≡ filter (keeps change) facts.old.items };
 
     /// Whether the facts allow the input to be made the output.
     fn is_allowed(facts: &[Self::Fact], input: &Instruction, output: &Instruction) -> bool
@@ -89,7 +94,7 @@ pub trait Rules {
     ghost known: { (i : Instruction) (before : List Self.Fact) (fact : Self.Fact) → RiseFrom rules.rank 0 before → rules.IsKnown i before fact ↔ IsMadeOrKept (rules.made i before) (rules.keeps i) before fact };
 
     /// A change makes and keeps what the instruction does.
-    ghost changes: { (i : Instruction) (before : List Self.Fact) → (makes (change_of i before) ≡ rules.made i before) × (keeps (change_of i before) i ≡ rules.keeps i) };
+    ghost changes: { (i : Instruction) (before : List Self.Fact) → (makes (change_of i before) ≡ rules.made i before) × (keeps (change_of i before) ≡ rules.keeps i) };
 
     /// An instruction goes on along its edges alone.
     ghost along: { (i : Instruction) (facts : List Self.Fact) → All (Contains (edges_of i)) (rules.edges i facts) };

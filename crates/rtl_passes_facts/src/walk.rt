@@ -45,34 +45,23 @@ fn is_made<R: Rules>(change: R::Change, fact: &R::Fact) -> bool
 }
 
 /// Whether the fact is known behind the change, where none of those before has a lower place.
-fn is_known<R: Rules>(
-    change: R::Change,
-    instruction: &Instruction,
-    before: &[R::Fact],
-    fact: &R::Fact,
-) -> bool
+fn is_known<R: Rules>(change: R::Change, before: &[R::Fact], fact: &R::Fact) -> bool
     requires { RiseFrom R.rules.rank (R.rules.rank fact.now) before.now }
-    ensures { IsTrue result ↔ IsMadeOrKept (R.makes change) (R.keeps change instruction.now) before.now fact.now }
+    ensures { IsTrue result ↔ IsMadeOrKept (R.makes change) (R.keeps change) before.now fact.now }
 {
-    is_made::<R>(change, fact)
-        || (begin_with::<R>(before, fact) && R::is_kept(change, instruction, fact))
+    is_made::<R>(change, fact) || (begin_with::<R>(before, fact) && R::is_kept(change, fact))
 }
 
 /// Whether each fact is made by the change, or known before and kept.
-fn are_made_or_kept<R: Rules>(
-    change: R::Change,
-    instruction: &Instruction,
-    before: &[R::Fact],
-    after: &[R::Fact],
-) -> bool
+fn are_made_or_kept<R: Rules>(change: R::Change, before: &[R::Fact], after: &[R::Fact]) -> bool
     requires before { RiseFrom R.rules.rank 0 before.now }
     requires after { RiseFrom R.rules.rank 0 after.now }
-    ensures { IsTrue result ↔ All (IsMadeOrKept (R.makes change) (R.keeps change instruction.now) before.now) after.now }
+    ensures { IsTrue result ↔ All (IsMadeOrKept (R.makes change) (R.keeps change) before.now) after.now }
 {
     let mut left = before;
     for fact in after {
         left = from_place::<R>(left, R::place(fact));
-        if !is_known::<R>(change, instruction, left, fact) {
+        if !is_known::<R>(change, left, fact) {
             return false;
         }
     }
@@ -90,5 +79,5 @@ pub(crate) fn are_known<R: Rules>(
     ensures { IsTrue result ↔ All (R.rules.IsKnown instruction.now before.now) after.now }
 {
     let change = R::change_by(instruction, before);
-    are_made_or_kept::<R>(change, instruction, before, after)
+    are_made_or_kept::<R>(change, before, after)
 }

@@ -1,12 +1,12 @@
 -- What stands at a node while lists are handed on.
 use Rattle.std.proofs.Common.{◌≡◌, ℕ, zero, suc, ◌<◌, ◌≤◌, List, [], ◌∷◌, length, get_or, replicate, Option, Some, None, Bool, true, false, cond, eqb, refl, sym, ap, ◌∙◌, subst, arith, inl, inr}
-use Rattle.std.specs.Prelude.{◌⊎◌, Contains, slice_get, slice_set}
+use Rattle.std.specs.Prelude.{◌⊎◌, ◌||◌, Contains, slice_get, slice_set}
 use Rattle.std.proofs.lemmas.Bool.{eqb-true, eq-eqb, cases_eq}
 use Rattle.std.proofs.lemmas.List.{get_or-set_same, get_or-set_other, length-set}
 use Rattle.rtl_passes_marks.specs.declared.row.NodeRow.{NodeRow}
 use Rattle.rtl_passes_marks.specs.Ranked.{RiseFrom}
 use Rattle.rtl_passes_marks.specs.Rows.{place_of, entries_at}
-use Rattle.rtl_passes_marks.specs.Handing.{spread_on, left_by, feeds_by, handed_to, handed_on}
+use Rattle.rtl_passes_marks.specs.Handing.{spread_on, left_by, feeds_by, feeds_one, handed_to, handed_on}
 
 module _ {A : Type 0} where
   -- ---- rows that are spread
@@ -71,6 +71,15 @@ module _ {A : Type 0} where
   pub handed_else : (feeders : List (Option ℕ)) (n : ℕ) (ts : List ℕ) (s : ℕ) (facts : List A) (lists : List (List A)) → feeds_by (slice_get feeders s) n ≡ false → get_or (handed_on feeders n ts facts lists) s [] ≡ get_or lists s []
   handed_else feeders n [] s facts lists not_fed = refl
   handed_else feeders n (t ∷ ts) s facts lists not_fed = handed_else feeders n ts s facts (handed_to feeders n t facts lists) not_fed ∙ to_else feeders n t s facts lists not_fed
+
+  -- where it feeds none of them all stays
+  pub handed_none : (feeders : List (Option ℕ)) (n : ℕ) (ts : List ℕ) (facts : List A) (lists : List (List A)) → feeds_one feeders n ts ≡ false → handed_on feeders n ts facts lists ≡ lists
+  handed_none feeders n [] facts lists none = refl
+  handed_none feeders n (t ∷ ts) facts lists none = at (feeds_by (slice_get feeders t) n) none (handed_none feeders n ts facts lists)
+    where
+      at : (b : Bool) → (b || feeds_one feeders n ts) ≡ false → (feeds_one feeders n ts ≡ false → handed_on feeders n ts facts lists ≡ lists) → handed_on feeders n ts facts (cond b (slice_set lists t facts) lists) ≡ lists
+      at true none later = cc (none)
+      at false none later = later none
 
   -- a node that it feeds gets the list, and keeps it
   to_keeps : (feeders : List (Option ℕ)) (n t s : ℕ) (facts : List A) (lists : List (List A)) → s < length lists → get_or lists s [] ≡ facts → get_or (handed_to feeders n t facts lists) s [] ≡ facts

@@ -1,13 +1,11 @@
-//! Lists of nodes, as rows say them and as they are handed on.
+//! Lists of nodes while they are handed on.
 
-ghost use Rattle.std.specs.Prelude.{◌≡◌, ◌<◌, [], length, replicate, slice_get, slice_set, slice_index_or, IsTrue, IfOk, OnOk};
+ghost use Rattle.std.specs.Prelude.{◌≡◌, ◌<◌, [], length, slice_get, slice_set, slice_index_or, IsTrue, IfOk, OnOk};
 ghost use Rattle.rtl_passes_marks.specs.Edges.{edges_of};
-ghost use Rattle.rtl_passes_marks.specs.Handing.{spread_on, left_by, feeds_by, handed_to, handed_on as handed};
+ghost use Rattle.rtl_passes_marks.specs.Handing.{is_fed_by, feeds_by, feeds_one, handed_to, handed_on as handed};
 
-use crate::row::NodeRow;
 use lang_base::{NoMemory, Row};
 use rtl_language::Instruction;
-use rtl_passes::empty_lists;
 use std::alloc::Global;
 use std::mem;
 
@@ -21,40 +19,23 @@ fn put<T: Drop>(lists: &mut [Row<T>], node: u16, facts: Row<T>)
     }
 }
 
-/// The entries of each row at its node, and nothing at the others, of so many.
-pub fn spread<T: Copy + Drop>(
-    alloc: Global,
-    nodes: usize,
-    rows: &[NodeRow<T>],
-) -> Result<Vec<Row<T>>, NoMemory>
-    ensures { IfOk result (λ lists. lists.items ≡ spread_on rows.now (replicate nodes [])) }
-{
-    let mut lists = empty_lists(alloc, nodes)?.into_vec();
-    for row in rows {
-        let entries = row.entries.copied(alloc)?;
-        put(&mut lists, row.node, entries);
-    }
-    Ok(lists)
-}
-
-/// The list of a node: that of a row is copied, and what was handed on is taken.
-pub fn take<T: Copy + Drop>(
-    alloc: Global,
-    feeders: &[Option<u16>],
-    lists: &mut [Row<T>],
-    n: usize,
-) -> Result<Vec<T>, NoMemory>
-    requires { n < length lists.old }
-    ensures facts { IfOk result (λ facts. facts.items ≡ slice_index_or lists.old n []) }
-    ensures left { OnOk result (lists.new ≡ left_by (slice_get feeders.now n) n lists.old) }
+/// Whether the node is fed, so that its list is handed to it.
+pub fn is_fed(feeders: &[Option<u16>], n: usize) -> bool
+    ensures { result ≡ is_fed_by (slice_get feeders.now n) }
 {
     match feeders.get(n) {
-        Some(Some(_)) => {
-            let facts = mem::replace(&mut lists[n], Row::from_vec(Vec::new(alloc)));
-            Ok(facts.into_vec())
-        }
-        _ => Ok(Vec::from_slice(alloc, lists[n].as_slice())?),
+        Some(Some(_)) => true,
+        _ => false,
     }
+}
+
+/// The list that was handed to a node, which is left with none.
+pub fn take<T: Drop>(alloc: Global, lists: &mut [Row<T>], n: usize) -> Vec<T>
+    requires { n < length lists.old }
+    ensures list { result.items ≡ slice_index_or lists.old n [] }
+    ensures left { lists.new ≡ slice_set lists.old n [] }
+{
+    mem::replace(&mut lists[n], Row::from_vec(Vec::new(alloc))).into_vec()
 }
 
 /// Whether this node feeds the other.
@@ -64,6 +45,21 @@ fn feeds(feeders: &[Option<u16>], n: u16, other: u16) -> bool
     match feeders.get(usize::from(other)) {
         Some(Some(feeder)) => *feeder == n,
         _ => false,
+    }
+}
+
+/// Whether this node feeds one of those where the instruction goes on.
+pub fn feeds_any(feeders: &[Option<u16>], n: u16, instruction: &Instruction) -> bool
+    ensures { result ≡ feeds_one feeders.now n (edges_of instruction.now) }
+{
+    match instruction {
+        Instruction::Do { successor, .. } | Instruction::Call { successor, .. } => {
+            feeds(feeders, n, *successor)
+        }
+        Instruction::Branch { taken, other, .. } => {
+            feeds(feeders, n, *taken) || feeds(feeders, n, *other)
+        }
+        Instruction::Return { .. } => false,
     }
 }
 

@@ -3,8 +3,8 @@ use Rattle.std.proofs.lemmas.Bool.{iff_false}
 use Rattle.rtl_passes_marks.specs.Handing.{spread_on}
 use Rattle.alloc_check_rules.specs.Rules.{IsRightAt}
 use Rattle.alloc_check_filled.specs.Allocated.{filled}
-use Rattle.alloc_check_verdict.specs.Walk.{IsKnownFrom}
-use Rattle.alloc_check_verdict.proofs.Known.{known_first, marked_rises}
+use Rattle.alloc_check_verdict.specs.Walk.{IsSaid, IsKnownFrom}
+use Rattle.alloc_check_verdict.proofs.Known.{rows_said, known_first, marked_rises}
 use Rattle.alloc_check_verdict.proofs.Lowest.{tells_right, tells_wrong, tells_last, take_all}
 use Rattle.alloc_check_verdict.proofs.walk.lowest_wrong.Goals as goal
 
@@ -17,7 +17,7 @@ loop-n-init c =
     let nodes : instructions ≡ input.nodes = c.as_slice-instructions.ensures ∙ c.nodes.ensures.nodes in
     let count : length instructions ≡ length input.nodes = ap length nodes in (
       omega (arith, count),
-      subst (IsKnownFrom input output rows (length instructions)) (sym (c.in_ok-lists.ensures ∙ ap (λ k. spread_on rows (replicate k [])) count))
+      subst (IsKnownFrom input output rows (length instructions)) (sym (c.into_vec-lists.ensures ∙ c.in_ok-empty_lists.ensures ∙ ap (λ k. replicate k []) count))
           (known_first input output rows c.requires.form (length instructions) (omega (arith, count))),
       λ k from below. absurd (omega (arith, from, below, count)),
     )
@@ -26,7 +26,9 @@ pub go_back-requires-clause-rising : goal.go_back-requires-clause-rising
 go_back-requires-clause-rising c = λ marked.
     let few : c.args.output.now.slots ≤ 65536 = omega (arith, c.blocks-2.ensures.in_range.slots) in
     let below : c.loop-n.n - 1 < length c.args.input.now.nodes = omega (arith, c.loop-n-test.true, c.loop-n.invariant.0) in
-    rw c.deref_mut.ensures.value (marked_rises c.args.input.now c.args.output.now c.args.rows.now c.requires.form few (c.loop-n.n - 1) c.loop-n.n c.loop-n.lists.items below c.loop-n.invariant.1 marked)
+    let count = ap length (c.as_slice-instructions.ensures ∙ c.nodes.ensures.nodes) in
+    let are_said : IsSaid c.args.input.now c.args.output.now c.args.rows.now c.in_ok-said.said = subst (IsSaid c.args.input.now c.args.output.now c.args.rows.now) (sym (c.in_ok-said.ensures ∙ ap (λ k. spread_on c.args.rows.now (replicate k [])) count)) (rows_said c.args.input.now c.args.output.now c.args.rows.now c.requires.form) in
+    marked_rises c.args.input.now c.args.output.now c.args.rows.now c.requires.form few (c.loop-n.n - 1) c.in_ok-said.said below are_said marked
 
 pub loop-n-preserved : goal.loop-n-preserved
 loop-n-preserved c =
@@ -38,7 +40,9 @@ loop-n-preserved c =
     let next : n ≡ suc (n - 1) = omega (arith, c.loop-n-test.true) in
     let known : IsKnownFrom input output rows (suc (n - 1)) c.deref_mut.result.now =
     subst (IsKnownFrom input output rows (suc (n - 1))) (sym c.deref_mut.ensures.value) (subst (λ k. IsKnownFrom input output rows k c.loop-n.lists.items) next c.loop-n.invariant.1) in
-    let told = c.in_ok-right.ensures rows known in
+    let count = ap length (c.as_slice-instructions.ensures ∙ c.nodes.ensures.nodes) in
+    let are_said : IsSaid input output rows c.in_ok-said.said = subst (IsSaid input output rows) (sym (c.in_ok-said.ensures ∙ ap (λ k. spread_on rows (replicate k [])) count)) (rows_said input output rows c.requires.form) in
+    let told = c.in_ok-right.ensures rows are_said known in
     let whole : length new ≡ c.loop-n.lists.len = omega (arith, c.go_back.auto.lists, c.deref_mut.ensures.len) in (
       omega (arith, c.loop-n.invariant.0),
       subst (IsKnownFrom input output rows (n - 1)) (sym (take_all new (drop (length new) c.loop-n.lists.items) c.loop-n.lists.len whole)) told.1,
@@ -55,7 +59,9 @@ loop-n-preserved-then-not-right c =
     let next : n ≡ suc (n - 1) = omega (arith, c.loop-n-test.true) in
     let known : IsKnownFrom input output rows (suc (n - 1)) c.deref_mut.result.now =
     subst (IsKnownFrom input output rows (suc (n - 1))) (sym c.deref_mut.ensures.value) (subst (λ k. IsKnownFrom input output rows k c.loop-n.lists.items) next c.loop-n.invariant.1) in
-    let told = c.in_ok-right.ensures rows known in
+    let count = ap length (c.as_slice-instructions.ensures ∙ c.nodes.ensures.nodes) in
+    let are_said : IsSaid input output rows c.in_ok-said.said = subst (IsSaid input output rows) (sym (c.in_ok-said.ensures ∙ ap (λ k. spread_on rows (replicate k [])) count)) (rows_said input output rows c.requires.form) in
+    let told = c.in_ok-right.ensures rows are_said known in
     let whole : length new ≡ c.loop-n.lists.len = omega (arith, c.go_back.auto.lists, c.deref_mut.ensures.len) in (
       omega (arith, c.loop-n.invariant.0),
       subst (IsKnownFrom input output rows (n - 1)) (sym (take_all new (drop (length new) c.loop-n.lists.items) c.loop-n.lists.len whole)) told.1,

@@ -1,27 +1,24 @@
-use Rattle.std.proofs.Common.{◌≡◌, ◌++◌, sym, ap, ◌∙◌}
-use Rattle.alloc_check_rules.specs.Rules.{equations_at}
-use Rattle.alloc_check_verdict.proofs.Taken.{taken_two, taken_both, behind_two, behind_both, left_is}
+use Rattle.std.proofs.Common.{◌≡◌, ◌++◌, sym, ap, ◌∙◌, arith}
+use Rattle.alloc_check_verdict.specs.Walk.{stands_at}
+use Rattle.alloc_check_verdict.proofs.Taken.{behind_two, behind_both, stands_still}
+use Rattle.alloc_check_verdict.proofs.walk.take_two.Goals.{then-other-node+in_ok-take_more-2, else-other-node}
 use Rattle.alloc_check_verdict.proofs.walk.take_two.Goals as goal
-
-pub returns-then-other-node-clause-equations : goal.returns-then-other-node-clause-equations
-returns-then-other-node-clause-equations c =
-    behind_both (equations_at c.args.lists.now) c.args.node c.args.other c.in_ok-found.found.items (sym c.if-other-node.true) (rw c.from.ensures at c.in_ok-found.ensures.facts)
-
-pub returns-then-other-node-clause-left : goal.returns-then-other-node-clause-left
-returns-then-other-node-clause-left c =
-    taken_both c.args.feeders.now c.args.node c.args.other c.args.lists.now c.take.new.lists (sym c.if-other-node.true) (rw c.from.ensures at c.in_ok-found.ensures.left)
 
 pub returns-clause-equations : goal.returns-clause-equations
 returns-clause-equations c =
+    let feeders = c.args.feeders.now in
+    let said = c.args.said.now in
     let lists = c.args.lists.now in
     let node = c.args.node in
     let other = c.args.other in
-    let kept : equations_at c.take.new.lists other ≡ equations_at lists other =
-    ap (λ ls. equations_at ls other) (rw c.from.ensures at c.in_ok-found.ensures.left) ∙ left_is c.args.feeders.now node other lists c.if-other-node.false in
-    let first : c.in_ok-found.found.items ≡ equations_at lists node = rw c.from.ensures at c.in_ok-found.ensures.facts in
-    let more : c.in_ok-more.more.items ≡ equations_at c.take.new.lists other = rw c.from-2.ensures at c.in_ok-more.ensures.facts in
-    behind_two (equations_at lists) node other c.extend_from_slice.new.self.items (c.in_ok-extend_from_slice.ensures.items ∙ ap (λ xs. xs ++ c.as_slice.result.now) first ∙ ap (λ xs. equations_at lists node ++ xs) (c.as_slice.ensures.value ∙ more ∙ kept))
-
-pub returns-clause-left : goal.returns-clause-left
-returns-clause-left c =
-    taken_two c.args.feeders.now c.args.node c.args.other c.args.lists.now c.take.new.lists c.take-2.new.lists (rw c.from.ensures at c.in_ok-found.ensures.left) (rw c.from-2.ensures at c.in_ok-more.ensures.left)
+    let first : c.take_more.new.found.items ≡ stands_at feeders said lists node =
+    c.in_ok-take_more.ensures.equations ∙ ap (λ es. es ++ stands_at feeders said lists node) c.new-found.ensures.items in
+    elim c.if-other-node.branch [
+      | then-other-node+in_ok-take_more-2 w ↦
+          let kept : stands_at feeders said c.take_more.new.lists other ≡ stands_at feeders said lists other =
+          ap (λ ls. stands_at feeders said ls other) c.in_ok-take_more.ensures.left ∙ stands_still feeders said node other lists w.if-other-node.true in
+          behind_two (stands_at feeders said lists) node other c.if-other-node.found.items
+          (ap (λ v. v.items) w.found-is ∙ w.in_ok-take_more-2.ensures.equations ∙ ap (λ es. es ++ stands_at feeders said c.take_more.new.lists other) first ∙ ap (λ es. stands_at feeders said lists node ++ es) kept)
+      | else-other-node w ↦
+          behind_both (stands_at feeders said lists) node other c.if-other-node.found.items (omega (arith, w.if-other-node.false)) (ap (λ v. v.items) w.found-is ∙ first)
+    ]

@@ -4,8 +4,8 @@ use Rattle.rtl_passes_facts.proofs.walk.are_made_or_kept.Goals as goal
 
 pub loop-fact-preserved : goal.loop-fact-preserved
 loop-fact-preserved g c =
-    left_on g.R.Rules.rules.rank (g.R.Rules.makes c.args.change) (g.R.Rules.keeps c.args.change c.args.instruction.now) c.args.before.now c.args.after.now c.loop-fact.left.now c.from_place-left.result.now c.loop-fact.fact-index c.fact-item.result c.fact-item.is c.loop-fact-test.true c.requires.after c.loop-fact.invariant (rw c.place.ensures.value at c.from_place-left.ensures.rising) (rw c.place.ensures.value at c.from_place-left.ensures.same) (c.is_known.ensures.0 c.if-not-is_known.false)
+    left_on g.R.Rules.rules.rank (g.R.Rules.makes c.args.change) (g.R.Rules.keeps c.args.change) c.args.before.now c.args.after.now c.loop-fact.left.now c.from_place-left.result.now c.loop-fact.fact-index c.fact-item.result c.fact-item.is c.loop-fact-test.true c.requires.after c.loop-fact.invariant (rw c.place.ensures.value at c.from_place-left.ensures.rising) (rw c.place.ensures.value at c.from_place-left.ensures.same) (c.is_known.ensures.0 c.if-not-is_known.false)
 
 pub returns-then-not-is_known : goal.returns-then-not-is_known
 returns-then-not-is_known g c =
-    unknown_here g.R.Rules.rules.rank (g.R.Rules.makes c.args.change) (g.R.Rules.keeps c.args.change c.args.instruction.now) c.args.before.now c.args.after.now c.loop-fact.left.now c.from_place-left.result.now c.loop-fact.fact-index c.fact-item.result c.fact-item.is c.loop-fact-test.true c.requires.after c.loop-fact.invariant (rw c.place.ensures.value at c.from_place-left.ensures.rising) (rw c.place.ensures.value at c.from_place-left.ensures.same) (iff_false c.is_known.ensures c.if-not-is_known.true)
+    unknown_here g.R.Rules.rules.rank (g.R.Rules.makes c.args.change) (g.R.Rules.keeps c.args.change) c.args.before.now c.args.after.now c.loop-fact.left.now c.from_place-left.result.now c.loop-fact.fact-index c.fact-item.result c.fact-item.is c.loop-fact-test.true c.requires.after c.loop-fact.invariant (rw c.place.ensures.value at c.from_place-left.ensures.rising) (rw c.place.ensures.value at c.from_place-left.ensures.same) (iff_false c.is_known.ensures c.if-not-is_known.true)

@@ -1,6 +1,0 @@
-use Rattle.std.proofs.Common.{◌≡◌, [], drop, replicate}
-use Rattle.rtl_passes_marks.specs.Handing.{spread_on}
-use Rattle.rtl_passes_marks.proofs.handing.spread.Given as goal
-
-abbrev pub invariant-loop-row : goal.invariant-loop-row
-invariant-loop-row g l = spread_on (drop l.row-index l.rows) l.lists.items ≡ spread_on l.rows (replicate l.nodes [])
