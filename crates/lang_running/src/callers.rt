@@ -1,19 +1,18 @@
 //! The callers that wait, on the heap: a deep recursion takes memory and no stack.
 
 ghost use Rattle.std.specs.Prelude.{◌≡◌, List, [], ◌∷◌, MatchOption, OnOk};
-ghost use Rattle.lang_running.specs.Waiting.{waiting_of};
 
 use lang_base::NoMemory;
 use std::alloc::Global;
 use std::marker::Model;
 
-/// A caller that waits: its function's number, the place where it goes on, its words, and where the result
-/// goes.
+/// A caller that waits: its function's number, the place where it goes on, where its words begin, and where the
+/// result goes.
 #[derive(Drop)]
 pub struct Caller<P: Drop, T: Drop> {
     pub function: usize,
     pub place: P,
-    pub words: Vec<Option<u32>>,
+    pub base: usize,
     pub target: T,
 }
 
@@ -25,14 +24,13 @@ pub(crate) struct Callers<P: Drop, T: Drop> {
 
 impl<P: Drop, T: Drop> Model for Callers<P, T> {
     ghost use Rattle.std.specs.Prelude.{List};
-    ghost use Rattle.lang_running.specs.Waiting.{Waiting};
+    ghost use Rattle.lang_running.specs.declared.callers.Caller.{Caller};
 
-    ghost Value = { List (Waiting P T) };
+    ghost Value = { List (Caller P T) };
 
-    ghost use Rattle.std.specs.Prelude.{map, reverse};
-    ghost use Rattle.lang_running.specs.Waiting.{waiting_of};
+    ghost use Rattle.std.specs.Prelude.{reverse};
 
-    ghost view = { λ callers. reverse (map waiting_of callers.waiting.items) };
+    ghost view = { λ callers. reverse callers.waiting.items };
 }
 
 impl<P: Drop, T: Drop> Callers<P, T> {
@@ -47,7 +45,7 @@ impl<P: Drop, T: Drop> Callers<P, T> {
 
     /// The nearest caller is this one.
     pub(crate) fn push(&mut self, caller: Caller<P, T>) -> Result<(), NoMemory>
-        ensures { OnOk result (self.new ≡ waiting_of caller ∷ self.old) }
+        ensures { OnOk result (self.new ≡ caller ∷ self.old) }
     {
         self.waiting.push(caller)?;
         Ok(())
@@ -57,7 +55,7 @@ impl<P: Drop, T: Drop> Callers<P, T> {
     pub(crate) fn pop(&mut self) -> Option<Caller<P, T>>
         ensures { MatchOption result
             ((self.old ≡ []) × (self.new ≡ []))
-            (λ caller. self.old ≡ waiting_of caller ∷ self.new) }
+            (λ caller. self.old ≡ caller ∷ self.new) }
     {
         self.waiting.pop()
     }

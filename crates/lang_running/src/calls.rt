@@ -1,11 +1,12 @@
 //! Calls and returns: a caller waits and its callee begins, or the nearest caller goes on.
 
-ghost use Rattle.std.specs.Prelude.{◌≡◌, ℕ, ◌∷◌, List, length, slice_get, IfOk, OnOk};
+ghost use Rattle.std.specs.Prelude.{◌≡◌, ℕ, ◌≤◌, ◌∷◌, List, length, take, drop, slice_get, IfOk, OnOk};
 ghost use Rattle.lang_base.specs.declared.program.Named.{Named};
 ghost use Rattle.lang_running.specs.Functions.{HasFunction};
+ghost use Rattle.lang_running.specs.Waiting.{AreApart};
 ghost use Rattle.lang_running.specs.Steps.{comes_back};
 ghost use Rattle.lang_running.specs.Fits.{CallersStand, CallersFit};
-ghost use Rattle.lang_running.specs.Runs.{state_of, RunFits, turned, WhereGone};
+ghost use Rattle.lang_running.specs.Runs.{callers_of, state_of, RunFits, turned, WhereGone};
 
 use crate::callers::Caller;
 use crate::leaving::{Callee, Leaving};
@@ -13,39 +14,42 @@ use crate::state::Running;
 use crate::stepping::Machine;
 use crate::turn::Turn;
 use lang_base::{Named, NoMemory};
-use std::mem;
 
-/// The running function waits for the callee, which begins.
+/// The running function waits for the callee, whose words begin here.
 fn enter<P: Copy + Drop, T: Copy + Drop>(
     run: &mut Running<P, T>,
     callee: Callee<P, T>,
+    base: usize,
 ) -> Result<(), NoMemory>
     ensures function { OnOk result (run.new.function ≡ callee.function) }
     ensures place { OnOk result (run.new.place ≡ callee.place) }
-    ensures words { OnOk result (run.new.words.items ≡ callee.words.items) }
+    ensures base { OnOk result (run.new.base ≡ base) }
+    ensures words { OnOk result (run.new.words.items ≡ run.old.words.items) }
     ensures globals { OnOk result (run.new.globals.items ≡ run.old.globals.items) }
     ensures callers { OnOk result (run.new.callers
-        ≡ record { function = run.old.function; place = callee.back; words = run.old.words.items; target = callee.target } ∷ run.old.callers) }
+        ≡ record { function = run.old.function; place = callee.back; base = run.old.base; target = callee.target } ∷ run.old.callers) }
 {
-    let words = mem::replace(&mut run.words, callee.words);
     run.callers.push(Caller {
         function: run.function,
         place: callee.back,
-        words,
+        base: run.base,
         target: callee.target,
     })?;
     run.function = callee.function;
     run.place = callee.place;
+    run.base = base;
     Ok(())
 }
 
 /// Goes back to the nearest caller with a value or none; where nobody waits the value is the result of
 /// the run.
 fn go_back<M: Machine>(run: &mut Running<M::Place, M::Target>, value: Option<u32>) -> Turn
-    requires { CallersStand M.can_resume run.old.callers }
+    requires stand { CallersStand M.can_resume (callers_of run.old) }
+    requires begun { run.old.base ≤ length run.old.words.items }
+    requires apart { AreApart run.old.callers run.old.base }
     ensures turn { (output : List ℕ) →
-        comes_back M.resumed run.old.callers value run.old.globals.items output ≡ turned result (state_of M.state run.new output) }
-    ensures fits { (functions : List (Named M.Function)) → CallersFit M.fits functions run.old.callers →
+        comes_back M.resumed (callers_of run.old) value run.old.globals.items output ≡ turned result (state_of M.state run.new output) }
+    ensures fits { (functions : List (Named M.Function)) → CallersFit M.fits functions (callers_of run.old) →
         WhereGone result (RunFits M.fits M.can_resume functions run.new) }
 {
     let Some(caller) = run.callers.pop() else {
@@ -54,13 +58,11 @@ fn go_back<M: Machine>(run: &mut Running<M::Place, M::Target>, value: Option<u32
             Some(word) => Turn::Ends(word),
         };
     };
-    let mut words = caller.words;
-    M::resume(&mut words, caller.target, value);
+    run.words.truncate(run.base);
     run.function = caller.function;
     run.place = caller.place;
-    let freed = mem::replace(&mut run.words, words);
-    // Without memory to keep them the words are let go.
-    let _ = run.pool.put(freed);
+    run.base = caller.base;
+    M::resume(run.words.slice_mut(run.base..), caller.target, value);
     Turn::Goes
 }
 
@@ -68,18 +70,28 @@ fn go_back<M: Machine>(run: &mut Running<M::Place, M::Target>, value: Option<u32
 pub(crate) fn leave<M: Machine>(
     run: &mut Running<M::Place, M::Target>,
     functions: &[Named<M::Function>],
+    ready: &[M::Ready],
     running: &M::Function,
 ) -> Result<Turn, NoMemory>
     requires running { HasFunction (slice_get functions.now run.old.function) running.now }
+    requires ready { M.are_ready ready.now running.now }
     requires fits { RunFits M.fits M.can_resume functions.now run.old }
     requires leaves { M.leaves running.now run.old.place }
     ensures turn { IfOk result (λ turn. (output : List ℕ) →
         M.next functions.now (state_of M.state run.old output) ≡ turned turn (state_of M.state run.new output)) }
     ensures fits { IfOk result (λ turn. WhereGone turn (RunFits M.fits M.can_resume functions.now run.new)) }
 {
-    match M::leave(functions, running, run.place, &run.words, &mut run.pool)? {
+    let base = run.words.len();
+    match M::leave(
+        functions,
+        ready,
+        running,
+        run.place,
+        run.base,
+        &mut run.words,
+    )? {
         Leaving::Calls(callee) => {
-            enter(run, callee)?;
+            enter(run, callee, base)?;
             Ok(Turn::Goes)
         }
         Leaving::Returns(value) => Ok(go_back::<M>(run, value)),

@@ -1,10 +1,9 @@
-/// A function that is called: its number, the place where it begins, its words, and of its caller where it goes on
-/// and where the result goes.
+/// A function that is called: its number, the place where it begins, and of its caller where it goes on and where the
+/// result goes.
 #[derive(Drop)]
 pub struct Callee<P: Drop, T: Drop> {
     pub function: usize,
     pub place: P,
-    pub words: Vec<Option<u32>>,
     pub back: P,
     pub target: T,
 }

@@ -1,17 +1,17 @@
 //! Runs of programs whose functions are decoded before: one loop for any language. It holds the fuel, the callers that
-//! wait, the globals and the words of functions that have returned, and prints; a language gives the steps between
-//! calls and returns, what a call begins, and how a caller goes on. Callers wait on the heap, so a deep recursion takes
-//! memory and no stack.
+//! wait, the globals and the words of all functions that run, and prints; a language gives the steps between calls and
+//! returns, what a call begins, and how a caller goes on. Callers wait on the heap, and the words of each function lie
+//! behind those of its caller: a deep recursion takes memory and no stack, and a call takes none that it had before.
 #![tactic(auto)]
 
 mod beginning;
 mod callers;
 mod calls;
 mod cells;
+mod fresh;
 mod functions;
 mod leaving;
 mod pieces;
-mod pool;
 mod preparing;
 mod running;
 mod starting;
@@ -21,9 +21,9 @@ mod stop;
 mod turn;
 
 pub use cells::Cells;
+pub use fresh::push_undefined;
 pub use functions::function_at;
 pub use leaving::{Callee, Leaving};
-pub use pool::Pool;
 pub use running::run;
 pub use stepping::Machine;
 pub use stop::Stop;

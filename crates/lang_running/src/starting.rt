@@ -7,7 +7,6 @@ ghost use Rattle.lang_running.specs.Runs.{state_of, RunFits};
 
 use crate::beginning::all_cells;
 use crate::callers::Callers;
-use crate::pool::Pool;
 use crate::state::Running;
 use crate::stepping::Machine;
 use lang_base::{Named, NoMemory, Program};
@@ -47,9 +46,9 @@ pub(crate) fn begin<M: Machine>(
     Ok(Running {
         function,
         place,
+        base: 0,
         words,
         globals,
         callers: Callers::new(alloc),
-        pool: Pool::new(alloc),
     })
 }
