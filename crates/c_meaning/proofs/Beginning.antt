@@ -1,7 +1,7 @@
 -- The start of a run: its cells, and main's caller.
 use Rattle.std.proofs.Common.{◌≡◌, ℕ, zero, suc, ◌+◌, List, [], ◌∷◌, ◌++◌, get_or, Some, None, refl, ap, ◌∙◌, add-one}
 use Rattle.c_program.specs.declared.action.Target.TheVariants.{Caller}
-use Rattle.c_program.specs.Meaning.{Outcome, Falls, Breaks, Continues, Returns, RunsOut, Fails, comes_back, shown, filled}
+use Rattle.c_program.specs.Meaning.{Outcome, Falls, Breaks, Continues, Returns, RunsOut, Fails, comes_back, goes_on, shown, filled}
 
 filled_suc : (n : ℕ) (words : List ℕ) → filled (suc n) words ≡ filled n words ++ get_or words n 0 ∷ []
 filled_suc zero [] = refl
@@ -13,7 +13,7 @@ pub filled_more : (n : ℕ) (words : List ℕ) → filled (n + 1) words ≡ fill
 filled_more n words = ap (λ k. filled k words) (add-one n) ∙ filled_suc n words
 
 -- a caller of main shows what main shows
-pub shown_main : (o : Outcome) → shown (comes_back Caller [] o) ≡ shown o
+pub shown_main : (o : Outcome) → shown (goes_on Falls (comes_back Caller [] o)) ≡ shown o
 shown_main (Falls s) = refl
 shown_main (Breaks s) = refl
 shown_main (Continues s) = refl

@@ -5,7 +5,8 @@ use Rattle.c_program.specs.declared.term.Term.{Term}
 use Rattle.c_program.specs.Trees.{TermTree}
 use Rattle.c_program.specs.Views.{term_tree}
 use Rattle.c_program.specs.State.{State, word, words, before}
-use Rattle.c_meaning.specs.Arguments.{IsPlaced}
+use Rattle.c_meaning_machine.specs.declared.scope.Scope.{Scope}
+use Rattle.c_meaning.specs.Arguments.{IsPlaced, AreWorth, ArePutBehind}
 
 -- words, and those behind them
 abbrev pub joined : List ℕ → Option (List ℕ) → Option (List ℕ)
@@ -55,6 +56,13 @@ placed_none (Some ws) before' after h = absurd h
 pub placed_some : (o : Option (List ℕ)) (before' after : List (Option ℕ)) → IsPlaced true o before' after → (ws : List ℕ) × ((o ≡ Some ws) × (after ≡ before' ++ map Some ws))
 placed_some None before' after h = absurd h
 placed_some (Some ws) before' after h = (ws, (refl, h))
+
+-- the words that arguments are worth, put behind the locals
+pub placed_not : (arguments : List Term) (old new : Scope) (ws : List ℕ) → AreWorth arguments old ws false → ArePutBehind arguments old new false
+placed_not arguments old new ws h = subst (λ o. IsPlaced false o old.locals.items new.locals.items) (sym h) tt
+
+pub placed_so : (arguments : List Term) (old new : Scope) (ws : List ℕ) → AreWorth arguments old ws true → new.locals.items ≡ old.locals.items ++ map Some ws → ArePutBehind arguments old new true
+placed_so arguments old new ws h e = subst (λ o. IsPlaced true o old.locals.items new.locals.items) (sym h) e
 
 -- the arguments' words among these variables, whatever is printed
 same_words : (terms terms' : List Term) (locals : List (Option ℕ)) (globals globals' : List (List ℕ)) (output : List ℕ) → terms ≡ terms' → globals ≡ globals' →

@@ -9,6 +9,8 @@ use Rattle.c_program.specs.Views.{term_tree, actions_tree, function_tree}
 use Rattle.c_program.specs.State.{State, words}
 use Rattle.c_program.specs.Meaning.{Outcome, Level, Falls, Fails, goes_on, exec_all, comes_back, ends, begins, enters, level, shown, start}
 use Rattle.c_meaning_machine.specs.declared.machine.Machine.{Machine}
+use Rattle.c_meaning_machine.specs.declared.scope.Scope.{Scope}
+use Rattle.c_meaning_machine.specs.Scopes.{state_of}
 use Rattle.c_meaning_machine.specs.Resume.{functions_of, here, later, resume}
 use Rattle.c_meaning_machine.specs.Stacks.{waiting}
 use Rattle.c_meaning_machine.specs.Costs.{Costs, body_cost, cost_all, level_cost}
@@ -21,11 +23,14 @@ IsPlaced true None before after = ⊥
 IsPlaced false (Some ws) before after = ⊥
 IsPlaced false None before after = Unit {0}
 
--- These arguments' words stand behind the locals, evaluated among those from the base on.
-abbrev pub ArePlaced : List Term → ℕ → List (List ℕ) → List (Option ℕ) → List (Option ℕ) → Bool → Type 0
-ArePlaced arguments base globals before after done =
-    let s : State = record { locals = drop base before; globals = globals; output = [] } in
-    IsPlaced done (words (map term_tree arguments) s) before after
+-- whether each argument has a word, and then these words
+abbrev pub AreWorth : List Term → Scope → List ℕ → Bool → Type 0
+AreWorth arguments scope ws true = words (map term_tree arguments) (state_of scope []) ≡ Some ws
+AreWorth arguments scope ws false = words (map term_tree arguments) (state_of scope []) ≡ None
+
+-- These arguments' words stand behind the locals, evaluated among those that stood there before.
+abbrev pub ArePutBehind : List Term → Scope → Scope → Bool → Type 0
+ArePutBehind arguments old new done = IsPlaced done (words (map term_tree arguments) (state_of old [])) old.locals.items new.locals.items
 
 -- what a function does on these arguments
 abbrev pub body_of : Level → FunctionTree → List ℕ → State → Outcome
@@ -36,11 +41,11 @@ body_of lower f arguments s = ends f.ending (exec_all lower f.body (begins f arg
 abbrev pub called_of : Machine → Target → ℕ → FunctionTree → List ℕ → Outcome
 called_of m target end f output =
     let functions = functions_of m in
-    let below = take end m.locals.items in
-    let s : State = record { locals = drop end m.locals.items ++ replicate (f.locals - f.parameters) None; globals = m.globals.items; output = output } in
-    resume functions (waiting m.left) (take m.base below)
+    let below = take end m.scope.locals.items in
+    let s : State = record { locals = drop end m.scope.locals.items ++ replicate (f.locals - f.parameters) None; globals = m.scope.globals.items; output = output } in
+    resume functions (waiting m.left) (take m.scope.base below)
     (goes_on (exec_all (level functions m.bound) (actions_tree m.actions.now))
-    (comes_back target (drop m.base below) (ends f.ending (exec_all (level functions (m.bound - 1)) f.body s))))
+    (comes_back target (drop m.scope.base below) (ends f.ending (exec_all (level functions (m.bound - 1)) f.body s))))
 
 -- With so many arguments, what enters the function of this number fails.
 abbrev pub EntersNone : List Function → ℕ → ℕ → Type 0

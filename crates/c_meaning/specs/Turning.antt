@@ -44,7 +44,7 @@ loop_behind_cost m c =
 
 abbrev pub loop_body_cost : Machine → Cycle → ℕ
 loop_body_cost m c =
-    1 + (cost (level_cost (functions_of m) c.bound) (action_tree c.body.now) + loop_behind_cost m c)
+    2 + (cost (level_cost (functions_of m) c.bound) (action_tree c.body.now) + loop_behind_cost m c)
 
 -- The answer to this part of a turn: with none, what is left is the loop from its head on, with this bound.
 abbrev pub TurnReaches : Machine → Machine → ℕ → Cycle → (State → Outcome) → Option Next → Type 0

@@ -12,8 +12,8 @@ ghost use Rattle.c_meaning_machine.specs.Steps.{next_cost};
 use crate::arriving::{arrive, store};
 use crate::calling::call;
 use crate::leaving::{breaks, continues, falls, returns};
-use crate::looping::{evaluate_here, listed, turn};
-use c_meaning_machine::{Cycle, Left, Machine, Next, set_local};
+use crate::looping::{listed, turn};
+use c_meaning_machine::{Cycle, Front, Left, Machine, Next, advance, evaluate};
 use c_program::{Action, Target, Term, Value};
 use lang_base::{NoMemory, Shown};
 
@@ -24,12 +24,12 @@ fn give<'a>(machine: &mut Machine<'a>, target: Target, value: &'a Value) -> Resu
     ensures cost { IfOk result (CostFalls machine.old machine.new (Give target (given_tree value.now))) }
 {
     match value {
-        Value::Term(term) => match evaluate_here(machine, term) {
+        Value::Term(term) => match evaluate(term, &machine.scope) {
             Some(word) => Ok(arrive(machine, target, word)),
             None => Ok(Next::Stops(Shown::Wrong)),
         },
         Value::Call(called) => call(machine, target, called),
-        Value::Put(term) => match evaluate_here(machine, term) {
+        Value::Put(term) => match evaluate(term, &machine.scope) {
             Some(word) => Ok(Next::Prints((word % 256) as u8, target)),
             None => Ok(Next::Stops(Shown::Wrong)),
         },
@@ -42,10 +42,10 @@ fn store_value(machine: &mut Machine, global: usize, index: &Term, value: &Term)
     ensures meaning { Does machine.old machine.new (Store global (term_tree index.now) (term_tree value.now)) result }
     ensures cost { next_cost result machine.new ≤ later_cost machine.old }
 {
-    let Some(index) = evaluate_here(machine, index) else {
+    let Some(index) = evaluate(index, &machine.scope) else {
         return Next::Stops(Shown::Wrong);
     };
-    let Some(word) = evaluate_here(machine, value) else {
+    let Some(word) = evaluate(value, &machine.scope) else {
         return Next::Stops(Shown::Wrong);
     };
     store(machine, global, index, word)
@@ -62,7 +62,7 @@ fn choose<'a>(
     ensures meaning { IfOk result (Does machine.old machine.new (choice_tree condition.now then.now other.now)) }
     ensures cost { IfOk result (CostFalls machine.old machine.new (choice_tree condition.now then.now other.now)) }
 {
-    let Some(word) = evaluate_here(machine, condition) else {
+    let Some(word) = evaluate(condition, &machine.scope) else {
         return Ok(Next::Stops(Shown::Wrong));
     };
     machine
@@ -81,7 +81,7 @@ fn act<'a>(machine: &mut Machine<'a>, action: &'a Action) -> Result<Next, NoMemo
     match action {
         Action::Nothing => Ok(Next::Goes),
         Action::Declare(local) => {
-            set_local(&mut machine.locals, machine.base, *local, None);
+            machine.scope.set_local(*local, None);
             Ok(Next::Goes)
         }
         Action::Sequence(all) => begin_sequence(machine, all.as_slice()),
@@ -128,16 +128,19 @@ fn begin_loop<'a>(
     turn(machine, cycle)
 }
 
-/// The next step: the next action, or where there is none, what waits.
+/// The next step: what only changes variables is done at once, then the action behind it, or where there is none,
+/// what waits.
+#[tactic(auto, using(c_meaning_machine::proofs::Stops::resume_fails))]
 pub fn step(machine: &mut Machine) -> Result<Next, NoMemory>
     ensures meaning { IfOk result (Reaches machine.old machine.new Falls) }
     ensures cost { IfOk result (λ next. next_cost next machine.new < later_cost machine.old) }
 {
-    match machine.actions {
-        [] => falls(machine),
-        [first, rest @ ..] => {
+    match advance(&mut machine.scope, machine.actions) {
+        Front::Wrong => Ok(Next::Stops(Shown::Wrong)),
+        Front::Done => falls(machine),
+        Front::Stays(action, rest) => {
             machine.actions = rest;
-            act(machine, first)
+            act(machine, action)
         }
     }
 }

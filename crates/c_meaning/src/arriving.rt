@@ -7,7 +7,7 @@ ghost use Rattle.c_meaning_machine.specs.Costs.{later_cost};
 ghost use Rattle.c_meaning_machine.specs.Steps.{next_cost};
 
 use crate::leaving::returns;
-use c_meaning_machine::{Machine, Next, set_local, store_cell};
+use c_meaning_machine::{Machine, Next};
 use c_program::Target;
 use lang_base::Shown;
 
@@ -21,7 +21,7 @@ pub fn settle(machine: &mut Machine, target: Target, word: u32) -> Option<Next>
     match target {
         Target::Nowhere => Some(Next::Goes),
         Target::Local(number) => {
-            set_local(&mut machine.locals, machine.base, number, Some(word));
+            machine.scope.set_local(number, Some(word));
             Some(Next::Goes)
         }
         Target::Global(number) => Some(store(machine, number, 0, word)),
@@ -35,7 +35,7 @@ pub fn store(machine: &mut Machine, global: usize, index: u32, word: u32) -> Nex
     ensures meaning { Reaches machine.old machine.new (λ s. stores global s (Some index) (Some word)) result }
     ensures cost { next_cost result machine.new ≤ later_cost machine.old }
 {
-    if store_cell(&mut machine.globals, global, index, word) {
+    if machine.scope.set_cell(global, index, word) {
         Next::Goes
     } else {
         Next::Stops(Shown::Wrong)

@@ -1,33 +1,56 @@
 //! Calls of functions with a body.
 
-ghost use Rattle.std.specs.Prelude.{◌≡◌, ◌+◌, ◌<◌, ◌≤◌, [], ◌++◌, IfOk, OnOk, IfSome, IfNone, length, replicate};
+ghost use Rattle.std.specs.Prelude.{◌≡◌, ◌+◌, ◌<◌, ◌≤◌, [], ◌++◌, IfOk, OnOk, IfSome, IfNone, length, map, replicate};
 ghost use Rattle.c_program.specs.Meaning.{Calls};
-ghost use Rattle.c_meaning.specs.Arguments.{ArePlaced, EntersNone, Enters, CostsItsBody, Begins, called_cost};
+ghost use Rattle.c_meaning.specs.Arguments.{ArePutBehind, AreWorth, EntersNone, Enters, CostsItsBody, Begins, called_cost};
 ghost use Rattle.c_meaning.specs.Parts.{call_tree};
 ghost use Rattle.c_meaning.specs.Reaching.{Does, CostsAtMost};
 ghost use Rattle.c_meaning_machine.specs.Costs.{later_cost};
 
-use c_meaning_machine::{Cells, Left, Machine, Next, Waiting, evaluate, frame};
+use c_meaning_machine::{Left, Machine, Next, Scope, Waiting, evaluate};
 use c_program::{Called, Function, Target, Term};
 use lang_base::{NoMemory, Shown};
 
-/// The arguments' words are put behind the locals: whether each has one. They are evaluated among the locals
-/// from the base on that stood there before.
-fn push_arguments(
-    arguments: &[Term],
-    locals: &mut Vec<Option<u32>>,
-    base: usize,
-    globals: &[Cells],
-) -> Result<bool, NoMemory>
-    ensures { IfOk result (ArePlaced arguments.now base globals.now locals.old.items locals.new.items) }
+/// The words of arguments: whether each has one.
+fn evaluated(arguments: &[Term], scope: &Scope, words: &mut Vec<u32>) -> Result<bool, NoMemory>
+    ensures { IfOk result (AreWorth arguments.now scope.now words.new.items) }
 {
-    let end = locals.len();
+    words.truncate(0);
     for argument in arguments {
-        match evaluate(argument, frame(&locals[..end], base), globals) {
+        match evaluate(argument, scope) {
             None => return Ok(false),
-            Some(word) => locals.push(Some(word))?,
+            Some(word) => words.push(word)?,
         }
     }
+    Ok(true)
+}
+
+/// Words are put behind the locals.
+#[tactic(auto, using(std::proofs::lemmas::List::map_push))]
+fn push_words(locals: &mut Vec<Option<u32>>, words: &[u32]) -> Result<(), NoMemory>
+    ensures { OnOk result (locals.new.items ≡ locals.old.items ++ map Some words.now) }
+{
+    for word in words {
+        locals.push(Some(*word))?;
+    }
+    Ok(())
+}
+
+/// The arguments' words are put behind the locals: whether each has one.
+#[tactic(auto, using(crate::proofs::Placing::placed_not, crate::proofs::Placing::placed_so))]
+fn push_arguments(
+    arguments: &[Term],
+    scope: &mut Scope,
+    words: &mut Vec<u32>,
+) -> Result<bool, NoMemory>
+    ensures placed { IfOk result (ArePutBehind arguments.now scope.old scope.new) }
+    ensures base { scope.new.base ≡ scope.old.base }
+    ensures globals { scope.new.globals.items ≡ scope.old.globals.items }
+{
+    if !evaluated(arguments, scope, words)? {
+        return Ok(false);
+    }
+    push_words(&mut scope.locals, words)?;
     Ok(true)
 }
 
@@ -70,23 +93,22 @@ fn begin<'a>(
     function: &'a Function,
 ) -> Result<(), NoMemory>
     requires bound { 0 < machine.old.bound }
-    requires end { end ≤ length machine.old.locals.items }
+    requires end { end ≤ length machine.old.scope.locals.items }
     ensures meaning { OnOk result (Begins machine.old machine.new target end function.now) }
     ensures cost { OnOk result (later_cost machine.new ≤ called_cost machine.old function.now + later_cost machine.old) }
 {
     push_blank(
-        &mut machine.locals,
+        &mut machine.scope.locals,
         function.locals.saturating_sub(function.parameters),
     )?;
-    machine
-        .left
-        .push(Left::Rest(machine.bound, machine.actions))?;
     machine.left.push(Left::Back(Waiting {
         ending: function.ending,
         target,
-        base: machine.base,
+        base: machine.scope.base,
+        bound: machine.bound,
+        actions: machine.actions,
     }))?;
-    machine.base = end;
+    machine.scope.base = end;
     machine.bound -= 1;
     machine.actions = function.body.as_slice();
     Ok(())
@@ -101,14 +123,9 @@ pub fn call<'a>(
     ensures meaning { IfOk result (Does machine.old machine.new (call_tree target called.now)) }
     ensures cost { IfOk result (CostsAtMost machine.old machine.new (Calls called.now.function [])) }
 {
-    let end = machine.locals.len();
+    let end = machine.scope.locals.len();
     let arguments = called.arguments.as_slice();
-    if !push_arguments(
-        arguments,
-        &mut machine.locals,
-        machine.base,
-        &machine.globals,
-    )? {
+    if !push_arguments(arguments, &mut machine.scope, &mut machine.words)? {
         return Ok(Next::Stops(Shown::Wrong));
     }
     if machine.bound == 0 {

@@ -3,7 +3,7 @@
 ghost use Rattle.std.specs.Prelude.{◌≡◌, ◌+◌, ◌≤◌, IfOk, IfSome, IfNone};
 ghost use Rattle.c_program.specs.Meaning.{Breaks, Continues, Returns, Falls, ends};
 ghost use Rattle.c_meaning.specs.Reaching.{ReachesRest, ReachesCaller, ComesBack};
-ghost use Rattle.c_meaning_machine.specs.Costs.{rest_cost};
+ghost use Rattle.c_meaning_machine.specs.Costs.{back_cost, rest_cost};
 ghost use Rattle.c_meaning_machine.specs.Stacks.{waiting};
 ghost use Rattle.c_meaning_machine.specs.Steps.{next_cost};
 
@@ -51,15 +51,16 @@ pub fn continues(machine: &mut Machine) -> Result<Next, NoMemory>
 /// A callee has returned to a caller that no more stands on the stack. Where the caller returns the same
 /// word, that is left to the caller of this.
 #[tactic(auto, using(c_meaning_machine::proofs::Stops::resume_fails))]
-fn come_back(machine: &mut Machine, caller: Waiting, word: Option<u32>) -> Option<Next>
-    ensures meaning { ComesBack machine.old machine.new caller word result }
-    ensures cost { IfSome result (λ next. next_cost next machine.new ≤ 1 + rest_cost machine.old) }
+fn come_back<'a>(machine: &mut Machine<'a>, caller: Waiting<'a>, word: Option<u32>) -> Option<Next>
+    ensures meaning { ComesBack machine.old machine.new caller.entry word result }
+    ensures cost { IfSome result (λ next. next_cost next machine.new ≤ back_cost machine.old caller.entry) }
     ensures left { IfNone result (waiting machine.new.left ≡ waiting machine.old.left) }
     ensures functions { IfNone result (machine.new.functions ≡ machine.old.functions) }
 {
-    machine.locals.truncate(machine.base);
-    machine.base = caller.base;
-    machine.actions = &[];
+    machine.scope.locals.truncate(machine.scope.base);
+    machine.scope.base = caller.base;
+    machine.bound = caller.bound;
+    machine.actions = caller.actions;
     match word {
         Some(word) => settle(machine, caller.target, word),
         None if caller.target == Target::Nowhere => Some(Next::Goes),
@@ -87,9 +88,9 @@ pub fn returns(machine: &mut Machine, word: Option<u32>) -> Next
 
 /// The end of a function's body is reached.
 #[tactic(auto, using(c_meaning_machine::proofs::Stops::resume_fails))]
-fn reach_end(machine: &mut Machine, caller: Waiting) -> Next
-    ensures meaning { ReachesCaller machine.old machine.new caller (λ s. ends caller.ending (Falls s)) result }
-    ensures cost { next_cost result machine.new ≤ 1 + rest_cost machine.old }
+fn reach_end<'a>(machine: &mut Machine<'a>, caller: Waiting<'a>) -> Next
+    ensures meaning { ReachesCaller machine.old machine.new caller.entry (λ s. ends caller.entry.ending (Falls s)) result }
+    ensures cost { next_cost result machine.new ≤ back_cost machine.old caller.entry }
 {
     let word = match caller.ending {
         Ending::Returns => None,

@@ -10,17 +10,10 @@ ghost use Rattle.c_meaning_machine.specs.AtOnce.{holds};
 ghost use Rattle.c_meaning_machine.specs.Costs.{Costs, cost, cost_all};
 ghost use Rattle.c_meaning_machine.specs.Resume.{here};
 
-use c_meaning_machine::{Cycle, Left, Machine, Next, at_once, evaluate, frame};
+use c_meaning_machine::{Cycle, Front, Left, Machine, Next, advance, evaluate};
 use c_program::{Action, Term};
 use lang_base::{NoMemory, Shown};
 use std::slice;
-
-/// What an expression is worth in the running function.
-pub fn evaluate_here(machine: &Machine, term: &Term) -> Option<u32>
-    ensures { result ≡ word (term_tree term.now) (here machine.now []) }
-{
-    evaluate(term, frame(&machine.locals, machine.base), &machine.globals)
-}
 
 /// An action as some in order.
 #[tactic(auto, using(c_meaning_machine::proofs::Levels::goes_on_to_nothing, c_program::proofs::Sequences::view_sequence))]
@@ -38,7 +31,7 @@ pub fn listed(action: &Action) -> &[Action]
 fn holds_here(machine: &Machine, condition: &Term) -> Option<bool>
     ensures { result ≡ option_map holds (word (term_tree condition.now) (here machine.now [])) }
 {
-    let word = evaluate_here(machine, condition)?;
+    let word = evaluate(condition, &machine.scope)?;
     Some(word != 0)
 }
 
@@ -84,20 +77,16 @@ fn body_turn<'a>(machine: &mut Machine<'a>, cycle: Cycle<'a>) -> Result<Option<N
     ensures meaning { IfOk result (TurnsBody machine.old machine.new cycle.entry) }
     ensures cost { IfOk result (BodyCostsAtMost machine.old machine.new cycle.entry) }
 {
-    match at_once(
-        &mut machine.locals,
-        machine.base,
-        &mut machine.globals,
-        cycle.body,
-    ) {
-        None => {
+    match advance(&mut machine.scope, listed(cycle.body)) {
+        Front::Wrong => Ok(Some(Next::Stops(Shown::Wrong))),
+        Front::Done => behind_turn(machine, cycle),
+        Front::Stays(action, rest) => {
             machine.left.push(Left::Body(cycle))?;
+            machine.left.push(Left::Rest(cycle.bound, rest))?;
             machine.bound = cycle.bound;
-            machine.actions = listed(cycle.body);
+            machine.actions = listed(action);
             Ok(Some(Next::Goes))
         }
-        Some(false) => Ok(Some(Next::Stops(Shown::Wrong))),
-        Some(true) => behind_turn(machine, cycle),
     }
 }
 
@@ -107,20 +96,16 @@ fn behind_turn<'a>(machine: &mut Machine<'a>, cycle: Cycle<'a>) -> Result<Option
     ensures meaning { IfOk result (TurnsBehind machine.old machine.new cycle.entry) }
     ensures cost { IfOk result (BehindCostsAtMost machine.old machine.new cycle.entry) }
 {
-    match at_once(
-        &mut machine.locals,
-        machine.base,
-        &mut machine.globals,
-        cycle.behind,
-    ) {
-        None => {
+    match advance(&mut machine.scope, listed(cycle.behind)) {
+        Front::Wrong => Ok(Some(Next::Stops(Shown::Wrong))),
+        Front::Done => Ok(None),
+        Front::Stays(action, rest) => {
             machine.left.push(Left::Behind(cycle))?;
+            machine.left.push(Left::Rest(cycle.bound, rest))?;
             machine.bound = cycle.bound;
-            machine.actions = listed(cycle.behind);
+            machine.actions = listed(action);
             Ok(Some(Next::Goes))
         }
-        Some(false) => Ok(Some(Next::Stops(Shown::Wrong))),
-        Some(true) => Ok(None),
     }
 }
 

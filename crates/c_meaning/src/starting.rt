@@ -5,7 +5,7 @@ ghost use Rattle.c_program.specs.Meaning.{cells_of};
 ghost use Rattle.c_meaning.specs.Arguments.{StartsMain};
 
 use crate::calling::push_blank;
-use c_meaning_machine::{Cells, Left, Machine, Stack, Waiting};
+use c_meaning_machine::{Cells, Left, Machine, Scope, Stack, Waiting};
 use c_program::{Function, GlobalVariable, Target};
 use lang_base::NoMemory;
 use std::alloc::Global;
@@ -57,14 +57,19 @@ pub fn start<'a>(
         ending: main.ending,
         target: Target::Caller,
         base: 0,
+        bound,
+        actions: &[],
     }))?;
     Ok(Machine {
         functions,
         bound,
         actions: main.body.as_slice(),
         left,
-        locals,
-        base: 0,
-        globals: all_cells(alloc, globals)?,
+        scope: Scope {
+            locals,
+            base: 0,
+            globals: all_cells(alloc, globals)?,
+        },
+        words: Vec::new(alloc),
     })
 }

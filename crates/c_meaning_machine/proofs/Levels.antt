@@ -34,9 +34,9 @@ level_calls functions zero f arguments s h = absurd (omega arith)
 level_calls functions (suc n) f arguments s h = ap (λ k. enters (level functions k) (slice_get functions f) arguments s) (sym (less n))
 
 pub cost_turns : (functions : List FunctionTree) (n : ℕ) (c : TermTree) (body behind : ActionTree) → 0 < n →
-    level_cost functions n (Turns c body behind) ≡ 1 + (cost (level_cost functions (n - 1)) body + behind_cost (level_cost functions (n - 1)) c body behind)
+    level_cost functions n (Turns c body behind) ≡ 2 + (cost (level_cost functions (n - 1)) body + behind_cost (level_cost functions (n - 1)) c body behind)
 cost_turns functions zero c body behind h = absurd (omega arith)
-cost_turns functions (suc n) c body behind h = ap (λ k. 1 + (cost (level_cost functions k) body + behind_cost (level_cost functions k) c body behind)) (sym (less n))
+cost_turns functions (suc n) c body behind h = ap (λ k. 2 + (cost (level_cost functions k) body + behind_cost (level_cost functions k) c body behind)) (sym (less n))
 
 pub cost_calls : (functions : List FunctionTree) (n f : ℕ) (arguments : List ℕ) → 0 < n → level_cost functions n (Calls f arguments) ≡ 2 + body_cost (level_cost functions (n - 1)) (slice_get functions f)
 cost_calls functions zero f arguments h = absurd (omega arith)

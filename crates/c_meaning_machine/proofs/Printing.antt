@@ -4,7 +4,7 @@ use Rattle.lang_base.specs.Behaviour.{IsBeginningOf}
 use Rattle.lang_base.proofs.Beginnings.{IsBeginningOf-refl, IsBeginningOf-trans}
 use Rattle.c_program.specs.Trees.{FunctionTree}
 use Rattle.c_program.specs.Views.{term_tree, action_tree, actions_tree}
-use Rattle.c_program.specs.Meaning.{Outcome, Falls, Breaks, Continues, Returns, RunsOut, Fails, goes_on, exec_all, arrives, ends, level, shown}
+use Rattle.c_program.specs.Meaning.{Outcome, Falls, Breaks, Continues, Returns, RunsOut, Fails, goes_on, exec_all, arrives, comes_back, ends, level, shown}
 use Rattle.c_program.specs.Growth.{PrintsOn, prints-goes_on, prints-exec_all, prints-after_body, prints-turns_again, prints-comes_back, prints-ends, prints-level, prints-arrives}
 use Rattle.c_meaning_machine.specs.declared.left.Left.{Left}
 use Rattle.c_meaning_machine.specs.declared.left.Left.TheVariants.{Rest, Body, Behind, Back}
@@ -28,8 +28,11 @@ prints_rest functions (Behind c ∷ left) below printed o h =
     prints_rest functions left below printed _
     (prints-turns_again (level functions c.bound) (prints-level functions c.bound) printed (term_tree c.condition.now) (action_tree c.body.now) (action_tree c.behind.now) o h)
 prints_rest functions (Back c ∷ left) below printed o h =
-    prints_rest functions left (take c.base below) printed _
-    (prints-comes_back printed c.target (drop c.base below) (ends c.ending o) (prints-ends printed c.ending o h))
+    let lower = level functions c.bound in
+    let back = comes_back c.target (drop c.base below) (ends c.ending o) in
+    prints_rest functions left (take c.base below) printed (goes_on (exec_all lower (actions_tree c.actions.now)) back)
+    (prints-goes_on printed (exec_all lower (actions_tree c.actions.now)) back (prints-exec_all lower (prints-level functions c.bound) (actions_tree c.actions.now))
+    (prints-comes_back printed c.target (drop c.base below) (ends c.ending o) (prints-ends printed c.ending o h)))
 
 prints_shown : (printed : List ℕ) (o : Outcome) → PrintsOn printed o → IsBeginningOf printed (shown o).output
 prints_shown printed (Falls s) h = h
@@ -45,7 +48,7 @@ prints_later m printed o h =
     let functions = functions_of m in
     let next = exec_all (level functions m.bound) (actions_tree m.actions.now) in
     prints_shown printed (later m o)
-    (prints_rest functions (waiting m.left) (take m.base m.locals.items) printed (goes_on next o)
+    (prints_rest functions (waiting m.left) (take m.scope.base m.scope.locals.items) printed (goes_on next o)
     (prints-goes_on printed next o (prints-exec_all (level functions m.bound) (prints-level functions m.bound) (actions_tree m.actions.now)) h))
 
 pub prints_on : (next : Next) (m : Machine) (printed : List ℕ) → IsBeginningOf printed (shows next m printed).output

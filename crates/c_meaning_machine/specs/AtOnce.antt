@@ -1,40 +1,65 @@
 -- What is done at once, without the stack.
-use Rattle.std.specs.Prelude.{◌≡◌, ℕ, Bool, true, false, not, List, drop, Option, Some, None, ◌==◌}
+use Rattle.std.specs.Prelude.{◌≡◌, ℕ, ◌+◌, ◌≤◌, Bool, true, false, not, List, Option, Some, None, ◌==◌}
 use Rattle.c_program.specs.declared.term.Term.{Term}
 use Rattle.c_program.specs.declared.action.Action.{Action}
 use Rattle.c_program.specs.declared.action.Target.TheVariants.{Local}
 use Rattle.c_program.specs.Trees.{ActionTree, Give, Plain, Store}
 use Rattle.c_program.specs.Values.{value}
-use Rattle.c_program.specs.Views.{term_tree, action_tree}
-use Rattle.c_program.specs.Meaning.{Level, Falls, Fails, exec}
+use Rattle.c_program.specs.Views.{term_tree, action_tree, actions_tree}
+use Rattle.c_program.specs.Meaning.{Level, Falls, Fails, goes_on, exec, exec_all}
+use Rattle.c_meaning_machine.specs.declared.plain.Front.{Front}
+use Rattle.c_meaning_machine.specs.declared.plain.Front.TheVariants.{Wrong, Done, Stays}
+use Rattle.c_meaning_machine.specs.declared.scope.Scope.{Scope}
+use Rattle.c_meaning_machine.specs.Scopes.{variables_of, state_of}
+use Rattle.c_meaning_machine.specs.Costs.{Costs, cost, cost_all}
 
 -- a condition holds where its word is not 0
 abbrev pub holds : ℕ → Bool
 holds w = not (w == 0)
 
 -- an action was done at once, by what was answered: nothing is done, it fell through, or it went wrong
-abbrev pub Ran : Option Bool → ActionTree → List (Option ℕ) → List (List ℕ) → List (Option ℕ) → List (List ℕ) → Type 0
-Ran None t locals globals locals' globals' = (locals' ≡ locals) × (globals' ≡ globals)
-Ran (Some true) t locals globals locals' globals' =
-    (lower : Level) (output : List ℕ) → exec lower t (record { locals = locals; globals = globals; output = output }) ≡ Falls (record { locals = locals'; globals = globals'; output = output })
-Ran (Some false) t locals globals locals' globals' =
-    (lower : Level) (output : List ℕ) → exec lower t (record { locals = locals; globals = globals; output = output }) ≡ Fails output
-
--- The same of an action as it stands in memory, among the locals from a base on.
-abbrev pub RanAt : ℕ → Option Bool → Action → List (Option ℕ) → List (List ℕ) → List (Option ℕ) → List (List ℕ) → Type 0
-RanAt base answer action locals globals locals' globals' =
-    Ran answer (action_tree action) (drop base locals) globals (drop base locals') globals'
+abbrev pub Ran : Option Bool → ActionTree → Scope → Scope → Type 0
+Ran None t old new = new ≡ old
+Ran (Some true) t old new = (lower : Level) (output : List ℕ) → exec lower t (state_of old output) ≡ Falls (state_of new output)
+Ran (Some false) t old new = (lower : Level) (output : List ℕ) → exec lower t (state_of old output) ≡ Fails output
 
 -- A local became what an expression gives, if it gives something.
-abbrev pub Assigned : ℕ → Bool → ℕ → Term → List (Option ℕ) → List (List ℕ) → List (Option ℕ) → Type 0
-Assigned base done number term locals globals locals' =
-    Ran (Some done) (Give (Local number) (Plain (term_tree term))) (drop base locals) globals (drop base locals') globals
+abbrev pub Assigned : Bool → ℕ → Term → Scope → Scope → Type 0
+Assigned done number term old new = Ran (Some done) (Give (Local number) (Plain (term_tree term))) old new
 
 -- A cell became what an expression gives, if both are there.
-abbrev pub Stored : ℕ → Bool → ℕ → Term → Term → List (Option ℕ) → List (List ℕ) → List (List ℕ) → Type 0
-Stored base done global index term locals globals globals' =
-    Ran (Some done) (Store global (term_tree index) (term_tree term)) (drop base locals) globals (drop base locals) globals'
+abbrev pub Stored : Bool → ℕ → Term → Term → Scope → Scope → Type 0
+Stored done global index term old new = Ran (Some done) (Store global (term_tree index) (term_tree term)) old new
 
--- The expression gives this among the locals, whatever the globals are.
-abbrev pub IsWorth : Term → List (Option ℕ) → Option ℕ → Type 0
-IsWorth term locals word = (globals : List (List ℕ)) → word ≡ value (record { locals = locals; globals = globals }) (term_tree term)
+-- The expression gives this.
+abbrev pub IsWorth : Term → Scope → Option ℕ → Type 0
+IsWorth term s word = word ≡ value (variables_of s) (term_tree term)
+
+-- One action does what another does here.
+abbrev pub Chooses : Action → Scope → Action → Type 0
+Chooses one s other =
+    (lower : Level) (output : List ℕ) → exec lower (action_tree one) (state_of s output) ≡ exec lower (action_tree other) (state_of s output)
+
+-- It goes wrong here.
+abbrev pub ChoosesNone : Action → Scope → Type 0
+ChoosesNone one s = (lower : Level) (output : List ℕ) → exec lower (action_tree one) (state_of s output) ≡ Fails output
+
+-- It costs no more.
+abbrev pub CostsNoMore : Action → Action → Type 0
+CostsNoMore one other = (lower : Costs) → cost lower (action_tree other) ≤ cost lower (action_tree one)
+
+-- What these actions have come to: they went wrong, they fell through, or this one is done next and then the rest.
+abbrev pub Comes : Front → List Action → Scope → Scope → Type 0
+Comes Wrong actions old new = (lower : Level) (output : List ℕ) → exec_all lower (actions_tree actions) (state_of old output) ≡ Fails output
+Comes Done actions old new =
+    (lower : Level) (output : List ℕ) → exec_all lower (actions_tree actions) (state_of old output) ≡ Falls (state_of new output)
+Comes (Stays action rest) actions old new =
+    (lower : Level) (output : List ℕ) →
+    exec_all lower (actions_tree actions) (state_of old output) ≡ goes_on (exec_all lower (actions_tree rest.now)) (exec lower (action_tree action.now) (state_of new output))
+
+-- What is left of them costs no more than they did.
+abbrev pub ComesCheaper : Front → List Action → Type 0
+ComesCheaper Wrong actions = Unit {0}
+ComesCheaper Done actions = Unit {0}
+ComesCheaper (Stays action rest) actions =
+    (lower : Costs) → cost lower (action_tree action.now) + cost_all lower (actions_tree rest.now) ≤ cost_all lower (actions_tree actions)

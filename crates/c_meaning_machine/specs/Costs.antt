@@ -5,6 +5,7 @@ use Rattle.c_program.specs.Views.{term_tree, action_tree, actions_tree}
 use Rattle.c_program.specs.Meaning.{Work, Turns, Calls}
 use Rattle.c_meaning_machine.specs.declared.left.Left.{Left}
 use Rattle.c_meaning_machine.specs.declared.left.Left.TheVariants.{Rest, Body, Behind, Back}
+use Rattle.c_meaning_machine.specs.declared.left.Waiting.{Waiting}
 use Rattle.c_meaning_machine.specs.declared.machine.Machine.{Machine}
 use Rattle.c_meaning_machine.specs.Stacks.{waiting}
 use Rattle.c_meaning_machine.specs.Resume.{functions_of, work_of}
@@ -37,7 +38,7 @@ abbrev mutual
 
 -- what is done behind a body, and the next turn
 abbrev pub behind_cost : Costs → TermTree → ActionTree → ActionTree → ℕ
-behind_cost lower c body behind = 1 + (cost lower behind + lower (Turns c body behind))
+behind_cost lower c body behind = 2 + (cost lower behind + lower (Turns c body behind))
 
 abbrev pub body_cost : Costs → Option FunctionTree → ℕ
 body_cost lower None = 0
@@ -47,7 +48,7 @@ body_cost lower (Some f) = cost_all lower f.body
 abbrev pub level_cost : List FunctionTree → ℕ → Costs
 level_cost functions zero work = 1
 level_cost functions (suc n) (Turns c body behind) =
-    1 + (cost (level_cost functions n) body + behind_cost (level_cost functions n) c body behind)
+    2 + (cost (level_cost functions n) body + behind_cost (level_cost functions n) c body behind)
 level_cost functions (suc n) (Calls f arguments) = 2 + body_cost (level_cost functions n) (slice_get functions f)
 
 -- what is left
@@ -58,7 +59,7 @@ left_cost functions (Body c ∷ left) =
     behind_cost (level_cost functions c.bound) (term_tree c.condition.now) (action_tree c.body.now) (action_tree c.behind.now) + left_cost functions left
 left_cost functions (Behind c ∷ left) =
     level_cost functions c.bound (work_of c) + left_cost functions left
-left_cost functions (Back c ∷ left) = 1 + left_cost functions left
+left_cost functions (Back c ∷ left) = 1 + (cost_all (level_cost functions c.bound) (actions_tree c.actions.now) + left_cost functions left)
 
 -- what waits on the machine's stack
 abbrev pub rest_cost : Machine → ℕ
@@ -67,3 +68,7 @@ rest_cost m = left_cost (functions_of m) (waiting m.left)
 -- what is done behind the present action, and what waits
 abbrev pub later_cost : Machine → ℕ
 later_cost m = 1 + (cost_all (level_cost (functions_of m) m.bound) (actions_tree m.actions.now) + rest_cost m)
+
+-- what a caller that no more stands on the stack does, and what waits
+abbrev pub back_cost : Machine → Waiting → ℕ
+back_cost m c = 1 + (cost_all (level_cost (functions_of m) c.bound) (actions_tree c.actions.now) + rest_cost m)

@@ -1,3 +1,4 @@
+pub mod Scopes
 pub mod AtOnce
 pub mod Stacks
 pub mod Resume

@@ -9,6 +9,7 @@ use Rattle.c_meaning_machine.specs.declared.left.Left.{Left}
 use Rattle.c_meaning_machine.specs.declared.left.Waiting.{Waiting}
 use Rattle.c_meaning_machine.specs.declared.left.Left.TheVariants.{Rest, Body, Behind, Back}
 use Rattle.c_meaning_machine.specs.declared.machine.Machine.{Machine}
+use Rattle.c_meaning_machine.specs.Scopes.{state_of}
 use Rattle.c_meaning_machine.specs.Stacks.{waiting}
 
 -- What is done behind an outcome, the top of the stack first. The callers' locals lie below those of the
@@ -20,7 +21,8 @@ resume functions (Body c ∷ left) below o =
     resume functions left below (after_body (level functions c.bound) (term_tree c.condition.now) (action_tree c.body.now) (action_tree c.behind.now) o)
 resume functions (Behind c ∷ left) below o =
     resume functions left below (turns_again (level functions c.bound) (term_tree c.condition.now) (action_tree c.body.now) (action_tree c.behind.now) o)
-resume functions (Back c ∷ left) below o = resume functions left (take c.base below) (comes_back c.target (drop c.base below) (ends c.ending o))
+resume functions (Back c ∷ left) below o =
+    resume functions left (take c.base below) (goes_on (exec_all (level functions c.bound) (actions_tree c.actions.now)) (comes_back c.target (drop c.base below) (ends c.ending o)))
 
 -- a loop from its head on
 abbrev pub work_of : Cycle → Work
@@ -32,11 +34,11 @@ functions_of m = map function_tree m.functions.now
 
 -- what is done behind an outcome of what is done now
 abbrev pub rest_of : Machine → Outcome → Outcome
-rest_of m o = resume (functions_of m) (waiting m.left) (take m.base m.locals.items) o
+rest_of m o = resume (functions_of m) (waiting m.left) (take m.scope.base m.scope.locals.items) o
 
 -- the state of the running function, where so much is printed
 abbrev pub here : Machine → List ℕ → State
-here m output = record { locals = drop m.base m.locals.items; globals = m.globals.items; output = output }
+here m output = state_of m.scope output
 
 -- what is done behind the present action
 abbrev pub later : Machine → Outcome → Outcome
@@ -45,5 +47,6 @@ later m o = rest_of m (goes_on (exec_all (level (functions_of m) m.bound) (actio
 -- what is done behind an outcome of a callee whose caller stands no more on the stack
 abbrev pub back_of : Machine → Waiting → Outcome → Outcome
 back_of m c o =
-    let below = take m.base m.locals.items in
-    resume (functions_of m) (waiting m.left) (take c.base below) (comes_back c.target (drop c.base below) o)
+    let below = take m.scope.base m.scope.locals.items in
+    resume (functions_of m) (waiting m.left) (take c.base below)
+    (goes_on (exec_all (level (functions_of m) c.bound) (actions_tree c.actions.now)) (comes_back c.target (drop c.base below) o))

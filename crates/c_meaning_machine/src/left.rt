@@ -9,13 +9,15 @@ pub struct Cycle<'a> {
     pub behind: &'a Action,
 }
 
-/// A caller that waits: what the end of the callee's body means, where the callee's word goes, and where the
-/// caller's locals begin.
+/// A caller that waits: what the end of the callee's body means, where the callee's word goes, where the
+/// caller's locals begin, and what it does then, with its bound.
 #[derive(Clone, Copy)]
-pub struct Waiting {
+pub struct Waiting<'a> {
     pub ending: Ending,
     pub target: Target,
     pub base: usize,
+    pub bound: u32,
+    pub actions: &'a [Action],
 }
 
 /// What is left to do behind what is done now.
@@ -28,5 +30,5 @@ pub enum Left<'a> {
     /// A loop at the end of a turn: what is done now stands behind its body.
     Behind(Cycle<'a>),
     /// The caller of the function that runs now.
-    Back(Waiting),
+    Back(Waiting<'a>),
 }

@@ -4,21 +4,19 @@
 
 mod cells;
 mod evaluation;
-mod globals;
 mod left;
-mod locals;
 mod machine;
 mod next;
 mod operators;
 mod plain;
+mod scope;
 mod stack;
 
 pub use cells::Cells;
 pub use evaluation::evaluate;
-pub use globals::store_cell;
 pub use left::{Cycle, Left, Waiting};
-pub use locals::{frame, set_local};
 pub use machine::Machine;
 pub use next::Next;
-pub use plain::at_once;
+pub use plain::{Front, advance};
+pub use scope::Scope;
 pub use stack::Stack;

@@ -1,4 +1,4 @@
-use crate::cells::Cells;
+use crate::scope::Scope;
 use crate::stack::Stack;
 use c_program::{Action, Function};
 
@@ -12,9 +12,7 @@ pub struct Machine<'a> {
     pub actions: &'a [Action],
     /// What is done behind it.
     pub left: Stack<'a>,
-    /// The locals of the functions that run, each behind its caller's.
-    pub locals: Vec<Option<u32>>,
-    /// Where the running function's locals begin.
-    pub base: usize,
-    pub globals: Vec<Cells>,
+    pub scope: Scope,
+    /// Space for the words of arguments.
+    pub words: Vec<u32>,
 }

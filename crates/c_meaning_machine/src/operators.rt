@@ -24,6 +24,10 @@ pub fn on_two(op: Op, x: u32, y: u32) -> Option<u32>
         Op::AddS => sum(x, y),
         Op::SubS => difference(x, y),
         Op::AddU => Some(x.wrapping_add(y)),
+        Op::SubU => Some(x.wrapping_sub(y)),
+        Op::MulU => Some(x.wrapping_mul(y)),
+        Op::DivU => x.checked_div(y),
+        Op::ModU => x.checked_rem(y),
         Op::And => Some(x & y),
         Op::Or => Some(x | y),
         Op::Xor => Some(x ^ y),
@@ -31,6 +35,8 @@ pub fn on_two(op: Op, x: u32, y: u32) -> Option<u32>
         Op::Ne => Some(u32::from(x != y)),
         Op::LtS => Some(u32::from(x.cast_signed() < y.cast_signed())),
         Op::LeS => Some(u32::from(x.cast_signed() <= y.cast_signed())),
+        Op::LtU => Some(u32::from(x < y)),
+        Op::LeU => Some(u32::from(x <= y)),
         _ => by_table(op, x, y),
     }
 }

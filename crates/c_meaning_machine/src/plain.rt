@@ -1,52 +1,92 @@
 //! Actions that need no stack: they are done at once.
 
-ghost use Rattle.std.specs.Prelude.{◌≡◌, take};
-ghost use Rattle.c_meaning_machine.specs.AtOnce.{RanAt, Assigned, Stored};
+ghost use Rattle.std.specs.Prelude.{◌≡◌, IfSome, IfNone, take};
+ghost use Rattle.c_meaning_machine.specs.AtOnce.{Ran, Assigned, Stored, Chooses, ChoosesNone, Comes, ComesCheaper, CostsNoMore};
+ghost use Rattle.c_program.specs.Views.{action_tree};
 
-use crate::cells::Cells;
-use crate::evaluation::evaluate;
-use crate::globals::store_cell;
-use crate::locals::{frame, set_local};
+use crate::evaluation::{evaluate, operand};
+use crate::scope::Scope;
 use c_program::{Action, Target, Term, Value};
 
+/// What some actions have come to, once those in front that only change variables are done.
+#[derive(Clone, Copy)]
+pub enum Front<'a> {
+    /// One of them has gone wrong.
+    Wrong,
+    /// All are done.
+    Done,
+    /// This action needs the stack, and these stand behind it.
+    Stays(&'a Action, &'a [Action]),
+}
+
+/// Does the actions in front that only change variables, and chooses where an `if` stands.
+pub fn advance<'a>(scope: &mut Scope, actions: &'a [Action]) -> Front<'a>
+    ensures meaning { Comes result actions.now scope.old scope.new }
+    ensures cost { ComesCheaper result actions.now }
+    ensures base { scope.new.base ≡ scope.old.base }
+    ensures below { take scope.old.base scope.new.locals.items ≡ take scope.old.base scope.old.locals.items }
+{
+    let mut left = actions;
+    while let [first, rest @ ..] = left {
+        match chosen(scope, first) {
+            None => return Front::Wrong,
+            Some(action) => match at_once(scope, action) {
+                Some(true) => left = rest,
+                Some(false) => return Front::Wrong,
+                None => return Front::Stays(action, rest),
+            },
+        }
+    }
+    Front::Done
+}
+
+/// What an action chooses, while it is an `if`: none where a condition goes wrong.
+fn chosen<'a>(scope: &Scope, action: &'a Action) -> Option<&'a Action>
+    ensures some { IfSome result (λ chosen. Chooses action.now scope.now chosen.now) }
+    ensures none { IfNone result (ChoosesNone action.now scope.now) }
+    ensures cost { IfSome result (λ chosen. CostsNoMore action.now chosen.now) }
+{
+    let mut found = action;
+    while let Action::If(condition, then, other) = found {
+        let word = evaluate(condition, scope)?;
+        if word == 0 {
+            found = other;
+        } else {
+            found = then;
+        }
+    }
+    Some(found)
+}
+
 /// Does an action at once, if it only changes variables: then whether it does not go wrong.
-#[inline(always)]
-pub fn at_once(
-    locals: &mut Vec<Option<u32>>,
-    base: usize,
-    globals: &mut Vec<Cells>,
-    action: &Action,
-) -> Option<bool>
-    ensures ran { RanAt base result action.now locals.old.items globals.old.items locals.new.items globals.new.items }
-    ensures below { take base locals.new.items ≡ take base locals.old.items }
+fn at_once(scope: &mut Scope, action: &Action) -> Option<bool>
+    ensures ran { Ran result (action_tree action.now) scope.old scope.new }
+    ensures base { scope.new.base ≡ scope.old.base }
+    ensures below { take scope.old.base scope.new.locals.items ≡ take scope.old.base scope.old.locals.items }
 {
     match action {
         Action::Nothing => Some(true),
-        Action::Give(Target::Local(number), Value::Term(term)) => {
-            Some(assign(locals, base, globals, *number, term))
+        Action::Declare(number) => {
+            scope.set_local(*number, None);
+            Some(true)
         }
-        Action::Store(global, index, value) => {
-            Some(store(locals, base, globals, *global, index, value))
-        }
+        Action::Give(Target::Local(number), Value::Term(term)) => Some(assign(
+            scope, *number, term,
+        )),
+        Action::Store(global, index, value) => Some(store(scope, *global, index, value)),
         _ => None,
     }
 }
 
 /// A local becomes what an expression gives: whether it gives something.
-#[inline(always)]
-fn assign(
-    locals: &mut Vec<Option<u32>>,
-    base: usize,
-    globals: &[Cells],
-    number: usize,
-    term: &Term,
-) -> bool
-    ensures ran { Assigned base result number term.now locals.old.items globals.now locals.new.items }
-    ensures below { take base locals.new.items ≡ take base locals.old.items }
+fn assign(scope: &mut Scope, number: usize, term: &Term) -> bool
+    ensures ran { Assigned result number term.now scope.old scope.new }
+    ensures base { scope.new.base ≡ scope.old.base }
+    ensures below { take scope.old.base scope.new.locals.items ≡ take scope.old.base scope.old.locals.items }
 {
-    match evaluate(term, frame(locals, base), globals) {
+    match evaluate(term, scope) {
         Some(word) => {
-            set_local(locals, base, number, Some(word));
+            scope.set_local(number, Some(word));
             true
         }
         None => false,
@@ -54,21 +94,16 @@ fn assign(
 }
 
 /// A cell becomes what an expression gives: whether both are there.
-fn store(
-    locals: &[Option<u32>],
-    base: usize,
-    globals: &mut Vec<Cells>,
-    global: usize,
-    index: &Term,
-    value: &Term,
-) -> bool
-    ensures { Stored base result global index.now value.now locals.now globals.old.items globals.new.items }
+fn store(scope: &mut Scope, global: usize, index: &Term, value: &Term) -> bool
+    ensures ran { Stored result global index.now value.now scope.old scope.new }
+    ensures base { scope.new.base ≡ scope.old.base }
+    ensures below { take scope.old.base scope.new.locals.items ≡ take scope.old.base scope.old.locals.items }
 {
-    let Some(index) = evaluate(index, frame(locals, base), globals) else {
+    let Some(index) = operand(index, scope) else {
         return false;
     };
-    let Some(word) = evaluate(value, frame(locals, base), globals) else {
+    let Some(word) = operand(value, scope) else {
         return false;
     };
-    store_cell(globals, global, index, word)
+    scope.set_cell(global, index, word)
 }

@@ -1,5 +1,5 @@
 -- By what the arguments are worth, whether the bound is spent, and whether there is such a function.
-use Rattle.std.proofs.Common.{◌≡◌, ℕ, ◌-◌, ◌<◌, List, [], ◌++◌, length, drop, take, map, Option, Some, None, sym, ap, ◌∙◌, rules, arith}
+use Rattle.std.proofs.Common.{◌≡◌, ℕ, ◌-◌, ◌<◌, List, [], ◌++◌, length, drop, take, map, Option, Some, None, refl, sym, ap, ◌∙◌, rules, arith}
 use Rattle.std.specs.Prelude.{replicate}
 use Rattle.std.proofs.lemmas.List.{take_at, drop_at}
 use Rattle.c_program.specs.Views.{actions_tree, function_tree}
@@ -17,56 +17,59 @@ pub returns-then-not-branch-clause-meaning : goal.returns-then-not-branch-clause
 returns-then-not-branch-clause-meaning c = λ output.
     let m = c.args.machine.now in
     let s = here m output in
-    let none = arguments_fail _ c.args.called.now.arguments s.locals m.locals.items c.push_arguments.new.locals.items _ m.globals.items output _ c.as_slice-arguments.ensures c.deref.ensures.value c.if-not-branch.true c.in_ok-push_arguments.ensures in
+    let none = arguments_fail _ c.args.called.now.arguments s.locals m.scope.locals.items c.push_arguments.new.scope.locals.items m.scope.globals.items m.scope.globals.items output _ c.as_slice-arguments.ensures refl c.if-not-branch.true c.in_ok-push_arguments.ensures.placed in
     let after = λ (arguments : Option (List ℕ)). shown (later m (calls (level (functions_of m) m.bound) c.args.called.now.function c.args.target s arguments)) in
-    sym (ap after none ∙ ap shown (resume_fails (functions_of m) (waiting m.left) (take m.base m.locals.items) output))
+    sym (ap after none ∙ ap shown (resume_fails (functions_of m) (waiting m.left) (take m.scope.base m.scope.locals.items) output))
 
 pub returns-then-machine-eq0-clause-meaning : goal.returns-then-machine-eq0-clause-meaning
 returns-then-machine-eq0-clause-meaning c = λ output.
     let m = c.args.machine.now in
     let s = here m output in
-    let given = arguments_given _ c.args.called.now.arguments s.locals m.locals.items c.push_arguments.new.locals.items _ m.globals.items output _ c.as_slice-arguments.ensures c.deref.ensures.value c.if-not-branch.false c.in_ok-push_arguments.ensures in
+    let given = arguments_given _ c.args.called.now.arguments s.locals m.scope.locals.items c.push_arguments.new.scope.locals.items m.scope.globals.items m.scope.globals.items output _ c.as_slice-arguments.ensures refl c.if-not-branch.false c.in_ok-push_arguments.ensures.placed in
     let after = λ (arguments : Option (List ℕ)). shown (later m (calls (level (functions_of m) m.bound) c.args.called.now.function c.args.target s arguments)) in
     let back = λ (o : Outcome). shown (later m (comes_back c.args.target s.locals o)) in
     sym
     (ap after given.1 ∙ ap back (level_none (functions_of m) m.bound _ s c.if-machine-eq0.true)
-    ∙ ap shown (resume_runs_out (functions_of m) (waiting m.left) (take m.base m.locals.items) output))
+    ∙ ap shown (resume_runs_out (functions_of m) (waiting m.left) (take m.scope.base m.scope.locals.items) output))
 
 pub returns-in-None-clause-meaning : goal.returns-in-None-clause-meaning
 returns-in-None-clause-meaning c = λ output.
     let m = c.args.machine.now in
     let s = here m output in
-    let given = arguments_given _ c.args.called.now.arguments s.locals m.locals.items c.push_arguments.new.locals.items _ m.globals.items output _ c.as_slice-arguments.ensures c.deref.ensures.value c.if-not-branch.false c.in_ok-push_arguments.ensures in
+    let given = arguments_given _ c.args.called.now.arguments s.locals m.scope.locals.items c.push_arguments.new.scope.locals.items m.scope.globals.items m.scope.globals.items output _ c.as_slice-arguments.ensures refl c.if-not-branch.false c.in_ok-push_arguments.ensures.placed in
     let bound : 0 < m.bound = omega arith in
     let after = λ (arguments : Option (List ℕ)). shown (later m (calls (level (functions_of m) m.bound) c.args.called.now.function c.args.target s arguments)) in
     let back = λ (o : Outcome). shown (later m (comes_back c.args.target s.locals o)) in
     sym
     (ap after given.1 ∙ ap back (level_calls (functions_of m) m.bound c.args.called.now.function given.0 s bound)
     ∙ ap back (c.in-None.ensures.missing (level (functions_of m) (m.bound - 1)) given.0 s given.3)
-    ∙ ap shown (resume_fails (functions_of m) (waiting m.left) (take m.base m.locals.items) output))
+    ∙ ap shown (resume_fails (functions_of m) (waiting m.left) (take m.scope.base m.scope.locals.items) output))
 
 pub returns-in_ok-begin-in-Some-clause-meaning : goal.returns-in_ok-begin-in-Some-clause-meaning
 returns-in_ok-begin-in-Some-clause-meaning c = λ output.
     let m = c.args.machine.now in
     let s = here m output in
     let f = function_tree c.in-Some.function.now in
-    let given = arguments_given _ c.args.called.now.arguments s.locals m.locals.items c.push_arguments.new.locals.items _ m.globals.items output _ c.as_slice-arguments.ensures c.deref.ensures.value c.if-not-branch.false c.in_ok-push_arguments.ensures in
+    let given = arguments_given _ c.args.called.now.arguments s.locals m.scope.locals.items c.push_arguments.new.scope.locals.items m.scope.globals.items m.scope.globals.items output _ c.as_slice-arguments.ensures refl c.if-not-branch.false c.in_ok-push_arguments.ensures.placed in
     let bound : 0 < m.bound = omega arith in
     let after = λ (arguments : Option (List ℕ)). shown (later m (calls (level (functions_of m) m.bound) c.args.called.now.function c.args.target s arguments)) in
     let back = λ (o : Outcome). shown (later m (comes_back c.args.target s.locals o)) in
     let functions = functions_of m in
-    let old = m.locals.items in
+    let old = m.scope.locals.items in
     let end = c.len-end.result in
-    let new = c.push_arguments.new.locals.items in
+    let new = c.push_arguments.new.scope.locals.items in
     let count : length old ≡ end = search (arith, rules) in
-    let stands = λ (below arguments : List (Option ℕ)).
-    let begun : State = record { locals = arguments ++ replicate (f.locals - f.parameters) None; globals = s.globals; output = output } in
-    shown (resume functions (waiting m.left) (take m.base below)
+    let scope = c.push_arguments.new.scope in
+    let stands = λ (base : ℕ) (globals : List (List ℕ)) (below arguments : List (Option ℕ)).
+    let begun : State = record { locals = arguments ++ replicate (f.locals - f.parameters) None; globals = globals; output = output } in
+    shown (resume functions (waiting m.left) (take base below)
     (goes_on (exec_all (level functions m.bound) (actions_tree m.actions.now))
-    (comes_back c.args.target (drop m.base below) (ends f.ending (exec_all (level functions (m.bound - 1)) f.body begun))))) in
+    (comes_back c.args.target (drop base below) (ends f.ending (exec_all (level functions (m.bound - 1)) f.body begun))))) in
     ap shown (c.in_ok-begin-in-Some.ensures.meaning output)
-    ∙ ap (λ below. stands below (drop end new)) (ap (take end) given.2 ∙ take_at old (map Some given.0) end count)
-    ∙ ap (stands old) (ap (drop end) given.2 ∙ drop_at old (map Some given.0) end count)
+    ∙ ap (λ base. stands base scope.globals.items (take end new) (drop end new)) c.in_ok-push_arguments.ensures.base
+    ∙ ap (λ globals. stands m.scope.base globals (take end new) (drop end new)) c.in_ok-push_arguments.ensures.globals
+    ∙ ap (λ below. stands m.scope.base s.globals below (drop end new)) (ap (take end) given.2 ∙ take_at old (map Some given.0) end count)
+    ∙ ap (stands m.scope.base s.globals old) (ap (drop end) given.2 ∙ drop_at old (map Some given.0) end count)
     ∙ sym
     (ap after given.1 ∙ ap back (level_calls functions m.bound c.args.called.now.function given.0 s bound)
     ∙ ap back (c.in-Some.ensures.found (level functions (m.bound - 1)) given.0 s given.3))

@@ -1,0 +1,71 @@
+ghost use Rattle.std.specs.Prelude.{◌≡◌, true, false, drop, slice_index_or, slice_set, take};
+ghost use Rattle.c_program.specs.Values.{cell_of};
+ghost use Rattle.c_program.specs.State.{put_cell};
+
+use crate::cells::Cells;
+
+/// What expressions read and plain actions change: the running function's locals and the globals.
+#[derive(Drop)]
+pub struct Scope {
+    /// The locals of the functions that run, each behind its caller's.
+    pub locals: Vec<Option<u32>>,
+    /// Where the running function's locals begin.
+    pub base: usize,
+    pub globals: Vec<Cells>,
+}
+
+impl Scope {
+    /// A local's word: none where it is indeterminate.
+    #[tactic(auto, using(crate::proofs::Frames::get_behind))]
+    pub fn local(&self, number: usize) -> Option<u32>
+        ensures { result ≡ slice_index_or (drop self.now.base self.now.locals.items) number None }
+    {
+        let count = self.locals.len();
+        if self.base < count && number < count - self.base {
+            self.locals[self.base + number]
+        } else {
+            None
+        }
+    }
+
+    /// A local becomes a word or indeterminate.
+    #[tactic(auto, using(std::proofs::lemmas::List::set_past, crate::proofs::Frames::set_behind))]
+    pub fn set_local(&mut self, number: usize, value: Option<u32>)
+        ensures base { self.new.base ≡ self.old.base }
+        ensures below { take self.old.base self.new.locals.items ≡ take self.old.base self.old.locals.items }
+        ensures frame { drop self.old.base self.new.locals.items
+            ≡ slice_set (drop self.old.base self.old.locals.items) number value }
+        ensures globals { self.new.globals.items ≡ self.old.globals.items }
+    {
+        let base = self.base;
+        let count = self.locals.len();
+        if base < count && number < count - base {
+            self.locals[base + number] = value;
+        }
+    }
+
+    /// A cell's word, where there is such a cell.
+    pub fn cell(&self, global: usize, index: u32) -> Option<u32>
+        ensures { result ≡ cell_of self.now.globals.items global index }
+    {
+        if global < self.globals.len() {
+            self.globals[global].get(index)
+        } else {
+            None
+        }
+    }
+
+    /// A cell becomes a word, where there is such a cell: else the answer is false.
+    pub fn set_cell(&mut self, global: usize, index: u32, word: u32) -> bool
+        ensures stored { result ≡ true → put_cell self.old.globals.items global index word ≡ Some self.new.globals.items }
+        ensures missing { result ≡ false → put_cell self.old.globals.items global index word ≡ None }
+        ensures base { self.new.base ≡ self.old.base }
+        ensures locals { self.new.locals.items ≡ self.old.locals.items }
+    {
+        if global >= self.globals.len() {
+            return false;
+        }
+        let cells = &mut self.globals[global];
+        cells.set(index, word)
+    }
+}
