@@ -25,7 +25,7 @@ PLAN = os.path.join(ROOT, "crates.txt")
 PATCH = os.path.join(ROOT, "bench", "compiled.patch")
 CFARM = os.path.join(ROOT, "crates", "cfarm", "out", "cfarm")
 LINKED = os.path.join(ROOT, "crates", "linked", "out", "linked")
-LINE = "linked: chains c_checker c_reader c_lexer lang linear_language anyhow rand_pcg rand_core\n"
+LINE = "linked: chains farm_nodes_source lang linear_language anyhow rand_pcg rand_core\n"
 LIMIT = str(2**63 - 1)
 GENERATORS = (1, 2, 3, 4)
 
