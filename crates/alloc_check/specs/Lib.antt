@@ -3,6 +3,6 @@ pub mod Slots
 pub mod Rows
 pub mod PassLaws
 pub use Rattle.alloc_check_rules.specs.Rules
-pub use Rattle.alloc_check_filled.specs.Allocated
-pub use Rattle.alloc_check_laws.specs.Text
+pub use Rattle.alloc_check_verdict.specs.Allocated
+pub use Rattle.alloc_check_verdict.specs.Text
 pub use Rattle.rtl_passes.specs.Faults

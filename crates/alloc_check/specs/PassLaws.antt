@@ -17,10 +17,10 @@ use Rattle.rtl_passes_marks.specs.Rows.{place_of, IsRow}
 use Rattle.rtl_passes_marks.proofs.Short.{few_between}
 use Rattle.alloc_check_rules.specs.declared.equation.Equation.{Equation}
 use Rattle.alloc_check_rules.specs.Rules.{EquationFits, IsInOrder}
-use Rattle.alloc_check_filled.specs.Allocated.{IsAllocated}
-use Rattle.alloc_check_laws.proofs.Sound.{sound}
-use Rattle.alloc_check_laws.specs.Text.{CertFits, cert_text}
-use Rattle.alloc_check_laws.proofs.Forms.{rows_of_equations}
+use Rattle.alloc_check_verdict.specs.Allocated.{IsAllocated}
+use Rattle.alloc_check_verdict.proofs.Passed.{sound}
+use Rattle.alloc_check_verdict.specs.Text.{CertFits, cert_text}
+use Rattle.alloc_check_verdict.proofs.Passed.{rows_of_equations}
 
 -- what is accepted keeps the meaning
 pub sound_law : (p : Program rtl.FunctionData) (q : Program ltl.FunctionData) → AllFit rtl.IsFunction p → AllFit ltl.IsFunction q → Accepted IsAllocated p q → Keeps (rtl_meaning.run p) (run q)

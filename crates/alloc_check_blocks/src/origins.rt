@@ -83,6 +83,9 @@ impl<'a> Origins<'a> {
     pub fn origin_of(&self, location: Location) -> Location
         ensures { result ≡ back self.now location }
     {
+        if self.moves.is_empty() {
+            return location;
+        }
         source_of(&self.sources, location)
     }
 }

@@ -14,6 +14,7 @@ use rtl_language::Instruction;
 use std::alloc::Global;
 
 /// Adds the equation before the block by which this one holds behind its first moves.
+#[inline(always)]
 pub(crate) fn push_before(
     out: &mut Vec<Equation>,
     block: &TracedBlock,

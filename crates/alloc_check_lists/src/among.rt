@@ -1,6 +1,6 @@
 //! Whether an equation is among others that are in order.
 
-ghost use Rattle.std.specs.Prelude.{◌↔◌, ◌≤◌, length, All, IsTrue, Contains};
+ghost use Rattle.std.specs.Prelude.{◌↔◌, ◌<◌, ◌≤◌, length, All, IsTrue, IfSome, IfNone, Contains};
 ghost use Rattle.alloc_check_lists.specs.Ranks.{RiseFrom, AreLower, AreNoLower};
 
 use alloc_check_fill::{is_same, rank};
@@ -26,26 +26,47 @@ fn first_from(equations: &[Equation], least: u64) -> usize
     low
 }
 
-/// Whether the equation is among these.
-fn is_among(equations: &[Equation], equation: &Equation) -> bool
+/// The place of the equation, none where it is not among these.
+fn place_of(equations: &[Equation], equation: &Equation) -> Option<usize>
     requires { RiseFrom 0 equations.now }
-    ensures { IsTrue result ↔ Contains equations.now equation.now }
+    ensures found { IfSome result (λ place. place < length equations.now × Contains equations.now equation.now) }
+    ensures absent { IfNone result (Contains equations.now equation.now → ⊥) }
 {
     let first = first_from(equations, rank(equation));
     if first == equations.len() {
-        return false;
+        return None;
     }
-    is_same(&equations[first], equation)
+    if !is_same(&equations[first], equation) {
+        return None;
+    }
+    Some(first)
 }
 
-/// Whether each of the others is among these.
+/// Whether the equation stands at this place.
+fn stands_at(equations: &[Equation], place: usize, equation: &Equation) -> bool
+    ensures { IsTrue result → (place < length equations.now × Contains equations.now equation.now) }
+{
+    if place >= equations.len() {
+        return false;
+    }
+    is_same(&equations[place], equation)
+}
+
+/// Whether each of the others is among these. Mostly they are in order, so each is looked for behind the one before it,
+/// and only else by halves.
 pub fn are_among(equations: &[Equation], others: &[Equation]) -> bool
     requires { RiseFrom 0 equations.now }
     ensures { IsTrue result ↔ All (Contains equations.now) others.now }
 {
+    let mut next = 0;
     for other in others {
-        if !is_among(equations, other) {
-            return false;
+        if stands_at(equations, next, other) {
+            next += 1;
+        } else {
+            let Some(place) = place_of(equations, other) else {
+                return false;
+            };
+            next = place + 1;
         }
     }
     true

@@ -19,9 +19,9 @@ use Rattle.alloc_check_rules.specs.Pairs.{successors_of}
 use Rattle.alloc_check_rules.specs.Rules.{EquationFits, equations_at, IsInOrder}
 use Rattle.alloc_check_fill.specs.Sets.{SameSet}
 use Rattle.alloc_check_fill.proofs.Fixed.{row_is}
-use Rattle.alloc_check_filled.specs.Allocated.{is_none, is_marked, filled, HasForm}
-use Rattle.alloc_check_filled.proofs.Marks.{fed_by}
-use Rattle.alloc_check_filled.proofs.Right.{at_rows}
+use Rattle.alloc_check_laws.specs.Allocated.{is_none, is_marked, filled, HasForm}
+use Rattle.alloc_check_laws.proofs.Marks.{fed_by}
+use Rattle.alloc_check_laws.proofs.Right.{at_rows}
 use Rattle.alloc_check_lists.specs.Ranks.{RiseFrom}
 use Rattle.alloc_check_verdict.specs.Walk.{stands_at, AreTaken, IsSaid, IsKnownFrom}
 use Rattle.alloc_check_lists.proofs.Ranks.{rise_ranks}

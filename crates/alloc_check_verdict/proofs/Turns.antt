@@ -22,8 +22,8 @@ use Rattle.alloc_check_fill.proofs.Members.{all_members}
 use Rattle.alloc_check_fill.proofs.Carried.{needed_same}
 use Rattle.alloc_check_fill.proofs.Blocks.{same_of, same_through, joined_sets, keeps_same, stands_keep, needs_there, keeps_stand}
 use Rattle.alloc_check_fill.proofs.Fixed.{needed_is}
-use Rattle.alloc_check_filled.specs.Allocated.{is_marked, filled}
-use Rattle.alloc_check_filled.proofs.Marks.{fed_by, entry_marked, within}
+use Rattle.alloc_check_laws.specs.Allocated.{is_marked, filled}
+use Rattle.alloc_check_laws.proofs.Marks.{fed_by, entry_marked, within}
 use Rattle.alloc_check_verdict.specs.Right.{BeginsRight}
 use Rattle.alloc_check_verdict.specs.Walk.{stands_at, IsSaid, IsKnownFrom}
 use Rattle.alloc_check_verdict.proofs.Known.{stands_marked, stands_fed}

@@ -7,7 +7,7 @@ use Rattle.rtl_passes.specs.Faults.{TellsFault}
 use Rattle.rtl_passes_marks.specs.declared.row.NodeRow.{NodeRow}
 use Rattle.alloc_check_rules.specs.declared.equation.Equation.{Equation}
 use Rattle.alloc_check_rules.specs.Rules.{HoldsAtEntry, IsRightAt}
-use Rattle.alloc_check_filled.specs.Allocated.{filled, HasForm}
+use Rattle.alloc_check_laws.specs.Allocated.{filled, HasForm}
 
 -- the equations of a node hold at the entry, if the node is that
 abbrev pub BeginsRight : rtl.FunctionData → ltl.FunctionData → ℕ → List Equation → Type 0

@@ -1,7 +1,7 @@
 //! Whether an output is accepted, and where it is not.
 
 ghost use Rattle.std.specs.Prelude.{◌↔◌, IsTrue, IfOk};
-ghost use Rattle.alloc_check_filled.specs.Allocated.{IsAllocated};
+ghost use Rattle.alloc_check_laws.specs.Allocated.{IsAllocated};
 ghost use Rattle.alloc_check_verdict.specs.Right.{TellsWhy};
 
 use crate::rows::{EquationLists, has_form};

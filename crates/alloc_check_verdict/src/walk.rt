@@ -13,7 +13,7 @@ ghost use Rattle.alloc_check_rules.specs.Rules.{equations_at, IsRightAt};
 ghost use Rattle.alloc_check_fill.specs.Fill.{behind, needed};
 ghost use Rattle.alloc_check_fill.specs.Needed.{Keeps};
 ghost use Rattle.alloc_check_fill.specs.Sets.{SameSet};
-ghost use Rattle.alloc_check_filled.specs.Allocated.{filled, HasForm};
+ghost use Rattle.alloc_check_laws.specs.Allocated.{filled, HasForm};
 ghost use Rattle.alloc_check_lists.specs.Ranks.{RiseFrom};
 ghost use Rattle.alloc_check_verdict.specs.Right.{BeginsRight};
 ghost use Rattle.alloc_check_verdict.specs.Walk.{stands_at, found_in, AreTaken, GoesBack};
@@ -39,8 +39,8 @@ fn take_one<'a>(
     node: u16,
 ) -> Found<'a>
     requires { node < length lists.old }
-    ensures equations { SameSet (found_in result) (flat_map (stands_at feeders.now said.now lists.old) (node ∷ [])) }
-    ensures left { AreTaken feeders.now (node ∷ []) lists.old lists.new }
+    ensures equations { found_in result ≡ stands_at feeders.now said.now lists.old node }
+    ensures left { lists.new ≡ left_by (slice_get feeders.now node) node lists.old }
 {
     let place = usize::from(node);
     if is_fed(feeders, place) {
@@ -50,50 +50,38 @@ fn take_one<'a>(
     }
 }
 
-/// The equations at a node, behind those that are there.
-fn take_more(
-    alloc: Global,
-    feeders: &[Option<u16>],
-    said: &Said<Equation>,
-    lists: &mut [Row<Equation>],
-    node: u16,
-    found: &mut Vec<Equation>,
-) -> Result<(), NoMemory>
-    requires { node < length lists.old }
-    ensures equations { OnOk result (found.new.items ≡ found.old.items ++ stands_at feeders.now said.now lists.old node) }
-    ensures left { OnOk result (lists.new ≡ left_by (slice_get feeders.now node) node lists.old) }
+/// Two lists in one, in memory for both.
+fn joined(alloc: Global, first: &[Equation], second: &[Equation]) -> Result<Vec<Equation>, NoMemory>
+    ensures { IfOk result (λ all. all.items ≡ first.now ++ second.now) }
 {
-    let place = usize::from(node);
-    if is_fed(feeders, place) {
-        let more = take(alloc, lists, place);
-        found.extend_from_slice(more.as_slice())?;
-    } else {
-        found.extend_from_slice(said.at(place))?;
-    }
-    Ok(())
+    let mut all = Vec::with_capacity(alloc, first.len().saturating_add(second.len()))?;
+    all.extend_from_slice(first)?;
+    all.extend_from_slice(second)?;
+    Ok(all)
 }
 
 /// The equations at two nodes, which may be one.
-fn take_two(
+fn take_two<'a>(
     alloc: Global,
     feeders: &[Option<u16>],
-    said: &Said<Equation>,
+    said: &Said<'a, Equation>,
     lists: &mut [Row<Equation>],
     node: u16,
     other: u16,
-) -> Result<Vec<Equation>, NoMemory>
+) -> Result<Found<'a>, NoMemory>
     requires node { node < length lists.old }
     requires other { other < length lists.old }
     ensures equations { IfOk result
-        (λ found. SameSet found.items (flat_map (stands_at feeders.now said.now lists.old) (node ∷ (other ∷ [])))) }
+        (λ found. SameSet (found_in found) (flat_map (stands_at feeders.now said.now lists.old) (node ∷ (other ∷ [])))) }
     ensures left { OnOk result (AreTaken feeders.now (node ∷ (other ∷ [])) lists.old lists.new) }
 {
-    let mut found = Vec::new(alloc);
-    take_more(alloc, feeders, said, lists, node, &mut found)?;
-    if other != node {
-        take_more(alloc, feeders, said, lists, other, &mut found)?;
+    let first = take_one(alloc, feeders, said, lists, node);
+    if other == node {
+        return Ok(first);
     }
-    Ok(found)
+    let second = take_one(alloc, feeders, said, lists, other);
+    let all = joined(alloc, equations_in(&first), equations_in(&second))?;
+    Ok(Found::Taken(all))
 }
 
 /// The equations where the instruction can go on. A list that was carried there is taken away, since
@@ -116,8 +104,7 @@ fn take_behind<'a>(
             Ok(take_one(alloc, feeders, said, lists, *successor))
         }
         Instruction::Branch { taken, other, .. } => {
-            let found = take_two(alloc, feeders, said, lists, *taken, *other)?;
-            Ok(Found::Taken(found))
+            take_two(alloc, feeders, said, lists, *taken, *other)
         }
         Instruction::Return { .. } => Ok(Found::Taken(Vec::new(alloc))),
     }
@@ -210,7 +197,7 @@ fn go_back(
 {
     let found = take_behind(alloc, feeders, said, lists, instruction)?;
     let found = equations_in(&found);
-    let mut needed = Vec::with_capacity(alloc, found.len())?;
+    let mut needed = Vec::with_capacity(alloc, found.len().saturating_add(4))?;
     let keeps = told_before(alloc, instruction, block, found, &mut needed)?;
     if !is_marked(input, feeders, n) {
         put_in_order(&mut needed);

@@ -11,3 +11,5 @@ pub use Rattle.rtl_parts.specs.Acts
 pub use Rattle.rtl_parts.specs.Fits
 pub use Rattle.lang_base.specs.Behaviour
 pub use Rattle.lang_base.specs.Machine
+pub use Rattle.rtl_parts.specs.declared.act.Act
+pub use Rattle.rtl_parts.specs.MachineFrames

@@ -14,3 +14,4 @@ pub use copying::copy_instruction;
 pub use function::Function;
 pub use instruction::Instruction;
 pub use language::Rtl;
+pub use rtl_parts::Register;

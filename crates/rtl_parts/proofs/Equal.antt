@@ -7,7 +7,7 @@ use Rattle.ints.specs.contracts.operators.Op as op_type
 use Rattle.ints.specs.contracts.conditions.Cond as cond_type
 use Rattle.ints.specs.contracts.operators.OpPartialEq.TheImpl as op_eq
 use Rattle.ints.specs.contracts.conditions.CondPartialEq.TheImpl as cond_eq
-use Rattle.machine.proofs.Equal.{Tells}
+pub use Rattle.machine.proofs.Equal.{Tells, tells_decides}
 use Rattle.rtl_parts.specs.declared.arguments.Arguments.TheVariants.{One, Two}
 use Rattle.rtl_parts.specs.declared.act.Act.TheVariants.{Nop, Constant, Move, Operate, Load, Store, Put}
 use Rattle.rtl_parts.specs.contracts.arguments.ArgumentsPartialEq.TheImpl as arguments_eq

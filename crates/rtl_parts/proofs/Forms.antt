@@ -18,7 +18,7 @@ use Rattle.ints.proofs.Codes.{codes_lead_back}
 use Rattle.ints.proofs.CondCodes.{cond_codes_lead_back}
 use Rattle.machine.specs.Fits.{AreDistinct}
 use Rattle.machine.proofs.Operators.{argument_count_range, cond_argument_count_range, code_small, cond_code_small}
-use Rattle.locations.proofs.Distinct.{each_both, both_each, none_same, same_none, keys_of, IsNewKey, each_distinct, distinct_each}
+use Rattle.machine.proofs.Distinct.{each_both, both_each, none_same, same_none, keys_of, IsNewKey, each_distinct, distinct_each}
 use Rattle.rtl_parts.specs.declared.arguments.Arguments.{Arguments}
 use Rattle.rtl_parts.specs.declared.arguments.Arguments.TheVariants.{One, Two}
 use Rattle.rtl_parts.specs.declared.act.Act.{Act}

@@ -3,3 +3,4 @@ pub mod Acts
 pub mod Fits
 pub mod Spelling
 pub mod Reading
+pub use Rattle.machine.specs.Frames as MachineFrames

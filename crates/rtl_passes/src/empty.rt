@@ -7,7 +7,7 @@ use std::alloc::Global;
 pub fn empty_lists<T: Drop>(alloc: Global, nodes: usize) -> Result<Row<Row<T>>, NoMemory>
     ensures { IfOk result (λ lists. lists ≡ replicate nodes []) }
 {
-    let mut lists = Vec::new(alloc);
+    let mut lists = Vec::with_capacity(alloc, nodes)?;
     for _ in 0..nodes {
         lists.push(Row::from_vec(Vec::new(alloc)))?;
     }

@@ -109,12 +109,36 @@ fn hand_behind<R: Rules>(
     if !feeds_any(feeders, n, input) {
         return Ok(());
     }
+    hand_carried::<R>(alloc, feeders, lists, n, input, facts)
+}
+
+/// The same without asking whether the node feeds any.
+fn hand_carried<R: Rules>(
+    alloc: Global,
+    feeders: &[Option<u16>],
+    lists: &mut [Row<R::Fact>],
+    n: u16,
+    input: &Instruction,
+    facts: Vec<R::Fact>,
+) -> Result<(), NoMemory>
+    requires { RiseFrom R.rules.rank 0 facts.items }
+    ensures { OnOk result (IsHandedBehind R.rules feeders.now n input.now facts.items lists.old lists.new) }
+{
     let mut facts = facts;
     carry::<R>(&mut facts, input)?;
     hand_on(alloc, feeders, lists, n, input, Row::from_vec(facts))
 }
 
-/// The same where the facts are a row's, which are copied only if they are handed on.
+/// The facts in memory of their own, with room for one that the instruction makes.
+fn copied_with_room<T: Copy>(alloc: Global, facts: &[T]) -> Result<Vec<T>, NoMemory>
+    ensures { IfOk result (λ copy. copy.items ≡ facts.now) }
+{
+    let mut copy = Vec::with_capacity(alloc, facts.len().saturating_add(1))?;
+    copy.extend_from_slice(facts)?;
+    Ok(copy)
+}
+
+/// Hands on what is known behind a row's facts, which are copied only if they are handed on.
 fn copy_behind<R: Rules>(
     alloc: Global,
     feeders: &[Option<u16>],
@@ -129,8 +153,8 @@ fn copy_behind<R: Rules>(
     if !feeds_any(feeders, n, input) {
         return Ok(());
     }
-    let copy = Vec::from_slice(alloc, facts)?;
-    hand_behind::<R>(alloc, feeders, lists, n, input, copy)
+    let copy = copied_with_room(alloc, facts)?;
+    hand_carried::<R>(alloc, feeders, lists, n, input, copy)
 }
 
 /// Whether the node keeps the rules where these facts stand at it. Edges to nodes that are not marked lead to what
@@ -238,6 +262,7 @@ fn leads_to_marked<R: Rules>(
 }
 
 /// Whether the facts at this node are known behind the instruction.
+#[inline(never)]
 fn leads_to<R: Rules>(
     said: &Said<R::Fact>,
     facts: &[R::Fact],

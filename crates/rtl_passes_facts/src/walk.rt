@@ -52,8 +52,34 @@ fn is_known<R: Rules>(change: R::Change, before: &[R::Fact], fact: &R::Fact) -> 
     is_made::<R>(change, fact) || (begin_with::<R>(before, fact) && R::is_kept(change, fact))
 }
 
+/// What is left of both lists behind the facts that stand first in both and are kept, which mostly all are.
+fn behind_front<'a, R: Rules>(
+    change: R::Change,
+    before: &'a [R::Fact],
+    after: &'a [R::Fact],
+) -> (&'a [R::Fact], &'a [R::Fact])
+    requires before { RiseFrom R.rules.rank 0 before.now }
+    requires after { RiseFrom R.rules.rank 0 after.now }
+    ensures before { RiseFrom R.rules.rank 0 result.0.now }
+    ensures after { RiseFrom R.rules.rank 0 result.1.now }
+    ensures same { All (IsMadeOrKept (R.makes change) (R.keeps change) before.now) after.now
+        ↔ All (IsMadeOrKept (R.makes change) (R.keeps change) result.0.now) result.1.now }
+{
+    let mut left = before;
+    let mut rest = after;
+    while let ([first, others @ ..], [fact, more @ ..]) = (left, rest) {
+        if !R::is_one(first, fact) || !R::is_kept(change, fact) {
+            break;
+        }
+        left = others;
+        rest = more;
+    }
+    (left, rest)
+}
+
 /// Whether each fact is made by the change, or known before and kept.
-fn are_made_or_kept<R: Rules>(change: R::Change, before: &[R::Fact], after: &[R::Fact]) -> bool
+#[inline(never)]
+fn are_looked_for<R: Rules>(change: R::Change, before: &[R::Fact], after: &[R::Fact]) -> bool
     requires before { RiseFrom R.rules.rank 0 before.now }
     requires after { RiseFrom R.rules.rank 0 after.now }
     ensures { IsTrue result ↔ All (IsMadeOrKept (R.makes change) (R.keeps change) before.now) after.now }
@@ -66,6 +92,16 @@ fn are_made_or_kept<R: Rules>(change: R::Change, before: &[R::Fact], after: &[R:
         }
     }
     true
+}
+
+/// The same; those that stand first in both lists and are kept are not looked for.
+fn are_made_or_kept<R: Rules>(change: R::Change, before: &[R::Fact], after: &[R::Fact]) -> bool
+    requires before { RiseFrom R.rules.rank 0 before.now }
+    requires after { RiseFrom R.rules.rank 0 after.now }
+    ensures { IsTrue result ↔ All (IsMadeOrKept (R.makes change) (R.keeps change) before.now) after.now }
+{
+    let (left, rest) = behind_front::<R>(change, before, after);
+    rest.is_empty() || are_looked_for::<R>(change, left, rest)
 }
 
 /// Whether each fact is known behind the instruction and those before it.

@@ -4,3 +4,4 @@ pub mod Marked
 pub mod Shapes
 pub mod Sound
 pub mod Places
+pub mod Rising

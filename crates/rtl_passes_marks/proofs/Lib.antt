@@ -2,3 +2,4 @@ pub mod Fed
 pub mod Feeders
 pub mod Short
 pub mod Handings
+pub mod Numbers

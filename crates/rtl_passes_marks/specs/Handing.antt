@@ -2,6 +2,14 @@
 use Rattle.std.specs.Prelude.{◌≡◌, ℕ, Bool, true, false, ◌||◌, List, [], ◌∷◌, Option, Some, None, nat_eq, slice_get, slice_set, slice_index_or, if◌then◌else◌}
 use Rattle.rtl_passes_marks.specs.declared.row.NodeRow.{NodeRow}
 
+abbrev pub entries_in : {A : Type 0} → Option (NodeRow A) → List A
+entries_in None = []
+entries_in (Some row) = row.entries
+
+-- the entries of the row of this number, none where there is none
+abbrev pub entries_by : {A : Type 0} → List (NodeRow A) → ℕ → List A
+entries_by rows k = entries_in (slice_get rows k)
+
 -- each row's entries at its node
 abbrev pub spread_on : {A : Type 0} → List (NodeRow A) → List (List A) → List (List A)
 spread_on [] lists = lists

@@ -23,7 +23,7 @@ pub enum Came {
 fn fresh(alloc: Global, nodes: usize) -> Result<Vec<Came>, NoMemory>
     ensures { IfOk result (λ table. table.items ≡ replicate nodes Never) }
 {
-    let mut table = Vec::new(alloc);
+    let mut table = Vec::with_capacity(alloc, nodes)?;
     for _ in 0..nodes {
         table.push(Came::Never)?;
     }
@@ -90,7 +90,7 @@ fn feeder_from(entry: u16, node: usize, came: Came) -> Option<u16>
 fn read_off(alloc: Global, entry: u16, table: &[Came]) -> Result<Vec<Option<u16>>, NoMemory>
     ensures { IfOk result (λ feeders. feeders.items ≡ feeders_from entry 0 table.now) }
 {
-    let mut feeders = Vec::new(alloc);
+    let mut feeders = Vec::with_capacity(alloc, table.len())?;
     for (node, came) in table.iter().enumerate() {
         feeders.push(feeder_from(entry, node, *came))?;
     }

@@ -1,6 +1,6 @@
 //! What rows say of each node, borrowed from them.
 
-ghost use Rattle.std.specs.Prelude.{◌≡◌, [], map, replicate, slice_index_or, slice_set, IfOk};
+ghost use Rattle.std.specs.Prelude.{◌≡◌, [], replicate, slice_index_or, slice_set, IfOk};
 ghost use Rattle.rtl_passes_marks.specs.Handing.{spread_on};
 
 use crate::row::NodeRow;
@@ -8,38 +8,41 @@ use lang_base::NoMemory;
 use std::alloc::Global;
 use std::marker::Model;
 
-/// The entries of each node's row, none where it has no row. They are borrowed, so a look-up copies none.
+/// The entries of each node's row, none where it has no row. They are borrowed, so a look-up copies none. Of each node
+/// the number of its row is kept, or how many rows there are.
 #[derive(Drop)]
 pub struct Said<'a, T> {
-    lists: Vec<&'a [T]>,
+    rows: &'a [NodeRow<T>],
+    places: Vec<usize>,
 }
 
 impl<'a, T> Model for Said<'a, T> {
     ghost use Rattle.std.specs.Prelude.{List, map};
+    ghost use Rattle.rtl_passes_marks.specs.Handing.{entries_by};
 
     ghost Value = { List (List T) };
 
-    ghost view = { λ said. map (λ list. list.now) said.lists.items };
+    ghost view = { λ said. map (entries_by said.rows.now) said.places.items };
 }
 
-/// Nothing at each of so many nodes.
-fn silent<'a, T>(alloc: Global, nodes: usize) -> Result<Vec<&'a [T]>, NoMemory>
-    ensures { IfOk result (λ lists. map (λ list. list.now) lists.items ≡ replicate nodes []) }
+/// This number at each of so many nodes.
+fn silent(alloc: Global, nodes: usize, number: usize) -> Result<Vec<usize>, NoMemory>
+    ensures { IfOk result (λ places. places.items ≡ replicate nodes number) }
 {
-    let mut lists: Vec<&'a [T]> = Vec::new(alloc);
+    let mut places = Vec::with_capacity(alloc, nodes)?;
     for _ in 0..nodes {
-        lists.push(&[])?;
+        places.push(number)?;
     }
-    Ok(lists)
+    Ok(places)
 }
 
-/// Puts the entries at a node, if that is there.
-fn say<'a, T>(lists: &mut [&'a [T]], node: u16, entries: &'a [T])
-    ensures { map (λ list. list.now) lists.new ≡ slice_set (map (λ list. list.now) lists.old) node entries.now }
+/// Puts the number at a node, if that is there.
+fn say(places: &mut [usize], node: u16, number: usize)
+    ensures { places.new ≡ slice_set places.old node number }
 {
     let place = usize::from(node);
-    if place < lists.len() {
-        lists[place] = entries;
+    if place < places.len() {
+        places[place] = number;
     }
 }
 
@@ -48,19 +51,22 @@ impl<'a, T> Said<'a, T> {
     pub fn of(alloc: Global, nodes: usize, rows: &'a [NodeRow<T>]) -> Result<Said<'a, T>, NoMemory>
         ensures { IfOk result (λ said. said ≡ spread_on rows.now (replicate nodes [])) }
     {
-        let mut lists = silent(alloc, nodes)?;
-        for row in rows {
-            say(&mut lists, row.node, row.entries.as_slice());
+        let mut places = silent(alloc, nodes, rows.len())?;
+        for (number, row) in rows.iter().enumerate() {
+            say(&mut places, row.node, number);
         }
-        Ok(Said { lists })
+        Ok(Said { rows, places })
     }
 
     /// What is said of a node.
     pub fn at(&self, node: usize) -> &'a [T]
         ensures { result.now ≡ slice_index_or self.now node [] }
     {
-        match self.lists.get(node) {
-            Some(list) => list,
+        match self.places.get(node) {
+            Some(place) => match self.rows.get(*place) {
+                Some(row) => row.entries.as_slice(),
+                None => &[],
+            },
             None => &[],
         }
     }

@@ -1,16 +1,20 @@
 use Rattle.std.proofs.Common.{◌≤◌, length, refl, arith}
 use Rattle.std.specs.Prelude.{Contains}
-use Rattle.std.proofs.lemmas.Bool.{iff_false}
 use Rattle.alloc_check_lists.proofs.Each.{holds_on, not_all, all_of}
+use Rattle.alloc_check_lists.proofs.among.are_among.Goals.{then-stands_at, else-stands_at+in-Some}
 use Rattle.alloc_check_lists.proofs.among.are_among.Goals as goal
 
-pub returns-then-not-is_among : goal.returns-then-not-is_among
-returns-then-not-is_among c =
-    not_all (Contains c.args.equations.now) c.args.others.now c.loop-other.other-index _ c.loop-other-test.true (iff_false c.is_among.ensures c.if-not-is_among.true)
+pub returns-in_default : goal.returns-in_default
+returns-in_default c =
+    not_all (Contains c.args.equations.now) c.args.others.now c.loop-other.other-index _ c.loop-other-test.true c.in_default.ensures.absent
 
 pub loop-other-preserved : goal.loop-other-preserved
 loop-other-preserved c =
-    holds_on (Contains c.args.equations.now) c.args.others.now c.loop-other.other-index _ c.loop-other-test.true c.loop-other.invariant (c.is_among.ensures.0 c.if-not-is_among.false)
+    let on = holds_on (Contains c.args.equations.now) c.args.others.now c.loop-other.other-index _ c.loop-other-test.true c.loop-other.invariant in
+    elim c.if-stands_at.branch [
+      | then-stands_at w ↦ on (c.stands_at.ensures w.if-stands_at.true).1
+      | else-stands_at+in-Some w ↦ on w.in-Some.ensures.found.1
+    ]
 
 pub returns : goal.returns
 returns c =

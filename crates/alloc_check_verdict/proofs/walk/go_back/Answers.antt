@@ -8,7 +8,7 @@ use Rattle.alloc_check_rules.specs.Rules.{equations_at}
 use Rattle.alloc_check_fill.specs.Fill.{needed}
 use Rattle.alloc_check_fill.specs.Sets.{SameSet}
 use Rattle.alloc_check_fill.proofs.Blocks.{same_through}
-use Rattle.alloc_check_filled.specs.Allocated.{filled}
+use Rattle.alloc_check_laws.specs.Allocated.{filled}
 use Rattle.alloc_check_lists.specs.Ranks.{RiseFrom}
 use Rattle.alloc_check_verdict.specs.Right.{BeginsRight}
 use Rattle.alloc_check_verdict.specs.Walk.{found_in}

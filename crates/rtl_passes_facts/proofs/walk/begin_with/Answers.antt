@@ -1,5 +1,5 @@
 use Rattle.std.proofs.Common.{sym, ◌∙◌}
-use Rattle.rtl_passes_facts.proofs.Rising.{among_first}
+use Rattle.rtl_passes_filled.proofs.Rising.{among_first}
 use Rattle.rtl_passes_facts.proofs.walk.begin_with.Goals as goal
 
 pub returns-in-len1-up : goal.returns-in-len1-up

@@ -1,5 +1,5 @@
 use Rattle.std.proofs.Common.{length}
-use Rattle.rtl_passes_facts.proofs.Rising.{IsLeftFrom}
+use Rattle.rtl_passes_filled.proofs.Rising.{IsLeftFrom}
 use Rattle.rtl_passes_facts.proofs.walk.from_place.Given as goal
 
 abbrev pub invariant-loop-left : goal.invariant-loop-left

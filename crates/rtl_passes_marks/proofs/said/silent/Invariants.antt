@@ -1,5 +1,5 @@
-use Rattle.std.proofs.Common.{◌≡◌, [], map, replicate}
+use Rattle.std.proofs.Common.{◌≡◌, replicate}
 use Rattle.rtl_passes_marks.proofs.said.silent.Given as goal
 
 abbrev pub invariant-loop : goal.invariant-loop
-invariant-loop g l = map (λ list. list.now) l.lists.items ≡ replicate l.counter []
+invariant-loop l = l.places.items ≡ replicate l.counter l.number

@@ -1,6 +1,6 @@
 use Rattle.std.proofs.lemmas.Bool.{iff_false}
-use Rattle.rtl_passes_facts.proofs.Rising.{left_on, unknown_here}
-use Rattle.rtl_passes_facts.proofs.walk.are_made_or_kept.Goals as goal
+use Rattle.rtl_passes_filled.proofs.Rising.{left_on, unknown_here}
+use Rattle.rtl_passes_facts.proofs.walk.are_looked_for.Goals as goal
 
 pub loop-fact-preserved : goal.loop-fact-preserved
 loop-fact-preserved g c =

@@ -1,5 +1,5 @@
 -- What facts in order say of those among them.
-use Rattle.std.proofs.Common.{◌≡◌, ℕ, zero, suc, ◌+◌, ◌<◌, ◌≤◌, List, [], ◌∷◌, length, get_or, drop, Option, Bool, true, false, sym, ap, ◌∙◌, subst, arith, inl, inr}
+use Rattle.std.proofs.Common.{◌≡◌, ℕ, zero, suc, ◌+◌, ◌<◌, ◌≤◌, List, [], ◌∷◌, length, get_or, drop, Option, Bool, true, false, refl, sym, ap, ◌∙◌, subst, arith, inl, inr}
 use Rattle.std.specs.Prelude.{◌↔◌, All, Contains}
 use Rattle.std.proofs.lemmas.Bool.{cases_eq}
 use Rattle.std.proofs.lemmas.List.{get_or_default}
@@ -52,7 +52,7 @@ module _ {A : Type 0} (rank : A → ℕ) where
   rise_at least (e ∷ es) d some le rise = (le, rise.1)
 
   -- a later fact has a higher rank
-  pub higher : (es : List A) (lower i k : ℕ) (d : A) → RiseFrom rank lower es → i < k → k < length es → rank (get_or es i d) ≤ rank (get_or es k d)
+  pub higher : (es : List A) (lower i k : ℕ) (d : A) → RiseFrom rank lower es → i < k → k < length es → rank (get_or es i d) < rank (get_or es k d)
   higher [] lower i k d rise less below = absurd (omega (arith, below))
   higher (e ∷ es) lower i zero d rise less below = absurd (omega (arith, less))
   higher (e ∷ es) lower zero (suc k) d rise less below = omega (arith, above es (suc (rank e)) k d rise.1 (omega (arith, below)))
@@ -99,8 +99,8 @@ module _ {A : Type 0} (rank : A → ℕ) (made : Option A) (keeps : A → Bool) 
     rising = RiseFrom-lower rank left' (rank e) 0 (omega arith) rising;
     same = λ k d le below.
         let to_e : get_or after place d ≡ e = get_or_default after place d e within ∙ sym is in
-        let first : rank (get_or after place d) ≤ rank (get_or after k d) = higher rank after 0 place k d rise (omega arith) below in
-        still_same k d (omega arith) below (subst (λ (f : A). rank f ≤ rank (get_or after k d)) to_e first);
+        let first : rank e < rank (get_or after k d) = subst (λ (f : A). rank f < rank (get_or after k d)) to_e (higher rank after 0 place k d rise (omega arith) below) in
+        still_same k d (omega arith) below (omega (arith, first));
     known = λ k d less below.
         elim (cases_eq k place) [
           | inl here ↦
@@ -116,3 +116,38 @@ module _ {A : Type 0} (rank : A → ℕ) (made : Option A) (keeps : A → Bool) 
     λ no. absurd (let impossible : false ≡ true = no in cc),
     λ all. absurd (wrong (known_same made keeps left' before e (same_here.1, same_here.0) (subst (IsMadeOrKept made keeps before) (sym is) (all place e within)))),
   )
+
+-- what is left of both lists behind those that stand first in both and are kept: it tells what the whole lists tell
+pub record IsBehind {A : Type 0} (rank : A → ℕ) (made : Option A) (keeps : A → Bool) (before after left rest : List A) : Type 0 where
+  pub rising : RiseFrom rank 0 left
+  pub others : RiseFrom rank 0 rest
+  pub same : All (IsMadeOrKept made keeps before) after ↔ All (IsMadeOrKept made keeps left) rest
+
+module _ {A : Type 0} (rank : A → ℕ) (made : Option A) (keeps : A → Bool) (e : A) (left rest : List A) (rise : RiseFrom rank 0 (e ∷ rest)) where
+  -- a later fact stands behind the first
+  later : (k : ℕ) (d : A) → k < length rest → Contains left (get_or rest k d) ↔ Contains (e ∷ left) (get_or rest k d)
+  later k d below = among_rest rank (e ∷ left) (get_or rest k d) d (omega arith) (higher rank (e ∷ rest) 0 0 (suc k) d rise (omega arith) (omega (arith, below)))
+
+  both_past : keeps e ≡ true → All (IsMadeOrKept made keeps (e ∷ left)) (e ∷ rest) ↔ All (IsMadeOrKept made keeps left) rest
+  both_past kept = (
+    λ all k d below. known_same made keeps left (e ∷ left) (get_or rest k d) ((later k d below).1, (later k d below).0) (all (suc k) d (omega (arith, below))),
+    λ all k d below. at all k d below,
+  )
+    where
+      at : All (IsMadeOrKept made keeps left) rest → (k : ℕ) (d : A) → k < length (e ∷ rest) → IsMadeOrKept made keeps (e ∷ left) (get_or (e ∷ rest) k d)
+      at all zero d below = inr ((0, omega arith, refl), kept)
+      at all (suc k) d below = known_same made keeps (e ∷ left) left (get_or rest k d) (later k d (omega (arith, below))) (all k d (omega (arith, below)))
+
+-- one place on in both
+pub behind_both : {A : Type 0} (rank : A → ℕ) (made : Option A) (keeps : A → Bool) (before after left rest : List A) (d f : A) → 0 < length left → 0 < length rest → get_or left 0 d ≡ get_or rest 0 f → keeps (get_or rest 0 f) ≡ true → IsBehind rank made keeps before after left rest → IsBehind rank made keeps before after (drop 1 left) (drop 1 rest)
+behind_both rank made keeps before after [] rest d f some others same kept is = absurd (omega (arith, some))
+behind_both rank made keeps before after (e ∷ left) [] d f some others same kept is = absurd (omega (arith, others))
+behind_both {A} rank made keeps before after (e ∷ left) (g ∷ rest) d f some others same kept is =
+    let first : e ∷ left ≡ g ∷ left = ap (λ x. x ∷ left) same in
+    let here = subst (λ (es : List A). All (IsMadeOrKept made keeps before) after ↔ All (IsMadeOrKept made keeps es) (g ∷ rest)) first is.same in
+    let past = both_past rank made keeps g left rest is.others kept in
+    record {
+      rising = rise_rest rank (e ∷ left) 0 is.rising;
+      others = rise_rest rank (g ∷ rest) 0 is.others;
+      same = (λ all. past.0 (here.0 all), λ all. here.1 (past.1 all));
+    }
