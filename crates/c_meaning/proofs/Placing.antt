@@ -5,7 +5,9 @@ use Rattle.c_program.specs.declared.term.Term.{Term}
 use Rattle.c_program.specs.Trees.{TermTree}
 use Rattle.c_program.specs.Views.{term_tree}
 use Rattle.c_program.specs.State.{State, word, words, before}
+use Rattle.c_program.specs.Values.{value}
 use Rattle.c_meaning_machine.specs.declared.scope.Scope.{Scope}
+use Rattle.c_meaning_machine.specs.Scopes.{variables_of}
 use Rattle.c_meaning.specs.Arguments.{IsPlaced, AreWorth, ArePutBehind}
 
 -- words, and those behind them
@@ -63,6 +65,13 @@ placed_not arguments old new ws h = subst (λ o. IsPlaced false o old.locals.ite
 
 pub placed_so : (arguments : List Term) (old new : Scope) (ws : List ℕ) → AreWorth arguments old ws true → new.locals.items ≡ old.locals.items ++ map Some ws → ArePutBehind arguments old new true
 placed_so arguments old new ws h e = subst (λ o. IsPlaced true o old.locals.items new.locals.items) (sym h) e
+
+-- the only argument's word, put behind the locals
+pub placed_none_alone : (argument : Term) (old new : Scope) → None ≡ value (variables_of old) (term_tree argument) → ArePutBehind (argument ∷ []) old new false
+placed_none_alone argument old new e = subst (λ o. IsPlaced false (before o (Some [])) old.locals.items new.locals.items) e tt
+
+pub placed_alone : (argument : Term) (old new : Scope) (w : ℕ) → Some w ≡ value (variables_of old) (term_tree argument) → new.locals.items ≡ old.locals.items ++ Some w ∷ [] → ArePutBehind (argument ∷ []) old new true
+placed_alone argument old new w e h = subst (λ o. IsPlaced true (before o (Some [])) old.locals.items new.locals.items) e h
 
 -- the arguments' words among these variables, whatever is printed
 same_words : (terms terms' : List Term) (locals : List (Option ℕ)) (globals globals' : List (List ℕ)) (output : List ℕ) → terms ≡ terms' → globals ≡ globals' →

@@ -12,6 +12,7 @@ use c_program::Target;
 use lang_base::Shown;
 
 /// A word goes to a variable, or nowhere. One that goes to the caller is left to the caller of this.
+#[inline(always)]
 #[tactic(auto, using(c_meaning_machine::proofs::Stops::resume_fails))]
 pub fn settle(machine: &mut Machine, target: Target, word: u32) -> Option<Next>
     ensures meaning { MatchOption result (target ≡ Target.Caller) (Reaches machine.old machine.new (arrives target word)) }
@@ -43,6 +44,7 @@ pub fn store(machine: &mut Machine, global: usize, index: u32, word: u32) -> Nex
 }
 
 /// A word goes to its target.
+#[inline(always)]
 pub fn arrive(machine: &mut Machine, target: Target, word: u32) -> Next
     ensures meaning { Reaches machine.old machine.new (arrives target word) result }
     ensures cost { next_cost result machine.new ≤ later_cost machine.old }

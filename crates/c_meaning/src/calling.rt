@@ -1,6 +1,6 @@
 //! Calls of functions with a body.
 
-ghost use Rattle.std.specs.Prelude.{◌≡◌, ◌+◌, ◌<◌, ◌≤◌, [], ◌++◌, IfOk, OnOk, IfSome, IfNone, length, map, replicate};
+ghost use Rattle.std.specs.Prelude.{◌≡◌, ◌+◌, ◌<◌, ◌≤◌, [], ◌∷◌, ◌++◌, IfOk, OnOk, IfSome, IfNone, length, map, replicate};
 ghost use Rattle.c_program.specs.Meaning.{Calls};
 ghost use Rattle.c_meaning.specs.Arguments.{ArePutBehind, AreWorth, EntersNone, Enters, CostsItsBody, Begins, called_cost};
 ghost use Rattle.c_meaning.specs.Parts.{call_tree};
@@ -36,6 +36,24 @@ fn push_words(locals: &mut Vec<Option<u32>>, words: &[u32]) -> Result<(), NoMemo
     Ok(())
 }
 
+/// The only argument's word is put behind the locals: whether it has one.
+#[inline(always)]
+#[tactic(auto, using(crate::proofs::Placing::placed_none_alone, crate::proofs::Placing::placed_alone))]
+fn push_argument(argument: &Term, scope: &mut Scope) -> Result<bool, NoMemory>
+    ensures placed { IfOk result (ArePutBehind (argument.now ∷ []) scope.old scope.new) }
+    ensures base { scope.new.base ≡ scope.old.base }
+    ensures globals { scope.new.globals.items ≡ scope.old.globals.items }
+{
+    match evaluate(argument, scope) {
+        None => Ok(false),
+        Some(word) => {
+            scope.locals.reserve(1)?;
+            scope.locals.push_reserved(Some(word));
+            Ok(true)
+        }
+    }
+}
+
 /// The arguments' words are put behind the locals: whether each has one.
 #[tactic(auto, using(crate::proofs::Placing::placed_not, crate::proofs::Placing::placed_so))]
 fn push_arguments(
@@ -47,6 +65,9 @@ fn push_arguments(
     ensures base { scope.new.base ≡ scope.old.base }
     ensures globals { scope.new.globals.items ≡ scope.old.globals.items }
 {
+    if let [argument] = arguments {
+        return push_argument(argument, scope);
+    }
     if !evaluated(arguments, scope, words)? {
         return Ok(false);
     }
@@ -55,12 +76,12 @@ fn push_arguments(
 }
 
 /// So many indeterminate locals are put behind the others.
-#[tactic(auto, using(std::proofs::lemmas::List::replicate_more))]
 pub(crate) fn push_blank(locals: &mut Vec<Option<u32>>, count: usize) -> Result<(), NoMemory>
     ensures { OnOk result (locals.new.items ≡ locals.old.items ++ replicate count None) }
 {
+    locals.reserve(count)?;
     for _ in 0..count {
-        locals.push(None)?;
+        locals.push_reserved(None);
     }
     Ok(())
 }

@@ -50,6 +50,7 @@ pub fn continues(machine: &mut Machine) -> Result<Next, NoMemory>
 
 /// A callee has returned to a caller that no more stands on the stack. Where the caller returns the same
 /// word, that is left to the caller of this.
+#[inline(always)]
 #[tactic(auto, using(c_meaning_machine::proofs::Stops::resume_fails))]
 fn come_back<'a>(machine: &mut Machine<'a>, caller: Waiting<'a>, word: Option<u32>) -> Option<Next>
     ensures meaning { ComesBack machine.old machine.new caller.entry word result }
@@ -69,6 +70,7 @@ fn come_back<'a>(machine: &mut Machine<'a>, caller: Waiting<'a>, word: Option<u3
 }
 
 /// `return`, with a word or without: the nearest caller goes on.
+#[inline(always)]
 pub fn returns(machine: &mut Machine, word: Option<u32>) -> Next
     ensures meaning { ReachesRest machine.old machine.new (Returns word) result }
     ensures cost { next_cost result machine.new ≤ 1 + rest_cost machine.old }

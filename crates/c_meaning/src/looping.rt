@@ -28,6 +28,7 @@ pub fn listed(action: &Action) -> &[Action]
 }
 
 /// Whether a condition holds in the running function.
+#[inline(always)]
 fn holds_here(machine: &Machine, condition: &Term) -> Option<bool>
     ensures { result ≡ option_map holds (word (term_tree condition.now) (here machine.now [])) }
 {
@@ -52,6 +53,7 @@ pub fn turn<'a>(machine: &mut Machine<'a>, cycle: Cycle<'a>) -> Result<Next, NoM
 }
 
 /// A turn. Where the answer is none, the turn is done, and the next one may come.
+#[inline(always)]
 #[tactic(auto, using(c_meaning_machine::proofs::Levels::turn_fails, c_meaning_machine::proofs::Levels::turn_falls, c_meaning_machine::proofs::Levels::turn_begins, c_meaning_machine::proofs::Levels::cost_turns, c_meaning_machine::proofs::Levels::cost_some, c_meaning_machine::proofs::Stops::resume_fails))]
 fn one_turn<'a>(machine: &mut Machine<'a>, cycle: Cycle<'a>) -> Result<Option<Next>, NoMemory>
     requires { 0 < cycle.bound }
@@ -72,6 +74,7 @@ fn one_turn<'a>(machine: &mut Machine<'a>, cycle: Cycle<'a>) -> Result<Option<Ne
 }
 
 /// The body of a loop, and what stands behind it. Where the answer is none, both are done.
+#[inline(always)]
 #[tactic(auto, using(c_meaning_machine::proofs::Stops::resume_fails))]
 fn body_turn<'a>(machine: &mut Machine<'a>, cycle: Cycle<'a>) -> Result<Option<Next>, NoMemory>
     ensures meaning { IfOk result (TurnsBody machine.old machine.new cycle.entry) }
@@ -91,6 +94,7 @@ fn body_turn<'a>(machine: &mut Machine<'a>, cycle: Cycle<'a>) -> Result<Option<N
 }
 
 /// What stands behind a loop's body. Where the answer is none, it is done.
+#[inline(always)]
 #[tactic(auto, using(c_meaning_machine::proofs::Stops::resume_fails))]
 fn behind_turn<'a>(machine: &mut Machine<'a>, cycle: Cycle<'a>) -> Result<Option<Next>, NoMemory>
     ensures meaning { IfOk result (TurnsBehind machine.old machine.new cycle.entry) }

@@ -26,6 +26,7 @@ impl Cells {
     }
 
     /// The cell's word, where there is such a cell.
+    #[inline(always)]
     pub fn get(&self, index: u32) -> Option<u32>
         ensures { result ≡ slice_get self.now index }
     {
@@ -33,6 +34,7 @@ impl Cells {
     }
 
     /// The cell becomes the word, where there is such a cell: else the answer is false.
+    #[inline(always)]
     pub fn set(&mut self, index: u32, word: u32) -> bool
         ensures stored { result ≡ true → put_in index word self.old ≡ Some self.new }
         ensures missing { result ≡ false → put_in index word self.old ≡ None }

@@ -8,8 +8,31 @@ use crate::operators::{on_one, on_two};
 use crate::scope::Scope;
 use c_program::Term;
 
-/// What an expression is worth among these locals and globals: none where it goes wrong.
+/// What an expression is worth among these locals and globals: none where it goes wrong. An operator between
+/// constants and locals is done here, where no call needs registers to be saved.
 pub fn evaluate(term: &Term, scope: &Scope) -> Option<u32>
+    ensures { result ≡ value (variables_of scope.now) (term_tree term.now) }
+{
+    match term {
+        Term::Constant(word) => Some(*word),
+        Term::Local(number) => scope.local(*number),
+        Term::Binary(op, first, second) => match leaf(first, scope) {
+            Some(left) => {
+                let left = left?;
+                match leaf(second, scope) {
+                    Some(right) => on_two(*op, left, right?),
+                    None => evaluate_parts(term, scope),
+                }
+            }
+            None => evaluate_parts(term, scope),
+        },
+        _ => evaluate_parts(term, scope),
+    }
+}
+
+/// The same, of any expression by its parts.
+#[inline(never)]
+fn evaluate_parts(term: &Term, scope: &Scope) -> Option<u32>
     ensures { result ≡ value (variables_of scope.now) (term_tree term.now) }
 {
     match term {
@@ -18,45 +41,46 @@ pub fn evaluate(term: &Term, scope: &Scope) -> Option<u32>
         Term::Cell(global, index) => {
             let index = match leaf(index, scope) {
                 Some(word) => word?,
-                None => evaluate(index, scope)?,
+                None => evaluate_parts(index, scope)?,
             };
             scope.cell(*global, index)
         }
-        Term::Unary(op, operand) => on_one(*op, evaluate(operand, scope)?),
+        Term::Unary(op, operand) => on_one(*op, evaluate_parts(operand, scope)?),
         Term::Binary(op, first, second) => {
             let left = match leaf(first, scope) {
                 Some(word) => word?,
-                None => evaluate(first, scope)?,
+                None => evaluate_parts(first, scope)?,
             };
             let right = match leaf(second, scope) {
                 Some(word) => word?,
-                None => evaluate(second, scope)?,
+                None => evaluate_parts(second, scope)?,
             };
             on_two(*op, left, right)
         }
         Term::Both(first, second) => {
-            if evaluate(first, scope)? == 0 {
+            if evaluate_parts(first, scope)? == 0 {
                 return Some(0);
             }
-            Some(truth(evaluate(second, scope)?))
+            Some(truth(evaluate_parts(second, scope)?))
         }
         Term::Either(first, second) => {
-            if evaluate(first, scope)? != 0 {
+            if evaluate_parts(first, scope)? != 0 {
                 return Some(1);
             }
-            Some(truth(evaluate(second, scope)?))
+            Some(truth(evaluate_parts(second, scope)?))
         }
         Term::Conditional(condition, then, other) => {
-            if evaluate(condition, scope)? != 0 {
-                evaluate(then, scope)
+            if evaluate_parts(condition, scope)? != 0 {
+                evaluate_parts(then, scope)
             } else {
-                evaluate(other, scope)
+                evaluate_parts(other, scope)
             }
         }
     }
 }
 
 /// The same, of a constant or a local without a call.
+#[inline(always)]
 pub fn operand(term: &Term, scope: &Scope) -> Option<u32>
     ensures { result ≡ value (variables_of scope.now) (term_tree term.now) }
 {

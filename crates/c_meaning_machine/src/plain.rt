@@ -20,6 +20,7 @@ pub enum Front<'a> {
 }
 
 /// Does the actions in front that only change variables, and chooses where an `if` stands.
+#[inline(always)]
 pub fn advance<'a>(scope: &mut Scope, actions: &'a [Action]) -> Front<'a>
     ensures meaning { Comes result actions.now scope.old scope.new }
     ensures cost { ComesCheaper result actions.now }
@@ -41,6 +42,7 @@ pub fn advance<'a>(scope: &mut Scope, actions: &'a [Action]) -> Front<'a>
 }
 
 /// What an action chooses, while it is an `if`: none where a condition goes wrong.
+#[inline(always)]
 fn chosen<'a>(scope: &Scope, action: &'a Action) -> Option<&'a Action>
     ensures some { IfSome result (λ chosen. Chooses action.now scope.now chosen.now) }
     ensures none { IfNone result (ChoosesNone action.now scope.now) }
@@ -59,6 +61,7 @@ fn chosen<'a>(scope: &Scope, action: &'a Action) -> Option<&'a Action>
 }
 
 /// Does an action at once, if it only changes variables: then whether it does not go wrong.
+#[inline(always)]
 fn at_once(scope: &mut Scope, action: &Action) -> Option<bool>
     ensures ran { Ran result (action_tree action.now) scope.old scope.new }
     ensures base { scope.new.base ≡ scope.old.base }
@@ -79,6 +82,7 @@ fn at_once(scope: &mut Scope, action: &Action) -> Option<bool>
 }
 
 /// A local becomes what an expression gives: whether it gives something.
+#[inline(always)]
 fn assign(scope: &mut Scope, number: usize, term: &Term) -> bool
     ensures ran { Assigned result number term.now scope.old scope.new }
     ensures base { scope.new.base ≡ scope.old.base }
@@ -94,6 +98,7 @@ fn assign(scope: &mut Scope, number: usize, term: &Term) -> bool
 }
 
 /// A cell becomes what an expression gives: whether both are there.
+#[inline(always)]
 fn store(scope: &mut Scope, global: usize, index: &Term, value: &Term) -> bool
     ensures ran { Stored result global index.now value.now scope.old scope.new }
     ensures base { scope.new.base ≡ scope.old.base }

@@ -16,19 +16,19 @@ pub struct Scope {
 
 impl Scope {
     /// A local's word: none where it is indeterminate.
+    #[inline(always)]
     #[tactic(auto, using(crate::proofs::Frames::get_behind))]
     pub fn local(&self, number: usize) -> Option<u32>
         ensures { result ≡ slice_index_or (drop self.now.base self.now.locals.items) number None }
     {
-        let count = self.locals.len();
-        if self.base < count && number < count - self.base {
-            self.locals[self.base + number]
-        } else {
-            None
+        match self.base.checked_add(number) {
+            Some(place) if place < self.locals.len() => self.locals[place],
+            _ => None,
         }
     }
 
     /// A local becomes a word or indeterminate.
+    #[inline(always)]
     #[tactic(auto, using(std::proofs::lemmas::List::set_past, crate::proofs::Frames::set_behind))]
     pub fn set_local(&mut self, number: usize, value: Option<u32>)
         ensures base { self.new.base ≡ self.old.base }
@@ -37,14 +37,15 @@ impl Scope {
             ≡ slice_set (drop self.old.base self.old.locals.items) number value }
         ensures globals { self.new.globals.items ≡ self.old.globals.items }
     {
-        let base = self.base;
-        let count = self.locals.len();
-        if base < count && number < count - base {
-            self.locals[base + number] = value;
+        if let Some(place) = self.base.checked_add(number) {
+            if place < self.locals.len() {
+                self.locals[place] = value;
+            }
         }
     }
 
     /// A cell's word, where there is such a cell.
+    #[inline(always)]
     pub fn cell(&self, global: usize, index: u32) -> Option<u32>
         ensures { result ≡ cell_of self.now.globals.items global index }
     {
@@ -56,6 +57,7 @@ impl Scope {
     }
 
     /// A cell becomes a word, where there is such a cell: else the answer is false.
+    #[inline(always)]
     pub fn set_cell(&mut self, global: usize, index: u32, word: u32) -> bool
         ensures stored { result ≡ true → put_cell self.old.globals.items global index word ≡ Some self.new.globals.items }
         ensures missing { result ≡ false → put_cell self.old.globals.items global index word ≡ None }

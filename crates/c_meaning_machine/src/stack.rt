@@ -22,13 +22,17 @@ impl<'a> Stack<'a> {
         }
     }
 
+    #[inline(always)]
     #[tactic(auto, using(crate::proofs::Stacks::reverse_push), unfolding(crate::specs::Stacks::waiting))]
     pub fn push(&mut self, left: Left<'a>) -> Result<(), NoMemory>
         ensures { OnOk result (waiting self.new ≡ left.entry ∷ waiting self.old) }
     {
-        Ok(self.items.push(left)?)
+        self.items.reserve(1)?;
+        self.items.push_reserved(left);
+        Ok(())
     }
 
+    #[inline(always)]
     #[tactic(auto, using(crate::proofs::Stacks::reverse_push), unfolding(crate::specs::Stacks::waiting))]
     pub fn pop(&mut self) -> Option<Left<'a>>
         ensures { MatchOption result (waiting self.old ≡ []) (λ top. waiting self.old ≡ top ∷ waiting self.new) }

@@ -1,4 +1,5 @@
 pub mod There
+pub mod Targets
 pub mod Frames
 pub mod States
 pub mod Ready

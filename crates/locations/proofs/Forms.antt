@@ -18,6 +18,7 @@ use Rattle.locations.specs.Fits.{parameter_limit, slot_limit, function_limit, Re
 use Rattle.locations.specs.Spelling.{byte_text, value_text, location_code, location_body, location_text, locations_text, target_text, move_text, moves_text, call_text, frame_text}
 use Rattle.locations.specs.Reading.{register, value, locations, location, is_slot, one_move, moves, target, arguments, call, same_location, parameter, parameters, lies_within, frame}
 use Rattle.locations.proofs.Distinct.{each_both, both_each, none_same, same_none, keys_of, IsNewKey, each_distinct, distinct_each}
+pub use Rattle.lang_parts.proofs.Limits.{global_form}
 
 pub register_form : IsForm register byte_text RegisterFits
 unfolding register

@@ -15,14 +15,13 @@ use Rattle.ints.proofs.CondCodes.{cond_codes_lead_back}
 use Rattle.locations.specs.Fits.{RegisterFits, ValueFits}
 use Rattle.locations.specs.Spelling.{byte_text, value_text}
 use Rattle.locations.specs.Reading.{register, value}
-use Rattle.locations.proofs.Forms.{register_form, value_form}
+use Rattle.locations.proofs.Forms.{register_form, value_form, global_form}
 use Rattle.machine.proofs.Operators.{argument_count_range, cond_argument_count_range, code_small, cond_code_small}
 use Rattle.machine.specs.declared.arguments.Arguments.{Arguments}
 use Rattle.machine.specs.declared.arguments.Arguments.TheVariants.{One, Two}
 use Rattle.machine.specs.declared.act.Act.{Act}
 use Rattle.machine.specs.declared.act.Act.TheVariants.{Constant, Operate, Load, Store, Put}
-use Rattle.lang_parts.specs.Limits.{global}
-use Rattle.lang_parts.proofs.Limits.{global_form}
+use Rattle.locations.specs.Limits.{global}
 use Rattle.machine.specs.Fits.{GlobalFits, ArgumentsFit, ActFits, TestFits}
 use Rattle.machine.specs.Spelling.{arguments_text, test_text, act_code, act_body}
 use Rattle.machine.specs.Reading.{arguments, asked, constant, operation, load, store, put, acts, act}

@@ -1,7 +1,10 @@
-use Rattle.std.proofs.Common.{◌≡◌, ◌++◌, None}
-use Rattle.std.specs.Prelude.{replicate}
+use Rattle.std.proofs.Common.{◌≡◌, ◌+◌, ◌-◌, ◌≤◌, ◌++◌, length, None}
+use Rattle.std.specs.Prelude.{replicate, vec_capacity}
 use Rattle.c_meaning.proofs.calling.push_blank.Given as goal
 
--- so many stand there
+-- so many stand behind the others, and there is room for the rest
 abbrev pub invariant-loop : goal.invariant-loop
-invariant-loop l = l.locals.items ≡ l.fn.locals.items ++ replicate l.counter None
+invariant-loop l = record {
+  items : l.locals.items ≡ l.fn.locals.items ++ replicate l.counter None;
+  room : length l.locals.items + (l.count - l.counter) ≤ vec_capacity l.locals;
+}
