@@ -7,7 +7,7 @@ use Rattle.acceptor_log.specs.declared.log.Log.{Log}
 use Rattle.rand_pcg.specs.Lcg.{Lcg}
 use Rattle.rooms_hall.specs.declared.hall.Naming as naming
 use Rattle.farm_nodes_passes.specs.Fours.{Four, fours_of}
-use Rattle.farm_nodes_passes.specs.declared.seats.Seats.{Seats}
+use Rattle.farm_nodes_passes.specs.Seats.{Seats}
 use Rattle.farm_nodes_node.specs.declared.halted.Halted.{Halted}
 use Rattle.farm_nodes_node.specs.Held.{fault_in, IsSoundNode}
 use Rattle.farm_nodes_source.specs.declared.source.Source.{Source}

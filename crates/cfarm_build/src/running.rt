@@ -40,10 +40,10 @@ fn turns_of<D, O, H: Naming>(nodes: &[FarmNode<D, O, H>]) -> u64
 
 /// Whether in all four rooms of a function a value is learned.
 fn has_learned<H: Naming>(seats: &Seats<H>) -> bool {
-    seats.first.seat.learned().is_some()
-        && seats.second.seat.learned().is_some()
-        && seats.third.seat.learned().is_some()
-        && seats.fourth.seat.learned().is_some()
+    seats.seat.first.learned().is_some()
+        && seats.seat.second.learned().is_some()
+        && seats.seat.third.learned().is_some()
+        && seats.seat.fourth.learned().is_some()
 }
 
 /// Whether in all rooms of all functions a value is learned.

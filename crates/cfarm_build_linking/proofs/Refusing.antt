@@ -17,7 +17,7 @@ use Rattle.linker.specs.Numbers.{function_of_link_error}
 use Rattle.linker.specs.declared.errors.LinkError.{LinkError}
 use Rattle.linker.specs.declared.errors.LinkError.TheVariants as links
 use Rattle.rooms_hall.specs.declared.hall.Naming as naming
-use Rattle.farm_nodes_passes.specs.declared.seats.Seats.{Seats}
+use Rattle.farm_nodes_passes.specs.Seats.{Seats}
 use Rattle.farm_nodes_source.specs.declared.source.Source.{Source}
 use Rattle.farm_nodes_source.proofs.Numbered.{translated_names}
 use Rattle.farm_nodes_linked.specs.Learned.{FourOffers, learned_by}

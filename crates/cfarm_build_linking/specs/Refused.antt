@@ -9,7 +9,7 @@ use Rattle.linker.specs.Numbers.{function_of_link_error}
 use Rattle.linker.specs.declared.errors.LinkError.{LinkError}
 use Rattle.linker.specs.declared.errors.LinkError.TheVariants as links
 use Rattle.farm_nodes_source.specs.declared.source.Source.{Source}
-use Rattle.farm_nodes_passes.specs.declared.seats.Seats.{Seats}
+use Rattle.farm_nodes_passes.specs.Seats.{Seats}
 use Rattle.farm_nodes_linked.specs.Learned.{learned_by, IsUndecided}
 use Rattle.farm_nodes_linked.specs.Refused.{IsFirstBroken}
 use Rattle.cfarm_build_faults.specs.declared.error.BuildError.{BuildError}

@@ -2,16 +2,16 @@
 use Rattle.std.specs.Prelude.{◌≡◌, ℕ, List, length, Some, slice_get}
 use Rattle.std.specs.String.{string_bytes}
 use Rattle.rooms_hall.specs.declared.hall.Naming as naming
-use Rattle.farm_nodes_passes.specs.declared.seats.Seats.{Seats}
+use Rattle.farm_nodes_passes.specs.Seats.{Seats}
 use Rattle.cfarm_report.specs.declared.function.FunctionRooms.{FunctionRooms}
 
 module _ {H : Type 0} {h : naming.Ghosts H} where
   pub record IsTold (name : List ℕ) (seats : Seats H h) (told : FunctionRooms) : Type 0 where
     pub name_is : string_bytes told.name ≡ name
-    pub first : seats.first.seat.words.node.learned ≡ Some told.first
-    pub second : seats.second.seat.words.node.learned ≡ Some told.second
-    pub third : seats.third.seat.words.node.learned ≡ Some told.third
-    pub fourth : seats.fourth.seat.words.node.learned ≡ Some told.fourth
+    pub first : seats.seat.first.words.node.learned ≡ Some told.first
+    pub second : seats.seat.second.words.node.learned ≡ Some told.second
+    pub third : seats.seat.third.words.node.learned ≡ Some told.third
+    pub fourth : seats.seat.fourth.words.node.learned ≡ Some told.fourth
 
   -- of each function, in their order
   pub record AreTold (names : List (List ℕ)) (seats : List (Seats H h)) (told : List FunctionRooms) : Type 0 where

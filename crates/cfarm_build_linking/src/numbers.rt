@@ -20,10 +20,10 @@ use std::alloc::Global;
 fn is_linked<H: Naming>(seats: &Seats<H>) -> bool
     ensures { result ≡ is_some (learned_four seats.now) }
 {
-    has_learned_offer(&seats.first.seat)
-        && has_learned_offer(&seats.second.seat)
-        && has_learned_offer(&seats.third.seat)
-        && has_learned_offer(&seats.fourth.seat)
+    has_learned_offer(&seats.seat.first)
+        && has_learned_offer(&seats.seat.second)
+        && has_learned_offer(&seats.seat.third)
+        && has_learned_offer(&seats.seat.fourth)
 }
 
 /// Whether all functions are linked.
@@ -55,16 +55,16 @@ fn told<H: Naming>(name: String, seats: &Seats<H>) -> FunctionRooms
     requires { IsSome (learned_four seats.now) }
     ensures { IsTold (string_bytes name) seats.now result }
 {
-    let Some(first) = seats.first.seat.learned() else {
+    let Some(first) = seats.seat.first.learned() else {
         unreachable!();
     };
-    let Some(second) = seats.second.seat.learned() else {
+    let Some(second) = seats.seat.second.learned() else {
         unreachable!();
     };
-    let Some(third) = seats.third.seat.learned() else {
+    let Some(third) = seats.seat.third.learned() else {
         unreachable!();
     };
-    let Some(fourth) = seats.fourth.seat.learned() else {
+    let Some(fourth) = seats.seat.fourth.learned() else {
         unreachable!();
     };
     FunctionRooms {

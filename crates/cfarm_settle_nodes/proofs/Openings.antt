@@ -2,7 +2,7 @@
 use Rattle.std.proofs.Common.{◌≡◌, ℕ, zero, suc, List, [], ◌∷◌, ◌++◌, length, Option, None, Some, refl, sym, ap, ◌∙◌, arith}
 use Rattle.std.proofs.lemmas.List.{length-append}
 use Rattle.std.specs.Option.{option_to_list}
-use Rattle.atomic_table.specs.Seated.{TableId}
+use Rattle.rooms_table.specs.RoomAt.{RoomAt}
 use Rattle.offers.specs.declared.parts.Parts.{Parts}
 use Rattle.paxos_core_world.specs.KeptPart.{KeptPart}
 use Rattle.rooms_cells.specs.Seen.{unseen, value_at}
@@ -25,7 +25,7 @@ last_three {A} (d ∷ ds) a b c x y z e =
     absurd (omega (arith, ap (λ (l : List A). length l) e, length-append (((d ∷ ds) ++ a ∷ []) ++ b ∷ []) (c ∷ []), length-append ((d ∷ ds) ++ a ∷ []) (b ∷ []), length-append (d ∷ ds) (a ∷ [])))
 
 module _ {F G C : Type 0} (f : F) where
-  unmade : (table : TableId) (cells : List ℕ) (o : Opening) (i : ℕ) (s : SeatValue (Parts F G C)) → s ≡ opened table cells o i None → OffersFor f s
+  unmade : (table : RoomAt) (cells : List ℕ) (o : Opening) (i : ℕ) (s : SeatValue (Parts F G C)) → s ≡ opened table cells o i None → OffersFor f s
   unmade table cells o i s e x is =
       let fresh : SeatValue (Parts F G C) = opened table cells o i None in
       let none : offer_of s s.words.node.me ≡ None = ap (λ (t : SeatValue (Parts F G C)). offer_of t t.words.node.me) e ∙ unseen_at {T = Parts F G C} cells fresh.words.node.me in

@@ -1,6 +1,6 @@
 -- The seats of three nodes of one room, after their turns and their meetings.
 use Rattle.std.proofs.Common.{◌≡◌, ℕ, zero, suc, List, [], ◌++◌, Option, None, Some, Result, Ok, Err, IfOk, IfSome, refl, sym, ap, ◌∙◌, subst}
-use Rattle.atomic_table.specs.Seated.{TableId}
+use Rattle.rooms_table.specs.RoomAt.{RoomAt}
 use Rattle.lang_base.specs.declared.language.Language as language
 use Rattle.lang_base.specs.declared.pass.Pass as pass
 use Rattle.lang_base.specs.Keeps.{Keeps}
@@ -14,7 +14,7 @@ use Rattle.cfarm_settle_nodes.specs.Learned.{IsLearnedByAll}
 use Rattle.cfarm_settle_nodes.proofs.Going.{stays_on}
 
 module _ {F G C : Type 0} (f : F) where
-  seat_goes : (board : TableId) (shelf : List ℕ) (i : ℕ) (a b : SeatValue (Parts F G C)) → IsSeatOf board shelf i a → GoesOn f a b → IsSeatOf board shelf i b
+  seat_goes : (board : RoomAt) (shelf : List ℕ) (i : ℕ) (a b : SeatValue (Parts F G C)) → IsSeatOf board shelf i a → GoesOn f a b → IsSeatOf board shelf i b
   seat_goes board shelf i a b s h =
       record {
         table = h.room.table ∙ s.table;

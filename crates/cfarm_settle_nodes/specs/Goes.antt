@@ -1,6 +1,6 @@
 -- What a node's turns leave of its seat.
 use Rattle.std.specs.Prelude.{◌≡◌, ℕ, List, Some, replicate}
-use Rattle.atomic_table.specs.Seated.{TableId}
+use Rattle.rooms_table.specs.RoomAt.{RoomAt}
 use Rattle.offers.specs.declared.parts.Parts.{Parts}
 use Rattle.rooms_cells.specs.Seen.{names_of}
 use Rattle.paxos_core_world.specs.KeptPart.{nothing_kept}
@@ -35,7 +35,7 @@ pub record Stays {T : Type 0} (old new : SeatValue T) : Type 0 where
   pub sights : new.sights ≡ old.sights
 
 -- node i's seat of a room of three that began with nothing
-pub record IsSeatOf {T : Type 0} (board : TableId) (shelf : List ℕ) (i : ℕ) (s : SeatValue T) : Type 0 where
+pub record IsSeatOf {T : Type 0} (board : RoomAt) (shelf : List ℕ) (i : ℕ) (s : SeatValue T) : Type 0 where
   pub table : s.words.table ≡ board
   pub cells : names_of s.sights ≡ shelf
   pub opening : s.words.view.opening ≡ empty_room
@@ -44,7 +44,7 @@ pub record IsSeatOf {T : Type 0} (board : TableId) (shelf : List ℕ) (i : ℕ) 
 
 -- the seats of the three nodes of one such room
 pub record AreThree {T : Type 0} (a b c : SeatValue T) : Type 0 where
-  pub board : TableId
+  pub board : RoomAt
   pub shelf : List ℕ
   pub first : IsSeatOf board shelf 0 a
   pub second : IsSeatOf board shelf 1 b

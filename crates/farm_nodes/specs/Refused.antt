@@ -5,7 +5,7 @@ use Rattle.durable_model.specs.declared.disk.Disk as disks
 use Rattle.acceptor_log_form.specs.declared.errors.LogError.{LogError}
 use Rattle.acceptor_log_form.specs.declared.errors.LogError.TheVariants.{BadRecord}
 use Rattle.farm_nodes_source.specs.declared.source.Source.{Source}
-use Rattle.farm_nodes_stored.specs.Nodes.{AreMade}
+use Rattle.farm_nodes_opened.specs.Nodes.{AreMade}
 use Rattle.farm_nodes_opening.specs.declared.fault.RoomFault.{RoomFault}
 use Rattle.farm_nodes_opened.specs.Back.{IsBack}
 use Rattle.farm_nodes_opened.specs.Refused.{HasBadRecord, HasRefusedOffer, IsRefusedJournal, IsUnopened, OfJournals}

@@ -1,3 +1,4 @@
 pub mod Outcomes
+pub mod Dealt
 pub mod Rooms
 pub mod Seated

@@ -1,14 +1,24 @@
 -- Rooms of a function, one behind the other: which are settled where one is told.
-use Rattle.std.proofs.Common.{◌≡◌, ℕ, List, sym, subst, ◌∙◌, arith}
+use Rattle.std.proofs.Common.{◌≡◌, ◌⊎◌, inl, inr, ℕ, zero, suc, ◌+◌, ◌*◌, ◌<◌, ◌≤◌, List, length, refl, sym, ap, subst, ◌∙◌, arith}
 use Rattle.std.specs.Global.{Vec}
 use Rattle.paxos_core_world.specs.KeptPart.{KeptPart}
+use Rattle.paxos_core_world.specs.Settled.{Settled}
+use Rattle.paxos_core_world.specs.World.{nodes_of}
+use Rattle.rooms.specs.Opened.{AreOffersOf}
+use Rattle.rooms.specs.declared.error.RoomError.{RoomError}
+use Rattle.rooms.specs.declared.error.RoomError.TheVariants as error
+use Rattle.rooms_function.specs.declared.opening.FunctionOffers.{FunctionOffers}
+use Rattle.rooms_function.specs.Opened.{kept_in}
+use Rattle.rooms_function.specs.Opened as by_pass
 use Rattle.farm_nodes_passes.specs.declared.which.Which.{Which}
 use Rattle.farm_nodes_passes.specs.declared.which.Which.TheVariants.{First, Second, Third, Fourth}
 use Rattle.farm_nodes_passes.specs.Numbers.{function_of, room_at}
-use Rattle.farm_nodes_opening.specs.Kept.{IsOfferedIn, IsSettledIn, AreSettled, AreSettledBefore}
+use Rattle.farm_nodes_opening.specs.Kept.{four_kept, kept_of, parts_of, AreSettled, AreSettledBefore, IsOfferedIn, IsSettledIn}
 use Rattle.farm_nodes_opening.specs.declared.fault.RoomFault.{RoomFault}
-use Rattle.farm_nodes_opening.specs.declared.fault.RoomFault.TheVariants.{CellRefused, NoMemory, Unsettled}
-use Rattle.farm_nodes_functions.specs.Function.{IsTold}
+use Rattle.farm_nodes_opening.specs.declared.fault.RoomFault.TheVariants.{CellRefused, NoMemory, Spent, Unsettled}
+use Rattle.farm_nodes_opening.proofs.Left.{who_offered}
+use Rattle.farm_nodes_opening.proofs.OneRoom.{map-map}
+use Rattle.farm_nodes_functions.specs.Function.{fault_of, IsTold}
 
 of_function : (f : ℕ) (pass : Which) (room : ℕ) → room ≡ room_at f pass → function_of room ≡ f
 of_function f First room is = omega (arith, is)
@@ -41,11 +51,13 @@ module _ (nodes : List (Vec KeptPart)) (f : ℕ) (room : ℕ) where
   three_before a b c is Third lt = c
   three_before a b c is Fourth lt = absurd (omega (arith, is, lt))
 
-not_unsettled : NoMemory ≡ Unsettled → ⊥
-not_unsettled e = cc
+not_unsettled : (fault : RoomFault) → (fault ≡ NoMemory) ⊎ (fault ≡ Spent) → fault ≡ Unsettled → ⊥
+not_unsettled fault (inl a) e = cc
+not_unsettled fault (inr a) e = cc
 
-not_refused : NoMemory ≡ CellRefused → ⊥
-not_refused e = cc
+not_refused : (fault : RoomFault) → (fault ≡ NoMemory) ⊎ (fault ≡ Spent) → fault ≡ CellRefused → ⊥
+not_refused fault (inl a) e = cc
+not_refused fault (inr a) e = cc
 
 module _ (nodes : List (Vec KeptPart)) (f : ℕ) where
   pub all_settled : IsSettledIn nodes (room_at f First) → IsSettledIn nodes (room_at f Second) → IsSettledIn nodes (room_at f Third) → IsSettledIn nodes (room_at f Fourth) → AreSettled nodes f
@@ -76,6 +88,70 @@ module _ (nodes : List (Vec KeptPart)) (f : ℕ) where
     pub told_fourth : IsSettledIn nodes (room_at f First) → IsSettledIn nodes (room_at f Second) → IsSettledIn nodes (room_at f Third) → room ≡ room_at f Fourth → (fault ≡ Unsettled → ¬ IsSettledIn nodes (room_at f Fourth)) → (fault ≡ CellRefused → IsOfferedIn nodes (room_at f Fourth)) → IsTold nodes f room fault
     told_fourth a b c is = told Fourth room fault (three_before nodes f room a b c is) is
 
-    -- or all are open, and there is no memory for the seats node by node
-    pub told_memory : IsSettledIn nodes (room_at f First) → IsSettledIn nodes (room_at f Second) → IsSettledIn nodes (room_at f Third) → room ≡ room_at f Fourth → fault ≡ NoMemory → IsTold nodes f room fault
-    told_memory a b c is none = told Fourth room fault (three_before nodes f room a b c is) is (λ e. absurd (not_unsettled (sym none ∙ e))) (λ e. absurd (not_refused (sym none ∙ e)))
+    -- or there is no memory or no number for them, before a room is told
+    pub told_none : room ≡ 4 * f → (fault ≡ NoMemory) ⊎ (fault ≡ Spent) → IsTold nodes f room fault
+    told_none is none = told_first (omega (arith, is)) (λ e. absurd (not_unsettled fault none e)) (λ e. absurd (not_refused fault none e))
+
+-- ---- of the passes by number
+
+-- what was kept in the room of a pass
+module _ (nodes : List (Vec KeptPart)) (f : ℕ) where
+  pub kept_first : kept_in 0 (parts_of nodes f) ≡ kept_of nodes (room_at f First)
+  kept_first =
+      let same : 4 * f ≡ room_at f First = omega arith in
+      map-map (λ (parts : List KeptPart). nodes_of parts 0) (λ (node : Vec KeptPart). four_kept node.items f) nodes ∙ ap (λ (m : ℕ). kept_of nodes m) same
+
+  pub kept_second : kept_in 1 (parts_of nodes f) ≡ kept_of nodes (room_at f Second)
+  kept_second = map-map (λ (parts : List KeptPart). nodes_of parts 1) (λ (node : Vec KeptPart). four_kept node.items f) nodes
+
+  pub kept_third : kept_in 2 (parts_of nodes f) ≡ kept_of nodes (room_at f Third)
+  kept_third = map-map (λ (parts : List KeptPart). nodes_of parts 2) (λ (node : Vec KeptPart). four_kept node.items f) nodes
+
+  pub kept_fourth : kept_in 3 (parts_of nodes f) ≡ kept_of nodes (room_at f Fourth)
+  kept_fourth = map-map (λ (parts : List KeptPart). nodes_of parts 3) (λ (node : Vec KeptPart). four_kept node.items f) nodes
+
+  settled_in : (p : ℕ) (room : ℕ) → kept_in p (parts_of nodes f) ≡ kept_of nodes room → by_pass.IsSettledIn (parts_of nodes f) p → IsSettledIn nodes room
+  settled_in p room e s = subst (λ (k : List KeptPart). Settled (length k) (nodes_of k)) e s
+
+  settled_back : (p : ℕ) (room : ℕ) → kept_in p (parts_of nodes f) ≡ kept_of nodes room → IsSettledIn nodes room → by_pass.IsSettledIn (parts_of nodes f) p
+  settled_back p room e s = subst (λ (k : List KeptPart). Settled (length k) (nodes_of k)) (sym e) s
+
+  pub settled_all : by_pass.AreSettled (parts_of nodes f) → AreSettled nodes f
+  settled_all s =
+      all_settled nodes f (settled_in 0 (room_at f First) kept_first (s 0 (omega arith))) (settled_in 1 (room_at f Second) kept_second (s 1 (omega arith)))
+      (settled_in 2 (room_at f Third) kept_third (s 2 (omega arith))) (settled_in 3 (room_at f Fourth) kept_fourth (s 3 (omega arith)))
+
+  module _ (here : FunctionOffers) (room : ℕ) (fault : RoomFault) (why : RoomError) (are : fault ≡ fault_of why)
+      (o1 : AreOffersOf (kept_of nodes (room_at f First)) here.first.items) (o2 : AreOffersOf (kept_of nodes (room_at f Second)) here.second.items)
+      (o3 : AreOffersOf (kept_of nodes (room_at f Third)) here.third.items) (o4 : AreOffersOf (kept_of nodes (room_at f Fourth)) here.fourth.items) where
+    unsettled_is : (why : RoomError) → fault_of why ≡ Unsettled → why ≡ error.Unsettled
+    unsettled_is error.NoMemory e = absurd (cc)
+    unsettled_is error.Unsettled e = refl
+    unsettled_is error.CellRefused e = absurd (cc)
+
+    refused_is : (why : RoomError) → fault_of why ≡ CellRefused → why ≡ error.CellRefused
+    refused_is error.NoMemory e = absurd (cc)
+    refused_is error.Unsettled e = absurd (cc)
+    refused_is error.CellRefused e = refl
+
+    pub told_pass : (pass : ℕ) → by_pass.IsUnopened (parts_of nodes f) here pass why → room + 1 ≡ 4 * f + pass → IsTold nodes f room fault
+    told_pass zero is at = absurd (let some : 0 < 0 = is.some in omega arith)
+    told_pass (suc zero) is at =
+        told_first nodes f room fault (omega (arith, at))
+        (λ e s. is.here (unsettled_is why (sym are ∙ e)) 0 refl (settled_back 0 (room_at f First) kept_first s))
+        (λ e. who_offered (kept_of nodes (room_at f First)) here.first.items o1 (is.refused (refused_is why (sym are ∙ e))))
+    told_pass (suc (suc zero)) is at =
+        told_second nodes f room fault (settled_in 0 (room_at f First) kept_first (is.before 0 (omega arith))) (omega (arith, at))
+        (λ e s. is.here (unsettled_is why (sym are ∙ e)) 1 refl (settled_back 1 (room_at f Second) kept_second s))
+        (λ e. who_offered (kept_of nodes (room_at f Second)) here.second.items o2 (is.refused (refused_is why (sym are ∙ e))))
+    told_pass (suc (suc (suc zero))) is at =
+        told_third nodes f room fault (settled_in 0 (room_at f First) kept_first (is.before 0 (omega arith)))
+        (settled_in 1 (room_at f Second) kept_second (is.before 1 (omega arith))) (omega (arith, at))
+        (λ e s. is.here (unsettled_is why (sym are ∙ e)) 2 refl (settled_back 2 (room_at f Third) kept_third s))
+        (λ e. who_offered (kept_of nodes (room_at f Third)) here.third.items o3 (is.refused (refused_is why (sym are ∙ e))))
+    told_pass (suc (suc (suc (suc zero)))) is at =
+        told_fourth nodes f room fault (settled_in 0 (room_at f First) kept_first (is.before 0 (omega arith)))
+        (settled_in 1 (room_at f Second) kept_second (is.before 1 (omega arith))) (settled_in 2 (room_at f Third) kept_third (is.before 2 (omega arith))) (omega (arith, at))
+        (λ e s. is.here (unsettled_is why (sym are ∙ e)) 3 refl (settled_back 3 (room_at f Fourth) kept_fourth s))
+        (λ e. who_offered (kept_of nodes (room_at f Fourth)) here.fourth.items o4 (is.refused (refused_is why (sym are ∙ e))))
+    told_pass (suc (suc (suc (suc (suc n))))) is at = absurd (let most : suc (suc (suc (suc (suc n)))) ≤ 4 = is.most in omega arith)

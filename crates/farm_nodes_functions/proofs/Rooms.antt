@@ -8,7 +8,7 @@ use Rattle.rooms_hall.specs.declared.hall.Naming as naming
 use Rattle.rooms.specs.Opened.{AreOffersOf}
 use Rattle.rooms.specs.SeatValue.{SeatValue}
 use Rattle.farm_nodes_passes.specs.Numbers.{function_of, room_at}
-use Rattle.farm_nodes_passes.specs.declared.seats.Seats.{Seats}
+use Rattle.farm_nodes_passes.specs.Seats.{Seats}
 use Rattle.farm_nodes_passes.specs.declared.which.Which.{Which}
 use Rattle.farm_nodes_passes.specs.declared.which.Which.TheVariants.{First, Second, Third, Fourth}
 use Rattle.farm_nodes_lists.specs.Rows.{column, grown, offers_of, rows_of, AreForOthers}
@@ -121,10 +121,10 @@ module _ (kept : List (Vec KeptPart)) where
 module _ {H : Type 0} {h : naming.Ghosts H} where
   pub record AreOpen (kept : List (Vec KeptPart)) (n : ℕ) (given : Offered) (rows : List (List (Seats H h))) : Type 0 where
     pub long : All (λ row. length row ≡ n) rows
-    pub first : AreOpenedIn kept First n (rows_of given.first.items) (λ (s : Seats H h). (s.first.seat, s.first.claim)) rows
-    pub second : AreOpenedIn kept Second n (rows_of given.second.items) (λ (s : Seats H h). (s.second.seat, s.second.claim)) rows
-    pub third : AreOpenedIn kept Third n (rows_of given.third.items) (λ (s : Seats H h). (s.third.seat, s.third.claim)) rows
-    pub fourth : AreOpenedIn kept Fourth n (rows_of given.fourth.items) (λ (s : Seats H h). (s.fourth.seat, s.fourth.claim)) rows
+    pub first : AreOpenedIn kept First n (rows_of given.first.items) (λ (s : Seats H h). (s.seat.first, s.claim)) rows
+    pub second : AreOpenedIn kept Second n (rows_of given.second.items) (λ (s : Seats H h). (s.seat.second, s.claim)) rows
+    pub third : AreOpenedIn kept Third n (rows_of given.third.items) (λ (s : Seats H h). (s.seat.third, s.claim)) rows
+    pub fourth : AreOpenedIn kept Fourth n (rows_of given.fourth.items) (λ (s : Seats H h). (s.seat.fourth, s.claim)) rows
     pub settled : AreSettledSoFar kept n
 
   pub none_open : (kept : List (Vec KeptPart)) (given : Offered) (rows : List (List (Seats H h))) → All (λ row. length row ≡ 0) rows → AreOpen kept 0 given rows
@@ -143,16 +143,16 @@ module _ {H : Type 0} {h : naming.Ghosts H} where
       record {
         long = subst (λ (m : List (List (Seats H h))). All (λ row. length row ≡ n + 1) m) (sym is) (grown_long n rows seats same before.long);
         first =
-            opened_next kept First (rows_of given.first.items) (λ (s : Seats H h). (s.first.seat, s.first.claim)) n (rows_of left.first.items) rows more seats
+            opened_next kept First (rows_of given.first.items) (λ (s : Seats H h). (s.seat.first, s.claim)) n (rows_of left.first.items) rows more seats
             same before.long is left_are.first now.first before.first;
         second =
-            opened_next kept Second (rows_of given.second.items) (λ (s : Seats H h). (s.second.seat, s.second.claim)) n (rows_of left.second.items) rows more seats
+            opened_next kept Second (rows_of given.second.items) (λ (s : Seats H h). (s.seat.second, s.claim)) n (rows_of left.second.items) rows more seats
             same before.long is left_are.second now.second before.second;
         third =
-            opened_next kept Third (rows_of given.third.items) (λ (s : Seats H h). (s.third.seat, s.third.claim)) n (rows_of left.third.items) rows more seats
+            opened_next kept Third (rows_of given.third.items) (λ (s : Seats H h). (s.seat.third, s.claim)) n (rows_of left.third.items) rows more seats
             same before.long is left_are.third now.third before.third;
         fourth =
-            opened_next kept Fourth (rows_of given.fourth.items) (λ (s : Seats H h). (s.fourth.seat, s.fourth.claim)) n (rows_of left.fourth.items) rows more seats
+            opened_next kept Fourth (rows_of given.fourth.items) (λ (s : Seats H h). (s.seat.fourth, s.claim)) n (rows_of left.fourth.items) rows more seats
             same before.long is left_are.fourth now.fourth before.fourth;
         settled = settled_next kept n before.settled now.settled;
       }

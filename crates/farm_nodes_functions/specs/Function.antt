@@ -6,13 +6,16 @@ use Rattle.rooms_hall.specs.declared.hall.Naming as naming
 use Rattle.farm_nodes_passes.specs.Numbers.{function_of, room_at}
 use Rattle.farm_nodes_passes.specs.Offers.{Constants, Expressions, Allocation, Order}
 use Rattle.farm_nodes_passes.specs.declared.passes.Passes.{Passes}
-use Rattle.farm_nodes_passes.specs.declared.seats.Seats.{Seats}
+use Rattle.farm_nodes_passes.specs.Seats.{Seats}
 use Rattle.farm_nodes_passes.specs.declared.which.Which.TheVariants.{First, Second, Third, Fourth}
 use Rattle.farm_nodes_lists.specs.Rows.{offers_of, rows_of, AreForOthers}
 use Rattle.farm_nodes_opening.specs.Kept.{kept_of, AreSettled, AreSettledBefore, IsOfferedIn, IsSettledIn}
 use Rattle.farm_nodes_opening.specs.Numbered.{IsOpenedRoom}
 use Rattle.farm_nodes_opening.specs.declared.fault.RoomFault.{RoomFault}
-use Rattle.farm_nodes_opening.specs.declared.fault.RoomFault.TheVariants.{CellRefused, Unsettled}
+use Rattle.farm_nodes_opening.specs.declared.fault.RoomFault.TheVariants.{CellRefused, NoMemory, Unsettled}
+use Rattle.rooms.specs.declared.error.RoomError.{RoomError}
+use Rattle.rooms.specs.declared.error.RoomError.TheVariants as error
+use Rattle.rooms_function.specs.declared.opening.FunctionOffers.{FunctionOffers}
 
 -- the offers of the nodes, pass by pass: node by node, for each function
 abbrev pub Offered : Type 0
@@ -27,10 +30,10 @@ pub record AreTaken (function : ℕ) (before after : Offered) : Type 0 where
 
 -- in each room the nodes' seats are those of the room as it opens from what was kept of it and offered there
 pub record IsOpenFunction {H : Type 0} {h : naming.Ghosts H} (kept : List (Vec KeptPart)) (f : ℕ) (offers : Offered) (nodes : List (Seats H h)) : Type 0 where
-  pub first : IsOpenedRoom (kept_of kept (room_at f First)) (offers_of (rows_of offers.first.items) f) (map (λ n. (n.first.seat, n.first.claim)) nodes)
-  pub second : IsOpenedRoom (kept_of kept (room_at f Second)) (offers_of (rows_of offers.second.items) f) (map (λ n. (n.second.seat, n.second.claim)) nodes)
-  pub third : IsOpenedRoom (kept_of kept (room_at f Third)) (offers_of (rows_of offers.third.items) f) (map (λ n. (n.third.seat, n.third.claim)) nodes)
-  pub fourth : IsOpenedRoom (kept_of kept (room_at f Fourth)) (offers_of (rows_of offers.fourth.items) f) (map (λ n. (n.fourth.seat, n.fourth.claim)) nodes)
+  pub first : IsOpenedRoom (kept_of kept (room_at f First)) (offers_of (rows_of offers.first.items) f) (map (λ n. (n.seat.first, n.claim)) nodes)
+  pub second : IsOpenedRoom (kept_of kept (room_at f Second)) (offers_of (rows_of offers.second.items) f) (map (λ n. (n.seat.second, n.claim)) nodes)
+  pub third : IsOpenedRoom (kept_of kept (room_at f Third)) (offers_of (rows_of offers.third.items) f) (map (λ n. (n.seat.third, n.claim)) nodes)
+  pub fourth : IsOpenedRoom (kept_of kept (room_at f Fourth)) (offers_of (rows_of offers.fourth.items) f) (map (λ n. (n.seat.fourth, n.claim)) nodes)
   pub count : length nodes ≡ length kept
   pub settled : AreSettled kept f
 
@@ -41,3 +44,16 @@ pub record IsTold (nodes : List (Vec KeptPart)) (function room : ℕ) (fault : R
   pub before : AreSettledBefore nodes function room
   pub unsettled : fault ≡ Unsettled → ¬ IsSettledIn nodes room
   pub refused : fault ≡ CellRefused → IsOfferedIn nodes room
+
+-- why a room is not opened, in the words of the farm
+abbrev pub fault_of : RoomError → RoomFault
+fault_of error.NoMemory = NoMemory
+fault_of error.Unsettled = Unsettled
+fault_of error.CellRefused = CellRefused
+
+-- they are those for the function
+pub record AreHere (f : ℕ) (offers : Offered) (here : FunctionOffers) : Type 0 where
+  pub first : here.first.items ≡ offers_of (rows_of offers.first.items) f
+  pub second : here.second.items ≡ offers_of (rows_of offers.second.items) f
+  pub third : here.third.items ≡ offers_of (rows_of offers.third.items) f
+  pub fourth : here.fourth.items ≡ offers_of (rows_of offers.fourth.items) f

@@ -1,22 +1,24 @@
-ghost use Rattle.std.specs.Prelude.{◌<◌, length, IfOk, OnOk, IfErr};
+ghost use Rattle.std.specs.Prelude.{◌≡◌, ◌+◌, ◌*◌, ◌<◌, ◌≤◌, length, IfOk, OnOk, IfErr};
 ghost use Rattle.paxos_core_law.specs.NodeState.{IsRoomSize};
 ghost use Rattle.rooms.specs.Opened.{AreOffersOf};
 ghost use Rattle.farm_nodes_passes.specs.Numbers.{room_at};
 ghost use Rattle.farm_nodes_passes.specs.declared.which.Which.TheVariants as which;
 ghost use Rattle.farm_nodes_lists.specs.Rows.{offers_of, rows_of};
 ghost use Rattle.farm_nodes_opening.specs.Kept.{kept_of};
-ghost use Rattle.farm_nodes_functions.specs.Function.{AreTaken, IsOpenFunction, IsTold};
+ghost use Rattle.farm_nodes_functions.specs.Function.{fault_of, AreHere, AreTaken, IsOpenFunction, IsTold};
 
-use crate::nodes::node_by_node;
 use alloc_check::Alloc;
 use constprop_check::ConstProp;
 use cse_check::Cse;
-use farm_nodes_opening::{Unopened, open_at};
-use farm_nodes_passes::{Passes, Seats, Which};
+use farm_nodes_lists::take_each;
+use farm_nodes_opening::{RoomFault, Unopened, numbered, parts_of};
+use farm_nodes_passes::{Passes, Seats};
 use lang_base::NoMemory;
 use linearize_check::Linearize;
 use offers::Offer;
 use paxos_core::Kept;
+use rooms::RoomError;
+use rooms_function::{FunctionOffers, FunctionRoom};
 use rooms_hall::{Hall, Naming};
 use std::alloc::Global;
 
@@ -29,7 +31,7 @@ pub type Offered = Passes<
 >;
 
 /// The seats of the nodes in the four rooms of a function, in the order of the nodes, from what each has kept of each room and the offers
-/// of the nodes there, which are taken out. Where a room is not opened it is told, the first in the order of the passes.
+/// of the nodes there, which are taken out. Where the rooms are not opened one is told, the first in the order of the passes.
 pub(crate) fn open_function<H: Naming>(
     alloc: Global,
     hall: &Hall<H>,
@@ -51,38 +53,73 @@ pub(crate) fn open_function<H: Naming>(
     ensures others { OnOk result (AreTaken function offers.old offers.new) }
     ensures told { IfErr result (λ e. IsTold kept.now function e.room e.fault) }
 {
-    let first = match open_at(alloc, hall, kept, function, Which::First, &mut offers.first) {
-        Ok(seats) => seats,
-        Err(unopened) => return Err(unopened),
+    let parts = match parts_of(alloc, kept, function) {
+        Ok(parts) => parts,
+        Err(NoMemory) => return Err(Unopened::no_memory(4 * function)),
     };
-    let second = match open_at(
-        alloc,
-        hall,
-        kept,
-        function,
-        Which::Second,
-        &mut offers.second,
-    ) {
-        Ok(seats) => seats,
-        Err(unopened) => return Err(unopened),
+    let here = match offers_for(alloc, function, offers) {
+        Ok(here) => here,
+        Err(NoMemory) => return Err(Unopened::no_memory(4 * function)),
     };
-    let third = match open_at(alloc, hall, kept, function, Which::Third, &mut offers.third) {
+    let seats = match FunctionRoom::open(alloc, parts.as_slice(), here) {
         Ok(seats) => seats,
-        Err(unopened) => return Err(unopened),
+        Err(unopened) => return Err(told(function, unopened)),
     };
-    let fourth = match open_at(
-        alloc,
-        hall,
-        kept,
-        function,
-        Which::Fourth,
-        &mut offers.fourth,
-    ) {
-        Ok(seats) => seats,
-        Err(unopened) => return Err(unopened),
-    };
-    match node_by_node(alloc, first, second, third, fourth) {
+    match numbered(alloc, hall, seats) {
         Ok(nodes) => Ok(nodes),
-        Err(NoMemory) => Err(Unopened::no_memory(4 * function + 3)),
+        Err(fault) => Err(Unopened {
+            room: 4 * function,
+            fault,
+        }),
     }
+}
+
+/// Takes the offers for a function out, pass by pass; those for others stay.
+fn offers_for(
+    alloc: Global,
+    function: u16,
+    offers: &mut Offered,
+) -> Result<FunctionOffers, NoMemory>
+    ensures here { IfOk result (λ here. AreHere function offers.old here) }
+    ensures others { OnOk result (AreTaken function offers.old offers.new) }
+{
+    let first = match take_each(alloc, &mut offers.first, function) {
+        Ok(here) => here,
+        Err(NoMemory) => return Err(NoMemory),
+    };
+    let second = match take_each(alloc, &mut offers.second, function) {
+        Ok(here) => here,
+        Err(NoMemory) => return Err(NoMemory),
+    };
+    let third = match take_each(alloc, &mut offers.third, function) {
+        Ok(here) => here,
+        Err(NoMemory) => return Err(NoMemory),
+    };
+    let fourth = match take_each(alloc, &mut offers.fourth, function) {
+        Ok(here) => here,
+        Err(NoMemory) => return Err(NoMemory),
+    };
+    Ok(FunctionOffers {
+        first,
+        second,
+        third,
+        fourth,
+    })
+}
+
+/// The room of a function's pass, the first being 1, by its number, and why it is not opened.
+fn told(function: u16, unopened: rooms_function::Unopened) -> Unopened
+    requires number { function < 16384 }
+    requires some { 0 < unopened.pass }
+    requires most { unopened.pass ≤ 4 }
+    ensures room { result.room + 1 ≡ 4 * function + unopened.pass }
+    ensures fault { result.fault ≡ fault_of unopened.error }
+{
+    let room = 4 * function + (u16::from(unopened.pass) - 1);
+    let fault = match unopened.error {
+        RoomError::NoMemory => RoomFault::NoMemory,
+        RoomError::Unsettled => RoomFault::Unsettled,
+        RoomError::CellRefused => RoomFault::CellRefused,
+    };
+    Unopened { room, fault }
 }

@@ -3,7 +3,6 @@
 #![tactic(auto)]
 
 mod function;
-mod nodes;
 mod opening;
 
 pub use function::Offered;

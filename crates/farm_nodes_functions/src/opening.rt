@@ -38,13 +38,13 @@ pub fn open_functions<H: Naming>(
 
     // In each room they are those of the room as it opens from what was kept of it and offered there.
     ensures first { IfOk result (λ nodes. AreOpenedIn kept.now which.First functions (rows_of offers.first.items)
-        (λ n. (n.first.seat, n.first.claim)) (rows_of nodes.items)) }
+        (λ n. (n.seat.first, n.claim)) (rows_of nodes.items)) }
     ensures second { IfOk result (λ nodes. AreOpenedIn kept.now which.Second functions (rows_of offers.second.items)
-        (λ n. (n.second.seat, n.second.claim)) (rows_of nodes.items)) }
+        (λ n. (n.seat.second, n.claim)) (rows_of nodes.items)) }
     ensures third { IfOk result (λ nodes. AreOpenedIn kept.now which.Third functions (rows_of offers.third.items)
-        (λ n. (n.third.seat, n.third.claim)) (rows_of nodes.items)) }
+        (λ n. (n.seat.third, n.claim)) (rows_of nodes.items)) }
     ensures fourth { IfOk result (λ nodes. AreOpenedIn kept.now which.Fourth functions (rows_of offers.fourth.items)
-        (λ n. (n.fourth.seat, n.fourth.claim)) (rows_of nodes.items)) }
+        (λ n. (n.seat.fourth, n.claim)) (rows_of nodes.items)) }
     ensures settled { OnOk result ((f : ℕ) → f < functions → AreSettled kept.now f) }
 
     // What was kept of the rooms in front of the one that is told is settled, and of that one it is not where it is said so.

@@ -2,7 +2,7 @@
 use Rattle.std.specs.Prelude.{◌≡◌, ℕ, List, map, slice_get, Option, Some, None}
 use Rattle.rooms_hall.specs.declared.hall.Naming as naming
 use Rattle.farm_nodes_passes.specs.Offers.{Constants, Expressions, Allocation, Order}
-use Rattle.farm_nodes_passes.specs.declared.seats.Seats.{Seats}
+use Rattle.farm_nodes_passes.specs.Seats.{Seats}
 use Rattle.farm_nodes_meeting.specs.Learned.{learned_offer}
 
 -- an offer of each pass
@@ -23,7 +23,7 @@ all_four (Some w) (Some x) (Some y) (Some z) = Some (record { first = w; second 
 module _ {H : Type 0} {h : naming.Ghosts H} where
   -- the offers learned in the four rooms, where in each one is learned and seen
   abbrev pub learned_four : Seats H h → Option FourOffers
-  learned_four s = all_four (learned_offer s.first.seat) (learned_offer s.second.seat) (learned_offer s.third.seat) (learned_offer s.fourth.seat)
+  learned_four s = all_four (learned_offer s.seat.first) (learned_offer s.seat.second) (learned_offer s.seat.third) (learned_offer s.seat.fourth)
 
   -- by function
   abbrev pub learned_by : List (Seats H h) → List (Option FourOffers)

@@ -12,16 +12,16 @@ use rooms_hall::Naming;
 pub(crate) fn chain_of<H: Naming>(seats: &Seats<H>) -> Option<Chain<'_>>
     ensures { lent result ≡ learned_four seats.now }
 {
-    let Some(first) = learned_offer(&seats.first.seat) else {
+    let Some(first) = learned_offer(&seats.seat.first) else {
         return None;
     };
-    let Some(second) = learned_offer(&seats.second.seat) else {
+    let Some(second) = learned_offer(&seats.seat.second) else {
         return None;
     };
-    let Some(third) = learned_offer(&seats.third.seat) else {
+    let Some(third) = learned_offer(&seats.seat.third) else {
         return None;
     };
-    let Some(fourth) = learned_offer(&seats.fourth.seat) else {
+    let Some(fourth) = learned_offer(&seats.seat.fourth) else {
         return None;
     };
     Some(Chain {

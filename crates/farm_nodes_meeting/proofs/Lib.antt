@@ -1,4 +1,3 @@
-pub mod Stable
 pub mod Seen
 pub mod Rooms
 pub mod FourRooms

@@ -1,5 +1,5 @@
 -- The seats of two nodes in the four rooms of a function, which have met.
-use Rattle.std.specs.Prelude.{◌≡◌, ◌↔◌, Bool, IsTrue}
+use Rattle.std.specs.Prelude.{◌≡◌, ◌↔◌, Bool, IsSome, IsTrue}
 use Rattle.farm_nodes_meeting.specs.Held.{Held}
 use Rattle.farm_nodes_meeting.specs.Learned.{learned_offer}
 use Rattle.farm_nodes_meeting.specs.Rooms as room
@@ -18,6 +18,13 @@ module _ {T1 T2 T3 T4 : Type 0} where
     pub second : room.LinkIn s.second t.second
     pub third : room.LinkIn s.third t.third
     pub fourth : room.LinkIn s.fourth t.fourth
+
+  -- in each room an offer is learned, and seen
+  pub record HasAll (s : Held T1 T2 T3 T4) : Type 0 where
+    pub first : IsSome (learned_offer s.first.seat)
+    pub second : IsSome (learned_offer s.second.seat)
+    pub third : IsSome (learned_offer s.third.seat)
+    pub fourth : IsSome (learned_offer s.fourth.seat)
 
   -- they hold the same four learned offers, so the same code
   pub record HoldSame (s t : Held T1 T2 T3 T4) : Type 0 where

@@ -1,8 +1,8 @@
--- A node's seats in the four rooms of a function, each with the claim to its room's number. A T is what an offer is.
+-- A node's seats in the four rooms of a function, each with the claim to the number that the rooms share. A T is what an offer is.
 use Rattle.rooms.specs.SeatValue.{SeatValue}
 use Rattle.rooms_hall.specs.Claimed.{Claimed}
 use Rattle.rooms_hall.specs.declared.hall.Naming as naming
-use Rattle.farm_nodes_passes.specs.declared.seats.Seats.{Seats}
+use Rattle.farm_nodes_passes.specs.Seats.{Seats}
 use Rattle.farm_nodes_passes.specs.Offers.{Constants, Expressions, Allocation, Order}
 
 pub record Numbered (T : Type 0) : Type 0 where
@@ -24,4 +24,4 @@ held c1 s1 c2 s2 c3 s3 c4 s4 =
     record { first = numbered c1 s1; second = numbered c2 s2; third = numbered c3 s3; fourth = numbered c4 s4 }
 
 abbrev pub held_of : {H : Type 0} {h : naming.Ghosts H} → Seats H h → Held Constants Expressions Allocation Order
-held_of s = held s.first.claim s.first.seat s.second.claim s.second.seat s.third.claim s.third.seat s.fourth.claim s.fourth.seat
+held_of s = held s.claim s.seat.first s.claim s.seat.second s.claim s.seat.third s.claim s.seat.fourth

@@ -1,49 +1,39 @@
-ghost use Rattle.std.specs.Prelude.{◌↔◌, IsTrue};
-ghost use Rattle.farm_nodes_meeting.specs.Held.{held_of, numbered};
-ghost use Rattle.farm_nodes_meeting.specs.Functions.{HasMet};
-ghost use Rattle.farm_nodes_meeting.specs.Rooms.{LinkIn, MetIn};
+ghost use Rattle.std.specs.Prelude.{◌≡◌, ◌↔◌, ◌&&◌, IsTrue};
+ghost use Rattle.farm_nodes_meeting.specs.Held.{held_of};
+ghost use Rattle.farm_nodes_meeting.specs.Functions.{HasAll, HasMet};
 
-use crate::room::{and, meet_in_room};
+use crate::learned::has_learned_offer;
 use farm_nodes_passes::Seats;
-use lang_base::Pass;
 use rooms_hall::Naming;
-use rooms_numbered::NumberedSeat;
+use rooms_numbered::meet;
 
-/// The seats of two nodes in the four rooms of one function meet, room by room. Answers whether both link the function.
+/// The seats of two nodes in the four rooms of one function meet, room by room, where the rooms have one number. Answers whether both
+/// link the function.
 pub fn meet_in_function<H: Naming>(first: &mut Seats<H>, second: &mut Seats<H>) -> bool
     ensures { HasMet (held_of first.old) (held_of second.old) (held_of first.new) (held_of second.new) result }
 {
-    let early = meet_in_two(
-        &mut first.first,
-        &mut second.first,
-        &mut first.second,
-        &mut second.second,
+    let told = meet(first, second);
+    let both = and(has_all(first), has_all(second));
+    and(told.is_some(), both)
+}
+
+/// Whether in each room of a function an offer is learned, and seen.
+fn has_all<H: Naming>(seats: &Seats<H>) -> bool
+    ensures { IsTrue result ↔ HasAll (held_of seats.now) }
+{
+    let early = and(
+        has_learned_offer(&seats.seat.first),
+        has_learned_offer(&seats.seat.second),
     );
-    let late = meet_in_two(
-        &mut first.third,
-        &mut second.third,
-        &mut first.fourth,
-        &mut second.fourth,
+    let late = and(
+        has_learned_offer(&seats.seat.third),
+        has_learned_offer(&seats.seat.fourth),
     );
     and(early, late)
 }
 
-/// The seats of two nodes meet in two rooms. Answers whether both link there.
-fn meet_in_two<P: Pass, Q: Pass, H: Naming>(
-    here: &mut NumberedSeat<P, H>,
-    here_other: &mut NumberedSeat<P, H>,
-    there: &mut NumberedSeat<Q, H>,
-    there_other: &mut NumberedSeat<Q, H>,
-) -> bool
-    ensures here { MetIn (numbered here.old.claim here.old.seat) (numbered here_other.old.claim here_other.old.seat)
-        (numbered here.new.claim here.new.seat) (numbered here_other.new.claim here_other.new.seat) }
-    ensures there { MetIn (numbered there.old.claim there.old.seat) (numbered there_other.old.claim there_other.old.seat)
-        (numbered there.new.claim there.new.seat) (numbered there_other.new.claim there_other.new.seat) }
-    ensures link { IsTrue result ↔
-        (LinkIn (numbered here.new.claim here.new.seat) (numbered here_other.new.claim here_other.new.seat)
-        × LinkIn (numbered there.new.claim there.new.seat) (numbered there_other.new.claim there_other.new.seat)) }
+fn and(first: bool, second: bool) -> bool
+    ensures { result ≡ (first && second) }
 {
-    let one = meet_in_room(here, here_other);
-    let other = meet_in_room(there, there_other);
-    and(one, other)
+    first && second
 }

@@ -5,9 +5,7 @@
 mod functions;
 mod learned;
 mod meeting;
-mod room;
 
 pub use functions::meet_in_function;
 pub use learned::{has_learned_offer, learned_offer};
 pub use meeting::meet_all;
-pub use room::meet_in_room;

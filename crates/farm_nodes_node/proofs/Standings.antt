@@ -10,10 +10,10 @@ use Rattle.acceptor_log_form.specs.Lists.{Between}
 use Rattle.acceptor_log.specs.declared.log.Log.{Log}
 use Rattle.acceptor_log.specs.Acknowledged.{acknowledged}
 use Rattle.farm_nodes_acting.specs.Advances.{Advances, AreOf}
-use Rattle.farm_nodes_passes.specs.Numbers.{function_of, pass_of}
+use Rattle.farm_nodes_turn.specs.Numbers.{function_of, pass_of}
 use Rattle.farm_nodes_node.specs.declared.halted.Halted.{Halted}
-use Rattle.farm_nodes_passes.specs.Fours.{Four, words_of}
-use Rattle.farm_nodes_passes.specs.Leaves.{Leave}
+use Rattle.farm_nodes_turn.specs.Fours.{Four, words_of}
+use Rattle.farm_nodes_turn.specs.Leaves.{Leave}
 use Rattle.farm_nodes_node.specs.Held.{pending_in}
 use Rattle.farm_nodes_turn.specs.Turned.{OthersStay}
 use Rattle.farm_nodes_node.specs.Stood.{TurnsInto}

@@ -9,15 +9,15 @@ use Rattle.farm_nodes_acting.specs.Served.{IsServed}
 use Rattle.farm_nodes_offers.specs.declared.halt.Fault.{Fault}
 use Rattle.farm_nodes_offers.specs.declared.halt.Halt.{Halt}
 use Rattle.farm_nodes_offers.specs.Halted.{left_over, HasHaltCause}
-use Rattle.farm_nodes_passes.specs.Numbers.{function_of, pass_of}
-use Rattle.farm_nodes_playing.specs.declared.progress.Progress.{Progress}
-use Rattle.farm_nodes_playing.specs.declared.progress.Progress.TheVariants.{Learned, Moved, Idle}
-use Rattle.farm_nodes_playing.specs.Played.{progress_of}
+use Rattle.farm_nodes_turn.specs.Numbers.{function_of, pass_of}
+use Rattle.farm_nodes_turn.specs.Progress.{Progress}
+use Rattle.farm_nodes_turn.specs.Progress.TheVariants.{Learned, Moved, Idle}
+use Rattle.farm_nodes_turn.specs.Played.{progress_of}
 use Rattle.farm_nodes_node.specs.declared.halted.Halted.{Halted}
-use Rattle.farm_nodes_passes.specs.Fours.{Four, words_of}
+use Rattle.farm_nodes_turn.specs.Fours.{Four, words_of}
 use Rattle.farm_nodes_turn.specs.Turned.{OthersStay}
 use Rattle.farm_nodes_node.specs.Told.{failure_of, turn_of}
-use Rattle.farm_nodes_passes.specs.Leaves.{Leave, left_in}
+use Rattle.farm_nodes_turn.specs.Leaves.{Leave, left_in}
 use Rattle.farm_nodes_node.specs.Held.{IsSoundNode}
 use Rattle.farm_nodes_turn.specs.Turns.{PlayedIn}
 use Rattle.farm_nodes_node.specs.Stood.{TurnsInto}

@@ -8,8 +8,8 @@ use Rattle.acceptor_log.specs.Acknowledged as journal
 use Rattle.farm_nodes_acting.specs.Advances.{AreOf}
 use Rattle.farm_nodes_offers.specs.declared.halt.Fault.{Fault}
 use Rattle.farm_nodes_node.specs.declared.halted.Halted.{Halted}
-use Rattle.farm_nodes_passes.specs.Fours.{Four}
-use Rattle.farm_nodes_passes.specs.Leaves.{Leave, pending_at}
+use Rattle.farm_nodes_turn.specs.Fours.{Four}
+use Rattle.farm_nodes_turn.specs.Leaves.{Leave, pending_at}
 
 -- the fault that stopped the node
 abbrev pub fault_in : Option Halted → Option Fault

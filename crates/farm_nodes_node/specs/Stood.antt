@@ -7,9 +7,9 @@ use Rattle.acceptor_log.specs.declared.log.Log.{Log}
 use Rattle.acceptor_log.specs.Acknowledged.{acknowledged}
 use Rattle.farm_nodes_offers.specs.declared.halt.Fault.{Fault}
 use Rattle.farm_nodes_offers.specs.Halted.{HasHaltCause}
-use Rattle.farm_nodes_playing.specs.Played.{progress_of}
-use Rattle.farm_nodes_passes.specs.declared.which.Which.{Which}
-use Rattle.farm_nodes_passes.specs.Fours.{Four, words_of}
+use Rattle.farm_nodes_turn.specs.Played.{progress_of}
+use Rattle.farm_nodes_turn.specs.Which.{Which}
+use Rattle.farm_nodes_turn.specs.Fours.{Four, words_of}
 use Rattle.farm_nodes_node.specs.declared.halted.Halted.{Halted}
 use Rattle.farm_nodes_node.specs.declared.turn.Turn.{Turn}
 use Rattle.farm_nodes_node.specs.Held.{IsJournalOf, pending_in}

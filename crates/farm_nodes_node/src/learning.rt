@@ -1,7 +1,7 @@
 ghost use Rattle.std.specs.Prelude.{◌≡◌};
-ghost use Rattle.farm_nodes_passes.specs.Fours.{four_of, words_of};
+ghost use Rattle.farm_nodes_turn.specs.Fours.{four_of, words_of};
 
-use farm_nodes_passes::{Seats, Which};
+use farm_nodes_turn::{Seats, Which};
 use rooms_hall::Naming;
 
 /// The value that the node has learned in the room of one pass of the function.
@@ -9,9 +9,9 @@ pub(crate) fn learned_in<H: Naming>(seats: &Seats<H>, pass: Which) -> Option<u8>
     ensures { result ≡ (words_of (four_of seats.now) pass).node.learned }
 {
     match pass {
-        Which::First => seats.first.seat.learned(),
-        Which::Second => seats.second.seat.learned(),
-        Which::Third => seats.third.seat.learned(),
-        Which::Fourth => seats.fourth.seat.learned(),
+        Which::First => seats.seat.first.learned(),
+        Which::Second => seats.seat.second.learned(),
+        Which::Third => seats.seat.third.learned(),
+        Which::Fourth => seats.seat.fourth.learned(),
     }
 }

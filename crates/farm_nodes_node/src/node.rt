@@ -7,8 +7,7 @@ use crate::turn::Turn;
 use acceptor_log::{Log, LogError};
 use durable_model::Disk;
 use farm_nodes_offers::Fault;
-use farm_nodes_passes::{Oracles, Seats, Which};
-use farm_nodes_turn::{function_in, turn_in};
+use farm_nodes_turn::{Oracles, Seats, Which, function_in, turn_in};
 use lang_base::Program;
 use rand_pcg::Pcg32;
 use rooms_hall::Naming;
@@ -35,8 +34,8 @@ impl<D: Disk, O: Oracles, H: Naming> FarmNode<D, O, H> {
     ghost use Rattle.std.specs.Prelude.{◌≢◌, ◌<◌, ◌/◌, true, None, slice_get};
     ghost use Rattle.rand_pcg.specs.Pcg.{pcg32};
     ghost use Rattle.farm_nodes_acting.specs.Served.{IsServed};
-    ghost use Rattle.farm_nodes_passes.specs.Numbers.{function_of, pass_of};
-    ghost use Rattle.farm_nodes_passes.specs.Fours.{four_of, fours_of};
+    ghost use Rattle.farm_nodes_turn.specs.Numbers.{function_of, pass_of};
+    ghost use Rattle.farm_nodes_turn.specs.Fours.{four_of, fours_of};
     ghost use Rattle.farm_nodes_turn.specs.Turned.{IsTooLargeFor, Leaves, StandsAfter};
     ghost use Rattle.farm_nodes_node.specs.Told.{failure_of};
     ghost use Rattle.farm_nodes_node.specs.Held.{fault_in, pending_in, IsSoundNode};
@@ -110,8 +109,8 @@ impl<D: Disk, O: Oracles, H: Naming> FarmNode<D, O, H> {
 
 impl<D: Disk, O, H: Naming> FarmNode<D, O, H> {
     ghost use Rattle.std.specs.Prelude.{◌<◌, option_copied};
-    ghost use Rattle.farm_nodes_passes.specs.Numbers.{function_of, pass_of};
-    ghost use Rattle.farm_nodes_passes.specs.Fours.{four_of, words_of};
+    ghost use Rattle.farm_nodes_turn.specs.Numbers.{function_of, pass_of};
+    ghost use Rattle.farm_nodes_turn.specs.Fours.{four_of, words_of};
     ghost use Rattle.farm_nodes_node.specs.Held.{fault_in};
     ghost use Rattle.farm_nodes_node.specs.Stood.{At};
 

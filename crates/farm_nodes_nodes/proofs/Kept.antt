@@ -11,7 +11,7 @@ use Rattle.farm_nodes_passes.specs.Fours.{Four, words_of}
 use Rattle.farm_nodes_passes.specs.Leaves.{Leave}
 use Rattle.farm_nodes_passes.specs.declared.which.Which.{Which}
 use Rattle.farm_nodes_passes.specs.declared.which.Which.TheVariants.{First, Second, Third, Fourth}
-use Rattle.farm_nodes_turn.proofs.Places.{found, mapped, map_at, map_length}
+use Rattle.farm_nodes_node.proofs.Places.{found, mapped, map_at, map_length}
 use Rattle.farm_nodes_node.specs.declared.halted.Halted.{Halted}
 use Rattle.farm_nodes_node.specs.Held.{IsSoundNode}
 use Rattle.farm_nodes_meeting.specs.Held.{Held}
@@ -22,14 +22,14 @@ one_item o x y e e' = cc
 
 -- what a seat's node keeps
 module _ {T1 T2 T3 T4 : Type 0} where
-  -- the seats, and their numbers
+  -- the seats, and their number
   abbrev pub four_in : Held T1 T2 T3 T4 → Four T1 T2 T3 T4
   four_in h = record {
     first = h.first.seat;
     second = h.second.seat;
     third = h.third.seat;
     fourth = h.fourth.seat;
-    numbers = record { first = h.first.claim; second = h.second.claim; third = h.third.claim; fourth = h.fourth.claim };
+    number = h.first.claim;
   }
 
   -- their nodes keep what they kept

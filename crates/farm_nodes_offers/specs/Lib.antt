@@ -1,3 +1,5 @@
 pub mod Halted
 pub mod Offered
 pub mod Pending
+pub use Rattle.rooms.specs.SeatValue
+pub use Rattle.farm_nodes_acting.specs.declared.stop.Pending as PendingStop

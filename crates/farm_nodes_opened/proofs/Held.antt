@@ -19,7 +19,7 @@ use Rattle.farm_nodes_passes.specs.Fours.{Four, four_of, fours_of, words_of}
 use Rattle.farm_nodes_passes.specs.Leaves.{Leave}
 use Rattle.farm_nodes_passes.specs.Numbers.{function_of, pass_at, pass_of, place_of, room_at}
 use Rattle.farm_nodes_passes.specs.Offers.{Constants, Expressions, Allocation, Order}
-use Rattle.farm_nodes_passes.specs.declared.seats.Seats.{Seats}
+use Rattle.rooms_numbered.specs.declared.seats.Seats.{Seats}
 use Rattle.farm_nodes_passes.specs.declared.which.Which.{Which}
 use Rattle.farm_nodes_passes.specs.declared.which.Which.TheVariants.{First, Second, Third, Fourth}
 use Rattle.farm_nodes_lists.specs.Rows.{rows_of}

@@ -17,7 +17,7 @@ use Rattle.rooms.specs.SeatValue.{SeatValue}
 use Rattle.rooms_hall.specs.Claimed.{Claimed}
 use Rattle.rooms_hall.specs.declared.hall.Naming as naming
 use Rattle.farm_nodes_passes.specs.Offers.{Constants, Expressions, Allocation, Order}
-use Rattle.farm_nodes_passes.specs.declared.seats.Seats.{Seats}
+use Rattle.rooms_numbered.specs.declared.seats.Seats.{Seats}
 use Rattle.farm_nodes_passes.specs.declared.which.Which.{Which}
 use Rattle.farm_nodes_passes.specs.declared.which.Which.TheVariants.{First, Second, Third, Fourth}
 use Rattle.farm_nodes_lists.specs.Rows.{rows_of}
@@ -38,16 +38,16 @@ module _ {J P A B C I O N : Type 0} (from : language.Ghosts A I) (to : language.
 module _ {H : Type 0} {h : naming.Ghosts H} where
   -- the seats of each pass, with the numbers of their rooms
   abbrev pub first_seat : Seats H h → SeatValue Constants × Claimed
-  first_seat s = (s.first.seat, s.first.claim)
+  first_seat s = (s.seat.first, s.claim)
 
   abbrev pub second_seat : Seats H h → SeatValue Expressions × Claimed
-  second_seat s = (s.second.seat, s.second.claim)
+  second_seat s = (s.seat.second, s.claim)
 
   abbrev pub third_seat : Seats H h → SeatValue Allocation × Claimed
-  third_seat s = (s.third.seat, s.third.claim)
+  third_seat s = (s.seat.third, s.claim)
 
   abbrev pub fourth_seat : Seats H h → SeatValue Order × Claimed
-  fourth_seat s = (s.fourth.seat, s.fourth.claim)
+  fourth_seat s = (s.seat.fourth, s.claim)
 
   -- so it is of all passes
   pub record AreSeated {J : Type 0} (functions : ℕ) (journals : List (J × Vec Record)) (rows : List (List (Seats H h))) : Type 0 where

@@ -7,5 +7,6 @@ mod fault;
 mod opening;
 mod seating;
 
+pub use farm_nodes_joining::{FarmNode, Halted, Turn};
 pub use fault::OpenFault;
 pub use opening::open_nodes;

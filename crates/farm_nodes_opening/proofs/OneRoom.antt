@@ -1,8 +1,8 @@
 -- The seats of a room as it opens are of one room, and as many as its nodes.
 use Rattle.std.proofs.Common.{◌≡◌, inl, inr, ℕ, zero, suc, ◌<◌, List, [], ◌∷◌, length, map, set, get_or, All, Option, Some, None, refl, sym, ap, subst, ◌∙◌, arith}
-use Rattle.std.proofs.lemmas.List.{length_push, length-map}
-use Rattle.std.proofs.lemmas.List.Elements.{All-nil, All-push, All-same, All-get_or, All-weaker}
-use Rattle.atomic_table.specs.Seated.{TableId}
+use Rattle.std.proofs.lemmas.List.{length_push}
+use Rattle.std.proofs.lemmas.List.Elements.{All-cons, All-get_or, All-head, All-nil, All-push, All-same, All-tail, All-weaker}
+use Rattle.rooms_table.specs.RoomAt.{RoomAt}
 use Rattle.paxos_core_law.specs.NodeState.{IsRoomSize}
 use Rattle.paxos_core_world.specs.KeptPart.{KeptPart}
 use Rattle.rooms_cells.specs.Seen.{SightOf, names_of, nothing_seen, sight_at, unseen}
@@ -12,10 +12,11 @@ use Rattle.rooms_rule.specs.declared.view.Opening.{Opening}
 use Rattle.rooms_state.specs.SeatState.{opening_of}
 use Rattle.rooms.specs.Opened.{offer_at, opened, opened_first, with_seen, AreOffersOf, AreOpened}
 use Rattle.rooms.specs.SeatValue.{SeatValue}
-use Rattle.rooms_numbered.specs.RoomOf.{room_of}
-use Rattle.farm_nodes_opening.specs.Numbered.{AreOfOneRoom, HaveOneClaim, IsOpenedRoom}
+use Rattle.rooms_function.specs.declared.seat.FunctionSeat.{FunctionSeat}
+use Rattle.farm_nodes_passes.specs.FunctionOf.{function_of}
+use Rattle.farm_nodes_opening.specs.Numbered.{AreOfOneFunction, HaveOneClaim, IsOpenedRoom}
 
-map-map : {A B C : Type 0} (f : B → C) (g : A → B) (xs : List A) → map f (map g xs) ≡ map (λ x. f (g x)) xs
+pub map-map : {A B C : Type 0} (f : B → C) (g : A → B) (xs : List A) → map f (map g xs) ≡ map (λ x. f (g x)) xs
 map-map f g [] = refl
 map-map f g (x ∷ xs) = ap (λ ys. f (g x) ∷ ys) (map-map f g xs)
 
@@ -28,10 +29,11 @@ names_of-unseen : (T : Type 0) (names : List ℕ) → names_of (unseen {T = T} n
 names_of-unseen T [] = refl
 names_of-unseen T (n ∷ ns) = ap (λ ms. n ∷ ms) (names_of-unseen T ns)
 
-abbrev pub room : TableId → List ℕ → RoomId
-room table cells = record { table = table; cells = cells }
+-- where its words are, and the names of its cells
+abbrev pub here_is : {T : Type 0} → RoomAt → List ℕ → SeatValue T → Type 0
+here_is table cells s = (s.words.table ≡ table) × (names_of s.sights ≡ cells)
 
-module _ {T : Type 0} (table : TableId) (cells : List ℕ) (o : Opening) where
+module _ {T : Type 0} (table : RoomAt) (cells : List ℕ) (o : Opening) where
   names_of-seen : (i : ℕ) (x : Option T) → names_of (with_seen i x (unseen {T = T} cells)) ≡ cells
   names_of-seen i None = names_of-unseen T cells
   names_of-seen i (Some x) =
@@ -39,10 +41,10 @@ module _ {T : Type 0} (table : TableId) (cells : List ℕ) (o : Opening) where
       ∙ names_of-unseen T cells
 
   abbrev pub IsHere : SeatValue T → Type 0
-  IsHere s = room_of s ≡ room table cells
+  IsHere s = here_is table cells s
 
   is_here : (i : ℕ) (x : Option T) → IsHere (opened table cells o i x)
-  is_here i x = let as_room : List ℕ → RoomId = λ ns. record { table = table; cells = ns } in ap as_room (names_of-seen i x)
+  is_here i x = (refl, names_of-seen i x)
 
   module _ (offers : List (Option T)) where
     all_here : (k : ℕ) → All IsHere (opened_first table cells o offers k)
@@ -56,13 +58,10 @@ module _ {T : Type 0} (table : TableId) (cells : List ℕ) (o : Opening) where
         length_push (opened_first table cells o offers k) (opened table cells o k (offer_at offers k)) ∙ omega (arith, so_many k)
 
 module _ {T : Type 0} (kept : List KeptPart) (offers : List (Option T)) (seats : List (SeatValue T)) (are : AreOpened kept offers seats) where
-  pub one_room : AreOfOneRoom seats
+  pub one_room : All (here_is are.table are.cells) seats
   one_room =
-      let here = all_here {T = T} are.table are.cells (opening_of kept) offers (length kept) in
-      record {
-        room = room are.table are.cells;
-        each = All-same (IsHere {T = T} are.table are.cells (opening_of kept)) seats (opened_first are.table are.cells (opening_of kept) offers (length kept)) are.seats_are here;
-      }
+      All-same (IsHere {T = T} are.table are.cells (opening_of kept)) seats (opened_first are.table are.cells (opening_of kept) offers (length kept)) are.seats_are
+      (all_here {T = T} are.table are.cells (opening_of kept) offers (length kept))
 
   pub as_many : length seats ≡ length kept
   as_many = ap length are.seats_are ∙ so_many {T = T} are.table are.cells (opening_of kept) offers (length kept)
@@ -72,12 +71,34 @@ module _ {T : Type 0} (kept : List KeptPart) (offers : List (Option T)) (seats :
   some_seat (inr (inl five)) = omega (arith, five, as_many)
   some_seat (inr (inr seven)) = omega (arith, seven, as_many)
 
--- a claim of the room of one of them is one of each one's room
-pub claimed_by_all : {T : Type 0} (seats : List (SeatValue T)) (one : SeatValue T) (claimed : RoomId) → AreOfOneRoom seats → 0 < length seats → one ≡ get_or seats 0 one → claimed ≡ room_of one → All (λ s. room_of s ≡ claimed) seats
-claimed_by_all {T} seats one claimed are some is named =
-    let Here : SeatValue T → Type 0 = λ s. room_of s ≡ are.room in
-    let here : room_of one ≡ are.room = ap room_of is ∙ All-get_or Here seats 0 one some are.each in
-    All-weaker Here (λ s. room_of s ≡ claimed) (λ s e. e ∙ sym here ∙ sym named) seats are.each
+-- a claim of the rooms of one of them is one of each one's rooms
+pub claimed_by_all : (seats : List FunctionSeat) (one : FunctionSeat) (claimed : RoomId) → AreOfOneFunction seats → 0 < length seats → one ≡ get_or seats 0 one → claimed ≡ function_of one → All (λ s. function_of s ≡ claimed) seats
+claimed_by_all seats one claimed are some is named =
+    let Here : FunctionSeat → Type 0 = λ s. function_of s ≡ are.rooms in
+    let here : function_of one ≡ are.rooms = ap function_of is ∙ All-get_or Here seats 0 one some are.each in
+    All-weaker Here (λ s. function_of s ≡ claimed) (λ s e. e ∙ sym here ∙ sym named) seats are.each
+
+-- seats of one room in each pass are of one function
+module _ (p1 p2 p3 p4 : RoomAt) (c1 c2 c3 c4 : List ℕ) where
+  abbrev rooms : RoomId
+  rooms = record { places = p1 ∷ p2 ∷ p3 ∷ p4 ∷ []; cells = c1 ∷ c2 ∷ c3 ∷ c4 ∷ [] }
+
+  are_here : (s : FunctionSeat) → here_is p1 c1 s.first → here_is p2 c2 s.second → here_is p3 c3 s.third → here_is p4 c4 s.fourth → function_of s ≡ rooms
+  are_here s a b c d = λ i. record { places = a.0 i ∷ b.0 i ∷ c.0 i ∷ d.0 i ∷ []; cells = a.1 i ∷ b.1 i ∷ c.1 i ∷ d.1 i ∷ [] }
+
+  all_rooms : (seats : List FunctionSeat) → All (here_is p1 c1) (map (λ s. s.first) seats) → All (here_is p2 c2) (map (λ s. s.second) seats)
+      → All (here_is p3 c3) (map (λ s. s.third) seats) → All (here_is p4 c4) (map (λ s. s.fourth) seats) → All (λ s. function_of s ≡ rooms) seats
+  all_rooms [] a b c d = All-nil (λ s. function_of s ≡ rooms)
+  all_rooms (s ∷ ss) a b c d =
+      All-cons (λ t. function_of t ≡ rooms) s ss
+      (are_here s (All-head (here_is p1 c1) s.first (map (λ t. t.first) ss) a) (All-head (here_is p2 c2) s.second (map (λ t. t.second) ss) b)
+      (All-head (here_is p3 c3) s.third (map (λ t. t.third) ss) c) (All-head (here_is p4 c4) s.fourth (map (λ t. t.fourth) ss) d))
+      (all_rooms ss (All-tail (here_is p1 c1) s.first (map (λ t. t.first) ss) a) (All-tail (here_is p2 c2) s.second (map (λ t. t.second) ss) b)
+      (All-tail (here_is p3 c3) s.third (map (λ t. t.third) ss) c) (All-tail (here_is p4 c4) s.fourth (map (λ t. t.fourth) ss) d))
+
+  pub one_function : (seats : List FunctionSeat) → All (here_is p1 c1) (map (λ s. s.first) seats) → All (here_is p2 c2) (map (λ s. s.second) seats)
+      → All (here_is p3 c3) (map (λ s. s.third) seats) → All (here_is p4 c4) (map (λ s. s.fourth) seats) → AreOfOneFunction seats
+  one_function seats a b c d = record { rooms = rooms; each = all_rooms seats a b c d }
 
 -- seats and claims side by side
 pub opened_pairs : {T N : Type 0} (kept : List KeptPart) (offers : List (Option T)) (seat : N → SeatValue T) (claim : N → Claimed) (found : List N) (seats : List (SeatValue T)) → map seat found ≡ seats → HaveOneClaim (map claim found) → AreOpened kept offers seats → IsOpenedRoom kept offers (map (λ n. (seat n, claim n)) found)
@@ -104,11 +125,3 @@ as_given {T} kept parts offers here seats same given is =
 pub offers_as_given : {T : Type 0} (kept parts : List KeptPart) (offers here : List (Option T)) → parts ≡ kept → here ≡ offers → AreOffersOf kept offers → AreOffersOf parts here
 offers_as_given {T} kept parts offers here same given are =
     subst (λ (os : List (Option T)). AreOffersOf parts os) (sym given) (subst (λ (k : List KeptPart). AreOffersOf k offers) (sym same) are)
-
--- how many they are
-pub pairs_count : {T N : Type 0} (kept : List KeptPart) (offers : List (Option T)) (show : N → SeatValue T × Claimed) (found : List N) → IsOpenedRoom kept offers (map show found) → length found ≡ length kept
-pairs_count kept offers show found is =
-    sym (length-map found show) ∙ sym (length-map (map show found) (λ p. p.0)) ∙ as_many kept offers (map (λ p. p.0) (map show found)) is.opened
-
-pub sized : {X : Type 0} (nodes : List X) (kept : List KeptPart) → length kept ≡ length nodes → IsRoomSize (length nodes) → IsRoomSize (length kept)
-sized nodes kept same size = subst IsRoomSize (sym same) size

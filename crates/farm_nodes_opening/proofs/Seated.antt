@@ -7,7 +7,7 @@ use Rattle.std.proofs.lemmas.Option.{same_Some, slice_get-map, slice_get_within}
 use Rattle.paxos_core_law.specs.NodeState.{IsRoomSize, node_with}
 use Rattle.paxos_core_world.specs.KeptPart.{KeptPart}
 use Rattle.paxos_core_world.specs.World.{nodes_of}
-use Rattle.atomic_table.specs.Seated.{TableId}
+use Rattle.rooms_table.specs.RoomAt.{RoomAt}
 use Rattle.rooms_cells.specs.Seen.{SightOf, nothing_seen, sight_at, unseen, value_at}
 use Rattle.rooms_hall.specs.Claimed.{Claimed}
 use Rattle.rooms_rule.specs.declared.view.Opening.{Opening}
@@ -43,7 +43,7 @@ at_most_seven n (inl e) = omega (arith, e)
 at_most_seven n (inr (inl e)) = omega (arith, e)
 at_most_seven n (inr (inr e)) = omega (arith, e)
 
-module _ {T : Type 0} (table : TableId) (cells : List ℕ) (o : Opening) (offers : List (Option T)) where
+module _ {T : Type 0} (table : RoomAt) (cells : List ℕ) (o : Opening) (offers : List (Option T)) where
   abbrev seat : ℕ → SeatValue T
   seat i = opened table cells o i (offer_at offers i)
 

@@ -1,5 +1,5 @@
 -- What the nodes have kept of their rooms, and whether those of a function are settled.
-use Rattle.std.specs.Prelude.{ℕ, ◌<◌, List, length, map}
+use Rattle.std.specs.Prelude.{ℕ, ◌+◌, ◌*◌, ◌<◌, List, [], ◌∷◌, length, map}
 use Rattle.std.specs.Global.{Vec}
 use Rattle.paxos_core_world.specs.KeptPart.{KeptPart}
 use Rattle.paxos_core_world.specs.Settled.{Settled}
@@ -11,6 +11,14 @@ use Rattle.farm_nodes_passes.specs.Numbers.{room_at}
 -- what each node has kept of a room, of which each has a list by room
 abbrev pub kept_of : List (Vec KeptPart) → ℕ → List KeptPart
 kept_of nodes room = map (λ node. nodes_of node.items room) nodes
+
+-- what a node has kept of the four rooms of a function
+abbrev pub four_kept : List KeptPart → ℕ → List KeptPart
+four_kept node f = nodes_of node (4 * f) ∷ nodes_of node (4 * f + 1) ∷ nodes_of node (4 * f + 2) ∷ nodes_of node (4 * f + 3) ∷ []
+
+-- so it is of each node
+abbrev pub parts_of : List (Vec KeptPart) → ℕ → List (List KeptPart)
+parts_of nodes f = map (λ node. four_kept node.items f) nodes
 
 -- what the nodes have kept of a room is settled
 abbrev pub IsSettledIn : List (Vec KeptPart) → ℕ → Type 0

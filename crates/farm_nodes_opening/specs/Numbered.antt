@@ -1,18 +1,19 @@
--- Seats of one room, each with its claim.
+-- Seats of one function, each with its claim.
 use Rattle.std.specs.Prelude.{◌≡◌, List, Option, All, map}
 use Rattle.paxos_core_world.specs.KeptPart.{KeptPart}
 use Rattle.rooms_hall.specs.Claimed.{Claimed}
 use Rattle.rooms_hall.specs.RoomId.{RoomId}
 use Rattle.rooms.specs.Opened.{AreOpened}
 use Rattle.rooms.specs.SeatValue.{SeatValue}
-use Rattle.rooms_numbered.specs.RoomOf.{room_of}
+use Rattle.rooms_function.specs.declared.seat.FunctionSeat.{FunctionSeat}
+use Rattle.farm_nodes_passes.specs.FunctionOf.{function_of}
 
--- the seats are all of this room
-pub record AreOfOneRoom {T : Type 0} (seats : List (SeatValue T)) : Type 0 where
-  pub room : RoomId
-  pub each : All (λ s. room_of s ≡ room) seats
+-- the seats are all of these rooms
+pub record AreOfOneFunction (seats : List FunctionSeat) : Type 0 where
+  pub rooms : RoomId
+  pub each : All (λ s. function_of s ≡ rooms) seats
 
--- all of them claim one number for one room
+-- all of them claim one number for the same rooms
 pub record HaveOneClaim (claims : List Claimed) : Type 0 where
   pub claim : Claimed
   pub each : All (λ c. c ≡ claim) claims

@@ -1,14 +1,13 @@
-//! Opening a room: from what the nodes have kept of it and the offers that they made there come their seats, which hold one number that
-//! the room has drawn. A room that cannot be opened is named.
+//! Opening the rooms of a function: what the nodes have kept of them, side by side, and the one number that the function's rooms draw. A
+//! room that cannot be opened is named.
 #![tactic(auto)]
 
 mod fault;
-mod in_pass;
 mod law;
 mod numbering;
-mod room;
+mod parts;
 
 pub use fault::{RoomFault, Unopened};
-pub use in_pass::open_at;
 pub use law::left_is_settled;
-pub use room::open_room;
+pub use numbering::numbered;
+pub use parts::parts_of;

@@ -1,33 +1,32 @@
 ghost use Rattle.std.specs.Prelude.{◌≡◌, ◌<◌, ◌⊎◌, length, map, IfOk, IfErr};
-ghost use Rattle.farm_nodes_opening.specs.Numbered.{AreOfOneRoom, HaveOneClaim};
+ghost use Rattle.farm_nodes_opening.specs.Numbered.{AreOfOneFunction, HaveOneClaim};
 
 use crate::fault::RoomFault;
-use lang_base::Pass;
-use rooms::Seat;
+use farm_nodes_passes::Seats;
+use rooms_function::FunctionSeat;
 use rooms_hall::{DrawError, Hall, Naming};
-use rooms_numbered::NumberedSeat;
 use std::alloc::Global;
 
-/// The seats of one room, each with the number that the room draws.
-pub(crate) fn numbered<P: Pass, H: Naming>(
+/// The seats of one function, each with the number that its rooms draw.
+pub fn numbered<H: Naming>(
     alloc: Global,
     hall: &Hall<H>,
-    seats: Vec<Seat<P>>,
-) -> Result<Vec<NumberedSeat<P, H>>, RoomFault>
+    seats: Vec<FunctionSeat>,
+) -> Result<Vec<Seats<H>>, RoomFault>
     requires some { 0 < length seats.items }
-    requires room { AreOfOneRoom seats.items }
+    requires rooms { AreOfOneFunction seats.items }
     ensures seats { IfOk result (λ found. map (λ n. n.seat) found.items ≡ seats.items) }
     ensures one { IfOk result (λ found. HaveOneClaim (map (λ n. n.claim) found.items)) }
     ensures refused { IfErr result (λ e. (e ≡ RoomFault.NoMemory) ⊎ (e ≡ RoomFault.Spent)) }
 {
-    let mut claim = match NumberedSeat::<P, H>::draw(hall, &seats[0]) {
+    let mut claim = match Seats::<H>::draw(hall, &seats[0]) {
         Ok(claim) => claim,
         Err(DrawError::Spent) => return Err(RoomFault::Spent),
         Err(DrawError::NoMemory) => return Err(RoomFault::NoMemory),
     };
     let mut found = Vec::new(alloc);
     for seat in seats {
-        let Ok(one) = NumberedSeat::of(seat, &mut claim) else {
+        let Ok(one) = Seats::of(seat, &mut claim) else {
             return Err(RoomFault::NoMemory);
         };
         match found.push(one) {

@@ -1,22 +1,21 @@
 -- The values of a node's seats in the four rooms of a function.
 use Rattle.std.specs.Prelude.{List, map}
 use Rattle.rooms_state.specs.SeatState.{SeatState}
-use Rattle.rooms.specs.SeatValue.{SeatValue}
+use Rattle.farm_nodes_offers.specs.SeatValue.{SeatValue}
 use Rattle.rooms_hall.specs.Claimed.{Claimed}
 use Rattle.rooms_hall.specs.declared.hall.Naming as naming
 use Rattle.farm_nodes_passes.specs.Offers.{Constants, Expressions, Allocation, Order}
-use Rattle.farm_nodes_passes.specs.declared.passes.Passes.{Passes}
-use Rattle.farm_nodes_passes.specs.declared.seats.Seats.{Seats}
+use Rattle.rooms_numbered.specs.declared.seats.Seats.{Seats}
 use Rattle.farm_nodes_passes.specs.declared.which.Which.{Which}
 use Rattle.farm_nodes_passes.specs.declared.which.Which.TheVariants.{First, Second, Third, Fourth}
 
--- X1 to X4 are what the offers of the four passes are; the numbers are those of the rooms
+-- X1 to X4 are what the offers of the four passes are; the number is that of the rooms
 pub record Four (X1 X2 X3 X4 : Type 0) : Type 0 where
   pub first : SeatValue X1
   pub second : SeatValue X2
   pub third : SeatValue X3
   pub fourth : SeatValue X4
-  pub numbers : Passes Claimed Claimed Claimed Claimed
+  pub number : Claimed
 
 -- the words of the seat of a pass
 abbrev pub words_of : {X1 X2 X3 X4 : Type 0} → Four X1 X2 X3 X4 → Which → SeatState
@@ -28,11 +27,11 @@ words_of s Fourth = s.fourth.words
 module _ {H : Type 0} {h : naming.Ghosts H} where
   abbrev pub four_of : Seats H h → Four Constants Expressions Allocation Order
   four_of s = record {
-    first = s.first.seat;
-    second = s.second.seat;
-    third = s.third.seat;
-    fourth = s.fourth.seat;
-    numbers = record { first = s.first.claim; second = s.second.claim; third = s.third.claim; fourth = s.fourth.claim };
+    first = s.seat.first;
+    second = s.seat.second;
+    third = s.seat.third;
+    fourth = s.seat.fourth;
+    number = s.claim;
   }
 
   -- by function

@@ -3,10 +3,9 @@
 
 mod oracles;
 mod passes;
-mod seats;
 mod which;
 
 pub use oracles::{AllocationOf, ConstantsOf, ExpressionsOf, Oracles, OrderOf};
 pub use passes::Passes;
-pub use seats::Seats;
+pub use rooms_numbered::Seats;
 pub use which::Which;

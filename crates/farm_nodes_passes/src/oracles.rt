@@ -1,9 +1,7 @@
-use alloc_check::{Alloc, EquationLists as PlaceLists};
-use constprop_check::{ConstProp, FactLists};
-use cse_check::{Cse, EquationLists};
 use lang_base::{NoMemory, Oracle};
 use linearize_check::{Linearize, Order};
 use rand_pcg::Pcg32;
+use rooms_numbered::{Alloc, ConstProp, Cse, EquationLists, FactLists, PlaceLists};
 use std::alloc::Global;
 
 /// A node's optimisers, one call for each pass. Nothing is promised of what they propose: an output and a certificate for the

@@ -26,7 +26,7 @@ pub record HaveForgotten {X1 X2 X3 X4 : Type 0} (old new : Four X1 X2 X3 X4) : T
   pub second : HasForgotten old.second new.second
   pub third : HasForgotten old.third new.third
   pub fourth : HasForgotten old.fourth new.fourth
-  pub numbers : new.numbers ≡ old.numbers
+  pub number : new.number ≡ old.number
 
 -- Each pass has its own offers, and texts of them.
 module _ {X1 X2 X3 X4 : Type 0} (IsText1 : List ℕ → X1 → Type 0) (IsText2 : List ℕ → X2 → Type 0)

@@ -3,7 +3,7 @@ use Rattle.std.specs.Prelude.{ℕ, List, Option}
 use Rattle.acceptor_log_form.specs.declared.record.Record.{Record}
 use Rattle.rooms_hall.specs.declared.hall.Naming as naming
 use Rattle.farm_nodes_acting.specs.declared.stop.Pending.{Pending}
-use Rattle.farm_nodes_passes.specs.declared.seats.Seats.{Seats}
+use Rattle.farm_nodes_passes.specs.Seats.{Seats}
 use Rattle.farm_nodes_passes.specs.declared.which.Which.{Which}
 use Rattle.farm_nodes_passes.specs.Fours.{four_of, fours_of}
 use Rattle.farm_nodes_passes.specs.Leaves.{IsPendingIn}

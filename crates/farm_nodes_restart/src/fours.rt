@@ -26,10 +26,10 @@ pub(crate) fn take_in<H: Naming>(
     ensures faults { IfErr result (IsTakeFault pending.now) }
 {
     match pass {
-        Which::First => take(alloc, &mut seats.first.seat, room, pending),
-        Which::Second => take(alloc, &mut seats.second.seat, room, pending),
-        Which::Third => take(alloc, &mut seats.third.seat, room, pending),
-        Which::Fourth => take(alloc, &mut seats.fourth.seat, room, pending),
+        Which::First => take(alloc, &mut seats.seat.first, room, pending),
+        Which::Second => take(alloc, &mut seats.seat.second, room, pending),
+        Which::Third => take(alloc, &mut seats.seat.third, room, pending),
+        Which::Fourth => take(alloc, &mut seats.seat.fourth, room, pending),
     }
 }
 
@@ -37,8 +37,8 @@ pub(crate) fn take_in<H: Naming>(
 pub(crate) fn forget_in<H: Naming>(seats: &mut Seats<H>)
     ensures { HaveForgotten (four_of seats.old) (four_of seats.new) }
 {
-    forget(&mut seats.first.seat);
-    forget(&mut seats.second.seat);
-    forget(&mut seats.third.seat);
-    forget(&mut seats.fourth.seat);
+    forget(&mut seats.seat.first);
+    forget(&mut seats.seat.second);
+    forget(&mut seats.seat.third);
+    forget(&mut seats.seat.fourth);
 }

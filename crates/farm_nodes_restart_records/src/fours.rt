@@ -27,10 +27,10 @@ pub(crate) fn is_pending_in<H: Naming>(
         ↔ (pending_of room (words_of (four_of seats.now) pass) pending.now ≡ entry.now ∷ []) }
 {
     match pass {
-        Which::First => is_pending(&seats.first.seat, room, pending, entry),
-        Which::Second => is_pending(&seats.second.seat, room, pending, entry),
-        Which::Third => is_pending(&seats.third.seat, room, pending, entry),
-        Which::Fourth => is_pending(&seats.fourth.seat, room, pending, entry),
+        Which::First => is_pending(&seats.seat.first, room, pending, entry),
+        Which::Second => is_pending(&seats.seat.second, room, pending, entry),
+        Which::Third => is_pending(&seats.seat.third, room, pending, entry),
+        Which::Fourth => is_pending(&seats.seat.fourth, room, pending, entry),
     }
 }
 
@@ -39,10 +39,10 @@ pub(crate) fn are_kept_at<H: Naming>(seats: &Seats<H>, parts: &[Kept], place: us
     requires { place + 3 < length parts.now }
     ensures { IsTrue result ↔ AreKeptAt parts.now place (four_of seats.now) }
 {
-    let first = is_kept_in(parts, place, &seats.first.seat);
-    let second = is_kept_in(parts, place + 1, &seats.second.seat);
-    let third = is_kept_in(parts, place + 2, &seats.third.seat);
-    let fourth = is_kept_in(parts, place + 3, &seats.fourth.seat);
+    let first = is_kept_in(parts, place, &seats.seat.first);
+    let second = is_kept_in(parts, place + 1, &seats.seat.second);
+    let third = is_kept_in(parts, place + 2, &seats.seat.third);
+    let fourth = is_kept_in(parts, place + 3, &seats.seat.fourth);
     let front = both(first, second);
     let back = both(third, fourth);
     both(front, back)

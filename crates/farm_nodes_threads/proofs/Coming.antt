@@ -19,9 +19,9 @@ use Rattle.farm_nodes_passes.specs.Numbers.{function_of, pass_of}
 use Rattle.farm_nodes_passes.specs.Fours.{Four}
 use Rattle.farm_nodes_passes.specs.declared.which.Which.{Which}
 use Rattle.farm_nodes_passes.specs.declared.which.Which.TheVariants.{First, Second, Third, Fourth}
-use Rattle.farm_nodes_turn.specs.Turned.{Leaves, StaysIn, OthersStay}
-use Rattle.farm_nodes_turn.specs.Turns.{AtPlace, OfFunction}
-use Rattle.farm_nodes_turn.proofs.Places.{found, mapped}
+use Rattle.farm_nodes_node.specs.Turned.{Leaves, StaysIn, OthersStay}
+use Rattle.farm_nodes_node.specs.Turns.{AtPlace, OfFunction}
+use Rattle.farm_nodes_node.proofs.Places.{found, mapped}
 use Rattle.farm_nodes_node.specs.declared.halted.Halted.{Halted}
 use Rattle.farm_nodes_node.specs.Held.{IsSoundNode, IsJournalOf, pending_in}
 use Rattle.farm_nodes_node.specs.Stood.{TurnsInto}
@@ -56,7 +56,7 @@ stays_through s t u a b = record {
 -- the seats of a function
 module _ {T1 T2 T3 T4 : Type 0} where
   keep_so : (s : Four T1 T2 T3 T4) → Keep s s
-  keep_so s = record { first = stays_so s.first; second = stays_so s.second; third = stays_so s.third; fourth = stays_so s.fourth; numbers = refl }
+  keep_so s = record { first = stays_so s.first; second = stays_so s.second; third = stays_so s.third; fourth = stays_so s.fourth; number = refl }
 
   pub keep_same : (s t : Four T1 T2 T3 T4) → t ≡ s → Keep s t
   keep_same s t e = subst (λ (u : Four T1 T2 T3 T4). Keep s u) (sym e) (keep_so s)
@@ -67,7 +67,7 @@ module _ {T1 T2 T3 T4 : Type 0} where
     second = stays_through s.second t.second u.second a.second b.second;
     third = stays_through s.third t.third u.third a.third b.third;
     fourth = stays_through s.fourth t.fourth u.fourth a.fourth b.fourth;
-    numbers = b.numbers ∙ a.numbers;
+    number = b.number ∙ a.number;
   }
 
   pub keep_by : (p : Which) (s t : Four T1 T2 T3 T4) → StaysIn p s t → OthersStay p s t → Keep s t
@@ -76,28 +76,28 @@ module _ {T1 T2 T3 T4 : Type 0} where
     second = stays_on s.second t.second (ap (λ (u : Four T1 T2 T3 T4). u.second) others);
     third = stays_on s.third t.third (ap (λ (u : Four T1 T2 T3 T4). u.third) others);
     fourth = stays_on s.fourth t.fourth (ap (λ (u : Four T1 T2 T3 T4). u.fourth) others);
-    numbers = ap (λ (u : Four T1 T2 T3 T4). u.numbers) others;
+    number = ap (λ (u : Four T1 T2 T3 T4). u.number) others;
   }
   keep_by Second s t stays others = record {
     first = stays_on s.first t.first (ap (λ (u : Four T1 T2 T3 T4). u.first) others);
     second = stays;
     third = stays_on s.third t.third (ap (λ (u : Four T1 T2 T3 T4). u.third) others);
     fourth = stays_on s.fourth t.fourth (ap (λ (u : Four T1 T2 T3 T4). u.fourth) others);
-    numbers = ap (λ (u : Four T1 T2 T3 T4). u.numbers) others;
+    number = ap (λ (u : Four T1 T2 T3 T4). u.number) others;
   }
   keep_by Third s t stays others = record {
     first = stays_on s.first t.first (ap (λ (u : Four T1 T2 T3 T4). u.first) others);
     second = stays_on s.second t.second (ap (λ (u : Four T1 T2 T3 T4). u.second) others);
     third = stays;
     fourth = stays_on s.fourth t.fourth (ap (λ (u : Four T1 T2 T3 T4). u.fourth) others);
-    numbers = ap (λ (u : Four T1 T2 T3 T4). u.numbers) others;
+    number = ap (λ (u : Four T1 T2 T3 T4). u.number) others;
   }
   keep_by Fourth s t stays others = record {
     first = stays_on s.first t.first (ap (λ (u : Four T1 T2 T3 T4). u.first) others);
     second = stays_on s.second t.second (ap (λ (u : Four T1 T2 T3 T4). u.second) others);
     third = stays_on s.third t.third (ap (λ (u : Four T1 T2 T3 T4). u.third) others);
     fourth = stays;
-    numbers = ap (λ (u : Four T1 T2 T3 T4). u.numbers) others;
+    number = ap (λ (u : Four T1 T2 T3 T4). u.number) others;
   }
 
 -- lists of records

@@ -12,7 +12,7 @@ pub record Keep {T1 T2 T3 T4 : Type 0} (s t : Four T1 T2 T3 T4) : Type 0 where
   pub second : Stays s.second t.second
   pub third : Stays s.third t.third
   pub fourth : Stays s.fourth t.fourth
-  pub numbers : t.numbers ≡ s.numbers
+  pub number : t.number ≡ s.number
 
 -- A node goes on with as many functions, each in its rooms. Its journal is that of its source, and as honest; where the node was not
 -- stopped, that goes on from what it had acknowledged, and stands for what the node keeps. A stopped node is as it was.

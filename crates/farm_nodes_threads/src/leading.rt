@@ -15,9 +15,9 @@ fn leads(seat: &WordSeat) -> bool {
 /// Whether the node leads the room of one pass of the function.
 pub(crate) fn leads_in<H: Naming>(seats: &Seats<H>, pass: Which) -> bool {
     match pass {
-        Which::First => leads(&seats.first.seat.words),
-        Which::Second => leads(&seats.second.seat.words),
-        Which::Third => leads(&seats.third.seat.words),
-        Which::Fourth => leads(&seats.fourth.seat.words),
+        Which::First => leads(&seats.seat.first.words),
+        Which::Second => leads(&seats.seat.second.words),
+        Which::Third => leads(&seats.seat.third.words),
+        Which::Fourth => leads(&seats.seat.fourth.words),
     }
 }

@@ -1,4 +1,4 @@
 pub mod Places
 pub mod Inputs
-pub mod Claims
 pub mod Pending
+pub use Rattle.farm_nodes_passes.proofs.Sent

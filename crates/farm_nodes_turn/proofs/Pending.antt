@@ -3,7 +3,7 @@ use Rattle.std.proofs.Common.{◌≡◌, ℕ, List, map, slice_get, Option, Some
 use Rattle.rooms_hall.specs.declared.hall.Naming as naming
 use Rattle.farm_nodes_passes.specs.Offers.{IsConstants, IsExpressions, IsAllocation, IsOrder}
 use Rattle.farm_nodes_acting.specs.declared.stop.Pending.{Pending as Waiting}
-use Rattle.farm_nodes_passes.specs.declared.seats.Seats.{Seats}
+use Rattle.farm_nodes_passes.specs.Seats.{Seats}
 use Rattle.farm_nodes_passes.specs.declared.which.Which.{Which}
 use Rattle.farm_nodes_passes.specs.declared.which.Which.TheVariants.{First, Second, Third, Fourth}
 use Rattle.farm_nodes_passes.specs.Fours.{Four, four_of}

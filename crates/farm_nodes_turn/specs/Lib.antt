@@ -1,2 +1,10 @@
 pub mod Turned
 pub mod Turns
+pub use Rattle.farm_nodes_playing.specs.Played
+pub use Rattle.farm_nodes_playing.specs.declared.progress.Progress
+pub use Rattle.farm_nodes_passes.specs.Fours
+pub use Rattle.farm_nodes_passes.specs.Leaves
+pub use Rattle.farm_nodes_passes.specs.Numbers
+pub use Rattle.farm_nodes_passes.specs.Pending
+pub use Rattle.farm_nodes_passes.specs.Seats
+pub use Rattle.farm_nodes_passes.specs.declared.which.Which

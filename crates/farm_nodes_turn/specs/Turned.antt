@@ -4,7 +4,7 @@ use Rattle.offers.specs.declared.parts.Parts.{Parts}
 use Rattle.rtl_language.specs.Function.{FunctionData}
 use Rattle.constprop_check.specs.contracts.pass.ConstPropPass.TheImpl as constants
 use Rattle.cse_check.specs.contracts.pass.CsePass.TheImpl as expressions
-use Rattle.alloc_check.specs.contracts.pass.AllocPass.TheImpl as allocation
+use Rattle.farm_nodes_passes.specs.AllocPass.TheImpl as allocation
 use Rattle.linearize_check.specs.contracts.pass.LinearizePass.TheImpl as order
 use Rattle.rooms_state.specs.declared.act.Act.TheVariants as asked
 use Rattle.rooms_state.specs.Would.{would}
@@ -73,7 +73,7 @@ module _ {T1 T2 T3 T4 : Type 0} where
   StaysIn Third old new = Stays old.third new.third
   StaysIn Fourth old new = Stays old.fourth new.fourth
 
-  -- the other seats, and the numbers of the rooms, are as they were
+  -- the other seats, and the number of the rooms, are as they were
   abbrev pub OthersStay : Which → Four T1 T2 T3 T4 → Four T1 T2 T3 T4 → Type 0
   OthersStay First old new = new ≡ record old { first = new.first }
   OthersStay Second old new = new ≡ record old { second = new.second }

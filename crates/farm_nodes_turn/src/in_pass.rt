@@ -21,8 +21,8 @@ use farm_nodes_passes::{AllocationOf, ConstantsOf, ExpressionsOf, Oracles, Order
 use farm_nodes_playing::{Progress, learned_output, play};
 use lang_base::{Language, Oracle, Pass};
 use rand_pcg::Pcg32;
+use rooms::Seat;
 use rooms_hall::Naming;
-use rooms_numbered::NumberedSeat;
 use rtl_language::Function;
 use std::alloc::Global;
 
@@ -43,7 +43,7 @@ pub fn play_in<D: Disk, O: Oracles, H: Naming>(
     ensures going { IfOk result (λ progress. log.new.going ≡ log.old.going) }
     ensures stays { StaysIn pass (four_of seats.old) (four_of seats.new) }
 
-    // The seats of the other passes are as they were, and all rooms keep their numbers.
+    // The seats of the other passes are as they were, and the rooms keep their number.
     ensures others { OthersStay pass (four_of seats.old) (four_of seats.new) }
 
     // An offer of the first pass goes on from the function, one of another from the output learned in the pass before.
@@ -71,7 +71,7 @@ pub fn play_in<D: Disk, O: Oracles, H: Naming>(
         Which::First => play_first(
             alloc,
             log,
-            &mut seats.first,
+            &mut seats.seat.first,
             room,
             function,
             &mut ConstantsOf(oracles),
@@ -80,8 +80,8 @@ pub fn play_in<D: Disk, O: Oracles, H: Naming>(
         Which::Second => play_behind(
             alloc,
             log,
-            &seats.first,
-            &mut seats.second,
+            &seats.seat.first,
+            &mut seats.seat.second,
             room,
             &mut ExpressionsOf(oracles),
             words,
@@ -89,8 +89,8 @@ pub fn play_in<D: Disk, O: Oracles, H: Naming>(
         Which::Third => play_behind(
             alloc,
             log,
-            &seats.second,
-            &mut seats.third,
+            &seats.seat.second,
+            &mut seats.seat.third,
             room,
             &mut AllocationOf(oracles),
             words,
@@ -98,8 +98,8 @@ pub fn play_in<D: Disk, O: Oracles, H: Naming>(
         Which::Fourth => play_behind(
             alloc,
             log,
-            &seats.third,
-            &mut seats.fourth,
+            &seats.seat.third,
+            &mut seats.seat.fourth,
             room,
             &mut OrderOf(oracles),
             words,
@@ -108,10 +108,10 @@ pub fn play_in<D: Disk, O: Oracles, H: Naming>(
 }
 
 /// One turn in the room of the first pass of the function.
-fn play_first<D: Disk, P: Pass, O: Oracle<P = P>, H: Naming>(
+fn play_first<D: Disk, P: Pass, O: Oracle<P = P>>(
     alloc: Global,
     log: &mut Log<D>,
-    numbered: &mut NumberedSeat<P, H>,
+    seat: &mut Seat<P>,
     room: u16,
     function: &<P::In as Language>::Fun,
     oracle: &mut O,
@@ -120,41 +120,32 @@ fn play_first<D: Disk, P: Pass, O: Oracle<P = P>, H: Naming>(
     requires { IsSound D.is_honest D.seen D.may_leave log.old }
     ensures served { IsServed D.is_honest D.seen D.may_leave D.faults log.old log.new }
     ensures going { IfOk result (λ progress. log.new.going ≡ log.old.going) }
-    ensures stays { Stays numbered.old.seat numbered.new.seat }
-    ensures number { numbered.new.claim ≡ numbered.old.claim }
-    ensures made { IsMadeOn (Some function.now) numbered.old.seat numbered.new.seat }
-    ensures offered { OnOk result (numbered.new.seat.words.node.kept.offered ≡ true) }
-    ensures quiet { OnOk result ((j : ℕ) → j < numbered.new.seat.words.node.count
-        → IsQuiet j numbered.new.seat.words) }
-    ensures proposed { OnOk result (would numbered.new.seat.words asked.Propose ≡ None) }
-    ensures led { OnOk result (numbered.old.seat.words.node.kept.offered ≡ true → (pcg32 words.old).0 % 4 ≡ 0
-        → HasLed numbered.new.seat.words) }
+    ensures stays { Stays seat.old seat.new }
+    ensures made { IsMadeOn (Some function.now) seat.old seat.new }
+    ensures offered { OnOk result (seat.new.words.node.kept.offered ≡ true) }
+    ensures quiet { OnOk result ((j : ℕ) → j < seat.new.words.node.count
+        → IsQuiet j seat.new.words) }
+    ensures proposed { OnOk result (would seat.new.words asked.Propose ≡ None) }
+    ensures led { OnOk result (seat.old.words.node.kept.offered ≡ true → (pcg32 words.old).0 % 4 ≡ 0
+        → HasLed seat.new.words) }
     ensures left { IfErr result (λ halt. MayPendOn (IsTextOf P.In.Language P.Out.Language P.Pass)
-        room numbered.new.seat halt.pending) }
+        room seat.new halt.pending) }
     ensures journal { D.is_honest log.old.disk → log.old.going ≡ true → Played
         D.is_honest D.seen D.may_leave D.moment D.left_since log.old log.new room
-        numbered.old.seat.words numbered.new.seat.words result }
+        seat.old.words seat.new.words result }
     ensures cause { log.old.going ≡ true → IfErr result (λ halt. HasHaltCause D.is_honest D.faults
         (P.too_large function.now)
-        log.old log.new (left_over room numbered.new.seat.words halt.pending) halt.fault) }
+        log.old log.new (left_over room seat.new.words halt.pending) halt.fault) }
 {
-    play(
-        alloc,
-        log,
-        &mut numbered.seat,
-        room,
-        Some(function),
-        oracle,
-        words,
-    )
+    play(alloc, log, seat, room, Some(function), oracle, words)
 }
 
 /// One turn in the room of a pass whose input is learned in the room before.
-fn play_behind<D: Disk, B: Pass, P: Pass<In = B::Out>, O: Oracle<P = P>, H: Naming>(
+fn play_behind<D: Disk, B: Pass, P: Pass<In = B::Out>, O: Oracle<P = P>>(
     alloc: Global,
     log: &mut Log<D>,
-    before: &NumberedSeat<B, H>,
-    numbered: &mut NumberedSeat<P, H>,
+    before: &Seat<B>,
+    seat: &mut Seat<P>,
     room: u16,
     oracle: &mut O,
     words: &mut Pcg32,
@@ -162,24 +153,23 @@ fn play_behind<D: Disk, B: Pass, P: Pass<In = B::Out>, O: Oracle<P = P>, H: Nami
     requires { IsSound D.is_honest D.seen D.may_leave log.old }
     ensures served { IsServed D.is_honest D.seen D.may_leave D.faults log.old log.new }
     ensures going { IfOk result (λ progress. log.new.going ≡ log.old.going) }
-    ensures stays { Stays numbered.old.seat numbered.new.seat }
-    ensures number { numbered.new.claim ≡ numbered.old.claim }
-    ensures made { IsMadeFrom before.now.seat numbered.old.seat numbered.new.seat }
-    ensures offered { OnOk result (HasLearned before.now.seat → numbered.new.seat.words.node.kept.offered ≡ true) }
-    ensures quiet { OnOk result ((j : ℕ) → j < numbered.new.seat.words.node.count
-        → IsQuiet j numbered.new.seat.words) }
-    ensures proposed { OnOk result (would numbered.new.seat.words asked.Propose ≡ None) }
-    ensures led { OnOk result (numbered.old.seat.words.node.kept.offered ≡ true → (pcg32 words.old).0 % 4 ≡ 0
-        → HasLed numbered.new.seat.words) }
+    ensures stays { Stays seat.old seat.new }
+    ensures made { IsMadeFrom before.now seat.old seat.new }
+    ensures offered { OnOk result (HasLearned before.now → seat.new.words.node.kept.offered ≡ true) }
+    ensures quiet { OnOk result ((j : ℕ) → j < seat.new.words.node.count
+        → IsQuiet j seat.new.words) }
+    ensures proposed { OnOk result (would seat.new.words asked.Propose ≡ None) }
+    ensures led { OnOk result (seat.old.words.node.kept.offered ≡ true → (pcg32 words.old).0 % 4 ≡ 0
+        → HasLed seat.new.words) }
     ensures left { IfErr result (λ halt. MayPendOn (IsTextOf B.Out.Language P.Out.Language P.Pass)
-        room numbered.new.seat halt.pending) }
+        room seat.new halt.pending) }
     ensures journal { D.is_honest log.old.disk → log.old.going ≡ true → Played
         D.is_honest D.seen D.may_leave D.moment D.left_since log.old log.new room
-        numbered.old.seat.words numbered.new.seat.words result }
+        seat.old.words seat.new.words result }
     ensures cause { log.old.going ≡ true → IfErr result (λ halt. HasHaltCause D.is_honest D.faults
-        (IsTooLargeFrom P.too_large before.now.seat)
-        log.old log.new (left_over room numbered.new.seat.words halt.pending) halt.fault) }
+        (IsTooLargeFrom P.too_large before.now)
+        log.old log.new (left_over room seat.new.words halt.pending) halt.fault) }
 {
-    let input = learned_output(&before.seat);
-    play(alloc, log, &mut numbered.seat, room, input, oracle, words)
+    let input = learned_output(before);
+    play(alloc, log, seat, room, input, oracle, words)
 }

@@ -8,7 +8,7 @@ use Rattle.paxos_core_world.specs.World.{World, Has}
 use Rattle.paxos_core_world.specs.declared.msg.Msg.{Msg}
 use Rattle.paxos_core_world.specs.declared.msg.Msg.TheVariants.{Prepare, Promise, Propose, Accepted}
 use Rattle.paxos_core_world.specs.declared.vote.Vote.{Vote}
-use Rattle.paxos_core_model.proofs.Reopens.{reached-append, run_append}
+use Rattle.paxos_core_law.proofs.Reopens.{reached-append, run_append}
 use Rattle.paxos_core_law.specs.Acceptor.{promises, accepts}
 use Rattle.paxos_core_law.specs.Belongs.{Belongs}
 use Rattle.paxos_core_late_offers.specs.LateOffer.{unoffered, BelongsButOffer, proposes_own, owes_offer, taken_late_by_propose, TakesLate, TakesStepsLate, OffersMayBeLate, OthersLeaveIt}

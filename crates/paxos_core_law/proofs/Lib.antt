@@ -5,3 +5,4 @@ pub mod ReachedLemmas
 pub mod BelongsLemmas
 pub mod TakesLemmas
 pub mod WouldLemmas
+pub use Rattle.paxos_core_model.proofs.Reopens

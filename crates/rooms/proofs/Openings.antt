@@ -1,12 +1,14 @@
 -- Seats as their room opens, one after the other.
-use Rattle.std.proofs.Common.{◌≡◌, ℕ, zero, suc, ◌+◌, ◌<◌, ◌≤◌, Bool, true, if◌then◌else◌, List, [], ◌∷◌, ◌++◌, length, get_or, get_or-set_other, Option, Some, None, is_some, Result, Err, slice_set, refl, sym, ap, ◌∙◌, subst, arith}
-use Rattle.atomic_table.specs.Seated.{TableId}
+use Rattle.std.proofs.Common.{◌≡◌, ℕ, zero, suc, ◌+◌, ◌<◌, ◌≤◌, Bool, true, if◌then◌else◌, List, [], ◌∷◌, ◌++◌, length, get_or, get_or-set_other, Option, Some, None, is_some, Result, Ok, Err, IfOk, slice_set, refl, sym, ap, ◌∙◌, subst, arith}
 use Rattle.rooms_cells.specs.declared.sight.Put.{Put}
 use Rattle.rooms_cells.specs.declared.sight.Put.TheVariants as put
 use Rattle.rooms_cells.specs.Seen.{SightOf, IsPut, IsPutAt, sight_at}
 use Rattle.rooms_rule.specs.declared.view.Opening.{Opening}
+use Rattle.rooms_table.specs.RoomAt.{RoomAt}
+use Rattle.paxos_core_world.specs.KeptPart.{KeptPart}
+use Rattle.rooms_state.specs.SeatState.{opening_of}
 use Rattle.rooms_seat.specs.Dealing.{Dealing}
-use Rattle.rooms.specs.Opened.{offer_at, opened, opened_first, with_seen, AnyOffered}
+use Rattle.rooms.specs.Opened.{offer_at, opened, opened_first, with_seen, AnyOffered, AreDealt, AreOpened}
 use Rattle.rooms.specs.SeatValue.{SeatValue}
 
 -- the offers that are not yet taken are those that were given
@@ -42,7 +44,7 @@ put_seen {B} {T} told b x j old new is h =
     h.after ∙ ap (λ (s : SightOf T). slice_set old j s) outcome.1
 
 -- one seat more
-pub seats_more : {T : Type 0} (table : TableId) (cells : List ℕ) (o : Opening) (given : List (Option T)) (node : ℕ) (dealer : Dealing) (x : Option T) (seats more : List (SeatValue T)) (seat : SeatValue T)
+pub seats_more : {T : Type 0} (table : RoomAt) (cells : List ℕ) (o : Opening) (given : List (Option T)) (node : ℕ) (dealer : Dealing) (x : Option T) (seats more : List (SeatValue T)) (seat : SeatValue T)
     → dealer ≡ record { table = table; opening = o; next = node } → seats ≡ opened_first table cells o given node → x ≡ offer_at given node
     → seat ≡ opened dealer.table cells dealer.opening dealer.next x → more ≡ seats ++ seat ∷ [] → more ≡ opened_first table cells o given (node + 1)
 seats_more {T} table cells o given node dealer x seats more seat dealt before same is after =
@@ -51,3 +53,15 @@ seats_more {T} table cells o given node dealer x seats more seat dealt before sa
     let next : suc node ≡ node + 1 = omega arith in
     subst (λ (n : ℕ). more ≡ opened_first table cells o given n) next
     (after ∙ (ap (λ (xs : List (SeatValue T)). xs ++ seat ∷ []) before ∙ ap (λ (s : SeatValue T). opened_first table cells o given node ++ s ∷ []) new))
+
+-- what is dealt out of a room that was opened from these kept parts
+pub opened_all : {A E T : Type 0} (items : A → List (SeatValue T)) (kept : List KeptPart) (offers : List (Option T)) (d : Dealing) (r : Result A E) → d.opening ≡ opening_of kept
+    → IfOk r (λ seats. AreDealt d.table d.opening offers (items seats)) → IfOk r (λ seats. AreOpened kept offers (items seats))
+opened_all items kept offers d (Err x) e h = tt
+opened_all items kept offers d (Ok seats) e h =
+    record {
+      table = d.table;
+      cells = h.cells;
+      size = h.size;
+      seats_are = h.seats_are ∙ ap (λ (o : Opening). opened_first d.table h.cells o offers o.count) e;
+    }

@@ -1,10 +1,10 @@
 -- The seats of a room as it is opened from what its nodes have kept, their offers among it.
 use Rattle.std.specs.Prelude.{◌≡◌, ℕ, zero, suc, ◌<◌, List, [], ◌∷◌, ◌++◌, length, Option, Some, None, is_some, slice_index_or, slice_set}
-use Rattle.atomic_table.specs.Seated.{TableId}
 use Rattle.paxos_core_world.specs.KeptPart.{KeptPart}
 use Rattle.paxos_core_world.specs.World.{nodes_of}
 use Rattle.rooms_cells.specs.Seen.{SightOf, sight_at, unseen}
 use Rattle.rooms_rule.specs.declared.view.Opening.{Opening}
+use Rattle.rooms_table.specs.RoomAt.{RoomAt}
 use Rattle.rooms_state.specs.SeatState.{opened_seat, opening_of}
 use Rattle.rooms.specs.SeatValue.{SeatValue}
 
@@ -27,17 +27,23 @@ with_seen i None sights = sights
 with_seen i (Some x) sights = slice_set sights i record (sight_at sights i) { value = Some x }
 
 -- node i's seat: which words and cells its room has, how the room opens, and the node's offer, the only one that it has seen
-abbrev pub opened : {T : Type 0} → TableId → List ℕ → Opening → ℕ → Option T → SeatValue T
+abbrev pub opened : {T : Type 0} → RoomAt → List ℕ → Opening → ℕ → Option T → SeatValue T
 opened table cells o i offer = record { words = opened_seat table o i; sights = with_seen i offer (unseen cells) }
 
 -- the seats of the first k nodes, in their order
-abbrev pub opened_first : {T : Type 0} → TableId → List ℕ → Opening → List (Option T) → ℕ → List (SeatValue T)
+abbrev pub opened_first : {T : Type 0} → RoomAt → List ℕ → Opening → List (Option T) → ℕ → List (SeatValue T)
 opened_first table cells o offers zero = []
 opened_first table cells o offers (suc k) = opened_first table cells o offers k ++ opened table cells o k (offer_at offers k) ∷ []
 
+-- they are the seats of all nodes of a room at this place, which is opened so
+pub record AreDealt {T : Type 0} (table : RoomAt) (o : Opening) (offers : List (Option T)) (seats : List (SeatValue T)) : Type 0 where
+  pub cells : List ℕ
+  pub size : length cells ≡ 7
+  pub seats_are : seats ≡ opened_first table cells o offers o.count
+
 -- they are the seats of all nodes of a room that is opened so
 pub record AreOpened {T : Type 0} (kept : List KeptPart) (offers : List (Option T)) (seats : List (SeatValue T)) : Type 0 where
-  pub table : TableId
+  pub table : RoomAt
   pub cells : List ℕ
   pub size : length cells ≡ 7
   pub seats_are : seats ≡ opened_first table cells (opening_of kept) offers (length kept)

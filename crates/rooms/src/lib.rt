@@ -10,7 +10,7 @@ mod seat;
 
 pub use error::RoomError;
 pub use meeting::meet;
-pub use room::Room;
+pub use room::{Room, seats_of};
 pub use rooms_cells::Put;
 pub use rooms_seat::Meeting;
 pub use rooms_state::act::Act;

@@ -1,10 +1,9 @@
-ghost use Rattle.std.specs.Prelude.{◌≡◌, ◌≢◌, ◌<◌, ◌+◌, ◌↔◌, length, IfOk, OnOk, OnErr, Err, is_some, true};
+ghost use Rattle.std.specs.Prelude.{◌≡◌, ◌≢◌, ◌<◌, ◌+◌, ◌↔◌, length, IfOk, OnOk, Err, is_some, true};
 ghost use Rattle.std.specs.Arc.{arc_value};
 ghost use Rattle.paxos_core_law.specs.NodeState.{IsRoomSize};
 ghost use Rattle.paxos_core_world.specs.Settled.{Settled};
 ghost use Rattle.paxos_core_world.specs.World.{nodes_of};
-ghost use Rattle.rooms_cells.specs.Seen.{names_of};
-ghost use Rattle.rooms.specs.Opened.{opened, with_seen, AnyOffered, AreOffersOf, AreOpened};
+ghost use Rattle.rooms.specs.Opened.{opened, with_seen, AnyOffered, AreDealt, AreOffersOf, AreOpened};
 ghost use Rattle.rooms.specs.declared.error.RoomError.TheVariants as error;
 
 use crate::error::RoomError;
@@ -21,12 +20,12 @@ use std::sync::Arc;
 pub struct Room;
 
 impl Room {
-    /// The seats of a room whose nodes have kept these parts and made these offers, in the order of the nodes.
-    #[tactic(auto, using(crate::proofs::Openings::take_left, crate::proofs::Openings::any_offer))]
+    /// The seats of a room whose nodes have kept these parts and made these offers, in the order of the nodes. It is alone in its
+    /// table.
     pub fn open<P: Pass>(
         alloc: Global,
         kept: &[Kept],
-        mut offers: Vec<Option<Offer<P>>>,
+        offers: Vec<Option<Offer<P>>>,
     ) -> Result<Vec<Seat<P>>, RoomError>
         requires size { IsRoomSize (length kept.now) }
         requires offers { AreOffersOf kept.now offers.items }
@@ -38,25 +37,44 @@ impl Room {
         if !settled(kept) {
             return Err(RoomError::Unsettled);
         }
-        let Ok(mut dealer) = Dealer::open(alloc, kept) else {
+        let Ok(dealer) = Dealer::open(alloc, kept) else {
             return Err(RoomError::NoMemory);
         };
-        let Ok(shelf) = Arc::new(alloc, Shelf::new(alloc)) else {
-            return Err(RoomError::NoMemory);
-        };
-        let mut seats = Vec::new(alloc);
-        for node in 0..kept.len() {
-            let offer = offers[node].take();
-            let seat = match next_seat(alloc, &mut dealer, &shelf, offer) {
-                Ok(seat) => seat,
-                Err(error) => return Err(error),
-            };
-            if seats.push(seat).is_err() {
-                return Err(RoomError::NoMemory);
-            }
-        }
-        Ok(seats)
+        seats_of(alloc, dealer, offers)
     }
+}
+
+/// The seats of a room of which none was dealt yet, in the order of the nodes, which have made these offers.
+#[tactic(auto, using(crate::proofs::Openings::take_left, crate::proofs::Openings::any_offer))]
+pub fn seats_of<P: Pass>(
+    alloc: Global,
+    dealer: Dealer,
+    offers: Vec<Option<Offer<P>>>,
+) -> Result<Vec<Seat<P>>, RoomError>
+    requires size { IsRoomSize dealer.opening.count }
+    requires next { dealer.next ≡ 0 }
+    requires offers { length offers.items ≡ dealer.opening.count }
+    ensures ok { IfOk result (λ seats. AreDealt dealer.table dealer.opening offers.items seats.items) }
+    ensures settled { result ≢ Err error.Unsettled }
+    ensures refused { result ≡ Err error.CellRefused → AnyOffered offers.items }
+{
+    let mut dealer = dealer;
+    let mut offers = offers;
+    let Ok(shelf) = Arc::new(alloc, Shelf::new(alloc)) else {
+        return Err(RoomError::NoMemory);
+    };
+    let mut seats = Vec::new(alloc);
+    for node in 0..offers.len() {
+        let offer = offers[node].take();
+        let seat = match next_seat(alloc, &mut dealer, &shelf, offer) {
+            Ok(seat) => seat,
+            Err(error) => return Err(error),
+        };
+        if seats.push(seat).is_err() {
+            return Err(RoomError::NoMemory);
+        }
+    }
+    Ok(seats)
 }
 
 /// The next node's seat, which has put the node's offer into its cell.

@@ -1,22 +1,23 @@
--- Which room it is.
+-- Which rooms they are that share a number: a room alone, or the four of a function.
 use Rattle.std.specs.Prelude.{ℕ, List, [], refl}
 use Rattle.std.specs.Coded.{Coded, code_by, coded×, coded_ℕ, coded_list}
-use Rattle.atomic_table.specs.Seated.{TableId, table_id_coded}
+use Rattle.atomic_table.specs.Seated.{TableId}
+use Rattle.rooms_table.specs.RoomAt.{RoomAt, room_at_coded}
 
--- the table of its words, and the names of its cells
+-- room by room, where its words are, and the names of its cells
 pub record RoomId : Type 0 where
-  pub table : TableId
-  pub cells : List ℕ
+  pub places : List RoomAt
+  pub cells : List (List ℕ)
 
 -- it is stored as the pair of its fields
 abbrev pub room_id_coded : Coded RoomId
 room_id_coded =
-    code_by (TableId × List ℕ) (coded× table_id_coded (coded_list coded_ℕ)) (λ r. (r.table, r.cells))
-    (λ p. record { table = p.0; cells = p.1 }) (λ _. refl)
+    code_by (List RoomAt × List (List ℕ)) (coded× (coded_list room_at_coded) (coded_list (coded_list coded_ℕ))) (λ r. (r.places, r.cells))
+    (λ p. record { places = p.0; cells = p.1 }) (λ _. refl)
 
 -- what stands where no table and no room is named
 abbrev pub no_table : TableId
 no_table = record { words = 0; slots = 0; views_name = 0; atom = 0; block = 0; offset = 0; slot_names = [] }
 
 abbrev pub nowhere : RoomId
-nowhere = record { table = no_table; cells = [] }
+nowhere = record { places = []; cells = [] }

@@ -1,7 +1,8 @@
 use std::collections::LinkedList;
 use std::marker::Model;
 
-/// Which room it is, as proofs know it: the table of its words, and the names of its cells. No value of it is made.
+/// Which rooms they are that share a number, as proofs know them: where their words are, and the names of their cells. No value of
+/// it is made.
 pub struct Room {}
 
 impl Model for Room {

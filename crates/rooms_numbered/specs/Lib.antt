@@ -1,2 +1,10 @@
 pub mod RoomOf
-pub mod Told
+pub mod FunctionOf
+pub use Rattle.rooms_function.specs.Met
+pub use Rattle.rooms_function.specs.declared.meeting.FunctionMeeting
+pub use Rattle.rooms_function.specs.declared.seat.FunctionSeat
+pub use Rattle.rooms_function.specs.AllocPass
+pub use Rattle.rooms_function.specs.CsePass
+pub use Rattle.rooms_function.specs.ConstPropPass
+pub use Rattle.rooms_function.specs.Fact
+pub use Rattle.rooms_function.specs.Equation

@@ -1,9 +1,10 @@
-//! Seats whose room has drawn a number from a hall. Two of them meet without anybody's knowing whether they are of one room: seats
-//! of two rooms are told to be strangers.
+//! A node's seats in the four rooms of a function, which have drawn one number from a hall. Those of two nodes meet without anybody's
+//! knowing whether they are of one function: seats of two functions are told to be strangers.
 #![tactic(auto)]
 
 mod meeting;
-mod seat;
+mod seats;
 
-pub use meeting::{Meeting, meet};
-pub use seat::NumberedSeat;
+pub use meeting::meet;
+pub use rooms_function::{Alloc, ConstProp, Cse, EquationLists, FactLists, PlaceLists};
+pub use seats::Seats;

@@ -1,44 +1,25 @@
-ghost use Rattle.std.specs.Prelude.{◌≡◌};
-ghost use Rattle.rooms_numbered.specs.Told.{HoldSame, Met, Tells, TellsStrangers};
+ghost use Rattle.std.specs.Prelude.{◌≡◌, ◌≢◌, None, IfSome};
+ghost use Rattle.rooms_numbered.specs.FunctionOf.{AreAsBefore, HaveMetIn, IsSameFunction, TellsApart};
 
-use crate::seat::NumberedSeat;
-use lang_base::Pass;
+use crate::seats::Seats;
+use rooms_function::FunctionMeeting;
 use rooms_hall::Naming;
 
-/// What two seats have learned, if they are of one room.
-#[derive(Clone, Copy, Debug, PartialEq, Eq)]
-pub enum Meeting {
-    /// They are of two rooms.
-    Strangers,
-    /// Neither has learned a value.
-    Neither,
-    /// One of the two has.
-    One,
-    /// Both have, and it is this.
-    Same(u8),
-}
-
-/// Two seats meet. Of two rooms, no word is loaded; of one room, each loads every word of it once, and tells the other what it has
-/// seen, after three loads of the hall's word.
-pub fn meet<P: Pass, H: Naming>(
-    first: &mut NumberedSeat<P, H>,
-    second: &mut NumberedSeat<P, H>,
-) -> Meeting
-    ensures strangers { TellsStrangers result first.old.claim first.old.seat second.old.claim second.old.seat }
-    ensures met { Met result first.old.seat second.old.seat first.new.seat second.new.seat }
-    ensures told { Tells result first.new.seat second.new.seat }
-    ensures offer { HoldSame result first.new.seat second.new.seat }
-    ensures first_sights { first.new.seat.sights ≡ first.old.seat.sights }
-    ensures second_sights { second.new.seat.sights ≡ second.old.seat.sights }
+/// Two seats of functions meet, and nobody need know whether they are of one function: `None` is answered of two functions, of which
+/// no word is loaded; of one, each loads every word of its table once, pass by pass, and tells the other what it has seen, after
+/// three loads of the hall's word.
+#[tactic(auto, using(crate::proofs::Same::same_function))]
+pub fn meet<H: Naming>(first: &mut Seats<H>, second: &mut Seats<H>) -> Option<FunctionMeeting>
+    ensures strangers { TellsApart result first.old.claim first.old.seat second.old.claim second.old.seat }
+    ensures numbers { result ≡ None → first.old.claim.number ≢ second.old.claim.number }
+    ensures apart { AreAsBefore result first.old.seat second.old.seat first.new.seat second.new.seat }
+    ensures same { IfSome result (λ m. IsSameFunction first.old.claim first.old.seat second.old.claim second.old.seat) }
+    ensures met { IfSome result (λ m. HaveMetIn m first.old.seat second.old.seat first.new.seat second.new.seat) }
     ensures first_number { first.new.claim ≡ first.old.claim }
     ensures second_number { second.new.claim ≡ second.old.claim }
 {
     if !first.claim.compare(&mut second.claim) {
-        return Meeting::Strangers;
+        return None;
     }
-    match rooms::meet(&mut first.seat, &mut second.seat) {
-        rooms::Meeting::Neither => Meeting::Neither,
-        rooms::Meeting::One => Meeting::One,
-        rooms::Meeting::Same(value) => Meeting::Same(value),
-    }
+    Some(rooms_function::meet(&mut first.seat, &mut second.seat))
 }

@@ -11,7 +11,7 @@ use Rattle.paxos_core_world.specs.declared.msg.Msg.{Msg}
 use Rattle.paxos_core_law.specs.NodeState.{NodeState}
 use Rattle.paxos_core_law.specs.Reached.{IsReached}
 use Rattle.paxos_core_law.specs.Takes.{AreStepsOf}
-use Rattle.paxos_core_late_offers.specs.LateOffer.{BelongsButOffer, TakesLate}
+use Rattle.paxos_core.specs.LateOffer.{BelongsButOffer, TakesLate}
 use Rattle.rooms_rule.specs.declared.event.Event.{Event}
 use Rattle.rooms_rule.specs.declared.view.Opening.{Opening}
 use Rattle.rooms_rule.specs.declared.view.View.{View}

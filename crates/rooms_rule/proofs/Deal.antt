@@ -13,8 +13,8 @@ use Rattle.paxos_core_world.specs.declared.msg.Msg.{Msg}
 use Rattle.paxos_core_world.specs.declared.vote.Vote.{Vote}
 use Rattle.paxos_core_law.specs.NodeState.{node_with}
 use Rattle.paxos_core_law.proofs.BelongsLemmas.{belongs_with}
-use Rattle.paxos_core_late_offers.specs.LateOffer.{BelongsButOffer}
-use Rattle.paxos_core_late_offers.proofs.LateLemmas.{offers_may_be_late}
+use Rattle.paxos_core.specs.LateOffer.{BelongsButOffer}
+use Rattle.paxos_core.proofs.LateLemmas.{offers_may_be_late}
 use Rattle.rooms_rule.specs.Words.{IsProposerWord}
 use Rattle.rooms_rule.specs.declared.event.Event.{Event}
 use Rattle.rooms_rule.specs.declared.view.Opening.{Opening}
@@ -151,65 +151,81 @@ makes_witness {S} o id v =
       belongs = λ m. let x : v.node.me < 0 = m.1 in absurd (omega arith);
     })
 
--- another seat takes in what a witness has seen
+-- a seat gives all its rights to a new one, or none
+fits_nobody : (o : Opening) (run : List Event) → Fits o run nobody
+fits_nobody o run =
+    record {
+      opening = λ e. absurd (cc);
+      later = run;
+      seen = sym (append-nil run);
+      quiet = λ i m. let x : i < 0 = m.1 in absurd (omega arith);
+      told = (run, sym (append-nil run));
+      told_by = λ e. absurd (cc);
+      belongs = λ m. let x : 0 < 0 = m.1 in absurd (omega arith);
+    }
+
+none_mine : (i : ℕ) → IsMine nobody i → ⊥
+none_mine i m = let x : i < 0 = m.1 in omega arith
+
+pub gives_all : {S : Type 0} (o : Opening) (id : ℕ) (v : View) → Splits {S = S} (RoomRule o) id v nobody v
+gives_all {S} o id v =
+    cuts {S = S} o id v nobody v (λ i m. absurd (none_mine i m)) (λ i m. m) (λ i m r. none_mine i m) (λ run legal h. fits_nobody o run) (λ run legal h. h)
+
+pub gives_none : {S : Type 0} (o : Opening) (id : ℕ) (v : View) → Splits {S = S} (RoomRule o) id v v nobody
+gives_none {S} o id v =
+    cuts {S = S} o id v v nobody (λ i m. m) (λ i m. absurd (none_mine i m)) (λ i m r. none_mine i r) (λ run legal h. h) (λ run legal h. fits_nobody o run)
+
+-- a seat takes in what another one knows, which is spent
+module _ {S : Type 0} (o : Opening) (id : ℕ) (v : View) (other : ℕ) (w both : View)
+    (mine : (i : ℕ) → IsMine both i → IsMine v i) (fits : (run : List Event) → Fits o run v → Fits o run w → Fits o run both) where
+  pub takes_in : Joins {S = S} (RoomRule o) id v other w both nobody
+  takes_in s rule at away there =
+      record { run = rule.run; legal = rule.legal; words = rule.words; views = views; apart = apart }
+    where
+      seen_of : Fits o rule.run w
+      seen_of =
+          elim (at_set s.views id other both w there) [
+            | inl p ↦ absurd (away p.0)
+            | inr p ↦ rule.views other w p.1
+          ]
+
+      views : (j : ℕ) (u : View) → get_elem? (set (set s.views id both) other nobody) j ≡ some u → Fits o rule.run u
+      views j u e =
+          elim (at_set (set s.views id both) other j nobody u e) [
+            | inl p ↦ subst (λ (x : View). Fits o rule.run x) p.1 (fits_nobody o rule.run)
+            | inr p ↦ elim (at_set s.views id j both u p.1) [
+              | inl q ↦ subst (λ (x : View). Fits o rule.run x) q.1 (fits rule.run (rule.views id v at) seen_of)
+              | inr q ↦ rule.views j u q.1
+            ]
+          ]
+
+      -- a view that owns a node, as the old view with that node
+      before : (j : ℕ) (u : View) (i : ℕ) → get_elem? (set (set s.views id both) other nobody) j ≡ some u → IsMine u i
+          → (x : View) × (get_elem? s.views j ≡ some x) × IsMine x i
+      before j u i e m =
+          elim (at_set (set s.views id both) other j nobody u e) [
+            | inl p ↦ absurd (none_mine i (subst (λ (x : View). IsMine x i) (sym p.1) m))
+            | inr p ↦ elim (at_set s.views id j both u p.1) [
+              | inl q ↦ (v, subst (λ (k : ℕ). get_elem? s.views k ≡ some v) (sym q.0) at, mine i (subst (λ (x : View). IsMine x i) (sym q.1) m))
+              | inr q ↦ (u, q.1, m)
+            ]
+          ]
+
+      apart : AreApart (set (set s.views id both) other nobody)
+      apart p q i u x e f mu mx =
+          let a = before p u i e mu in
+          let b = before q x i f mx in
+          rule.apart p q i a.0 b.0 a.1 b.1 a.2 b.2
+
+-- what a witness has seen
 pub takes_witness : {S : Type 0} (o : Opening) (id : ℕ) (v : View) (other : ℕ) (w : View) → w.live ≡ true → Joins {S = S} (RoomRule o) id v other w (informed v w) nobody
-takes_witness {S} o id v other w lives s rule at away there =
-    record { run = rule.run; legal = rule.legal; words = rule.words; views = views; apart = apart }
-  where
-    seen_of : Fits o rule.run w
-    seen_of =
-        elim (at_set s.views id other (informed v w) w there) [
-          | inl p ↦ absurd (away p.0)
-          | inr p ↦ rule.views other w p.1
-        ]
+takes_witness {S} o id v other w lives =
+    takes_in {S = S} o id v other w (informed v w) (λ i m. m)
+    (λ run h k. record { opening = h.opening; later = h.later; seen = h.seen; quiet = h.quiet; told = (k.later, k.seen); told_by = λ _. k.opening lives; belongs = h.belongs })
 
-    fits_informed : Fits o rule.run (informed v w)
-    fits_informed =
-        let h = rule.views id v at in
-        record { opening = h.opening; later = h.later; seen = h.seen; quiet = h.quiet; told = (seen_of.later, seen_of.seen); told_by = λ _. seen_of.opening lives; belongs = h.belongs }
-
-    fits_nobody : Fits o rule.run nobody
-    fits_nobody =
-        record {
-          opening = λ e. absurd (cc);
-          later = rule.run;
-          seen = sym (append-nil rule.run);
-          quiet = λ i m. let x : i < 0 = m.1 in absurd (omega arith);
-          told = (rule.run, sym (append-nil rule.run));
-          told_by = λ e. absurd (cc);
-          belongs = λ m. let x : 0 < 0 = m.1 in absurd (omega arith);
-        }
-
-    views : (j : ℕ) (u : View) → get_elem? (set (set s.views id (informed v w)) other nobody) j ≡ some u → Fits o rule.run u
-    views j u e =
-        elim (at_set (set s.views id (informed v w)) other j nobody u e) [
-          | inl p ↦ subst (λ (x : View). Fits o rule.run x) p.1 fits_nobody
-          | inr p ↦ elim (at_set s.views id j (informed v w) u p.1) [
-            | inl q ↦ subst (λ (x : View). Fits o rule.run x) q.1 fits_informed
-            | inr q ↦ rule.views j u q.1
-          ]
-        ]
-
-    -- a view that owns a node, as the old view with that node
-    before : (j : ℕ) (u : View) (i : ℕ) → get_elem? (set (set s.views id (informed v w)) other nobody) j ≡ some u → IsMine u i
-        → (x : View) × (get_elem? s.views j ≡ some x) × IsMine x i
-    before j u i e mine =
-        elim (at_set (set s.views id (informed v w)) other j nobody u e) [
-          | inl p ↦ absurd (none i (subst (λ (x : View). IsMine x i) (sym p.1) mine))
-          | inr p ↦ elim (at_set s.views id j (informed v w) u p.1) [
-            | inl q ↦ (v, subst (λ (k : ℕ). get_elem? s.views k ≡ some v) (sym q.0) at, subst (λ (x : View). IsMine x i) (sym q.1) mine)
-            | inr q ↦ (u, q.1, mine)
-          ]
-        ]
-      where
-        none : (i : ℕ) → IsMine nobody i → ⊥
-        none i m = let x : i < 0 = m.1 in omega arith
-
-    apart : AreApart (set (set s.views id (informed v w)) other nobody)
-    apart p q i u x e f mu mx =
-        let a = before p u i e mu in
-        let b = before q x i f mx in
-        rule.apart p q i a.0 b.0 a.1 b.1 a.2 b.2
+-- nothing
+pub takes_nothing : {S : Type 0} (o : Opening) (id : ℕ) (v : View) (other : ℕ) (w : View) → Joins {S = S} (RoomRule o) id v other w v nobody
+takes_nothing {S} o id v other w = takes_in {S = S} o id v other w v (λ i m. m) (λ run h k. h)
 
 -- ---- opening
 

@@ -12,8 +12,8 @@ use Rattle.paxos_core_model.specs.Agreement.{world_of}
 use Rattle.paxos_core_law.specs.NodeState.{NodeState}
 use Rattle.paxos_core_law.specs.Reached.{IsReached}
 use Rattle.paxos_core_law.specs.Takes.{AreStepsOf}
-use Rattle.paxos_core_late_offers.specs.LateOffer.{BelongsButOffer}
-use Rattle.paxos_core_late_offers.proofs.LateLemmas.{others_leave_it}
+use Rattle.paxos_core.specs.LateOffer.{BelongsButOffer}
+use Rattle.paxos_core.proofs.LateLemmas.{others_leave_it}
 use Rattle.rooms_rule.specs.declared.event.Event.{Event}
 use Rattle.rooms_rule.specs.declared.view.Opening.{Opening}
 use Rattle.rooms_rule.specs.Events.{label_of, event_of, labels_of, events_of}

@@ -8,7 +8,7 @@ use Rattle.paxos_core_law.specs.Takes.{AreStepsOf}
 use Rattle.paxos_core_law.specs.Would.{after_act, taken_by_act}
 use Rattle.paxos_core_law.specs.declared.step.Act.{Act}
 use Rattle.paxos_core_law.specs.declared.step.Act.TheVariants as act
-use Rattle.paxos_core_late_offers.specs.LateOffer.{BelongsButOffer}
+use Rattle.paxos_core.specs.LateOffer.{BelongsButOffer}
 use Rattle.rooms_rule.specs.Words.{promised_in, accepted_in}
 use Rattle.rooms_rule.specs.declared.event.Event.{Event}
 use Rattle.rooms_rule.specs.declared.view.View.{View}

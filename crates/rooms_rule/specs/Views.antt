@@ -4,7 +4,7 @@ use Rattle.paxos_core_world.specs.Step.{Label}
 use Rattle.paxos_core_world.specs.World.{World, nodes_of}
 use Rattle.paxos_core_model.specs.Agreement.{IsSettledRun, world_of}
 use Rattle.paxos_core_law.specs.Takes.{IsStepOf}
-use Rattle.paxos_core_late_offers.specs.LateOffer.{BelongsButOffer}
+use Rattle.paxos_core.specs.LateOffer.{BelongsButOffer}
 use Rattle.rooms_rule.specs.declared.event.Event.{Event}
 use Rattle.rooms_rule.specs.declared.view.Opening.{Opening}
 use Rattle.rooms_rule.specs.declared.view.View.{View}

@@ -1,47 +1,5 @@
-use crate::view::{Opening, View};
-use atomic_table::{Join, Play, Split, TableRule};
-
-/// The rule of a room's words.
-pub struct RoomLaw;
-
-impl TableRule<(), View, Opening> for RoomLaw {
-    ghost use Rattle.rooms_rule.specs.Deal.{dealing};
-    ghost use Rattle.rooms_rule.specs.Rule.{RoomRule};
-
-    ghost holds = { λ o s. RoomRule o s };
-
-    ghost first = { λ o. dealing o 0 };
-}
-
-/// Node `first`'s seat is cut off a token.
-pub struct Deals;
-
-impl Split<View> for Deals {
-    ghost use Rattle.rooms_rule.specs.Deal.{dealing_rest, dealing_seat};
-
-    ghost left = { dealing_rest };
-
-    ghost right = { dealing_seat };
-}
-
-/// A seat makes a witness of what it has seen, and another seat takes that in.
-pub struct Tells;
-
-impl Split<View> for Tells {
-    ghost use Rattle.rooms_rule.specs.Deal.{witness};
-
-    ghost left = { λ v. v };
-
-    ghost right = { witness };
-}
-
-impl Join<View> for Tells {
-    ghost use Rattle.rooms_rule.specs.Deal.{informed, nobody};
-
-    ghost both = { informed };
-
-    ghost spent = { nobody };
-}
+use crate::view::View;
+use atomic_table::Play;
 
 /// A look at a proposer's word.
 pub struct LooksAtProposer;

@@ -1,6 +1,5 @@
 -- Two seats of one room that have told each other what they have seen have learned one value.
 use Rattle.std.proofs.Common.{◌≡◌, ℕ, zero, suc, ◌<◌, Bool, true, false, cond, List, [], ◌++◌, append_assoc, Option, Some, None, refl, sym, ap, ◌∙◌, subst, arith}
-use Rattle.atomic_table.specs.Seated.{TableId}
 use Rattle.paxos_core_world.specs.KeptPart.{KeptPart}
 use Rattle.paxos_core_world.specs.Step.{Label}
 use Rattle.paxos_core_world.specs.World.{World, Has, nodes_of}
@@ -19,7 +18,7 @@ use Rattle.rooms_rule.specs.Events.{labels_of, events_of}
 use Rattle.rooms_rule.specs.Heard.{after_shown_vote, after_hearing}
 use Rattle.rooms_rule.specs.Steps.{Advances}
 use Rattle.rooms_rule.specs.Views.{world_after, BeginsWith}
-use Rattle.rooms_steps.proofs.HearLemmas.{me_hearing}
+use Rattle.rooms_state.proofs.HearLemmas.{me_hearing}
 use Rattle.rooms_rule.proofs.RunLemmas.{world_after-append, begins_through}
 use Rattle.rooms_state.specs.Did.{LookedAtAcceptor, LookedAtProposer}
 use Rattle.rooms_seat.specs.Meeting.{IsKnown, LookedOn, HaveMet}
@@ -96,10 +95,9 @@ on_next first s m t j x y (suc k) at on p q = on_through first s t (on (omega ar
 
 -- ---- telling
 
-pub informed_sound : (table : TableId) (s : SeatState) (w : View) → IsSound table s → IsSound table (record s { view = informed s.view w })
-informed_sound table s w h =
+pub informed_sound : (s : SeatState) (w : View) → IsSound s → IsSound (record s { view = informed s.view w })
+informed_sound s w h =
     record {
-      same = h.same;
       words = h.words;
       count = h.count;
       most = h.most;

@@ -1,6 +1,5 @@
 -- A seat as its room opens.
 use Rattle.std.proofs.Common.{◌≡◌, ℕ, zero, suc, ◌<◌, List, [], ◌∷◌, length, map, get_or, None, refl, ap, ◌∙◌, arith}
-use Rattle.atomic_table.specs.Seated.{TableId}
 use Rattle.paxos_core_world.specs.KeptPart.{KeptPart, nothing_kept}
 use Rattle.paxos_core_world.specs.World.{nodes_of}
 use Rattle.paxos_core_law.specs.NodeState.{NodeState, new_node, node_with, restarted}
@@ -9,6 +8,7 @@ use Rattle.rooms_rule.specs.declared.acceptor.AcceptorWord.{AcceptorWord}
 use Rattle.rooms_rule.specs.declared.proposer.ProposerWord.{ProposerWord}
 use Rattle.rooms_rule.specs.declared.view.Opening.{Opening}
 use Rattle.rooms_rule.specs.declared.view.View.{View}
+use Rattle.rooms_table.specs.RoomAt.{RoomAt}
 use Rattle.rooms_state.specs.SeatState.{SeatState, opened_acceptor, opened_proposer, opened_seat}
 
 -- what stands in a row, whatever stands for what is not there
@@ -25,7 +25,7 @@ image_at f xs j x d y lt e = e ∙ ap f (any_default xs j x d lt)
 pub kept_at : (kept : List KeptPart) (place i : ℕ) (d : KeptPart) → place ≡ i → i < length kept → get_or kept place d ≡ nodes_of kept i
 kept_at kept place i d at lt = ap (λ (j : ℕ). get_or kept j d) at ∙ any_default kept i d nothing_kept lt
 
-pub is_opened : (table : TableId) (v : View) (o : Opening) (i : ℕ) (node fresh : NodeState) (k : KeptPart) (ps : List ProposerWord) (xs : List AcceptorWord) → v ≡ dealt o i → fresh ≡ new_node i o.count
+pub is_opened : (table : RoomAt) (v : View) (o : Opening) (i : ℕ) (node fresh : NodeState) (k : KeptPart) (ps : List ProposerWord) (xs : List AcceptorWord) → v ≡ dealt o i → fresh ≡ new_node i o.count
     → node ≡ restarted fresh k → k ≡ nodes_of o.kept i → ps ≡ map opened_proposer o.kept → xs ≡ map opened_acceptor o.kept
     → ◌≡◌ {A = SeatState} record { table = table; view = v; node = node; proposed = None; proposers = ps; acceptors = xs } (opened_seat table o i)
 is_opened table v o i node fresh k ps xs ev ef en ek ep ea =

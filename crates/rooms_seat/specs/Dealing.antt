@@ -1,20 +1,32 @@
 -- A room whose seats are being dealt out.
-use Rattle.std.specs.Prelude.{◌≡◌, ℕ, ◌*◌}
+use Rattle.std.specs.Prelude.{◌≡◌, ℕ, List, length}
 use Rattle.atomic_table.specs.Seated.{TableId}
+use Rattle.paxos_core_world.specs.KeptPart.{KeptPart}
 use Rattle.rooms_rule.specs.Deal.{dealing}
 use Rattle.rooms_rule.specs.declared.view.Opening.{Opening}
 use Rattle.rooms_rule.specs.declared.view.View.{View}
-use Rattle.rooms_state.specs.SeatState.{CanOpen}
+use Rattle.rooms_table.specs.RoomAt.{HasWords, RoomAt}
+use Rattle.rooms_state.specs.SeatState.{opening_of, CanOpen}
 
 -- which room it is, how it was opened, and whose seat comes next
 pub record Dealing : Type 0 where
-  pub table : TableId
+  pub table : RoomAt
   pub opening : Opening
   pub next : ℕ
 
 -- what is left is the right to step for the nodes that have no seat yet
-pub record IsDealing (table : TableId) (v : View) (s : Dealing) : Type 0 where
-  pub same : s.table ≡ table
-  pub words : s.table.words ≡ 2 * s.opening.count
+pub record IsDealing (v : View) (s : Dealing) : Type 0 where
+  pub words : HasWords s.table s.opening.count
   pub view : v ≡ dealing s.opening s.next
   pub can : CanOpen s.opening
+
+-- a room of this table that has just been opened from these kept parts
+abbrev pub room_opened : TableId → ℕ → ℕ → List KeptPart → Dealing
+room_opened table rooms room kept =
+    record { table = record { table = table; rooms = rooms; room = room }; opening = opening_of kept; next = 0 }
+
+-- four rooms have as many nodes
+pub record AreAsMany (a b c d : List KeptPart) : Type 0 where
+  pub second : length b ≡ length a
+  pub third : length c ≡ length a
+  pub fourth : length d ≡ length a

@@ -2,47 +2,51 @@ ghost use Rattle.std.specs.Prelude.{◌≡◌, ◌<◌, ◌+◌, length, IfOk, O
 ghost use Rattle.paxos_core_law.specs.NodeState.{IsRoomSize};
 ghost use Rattle.paxos_core_world.specs.Settled.{Settled};
 ghost use Rattle.paxos_core_world.specs.World.{nodes_of};
+ghost use Rattle.rooms_rule.specs.Deal.{dealing};
+ghost use Rattle.rooms_table.specs.RoomAt.{HasWords};
 ghost use Rattle.rooms_state.specs.SeatState.{opened_acceptor, opened_proposer, opened_seat, opening_of, CanOpen};
-ghost use Rattle.rooms_state.specs.Opened.{ShowFirst};
+ghost use Rattle.rooms_seat.specs.Dealing.{room_opened, AreAsMany};
 
-use crate::seat::{Board, WordSeat};
-use atomic_table::Seat as Token;
+use crate::seat::WordSeat;
 use paxos_core::Kept;
+use rooms_rights::{Rights, open_one};
 use rooms_rule::acceptor::AcceptorWord;
 use rooms_rule::proposer::ProposerWord;
-use rooms_rule::rule::Deals;
-use rooms_rule::view::{Opening, View};
+use rooms_rule::view::Opening;
+use rooms_table::view::Openings;
 use std::alloc::{AllocError, Global};
 use std::marker::Model;
-use std::sync::Arc;
 
 /// Deals out the seats of a room that was just opened, in the order of the nodes.
 #[derive(Drop)]
 pub struct Dealer {
-    board: Arc<Board>,
-    token: Token<(), View>,
+    rights: Rights,
     opening: Opening,
     next: u8,
 }
 
 impl Model for Dealer {
-    ghost use Rattle.std.specs.Arc.{arc_value};
     ghost use Rattle.rooms_seat.specs.Dealing.{Dealing, IsDealing};
 
     ghost Value = { Dealing };
 
-    ghost view = { λ s. record { table = s.token.table_id; opening = s.opening; next = s.next } };
+    ghost view = { λ s. record { table = s.rights.at; opening = s.opening; next = s.next } };
 
-    ghost invariant = { λ s. IsDealing (arc_value s.board).shared.table_id s.token.me.0 record {
-      table = s.token.table_id;
-      opening = s.opening;
-      next = s.next;
-    } };
+    ghost invariant = { λ s. IsDealing s.rights.me.0 record { table = s.rights.at; opening = s.opening; next = s.next } };
+}
+
+/// The dealers of four rooms in one table.
+#[derive(Drop)]
+pub struct FourDealers {
+    pub first: Dealer,
+    pub second: Dealer,
+    pub third: Dealer,
+    pub fourth: Dealer,
 }
 
 impl Dealer {
-    /// A room whose nodes have kept these parts, in their order: no seat is dealt yet. The words show the parts, and no
-    /// proposal.
+    /// A room whose nodes have kept these parts, in their order, alone in its table: no seat is dealt yet. The words show the
+    /// parts, and no proposal.
     pub fn open(alloc: Global, kept: &[Kept]) -> Result<Dealer, AllocError>
         requires size { IsRoomSize (length kept.now) }
         requires settled { Settled (length kept.now) (nodes_of kept.now) }
@@ -50,16 +54,26 @@ impl Dealer {
         ensures next { IfOk result (λ dealer. dealer.next ≡ 0) }
     {
         let opening = opening_of(kept);
-        let words = opening_words(&opening);
-        let size = 2 * usize::from(opening.count);
-        let (board, token) = Board::of_words(alloc, &words[..size], &opening)?;
-        let board = Arc::new(alloc, board)?;
-        Ok(Dealer {
-            board,
-            token,
-            opening,
+        let openings = Openings {
+            rooms: 1,
+            each: [opening, opening, opening, opening],
+        };
+        let rights = open_one(alloc, &openings)?;
+        Ok(Dealer::of(rights, &opening))
+    }
+
+    /// Deals the seats of a room that was just opened so.
+    fn of(rights: Rights, opening: &Opening) -> Dealer
+        requires can { CanOpen opening.now }
+        requires words { HasWords rights.at opening.now.count }
+        requires view { rights.me.0 ≡ dealing opening.now 0 }
+        ensures { result ≡ record { table = rights.at; opening = opening.now; next = 0 } }
+    {
+        Dealer {
+            rights,
+            opening: *opening,
             next: 0,
-        })
+        }
     }
 
     /// The next node's seat.
@@ -69,12 +83,47 @@ impl Dealer {
         ensures ok { OnOk result (self.new ≡ record self.old { next = self.old.next + 1 }) }
         ensures err { OnErr result (self.new ≡ self.old) }
     {
-        let board = self.board.clone()?;
-        let mine = self.board.shared.split_seat::<Deals>(&mut self.token);
+        let mine = self.rights.deal()?;
         let me = self.next;
         self.next += 1;
-        Ok(WordSeat::new(board, mine, &self.opening, me))
+        Ok(WordSeat::new(mine, &self.opening, me))
     }
+}
+
+/// Four rooms of the same nodes in one table, from what the nodes have kept of each: no seat is dealt yet.
+pub fn open_four(
+    alloc: Global,
+    first: &[Kept],
+    second: &[Kept],
+    third: &[Kept],
+    fourth: &[Kept],
+) -> Result<FourDealers, AllocError>
+    requires size { IsRoomSize (length first.now) }
+    requires count { AreAsMany first.now second.now third.now fourth.now }
+    requires first { Settled (length first.now) (nodes_of first.now) }
+    requires second { Settled (length second.now) (nodes_of second.now) }
+    requires third { Settled (length third.now) (nodes_of third.now) }
+    requires fourth { Settled (length fourth.now) (nodes_of fourth.now) }
+    ensures first { IfOk result (λ all. all.first ≡ room_opened all.first.table.table 4 0 first.now) }
+    ensures second { IfOk result (λ all. all.second ≡ room_opened all.first.table.table 4 1 second.now) }
+    ensures third { IfOk result (λ all. all.third ≡ room_opened all.first.table.table 4 2 third.now) }
+    ensures fourth { IfOk result (λ all. all.fourth ≡ room_opened all.first.table.table 4 3 fourth.now) }
+{
+    let opening1 = opening_of(first);
+    let opening2 = opening_of(second);
+    let opening3 = opening_of(third);
+    let opening4 = opening_of(fourth);
+    let openings = Openings {
+        rooms: 4,
+        each: [opening1, opening2, opening3, opening4],
+    };
+    let rights = rooms_rights::open_four(alloc, &openings)?;
+    Ok(FourDealers {
+        first: Dealer::of(rights.first, &opening1),
+        second: Dealer::of(rights.second, &opening2),
+        third: Dealer::of(rights.third, &opening3),
+        fourth: Dealer::of(rights.fourth, &opening4),
+    })
 }
 
 /// The opening of a room of these kept parts.
@@ -115,21 +164,6 @@ fn kept_of(kept: &[Kept], node: usize) -> Kept
         Some(part) => *part,
         None => Kept::nothing(),
     }
-}
-
-/// The words with which the room opens.
-fn opening_words(opening: &Opening) -> [u64; 14]
-    requires { CanOpen opening.now }
-    ensures { ShowFirst opening.now opening.now.count result }
-{
-    let mut words = [0; 14];
-    for node in 0..opening.count {
-        let place = usize::from(node);
-        let kept = opening.kept[place];
-        words[2 * place] = opened_proposer(kept).pack();
-        words[2 * place + 1] = opened_acceptor(kept).pack();
-    }
-    words
 }
 
 /// What a proposer's word shows as the room opens.

@@ -1,4 +1,4 @@
-ghost use Rattle.std.specs.Prelude.{◌≡◌, ◌*◌, ◌<◌, ◌↔◌, Some, None, IsErr, IsNone, OnErr, IfOk, IfSome};
+ghost use Rattle.std.specs.Prelude.{◌≡◌, ◌<◌, ◌↔◌, Some, None, IsErr, IsNone, OnErr, IfOk, IfSome};
 ghost use Rattle.paxos_core_law.specs.Proposer.{next_ballot, next_proposal};
 ghost use Rattle.paxos_core_law.specs.declared.step.Act.TheVariants as act;
 ghost use Rattle.rooms_state.specs.Did.{Did, Forgotten, LookedAtAcceptor, LookedAtProposer};
@@ -6,34 +6,28 @@ ghost use Rattle.rooms_state.specs.Would.{would, IsAmong};
 ghost use Rattle.paxos_core_law.specs.NodeState.{offered};
 ghost use Rattle.rooms_seat.specs.Meeting.{IsBounded, IsKnown};
 ghost use Rattle.rooms_state.specs.SeatState.{opened_seat, own_words, CanOpen, promise_of, seen_world, vote_by, vote_of};
-ghost use Rattle.std.specs.Arc.{arc_value};
+ghost use Rattle.rooms_table.specs.RoomAt.{HasWords};
 ghost use Rattle.paxos_core_law.specs.NodeState.{IsRoomSize};
 ghost use Rattle.rooms_rule.specs.Deal.{dealt, informed};
 ghost use Rattle.rooms_rule.specs.Heard.{after_hearing};
 ghost use Rattle.paxos_core_world.specs.World.{Has};
 
 use crate::opening::{opened_acceptor, opened_proposer};
-use atomic_table::{Seat as Token, Table};
 use paxos_core::{CoreError, Kept, Msg, Node, Step, Vote};
+use rooms_rights::Rights;
 use rooms_rule::acceptor::AcceptorWord;
 use rooms_rule::proposer::ProposerWord;
 use rooms_rule::rule::{
-    Accepts, Forgets, LooksAtAcceptor, LooksAtProposer, Promises, Proposes, RoomLaw, Starts, Tells,
+    Accepts, Forgets, LooksAtAcceptor, LooksAtProposer, Promises, Proposes, Starts,
 };
-use rooms_rule::view::{Opening, View};
+use rooms_rule::view::Opening;
 use rooms_state::act::Act;
-use std::alloc::Global;
 use std::marker::Model;
-use std::sync::Arc;
 
-/// The words of a room: two for each node, its proposer's before its acceptor's.
-pub type Board = Table<(), View, Opening, RoomLaw, Global>;
-
-/// One node's right to store its two words and to load all. Its calls take no lock, wait for nobody and return.
+/// One node's right to store its two words of a room and to load all. Its calls take no lock, wait for nobody and return.
 #[derive(Drop)]
 pub struct WordSeat {
-    board: Arc<Board>,
-    token: Token<(), View>,
+    rights: Rights,
     node: Node,
     /// The value that the node has proposed in this run under the ballot that it started last.
     proposed: Option<u8>,
@@ -42,24 +36,23 @@ pub struct WordSeat {
 }
 
 impl Model for WordSeat {
-    ghost use Rattle.std.specs.Arc.{arc_value};
     ghost use Rattle.rooms_state.specs.SeatState.{SeatState};
     ghost use Rattle.rooms_state.specs.Sound.{IsSound};
 
     ghost Value = { SeatState };
 
     ghost view = { λ s. record {
-      table = s.token.table_id;
-      view = s.token.me.0;
+      table = s.rights.at;
+      view = s.rights.me.0;
       node = s.node;
       proposed = s.proposed;
       proposers = s.proposers;
       acceptors = s.acceptors;
     } };
 
-    ghost invariant = { λ s. IsSound (arc_value s.board).shared.table_id record {
-      table = s.token.table_id;
-      view = s.token.me.0;
+    ghost invariant = { λ s. IsSound record {
+      table = s.rights.at;
+      view = s.rights.me.0;
       node = s.node;
       proposed = s.proposed;
       proposers = s.proposers;
@@ -68,19 +61,18 @@ impl Model for WordSeat {
 }
 
 impl WordSeat {
-    /// Node `me`'s seat of a room that opens so, at the table that its token fits.
-    pub(crate) fn new(board: Arc<Board>, token: Token<(), View>, opening: &Opening, me: u8) -> Self
+    /// Node `me`'s seat of a room that opens so, from its rights there.
+    pub(crate) fn new(rights: Rights, opening: &Opening, me: u8) -> Self
         requires opening { CanOpen opening.now }
         requires number { me < opening.now.count }
-        requires table { (token.table_id ≡ (arc_value board).shared.table_id) × (token.table_id.words ≡ 2 * opening.now.count) }
-        requires view { token.me.0 ≡ dealt opening.now me }
-        ensures { result ≡ opened_seat token.table_id opening.now me }
+        requires words { HasWords rights.at opening.now.count }
+        requires view { rights.me.0 ≡ dealt opening.now me }
+        ensures { result ≡ opened_seat rights.at opening.now me }
     {
         let kept = opening.kept;
         let node = Node::new(me, opening.count).restart(kept[usize::from(me)]);
         WordSeat {
-            board,
-            token,
+            rights,
             node,
             proposed: None,
             proposers: [
@@ -110,10 +102,7 @@ impl WordSeat {
         ensures { LookedAtProposer j result self.old self.new }
     {
         let place = usize::from(j);
-        let found = self
-            .board
-            .shared
-            .load::<LooksAtProposer>(&mut self.token, 2 * place);
+        let found = self.rights.load::<LooksAtProposer>(2 * place);
         let word = ProposerWord::unpack(found);
         self.proposers[place] = word;
         word
@@ -126,10 +115,7 @@ impl WordSeat {
         ensures { LookedAtAcceptor j result self.old self.new }
     {
         let place = usize::from(j);
-        let found = self
-            .board
-            .shared
-            .load::<LooksAtAcceptor>(&mut self.token, 2 * place + 1);
+        let found = self.rights.load::<LooksAtAcceptor>(2 * place + 1);
         let word = AcceptorWord::unpack(found);
         self.acceptors[place] = word;
         heard(&mut self.node, j, word);
@@ -152,9 +138,7 @@ impl WordSeat {
             proposed: None,
         };
         let place = usize::from(self.node.me());
-        self.board
-            .shared
-            .store::<Starts>(&mut self.token, 2 * place, word.pack());
+        self.rights.store::<Starts>(2 * place, word.pack());
         self.node = next;
         self.proposed = None;
         Ok(started)
@@ -177,9 +161,7 @@ impl WordSeat {
             accepted: self.node.kept().accepted(),
         };
         let place = usize::from(self.node.me());
-        self.board
-            .shared
-            .store::<Promises>(&mut self.token, 2 * place + 1, word.pack());
+        self.rights.store::<Promises>(2 * place + 1, word.pack());
         self.node = next;
         Some(ballot)
     }
@@ -200,9 +182,7 @@ impl WordSeat {
             proposed,
         };
         let place = usize::from(self.node.me());
-        self.board
-            .shared
-            .store::<Proposes>(&mut self.token, 2 * place, word.pack());
+        self.rights.store::<Proposes>(2 * place, word.pack());
         self.node = next;
         self.proposed = proposed;
         Some((ballot, value))
@@ -224,9 +204,7 @@ impl WordSeat {
             accepted: Some(vote),
         };
         let place = usize::from(self.node.me());
-        self.board
-            .shared
-            .store::<Accepts>(&mut self.token, 2 * place + 1, word.pack());
+        self.rights.store::<Accepts>(2 * place + 1, word.pack());
         self.node = next;
         Some(vote)
     }
@@ -260,14 +238,8 @@ impl WordSeat {
         ensures found { result ≡ own_words self.old }
     {
         let place = usize::from(self.node.me());
-        let proposer = self
-            .board
-            .shared
-            .load::<Forgets>(&mut self.token, 2 * place);
-        let acceptor = self
-            .board
-            .shared
-            .load::<Forgets>(&mut self.token, 2 * place + 1);
+        let proposer = self.rights.load::<Forgets>(2 * place);
+        let acceptor = self.rights.load::<Forgets>(2 * place + 1);
         self.node.forget();
         (
             ProposerWord::unpack(proposer),
@@ -333,10 +305,7 @@ impl WordSeat {
         ensures heard { self.new ≡ record self.old { view = informed self.old.view other.old.view } }
         ensures other { other.new ≡ other.old }
     {
-        let witness = other.board.shared.split_seat::<Tells>(&mut other.token);
-        self.board
-            .shared
-            .join_seat::<Tells>(&mut self.token, witness);
+        self.rights.hear(&mut other.rights);
     }
 
     /// The value that the node has learned, the number of the node whose offer it is.

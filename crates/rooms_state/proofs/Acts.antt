@@ -2,7 +2,7 @@
 use Rattle.std.proofs.Common.{◌≡◌, ℕ, ◌+◌, ◌*◌, ◌<◌, ◌≤◌, Bool, true, false, cond, leb, ltb, List, get_or, Option, Some, None, IfSome, refl, sym, ap, ◌∙◌, subst, inl, inr, arith}
 use Rattle.std.proofs.lemmas.Bool.{and_parts, ltb-true, le-leb, cond-true}
 use mathlib.Core.Option.{none}
-use Rattle.atomic_table.specs.Seated.{TableId}
+use Rattle.rooms_table.specs.RoomAt.{RoomAt}
 use Rattle.atomic_table.specs.Table.{Me, step, Allows}
 use Rattle.paxos_core_world.specs.KeptPart.{KeptPart, with_promise, with_vote, vote}
 use Rattle.paxos_core_world.specs.Run.{reached}
@@ -65,7 +65,7 @@ vote_seen s b (Some v) x e =
 
 -- ---- what fits a word
 
-module _ (table : TableId) (s : SeatState) (sound : IsSound table s) where
+module _ (s : SeatState) (sound : IsSound s) where
   n : ℕ
   n = s.view.opening.count
 
@@ -114,8 +114,8 @@ module _ (table : TableId) (s : SeatState) (sound : IsSound table s) where
 
 -- ---- what the stores ask
 
-module _ {S : Type 0} (table t : TableId) (o : Opening) (slots id : ℕ) (me : Me S View) (s : NodeState) (p : Option ℕ) (xs : List ProposerWord) (ys : List AcceptorWord)
-    (sound : IsSound table record { table = t; view = me.0; node = s; proposed = p; proposers = xs; acceptors = ys }) (place number : ℕ) (at : place ≡ s.me) where
+module _ {S : Type 0} (t : RoomAt) (o : Opening) (slots id : ℕ) (me : Me S View) (s : NodeState) (p : Option ℕ) (xs : List ProposerWord) (ys : List AcceptorWord)
+    (sound : IsSound record { table = t; view = me.0; node = s; proposed = p; proposers = xs; acceptors = ys }) (place number : ℕ) (at : place ≡ s.me) where
   here : me.0.node.me ≡ place
   here = ap (λ (x : NodeState). x.me) sound.node ∙ sym at
 
@@ -161,14 +161,14 @@ module _ {S : Type 0} (table t : TableId) (o : Opening) (slots id : ℕ) (me : M
 -- ---- what the stores leave
 
 -- the seat after an act, whatever it now tells of its own proposer's word
-act_sound : (table : TableId) (old : SeatState) (sound : IsSound table old) (a : Act) (w : View) (took : Took a old.view w) → after_act old.view.node a ≡ offered (after_act old.node a) → (after_act old.node a).me ≡ old.node.me
+act_sound : (old : SeatState) (sound : IsSound old) (a : Act) (w : View) (took : Took a old.view w) → after_act old.view.node a ≡ offered (after_act old.node a) → (after_act old.node a).me ≡ old.node.me
     → (number : ℕ) (p : Option ℕ) → IsProposerOf (world_after old.view.opening w.seen) old.view.node.me number → proposed_in number ≡ p
-    → (t : TableId) → t ≡ old.table → (node : NodeState) → node ≡ after_act old.node a → IsSound table (record old { table = t; view = w; node = node; proposed = p })
-act_sound table old sound a w took tie me number p own ep t et node en =
-    subst (λ (u : TableId). IsSound table (record old { table = u; view = w; node = node; proposed = p })) (sym et)
-    (subst (λ (x : NodeState). IsSound table (record old { view = w; node = x; proposed = p })) (sym en)
-    (subst (λ (z : View). IsSound table (record old { view = z; node = after_act old.node a; proposed = p })) (sym took.advances.stays)
-    (store_sound table old sound took.steps (after_act old.view.node a) w.seen
+    → (t : RoomAt) → t ≡ old.table → (node : NodeState) → node ≡ after_act old.node a → IsSound (record old { table = t; view = w; node = node; proposed = p })
+act_sound old sound a w took tie me number p own ep t et node en =
+    subst (λ (u : RoomAt). IsSound (record old { table = u; view = w; node = node; proposed = p })) (sym et)
+    (subst (λ (x : NodeState). IsSound (record old { view = w; node = x; proposed = p })) (sym en)
+    (subst (λ (z : View). IsSound (record old { view = z; node = after_act old.node a; proposed = p })) (sym took.advances.stays)
+    (store_sound old sound took.steps (after_act old.view.node a) w.seen
     (subst (λ (z : View). Advances old.view took.steps (after_act old.view.node a) z) took.advances.stays took.advances)
     (ap (λ (x : NodeState). x.me) tie ∙ (me ∙ sym (ap (λ (x : NodeState). x.me) sound.node))) (after_act old.node a) tie number own p ep)))
 
@@ -180,20 +180,20 @@ me_if : (t : Bool) (s u : NodeState) → u.me ≡ s.me → (cond t u s).me ≡ s
 me_if true s u e = e
 me_if false s u e = refl
 
-module _ (table : TableId) (old : SeatState) (sound : IsSound table old) (w : View) (number : ℕ) (t : TableId) (et : t ≡ old.table) (node : NodeState) where
+module _ (old : SeatState) (sound : IsSound old) (w : View) (number : ℕ) (t : RoomAt) (et : t ≡ old.table) (node : NodeState) where
   mine : old.view.node.me ≡ old.node.me
   mine = ap (λ (x : NodeState). x.me) sound.node
 
-  pub start_sound : StoresProposer act.Start number old.view w → proposed_in number ≡ None → next_ballot old.node ≤ 65535 → node ≡ started old.node → IsSound table (record old { table = t; view = w; node = node; proposed = None })
+  pub start_sound : StoresProposer act.Start number old.view w → proposed_in number ≡ None → next_ballot old.node ≤ 65535 → node ≡ started old.node → IsSound (record old { table = t; view = w; node = node; proposed = None })
   start_sound h none_there last en =
-      act_sound table old sound act.Start w h.took
+      act_sound old sound act.Start w h.took
       (ap (λ (s : NodeState). after_act s act.Start) sound.node ∙ offered_if (leb (next_ballot old.node) 65535) old.node (started old.node))
       (me_if (leb (next_ballot old.node) 65535) old.node (started old.node) refl) number None h.shows none_there t et node
       (en ∙ sym (cond-true (leb (next_ballot old.node) 65535) (started old.node) old.node (le-leb (next_ballot old.node) 65535 last)))
 
-  pub propose_sound : (b v : ℕ) → StoresProposer act.Propose number old.view w → proposed_in number ≡ Some v → next_proposal old.node ≡ Some (b, v) → node ≡ after_proposal old.node → IsSound table (record old { table = t; view = w; node = node; proposed = Some v })
+  pub propose_sound : (b v : ℕ) → StoresProposer act.Propose number old.view w → proposed_in number ≡ Some v → next_proposal old.node ≡ Some (b, v) → node ≡ after_proposal old.node → IsSound (record old { table = t; view = w; node = node; proposed = Some v })
   propose_sound b v h there e en =
-      act_sound table old sound act.Propose w h.took
+      act_sound old sound act.Propose w h.took
       (ap (λ (s : NodeState). after_act s act.Propose) sound.node ∙ proposed_offered old.node (b, v) e)
       (ap (λ (x : Option (ℕ × ℕ)). (after_answer old.node (propose_message x)).me) e) number (Some v) h.shows there t et node en
 
@@ -204,9 +204,9 @@ module _ (table : TableId) (old : SeatState) (sound : IsSound table old) (w : Vi
       own_stays old.view h.took.steps (after_act old.view.node a) w h.took.advances sound.legal sound.own_word (number_below old.view.opening.count (seen_world old) old.view.node sound.belongs)
       (quiet h.took.steps h.took.taken) (subst (λ (i : ℕ). IsProposerOf (seen_world old) i sound.own_word) (sym mine) sound.own)
 
-  pub promise_sound : (b : ℕ) → StoresAcceptor (act.Promise b) number old.view w → node ≡ after_message old.node (Prepare b) → IsSound table (record old { table = t; view = w; node = node })
+  pub promise_sound : (b : ℕ) → StoresAcceptor (act.Promise b) number old.view w → node ≡ after_message old.node (Prepare b) → IsSound (record old { table = t; view = w; node = node })
   promise_sound b h en =
-      act_sound table old sound (act.Promise b) w h.took
+      act_sound old sound (act.Promise b) w h.took
       (ap (λ (s : NodeState). after_message s (Prepare b)) sound.node ∙ message_offered old.node (Prepare b))
       (me_if (promises old.node b) old.node _ refl) sound.own_word old.proposed
       (kept_own (act.Promise b) (Prepare b) h (λ steps taken x i k g.
@@ -219,9 +219,9 @@ module _ (table : TableId) (old : SeatState) (sound : IsSound table old) (w : Vi
       apart_promise : (b : ℕ) → act.Promise b ≡ act.Propose → ⊥
       apart_promise b e = cc
 
-  pub vote_sound : (x : Vote) → StoresAcceptor (act.Accept x.ballot x.value) number old.view w → node ≡ after_message old.node (Propose x.ballot x.value) → IsSound table (record old { table = t; view = w; node = node })
+  pub vote_sound : (x : Vote) → StoresAcceptor (act.Accept x.ballot x.value) number old.view w → node ≡ after_message old.node (Propose x.ballot x.value) → IsSound (record old { table = t; view = w; node = node })
   vote_sound x h en =
-      act_sound table old sound (act.Accept x.ballot x.value) w h.took
+      act_sound old sound (act.Accept x.ballot x.value) w h.took
       (ap (λ (s : NodeState). after_message s (Propose x.ballot x.value)) sound.node ∙ message_offered old.node (Propose x.ballot x.value))
       (me_if (accepts old.node x) old.node _ refl) sound.own_word old.proposed
       (kept_own (act.Accept x.ballot x.value) (Propose x.ballot x.value) h (λ steps taken z i k g.

@@ -1,7 +1,6 @@
 -- What stays true of a seat through a word step.
 use Rattle.std.proofs.Common.{◌≡◌, ℕ, ◌+◌, ◌*◌, ◌<◌, ◌≤◌, Bool, true, false, cond, List, [], ◌++◌, length, set, get_or, append_assoc, length-set, get_or-set_same, get_or-set_other, Option, Some, None, ◌⊎◌, refl, sym, ap, ◌∙◌, subst, inl, inr, arith}
 use native.Mathlib.Decide.{ℕ_discrete}
-use Rattle.atomic_table.specs.Seated.{TableId}
 use Rattle.paxos_core_world.specs.Ballot.{Owns}
 use Rattle.paxos_core_world.specs.KeptPart.{KeptPart, with_offer, without_offer}
 use Rattle.paxos_core_world.specs.Run.{IsRun, reached}
@@ -33,6 +32,7 @@ use Rattle.rooms_steps.proofs.OfferLemmas.{hearing_offered}
 use Rattle.rooms_rule.proofs.RunLemmas.{world_after-events, world_after-append, legal_reached, legal_before, run_behind, started_own, kept_of}
 use Rattle.rooms_steps.proofs.Stays.{proposer_seen_later, acceptor_seen_later, proposer_seen, acceptor_seen}
 use Rattle.rooms_rule.proofs.WordLemmas.{proposer_of_others}
+use Rattle.rooms_table.specs.RoomAt.{RoomAt}
 use Rattle.rooms_state.specs.Did.{LookedAtAcceptor, LookedAtProposer, Forgotten}
 use Rattle.rooms_state.specs.SeatState.{SeatState, no_proposer, no_acceptor, proposer_of, acceptor_of, own_words, seen_world}
 use Rattle.rooms_state.specs.Sound.{IsSound}
@@ -119,7 +119,7 @@ acceptors_with w n xs j x lt h all i il = at (ℕ_discrete i j)
 abbrev pub after_proposer_look : SeatState → View → ℕ → ProposerWord → SeatState
 after_proposer_look s w j x = record s { view = w; proposers = set s.proposers j x }
 
-module _ (table : TableId) (old : SeatState) (sound : IsSound table old) (j number : ℕ) (lt : j < old.node.count) (x : ProposerWord) (es : x.started ≡ started_in number) (ep : x.proposed ≡ proposed_in number) where
+module _ (old : SeatState) (sound : IsSound old) (j number : ℕ) (lt : j < old.node.count) (x : ProposerWord) (es : x.started ≡ started_in number) (ep : x.proposed ≡ proposed_in number) where
   low : j < old.view.opening.count
   low = subst (λ (n : ℕ). j < n) sound.count lt
 
@@ -148,10 +148,9 @@ module _ (table : TableId) (old : SeatState) (sound : IsSound table old) (j numb
     sight : ProposerSeen (world_after old.view.opening run) j x
     sight = proposer_seen old.view.opening.count (world_after old.view.opening run) j x (reached_after old.view [] old.view.node (view_with old.view run old.view.node) h.advances sound.legal) low started_is proposed_is
 
-    pub proposer_look_sound : IsSound table (after_proposer_look old (view_with old.view run old.view.node) j x)
+    pub proposer_look_sound : IsSound (after_proposer_look old (view_with old.view run old.view.node) j x)
     proposer_look_sound =
         record {
-          same = sound.same;
           words = sound.words;
           count = sound.count;
           most = sound.most;
@@ -194,31 +193,22 @@ module _ (table : TableId) (old : SeatState) (sound : IsSound table old) (j numb
         }
 
 -- the same at whatever view the look left, and where the node's place and the seat's table are told otherwise
-pub proposer_look : (table : TableId) (old : SeatState) → IsSound table old → (place j number : ℕ) → place ≡ j → place < old.node.count → (x : ProposerWord) → x.started ≡ started_in number → x.proposed ≡ proposed_in number
-    → (t : TableId) → t ≡ old.table → (w : View) → LooksAtProposer place number old.view w
-    → IsSound table (record old { table = t; view = w; proposers = set old.proposers place x }) × LookedAtProposer j x old (record old { table = t; view = w; proposers = set old.proposers place x })
-proposer_look table old sound place j number at lt x es ep t et w h =
+pub proposer_look : (old : SeatState) → IsSound old → (place j number : ℕ) → place ≡ j → place < old.node.count → (x : ProposerWord) → x.started ≡ started_in number → x.proposed ≡ proposed_in number
+    → (t : RoomAt) → t ≡ old.table → (w : View) → LooksAtProposer place number old.view w
+    → IsSound (record old { table = t; view = w; proposers = set old.proposers place x }) × LookedAtProposer j x old (record old { table = t; view = w; proposers = set old.proposers place x })
+proposer_look old sound place j number at lt x es ep t et w h =
     let e : w ≡ view_with old.view w.seen old.view.node = h.advances.stays in
     let h' : LooksAtProposer place number old.view (view_with old.view w.seen old.view.node) = subst (λ (z : View). LooksAtProposer place number old.view z) e h in
-    subst (λ (u : TableId). IsSound table (record old { table = u; view = w; proposers = set old.proposers place x }) × LookedAtProposer j x old (record old { table = u; view = w; proposers = set old.proposers place x })) (sym et)
-    (subst (λ (z : View). IsSound table (after_proposer_look old z place x) × LookedAtProposer j x old (after_proposer_look old z place x)) (sym e) (
-      proposer_look_sound table old sound place number lt x es ep w.seen h',
-      subst (λ (i : ℕ). LookedAtProposer i x old (after_proposer_look old (view_with old.view w.seen old.view.node) place x)) at (proposer_looked table old sound place number lt x es ep w.seen h'),
+    subst (λ (u : RoomAt). IsSound (record old { table = u; view = w; proposers = set old.proposers place x }) × LookedAtProposer j x old (record old { table = u; view = w; proposers = set old.proposers place x })) (sym et)
+    (subst (λ (z : View). IsSound (after_proposer_look old z place x) × LookedAtProposer j x old (after_proposer_look old z place x)) (sym e) (
+      proposer_look_sound old sound place number lt x es ep w.seen h',
+      subst (λ (i : ℕ). LookedAtProposer i x old (after_proposer_look old (view_with old.view w.seen old.view.node) place x)) at (proposer_looked old sound place number lt x es ep w.seen h'),
     ))
-
--- ---- what each load and store of a seat asks
-
--- the words of a node have their places in the table
-pub word_below : (table : TableId) (s : SeatState) → IsSound table s → (t : TableId) → s.table ≡ t → (j : ℕ) → j < s.node.count → (2 * j < t.words) × (2 * j + 1 < t.words)
-word_below table s sound t e j lt =
-    let words : s.table.words ≡ 2 * s.view.opening.count = sound.words in
-    let count : s.node.count ≡ s.view.opening.count = sound.count in
-    subst (λ (u : TableId). (2 * j < u.words) × (2 * j + 1 < u.words)) e (omega arith, omega arith)
 
 -- ---- a step of the seat's node
 
 -- the seat stays sound, whatever it now holds of the acceptors' words, its node and its own proposer's word
-module _ (table : TableId) (old : SeatState) (sound : IsSound table old) (steps : List Label) (t : NodeState) (run : List Event) (a : Advances old.view steps t (view_with old.view run t))
+module _ (old : SeatState) (sound : IsSound old) (steps : List Label) (t : NodeState) (run : List Event) (a : Advances old.view steps t (view_with old.view run t))
     (me : t.me ≡ old.view.node.me) (node : NodeState) (tie : t ≡ offered node) (number : ℕ) (own : IsProposerOf (world_after old.view.opening run) old.view.node.me number) (p : Option ℕ) (ep : proposed_in number ≡ p) where
   abbrev stepped : List AcceptorWord → SeatState
   stepped xs = record old { view = view_with old.view run t; node = node; proposed = p; acceptors = xs }
@@ -230,14 +220,13 @@ module _ (table : TableId) (old : SeatState) (sound : IsSound table old) (steps 
   node_count = ap (λ (s : NodeState). s.count) (sym tie) ∙ count_is old.view.opening.count (world_after old.view.opening run) t a.belongs
 
   pub step_sound : (xs : List AcceptorWord) → length xs ≡ 7 → ((i : ℕ) → i < old.view.opening.count → AcceptorSeen (world_after old.view.opening run) i (get_or xs i no_acceptor))
-      → IsSound table (record old { view = view_with old.view run t; node = node; proposed = p; acceptors = xs })
+      → IsSound (record old { view = view_with old.view run t; node = node; proposed = p; acceptors = xs })
   step_sound xs len seen =
       let most : old.node.count ≤ 7 = sound.most in
       let same : node.count ≡ old.node.count = node_count ∙ sym sound.count in
       let last : old.view.end ≡ old.view.node.me + 1 = sound.seated.last in
       let moved : t.me ≡ old.view.node.me = me in
       record {
-        same = sound.same;
         words = sound.words;
         count = node_count;
         most = omega arith;
@@ -255,7 +244,7 @@ module _ (table : TableId) (old : SeatState) (sound : IsSound table old) (steps 
         owned = sound.owned;
       }
 
-  pub store_sound : IsSound table (record old { view = view_with old.view run t; node = node; proposed = p })
+  pub store_sound : IsSound (record old { view = view_with old.view run t; node = node; proposed = p })
   store_sound = step_sound old.acceptors sound.acceptor_row (λ i il. acceptor_stays_seen old.view steps t (view_with old.view run t) a sound.legal i _ il (sound.acceptors i il))
 
 -- ---- a look at an acceptor
@@ -272,13 +261,13 @@ kept_shown s j (Some y) f = kept_if f (notes_vote s j y) s _ refl
 pub kept_hearing : {A : Type 0} (s : NodeState) (j p : ℕ) (y : Option Vote) (f : KeptPart → A) → f (after_hearing s j p y).kept ≡ f s.kept
 kept_hearing s j p y f = kept_shown (after_promise s j p y) j y f ∙ kept_if f (notes_promise s j p y) s _ refl
 
-pub acceptor_look : (table : TableId) (old : SeatState) → IsSound table old → (place j number : ℕ) → place ≡ j → place < old.node.count → (x : AcceptorWord) → x.promised ≡ promised_in number → x.accepted ≡ accepted_in number
-    → (t : TableId) → t ≡ old.table → (w : View) → LooksAtAcceptor place number old.view w → (node : NodeState) → node ≡ after_hearing old.node j x.promised x.accepted
-    → IsSound table (record old { table = t; view = w; node = node; acceptors = set old.acceptors place x }) × LookedAtAcceptor j x old (record old { table = t; view = w; node = node; acceptors = set old.acceptors place x })
-acceptor_look table old sound place j number at lt x ep ea t et w h node en =
-    subst (λ (u : TableId). IsSound table (record old { table = u; view = w; node = node; acceptors = set old.acceptors place x }) × LookedAtAcceptor j x old (record old { table = u; view = w; node = node; acceptors = set old.acceptors place x })) (sym et)
-    (subst (λ (s : NodeState). IsSound table (record old { view = w; node = s; acceptors = set old.acceptors place x }) × LookedAtAcceptor j x old (record old { view = w; node = s; acceptors = set old.acceptors place x })) (sym en)
-    (subst (λ (z : View). IsSound table (record old { view = z; node = after_hearing old.node j x.promised x.accepted; acceptors = set old.acceptors place x }) × LookedAtAcceptor j x old (record old { view = z; node = after_hearing old.node j x.promised x.accepted; acceptors = set old.acceptors place x })) (sym e)
+pub acceptor_look : (old : SeatState) → IsSound old → (place j number : ℕ) → place ≡ j → place < old.node.count → (x : AcceptorWord) → x.promised ≡ promised_in number → x.accepted ≡ accepted_in number
+    → (t : RoomAt) → t ≡ old.table → (w : View) → LooksAtAcceptor place number old.view w → (node : NodeState) → node ≡ after_hearing old.node j x.promised x.accepted
+    → IsSound (record old { table = t; view = w; node = node; acceptors = set old.acceptors place x }) × LookedAtAcceptor j x old (record old { table = t; view = w; node = node; acceptors = set old.acceptors place x })
+acceptor_look old sound place j number at lt x ep ea t et w h node en =
+    subst (λ (u : RoomAt). IsSound (record old { table = u; view = w; node = node; acceptors = set old.acceptors place x }) × LookedAtAcceptor j x old (record old { table = u; view = w; node = node; acceptors = set old.acceptors place x })) (sym et)
+    (subst (λ (s : NodeState). IsSound (record old { view = w; node = s; acceptors = set old.acceptors place x }) × LookedAtAcceptor j x old (record old { view = w; node = s; acceptors = set old.acceptors place x })) (sym en)
+    (subst (λ (z : View). IsSound (record old { view = z; node = after_hearing old.node j x.promised x.accepted; acceptors = set old.acceptors place x }) × LookedAtAcceptor j x old (record old { view = z; node = after_hearing old.node j x.promised x.accepted; acceptors = set old.acceptors place x })) (sym e)
     (sound_after, looked)))
   where
     n : ℕ
@@ -335,9 +324,9 @@ acceptor_look table old sound place j number at lt x ep ea t et w h node en =
     kept_seen : (i : ℕ) → i < old.view.opening.count → AcceptorSeen (world_after old.view.opening w.seen) i (get_or old.acceptors i no_acceptor)
     kept_seen i il = acceptor_stays_seen old.view _ _ _ here sound.legal i _ il (sound.acceptors i il)
 
-    sound_after : IsSound table (record old { view = view_with old.view w.seen (after_hearing old.view.node j x.promised x.accepted); node = after_hearing old.node j x.promised x.accepted; acceptors = set old.acceptors place x })
+    sound_after : IsSound (record old { view = view_with old.view w.seen (after_hearing old.view.node j x.promised x.accepted); node = after_hearing old.node j x.promised x.accepted; acceptors = set old.acceptors place x })
     sound_after =
-        step_sound table old sound (taken_by_hearing old.view.node j x.promised x.accepted) (after_hearing old.view.node j x.promised x.accepted) w.seen here (me_hearing old.view.node j x.promised x.accepted)
+        step_sound old sound (taken_by_hearing old.view.node j x.promised x.accepted) (after_hearing old.view.node j x.promised x.accepted) w.seen here (me_hearing old.view.node j x.promised x.accepted)
         (after_hearing old.node j x.promised x.accepted) tie sound.own_word own old.proposed sound.proposed (set old.acceptors place x) (length-set old.acceptors place x ∙ sound.acceptor_row)
         (acceptors_with (world_after old.view.opening w.seen) old.view.opening.count old.acceptors place x room (subst (λ (i : ℕ). AcceptorSeen (world_after old.view.opening w.seen) i x) (sym at) sight) kept_seen)
 
@@ -368,15 +357,15 @@ acceptor_look table old sound place j number at lt x ep ea t et w h node en =
 -- ---- to forget
 
 -- after a load of an own word, with which the node forgot
-pub forgot_sound : (table : TableId) (old : SeatState) → IsSound table old → (t : TableId) → t ≡ old.table → (w : View) → Forgot old.view w
-    → IsSound table (record old { table = t; view = w; node = restarted old.node old.node.kept })
-forgot_sound table old sound t et w h =
+pub forgot_sound : (old : SeatState) → IsSound old → (t : RoomAt) → t ≡ old.table → (w : View) → Forgot old.view w
+    → IsSound (record old { table = t; view = w; node = restarted old.node old.node.kept })
+forgot_sound old sound t et w h =
     let mine : old.view.node.me ≡ old.node.me = ap (λ (s : NodeState). s.me) sound.node in
     let e : w ≡ view_with old.view w.seen (restarted old.view.node old.view.node.kept) = h.stays in
     let adv = subst (λ (z : View). Advances old.view (taken_by_restart old.view.node) (restarted old.view.node old.view.node.kept) z) e h in
-    subst (λ (u : TableId). IsSound table (record old { table = u; view = w; node = restarted old.node old.node.kept })) (sym et)
-    (subst (λ (z : View). IsSound table (record old { view = z; node = restarted old.node old.node.kept })) (sym e)
-    (store_sound table old sound (taken_by_restart old.view.node) (restarted old.view.node old.view.node.kept) w.seen adv refl (restarted old.node old.node.kept)
+    subst (λ (u : RoomAt). IsSound (record old { table = u; view = w; node = restarted old.node old.node.kept })) (sym et)
+    (subst (λ (z : View). IsSound (record old { view = z; node = restarted old.node old.node.kept })) (sym e)
+    (store_sound old sound (taken_by_restart old.view.node) (restarted old.view.node old.view.node.kept) w.seen adv refl (restarted old.node old.node.kept)
     (ap (λ (s : NodeState). restarted s s.kept) sound.node) sound.own_word
     (own_stays old.view (taken_by_restart old.view.node) (restarted old.view.node old.view.node.kept) (view_with old.view w.seen (restarted old.view.node old.view.node.kept)) adv sound.legal sound.own_word
     (number_below old.view.opening.count (seen_world old) old.view.node sound.belongs) (λ z i k g. g)
@@ -384,19 +373,19 @@ forgot_sound table old sound t et w h =
     old.proposed sound.proposed))
 
 -- after both loads
-pub forgotten : (table : TableId) (old : SeatState) → IsSound table old → (t u : TableId) → t ≡ old.table → u ≡ t → (mid w : View) → Forgot old.view mid → Forgot mid w
+pub forgotten : (old : SeatState) → IsSound old → (t u : RoomAt) → t ≡ old.table → u ≡ t → (mid w : View) → Forgot old.view mid → Forgot mid w
     → (node : NodeState) → node ≡ restarted old.node old.node.kept
-    → IsSound table (record old { table = u; view = w; node = node }) × Forgotten old (record old { table = u; view = w; node = node })
-forgotten table old sound t u et eu mid w h k node en =
-    subst (λ (s : NodeState). IsSound table (record old { table = u; view = w; node = s }) × Forgotten old (record old { table = u; view = w; node = s })) (sym en) (
-      forgot_sound table (record old { table = t; view = mid; node = restarted old.node old.node.kept }) (forgot_sound table old sound t et mid h) u eu w k,
-      subst (λ (x : TableId). Forgotten old (record old { table = x; view = w; node = restarted old.node old.node.kept })) (sym (eu ∙ et))
+    → IsSound (record old { table = u; view = w; node = node }) × Forgotten old (record old { table = u; view = w; node = node })
+forgotten old sound t u et eu mid w h k node en =
+    subst (λ (s : NodeState). IsSound (record old { table = u; view = w; node = s }) × Forgotten old (record old { table = u; view = w; node = s })) (sym en) (
+      forgot_sound (record old { table = t; view = mid; node = restarted old.node old.node.kept }) (forgot_sound old sound t et mid h) u eu w k,
+      subst (λ (x : RoomAt). Forgotten old (record old { table = x; view = w; node = restarted old.node old.node.kept })) (sym (eu ∙ et))
           record { between = mid; first = h; second = k; after = refl },
     )
 
 -- what stands in the own words is what the node keeps, and what it has proposed
-pub own_proposer : (table : TableId) (s : SeatState) → IsSound table s → (number : ℕ) → IsProposerOf (seen_world s) s.node.me number → (started_in number ≡ s.node.kept.started) × (proposed_in number ≡ s.proposed)
-own_proposer table s h number p =
+pub own_proposer : (s : SeatState) → IsSound s → (number : ℕ) → IsProposerOf (seen_world s) s.node.me number → (started_in number ≡ s.node.kept.started) × (proposed_in number ≡ s.proposed)
+own_proposer s h number p =
     let mine : s.view.node.me ≡ s.node.me = ap (λ (t : NodeState). t.me) h.node in (
       p.tells_started
           ∙ (ap (λ (i : ℕ). ((seen_world s).nodes i).started) (sym mine)
@@ -404,8 +393,8 @@ own_proposer table s h number p =
       p.tells_proposed ∙ (sym h.own.tells_proposed ∙ h.proposed),
     )
 
-pub own_acceptor : (table : TableId) (s : SeatState) → IsSound table s → (number : ℕ) → IsAcceptorOf (seen_world s) s.node.me number → (promised_in number ≡ s.node.kept.promised) × (accepted_in number ≡ s.node.kept.accepted)
-own_acceptor table s h number p =
+pub own_acceptor : (s : SeatState) → IsSound s → (number : ℕ) → IsAcceptorOf (seen_world s) s.node.me number → (promised_in number ≡ s.node.kept.promised) × (accepted_in number ≡ s.node.kept.accepted)
+own_acceptor s h number p =
     let mine : s.view.node.me ≡ s.node.me = ap (λ (t : NodeState). t.me) h.node in (
       p.tells_promised
           ∙ (ap (λ (i : ℕ). ((seen_world s).nodes i).promised) (sym mine)
@@ -416,26 +405,25 @@ own_acceptor table s h number p =
     )
 
 -- the two loads of a seat that forgets find its own words
-pub found_own : (table : TableId) (old : SeatState) → IsSound table old → (t u : TableId) → t ≡ old.table → u ≡ t → (mid w : View) (place : ℕ) → place ≡ old.node.me → place < old.node.count → (m n : ℕ)
+pub found_own : (old : SeatState) → IsSound old → (t u : RoomAt) → t ≡ old.table → u ≡ t → (mid w : View) (place : ℕ) → place ≡ old.node.me → place < old.node.count → (m n : ℕ)
     → ForgotAt (2 * place) m old.view mid → ForgotAt (2 * place + 1) n mid w → (x : ProposerWord) (y : AcceptorWord)
     → x.started ≡ started_in m → x.proposed ≡ proposed_in m → y.promised ≡ promised_in n → y.accepted ≡ accepted_in n → (x, y) ≡ own_words old
-found_own table old sound t u et eu mid w place at lt m n h k x y es ep em ea =
-    let first = forgot_sound table old sound t et mid h.forgot in
-    let second = forgot_sound table (record old { table = t; view = mid; node = restarted old.node old.node.kept }) first u eu w k.forgot in
+found_own old sound t u et eu mid w place at lt m n h k x y es ep em ea =
+    let first = forgot_sound old sound t et mid h.forgot in
+    let second = forgot_sound (record old { table = t; view = mid; node = restarted old.node old.node.kept }) first u eu w k.forgot in
     let low : place < old.view.opening.count = subst (λ (c : ℕ). place < c) sound.count lt in
     let opening : mid.opening ≡ old.view.opening = ap (λ (v : View). v.opening) h.forgot.stays in
     let last : w.opening ≡ mid.opening = ap (λ (v : View). v.opening) k.forgot.stays in
-    let p = own_proposer table (record old { table = t; view = mid; node = restarted old.node old.node.kept }) first m
+    let p = own_proposer (record old { table = t; view = mid; node = restarted old.node old.node.kept }) first m
     (subst (λ (o : Opening). IsProposerOf (world_after o mid.seen) old.node.me m) (sym opening) (subst (λ (i : ℕ). IsProposerOf (world_after old.view.opening mid.seen) i m) at (h.proposer place refl low))) in
-    let a = own_acceptor table (record old { table = u; view = w; node = restarted old.node old.node.kept }) second n
+    let a = own_acceptor (record old { table = u; view = w; node = restarted old.node old.node.kept }) second n
     (subst (λ (o : Opening). IsAcceptorOf (world_after o w.seen) old.node.me n) (sym last) (subst (λ (i : ℕ). IsAcceptorOf (world_after mid.opening w.seen) i n) at (k.acceptor place refl (subst (λ (o : Opening). place < o.count) (sym opening) low)))) in
     λ i. (record { started = (es ∙ p.0) i; proposed = (ep ∙ p.1) i }, record { promised = (em ∙ a.0) i; accepted = (ea ∙ a.1) i })
 
 -- after the node's offer
-pub offer_sound : (table : TableId) (old : SeatState) → IsSound table old → IsSound table (record old { node = offered old.node })
-offer_sound table old sound =
+pub offer_sound : (old : SeatState) → IsSound old → IsSound (record old { node = offered old.node })
+offer_sound old sound =
     record {
-      same = sound.same;
       words = sound.words;
       count = sound.count;
       most = sound.most;

@@ -1,27 +1,20 @@
 -- The seats of a room that has just been opened.
-use Rattle.std.proofs.Common.{◌≡◌, ℕ, zero, suc, ◌+◌, ◌*◌, ◌/◌, ◌%◌, ◌<◌, ◌≤◌, ◌⊎◌, List, [], ◌∷◌, ◌++◌, length, map, get_or, set, take, min, length-take, length-set, get_or-set_same, get_or-set_other, Option, Some, None, IfSome, refl, sym, ap, ◌∙◌, subst, inl, inr, arith}
-use native.Mathlib.Decide.{ℕ_discrete}
-use Rattle.atomic_table.specs.Seated.{TableId}
-use Rattle.atomic_table.specs.Table as table
+use Rattle.std.proofs.Common.{◌≡◌, ℕ, zero, suc, ◌/◌, ◌%◌, ◌<◌, ◌≤◌, ◌⊎◌, List, [], ◌∷◌, length, map, get_or, Option, Some, None, IfSome, refl, sym, ap, ◌∙◌, subst, inl, inr, arith}
+use Rattle.rooms_table.specs.RoomAt.{HasWords, RoomAt}
 use Rattle.paxos_core_world.specs.Ballot.{Owns}
 use Rattle.paxos_core_world.specs.KeptPart.{KeptPart, nothing_kept}
 use Rattle.paxos_core_world.specs.Settled.{Settled}
-use Rattle.paxos_core_world.specs.World.{World, nodes_of}
+use Rattle.paxos_core_world.specs.World.{nodes_of}
 use Rattle.paxos_core_world.specs.declared.vote.Vote.{Vote}
 use Rattle.paxos_core_law.specs.NodeState.{IsRoomSize}
 use Rattle.rooms_rule.specs.declared.acceptor.AcceptorWord.{AcceptorWord}
 use Rattle.rooms_rule.specs.declared.proposer.ProposerWord.{ProposerWord}
 use Rattle.rooms_rule.specs.declared.view.Opening.{Opening}
-use Rattle.rooms_rule.specs.Deal.{dealing}
-use Rattle.rooms_rule.specs.Rule.{RoomRule}
-use Rattle.rooms_rule.specs.Sight.{ProposerSeen, AcceptorSeen}
 use Rattle.rooms_rule.specs.Views.{world_after, IsLegal}
-use Rattle.rooms_rule.specs.Words.{IsProposerWord, IsAcceptorWord, IsVoteInWord, decoded}
-use Rattle.rooms_rule.specs.WordsOf.{ShowsKept}
-use Rattle.rooms_rule.proofs.Deal.{opens_with, opens, opening_word, none_proposed_yet}
+use Rattle.rooms_rule.specs.Words.{IsProposerWord, IsVoteInWord, decoded}
+use Rattle.rooms_rule.proofs.Deal.{opens_with, opening_word, none_proposed_yet}
 use Rattle.rooms_rule.proofs.RunLemmas.{legal_reached}
 use Rattle.rooms_steps.proofs.Stays.{proposer_seen, acceptor_seen}
-use Rattle.rooms_state.specs.Opened.{ShowFirst}
 use Rattle.rooms_state.specs.SeatState.{CanOpen, opening_of, opened_proposer, opened_acceptor, opened_seat, no_proposer, no_acceptor}
 use Rattle.rooms_state.specs.Sound.{IsSound}
 
@@ -95,10 +88,9 @@ low_ballot : (n i b : ℕ) → (b ≡ 0) ⊎ Owns n i b → b ≤ 65535
 low_ballot n i b (inl e) = omega arith
 low_ballot n i b (inr own) = own.last
 
-pub opened_sound : (table t : TableId) (o : Opening) (i : ℕ) → t ≡ table → t.words ≡ 2 * o.count → CanOpen o → i < o.count → IsSound table (opened_seat t o i)
-opened_sound table t o i same words can lt =
+pub opened_sound : (t : RoomAt) (o : Opening) (i : ℕ) → HasWords t o.count → CanOpen o → i < o.count → IsSound (opened_seat t o i)
+opened_sound t o i words can lt =
     record {
-      same = same;
       words = words;
       count = refl;
       most = room_size o.count can.size;
@@ -144,57 +136,3 @@ vote_fits o can i lt = fits (nodes_of o.kept i).accepted refl
         let most : o.count ≤ 7 = room_size o.count can.size in
         let number : x.value < o.count = (can.settled.vote i x lt e).offered.0 in
         let within = subst (λ (a : Option Vote). IfSome a (λ y. (1 ≤ y.ballot) × (y.ballot ≤ (nodes_of o.kept i).promised))) e (can.settled.within i lt) in (within.0, omega arith)
-
--- the words of one node more
-pub one_more : (o : Opening) (i : ℕ) (words : List ℕ) (p a : ℕ) → i < 7 → ShowFirst o i words → IsProposerWord p (nodes_of o.kept i).started None
-    → IsAcceptorWord a (nodes_of o.kept i).promised (nodes_of o.kept i).accepted → ShowFirst o (i + 1) (set (set words (2 * i) p) (2 * i + 1) a)
-one_more o i words p a lt h hp ha =
-    record {
-      size = length-set (set words (2 * i) p) (2 * i + 1) a ∙ (length-set words (2 * i) p ∙ h.size);
-      shown = λ j jl. at j jl (ℕ_discrete j i);
-    }
-  where
-    room : 2 * i < length words
-    room = let e : length words ≡ 14 = h.size in omega arith
-
-    room2 : 2 * i + 1 < length (set words (2 * i) p)
-    room2 = let e : length (set words (2 * i) p) ≡ 14 = length-set words (2 * i) p ∙ h.size in omega arith
-
-    elsewhere : (k : ℕ) → (k ≡ 2 * i → ⊥) → (k ≡ 2 * i + 1 → ⊥) → get_or (set (set words (2 * i) p) (2 * i + 1) a) k 0 ≡ get_or words k 0
-    elsewhere k d e = get_or-set_other (set words (2 * i) p) (2 * i + 1) k a 0 e ∙ get_or-set_other words (2 * i) k p 0 d
-
-    at_i : ShowsKept (nodes_of o.kept i) i (set (set words (2 * i) p) (2 * i + 1) a)
-    at_i =
-        record {
-          proposer = subst (λ (n : ℕ). IsProposerWord n (nodes_of o.kept i).started None) (sym (get_or-set_other (set words (2 * i) p) (2 * i + 1) (2 * i) a 0 (λ e. omega arith) ∙ get_or-set_same words (2 * i) p 0 room)) hp;
-          acceptor = subst (λ (n : ℕ). IsAcceptorWord n (nodes_of o.kept i).promised (nodes_of o.kept i).accepted) (sym (get_or-set_same (set words (2 * i) p) (2 * i + 1) a 0 room2)) ha;
-        }
-
-    at : (j : ℕ) → j < i + 1 → Dec (j ≡ i) → ShowsKept (nodes_of o.kept j) j (set (set words (2 * i) p) (2 * i + 1) a)
-    at j jl (yes e) = subst (λ (k : ℕ). ShowsKept (nodes_of o.kept k) k (set (set words (2 * i) p) (2 * i + 1) a)) (sym e) at_i
-    at j jl (no d) =
-        let old = h.shown j (let less : j ≡ i → ⊥ = d in omega arith) in
-        record {
-          proposer = subst (λ (n : ℕ). IsProposerWord n (nodes_of o.kept j).started None) (sym (elsewhere (2 * j) (λ e. d (omega arith)) (λ e. omega arith))) old.proposer;
-          acceptor = subst (λ (n : ℕ). IsAcceptorWord n (nodes_of o.kept j).promised (nodes_of o.kept j).accepted) (sym (elsewhere (2 * j + 1) (λ e. omega arith) (λ e. d (omega arith)))) old.acceptor;
-        }
-
-at_take : (m k : ℕ) (xs : List ℕ) → k < m → get_or (take m xs) k 0 ≡ get_or xs k 0
-at_take zero k xs lt = absurd (omega arith)
-at_take (suc m) k [] lt = refl
-at_take (suc m) zero (x ∷ xs) lt = refl
-at_take (suc m) (suc k) (x ∷ xs) lt = at_take m k xs (omega arith)
-
--- the rule holds as the room opens
-pub opens_so : (o : Opening) (m : ℕ) (words : List ℕ) → m ≡ o.count → CanOpen o → ShowFirst o o.count words → RoomRule o (table.opening {S = Unit {0}} (take (2 * m) words) [] (dealing o 0))
-opens_so o m words e can h =
-    subst (λ (n : ℕ). RoomRule o (table.opening {S = Unit {0}} (take (2 * n) words) [] (dealing o 0))) (sym e)
-    (opens o (take (2 * o.count) words) can.settled (length-take (2 * o.count) words ∙ short)
-    (λ i lt. let old = h.shown i lt in
-    record {
-      proposer = subst (λ (n : ℕ). IsProposerWord n (nodes_of o.kept i).started None) (sym (at_take (2 * o.count) (2 * i) words (omega arith))) old.proposer;
-      acceptor = subst (λ (n : ℕ). IsAcceptorWord n (nodes_of o.kept i).promised (nodes_of o.kept i).accepted) (sym (at_take (2 * o.count) (2 * i + 1) words (omega arith))) old.acceptor;
-    }))
-  where
-    short : min (2 * o.count) (length words) ≡ 2 * o.count
-    short = let most : o.count ≤ 7 = room_size o.count can.size in let row : length words ≡ 14 = h.size in omega arith

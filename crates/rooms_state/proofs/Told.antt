@@ -1,15 +1,14 @@
 -- What a seat tells is what it does, and what a look at an acceptor leaves.
-use Rattle.std.proofs.Common.{◌≡◌, ◌≢◌, ℕ, zero, suc, max, ◌+◌, ◌<◌, ◌≤◌, ◌↔◌, Bool, true, false, cond, not, ◌&&◌, leb, ltb, List, set, get_or, replicate, get_or-set_other, Option, Some, None, Ok, Err, is_some, IfSome, IfOk, OnErr, IsErr, IsNone, Result, option_map, zero-add, refl, sym, ap, ◌∙◌, subst, arith}
+use Rattle.std.proofs.Common.{◌≡◌, ℕ, zero, suc, max, ◌+◌, ◌<◌, ◌≤◌, ◌↔◌, Bool, true, false, cond, leb, ltb, List, get_or, replicate, get_or-set_other, Option, Some, None, Ok, Err, is_some, IfSome, IfOk, OnErr, IsErr, IsNone, Result, option_map, zero-add, refl, sym, ap, ◌∙◌, subst, arith}
 use Rattle.std.proofs.lemmas.Bool.{le-leb, leb-true, ltb-true}
 use Rattle.paxos_core_world.specs.KeptPart.{vote}
-use Rattle.paxos_core_world.specs.Quorum.{count_below, promise_quorum, is_promise_quorum}
+use Rattle.paxos_core_world.specs.Quorum.{count_below, promise_quorum}
 use Rattle.paxos_core_world.specs.declared.vote.Vote.{Vote}
 use Rattle.paxos_core_law.specs.Acceptor.{promises, accepts}
 use Rattle.paxos_core_law.specs.Learner.{learned_with, notes_promise, notes_vote, after_promise}
-use Rattle.paxos_core_law.specs.NextBallot.{IsLeastAbove}
 use Rattle.paxos_core_law.specs.NodeState.{NodeState, nothing_noted}
 use Rattle.paxos_core_law.specs.Notes.{has_promised, highest_below}
-use Rattle.paxos_core_law.specs.Proposer.{floor_of, next_ballot, started, next_proposal, propose_message, proposal_under, may_propose, choice, after_answer}
+use Rattle.paxos_core_law.specs.Proposer.{floor_of, next_ballot, started, next_proposal, propose_message, proposal_under, choice, after_answer}
 use Rattle.paxos_core_law.specs.Would.{after_act, kept_by}
 use Rattle.paxos_core_law.specs.Would as core
 use Rattle.paxos_core_law.specs.declared.step.Act.{Act as CoreAct}

@@ -8,7 +8,6 @@ use Rattle.rooms_rule.specs.declared.proposer.ProposerWord.{ProposerWord}
 use Rattle.rooms_rule.specs.Heard.{after_hearing, taken_by_hearing}
 use Rattle.rooms_rule.specs.NotBelow.{ProposerNotBelow, AcceptorNotBelow}
 use Rattle.rooms_rule.specs.Steps.{Advances, Took, Forgot}
-use Rattle.rooms_rule.specs.Views.{BeginsWith}
 use Rattle.rooms_rule.specs.declared.view.View.{View}
 use Rattle.rooms_rule.specs.WordsOf.{proposed_by}
 use Rattle.rooms_state.specs.SeatState.{SeatState, seen_world, proposer_of, acceptor_of}

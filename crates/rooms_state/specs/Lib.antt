@@ -2,4 +2,3 @@ pub mod SeatState
 pub mod Sound
 pub mod Did
 pub mod Would
-pub mod Opened

@@ -1,6 +1,5 @@
 -- A seat at one moment: what it knows of its room, its node, and what it has last seen of the words.
 use Rattle.std.specs.Prelude.{◌≡◌, ℕ, List, [], ◌∷◌, length, map, if◌then◌else◌, Option, Some, None, slice_index_or}
-use Rattle.atomic_table.specs.Seated.{TableId}
 use Rattle.paxos_core_world.specs.KeptPart.{KeptPart, vote}
 use Rattle.paxos_core_world.specs.Settled.{Settled, is_given}
 use Rattle.paxos_core_world.specs.World.{World, nodes_of}
@@ -13,11 +12,12 @@ use Rattle.rooms_rule.specs.Deal.{dealt}
 use Rattle.rooms_rule.specs.declared.view.Opening.{Opening}
 use Rattle.rooms_rule.specs.declared.view.View.{View}
 use Rattle.rooms_rule.specs.Views.{world_after}
+use Rattle.rooms_table.specs.RoomAt.{RoomAt}
 
 -- which room it is, what the seat knows of its run, its node, the value that the node has proposed under the ballot that it
 -- started last, and by node what was last seen of the words
 pub record SeatState : Type 0 where
-  pub table : TableId
+  pub table : RoomAt
   pub view : View
   pub node : NodeState
   pub proposed : Option ℕ
@@ -52,8 +52,8 @@ opened_proposer k = record { started = k.started; proposed = None }
 abbrev pub opened_acceptor : KeptPart → AcceptorWord
 opened_acceptor k = record { promised = k.promised; accepted = k.accepted }
 
--- node i's seat as the room opens, at this table: it knows what its node has kept, and has seen all words as they were opened
-abbrev pub opened_seat : TableId → Opening → ℕ → SeatState
+-- node i's seat as the room opens, at this place: it knows what its node has kept, and has seen all words as they were opened
+abbrev pub opened_seat : RoomAt → Opening → ℕ → SeatState
 opened_seat table o i =
     record {
       table = table;

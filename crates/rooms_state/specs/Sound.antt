@@ -1,6 +1,5 @@
 -- What holds of every seat.
-use Rattle.std.specs.Prelude.{◌≡◌, ℕ, ◌*◌, ◌<◌, ◌≤◌, ◌⊎◌, length}
-use Rattle.atomic_table.specs.Seated.{TableId}
+use Rattle.std.specs.Prelude.{◌≡◌, ℕ, ◌<◌, ◌≤◌, ◌⊎◌, length}
 use Rattle.paxos_core_world.specs.Ballot.{Owns}
 use Rattle.paxos_core_law.specs.NodeState.{offered}
 use Rattle.paxos_core_late_offers.specs.LateOffer.{BelongsButOffer}
@@ -8,13 +7,13 @@ use Rattle.rooms_rule.specs.Words.{proposed_in}
 use Rattle.rooms_rule.specs.Sight.{ProposerSeen, AcceptorSeen}
 use Rattle.rooms_rule.specs.Views.{IsLegal, IsSeated}
 use Rattle.rooms_rule.specs.WordsOf.{IsProposerOf}
+use Rattle.rooms_table.specs.RoomAt.{HasWords}
 use Rattle.rooms_state.specs.SeatState.{SeatState, seen_world, proposer_of, acceptor_of}
 
--- a seat at this table: it is its node's, what it has seen is a run of the protocol, to whose last world its node belongs,
+-- a seat is its node's, what it has seen is a run of the protocol, to whose last world its node belongs,
 -- and what it saw of each word is not above what stands there
-pub record IsSound (table : TableId) (s : SeatState) : Type 0 where
-  pub same : s.table ≡ table
-  pub words : s.table.words ≡ 2 * s.view.opening.count
+pub record IsSound (s : SeatState) : Type 0 where
+  pub words : HasWords s.table s.view.opening.count
   pub count : s.node.count ≡ s.view.opening.count
   pub most : s.node.count ≤ 7
   pub proposer_row : length s.proposers ≡ 7

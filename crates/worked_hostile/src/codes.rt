@@ -8,10 +8,10 @@ use std::alloc::Global;
 
 /// Whether an offer is learned, and seen, in all four rooms of a function.
 fn is_linked<H: Naming>(seats: &Seats<H>) -> bool {
-    has_learned_offer(&seats.first.seat)
-        && has_learned_offer(&seats.second.seat)
-        && has_learned_offer(&seats.third.seat)
-        && has_learned_offer(&seats.fourth.seat)
+    has_learned_offer(&seats.seat.first)
+        && has_learned_offer(&seats.seat.second)
+        && has_learned_offer(&seats.seat.third)
+        && has_learned_offer(&seats.seat.fourth)
 }
 
 /// The offer that is learned in the last room of a function, of which its code is a part; no bytes where it is not linked.
@@ -20,7 +20,7 @@ fn code_of<H: Naming>(alloc: Global, seats: &Seats<H>) -> Option<Vec<u8>> {
     if !is_linked(seats) {
         return Some(code);
     }
-    let Some(offer) = learned_offer(&seats.fourth.seat) else {
+    let Some(offer) = learned_offer(&seats.seat.fourth) else {
         return None;
     };
     match offer.write(&mut code) {

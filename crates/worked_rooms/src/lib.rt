@@ -2,7 +2,8 @@
 //! random schedules of seats beside the protocol's slow reference.
 #![tactic(auto)]
 
-pub mod opened;
+#[cfg(test)]
+mod opened;
 #[cfg(test)]
 mod schedules;
 #[cfg(test)]

@@ -1,64 +1,65 @@
--- The four rooms open one behind the other.
-use denote.Param.Send.{sendable}
-use Rattle.std.proofs.Common.{length, sym, ap, ◌∙◌}
+-- The rooms of a function open from what the nodes have kept of them.
+use Rattle.std.proofs.Common.{List, length, refl, sym, ap, subst, ◌∙◌}
+use Rattle.std.specs.Global.{Vec}
 use Rattle.std.proofs.lemmas.List.{length-map}
-use Rattle.farm_nodes_passes.specs.declared.which.Which.TheVariants.{First, Second, Third, Fourth}
+use Rattle.paxos_core_law.specs.NodeState.{IsRoomSize}
+use Rattle.paxos_core_world.specs.KeptPart.{KeptPart}
+use Rattle.rooms_function.specs.Opened.{kept_in}
+use Rattle.rooms_function.specs.Opened as by_pass
 use Rattle.farm_nodes_passes.specs.Numbers.{room_at}
-use Rattle.farm_nodes_passes.proofs.Sent.{function_send, function_sync}
+use Rattle.farm_nodes_passes.specs.declared.which.Which.TheVariants.{First, Second, Third, Fourth}
 use Rattle.farm_nodes_lists.specs.Rows.{offers_of, rows_of}
-use Rattle.farm_nodes_opening.specs.Kept.{kept_of}
-use Rattle.farm_nodes_opening.proofs.OneRoom.{opened_through}
-use Rattle.farm_nodes_functions.proofs.Outcomes.{all_settled, told_first, told_second, told_third, told_fourth, told_memory}
+use Rattle.farm_nodes_opening.specs.Kept.{four_kept, kept_of}
+use Rattle.farm_nodes_opening.proofs.OneRoom.{offers_as_given}
+use Rattle.farm_nodes_functions.proofs.Dealt.{all_one, open_function_is, some_of_all}
+use Rattle.farm_nodes_functions.proofs.Outcomes.{kept_first, kept_second, kept_third, kept_fourth, settled_all, told_pass}
 use Rattle.farm_nodes_functions.proofs.function.open_function.Goals as goal
 
-pub open_at-requires-3-send-P-Out-Fun : goal.open_at-requires-3-send-P-Out-Fun
-open_at-requires-3-send-P-Out-Fun g c κs within = search (function_send, sendable) depth 40
-
-pub open_at-requires-3-sync-P-Out-Fun : goal.open_at-requires-3-sync-P-Out-Fun
-open_at-requires-3-sync-P-Out-Fun g c κs within = search (function_sync, sendable) depth 40
-
-pub open_at-requires-4-send-P-In-Fun : goal.open_at-requires-4-send-P-In-Fun
-open_at-requires-4-send-P-In-Fun g c κs within = search (function_send, sendable) depth 40
-
-pub open_at-requires-4-sync-P-In-Fun : goal.open_at-requires-4-sync-P-In-Fun
-open_at-requires-4-sync-P-In-Fun g c κs within = search (function_sync, sendable) depth 40
-
-pub returns-in-Ok-node_by_node-clause-opened : goal.returns-in-Ok-node_by_node-clause-opened
-returns-in-Ok-node_by_node-clause-opened g c =
-    let kept = c.args.kept.now in
+pub open-requires : goal.open-requires
+open-requires g c =
+    let nodes = c.args.kept.now in
     let f = c.args.function in
     let offers = c.args.offers.now in
-    let nodes = c.in-Ok-node_by_node.nodes.items in
-    let are = c.in-Ok-node_by_node.ensures in
+    let here = c.in-Ok-offers_for.here in
+    let are = c.in-Ok-offers_for.ensures.here in
+    let is = c.as_slice.ensures.value ∙ c.in-Ok.ensures in
     record {
-      first = opened_through (kept_of kept (room_at f First)) (offers_of (rows_of offers.first.items) f) _ _ nodes c.in-Ok.seats.items are.first c.in-Ok.ensures.ok;
-      second = opened_through (kept_of kept (room_at f Second)) (offers_of (rows_of offers.second.items) f) _ _ nodes c.in-Ok-open_at.seats.items are.second c.in-Ok-open_at.ensures.ok;
-      third = opened_through (kept_of kept (room_at f Third)) (offers_of (rows_of offers.third.items) f) _ _ nodes c.in-Ok-open_at-2.seats.items are.third c.in-Ok-open_at-2.ensures.ok;
-      fourth = opened_through (kept_of kept (room_at f Fourth)) (offers_of (rows_of offers.fourth.items) f) _ _ nodes c.in-Ok-open_at-3.seats.items are.fourth c.in-Ok-open_at-3.ensures.ok;
-      count = sym (length-map nodes (λ n. n.first)) ∙ ap length are.first ∙ c.in-Ok.ensures.count;
-      settled = all_settled kept f c.in-Ok.ensures.settled c.in-Ok-open_at.ensures.settled c.in-Ok-open_at-2.ensures.settled c.in-Ok-open_at-3.ensures.settled;
+      size = subst IsRoomSize (sym (ap length is ∙ length-map nodes (λ (node : Vec KeptPart). four_kept node.items f))) c.requires.size;
+      first = offers_as_given (kept_of nodes (room_at f First)) _ (offers_of (rows_of offers.first.items) f) here.first.items (ap (λ (ps : List (List KeptPart)). kept_in 0 ps) is ∙ kept_first nodes f) are.first c.requires.offers1;
+      second = offers_as_given (kept_of nodes (room_at f Second)) _ (offers_of (rows_of offers.second.items) f) here.second.items (ap (λ (ps : List (List KeptPart)). kept_in 1 ps) is ∙ kept_second nodes f) are.second c.requires.offers2;
+      third = offers_as_given (kept_of nodes (room_at f Third)) _ (offers_of (rows_of offers.third.items) f) here.third.items (ap (λ (ps : List (List KeptPart)). kept_in 2 ps) is ∙ kept_third nodes f) are.third c.requires.offers3;
+      fourth = offers_as_given (kept_of nodes (room_at f Fourth)) _ (offers_of (rows_of offers.fourth.items) f) here.fourth.items (ap (λ (ps : List (List KeptPart)). kept_in 3 ps) is ∙ kept_fourth nodes f) are.fourth c.requires.offers4;
     }
 
-pub returns-in-Err-clause-told : goal.returns-in-Err-clause-told
-returns-in-Err-clause-told g c =
-    told_first c.args.kept.now c.args.function c.in-Err.unopened.room c.in-Err.unopened.fault c.in-Err.ensures.room c.in-Err.ensures.unsettled c.in-Err.ensures.refused
+pub numbered-requires : goal.numbered-requires
+numbered-requires g c =
+    let nodes = c.args.kept.now in
+    let is = c.as_slice.ensures.value ∙ c.in-Ok.ensures in
+    record {
+      some = some_of_all c.as_slice.result.now c.in-Ok-offers_for.here c.in-Ok-open.seats.items c.in-Ok-open.ensures.ok
+          (subst IsRoomSize (sym (ap length is ∙ length-map nodes (λ (node : Vec KeptPart). four_kept node.items c.args.function))) c.requires.size);
+      rooms = all_one c.as_slice.result.now c.in-Ok-offers_for.here c.in-Ok-open.seats.items c.in-Ok-open.ensures.ok;
+    }
 
-pub returns-in-Err-open_at-clause-told : goal.returns-in-Err-open_at-clause-told
-returns-in-Err-open_at-clause-told g c =
-    told_second c.args.kept.now c.args.function c.in-Err-open_at.unopened.room c.in-Err-open_at.unopened.fault c.in-Ok.ensures.settled
-    c.in-Err-open_at.ensures.room c.in-Err-open_at.ensures.unsettled c.in-Err-open_at.ensures.refused
+pub returns-in-Ok-numbered-clause-opened : goal.returns-in-Ok-numbered-clause-opened
+returns-in-Ok-numbered-clause-opened g c =
+    let is = c.as_slice.ensures.value ∙ c.in-Ok.ensures in
+    open_function_is c.args.kept.now c.args.function c.args.offers.now c.as_slice.result.now c.in-Ok-offers_for.here c.in-Ok-open.seats.items c.in-Ok-numbered.nodes.items
+    is c.in-Ok-offers_for.ensures.here c.in-Ok-open.ensures.ok c.in-Ok-numbered.ensures.seats c.in-Ok-numbered.ensures.one
+    (settled_all c.args.kept.now c.args.function (subst (λ (ps : List (List KeptPart)). by_pass.AreSettled ps) is c.in-Ok-open.ensures.settled))
 
-pub returns-in-Err-open_at-2-clause-told : goal.returns-in-Err-open_at-2-clause-told
-returns-in-Err-open_at-2-clause-told g c =
-    told_third c.args.kept.now c.args.function c.in-Err-open_at-2.unopened.room c.in-Err-open_at-2.unopened.fault c.in-Ok.ensures.settled c.in-Ok-open_at.ensures.settled
-    c.in-Err-open_at-2.ensures.room c.in-Err-open_at-2.ensures.unsettled c.in-Err-open_at-2.ensures.refused
-
-pub returns-in-Err-open_at-3-clause-told : goal.returns-in-Err-open_at-3-clause-told
-returns-in-Err-open_at-3-clause-told g c =
-    told_fourth c.args.kept.now c.args.function c.in-Err-open_at-3.unopened.room c.in-Err-open_at-3.unopened.fault c.in-Ok.ensures.settled c.in-Ok-open_at.ensures.settled
-    c.in-Ok-open_at-2.ensures.settled c.in-Err-open_at-3.ensures.room c.in-Err-open_at-3.ensures.unsettled c.in-Err-open_at-3.ensures.refused
-
-pub returns-in-Err-node_by_node-clause-told : goal.returns-in-Err-node_by_node-clause-told
-returns-in-Err-node_by_node-clause-told g c =
-    told_memory c.args.kept.now c.args.function c.no_memory.result.room c.no_memory.result.fault c.in-Ok.ensures.settled c.in-Ok-open_at.ensures.settled
-    c.in-Ok-open_at-2.ensures.settled c.no_memory.ensures.room c.no_memory.ensures.fault
+pub returns-in-Err-open-clause-told : goal.returns-in-Err-open-clause-told
+returns-in-Err-open-clause-told g c =
+    let nodes = c.args.kept.now in
+    let f = c.args.function in
+    let offers = c.args.offers.now in
+    let here = c.in-Ok-offers_for.here in
+    let are = c.in-Ok-offers_for.ensures.here in
+    let is = c.as_slice.ensures.value ∙ c.in-Ok.ensures in
+    let e = c.in-Err-open.unopened in
+    told_pass nodes f here c.told.result.room c.told.result.fault e.error c.told.ensures.fault
+    (offers_as_given (kept_of nodes (room_at f First)) (kept_of nodes (room_at f First)) (offers_of (rows_of offers.first.items) f) here.first.items refl are.first c.requires.offers1)
+    (offers_as_given (kept_of nodes (room_at f Second)) (kept_of nodes (room_at f Second)) (offers_of (rows_of offers.second.items) f) here.second.items refl are.second c.requires.offers2)
+    (offers_as_given (kept_of nodes (room_at f Third)) (kept_of nodes (room_at f Third)) (offers_of (rows_of offers.third.items) f) here.third.items refl are.third c.requires.offers3)
+    (offers_as_given (kept_of nodes (room_at f Fourth)) (kept_of nodes (room_at f Fourth)) (offers_of (rows_of offers.fourth.items) f) here.fourth.items refl are.fourth c.requires.offers4)
+    e.pass (subst (λ (ps : List (List KeptPart)). by_pass.IsUnopened ps here e.pass e.error) is c.in-Err-open.ensures.told) c.told.ensures.room

@@ -1,28 +1,20 @@
-use denote.Param.Send.{sendable}
-use Rattle.farm_nodes_passes.proofs.Sent.{function_send, function_sync}
-use Rattle.farm_nodes_meeting.specs.Held.{held, held_of}
-use Rattle.farm_nodes_meeting.proofs.FourRooms.{has_met}
+use Rattle.std.proofs.Common.{◌↔◌, Bool, sym, subst}
+use Rattle.std.specs.Prelude.{IsTrue}
+use Rattle.farm_nodes_meeting.specs.Functions.{AreOne}
+use Rattle.farm_nodes_meeting.proofs.FourRooms.{both_told, has_met, held_with, met_in, one_told}
 use Rattle.farm_nodes_meeting.proofs.functions.meet_in_function.Goals as goal
 
 pub returns : goal.returns
 returns g c =
-    has_met
-    (held_of c.args.first.now)
-    (held_of c.args.second.now)
-    (held c.meet_in_two-early.new.here.claim c.meet_in_two-early.new.here.seat c.meet_in_two-early.new.there.claim c.meet_in_two-early.new.there.seat c.meet_in_two-late.new.here.claim c.meet_in_two-late.new.here.seat c.meet_in_two-late.new.there.claim c.meet_in_two-late.new.there.seat)
-    (held c.meet_in_two-early.new.here_other.claim c.meet_in_two-early.new.here_other.seat c.meet_in_two-early.new.there_other.claim c.meet_in_two-early.new.there_other.seat c.meet_in_two-late.new.here_other.claim c.meet_in_two-late.new.here_other.seat c.meet_in_two-late.new.there_other.claim c.meet_in_two-late.new.there_other.seat)
-    c.meet_in_two-early.result c.meet_in_two-late.result c.and.result
-    c.meet_in_two-early.ensures.here c.meet_in_two-early.ensures.there c.meet_in_two-late.ensures.here c.meet_in_two-late.ensures.there
-    c.meet_in_two-early.ensures.link c.meet_in_two-late.ensures.link c.and.ensures
-
-pub meet_in_two-late-requires-send-P-Out-Fun : goal.meet_in_two-late-requires-send-P-Out-Fun
-meet_in_two-late-requires-send-P-Out-Fun g c κs within = search (function_send, sendable) depth 40
-
-pub meet_in_two-late-requires-send-Q-In-Fun : goal.meet_in_two-late-requires-send-Q-In-Fun
-meet_in_two-late-requires-send-Q-In-Fun g c κs within = search (function_send, sendable) depth 40
-
-pub meet_in_two-late-requires-sync-P-Out-Fun : goal.meet_in_two-late-requires-sync-P-Out-Fun
-meet_in_two-late-requires-sync-P-Out-Fun g c κs within = search (function_sync, sendable) depth 40
-
-pub meet_in_two-late-requires-sync-Q-In-Fun : goal.meet_in_two-late-requires-sync-Q-In-Fun
-meet_in_two-late-requires-sync-Q-In-Fun g c κs within = search (function_sync, sendable) depth 40
+    let first = c.args.first.now in
+    let second = c.args.second.now in
+    let new = c.meet-told.new in
+    let e = c.meet-told.ensures in
+    has_met (held_with first.claim first.seat) (held_with second.claim second.seat) (held_with new.first.claim new.first.seat) (held_with new.second.claim new.second.seat)
+    (met_in first.claim second.claim new.first.claim new.second.claim first.seat second.seat new.first.seat new.second.seat e.first_number e.second_number
+    c.meet-told.result e.numbers e.apart e.same e.met)
+    c.is_some.result c.and-both.result c.and.result
+    (subst (λ (b : Bool). IsTrue b ↔ AreOne (held_with first.claim first.seat) (held_with second.claim second.seat)) (sym c.is_some.ensures)
+    (one_told first.claim second.claim new.first.claim new.second.claim first.seat second.seat new.first.seat new.second.seat e.first_number e.second_number
+    c.meet-told.result e.numbers e.same))
+    (both_told c.has_all.result c.has_all-2.result c.and-both.result _ _ c.has_all.ensures c.has_all-2.ensures c.and-both.ensures) c.and.ensures

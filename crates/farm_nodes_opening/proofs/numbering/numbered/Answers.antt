@@ -3,7 +3,7 @@ use Rattle.std.proofs.Common.{◌≡◌, ◌++◌, [], ◌∷◌, length, map, r
 use Rattle.std.specs.Vec.Iter.{into_iter_items}
 use Rattle.std.proofs.lemmas.List.{map_push}
 use Rattle.std.proofs.lemmas.List.Elements.{All-nil, All-push, All-same, All-head, All-tail}
-use Rattle.rooms_numbered.specs.RoomOf.{room_of}
+use Rattle.farm_nodes_passes.specs.FunctionOf.{function_of}
 use Rattle.farm_nodes_lists.proofs.Columns.{moved_on, all_there, none_left}
 use Rattle.farm_nodes_opening.proofs.OneRoom.{claimed_by_all}
 use Rattle.farm_nodes_opening.proofs.numbering.numbered.Goals as goal
@@ -19,20 +19,18 @@ loop-seat-init g c =
       same = All-same (λ x. x ≡ claim) (map (λ n. n.claim) c.new-found.result.items) [] (ap (λ ns. map (λ n. n.claim) ns) c.new-found.ensures.items) (All-nil (λ x. x ≡ claim));
       kept = refl;
       here =
-          All-same (λ s. room_of s ≡ claim.room) (into_iter_items c.into_iter-seat-iterator.result) seats gives.0
-          (claimed_by_all seats c.index.result.now claim.room c.requires.room c.requires.some c.index.ensures c.in-Ok.ensures);
+          All-same (λ s. function_of s ≡ claim.room) (into_iter_items c.into_iter-seat-iterator.result) seats gives.0
+          (claimed_by_all seats c.index.result.now claim.room c.requires.rooms c.requires.some c.index.ensures c.in-Ok.ensures);
     }
 
-pub of-requires-after_bounds : goal.of-requires-after_bounds
-of-requires-after_bounds g c κs within =
+pub of-requires : goal.of-requires
+of-requires g c =
     let claim = c.in-Ok.claim in
     let i = c.loop-seat.invariant in
     let left = into_iter_items c.loop-seat.seat-iterator in
     let rest = into_iter_items c.next.new.self in
-    let here : c.loop-seat.claim.room ≡ room_of c.in-Some.seat =
     ap (λ x. x.room) i.kept
-    ∙ sym (All-head (λ s. room_of s ≡ claim.room) c.in-Some.seat rest (All-same (λ s. room_of s ≡ claim.room) (c.in-Some.seat ∷ rest) left (sym c.in-Some.ensures.steps.0) i.here)) in
-    (omega arith, (omega arith, here))
+    ∙ sym (All-head (λ s. function_of s ≡ claim.room) c.in-Some.seat rest (All-same (λ s. function_of s ≡ claim.room) (c.in-Some.seat ∷ rest) left (sym c.in-Some.ensures.steps.0) i.here))
 
 pub loop-seat-preserved : goal.loop-seat-preserved
 loop-seat-preserved g c =
@@ -55,8 +53,8 @@ loop-seat-preserved g c =
           (All-push (λ x. x ≡ claim) (map (λ n. n.claim) found) one.claim i.same (c.in-Ok-of.ensures.number ∙ i.kept));
       kept = c.of.ensures.kept ∙ i.kept;
       here =
-          All-tail (λ s. room_of s ≡ claim.room) c.in-Some.seat rest
-          (All-same (λ s. room_of s ≡ claim.room) (c.in-Some.seat ∷ rest) left (sym steps.0) i.here);
+          All-tail (λ s. function_of s ≡ claim.room) c.in-Some.seat rest
+          (All-same (λ s. function_of s ≡ claim.room) (c.in-Some.seat ∷ rest) left (sym steps.0) i.here);
     }
 
 pub returns-clause-seats : goal.returns-clause-seats

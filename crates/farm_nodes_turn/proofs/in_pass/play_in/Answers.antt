@@ -1,9 +1,6 @@
 use denote.Param.Send.{sendable}
-use Rattle.std.proofs.Common.{◌≡◌, true, ap}
-use Rattle.rooms_hall.specs.Claimed.{Claimed}
-use Rattle.farm_nodes_passes.specs.Fours.{four_of}
+use Rattle.std.proofs.Common.{◌≡◌, true, refl}
 use Rattle.farm_nodes_passes.proofs.Sent.{function_send, function_sync}
-use Rattle.farm_nodes_turn.proofs.Claims.{numbered}
 use Rattle.farm_nodes_turn.proofs.Inputs.{on_ok}
 use Rattle.farm_nodes_turn.proofs.in_pass.play_in.Goals as goal
 
@@ -137,34 +134,22 @@ pub returns-in-Fourth-clause-cause : goal.returns-in-Fourth-clause-cause
 returns-in-Fourth-clause-cause g c = rw c.in-Fourth.is c.play_behind-in-Fourth.ensures.cause
 
 pub returns-in-First-clause-others : goal.returns-in-First-clause-others
-returns-in-First-clause-others g c =
-    let old = four_of c.args.seats.now in
-    let new = c.play_first.new.numbered in
-    rw c.in-First.is (ap (λ (n : Claimed). numbered new.seat old.second old.third old.fourth n old.numbers.second old.numbers.third old.numbers.fourth) c.play_first.ensures.number)
+returns-in-First-clause-others g c = rw c.in-First.is refl
 
 pub returns-in-Second-clause-others : goal.returns-in-Second-clause-others
-returns-in-Second-clause-others g c =
-    let old = four_of c.args.seats.now in
-    let new = c.play_behind.new.numbered in
-    rw c.in-Second.is (ap (λ (n : Claimed). numbered old.first new.seat old.third old.fourth old.numbers.first n old.numbers.third old.numbers.fourth) c.play_behind.ensures.number)
+returns-in-Second-clause-others g c = rw c.in-Second.is refl
 
 pub returns-in-Third-clause-others : goal.returns-in-Third-clause-others
-returns-in-Third-clause-others g c =
-    let old = four_of c.args.seats.now in
-    let new = c.play_behind-in-Third.new.numbered in
-    rw c.in-Third.is (ap (λ (n : Claimed). numbered old.first old.second new.seat old.fourth old.numbers.first old.numbers.second n old.numbers.fourth) c.play_behind-in-Third.ensures.number)
+returns-in-Third-clause-others g c = rw c.in-Third.is refl
 
 pub returns-in-Fourth-clause-others : goal.returns-in-Fourth-clause-others
-returns-in-Fourth-clause-others g c =
-    let old = four_of c.args.seats.now in
-    let new = c.play_behind-in-Fourth.new.numbered in
-    rw c.in-Fourth.is (ap (λ (n : Claimed). numbered old.first old.second old.third new.seat old.numbers.first old.numbers.second old.numbers.third n) c.play_behind-in-Fourth.ensures.number)
+returns-in-Fourth-clause-others g c = rw c.in-Fourth.is refl
 
 pub returns-in-First-clause-offered : goal.returns-in-First-clause-offered
 returns-in-First-clause-offered g c =
     rw c.in-First.is
-    (on_ok c.play_first.result (c.play_first.new.numbered.seat.words.node.kept.offered ≡ true)
-    (Unit {0} → c.play_first.new.numbered.seat.words.node.kept.offered ≡ true)
+    (on_ok c.play_first.result (c.play_first.new.seat.words.node.kept.offered ≡ true)
+    (Unit {0} → c.play_first.new.seat.words.node.kept.offered ≡ true)
     (λ offered known. offered) c.play_first.ensures.offered)
 
 pub play_behind-requires-in-Third-send-P-Out-Fun : goal.play_behind-requires-in-Third-send-P-Out-Fun

@@ -1,6 +1,6 @@
 use Rattle.farm_nodes_passes.specs.Fours.{fours_of}
-use Rattle.farm_nodes_node.specs.Held.{IsSoundNode}
-use Rattle.farm_nodes_node.specs.Waiting.{IsWaiting}
+use Rattle.farm_nodes_opened.specs.Held.{IsSoundNode}
+use Rattle.farm_nodes_opened.specs.Waiting.{IsWaiting}
 use Rattle.farm_nodes.proofs.Fit.{all_both}
 use Rattle.farm_nodes.proofs.farm.Farm.over.Goals as goal
 

@@ -1,9 +1,9 @@
 use Rattle.std.proofs.Common.{◌≡◌, length, Option, None, Ok, Err, refl, sym, ap, ◌∙◌, subst, arith}
 use Rattle.std.proofs.Math.Nat.{ℕ_set}
 use Rattle.std.specs.Arc.{arc_value}
-use Rattle.farm_nodes_passes.specs.Numbers.{pass_of}
+use Rattle.farm_nodes_turn.specs.Numbers.{pass_of}
 use Rattle.farm_nodes_node.specs.declared.halted.Halted.{Halted}
-use Rattle.farm_nodes_passes.specs.Fours.{four_of, fours_of}
+use Rattle.farm_nodes_turn.specs.Fours.{four_of, fours_of}
 use Rattle.farm_nodes_node.specs.Told.{failure_of}
 use Rattle.farm_nodes_offers.specs.declared.halt.Fault.{Fault}
 use Rattle.farm_nodes_offers.specs.Halted.{HasHaltCause}

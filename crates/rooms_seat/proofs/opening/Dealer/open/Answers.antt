@@ -1,5 +1,6 @@
-use Rattle.rooms_state.proofs.Opened.{opens_so}
+use Rattle.std.proofs.Common.{refl}
+use Rattle.rooms_seat.proofs.Openings.{one_opens}
 use Rattle.rooms_seat.proofs.opening.Dealer.open.Goals as goal
 
-pub of_words-requires : goal.of_words-requires
-of_words-requires c = opens_so c.opening_of-opening.result c.from-size.result c.opening_words-words.result c.from-size.ensures c.opening_of-opening.ensures.can c.opening_words-words.ensures
+pub open_one-requires : goal.open_one-requires
+open_one-requires c = record { can = one_opens c.opening_of-opening.result c.opening_of-opening.ensures.can; rooms = refl }

@@ -17,5 +17,5 @@ returns c =
       owned = λ j lt.
           subst (λ (n : ℕ). ((get_or c.self.inside.proposers j no_proposer).started ≡ 0) ⊎ Owns n j (get_or c.self.inside.proposers j no_proposer).started) (sym sound.count)
           (sound.owned j (subst (λ (n : ℕ). j < n) sound.count lt));
-      proposal = λ b v e. let low : v < 255 = proposed_value _ _ sound b v e in omega arith;
+      proposal = λ b v e. let low : v < 255 = proposed_value _ sound b v e in omega arith;
     }

@@ -1,19 +1,21 @@
-use Rattle.std.proofs.Common.{◌≡◌, ℕ, ◌<◌, sym, ap, ◌∙◌, subst, refl}
-use Rattle.rooms_steps.proofs.Looks.{looks_at_proposer}
+use Rattle.std.proofs.Common.{ℕ, ◌<◌, sym, subst, refl}
+use Rattle.rooms_state.proofs.Looks.{looks_at_proposer}
 use Rattle.rooms_state.specs.SeatState.{SeatState}
-use Rattle.rooms_state.proofs.Moves.{proposer_look, word_below}
+use Rattle.rooms_state.proofs.Moves.{proposer_look}
+use Rattle.rooms_seat.proofs.Steps.{word_below}
 use Rattle.rooms_seat.proofs.seat.WordSeat.look_proposer.Goals as goal
 
 pub load-found-requires : goal.load-found-requires
 load-found-requires c =
     let sound = c.self.invariant in
-    let same : c.self.inside.token.table_id ≡ c.deref.result.now.shared.table_id = sound.same ∙ ap (λ t. t.shared.table_id) (sym c.deref.ensures) in
     let low : c.from-place.result < c.self.inside.node.count =
-    rw c.from-place.ensures (subst (λ (s : SeatState). c.args.j < s.node.count) (sym c.self.view_is) c.requires) in (
-      same,
-      (word_below _ _ sound _ same c.from-place.result low).0,
-      looks_at_proposer _ _ _ c.self.inside.token.me _ sound.seated,
-    )
+    rw c.from-place.ensures (subst (λ (s : SeatState). c.args.j < s.node.count) (sym c.self.view_is) c.requires) in
+    record {
+      seated = sound.seated;
+      words = sound.words;
+      below = (word_below _ sound c.from-place.result low).0;
+      allowed = λ o. looks_at_proposer o _ _ c.self.inside.rights.me _ sound.seated;
+    }
 
 pub invariant_of-self : goal.invariant_of-self
 invariant_of-self c =
@@ -21,8 +23,8 @@ invariant_of-self c =
     let low : c.from-place.result < c.self.inside.node.count =
     rw c.from-place.ensures (subst (λ (s : SeatState). c.args.j < s.node.count) (sym c.self.view_is) c.requires) in
     let found = c.load-found.ensures in
-    (proposer_look _ _ sound c.from-place.result c.args.j c.load-found.result c.from-place.ensures low c.unpack-word.result c.unpack-word.ensures.started c.unpack-word.ensures.proposed
-    c.load-found.new.seat.table_id found.0 c.load-found.new.seat.me.0 (found.2 c.from-place.result refl (subst (λ (n : ℕ). c.from-place.result < n) sound.count low))).0
+    (proposer_look _ sound c.from-place.result c.args.j c.load-found.result c.from-place.ensures low c.unpack-word.result c.unpack-word.ensures.started c.unpack-word.ensures.proposed
+    c.load-found.new.self.at found.at c.load-found.new.self.me.0 (found.told c.from-place.result refl (subst (λ (n : ℕ). c.from-place.result < n) sound.count low))).0
 
 pub returns : goal.returns
 returns c =
@@ -31,5 +33,5 @@ returns c =
     rw c.from-place.ensures (subst (λ (s : SeatState). c.args.j < s.node.count) (sym c.self.view_is) c.requires) in
     let found = c.load-found.ensures in
     rw (← c.self.view_is)
-    (proposer_look _ _ sound c.from-place.result c.args.j c.load-found.result c.from-place.ensures low c.unpack-word.result c.unpack-word.ensures.started c.unpack-word.ensures.proposed
-    c.load-found.new.seat.table_id found.0 c.load-found.new.seat.me.0 (found.2 c.from-place.result refl (subst (λ (n : ℕ). c.from-place.result < n) sound.count low))).1
+    (proposer_look _ sound c.from-place.result c.args.j c.load-found.result c.from-place.ensures low c.unpack-word.result c.unpack-word.ensures.started c.unpack-word.ensures.proposed
+    c.load-found.new.self.at found.at c.load-found.new.self.me.0 (found.told c.from-place.result refl (subst (λ (n : ℕ). c.from-place.result < n) sound.count low))).1

@@ -1,8 +1,5 @@
-use Rattle.std.proofs.Common.{◌≡◌, ℕ, ◌<◌, ◌≤◌, List, [], ◌∷◌, length, map, get_or, sym, ap, ◌∙◌, subst, arith}
-use Rattle.std.specs.Arc.{arc_value}
+use Rattle.std.proofs.Common.{◌≡◌, ◌<◌, ◌≤◌, List, [], ◌∷◌, length, map, get_or, sym, ◌∙◌, subst, arith}
 use Rattle.paxos_core_world.specs.KeptPart.{KeptPart, nothing_kept}
-use Rattle.rooms_rule.specs.declared.acceptor.AcceptorWord.{AcceptorWord}
-use Rattle.rooms_rule.specs.declared.proposer.ProposerWord.{ProposerWord}
 use Rattle.rooms_state.specs.SeatState.{SeatState, opened_acceptor, opened_proposer}
 use Rattle.rooms_state.specs.Sound.{IsSound}
 use Rattle.rooms_state.proofs.Opened.{opened_sound, room_size, seven}
@@ -33,10 +30,10 @@ returns c =
     ∷ (image_at opened_acceptor kept 5 c.index-kept-5-2.result nothing_kept c.opened_acceptor-6.result (omega arith) c.opened_acceptor-6.ensures) j
     ∷ (image_at opened_acceptor kept 6 c.index-kept-6-2.result nothing_kept c.opened_acceptor-7.result (omega arith) c.opened_acceptor-7.ensures) j ∷ [])
     ∙ seven opened_acceptor nothing_kept kept size in
-    is_opened c.args.token.table_id c.args.token.me.0 c.args.opening.now c.args.me c.restart-node.result c.new.result (get_or kept c.from.result c.index-kept-from.result) _ _ c.requires.view c.new.ensures.state c.restart-node.ensures.state
+    is_opened c.args.rights.at c.args.rights.me.0 c.args.opening.now c.args.me c.restart-node.result c.new.result (get_or kept c.from.result c.index-kept-from.result) _ _ c.requires.view c.new.ensures.state c.restart-node.ensures.state
     (kept_at kept c.from.result c.args.me c.index-kept-from.result c.from.ensures (omega arith)) proposers acceptors
 
 pub invariant_of-result : goal.invariant_of-result
 invariant_of-result c =
-    subst (λ (s : SeatState). IsSound (arc_value c.args.board).shared.table_id s) (sym (returns c))
-    (opened_sound _ c.args.token.table_id c.args.opening.now c.args.me c.requires.table.0 c.requires.table.1 c.requires.opening c.requires.number)
+    subst (λ (s : SeatState). IsSound s) (sym (returns c))
+    (opened_sound c.args.rights.at c.args.opening.now c.args.me c.requires.words c.requires.opening c.requires.number)

@@ -6,7 +6,7 @@ use Rattle.rooms_rule.specs.Words.{IsAcceptorWord, IsVoteInWord}
 use Rattle.rooms_rule.specs.Steps.{StoresAcceptor}
 use Rattle.rooms_state.specs.SeatState.{SeatState}
 use Rattle.rooms_state.proofs.Acts.{kept_value, promise_allowed, promise_sound}
-use Rattle.rooms_state.proofs.Moves.{word_below}
+use Rattle.rooms_seat.proofs.Steps.{word_below}
 use Rattle.rooms_seat.proofs.seat.WordSeat.promise.Goals as goal
 
 fits : (o : Option Vote) → ((x : Vote) → o ≡ Some x → (1 ≤ x.ballot) × (x.value < 256)) → IfSome o IsVoteInWord
@@ -21,25 +21,26 @@ pack-requires c =
     let is : c.accepted.result ≡ c.self.inside.node.kept.accepted = c.accepted.ensures.value ∙ ap (λ (k : KeptPart). k.accepted) c.kept.ensures in
     fits c.accepted.result (λ x e. (
       within c.accepted.result _ (subst (λ (o : Option Vote). IfSome o (λ y. (1 ≤ y.ballot) × (y.ballot ≤ c.kept.result.promised))) (sym c.accepted.ensures.value) c.accepted.ensures.within) x e,
-      kept_value _ _ c.self.invariant x (sym is ∙ e),
+      kept_value _ c.self.invariant x (sym is ∙ e),
     ))
 
 pub store-requires : goal.store-requires
 store-requires c =
     let sound = c.self.invariant in
-    let same : c.self.inside.token.table_id ≡ c.deref.result.now.shared.table_id = sound.same ∙ ap (λ t. t.shared.table_id) (sym c.deref.ensures) in
     let low : c.from.result < c.self.inside.node.count = rw c.from.ensures (subst (λ (s : SeatState). c.args.j < s.node.count) (sym c.self.view_is) c.requires) in
     let at : c.from-place.result ≡ c.self.inside.node.me = c.from-place.ensures ∙ c.me.ensures.value in
     let mine : c.from-place.result < c.self.inside.node.count = rw at (subst (λ (i : ℕ). i < c.self.inside.node.count) c.me.ensures.value c.me.ensures.below) in
-    let is : c.accepted.result ≡ c.self.inside.node.kept.accepted = c.accepted.ensures.value ∙ ap (λ (k : KeptPart). k.accepted) c.kept.ensures in (
-      same,
-      (word_below _ _ sound _ same c.from-place.result mine).1,
-      promise_allowed _ _ _ _ _ c.self.inside.token.me _ _ _ _ sound c.from-place.result c.pack.result at c.from.result c.in_ok-ballot.ballot low c.in_ok-ballot.ensures
-          (subst (λ (o : Option Vote). IsAcceptorWord c.pack.result c.in_ok-ballot.ballot o) is c.pack.ensures.word),
-    )
+    let is : c.accepted.result ≡ c.self.inside.node.kept.accepted = c.accepted.ensures.value ∙ ap (λ (k : KeptPart). k.accepted) c.kept.ensures in
+    record {
+      seated = sound.seated;
+      words = sound.words;
+      below = (word_below _ sound c.from-place.result mine).1;
+      allowed = λ o. promise_allowed _ o _ _ c.self.inside.rights.me _ _ _ _ sound c.from-place.result c.pack.result at c.from.result c.in_ok-ballot.ballot low c.in_ok-ballot.ensures
+          (subst (λ (o : Option Vote). IsAcceptorWord c.pack.result c.in_ok-ballot.ballot o) is c.pack.ensures.word);
+    }
 
 pub invariant_of-self : goal.invariant_of-self
 invariant_of-self c =
     let found = c.store.ensures in
-    promise_sound _ _ c.self.invariant c.store.new.seat.me.0 c.pack.result c.store.new.seat.table_id found.0 c.on-promise.new.self c.in_ok-ballot.ballot
-    (subst (λ (b : ℕ). StoresAcceptor (act.Promise b) c.pack.result c.self.inside.token.me.0 c.store.new.seat.me.0) c.pack.ensures.word.tells_promised found.2) c.on-promise.ensures.state
+    promise_sound _ c.self.invariant c.store.new.self.me.0 c.pack.result c.store.new.self.at found.at c.on-promise.new.self c.in_ok-ballot.ballot
+    (subst (λ (b : ℕ). StoresAcceptor (act.Promise b) c.pack.result c.self.inside.rights.me.0 c.store.new.self.me.0) c.pack.ensures.word.tells_promised found.told) c.on-promise.ensures.state

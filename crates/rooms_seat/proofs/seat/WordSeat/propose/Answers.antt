@@ -2,31 +2,32 @@ use Rattle.std.proofs.Common.{◌≡◌, ℕ, ◌<◌, Some, sym, ap, ◌∙◌,
 use Rattle.paxos_core_world.specs.KeptPart.{KeptPart}
 use Rattle.rooms_rule.specs.Words.{IsProposerWord}
 use Rattle.rooms_state.proofs.Acts.{proposed_value, propose_allowed, propose_sound}
-use Rattle.rooms_state.proofs.Moves.{word_below}
+use Rattle.rooms_seat.proofs.Steps.{word_below}
 use Rattle.rooms_seat.proofs.seat.WordSeat.propose.Goals as goal
 
 pub overflow_cast-proposed : goal.overflow_cast-proposed
 overflow_cast-proposed c =
-    let low : c.in_ok-ballot.value < 255 = proposed_value _ _ c.self.invariant c.in_ok-ballot.ballot c.in_ok-ballot.value (sym c.in_ok-ballot.ensures) in omega arith
+    let low : c.in_ok-ballot.value < 255 = proposed_value _ c.self.invariant c.in_ok-ballot.ballot c.in_ok-ballot.value (sym c.in_ok-ballot.ensures) in omega arith
 
 pub pack-requires : goal.pack-requires
-pack-requires c = proposed_value _ _ c.self.invariant c.in_ok-ballot.ballot c.in_ok-ballot.value (sym c.in_ok-ballot.ensures)
+pack-requires c = proposed_value _ c.self.invariant c.in_ok-ballot.ballot c.in_ok-ballot.value (sym c.in_ok-ballot.ensures)
 
 pub store-requires : goal.store-requires
 store-requires c =
     let sound = c.self.invariant in
-    let same : c.self.inside.token.table_id ≡ c.deref.result.now.shared.table_id = sound.same ∙ ap (λ t. t.shared.table_id) (sym c.deref.ensures) in
     let at : c.from-place.result ≡ c.self.inside.node.me = c.from-place.ensures ∙ c.me.ensures.value in
     let mine : c.from-place.result < c.self.inside.node.count = rw at (subst (λ (i : ℕ). i < c.self.inside.node.count) c.me.ensures.value c.me.ensures.below) in
-    let is : c.started.result ≡ c.self.inside.node.kept.started = c.started.ensures ∙ ap (λ (k : KeptPart). k.started) c.kept.ensures in (
-      same,
-      (word_below _ _ sound _ same c.from-place.result mine).0,
-      propose_allowed _ _ _ _ _ c.self.inside.token.me _ _ _ _ sound c.from-place.result c.pack.result at c.in_ok-ballot.ballot c.in_ok-ballot.value (sym c.in_ok-ballot.ensures)
-          (subst (λ (b : ℕ). IsProposerWord c.pack.result b (Some c.in_ok-ballot.value)) is c.pack.ensures.word),
-    )
+    let is : c.started.result ≡ c.self.inside.node.kept.started = c.started.ensures ∙ ap (λ (k : KeptPart). k.started) c.kept.ensures in
+    record {
+      seated = sound.seated;
+      words = sound.words;
+      below = (word_below _ sound c.from-place.result mine).0;
+      allowed = λ o. propose_allowed _ o _ _ c.self.inside.rights.me _ _ _ _ sound c.from-place.result c.pack.result at c.in_ok-ballot.ballot c.in_ok-ballot.value (sym c.in_ok-ballot.ensures)
+          (subst (λ (b : ℕ). IsProposerWord c.pack.result b (Some c.in_ok-ballot.value)) is c.pack.ensures.word);
+    }
 
 pub invariant_of-self : goal.invariant_of-self
 invariant_of-self c =
     let found = c.store.ensures in
-    propose_sound _ _ c.self.invariant c.store.new.seat.me.0 c.pack.result c.store.new.seat.table_id found.0 c.propose-propose.new.self c.in_ok-ballot.ballot c.in_ok-ballot.value
-    found.2 c.pack.ensures.word.tells_proposed (sym c.in_ok-ballot.ensures) c.propose-propose.ensures.state
+    propose_sound _ c.self.invariant c.store.new.self.me.0 c.pack.result c.store.new.self.at found.at c.propose-propose.new.self c.in_ok-ballot.ballot c.in_ok-ballot.value
+    found.told c.pack.ensures.word.tells_proposed (sym c.in_ok-ballot.ensures) c.propose-propose.ensures.state

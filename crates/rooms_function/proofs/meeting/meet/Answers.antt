@@ -1,0 +1,15 @@
+use denote.Param.Send.{sendable}
+use Rattle.rooms_function.proofs.Sent.{function_send, function_sync}
+use Rattle.rooms_function.proofs.meeting.meet.Goals as goal
+
+pub meet-requires-3-send-P-Out-Fun : goal.meet-requires-3-send-P-Out-Fun
+meet-requires-3-send-P-Out-Fun c κs = search (function_send, sendable) depth 40
+
+pub meet-requires-3-sync-P-Out-Fun : goal.meet-requires-3-sync-P-Out-Fun
+meet-requires-3-sync-P-Out-Fun c κs = search (function_sync, sendable) depth 40
+
+pub meet-requires-4-send-P-In-Fun : goal.meet-requires-4-send-P-In-Fun
+meet-requires-4-send-P-In-Fun c κs = search (function_send, sendable) depth 40
+
+pub meet-requires-4-sync-P-In-Fun : goal.meet-requires-4-sync-P-In-Fun
+meet-requires-4-sync-P-In-Fun c κs = search (function_sync, sendable) depth 40

@@ -1,0 +1,10 @@
+pub mod Cells
+pub mod Met
+pub mod Opened
+pub mod Pass
+pub use Rattle.alloc_check.specs.contracts.pass.AllocPass
+pub use Rattle.rooms.specs.SeatValue
+pub use Rattle.cse_check.specs.contracts.pass.CsePass
+pub use Rattle.constprop_check.specs.contracts.pass.ConstPropPass
+pub use Rattle.constprop_check_rules.specs.declared.fact.Fact
+pub use Rattle.cse_check_rules.specs.declared.equation.Equation

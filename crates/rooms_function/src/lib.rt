@@ -1,0 +1,18 @@
+//! A function's rooms: one for each of the four passes, whose words stand in one table. A node holds one seat for all four; each
+//! call names the pass. Two seats of one function meet in all four rooms in turn.
+#![tactic(auto)]
+
+mod calls;
+mod meeting;
+mod offered;
+mod opening;
+mod seat;
+mod words;
+
+pub use alloc_check::{Alloc, EquationLists as PlaceLists};
+pub use constprop_check::{ConstProp, FactLists};
+pub use cse_check::{Cse, EquationLists};
+pub use meeting::{FunctionMeeting, meet};
+pub use offered::{ChainOffer, SeenOffer};
+pub use opening::{FunctionOffers, FunctionRoom, Unopened};
+pub use seat::FunctionSeat;

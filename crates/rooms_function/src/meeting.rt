@@ -1,0 +1,29 @@
+ghost use Rattle.rooms_function.specs.Met.{IsOneFunction, Met};
+
+use crate::seat::FunctionSeat;
+use rooms_seat::Meeting;
+
+/// What two seats of one function have learned, pass by pass.
+#[derive(Clone, Copy, Debug, PartialEq, Eq)]
+pub struct FunctionMeeting {
+    pub first: Meeting,
+    pub second: Meeting,
+    pub third: Meeting,
+    pub fourth: Meeting,
+}
+
+/// Two seats of one function tell each other what they have seen, pass by pass, and each loads every word of the table once.
+pub fn meet(first: &mut FunctionSeat, second: &mut FunctionSeat) -> FunctionMeeting
+    requires { IsOneFunction first.old second.old }
+    ensures first { Met result.first first.old.first second.old.first first.new.first second.new.first }
+    ensures second { Met result.second first.old.second second.old.second first.new.second second.new.second }
+    ensures third { Met result.third first.old.third second.old.third first.new.third second.new.third }
+    ensures fourth { Met result.fourth first.old.fourth second.old.fourth first.new.fourth second.new.fourth }
+{
+    FunctionMeeting {
+        first: rooms::meet(&mut first.first, &mut second.first),
+        second: rooms::meet(&mut first.second, &mut second.second),
+        third: rooms::meet(&mut first.third, &mut second.third),
+        fourth: rooms::meet(&mut first.fourth, &mut second.fourth),
+    }
+}

@@ -1,0 +1,5 @@
+pub mod Tables
+pub mod Places
+pub mod Lifting
+pub mod Dealing
+pub mod Opening
