@@ -3,7 +3,8 @@
 
     bench/floors.py             says what does not hold: an edge of crates.txt that no file of the crate names or that
                                 is missing, a crate on no floor or below one that it stands on, a crate over 1,500
-                                lines or 100 functions, and how many clauses are over 120 characters
+                                lines or 100 functions, more ways down than the gate has time for, and how many clauses
+                                are over 120 characters
     bench/floors.py --write     writes crates.txt: the floors below, and for each crate exactly what its files name
     bench/floors.py --clauses   prints each clause over 120 characters
 
@@ -16,6 +17,8 @@ import sys
 ROOT = os.path.dirname(os.path.dirname(os.path.realpath(__file__)))
 KIT = f"{os.path.dirname(subprocess.run(['rt', 'doc'], stdout=subprocess.PIPE, text=True, check=True).stdout.strip())}/rlibs"
 LINES, FUNCTIONS, CLAUSE = 1500, 100, 120
+# So many files are read for all stamps (`stamped`), some 30 microseconds each.
+STAMPED = 60_000_000
 TOLD = ("specs", "proofs", "src", "must-fail", "planted")
 
 # Each floor: its name, and its crates, lowest first.
@@ -129,8 +132,19 @@ def clauses():
                         yield crate, file, at, it
 
 
+def stamped(below):
+    """How many files are read for the stamps of all libraries. The toolchain stamps a library before and after its proof, and
+    a stamp reads all files of the crates below it, once for each way down."""
+    read = {}
+    for crate in ORDER:
+        read[crate] = len(list(files_of(crate))) + sum(read[it] for it in below[crate] if it in read)
+    return 2 * sum(read[it] for it in ORDER if not os.path.isfile(f"{ROOT}/crates/{it}/src/main.rt"))
+
+
 def faults():
     plan, below = read_plan(), edges()
+    if stamped(below) > STAMPED:
+        yield f"{stamped(below):,} files are read for stamps: let high crates name what is far below by the crate next below"
     place = {crate: at for at, crate in enumerate(ORDER)}
     for crate in sorted(set(os.listdir(f"{ROOT}/crates")) ^ set(ORDER)):
         yield f"{crate}: on no floor, or no crate"

@@ -10,8 +10,8 @@ use Rattle.rtl_passes_marks.specs.declared.row.NodeRow.{NodeRow}
 use Rattle.rtl_passes_marks.specs.Marks.{feeder, AreFeeders}
 use Rattle.rtl_passes_marks.specs.Ranked.{RiseFrom}
 use Rattle.rtl_passes_marks.specs.Rows.{place_of, entries_at, IsRow, AreRows}
-use Rattle.alloc_check_rules.specs.declared.equation.Equation.{Equation}
-use Rattle.alloc_check_rules.specs.Rules.{IsInOrder}
+use Rattle.alloc_check_live.specs.Equation.{Equation}
+use Rattle.alloc_check_live.specs.Rules.{IsInOrder}
 use Rattle.alloc_check_verdict.specs.Allocated.{is_marked}
 use Rattle.alloc_check_verdict.proofs.Known.{is_marked_from}
 use Rattle.alloc_check_live.specs.Lists.{registers_at}

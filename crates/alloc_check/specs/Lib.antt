@@ -2,7 +2,6 @@ pub mod Baseline
 pub mod Slots
 pub mod Rows
 pub mod PassLaws
-pub use Rattle.alloc_check_rules.specs.Rules
 pub use Rattle.alloc_check_verdict.specs.Allocated
 pub use Rattle.alloc_check_verdict.specs.Text
 pub use Rattle.rtl_passes.specs.Faults

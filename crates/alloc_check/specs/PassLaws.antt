@@ -15,8 +15,8 @@ use Rattle.rtl_passes_marks.specs.declared.row.NodeRow.{NodeRow}
 use Rattle.rtl_passes_marks.specs.RowForm.{RowFits}
 use Rattle.rtl_passes_marks.specs.Rows.{place_of, IsRow}
 use Rattle.rtl_passes_marks.proofs.Short.{few_between}
-use Rattle.alloc_check_rules.specs.declared.equation.Equation.{Equation}
-use Rattle.alloc_check_rules.specs.Rules.{EquationFits, IsInOrder}
+use Rattle.alloc_check_live.specs.Equation.{Equation}
+use Rattle.alloc_check_live.specs.Rules.{EquationFits, IsInOrder}
 use Rattle.alloc_check_verdict.specs.Allocated.{IsAllocated}
 use Rattle.alloc_check_verdict.proofs.Passed.{sound}
 use Rattle.alloc_check_verdict.specs.Text.{CertFits, cert_text}

@@ -20,7 +20,7 @@ use Rattle.ltl.specs.declared.block.Block.{Block}
 use Rattle.ltl.specs.declared.block.Body.{Body}
 use Rattle.ltl.specs.declared.block.Body.TheVariants as body
 use Rattle.ltl.specs.Function as ltl
-use Rattle.alloc_check_rules.specs.declared.equation.Equation.{Equation}
+use Rattle.alloc_check_live.specs.Equation.{Equation}
 
 -- a register's slot
 abbrev pub slot : ℕ → Location

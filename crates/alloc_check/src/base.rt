@@ -1,5 +1,5 @@
 ghost use Rattle.std.specs.Prelude.{◌≡◌, ◌≢◌, ◌≤◌, IfOk, IfErr};
-ghost use Rattle.alloc_check_rules.specs.Rules.{baseline_limit, IsTooLarge};
+ghost use Rattle.alloc_check_live.specs.Rules.{baseline_limit, IsTooLarge};
 ghost use Rattle.alloc_check_verdict.specs.Allocated.{IsAllocated};
 ghost use Rattle.alloc_check.specs.Baseline.{AreLiveRows};
 ghost use Rattle.alloc_check.specs.Slots.{function_in};

@@ -1,7 +1,7 @@
 //! The function whose registers lie in slots of their own.
 
 ghost use Rattle.std.specs.Prelude.{◌≡◌, ◌≤◌, map, IfOk};
-ghost use Rattle.alloc_check_rules.specs.Rules.{baseline_limit};
+ghost use Rattle.alloc_check_live.specs.Rules.{baseline_limit};
 ghost use Rattle.alloc_check.specs.Slots.{block_in, function_in};
 
 use crate::nodes::{block_in, slots_of};

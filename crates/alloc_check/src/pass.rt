@@ -11,7 +11,7 @@ pub struct Alloc;
 
 impl Pass for Alloc {
     ghost use Rattle.std.specs.Prelude.{◌≡◌, ◌≢◌, ◌≤◌, ℕ, List, ◌++◌, length, take, IsTrue, ◌↔◌, OnOk, OnErr, IfOk, IfErr};
-    ghost use Rattle.alloc_check_rules.specs.Rules.{IsTooLarge};
+    ghost use Rattle.alloc_check_live.specs.Rules.{IsTooLarge};
     ghost use Rattle.alloc_check_verdict.specs.Allocated.{IsAllocated};
     ghost use Rattle.alloc_check_verdict.specs.Text.{CertFits, cert_text};
     ghost use Rattle.alloc_check.specs.Baseline.{IsBaseline};

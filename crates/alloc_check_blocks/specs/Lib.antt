@@ -1,1 +1,10 @@
 pub mod Origins
+pub use Rattle.alloc_check_rules.specs.Equations
+pub use Rattle.alloc_check_rules.specs.Pairs
+pub use Rattle.alloc_check_rules.specs.Rules
+pub use Rattle.alloc_check_rules.specs.declared.change.Change
+pub use Rattle.alloc_check_rules.specs.declared.demand.Demand
+pub use Rattle.alloc_check_rules.specs.declared.equation.Equation
+pub use Rattle.alloc_check_rules.specs.Function
+pub use Rattle.alloc_check_rules.specs.Block
+pub use Rattle.alloc_check_rules.specs.Body

@@ -8,6 +8,7 @@ mod origins;
 mod pairs;
 mod traced;
 
+pub use alloc_check_rules::{Block, Body, Change, Demand, Equation};
 pub use origins::is_at;
 pub use pairs::change_of;
 pub use traced::TracedBlock;

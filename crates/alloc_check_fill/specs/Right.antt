@@ -3,9 +3,9 @@
 use Rattle.std.specs.Prelude.{◌≡◌, ℕ, ◌<◌, List, length, All}
 use Rattle.locations.specs.Fits.{LocationFits}
 use Rattle.rtl_language.specs.Function as rtl
-use Rattle.ltl.specs.Function as ltl
-use Rattle.alloc_check_rules.specs.declared.equation.Equation.{Equation}
-use Rattle.alloc_check_rules.specs.Rules.{IsRightAt}
+use Rattle.alloc_check_blocks.specs.Function as ltl
+use Rattle.alloc_check_blocks.specs.Equation.{Equation}
+use Rattle.alloc_check_blocks.specs.Rules.{IsRightAt}
 
 -- as many parameters and nodes, and the same entry
 pub record SameShape (input : rtl.FunctionData) (output : ltl.FunctionData) : Type 0 where

@@ -1,15 +1,13 @@
 //! What a block needs before it.
 
 ghost use Rattle.std.specs.Prelude.{◌≡◌, [], ◌∷◌, ◌++◌, map, not, OnOk, IfOk};
-ghost use Rattle.alloc_check_rules.specs.Equations.{back_equation, demand};
+ghost use Rattle.alloc_check_blocks.specs.Equations.{back_equation, demand};
 ghost use Rattle.alloc_check_fill.specs.Fill.{is_refused, needs_of};
 ghost use Rattle.alloc_check_fill.specs.Needed.{IsNeeded, IsNeededAs};
 
 use crate::uses::push_uses;
-use alloc_check_blocks::{TracedBlock, change_of};
-use alloc_check_rules::{Change, Demand, Equation};
+use alloc_check_blocks::{Block, Change, Demand, Equation, TracedBlock, change_of};
 use lang_base::NoMemory;
-use ltl::Block;
 use rtl_language::Instruction;
 use std::alloc::Global;
 

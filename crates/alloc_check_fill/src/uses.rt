@@ -1,17 +1,14 @@
 //! The equations that a block needs for what its instruction uses.
 
 ghost use Rattle.std.specs.Prelude.{◌≡◌, ◌++◌, map, slice_get, Some, OnOk};
-ghost use Rattle.alloc_check_rules.specs.Equations.{back_equation};
-ghost use Rattle.alloc_check_rules.specs.Pairs.{in_register, equations_of, arguments_used, act_uses, uses};
+ghost use Rattle.alloc_check_blocks.specs.Equations.{back_equation};
+ghost use Rattle.alloc_check_blocks.specs.Pairs.{in_register, equations_of, arguments_used, act_uses, uses};
 
 use crate::needed::push_before;
-use alloc_check_blocks::TracedBlock;
-use alloc_check_rules::Equation;
+use alloc_check_blocks::{Body, Equation, TracedBlock};
 use lang_base::NoMemory;
 use locations::{Location, Register as MachineRegister};
-use ltl::Body;
-use rtl_language::Instruction;
-use rtl_parts::{Act, Arguments, Register};
+use rtl_language::{Act, Arguments, Instruction, Register};
 
 fn in_register(name: Register, machine_register: MachineRegister) -> Equation
     ensures { result ≡ in_register name machine_register }

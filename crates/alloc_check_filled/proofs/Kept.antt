@@ -12,9 +12,9 @@ use Rattle.ltl.specs.declared.block.Body.TheVariants as body
 use Rattle.ltl.specs.Function as ltl
 use Rattle.rtl_passes_marks.specs.declared.row.NodeRow.{NodeRow}
 use Rattle.rtl_passes_marks.specs.Rows.{entries_at, AreRows}
-use Rattle.alloc_check_rules.specs.declared.equation.Equation.{Equation}
-use Rattle.alloc_check_rules.specs.Pairs.{change_of, successors_of}
-use Rattle.alloc_check_rules.specs.Rules.{equations_at, IsInOrder, StandsFor, HoldsAtEntry, IsRightAs, IsRightAt}
+use Rattle.alloc_check_fill.specs.Equation.{Equation}
+use Rattle.alloc_check_fill.specs.Pairs.{change_of, successors_of}
+use Rattle.alloc_check_fill.specs.Rules.{equations_at, IsInOrder, StandsFor, HoldsAtEntry, IsRightAs, IsRightAt}
 use Rattle.alloc_check_fill.specs.Fill.{needed, behind}
 use Rattle.alloc_check_fill.specs.Sets.{Within}
 use Rattle.alloc_check_fill.specs.Right.{SameShape}

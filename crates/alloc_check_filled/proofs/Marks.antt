@@ -9,7 +9,7 @@ use Rattle.rtl_language.specs.declared.instruction.Instruction.TheVariants.{Do, 
 use Rattle.rtl_language.specs.Function as rtl
 use Rattle.rtl_passes_marks.specs.Edges.{edges_of, each_to, sources_from, sources}
 use Rattle.rtl_passes_marks.specs.Marks.{only_lower, feeder}
-use Rattle.alloc_check_rules.specs.Pairs.{successors_of}
+use Rattle.alloc_check_fill.specs.Pairs.{successors_of}
 use Rattle.alloc_check_fill.proofs.Members.{first_of, later_of, none_of, all_members}
 use Rattle.alloc_check_filled.specs.Allocated.{is_none, is_marked}
 

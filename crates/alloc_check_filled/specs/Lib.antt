@@ -1,4 +1,3 @@
 pub mod Allocated
 pub mod Laws
 pub use Rattle.alloc_check_fill.specs.Right
-pub use Rattle.alloc_check_rules.specs.Rules

@@ -4,4 +4,6 @@
 
 mod law;
 
+pub use alloc_check_fill::Equation;
 pub use law::{filled_are_right, marked_suffice};
+pub use rtl_passes_marks::{Entries, NodeRow, Said, are_rows, feeders_of, is_fed, take};

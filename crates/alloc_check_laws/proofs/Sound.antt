@@ -22,7 +22,7 @@ use Rattle.ltl.specs.Function as ltl
 use Rattle.ltl.specs.Meaning.{takes_none, next, entry_of, slots_of, run}
 use Rattle.ltl.specs.Growth.{grows}
 use Rattle.alloc_check_rules.specs.Rules.{equations_at}
-use Rattle.alloc_check_fill.specs.Right.{AreRight}
+use Rattle.alloc_check_filled.specs.Right.{AreRight}
 use Rattle.alloc_check_filled.specs.Allocated.{filled, IsAllocated}
 use Rattle.alloc_check_filled.proofs.Right.{right_from}
 use Rattle.alloc_check_laws.specs.Related.{IsSound, Pair, Related}

@@ -3,6 +3,5 @@ pub mod Reading
 pub mod Related
 pub mod Theorem
 pub use Rattle.alloc_check_rules.specs.Rules
-pub use Rattle.alloc_check_fill.specs.Right
 pub use Rattle.alloc_check_filled.specs.Allocated
 pub use Rattle.alloc_check_rules.specs.Holding

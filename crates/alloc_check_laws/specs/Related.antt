@@ -10,7 +10,7 @@ use Rattle.machine.specs.Frames.{Frame, State, after_call, with_result}
 use Rattle.ltl.specs.Function as ltl
 use Rattle.alloc_check_rules.specs.declared.equation.Equation.{Equation}
 use Rattle.alloc_check_rules.specs.Rules.{equations_at}
-use Rattle.alloc_check_fill.specs.Right.{AreRight}
+use Rattle.alloc_check_filled.specs.Right.{AreRight}
 use Rattle.alloc_check_rules.specs.Holding.{Holds, HasFrame}
 
 -- the equations hold, and globals and output are the same

@@ -6,7 +6,7 @@ use Rattle.rtl_language.specs.Function as rtl
 use Rattle.rtl_language.specs.Meaning as rtl_meaning
 use Rattle.ltl.specs.Function.{FunctionData, IsFunction}
 use Rattle.ltl.specs.Meaning.{run}
-use Rattle.alloc_check_fill.specs.Right.{AreRight}
+use Rattle.alloc_check_filled.specs.Right.{AreRight}
 use Rattle.alloc_check_filled.specs.Allocated.{IsAllocated}
 
 -- with any lists of equations that are right at each node

@@ -1,2 +1,5 @@
 pub mod Ranks
-pub use Rattle.alloc_check_rules.specs.Rules
+pub use Rattle.alloc_check_fill.specs.Fill
+pub use Rattle.alloc_check_fill.specs.Needed
+pub use Rattle.alloc_check_fill.specs.Right
+pub use Rattle.alloc_check_fill.specs.Sets

@@ -5,3 +5,8 @@ pub mod Holding
 pub mod Steps
 pub mod Laws
 pub use Rattle.rtl_passes.specs.Faults
+pub use Rattle.ltl.specs.Function
+pub use Rattle.ltl.specs.declared.block.Block
+pub use Rattle.ltl.specs.declared.block.Body
+pub use Rattle.rtl_passes.specs.Instruction
+pub use Rattle.rtl_parts.specs.declared.act.Act

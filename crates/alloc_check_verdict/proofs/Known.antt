@@ -17,8 +17,8 @@ use Rattle.rtl_passes_marks.proofs.Handings.{spread_at}
 use Rattle.alloc_check_rules.specs.declared.equation.Equation.{Equation}
 use Rattle.alloc_check_rules.specs.Pairs.{successors_of}
 use Rattle.alloc_check_rules.specs.Rules.{EquationFits, equations_at, IsInOrder}
-use Rattle.alloc_check_fill.specs.Sets.{SameSet}
-use Rattle.alloc_check_fill.proofs.Fixed.{row_is}
+use Rattle.alloc_check_lists.specs.Sets.{SameSet}
+use Rattle.alloc_check_lists.proofs.Fixed.{row_is}
 use Rattle.alloc_check_laws.specs.Allocated.{is_none, is_marked, filled, HasForm}
 use Rattle.alloc_check_laws.proofs.Marks.{fed_by}
 use Rattle.alloc_check_laws.proofs.Right.{at_rows}

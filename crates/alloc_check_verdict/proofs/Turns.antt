@@ -15,13 +15,13 @@ use Rattle.alloc_check_rules.specs.declared.equation.Equation.{Equation}
 use Rattle.alloc_check_rules.specs.declared.change.Change.{Change}
 use Rattle.alloc_check_rules.specs.Pairs.{change_of, successors_of}
 use Rattle.alloc_check_rules.specs.Rules.{equations_at, StandsFor, HoldsAtEntry, IsRightAs, IsRightAt}
-use Rattle.alloc_check_fill.specs.Fill.{needed, behind}
-use Rattle.alloc_check_fill.specs.Needed.{Keeps}
-use Rattle.alloc_check_fill.specs.Sets.{SameSet}
-use Rattle.alloc_check_fill.proofs.Members.{all_members}
-use Rattle.alloc_check_fill.proofs.Carried.{needed_same}
-use Rattle.alloc_check_fill.proofs.Blocks.{same_of, same_through, joined_sets, keeps_same, stands_keep, needs_there, keeps_stand}
-use Rattle.alloc_check_fill.proofs.Fixed.{needed_is}
+use Rattle.alloc_check_lists.specs.Fill.{needed, behind}
+use Rattle.alloc_check_lists.specs.Needed.{Keeps}
+use Rattle.alloc_check_lists.specs.Sets.{SameSet}
+use Rattle.alloc_check_lists.proofs.Members.{all_members}
+use Rattle.alloc_check_lists.proofs.Carried.{needed_same}
+use Rattle.alloc_check_lists.proofs.Blocks.{same_of, same_through, joined_sets, keeps_same, stands_keep, needs_there, keeps_stand}
+use Rattle.alloc_check_lists.proofs.Fixed.{needed_is}
 use Rattle.alloc_check_laws.specs.Allocated.{is_marked, filled}
 use Rattle.alloc_check_laws.proofs.Marks.{fed_by, entry_marked, within}
 use Rattle.alloc_check_verdict.specs.Right.{BeginsRight}

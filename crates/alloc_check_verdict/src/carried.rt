@@ -1,10 +1,10 @@
 //! Lists of equations that are carried on: in order, each equation once.
 
 ghost use Rattle.std.specs.Prelude.{◌↔◌, IsTrue};
-ghost use Rattle.alloc_check_fill.specs.Sets.{SameSet};
+ghost use Rattle.alloc_check_lists.specs.Sets.{SameSet};
 ghost use Rattle.alloc_check_lists.specs.Ranks.{RiseFrom};
 
-use alloc_check_fill::{rank, tidy};
+use alloc_check_lists::{rank, tidy};
 use alloc_check_rules::Equation;
 
 /// Whether each rank is above those before it.

@@ -2,7 +2,7 @@
 
 ghost use Rattle.std.specs.Prelude.{◌↔◌, IsTrue};
 ghost use Rattle.rtl_passes_marks.specs.Marks.{AreFeeders};
-ghost use Rattle.alloc_check_fill.specs.Right.{SameShape};
+ghost use Rattle.alloc_check_lists.specs.Right.{SameShape};
 ghost use Rattle.alloc_check_laws.specs.Allocated.{HasForm};
 
 use alloc_check_laws::{push_equation, read_equation};

@@ -10,9 +10,9 @@ ghost use Rattle.rtl_passes_marks.specs.Handing.{left_by};
 ghost use Rattle.rtl_passes_marks.specs.Marks.{AreFeeders, IsMarked};
 ghost use Rattle.alloc_check_rules.specs.Pairs.{successors_of};
 ghost use Rattle.alloc_check_rules.specs.Rules.{equations_at, IsRightAt};
-ghost use Rattle.alloc_check_fill.specs.Fill.{behind, needed};
-ghost use Rattle.alloc_check_fill.specs.Needed.{Keeps};
-ghost use Rattle.alloc_check_fill.specs.Sets.{SameSet};
+ghost use Rattle.alloc_check_lists.specs.Fill.{behind, needed};
+ghost use Rattle.alloc_check_lists.specs.Needed.{Keeps};
+ghost use Rattle.alloc_check_lists.specs.Sets.{SameSet};
 ghost use Rattle.alloc_check_laws.specs.Allocated.{filled, HasForm};
 ghost use Rattle.alloc_check_lists.specs.Ranks.{RiseFrom};
 ghost use Rattle.alloc_check_verdict.specs.Right.{BeginsRight};
@@ -20,8 +20,7 @@ ghost use Rattle.alloc_check_verdict.specs.Walk.{stands_at, found_in, AreTaken, 
 
 use crate::carried::put_in_order;
 use crate::found::{Found, equations_in};
-use alloc_check_fill::needed_before;
-use alloc_check_lists::{are_among, hold_at_entry};
+use alloc_check_lists::{are_among, hold_at_entry, needed_before};
 use alloc_check_rules::Equation;
 use lang_base::{NoMemory, Row};
 use ltl::Block;

@@ -6,17 +6,17 @@ use Rattle.durable_model.specs.declared.disk.Disk as disks
 use Rattle.acceptor_log.specs.declared.log.Log.{Log}
 use Rattle.rand_pcg.specs.Lcg.{Lcg}
 use Rattle.rooms_hall.specs.declared.hall.Naming as naming
-use Rattle.farm_nodes_passes.specs.Fours.{Four, fours_of}
-use Rattle.farm_nodes_passes.specs.Seats.{Seats}
-use Rattle.farm_nodes_node.specs.declared.halted.Halted.{Halted}
-use Rattle.farm_nodes_node.specs.Held.{fault_in, IsSoundNode}
-use Rattle.farm_nodes_source.specs.declared.source.Source.{Source}
-use Rattle.farm_nodes_joining.specs.Words.{generators}
-use Rattle.farm_nodes_stored.specs.Nodes.{AreMade}
+use Rattle.cfarm_build_linking.specs.Fours.{Four, fours_of}
+use Rattle.cfarm_build_linking.specs.Seats.{Seats}
+use Rattle.cfarm_build_linking.specs.Halted.{Halted}
+use Rattle.cfarm_build_linking.specs.Held.{fault_in, IsSoundNode}
+use Rattle.cfarm_build_linking.specs.Source.{Source}
+use Rattle.cfarm_build_linking.specs.Words.{generators}
+use Rattle.cfarm_build_linking.specs.Nodes.{AreMade}
 use Rattle.cfarm_build_linking.specs.Back.{IsJournalOn}
 use Rattle.cfarm_build_linking.specs.Opened.{AreOpenFrom}
-use Rattle.farm_nodes_threads.specs.CameBack.{CameBack}
-use Rattle.farm_nodes_threads.proofs.Coming.{came_through}
+use Rattle.cfarm_build_linking.specs.CameBack.{CameBack}
+use Rattle.cfarm_build_linking.proofs.Coming.{came_through}
 use Rattle.cfarm_build_linking.specs.Node.{Node, node}
 use Rattle.cfarm_build.specs.Nodes.{Begun, HaveMet, HaveRun, IsSound, Stays, TurnedInto, failed_of, lowest_failed}
 use Rattle.cfarm_build.proofs.Zips.{all_mapped, all_of, all_weaker, as_long, kept, map_twice, seen, through, written}

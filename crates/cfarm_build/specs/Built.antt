@@ -2,7 +2,7 @@
 use Rattle.std.specs.Prelude.{ℕ, List}
 use Rattle.durable_model.specs.declared.disk.Disk as disks
 use Rattle.rooms_hall.specs.declared.hall.Naming as naming
-use Rattle.farm_nodes_source.specs.declared.source.Source.{Source}
+use Rattle.cfarm_build_linking.specs.Source.{Source}
 use Rattle.cfarm_build_linking.specs.Built.{IsBuiltBy}
 pub use Rattle.cfarm_build_linking.specs.declared.built.Built.{Built}
 use Rattle.cfarm_build.specs.Nodes.{AfterMeeting}

@@ -2,7 +2,7 @@
 use Rattle.std.specs.Prelude.{◌≡◌, ℕ, List, Some}
 use Rattle.durable_model.specs.declared.disk.Disk as disks
 use Rattle.rooms_hall.specs.declared.hall.Naming as naming
-use Rattle.farm_nodes_source.specs.declared.source.Source.{Source}
+use Rattle.cfarm_build_linking.specs.Source.{Source}
 use Rattle.farm_nodes_offers.specs.declared.halt.Fault.{Fault}
 use Rattle.cfarm_build_linking.specs.FarmRefused.{AreRefusedOver}
 use Rattle.cfarm_build_linking.specs.BuildError.{BuildError}

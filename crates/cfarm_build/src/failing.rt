@@ -1,9 +1,9 @@
 ghost use Rattle.std.specs.Prelude.{◌≡◌, map};
-ghost use Rattle.farm_nodes_node.specs.Held.{fault_in};
+ghost use Rattle.cfarm_build_linking.specs.Held.{fault_in};
 ghost use Rattle.cfarm_build.specs.Nodes.{lowest_failed};
 
+use cfarm_build_linking::FarmNode;
 use durable_model::Disk;
-use farm_nodes_node::FarmNode;
 use farm_nodes_offers::Fault;
 use rooms_hall::Naming;
 

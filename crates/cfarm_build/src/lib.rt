@@ -8,4 +8,4 @@ mod meeting;
 mod running;
 
 pub use building::build;
-pub use cfarm_build_linking::{BuildError, Built};
+pub use cfarm_build_linking::{BuildError, Built, optimisers_of};

@@ -3,12 +3,11 @@
 ghost use Rattle.std.specs.Prelude.{◌≡◌, ◌<◌, ◌+◌, length};
 ghost use Rattle.std.specs.Arc.{arc_value};
 ghost use Rattle.std.specs.List.{AllByRecursion, AllZip};
-ghost use Rattle.farm_nodes_passes.specs.Fours.{fours_of};
+ghost use Rattle.cfarm_build_linking.specs.Fours.{fours_of};
 ghost use Rattle.cfarm_build.specs.Nodes.{HasFewFunctions, Stays};
 
-use cfarm_build_linking::meet;
+use cfarm_build_linking::{FarmNode, meet};
 use durable_model::Disk;
-use farm_nodes_node::FarmNode;
 use rooms_hall::Naming;
 
 /// The node of this number and the next one meet.

@@ -2,18 +2,17 @@
 
 ghost use Rattle.std.specs.Prelude.{◌≡◌, ◌<◌, length, IfOk, IfErr};
 ghost use Rattle.std.specs.List.{AllByRecursion, AllZip};
-ghost use Rattle.farm_nodes_passes.specs.Fours.{fours_of};
-ghost use Rattle.farm_nodes_node.specs.Held.{IsSoundNode};
-ghost use Rattle.farm_nodes_node.specs.Waiting.{IsWaiting};
-ghost use Rattle.farm_nodes_threads.specs.CameBack.{CameBack};
+ghost use Rattle.cfarm_build_linking.specs.Fours.{fours_of};
+ghost use Rattle.cfarm_build_linking.specs.Held.{IsSoundNode};
+ghost use Rattle.cfarm_build_linking.specs.Waiting.{IsWaiting};
+ghost use Rattle.cfarm_build_linking.specs.CameBack.{CameBack};
 ghost use Rattle.cfarm_build.specs.Refused.{IsNotRun};
 
-use cfarm_build_linking::{BuildError, linked_functions};
+use cfarm_build_linking::{
+    BuildError, FarmNode, Oracles, RunError, Seats, linked_functions, run_threads,
+};
 use cfarm_meter::Meter;
 use durable_model::Disk;
-use farm_nodes_node::FarmNode;
-use farm_nodes_passes::{Oracles, Seats};
-use farm_nodes_threads::{RunError, run_threads};
 use parallel_validate::OpenGate;
 use rooms_hall::Naming;
 use std::alloc::Global;

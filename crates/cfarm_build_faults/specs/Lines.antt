@@ -3,11 +3,11 @@ use Rattle.std.specs.Prelude.{ℕ, zero, suc, List, ◌++◌, codes}
 use Rattle.std.specs.Fmt.{decimal}
 use Rattle.std.specs.String.{string_bytes}
 use Rattle.acceptor_log_form.specs.Refusals as journals
-use Rattle.farm_nodes_source.specs.Told.{source_line}
+use Rattle.farm_nodes.specs.Told.{source_line}
 use Rattle.farm_nodes_offers.specs.declared.halt.Fault.{Fault}
 use Rattle.farm_nodes_offers.specs.Halted as halts
-use Rattle.farm_nodes_opening.specs.declared.fault.RoomFault.{RoomFault}
-use Rattle.farm_nodes_opening.specs.declared.fault.RoomFault.TheVariants as R
+use Rattle.farm_nodes.specs.RoomFault.{RoomFault}
+use Rattle.farm_nodes.specs.RoomFault.TheVariants as R
 use Rattle.farm_nodes.specs.OpenFault.{OpenFault}
 use Rattle.farm_nodes.specs.OpenFault.TheVariants as O
 use Rattle.linker.specs.Numbers.{number_of_link_error}

@@ -4,7 +4,7 @@ use Rattle.std.specs.Prelude.{slice_get}
 use Rattle.sha2.specs.Sha256.{sha256}
 use Rattle.serde_json.specs.Written.{compact_text}
 use Rattle.rooms_hall.specs.declared.hall.Naming as naming
-use Rattle.farm_nodes_source.specs.declared.source.Source.{Source}
+use Rattle.cfarm_build_faults.specs.Source.{Source}
 use Rattle.cfarm_build_linking.specs.Built.{AllDecided}
 use Rattle.cfarm_build_linking.specs.Node.{Node}
 use Rattle.cfarm_build_linking.specs.Refused.{IsRefusedBy, IsUnlinkedBy}

@@ -2,3 +2,5 @@ mod Firsts
 mod Learning
 mod Numbering
 mod Refusing
+pub use Rattle.cfarm_build_faults.proofs.Coming
+pub use Rattle.farm_nodes_linked.proofs.Sent

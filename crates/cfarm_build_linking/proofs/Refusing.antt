@@ -12,14 +12,14 @@ use Rattle.cminor_lowering.specs.Programs.{low, low_named}
 use Rattle.rtl_language.specs.Function.{FunctionData}
 use Rattle.rtlgen.specs.Refused.{HasFewNodes, IsFirstTooLarge}
 use Rattle.rtlgen_definition.specs.Gen.{gen, gen_named}
-use Rattle.linker.specs.Chains.{names_of}
-use Rattle.linker.specs.Numbers.{function_of_link_error}
-use Rattle.linker.specs.declared.errors.LinkError.{LinkError}
-use Rattle.linker.specs.declared.errors.LinkError.TheVariants as links
+use Rattle.farm_nodes_linked.specs.Chains.{names_of}
+use Rattle.farm_nodes_linked.specs.Numbers.{function_of_link_error}
+use Rattle.farm_nodes_linked.specs.LinkError.{LinkError}
+use Rattle.farm_nodes_linked.specs.LinkError.TheVariants as links
 use Rattle.rooms_hall.specs.declared.hall.Naming as naming
-use Rattle.farm_nodes_passes.specs.Seats.{Seats}
-use Rattle.farm_nodes_source.specs.declared.source.Source.{Source}
-use Rattle.farm_nodes_source.proofs.Numbered.{translated_names}
+use Rattle.farm_nodes_linked.specs.Seats.{Seats}
+use Rattle.cfarm_build_faults.specs.Source.{Source}
+use Rattle.cfarm_build_faults.proofs.Numbered.{translated_names}
 use Rattle.farm_nodes_linked.specs.Learned.{FourOffers, learned_by}
 use Rattle.farm_nodes_linked.specs.Refused.{IsFirstBroken, IsUnlinked}
 use Rattle.cfarm_build_linking.specs.Refused.{IsToldOf, IsUnlinkedBy}

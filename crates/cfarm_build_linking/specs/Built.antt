@@ -15,8 +15,8 @@ use Rattle.c_checker_rules.specs.Checked.{program_tree}
 use Rattle.cminor_lowering.specs.Programs.{low}
 use Rattle.rtlgen_definition.specs.Gen.{gen}
 use Rattle.rooms_hall.specs.declared.hall.Naming as naming
-use Rattle.farm_nodes_source.specs.declared.source.Source.{Source}
-use Rattle.farm_nodes_passes.specs.Seats.{Seats}
+use Rattle.cfarm_build_faults.specs.Source.{Source}
+use Rattle.farm_nodes_linked.specs.Seats.{Seats}
 use Rattle.farm_nodes_linked.specs.Learned.{learned_by, IsUndecided}
 use Rattle.farm_nodes_linked.specs.Offered.{linked_offers}
 use Rattle.cfarm_report.specs.declared.function.FunctionRooms.{FunctionRooms}

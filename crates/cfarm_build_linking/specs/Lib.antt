@@ -10,3 +10,12 @@ pub use Rattle.cfarm_build_faults.specs.Numbers
 pub use Rattle.cfarm_build_faults.specs.Opened
 pub use Rattle.cfarm_build_faults.specs.Prepared
 pub use Rattle.cfarm_build_faults.specs.FarmRefused
+pub use Rattle.cfarm_build_faults.specs.CameBack
+pub use Rattle.cfarm_build_faults.specs.Words
+pub use Rattle.cfarm_build_faults.specs.Held
+pub use Rattle.cfarm_build_faults.specs.Waiting
+pub use Rattle.cfarm_build_faults.specs.Halted
+pub use Rattle.cfarm_build_faults.specs.Nodes
+pub use Rattle.farm_nodes_linked.specs.Fours
+pub use Rattle.farm_nodes_linked.specs.Seats
+pub use Rattle.cfarm_build_faults.specs.Source

@@ -5,11 +5,11 @@ use Rattle.c_checker_rules.specs.Checked.{program_tree}
 use Rattle.cminor_lowering.specs.Programs.{low}
 use Rattle.rtlgen_definition.specs.Gen.{gen}
 use Rattle.rooms_hall.specs.declared.hall.Naming as naming
-use Rattle.linker.specs.Numbers.{function_of_link_error}
-use Rattle.linker.specs.declared.errors.LinkError.{LinkError}
-use Rattle.linker.specs.declared.errors.LinkError.TheVariants as links
-use Rattle.farm_nodes_source.specs.declared.source.Source.{Source}
-use Rattle.farm_nodes_passes.specs.Seats.{Seats}
+use Rattle.farm_nodes_linked.specs.Numbers.{function_of_link_error}
+use Rattle.farm_nodes_linked.specs.LinkError.{LinkError}
+use Rattle.farm_nodes_linked.specs.LinkError.TheVariants as links
+use Rattle.cfarm_build_faults.specs.Source.{Source}
+use Rattle.farm_nodes_linked.specs.Seats.{Seats}
 use Rattle.farm_nodes_linked.specs.Learned.{learned_by, IsUndecided}
 use Rattle.farm_nodes_linked.specs.Refused.{IsFirstBroken}
 use Rattle.cfarm_build_faults.specs.declared.error.BuildError.{BuildError}

@@ -2,7 +2,7 @@
 use Rattle.std.specs.Prelude.{◌≡◌, ℕ, List, length, Some, slice_get}
 use Rattle.std.specs.String.{string_bytes}
 use Rattle.rooms_hall.specs.declared.hall.Naming as naming
-use Rattle.farm_nodes_passes.specs.Seats.{Seats}
+use Rattle.farm_nodes_linked.specs.Seats.{Seats}
 use Rattle.cfarm_report.specs.declared.function.FunctionRooms.{FunctionRooms}
 
 module _ {H : Type 0} {h : naming.Ghosts H} where

@@ -8,6 +8,9 @@ mod numbers;
 mod writing;
 
 pub use built::Built;
-pub use cfarm_build_faults::{BuildError, Farm, meet};
+pub use cfarm_build_faults::{
+    BuildError, Farm, FarmNode, RunError, Source, meet, optimisers_of, run_threads,
+};
+pub use farm_nodes_linked::{Oracles, Seats};
 pub use linking::built_by;
 pub use numbers::linked_functions;

@@ -10,8 +10,7 @@ ghost use Rattle.cfarm_build_linking.specs.Told.{AreTold, IsTold};
 
 use c_checker_rules::CProgram;
 use cfarm_report::FunctionRooms;
-use farm_nodes_meeting::has_learned_offer;
-use farm_nodes_passes::Seats;
+use farm_nodes_linked::{Seats, has_learned_offer};
 use lang_base::NoMemory;
 use rooms_hall::Naming;
 use std::alloc::Global;

@@ -5,11 +5,10 @@ ghost use Rattle.cfarm_building.specs.Compiled.{IsCompiled, IsUncompiled};
 
 use crate::error::BuildingError;
 use crate::opening::open_disks;
-use cfarm_build::{BuildError, Built, build};
+use cfarm_build::{BuildError, Built, build, optimisers_of};
 use cfarm_files::Files;
 use cfarm_meter::Meter;
 use cfarm_options::BuildOptions;
-use farm_nodes_compiling::optimisers_of;
 use farm_nodes_source::{Source, prepare};
 use rooms_hall::{Hall, Naming};
 use std::alloc::Global;

@@ -2,8 +2,8 @@
 
 ghost use Rattle.std.specs.Prelude.{◌≡◌};
 ghost use Rattle.std.specs.List.{filter};
-ghost use Rattle.rtl_passes_marks.specs.Ranked.{RiseFrom};
-ghost use Rattle.rtl_passes_filled.specs.Places.{IsFirstFrom};
+ghost use Rattle.constprop_check_rules.specs.Ranked.{RiseFrom};
+ghost use Rattle.rtl_passes_facts.specs.Places.{IsFirstFrom};
 ghost use Rattle.constprop_check_rules.specs.Rules.{rank};
 ghost use Rattle.constprop_check.specs.Behind.{keeps, others};
 

@@ -14,9 +14,8 @@ mod verdict;
 
 pub use base::baseline;
 pub use behind::Written;
-pub use constprop_check_rules::Fact;
+pub use constprop_check_rules::{Fact, NodeRow};
 pub use lang_base::Fault;
 pub use lists::{FactLists, facts_of};
 pub use pass::ConstProp;
-pub use rtl_passes_marks::NodeRow;
 pub use verdict::{check, why};

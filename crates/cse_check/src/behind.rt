@@ -7,9 +7,8 @@ ghost use Rattle.cse_check_rules.specs.Equations.{successors_of};
 ghost use Rattle.cse_check_rules.specs.Rules.{RightFits, EquationFits};
 
 use cse_check_rules::{Equation, RightSide};
-use rtl_language::Instruction;
 use rtl_parts::Arguments;
-use rtl_passes_facts::Edges;
+use rtl_passes_facts::{Edges, Instruction};
 
 /// Where the instruction can go on.
 pub(crate) fn edges(instruction: &Instruction) -> Edges

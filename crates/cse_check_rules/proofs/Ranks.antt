@@ -14,7 +14,7 @@ use Rattle.cse_check_rules.specs.declared.equation.RightSide.TheVariants.{Operat
 use Rattle.cse_check_rules.specs.declared.equation.Equation.{Equation}
 use Rattle.cse_check_rules.specs.Order.{equation_text, IsBefore, rank}
 use Rattle.cse_check_rules.specs.Rules.{RightFits, EquationFits, Rise}
-use Rattle.rtl_passes_marks.specs.Ranked.{RiseFrom}
+use Rattle.rtl_passes_filled.specs.Ranked.{RiseFrom}
 use Rattle.machine.proofs.Operators.{code_small}
 use Rattle.cse_check_rules.proofs.Forms.{equation_form}
 

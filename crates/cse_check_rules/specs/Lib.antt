@@ -3,7 +3,9 @@ pub mod Order
 pub mod Ranges
 pub mod Reading
 pub mod Rules
-pub use Rattle.rtl_passes.specs.Shape
-pub use Rattle.rtl_passes.specs.Facts
-pub use Rattle.rtl_passes.specs.Faults
 pub use Rattle.constprop_check_rules.specs.Known
+pub use Rattle.rtl_passes_filled.specs.Edges
+pub use Rattle.rtl_passes_filled.specs.Ranked
+pub use Rattle.rtl_passes_filled.specs.RowForm
+pub use Rattle.rtl_passes_filled.specs.Rows
+pub use Rattle.rtl_passes_filled.specs.NodeRow

@@ -6,8 +6,8 @@ ghost use Rattle.cse_check_rules.specs.Equations.{kills as killed_by};
 
 use crate::equation::{Equation, RightSide};
 use constprop_check_rules::written;
-use rtl_language::Instruction;
 use rtl_parts::{Act, Arguments, Register};
+use rtl_passes_filled::Instruction;
 
 fn take(arguments: &Arguments, register: Register) -> bool
     ensures { result ≡ takes arguments.now register }

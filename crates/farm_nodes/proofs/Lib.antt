@@ -1,1 +1,4 @@
 mod Fit
+pub use Rattle.farm_nodes_threads.proofs.Coming
+pub use Rattle.farm_nodes_source.proofs.Names
+pub use Rattle.farm_nodes_source.proofs.Numbered

@@ -4,3 +4,13 @@ pub mod Refused
 pub use Rattle.farm_nodes_opened.specs.declared.fault.OpenFault
 pub use Rattle.farm_nodes_opened.specs.Back
 pub use Rattle.farm_nodes_opened.specs.Opened
+pub use Rattle.farm_nodes_threads.specs.CameBack
+pub use Rattle.farm_nodes_opened.specs.Words
+pub use Rattle.farm_nodes_threads.specs.Held
+pub use Rattle.farm_nodes_threads.specs.Waiting
+pub use Rattle.farm_nodes_threads.specs.Halted
+pub use Rattle.farm_nodes_opened.specs.RoomFault
+pub use Rattle.farm_nodes_opened.specs.Nodes
+pub use Rattle.farm_nodes_source.specs.Told
+pub use Rattle.farm_nodes_source.specs.declared.fault.SourceFault
+pub use Rattle.farm_nodes_source.specs.declared.source.Source

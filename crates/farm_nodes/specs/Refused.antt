@@ -6,7 +6,7 @@ use Rattle.acceptor_log_form.specs.declared.errors.LogError.{LogError}
 use Rattle.acceptor_log_form.specs.declared.errors.LogError.TheVariants.{BadRecord}
 use Rattle.farm_nodes_source.specs.declared.source.Source.{Source}
 use Rattle.farm_nodes_opened.specs.Nodes.{AreMade}
-use Rattle.farm_nodes_opening.specs.declared.fault.RoomFault.{RoomFault}
+use Rattle.farm_nodes_opened.specs.RoomFault.{RoomFault}
 use Rattle.farm_nodes_opened.specs.Back.{IsBack}
 use Rattle.farm_nodes_opened.specs.Refused.{HasBadRecord, HasRefusedOffer, IsRefusedJournal, IsUnopened, OfJournals}
 use Rattle.farm_nodes_opened.specs.declared.fault.OpenFault.{OpenFault}

@@ -2,7 +2,7 @@ ghost use Rattle.std.specs.Prelude.{◌≡◌, ◌≤◌, None, All, length, map
 ghost use Rattle.std.specs.Arc.{arc_value};
 ghost use Rattle.std.specs.List.{AllByRecursion};
 ghost use Rattle.paxos_core_law.specs.NodeState.{IsRoomSize};
-ghost use Rattle.farm_nodes_passes.specs.Fours.{fours_of};
+ghost use Rattle.farm_nodes_compiling.specs.Fours.{fours_of};
 ghost use Rattle.farm_nodes_opened.specs.Held.{IsSoundNode};
 ghost use Rattle.farm_nodes_opened.specs.Waiting.{IsWaiting};
 ghost use Rattle.farm_nodes_opened.specs.Nodes.{AreMade};

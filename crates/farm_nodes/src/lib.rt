@@ -8,11 +8,10 @@ mod farm;
 
 pub use error::FarmError;
 pub use farm::Farm;
-pub use farm_nodes_compiling::{Optimisers, optimisers_of};
+pub use farm_nodes_compiling::{Optimisers, Oracles, optimisers_of};
 pub use farm_nodes_linked::{LinkedError, linked, one_program};
 pub use farm_nodes_nodes::meet;
-pub use farm_nodes_opened::{FarmNode, Halted, OpenFault, Turn};
-pub use farm_nodes_passes::Oracles;
+pub use farm_nodes_opened::{FarmNode, Halted, OpenFault, RoomFault, Turn};
 pub use farm_nodes_returning::{RestartFault, own_disk, restart};
 pub use farm_nodes_source::{Source, SourceFault, prepare};
 pub use farm_nodes_threads::{RunError, run_threads};

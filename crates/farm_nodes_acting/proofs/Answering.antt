@@ -11,15 +11,15 @@ use Rattle.paxos_core_law.specs.Would.{after_act, next_vote, kept_by}
 use Rattle.paxos_core_law.specs.declared.step.Act.TheVariants as core_act
 use Rattle.paxos_core_law.specs.declared.step.Step.{Step}
 use Rattle.paxos_core_law.specs.declared.step.Step.TheVariants as step
-use Rattle.rooms_rule.specs.declared.acceptor.AcceptorWord.{AcceptorWord}
-use Rattle.rooms_rule.specs.declared.proposer.ProposerWord.{ProposerWord}
-use Rattle.rooms_state.specs.declared.act.Act.{Act}
-use Rattle.rooms_state.specs.declared.act.Act.TheVariants as act
-use Rattle.rooms_state.specs.Did.{Did, LookedAtProposer, LookedAtAcceptor, NotesOf}
-use Rattle.rooms_state.specs.SeatState.{SeatState, no_proposer, proposer_of, promise_of, vote_of, vote_by}
-use Rattle.rooms_state.specs.Would.{would, act_of, proposed_by_step, Acted}
-use Rattle.rooms_state.proofs.Acts.{may_promise, vote_seen}
-use Rattle.rooms_state.proofs.Told.{notes_of}
+use Rattle.rooms_seat.specs.AcceptorWord.{AcceptorWord}
+use Rattle.rooms_seat.specs.ProposerWord.{ProposerWord}
+use Rattle.rooms_seat.specs.Act.{Act}
+use Rattle.rooms_seat.specs.Act.TheVariants as act
+use Rattle.rooms_seat.specs.Did.{Did, LookedAtProposer, LookedAtAcceptor, NotesOf}
+use Rattle.rooms_seat.specs.SeatState.{SeatState, no_proposer, proposer_of, promise_of, vote_of, vote_by}
+use Rattle.rooms_seat.specs.Would.{would, act_of, proposed_by_step, Acted}
+use Rattle.rooms_seat.proofs.Acts.{may_promise, vote_seen}
+use Rattle.rooms_seat.proofs.Told.{notes_of}
 use Rattle.rooms_seat.specs.Meeting.{IsBounded}
 use Rattle.farm_nodes_acting.specs.Quiet.{IsQuiet, HasHeard}
 

@@ -18,12 +18,12 @@ use Rattle.acceptor_log_form.specs.Leaves.{kept_by}
 use Rattle.acceptor_log_form.specs.Text.{blocks, body_text}
 use Rattle.acceptor_log.specs.declared.log.Log.{Log}
 use Rattle.acceptor_log.specs.Acknowledged.{acknowledged, file_with, IsReady, IsNoFault}
-use Rattle.rooms_state.specs.declared.act.Act.{Act}
-use Rattle.rooms_state.specs.declared.act.Act.TheVariants as act
-use Rattle.rooms_state.specs.Did.{Did}
-use Rattle.rooms_state.specs.SeatState.{SeatState, proposer_of, promise_of, vote_of}
-use Rattle.rooms_state.specs.Would.{would, act_of, proposed_by_step, IsUnderWay, ProposesNoMore, Acted}
-use Rattle.rooms_state.proofs.Acts.{vote_seen}
+use Rattle.rooms_seat.specs.Act.{Act}
+use Rattle.rooms_seat.specs.Act.TheVariants as act
+use Rattle.rooms_seat.specs.Did.{Did}
+use Rattle.rooms_seat.specs.SeatState.{SeatState, proposer_of, promise_of, vote_of}
+use Rattle.rooms_seat.specs.Would.{would, act_of, proposed_by_step, IsUnderWay, ProposesNoMore, Acted}
+use Rattle.rooms_seat.proofs.Acts.{vote_seen}
 use Rattle.rooms_seat.specs.Meeting.{IsBounded}
 use Rattle.farm_nodes_acting.specs.Cause.{IsFull, HasCause}
 use Rattle.farm_nodes_acting.specs.Noted.{record_of, records_of, IsByte}

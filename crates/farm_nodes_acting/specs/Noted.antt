@@ -4,8 +4,8 @@ use Rattle.paxos_core_law.specs.declared.step.Step.{Step}
 use Rattle.paxos_core_law.specs.declared.step.Step.TheVariants as step
 use Rattle.acceptor_log_form.specs.declared.record.Record.{Record}
 use Rattle.acceptor_log_form.specs.declared.record.Record.TheVariants.{Started, Proposed, Promised, Accepted}
-use Rattle.rooms_state.specs.SeatState.{SeatState}
-use Rattle.rooms_state.specs.Would.{would, IsAmong}
+use Rattle.rooms_seat.specs.SeatState.{SeatState}
+use Rattle.rooms_seat.specs.Would.{would, IsAmong}
 use Rattle.farm_nodes_acting.specs.declared.stop.Pending.{Pending}
 use Rattle.farm_nodes_acting.specs.declared.stop.Pending.TheVariants.{Act, Offer}
 

@@ -2,7 +2,7 @@
 
 ghost use Rattle.std.specs.Prelude.{◌≡◌, ◌≢◌, ◌≤◌, Some, None, true, is_some, IfOk, IfErr, OnErr};
 ghost use Rattle.acceptor_log.specs.Acknowledged.{IsSound};
-ghost use Rattle.rooms_state.specs.Would.{would, Acted, IsAmong};
+ghost use Rattle.rooms_seat.specs.Would.{would, Acted, IsAmong};
 ghost use Rattle.farm_nodes_acting.specs.Noted.{record_of, pending_of, IsActAmong, IsByte};
 ghost use Rattle.farm_nodes_acting.specs.Served.{IsServed};
 ghost use Rattle.farm_nodes_acting.specs.Journalled.{Journalled};
@@ -14,7 +14,7 @@ use acceptor_log::{Log, Record};
 use durable_model::Disk;
 use paxos_core::Step;
 use rooms_seat::WordSeat;
-use rooms_state::act::Act;
+use rooms_seat::act::Act;
 
 /// Does what it is asked, where that is a step: puts down its record, and then takes it. Answers whether it took one.
 pub fn act<D: Disk>(

@@ -13,7 +13,7 @@ use crate::stop::Stop;
 use acceptor_log::Log;
 use durable_model::Disk;
 use rooms_seat::WordSeat;
-use rooms_state::act::Act;
+use rooms_seat::act::Act;
 
 /// Hears every node, its own number too. Answers whether it took a step.
 pub fn hear_all<D: Disk>(log: &mut Log<D>, seat: &mut WordSeat, room: u16) -> Result<bool, Stop>

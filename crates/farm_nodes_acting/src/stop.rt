@@ -1,5 +1,5 @@
 use acceptor_log::{LogError, Record};
-use rooms_state::act::Act;
+use rooms_seat::act::Act;
 
 /// What a node was about to do when it was stopped.
 #[derive(PartialEq, Eq, Drop)]

@@ -38,7 +38,7 @@ impl Oracles for Optimisers {
         alloc: Global,
         input: &rtl_language::Function,
         words: &mut Pcg32,
-    ) -> Result<Option<(ltl::Function, alloc_check::EquationLists)>, NoMemory> {
+    ) -> Result<Option<(ltl::Function, oracle_alloc::EquationLists)>, NoMemory> {
         AllocOracle.propose(alloc, input, words)
     }
 

@@ -13,9 +13,9 @@ use Rattle.rooms.specs.SeatValue.{SeatValue}
 use Rattle.rooms_function.specs.Opened.{kept_in, AreSeatsOf}
 use Rattle.rooms_function.specs.declared.opening.FunctionOffers.{FunctionOffers}
 use Rattle.rooms_function.specs.declared.seat.FunctionSeat.{FunctionSeat}
-use Rattle.farm_nodes_passes.specs.Seats.{Seats}
-use Rattle.farm_nodes_passes.specs.Numbers.{room_at}
-use Rattle.farm_nodes_passes.specs.declared.which.Which.TheVariants.{First, Second, Third, Fourth}
+use Rattle.farm_nodes_opening.specs.Seats.{Seats}
+use Rattle.farm_nodes_opening.specs.Numbers.{room_at}
+use Rattle.farm_nodes_opening.specs.Which.TheVariants.{First, Second, Third, Fourth}
 use Rattle.farm_nodes_lists.specs.Rows.{offers_of, rows_of}
 use Rattle.farm_nodes_opening.specs.Kept.{four_kept, kept_of, parts_of, AreSettled}
 use Rattle.farm_nodes_opening.specs.Numbered.{AreOfOneFunction, HaveOneClaim, IsOpenedRoom}

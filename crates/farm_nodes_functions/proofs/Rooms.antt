@@ -7,10 +7,10 @@ use Rattle.rooms_hall.specs.Claimed.{Claimed}
 use Rattle.rooms_hall.specs.declared.hall.Naming as naming
 use Rattle.rooms.specs.Opened.{AreOffersOf}
 use Rattle.rooms.specs.SeatValue.{SeatValue}
-use Rattle.farm_nodes_passes.specs.Numbers.{function_of, room_at}
-use Rattle.farm_nodes_passes.specs.Seats.{Seats}
-use Rattle.farm_nodes_passes.specs.declared.which.Which.{Which}
-use Rattle.farm_nodes_passes.specs.declared.which.Which.TheVariants.{First, Second, Third, Fourth}
+use Rattle.farm_nodes_opening.specs.Numbers.{function_of, room_at}
+use Rattle.farm_nodes_opening.specs.Seats.{Seats}
+use Rattle.farm_nodes_opening.specs.Which.{Which}
+use Rattle.farm_nodes_opening.specs.Which.TheVariants.{First, Second, Third, Fourth}
 use Rattle.farm_nodes_lists.specs.Rows.{column, grown, offers_of, rows_of, AreForOthers}
 use Rattle.farm_nodes_lists.proofs.Columns.{column_front, column_last, grown_long}
 use Rattle.farm_nodes_opening.specs.Kept.{kept_of, AreSettled, AreSettledBefore, IsSettledIn}

@@ -12,8 +12,8 @@ use Rattle.paxos_core_world.specs.World.{nodes_of}
 use Rattle.rooms_hall.specs.Claimed.{Claimed}
 use Rattle.rooms.specs.Opened.{offer_at}
 use Rattle.rooms.specs.SeatValue.{SeatValue, offer_of}
-use Rattle.farm_nodes_passes.specs.Numbers.{room_at}
-use Rattle.farm_nodes_passes.specs.declared.which.Which.{Which}
+use Rattle.farm_nodes_opening.specs.Numbers.{room_at}
+use Rattle.farm_nodes_opening.specs.Which.{Which}
 use Rattle.farm_nodes_opening.specs.Kept.{kept_of}
 use Rattle.farm_nodes_opening.proofs.Seated.{no_other_offer, node_opens, own_offer}
 use Rattle.farm_nodes_lists.specs.Rows.{column, offers_of}

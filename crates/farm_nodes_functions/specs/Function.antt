@@ -3,11 +3,11 @@ use Rattle.std.specs.Prelude.{◌≡◌, ℕ, List, Option, length, map}
 use Rattle.std.specs.Global.{Vec}
 use Rattle.paxos_core_world.specs.KeptPart.{KeptPart}
 use Rattle.rooms_hall.specs.declared.hall.Naming as naming
-use Rattle.farm_nodes_passes.specs.Numbers.{function_of, room_at}
-use Rattle.farm_nodes_passes.specs.Offers.{Constants, Expressions, Allocation, Order}
-use Rattle.farm_nodes_passes.specs.declared.passes.Passes.{Passes}
-use Rattle.farm_nodes_passes.specs.Seats.{Seats}
-use Rattle.farm_nodes_passes.specs.declared.which.Which.TheVariants.{First, Second, Third, Fourth}
+use Rattle.farm_nodes_opening.specs.Numbers.{function_of, room_at}
+use Rattle.farm_nodes_opening.specs.Offers.{Constants, Expressions, Allocation, Order}
+use Rattle.farm_nodes_opening.specs.Passes.{Passes}
+use Rattle.farm_nodes_opening.specs.Seats.{Seats}
+use Rattle.farm_nodes_opening.specs.Which.TheVariants.{First, Second, Third, Fourth}
 use Rattle.farm_nodes_lists.specs.Rows.{offers_of, rows_of, AreForOthers}
 use Rattle.farm_nodes_opening.specs.Kept.{kept_of, AreSettled, AreSettledBefore, IsOfferedIn, IsSettledIn}
 use Rattle.farm_nodes_opening.specs.Numbered.{IsOpenedRoom}

@@ -1,24 +1,22 @@
 ghost use Rattle.std.specs.Prelude.{◌≡◌, ◌+◌, ◌*◌, ◌<◌, ◌≤◌, length, IfOk, OnOk, IfErr};
 ghost use Rattle.paxos_core_law.specs.NodeState.{IsRoomSize};
 ghost use Rattle.rooms.specs.Opened.{AreOffersOf};
-ghost use Rattle.farm_nodes_passes.specs.Numbers.{room_at};
-ghost use Rattle.farm_nodes_passes.specs.declared.which.Which.TheVariants as which;
+ghost use Rattle.farm_nodes_opening.specs.Numbers.{room_at};
+ghost use Rattle.farm_nodes_opening.specs.Which.TheVariants as which;
 ghost use Rattle.farm_nodes_lists.specs.Rows.{offers_of, rows_of};
 ghost use Rattle.farm_nodes_opening.specs.Kept.{kept_of};
 ghost use Rattle.farm_nodes_functions.specs.Function.{fault_of, AreHere, AreTaken, IsOpenFunction, IsTold};
 
-use alloc_check::Alloc;
 use constprop_check::ConstProp;
 use cse_check::Cse;
 use farm_nodes_lists::take_each;
-use farm_nodes_opening::{RoomFault, Unopened, numbered, parts_of};
-use farm_nodes_passes::{Passes, Seats};
+use farm_nodes_opening::{Passes, RoomFault, Seats, Unopened, numbered, parts_of};
 use lang_base::NoMemory;
 use linearize_check::Linearize;
 use offers::Offer;
 use paxos_core::Kept;
 use rooms::RoomError;
-use rooms_function::{FunctionOffers, FunctionRoom};
+use rooms_function::{Alloc, FunctionOffers, FunctionRoom};
 use rooms_hall::{Hall, Naming};
 use std::alloc::Global;
 

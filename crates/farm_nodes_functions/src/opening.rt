@@ -1,6 +1,6 @@
 ghost use Rattle.std.specs.Prelude.{◌≡◌, ◌≢◌, ℕ, ◌<◌, ◌≤◌, ◌*◌, All, length, IfOk, OnOk, IfErr};
 ghost use Rattle.paxos_core_law.specs.NodeState.{IsRoomSize};
-ghost use Rattle.farm_nodes_passes.specs.declared.which.Which.TheVariants as which;
+ghost use Rattle.farm_nodes_opening.specs.Which.TheVariants as which;
 ghost use Rattle.farm_nodes_opening.specs.Kept.{AreSettled, IsOfferedIn, IsSettledIn};
 ghost use Rattle.farm_nodes_opening.specs.Left.{AreLeftIn};
 ghost use Rattle.farm_nodes_opening.specs.declared.fault.RoomFault.TheVariants as fault;
@@ -9,8 +9,7 @@ ghost use Rattle.farm_nodes_functions.specs.Opened.{AreOfferedIn, AreOpenedIn, I
 
 use crate::function::{Offered, open_function};
 use farm_nodes_lists::{add_each, none_yet};
-use farm_nodes_opening::Unopened;
-use farm_nodes_passes::Seats;
+use farm_nodes_opening::{Seats, Unopened};
 use lang_base::NoMemory;
 use paxos_core::Kept;
 use rooms_hall::{Hall, Naming};

@@ -6,7 +6,7 @@ use Rattle.acceptor_log_form.specs.declared.record.Record.{Record}
 use Rattle.acceptor_log_form.specs.Text.{StandsFor}
 use Rattle.acceptor_log.specs.declared.log.Log.{Log}
 use Rattle.acceptor_log.specs.Acknowledged.{acknowledged, IsReady}
-use Rattle.farm_nodes_passes.specs.Fours.{Four}
+use Rattle.farm_nodes_node.specs.Fours.{Four}
 use Rattle.farm_nodes_node.specs.declared.halted.Halted.{Halted}
 use Rattle.farm_nodes_node.specs.Held.{IsJournalOf, IsSoundNode}
 use Rattle.farm_nodes_joining.specs.Joined.{IsHeld}

@@ -3,8 +3,8 @@ use Rattle.std.specs.Prelude.{◌≡◌, ℕ, ◌*◌, true, List, length, Some,
 use Rattle.acceptor_log.specs.Acknowledged.{acknowledged, IsSound}
 use Rattle.acceptor_log.specs.declared.log.Log.{Log}
 use Rattle.farm_nodes_acting.specs.Advances.{AreOf}
-use Rattle.farm_nodes_passes.specs.Fours.{Four}
-use Rattle.farm_nodes_passes.specs.Leaves.{Leave}
+use Rattle.farm_nodes_node.specs.Fours.{Four}
+use Rattle.farm_nodes_node.specs.Leaves.{Leave}
 
 -- The journal goes on; what it has acknowledged stands for what the seats keep, and names no room but theirs.
 pub record IsHeld {D X1 X2 X3 X4 : Type 0} (is_honest : D → Type 0) (seen : D → List ℕ) (may_leave : D → List ℕ → Type 0)

@@ -1,6 +1,6 @@
 ghost use Rattle.std.specs.Prelude.{◌≡◌, None, All, length, map, IfOk, IfErr};
 ghost use Rattle.std.specs.Arc.{arc_value};
-ghost use Rattle.farm_nodes_passes.specs.Fours.{fours_of};
+ghost use Rattle.farm_nodes_node.specs.Fours.{fours_of};
 ghost use Rattle.farm_nodes_node.specs.Held.{IsSoundNode};
 ghost use Rattle.farm_nodes_node.specs.Waiting.{IsWaiting};
 ghost use Rattle.farm_nodes_joining.specs.Joined.{AreHeld};
@@ -9,8 +9,7 @@ ghost use Rattle.farm_nodes_joining.specs.Words.{generators};
 use crate::pieces::{Pieces, made_of, pieces_of};
 use acceptor_log::{Log, Record};
 use durable_model::Disk;
-use farm_nodes_node::FarmNode;
-use farm_nodes_passes::Seats;
+use farm_nodes_node::{FarmNode, Seats};
 use lang_base::{NoMemory, Program};
 use rooms_hall::Naming;
 use rtl_language::Function;

@@ -5,8 +5,8 @@ use Rattle.std.proofs.lemmas.Option.{slice_get-get_or, slice_get_within}
 use Rattle.lang_base.specs.declared.program.Program.{Program}
 use Rattle.rooms_hall.specs.declared.hall.Naming as naming
 use Rattle.rtl_language.specs.Function as rtl
-use Rattle.farm_nodes_passes.specs.Offers.{Constants, Expressions, Allocation, Order}
-use Rattle.farm_nodes_passes.specs.Seats.{Seats}
+use Rattle.farm_nodes_meeting.specs.Offers.{Constants, Expressions, Allocation, Order}
+use Rattle.farm_nodes_meeting.specs.Seats.{Seats}
 use Rattle.farm_nodes_meeting.specs.Functions.{BothLink, HoldSame}
 use Rattle.farm_nodes_meeting.specs.Held.{held_of}
 use Rattle.farm_nodes_linked.specs.Alike.{HaveCountedAll, LinkOne}

@@ -3,3 +3,4 @@ mod Wanting
 mod Beside
 mod Exits
 mod Alike
+pub use Rattle.farm_nodes_meeting.proofs.Sent

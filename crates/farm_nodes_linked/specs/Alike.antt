@@ -4,7 +4,7 @@ use Rattle.lang_base.specs.declared.program.Program.{Program}
 use Rattle.rooms_hall.specs.declared.hall.Naming as naming
 use Rattle.rtl_language.specs.Function as rtl
 use Rattle.linear_language.specs.Function as linear
-use Rattle.farm_nodes_passes.specs.Seats.{Seats}
+use Rattle.farm_nodes_meeting.specs.Seats.{Seats}
 use Rattle.farm_nodes_meeting.specs.Held.{held_of}
 use Rattle.farm_nodes_meeting.specs.Lists.{HaveMetAll}
 use Rattle.farm_nodes_linked.specs.Learned.{learned_by, IsUndecided}

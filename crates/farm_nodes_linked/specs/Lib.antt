@@ -9,3 +9,8 @@ pub use Rattle.linker.specs.Chains
 pub use Rattle.rtlgen_definition.specs.Gen
 pub use Rattle.cminor_lowering.specs.Programs
 pub use Rattle.lang_base.specs.Keeps
+pub use Rattle.farm_nodes_node.specs.declared.halted.Halted
+pub use Rattle.farm_nodes_meeting.specs.Seats
+pub use Rattle.linker.specs.Numbers
+pub use Rattle.linker.specs.declared.errors.LinkError
+pub use Rattle.farm_nodes_meeting.specs.Fours

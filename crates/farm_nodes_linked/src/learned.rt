@@ -2,8 +2,7 @@ ghost use Rattle.std.specs.Prelude.{◌≡◌, ◌↔◌, IsTrue};
 ghost use Rattle.farm_nodes_linked.specs.Learned.{learned_by, learned_four, IsUndecided};
 ghost use Rattle.farm_nodes_linked.specs.Lent.{lent};
 
-use farm_nodes_meeting::learned_offer;
-use farm_nodes_passes::Seats;
+use farm_nodes_meeting::{Seats, learned_offer};
 use linker::Chain;
 use rooms_hall::Naming;
 

@@ -8,5 +8,8 @@ mod learned;
 mod linking;
 
 pub use errors::LinkedError;
+pub use farm_nodes_meeting::{Oracles, Seats, has_learned_offer};
+pub use farm_nodes_node::FarmNode;
 pub use laws::one_program;
+pub use linker::LinkError;
 pub use linking::linked;

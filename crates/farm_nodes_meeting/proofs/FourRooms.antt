@@ -2,9 +2,9 @@
 use Rattle.std.proofs.Common.{◌≡◌, ◌≢◌, ◌↔◌, Bool, true, false, ◌&&◌, Option, Some, None, IfSome, is_some, refl, sym, ap, ◌∙◌}
 use Rattle.std.specs.Prelude.{IsSome, IsTrue}
 use Rattle.rooms_hall.specs.Claimed.{Claimed}
-use Rattle.rooms_numbered.specs.FunctionMeeting.{FunctionMeeting}
-use Rattle.rooms_numbered.specs.FunctionSeat.{FunctionSeat}
-use Rattle.rooms_numbered.specs.FunctionOf.{AreAsBefore, HaveMetIn, IsSameFunction}
+use Rattle.farm_nodes_passes.specs.FunctionMeeting.{FunctionMeeting}
+use Rattle.farm_nodes_passes.specs.FunctionSeat.{FunctionSeat}
+use Rattle.farm_nodes_passes.specs.FunctionOf.{AreAsBefore, HaveMetIn, IsSameFunction}
 use Rattle.farm_nodes_passes.specs.Offers.{Constants, Expressions, Allocation, Order}
 use Rattle.farm_nodes_meeting.specs.Held.{Held, held}
 use Rattle.farm_nodes_meeting.specs.Learned.{learned_offer}

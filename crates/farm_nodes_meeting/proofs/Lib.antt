@@ -3,3 +3,4 @@ pub mod Rooms
 pub mod FourRooms
 pub mod Counts
 pub mod Places
+pub use Rattle.farm_nodes_passes.proofs.Sent

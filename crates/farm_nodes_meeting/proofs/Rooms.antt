@@ -9,8 +9,8 @@ use Rattle.rooms_seat.specs.declared.meeting.Meeting.TheVariants.{Same}
 use Rattle.rooms_state.specs.SeatState.{SeatState}
 use Rattle.rooms.specs.SeatValue.{SeatValue, offer_of}
 use Rattle.rooms.specs.SeatValue as seats
-use Rattle.rooms_numbered.specs.Met.{Met}
-use Rattle.rooms_numbered.specs.RoomOf.{IsSameRoom}
+use Rattle.farm_nodes_passes.specs.Met.{Met}
+use Rattle.farm_nodes_passes.specs.RoomOf.{IsSameRoom}
 use Rattle.farm_nodes_meeting.specs.Held.{Numbered, numbered}
 use Rattle.farm_nodes_meeting.specs.Learned.{learned_offer}
 use Rattle.farm_nodes_meeting.specs.Rooms.{LinkIn, MetIn}

@@ -1,7 +1,7 @@
 -- Two seats that have met.
 use Rattle.std.specs.Prelude.{◌≡◌, ◌↔◌, ℕ, Some, IsSome}
 use Rattle.rooms.specs.SeatValue.{SeatValue}
-use Rattle.rooms_numbered.specs.RoomOf.{IsSameRoom}
+use Rattle.farm_nodes_passes.specs.RoomOf.{IsSameRoom}
 use Rattle.rooms_seat.specs.Meeting.{HaveMet, Remains}
 use Rattle.farm_nodes_meeting.specs.Held.{Numbered}
 use Rattle.farm_nodes_meeting.specs.Learned.{learned_offer}

@@ -3,9 +3,8 @@ ghost use Rattle.farm_nodes_meeting.specs.Held.{held_of};
 ghost use Rattle.farm_nodes_meeting.specs.Functions.{HasAll, HasMet};
 
 use crate::learned::has_learned_offer;
-use farm_nodes_passes::Seats;
+use farm_nodes_passes::{Seats, meet};
 use rooms_hall::Naming;
-use rooms_numbered::meet;
 
 /// The seats of two nodes in the four rooms of one function meet, room by room, where the rooms have one number. Answers whether both
 /// link the function.

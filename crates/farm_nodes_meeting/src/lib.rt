@@ -6,6 +6,7 @@ mod functions;
 mod learned;
 mod meeting;
 
+pub use farm_nodes_passes::{Oracles, Seats};
 pub use functions::meet_in_function;
 pub use learned::{has_learned_offer, learned_offer};
 pub use meeting::meet_all;

@@ -4,11 +4,11 @@ use Rattle.paxos_core_world.specs.KeptPart.{KeptPart}
 use Rattle.acceptor_log_form.specs.declared.record.Record.{Record}
 use Rattle.acceptor_log.specs.declared.log.Log.{Log}
 use Rattle.acceptor_log.specs.Acknowledged.{acknowledged}
-use Rattle.farm_nodes_acting.specs.Advances.{Advances, AreOf}
-use Rattle.farm_nodes_acting.specs.Served.{IsServed}
-use Rattle.farm_nodes_offers.specs.declared.halt.Fault.{Fault}
-use Rattle.farm_nodes_offers.specs.declared.halt.Halt.{Halt}
-use Rattle.farm_nodes_offers.specs.Halted.{left_over, HasHaltCause}
+use Rattle.farm_nodes_turn.specs.Advances.{Advances, AreOf}
+use Rattle.farm_nodes_turn.specs.Served.{IsServed}
+use Rattle.farm_nodes_turn.specs.Fault.{Fault}
+use Rattle.farm_nodes_turn.specs.Halt.{Halt}
+use Rattle.farm_nodes_turn.specs.Halted.{left_over, HasHaltCause}
 use Rattle.farm_nodes_turn.specs.Numbers.{function_of, pass_of}
 use Rattle.farm_nodes_turn.specs.Progress.{Progress}
 use Rattle.farm_nodes_turn.specs.Progress.TheVariants.{Learned, Moved, Idle}

@@ -5,8 +5,8 @@ use Rattle.acceptor_log_form.specs.Lists.{Between}
 use Rattle.acceptor_log.specs.declared.log.Log.{Log}
 use Rattle.acceptor_log.specs.Acknowledged.{acknowledged}
 use Rattle.acceptor_log.specs.Acknowledged as journal
-use Rattle.farm_nodes_acting.specs.Advances.{AreOf}
-use Rattle.farm_nodes_offers.specs.declared.halt.Fault.{Fault}
+use Rattle.farm_nodes_turn.specs.Advances.{AreOf}
+use Rattle.farm_nodes_turn.specs.Fault.{Fault}
 use Rattle.farm_nodes_node.specs.declared.halted.Halted.{Halted}
 use Rattle.farm_nodes_turn.specs.Fours.{Four}
 use Rattle.farm_nodes_turn.specs.Leaves.{Leave, pending_at}

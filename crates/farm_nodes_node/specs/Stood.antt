@@ -5,8 +5,8 @@ use Rattle.acceptor_log_form.specs.declared.record.Record.{Record}
 use Rattle.acceptor_log_form.specs.Lists.{Begins, Between}
 use Rattle.acceptor_log.specs.declared.log.Log.{Log}
 use Rattle.acceptor_log.specs.Acknowledged.{acknowledged}
-use Rattle.farm_nodes_offers.specs.declared.halt.Fault.{Fault}
-use Rattle.farm_nodes_offers.specs.Halted.{HasHaltCause}
+use Rattle.farm_nodes_turn.specs.Fault.{Fault}
+use Rattle.farm_nodes_turn.specs.Halted.{HasHaltCause}
 use Rattle.farm_nodes_turn.specs.Played.{progress_of}
 use Rattle.farm_nodes_turn.specs.Which.{Which}
 use Rattle.farm_nodes_turn.specs.Fours.{Four, words_of}

@@ -6,8 +6,7 @@ use crate::learning::learned_in;
 use crate::turn::Turn;
 use acceptor_log::{Log, LogError};
 use durable_model::Disk;
-use farm_nodes_offers::Fault;
-use farm_nodes_turn::{Oracles, Seats, Which, function_in, turn_in};
+use farm_nodes_turn::{Fault, Oracles, Seats, Which, function_in, turn_in};
 use lang_base::Program;
 use rand_pcg::Pcg32;
 use rooms_hall::Naming;
@@ -33,7 +32,7 @@ pub struct FarmNode<D, O, H: Naming> {
 impl<D: Disk, O: Oracles, H: Naming> FarmNode<D, O, H> {
     ghost use Rattle.std.specs.Prelude.{◌≢◌, ◌<◌, ◌/◌, true, None, slice_get};
     ghost use Rattle.rand_pcg.specs.Pcg.{pcg32};
-    ghost use Rattle.farm_nodes_acting.specs.Served.{IsServed};
+    ghost use Rattle.farm_nodes_turn.specs.Served.{IsServed};
     ghost use Rattle.farm_nodes_turn.specs.Numbers.{function_of, pass_of};
     ghost use Rattle.farm_nodes_turn.specs.Fours.{four_of, fours_of};
     ghost use Rattle.farm_nodes_turn.specs.Turned.{IsTooLargeFor, Leaves, StandsAfter};

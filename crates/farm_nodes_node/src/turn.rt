@@ -1,8 +1,7 @@
 ghost use Rattle.std.specs.Prelude.{◌≡◌};
 ghost use Rattle.farm_nodes_node.specs.Told.{turn_of};
 
-use farm_nodes_offers::Fault;
-use farm_nodes_turn::Progress;
+use farm_nodes_turn::{Fault, Progress};
 
 /// What a turn of a node brought.
 #[derive(Clone, Copy, Debug, PartialEq, Eq)]

@@ -6,11 +6,11 @@ use Rattle.acceptor_log_form.specs.declared.record.Record.{Record}
 use Rattle.acceptor_log.specs.declared.log.Log.{Log}
 use Rattle.rooms_seat.specs.Meeting.{Remains}
 use Rattle.farm_nodes_acting.specs.Advances.{AreOf}
-use Rattle.farm_nodes_passes.specs.Numbers.{function_of, pass_of}
-use Rattle.farm_nodes_passes.specs.Fours.{Four, words_of}
-use Rattle.farm_nodes_passes.specs.Leaves.{Leave}
-use Rattle.farm_nodes_passes.specs.declared.which.Which.{Which}
-use Rattle.farm_nodes_passes.specs.declared.which.Which.TheVariants.{First, Second, Third, Fourth}
+use Rattle.farm_nodes_meeting.specs.Numbers.{function_of, pass_of}
+use Rattle.farm_nodes_meeting.specs.Fours.{Four, words_of}
+use Rattle.farm_nodes_meeting.specs.Leaves.{Leave}
+use Rattle.farm_nodes_meeting.specs.Which.{Which}
+use Rattle.farm_nodes_meeting.specs.Which.TheVariants.{First, Second, Third, Fourth}
 use Rattle.farm_nodes_node.proofs.Places.{found, mapped, map_at, map_length}
 use Rattle.farm_nodes_node.specs.declared.halted.Halted.{Halted}
 use Rattle.farm_nodes_node.specs.Held.{IsSoundNode}

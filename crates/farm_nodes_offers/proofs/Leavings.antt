@@ -7,7 +7,7 @@ use Rattle.acceptor_log_form.specs.declared.record.Record.TheVariants.{Offered}
 use Rattle.acceptor_log_form.specs.Leaves.{kept_by}
 use Rattle.acceptor_log.specs.declared.log.Log.{Log}
 use Rattle.acceptor_log.specs.Acknowledged.{acknowledged, IsReady}
-use Rattle.rooms_state.specs.SeatState.{SeatState}
+use Rattle.farm_nodes_acting.specs.SeatState.{SeatState}
 use Rattle.rooms.specs.SeatValue.{SeatValue}
 use Rattle.farm_nodes_acting.specs.Cause.{HasCause}
 use Rattle.farm_nodes_acting.proofs.Results.{Grown}

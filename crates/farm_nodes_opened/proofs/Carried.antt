@@ -3,9 +3,9 @@ use Rattle.std.proofs.Common.{◌≡◌, ℕ, List, map, sym, ap, subst, ◌∙�
 use Rattle.std.specs.Global.{Vec}
 use Rattle.acceptor_log_form.specs.declared.record.Record.{Record}
 use Rattle.rooms_hall.specs.declared.hall.Naming as naming
-use Rattle.rooms_numbered.specs.declared.seats.Seats.{Seats}
+use Rattle.farm_nodes_records.specs.Seats.{Seats}
 use Rattle.farm_nodes_lists.specs.Rows.{rows_of}
-use Rattle.farm_nodes_opening.specs.declared.fault.RoomFault.{RoomFault}
+use Rattle.farm_nodes_functions.specs.RoomFault.{RoomFault}
 use Rattle.farm_nodes_joining.proofs.Moving.{map-map}
 use Rattle.farm_nodes_opened.specs.Refused.{HasBadRecord, HasRefusedOffer, IsUnopened}
 use Rattle.farm_nodes_opened.specs.Seated.{AreSeated}

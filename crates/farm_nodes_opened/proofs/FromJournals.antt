@@ -22,9 +22,9 @@ use Rattle.offers.specs.declared.parts.Parts.{Parts}
 use Rattle.rooms.specs.SeatValue.{SeatValue}
 use Rattle.rooms_hall.specs.Claimed.{Claimed}
 use Rattle.rooms_hall.specs.declared.hall.Naming as naming
-use Rattle.rooms_numbered.specs.declared.seats.Seats.{Seats}
-use Rattle.farm_nodes_passes.specs.declared.which.Which.{Which}
-use Rattle.farm_nodes_passes.specs.declared.which.Which.TheVariants.{First, Second, Third, Fourth}
+use Rattle.farm_nodes_records.specs.Seats.{Seats}
+use Rattle.farm_nodes_records.specs.Which.{Which}
+use Rattle.farm_nodes_records.specs.Which.TheVariants.{First, Second, Third, Fourth}
 use Rattle.farm_nodes_disks.specs.Journals.{header_of, AreOpened, IsOpened}
 use Rattle.farm_nodes_stored.specs.Nodes.{AreMade}
 use Rattle.farm_nodes_stored.specs.Read.{AreKept}

@@ -15,13 +15,13 @@ use Rattle.rooms.specs.SeatValue.{SeatValue}
 use Rattle.rooms_hall.specs.Claimed.{Claimed}
 use Rattle.rooms_hall.specs.declared.hall.Naming as naming
 use Rattle.farm_nodes_acting.specs.Advances.{AreOf}
-use Rattle.farm_nodes_passes.specs.Fours.{Four, four_of, fours_of, words_of}
-use Rattle.farm_nodes_passes.specs.Leaves.{Leave}
-use Rattle.farm_nodes_passes.specs.Numbers.{function_of, pass_at, pass_of, place_of, room_at}
-use Rattle.farm_nodes_passes.specs.Offers.{Constants, Expressions, Allocation, Order}
-use Rattle.rooms_numbered.specs.declared.seats.Seats.{Seats}
-use Rattle.farm_nodes_passes.specs.declared.which.Which.{Which}
-use Rattle.farm_nodes_passes.specs.declared.which.Which.TheVariants.{First, Second, Third, Fourth}
+use Rattle.farm_nodes_records.specs.Fours.{Four, four_of, fours_of, words_of}
+use Rattle.farm_nodes_records.specs.Leaves.{Leave}
+use Rattle.farm_nodes_records.specs.Numbers.{function_of, pass_at, pass_of, place_of, room_at}
+use Rattle.farm_nodes_records.specs.Offers.{Constants, Expressions, Allocation, Order}
+use Rattle.farm_nodes_records.specs.Seats.{Seats}
+use Rattle.farm_nodes_records.specs.Which.{Which}
+use Rattle.farm_nodes_records.specs.Which.TheVariants.{First, Second, Third, Fourth}
 use Rattle.farm_nodes_lists.specs.Rows.{rows_of}
 use Rattle.farm_nodes_functions.specs.Opened.{AreOpenedIn}
 use Rattle.farm_nodes_functions.proofs.Seated.{seat_opens}

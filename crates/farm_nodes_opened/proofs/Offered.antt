@@ -19,13 +19,13 @@ use Rattle.acceptor_log_form.specs.Leaves.{kept_in}
 use Rattle.acceptor_log_form.specs.declared.record.Record.{Record}
 use Rattle.offers.specs.declared.parts.Parts.{Parts}
 use Rattle.rooms.specs.Opened.{offer_at}
-use Rattle.farm_nodes_passes.specs.Numbers.{place_of, room_at}
-use Rattle.farm_nodes_passes.specs.declared.which.Which.{Which}
-use Rattle.farm_nodes_passes.specs.declared.which.Which.TheVariants.{First, Second, Third, Fourth}
+use Rattle.farm_nodes_records.specs.Numbers.{place_of, room_at}
+use Rattle.farm_nodes_records.specs.Which.{Which}
+use Rattle.farm_nodes_records.specs.Which.TheVariants.{First, Second, Third, Fourth}
 use Rattle.farm_nodes_records.specs.Known.{AreKnown}
 use Rattle.farm_nodes_records.specs.Stored.{IsStored}
 use Rattle.farm_nodes_records.specs.declared.storing.Stored.{Stored}
-use Rattle.farm_nodes_opening.specs.Kept.{kept_of}
+use Rattle.farm_nodes_functions.specs.Kept.{kept_of}
 use Rattle.farm_nodes_functions.specs.Opened.{AreOfferedIn}
 use Rattle.farm_nodes_lists.specs.Rows.{offers_of, rows_of}
 use Rattle.farm_nodes_functions.proofs.Seated.{kept_at}

@@ -7,8 +7,8 @@ use Rattle.acceptor_log_form.specs.declared.errors.LogError.TheVariants as log
 use Rattle.acceptor_log_form.specs.declared.record.Record.{Record}
 use Rattle.acceptor_log.specs.declared.log.Log.{Log}
 use Rattle.farm_nodes_disks.specs.Journals.{IsRefusedAt}
-use Rattle.farm_nodes_opening.specs.declared.fault.RoomFault.{RoomFault}
-use Rattle.farm_nodes_opening.specs.declared.fault.RoomFault.TheVariants as room
+use Rattle.farm_nodes_functions.specs.RoomFault.{RoomFault}
+use Rattle.farm_nodes_functions.specs.RoomFault.TheVariants as room
 use Rattle.farm_nodes_records.specs.declared.fault.RecordFault.{RecordFault}
 use Rattle.farm_nodes_records.specs.declared.fault.RecordFault.TheVariants as entry
 use Rattle.farm_nodes_opened.specs.declared.fault.OpenFault.TheVariants.{Journal, Refused, Room}

@@ -10,10 +10,10 @@ use Rattle.farm_nodes_disks.specs.Journals.{header_of, AreOpened, IsRefused}
 use Rattle.farm_nodes_stored.specs.Nodes.{AreMade, AtNode}
 use Rattle.farm_nodes_stored.specs.Read.{IsBadPart, IsKeptPart, WereRead}
 use Rattle.farm_nodes_stored.specs.Checked.{WasRefused, WereAccepted}
-use Rattle.farm_nodes_opening.specs.Kept.{IsOfferedIn, IsSettledIn}
-use Rattle.farm_nodes_opening.specs.Left.{AreLeftIn}
-use Rattle.farm_nodes_opening.specs.declared.fault.RoomFault.{RoomFault}
-use Rattle.farm_nodes_opening.specs.declared.fault.RoomFault.TheVariants.{CellRefused, Unsettled}
+use Rattle.farm_nodes_functions.specs.Kept.{IsOfferedIn, IsSettledIn}
+use Rattle.farm_nodes_functions.specs.Left.{AreLeftIn}
+use Rattle.farm_nodes_functions.specs.RoomFault.{RoomFault}
+use Rattle.farm_nodes_functions.specs.RoomFault.TheVariants.{CellRefused, Unsettled}
 use Rattle.farm_nodes_functions.specs.Opened.{IsSettledBefore}
 
 module _ {D : Type 0} (disk : disks.Ghosts D) (count : ℕ) (digest : List ℕ) (given : List D) where

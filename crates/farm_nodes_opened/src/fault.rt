@@ -2,7 +2,7 @@ ghost use Rattle.std.specs.Prelude.{◌≡◌};
 ghost use Rattle.farm_nodes_opened.specs.Faults.{fault_of_journal, fault_of_records, fault_of_room};
 
 use acceptor_log::LogError;
-use farm_nodes_opening::RoomFault;
+use farm_nodes_functions::RoomFault;
 use farm_nodes_records::RecordFault;
 
 /// Why a farm's nodes do not come from their disks.

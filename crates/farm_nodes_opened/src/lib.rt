@@ -7,6 +7,7 @@ mod fault;
 mod opening;
 mod seating;
 
+pub use farm_nodes_functions::RoomFault;
 pub use farm_nodes_joining::{FarmNode, Halted, Turn};
 pub use fault::OpenFault;
 pub use opening::open_nodes;

@@ -2,8 +2,8 @@ ghost use Rattle.std.specs.Prelude.{◌≡◌, ◌<◌, ◌⊎◌, ℕ, None, Al
 ghost use Rattle.std.specs.Arc.{arc_value};
 ghost use Rattle.paxos_core_law.specs.NodeState.{IsRoomSize};
 ghost use Rattle.acceptor_log_form.specs.declared.errors.LogError.{LogError};
-ghost use Rattle.farm_nodes_passes.specs.Fours.{fours_of};
-ghost use Rattle.farm_nodes_opening.specs.declared.fault.RoomFault.{RoomFault};
+ghost use Rattle.farm_nodes_records.specs.Fours.{fours_of};
+ghost use Rattle.farm_nodes_functions.specs.RoomFault.{RoomFault};
 ghost use Rattle.farm_nodes_joining.specs.Held.{IsSoundNode};
 ghost use Rattle.farm_nodes_joining.specs.Waiting.{IsWaiting};
 ghost use Rattle.farm_nodes_stored.specs.Nodes.{AreMade};

@@ -1,7 +1,7 @@
 ghost use Rattle.std.specs.Prelude.{◌≡◌, ◌<◌, ℕ, length, IfOk, IfErr};
 ghost use Rattle.paxos_core_law.specs.NodeState.{IsRoomSize};
 ghost use Rattle.acceptor_log_form.specs.declared.errors.LogError.{LogError};
-ghost use Rattle.farm_nodes_opening.specs.declared.fault.RoomFault.{RoomFault};
+ghost use Rattle.farm_nodes_functions.specs.RoomFault.{RoomFault};
 ghost use Rattle.farm_nodes_lists.specs.Rows.{rows_of};
 ghost use Rattle.farm_nodes_opened.specs.Seated.{AreSeated};
 ghost use Rattle.farm_nodes_opened.specs.Refused.{HasBadRecord, HasRefusedOffer, IsUnopened};
@@ -12,8 +12,7 @@ use alloc_check::Alloc;
 use constprop_check::ConstProp;
 use cse_check::Cse;
 use farm_nodes_functions::open_functions;
-use farm_nodes_passes::Seats;
-use farm_nodes_records::known_is_kept;
+use farm_nodes_records::{Seats, known_is_kept};
 use farm_nodes_stored::stored_nodes;
 use linearize_check::Linearize;
 use rooms_hall::{Hall, Naming};

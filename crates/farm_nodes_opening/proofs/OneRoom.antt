@@ -12,7 +12,7 @@ use Rattle.rooms_rule.specs.declared.view.Opening.{Opening}
 use Rattle.rooms_state.specs.SeatState.{opening_of}
 use Rattle.rooms.specs.Opened.{offer_at, opened, opened_first, with_seen, AreOffersOf, AreOpened}
 use Rattle.rooms.specs.SeatValue.{SeatValue}
-use Rattle.rooms_function.specs.declared.seat.FunctionSeat.{FunctionSeat}
+use Rattle.farm_nodes_passes.specs.FunctionSeat.{FunctionSeat}
 use Rattle.farm_nodes_passes.specs.FunctionOf.{function_of}
 use Rattle.farm_nodes_opening.specs.Numbered.{AreOfOneFunction, HaveOneClaim, IsOpenedRoom}
 

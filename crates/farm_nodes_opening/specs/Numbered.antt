@@ -5,7 +5,7 @@ use Rattle.rooms_hall.specs.Claimed.{Claimed}
 use Rattle.rooms_hall.specs.RoomId.{RoomId}
 use Rattle.rooms.specs.Opened.{AreOpened}
 use Rattle.rooms.specs.SeatValue.{SeatValue}
-use Rattle.rooms_function.specs.declared.seat.FunctionSeat.{FunctionSeat}
+use Rattle.farm_nodes_passes.specs.FunctionSeat.{FunctionSeat}
 use Rattle.farm_nodes_passes.specs.FunctionOf.{function_of}
 
 -- the seats are all of these rooms

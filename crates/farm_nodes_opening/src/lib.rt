@@ -7,6 +7,7 @@ mod law;
 mod numbering;
 mod parts;
 
+pub use farm_nodes_passes::{Passes, Seats};
 pub use fault::{RoomFault, Unopened};
 pub use law::left_is_settled;
 pub use numbering::numbered;

@@ -2,8 +2,7 @@ ghost use Rattle.std.specs.Prelude.{◌≡◌, ◌<◌, ◌⊎◌, length, map, 
 ghost use Rattle.farm_nodes_opening.specs.Numbered.{AreOfOneFunction, HaveOneClaim};
 
 use crate::fault::RoomFault;
-use farm_nodes_passes::Seats;
-use rooms_function::FunctionSeat;
+use farm_nodes_passes::{FunctionSeat, Seats};
 use rooms_hall::{DrawError, Hall, Naming};
 use std::alloc::Global;
 

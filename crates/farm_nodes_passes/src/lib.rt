@@ -5,7 +5,8 @@ mod oracles;
 mod passes;
 mod which;
 
+pub use farm_nodes_offers::{Fault, Halt};
 pub use oracles::{AllocationOf, ConstantsOf, ExpressionsOf, Oracles, OrderOf};
 pub use passes::Passes;
-pub use rooms_numbered::Seats;
+pub use rooms_numbered::{FunctionSeat, Seats, meet};
 pub use which::Which;

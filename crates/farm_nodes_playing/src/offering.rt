@@ -1,6 +1,6 @@
 ghost use Rattle.std.specs.Prelude.{◌≡◌, true, IfOk, IfErr, OnOk, IsSome, option_copied};
 ghost use Rattle.acceptor_log.specs.Acknowledged.{IsSound};
-ghost use Rattle.farm_nodes_acting.specs.Served.{IsServed};
+ghost use Rattle.farm_nodes_leading.specs.Served.{IsServed};
 ghost use Rattle.farm_nodes_offers.specs.Halted.{left_over, Recorded, HasHaltCause};
 ghost use Rattle.farm_nodes_offers.specs.Pending.{IsTextOf, MayPendOn};
 ghost use Rattle.farm_nodes_playing.specs.Played.{HeldOffer, IsMadeOn, IsTooLarge};

@@ -1,3 +1,10 @@
 pub mod Written
 pub mod Stored
 pub mod Known
+pub use Rattle.farm_nodes_passes.specs.Offers
+pub use Rattle.farm_nodes_passes.specs.declared.passes.Passes
+pub use Rattle.farm_nodes_passes.specs.declared.which.Which
+pub use Rattle.farm_nodes_passes.specs.Fours
+pub use Rattle.farm_nodes_passes.specs.Leaves
+pub use Rattle.farm_nodes_passes.specs.Numbers
+pub use Rattle.farm_nodes_passes.specs.Seats

@@ -11,11 +11,11 @@ use Rattle.rooms_state.specs.SeatState.{SeatState}
 use Rattle.farm_nodes_acting.specs.declared.stop.Pending.{Pending}
 use Rattle.farm_nodes_acting.specs.Noted.{pending_of}
 use Rattle.farm_nodes_acting.proofs.Records.{kept_own, kept_other}
-use Rattle.farm_nodes_passes.specs.Numbers.{function_of, pass_of}
-use Rattle.farm_nodes_passes.specs.declared.which.Which.{Which}
-use Rattle.farm_nodes_passes.specs.declared.which.Which.TheVariants.{First, Second, Third, Fourth}
-use Rattle.farm_nodes_passes.specs.Fours.{words_of, Four}
-use Rattle.farm_nodes_passes.specs.Leaves.{left_in, pending_at, IsPendingIn, Leave, MayPend}
+use Rattle.farm_nodes_restart_records.specs.Numbers.{function_of, pass_of}
+use Rattle.farm_nodes_restart_records.specs.Which.{Which}
+use Rattle.farm_nodes_restart_records.specs.Which.TheVariants.{First, Second, Third, Fourth}
+use Rattle.farm_nodes_restart_records.specs.Fours.{words_of, Four}
+use Rattle.farm_nodes_restart_records.specs.Leaves.{left_in, pending_at, IsPendingIn, Leave, MayPend}
 use Rattle.farm_nodes_restart_records.specs.Found.{EndsWith, IsFound, LeaveWith}
 use Rattle.farm_nodes_restart_records.specs.declared.finding.Found.{Found}
 use Rattle.farm_nodes_restart_seat.specs.Places.{AllChanged}

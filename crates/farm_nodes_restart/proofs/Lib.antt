@@ -1,2 +1,3 @@
 pub mod Afterwards
 pub mod Refusing
+pub use Rattle.farm_nodes_restart_records.proofs.Own

@@ -9,11 +9,11 @@ use Rattle.acceptor_log_form.specs.Order.{AreInOrder}
 use Rattle.acceptor_log_form.specs.Text.{StandsFor}
 use Rattle.farm_nodes_acting.specs.declared.stop.Pending.{Pending}
 use Rattle.farm_nodes_acting.specs.declared.stop.Pending.TheVariants.{Act, Offer}
-use Rattle.farm_nodes_passes.specs.Fours.{Four}
-use Rattle.farm_nodes_passes.specs.Leaves.{Leave}
-use Rattle.farm_nodes_passes.specs.Numbers.{function_of, pass_of}
-use Rattle.farm_nodes_passes.specs.declared.which.Which.{Which}
-use Rattle.farm_nodes_passes.specs.declared.which.Which.TheVariants.{First, Second, Third, Fourth}
+use Rattle.farm_nodes_restart_records.specs.Fours.{Four}
+use Rattle.farm_nodes_restart_records.specs.Leaves.{Leave}
+use Rattle.farm_nodes_restart_records.specs.Numbers.{function_of, pass_of}
+use Rattle.farm_nodes_restart_records.specs.Which.{Which}
+use Rattle.farm_nodes_restart_records.specs.Which.TheVariants.{First, Second, Third, Fourth}
 use Rattle.farm_nodes_restart_seat.specs.declared.fault.RestartFault.{RestartFault}
 use Rattle.farm_nodes_restart_seat.specs.declared.fault.RestartFault.TheVariants.{NoMemory, Journal, OtherRecords, CellRefused}
 use Rattle.farm_nodes_restart_seat.specs.Taken.{HasForgotten, IsTakeFault, Took}

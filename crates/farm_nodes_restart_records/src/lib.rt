@@ -8,5 +8,6 @@ mod laws;
 mod parts;
 mod seat;
 
+pub use farm_nodes_passes::{Seats, Which};
 pub use finding::{Found, find};
 pub use laws::own_journal;

@@ -7,16 +7,16 @@ use Rattle.acceptor_log_form.specs.Lists.{Between}
 use Rattle.acceptor_log_form.specs.Text.{StandsFor}
 use Rattle.acceptor_log.specs.declared.log.Log.{Log}
 use Rattle.farm_nodes_acting.specs.declared.stop.Pending.{Pending}
-use Rattle.farm_nodes_passes.specs.Numbers.{function_of}
-use Rattle.farm_nodes_passes.specs.Fours.{Four}
-use Rattle.farm_nodes_passes.specs.Leaves.{left_in, pending_at}
+use Rattle.farm_nodes_node.specs.Numbers.{function_of}
+use Rattle.farm_nodes_node.specs.Fours.{Four}
+use Rattle.farm_nodes_node.specs.Leaves.{left_in, pending_at}
 use Rattle.farm_nodes_node.specs.declared.halted.Halted.{Halted}
 use Rattle.farm_nodes_node.specs.Held.{pending_in, IsSoundNode}
 use Rattle.farm_nodes_restart_seat.specs.declared.fault.RestartFault.{RestartFault}
 use Rattle.farm_nodes_restart_seat.specs.declared.fault.RestartFault.TheVariants.{OtherRecords}
-use Rattle.farm_nodes_restart_records.specs.Found.{AreOther}
+use Rattle.farm_nodes_restart.specs.Found.{AreOther}
 use Rattle.farm_nodes_restart.specs.Returned.{HasCause, HoldsBack}
-use Rattle.farm_nodes_restart_records.proofs.Own.{own}
+use Rattle.farm_nodes_restart.proofs.Own.{own}
 use Rattle.farm_nodes_returning.specs.Stopped.{left_by, room_in}
 
 module _ {T1 T2 T3 T4 : Type 0} where

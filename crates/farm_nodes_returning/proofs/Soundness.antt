@@ -10,8 +10,8 @@ use Rattle.acceptor_log.specs.declared.log.Log.{Log}
 use Rattle.acceptor_log.specs.Acknowledged.{acknowledged, IsSound}
 use Rattle.farm_nodes_acting.specs.Advances.{AreOf}
 use Rattle.farm_nodes_acting.specs.declared.stop.Pending.{Pending}
-use Rattle.farm_nodes_passes.specs.Fours.{Four}
-use Rattle.farm_nodes_passes.specs.Leaves.{pending_at, Leave}
+use Rattle.farm_nodes_node.specs.Fours.{Four}
+use Rattle.farm_nodes_node.specs.Leaves.{pending_at, Leave}
 use Rattle.farm_nodes_node.specs.declared.halted.Halted.{Halted}
 use Rattle.farm_nodes_node.specs.Held.{pending_in, IsSoundNode}
 use Rattle.farm_nodes_restart_seat.proofs.Places.{there_is}

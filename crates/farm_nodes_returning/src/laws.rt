@@ -4,11 +4,11 @@ ghost use Rattle.std.specs.Prelude.{ℕ, List, Option};
 ghost use Rattle.acceptor_log_form.specs.declared.record.Record.{Record};
 ghost use Rattle.acceptor_log_form.specs.Text.{StandsFor};
 ghost use Rattle.acceptor_log.specs.declared.log.Log.{Log};
-ghost use Rattle.farm_nodes_passes.specs.Offers.{Constants, Expressions, Allocation, Order};
-ghost use Rattle.farm_nodes_passes.specs.Fours.{Four};
+ghost use Rattle.farm_nodes_node.specs.Offers.{Constants, Expressions, Allocation, Order};
+ghost use Rattle.farm_nodes_node.specs.Fours.{Four};
 ghost use Rattle.farm_nodes_node.specs.declared.halted.Halted.{Halted};
 ghost use Rattle.farm_nodes_node.specs.Held.{IsSoundNode};
-ghost use Rattle.farm_nodes_restart_records.specs.Found.{AreOther};
+ghost use Rattle.farm_nodes_restart.specs.Found.{AreOther};
 ghost use Rattle.farm_nodes_returning.specs.Stopped.{left_by, room_in};
 
 use durable_model::Disk;

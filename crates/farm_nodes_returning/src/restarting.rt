@@ -6,7 +6,7 @@ ghost use Rattle.durable_model.specs.Moments.{LeavesOnly};
 ghost use Rattle.acceptor_log_form.specs.Order.{AreInOrder};
 ghost use Rattle.acceptor_log_form.specs.Text.{StandsFor};
 ghost use Rattle.acceptor_log.specs.Acknowledged.{acknowledged};
-ghost use Rattle.farm_nodes_passes.specs.Fours.{fours_of};
+ghost use Rattle.farm_nodes_node.specs.Fours.{fours_of};
 ghost use Rattle.farm_nodes_node.specs.Held.{IsSoundNode};
 ghost use Rattle.farm_nodes_node.specs.Waiting.{IsWaiting};
 ghost use Rattle.farm_nodes_restart.specs.Returned.{HasCause};

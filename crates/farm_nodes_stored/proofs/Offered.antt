@@ -14,8 +14,8 @@ use Rattle.linearize_check.specs.contracts.pass.LinearizePass.TheImpl as order
 use Rattle.acceptor_log_form.specs.declared.record.Record.{Record}
 use Rattle.offers.specs.declared.parts.Parts.{Parts}
 use Rattle.offers.specs.Text.{text_of}
-use Rattle.farm_nodes_passes.specs.declared.which.Which.{Which}
-use Rattle.farm_nodes_passes.specs.declared.which.Which.TheVariants.{First, Second, Third, Fourth}
+use Rattle.farm_nodes_records.specs.Which.{Which}
+use Rattle.farm_nodes_records.specs.Which.TheVariants.{First, Second, Third, Fourth}
 use Rattle.farm_nodes_records.specs.Stored.{IsStored}
 use Rattle.farm_nodes_records.specs.Written.{all_written}
 use Rattle.farm_nodes_records.specs.declared.storing.Stored.{Stored}

@@ -12,10 +12,10 @@ use Rattle.alloc_check.specs.contracts.pass.AllocPass.TheImpl as allocation
 use Rattle.linearize_check.specs.contracts.pass.LinearizePass.TheImpl as order
 use Rattle.acceptor_log_form.specs.declared.record.Record.{Record}
 use Rattle.offers.specs.declared.parts.Parts.{Parts}
-use Rattle.farm_nodes_passes.specs.Offers.{Constants, Expressions, Allocation, Order}
-use Rattle.farm_nodes_passes.specs.declared.passes.Passes.{Passes}
-use Rattle.farm_nodes_passes.specs.declared.which.Which.{Which}
-use Rattle.farm_nodes_passes.specs.declared.which.Which.TheVariants.{First, Second, Third, Fourth}
+use Rattle.farm_nodes_records.specs.Offers.{Constants, Expressions, Allocation, Order}
+use Rattle.farm_nodes_records.specs.Passes.{Passes}
+use Rattle.farm_nodes_records.specs.Which.{Which}
+use Rattle.farm_nodes_records.specs.Which.TheVariants.{First, Second, Third, Fourth}
 use Rattle.farm_nodes_records.specs.Known.{AreKnown, IsAccepted, HasUnaccepted}
 use Rattle.farm_nodes_records.specs.Stored.{IsStored}
 use Rattle.farm_nodes_records.specs.declared.storing.Stored.{Stored}

@@ -12,9 +12,9 @@ use Rattle.paxos_core_world.specs.KeptPart.{KeptPart}
 use Rattle.acceptor_log_form.specs.Leaves.{kept_in}
 use Rattle.acceptor_log_form.specs.Order.{AreInOrder}
 use Rattle.acceptor_log_form.specs.declared.record.Record.{Record}
-use Rattle.farm_nodes_passes.specs.Offers.{Constants, Expressions, Allocation, Order}
-use Rattle.farm_nodes_passes.specs.declared.passes.Passes.{Passes}
-use Rattle.farm_nodes_passes.specs.declared.which.Which.TheVariants.{First, Second, Third, Fourth}
+use Rattle.farm_nodes_records.specs.Offers.{Constants, Expressions, Allocation, Order}
+use Rattle.farm_nodes_records.specs.Passes.{Passes}
+use Rattle.farm_nodes_records.specs.Which.TheVariants.{First, Second, Third, Fourth}
 use Rattle.farm_nodes_records.specs.Stored.{HasNoParts, IsStored}
 use Rattle.farm_nodes_records.specs.declared.storing.Stored.{Stored}
 use Rattle.farm_nodes_stored.specs.Nodes.{AllMade}

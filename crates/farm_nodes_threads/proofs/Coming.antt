@@ -14,11 +14,11 @@ use Rattle.lang_base.specs.declared.program.Named.{Named}
 use Rattle.offers.specs.declared.parts.Parts.{Parts}
 use Rattle.rooms.specs.SeatValue.{SeatValue}
 use Rattle.farm_nodes_acting.specs.Served.{IsServed}
-use Rattle.farm_nodes_playing.specs.Played.{Stays}
-use Rattle.farm_nodes_passes.specs.Numbers.{function_of, pass_of}
-use Rattle.farm_nodes_passes.specs.Fours.{Four}
-use Rattle.farm_nodes_passes.specs.declared.which.Which.{Which}
-use Rattle.farm_nodes_passes.specs.declared.which.Which.TheVariants.{First, Second, Third, Fourth}
+use Rattle.farm_nodes_node.specs.Played.{Stays}
+use Rattle.farm_nodes_node.specs.Numbers.{function_of, pass_of}
+use Rattle.farm_nodes_node.specs.Fours.{Four}
+use Rattle.farm_nodes_node.specs.Which.{Which}
+use Rattle.farm_nodes_node.specs.Which.TheVariants.{First, Second, Third, Fourth}
 use Rattle.farm_nodes_node.specs.Turned.{Leaves, StaysIn, OthersStay}
 use Rattle.farm_nodes_node.specs.Turns.{AtPlace, OfFunction}
 use Rattle.farm_nodes_node.proofs.Places.{found, mapped}

@@ -1,8 +1,8 @@
 -- What turns leave of a node.
 use Rattle.std.specs.Prelude.{◌≡◌, ◌≢◌, ◌↔◌, ℕ, List, length, Option, Some, None, slice_get}
 use Rattle.acceptor_log.specs.declared.log.Log.{Log}
-use Rattle.farm_nodes_playing.specs.Played.{Stays}
-use Rattle.farm_nodes_passes.specs.Fours.{Four}
+use Rattle.farm_nodes_node.specs.Played.{Stays}
+use Rattle.farm_nodes_node.specs.Fours.{Four}
 use Rattle.farm_nodes_node.specs.declared.halted.Halted.{Halted}
 use Rattle.farm_nodes_node.specs.Stood.{TurnsInto}
 

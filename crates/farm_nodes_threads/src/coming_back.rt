@@ -1,15 +1,14 @@
 ghost use Rattle.std.specs.Prelude.{◌≡◌, ◌<◌, IfErr};
 ghost use Rattle.std.specs.List.{AllByRecursion, AllZip};
 ghost use Rattle.farm_nodes_workers.specs.Back.{nodes_of};
-ghost use Rattle.farm_nodes_passes.specs.Fours.{fours_of};
+ghost use Rattle.farm_nodes_node.specs.Fours.{fours_of};
 ghost use Rattle.farm_nodes_node.specs.Held.{IsSoundNode};
 ghost use Rattle.farm_nodes_node.specs.Waiting.{IsWaiting};
 ghost use Rattle.farm_nodes_threads.specs.CameBack.{CameBack};
 
 use crate::wrapping::{all_nodes, all_taking, two_rooms};
 use durable_model::Disk;
-use farm_nodes_node::FarmNode;
-use farm_nodes_passes::Oracles;
+use farm_nodes_node::{FarmNode, Oracles};
 use farm_nodes_workers::{RunError, run_threads as run};
 use parallel_validate::Gate;
 use rooms_hall::Naming;

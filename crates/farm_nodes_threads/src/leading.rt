@@ -1,6 +1,6 @@
 //! Whether a node leads a room.
 
-use farm_nodes_passes::{Seats, Which};
+use farm_nodes_node::{Seats, Which};
 use rooms_hall::Naming;
 use rooms_seat::WordSeat;
 

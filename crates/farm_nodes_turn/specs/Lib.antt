@@ -8,3 +8,9 @@ pub use Rattle.farm_nodes_passes.specs.Numbers
 pub use Rattle.farm_nodes_passes.specs.Pending
 pub use Rattle.farm_nodes_passes.specs.Seats
 pub use Rattle.farm_nodes_passes.specs.declared.which.Which
+pub use Rattle.farm_nodes_passes.specs.Offers
+pub use Rattle.farm_nodes_passes.specs.Halted
+pub use Rattle.farm_nodes_passes.specs.Fault
+pub use Rattle.farm_nodes_passes.specs.Halt
+pub use Rattle.farm_nodes_acting.specs.Advances
+pub use Rattle.farm_nodes_acting.specs.Served

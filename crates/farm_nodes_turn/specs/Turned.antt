@@ -10,7 +10,7 @@ use Rattle.rooms_state.specs.declared.act.Act.TheVariants as asked
 use Rattle.rooms_state.specs.Would.{would}
 use Rattle.rooms.specs.SeatValue.{SeatValue, offer_of}
 use Rattle.farm_nodes_acting.specs.Quiet.{IsQuiet}
-use Rattle.farm_nodes_leading.specs.Leading.{HasLed}
+use Rattle.farm_nodes_playing.specs.Leading.{HasLed}
 use Rattle.farm_nodes_playing.specs.Played.{IsLearnedOutput, IsMadeOn, Stays}
 use Rattle.farm_nodes_passes.specs.Offers.{Constants, Expressions, Allocation, Order}
 use Rattle.farm_nodes_passes.specs.declared.which.Which.{Which}

@@ -5,9 +5,9 @@ ghost use Rattle.rooms_state.specs.declared.act.Act.TheVariants as asked;
 ghost use Rattle.rooms_state.specs.Would.{would};
 ghost use Rattle.farm_nodes_acting.specs.Served.{IsServed};
 ghost use Rattle.farm_nodes_acting.specs.Quiet.{IsQuiet};
-ghost use Rattle.farm_nodes_leading.specs.Leading.{HasLed};
-ghost use Rattle.farm_nodes_offers.specs.Halted.{left_over, HasHaltCause};
-ghost use Rattle.farm_nodes_offers.specs.Pending.{IsTextOf, MayPendOn};
+ghost use Rattle.farm_nodes_playing.specs.Leading.{HasLed};
+ghost use Rattle.farm_nodes_playing.specs.Halted.{left_over, HasHaltCause};
+ghost use Rattle.farm_nodes_playing.specs.Pending.{IsTextOf, MayPendOn};
 ghost use Rattle.farm_nodes_playing.specs.Played.{IsMadeOn, Played, Stays};
 ghost use Rattle.farm_nodes_passes.specs.Fours.{four_of, words_of};
 ghost use Rattle.farm_nodes_passes.specs.Pending.{HasPending};
@@ -16,9 +16,8 @@ ghost use Rattle.farm_nodes_turn.specs.Turned.{IsTooLargeFor, OthersStay, StaysI
 
 use acceptor_log::Log;
 use durable_model::Disk;
-use farm_nodes_offers::Halt;
 use farm_nodes_passes::{AllocationOf, ConstantsOf, ExpressionsOf, Oracles, OrderOf, Seats, Which};
-use farm_nodes_playing::{Progress, learned_output, play};
+use farm_nodes_playing::{Halt, Progress, learned_output, play};
 use lang_base::{Language, Oracle, Pass};
 use rand_pcg::Pcg32;
 use rooms::Seat;

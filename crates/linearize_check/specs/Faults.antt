@@ -1,7 +1,7 @@
 -- Where an output is not laid out by an order: the form first, and then node by node.
 use Rattle.std.specs.Prelude.{◌≡◌, ℕ, zero, suc, ◌+◌, ◌<◌, ◌≤◌, List, [], ◌∷◌, ◌++◌, length, Option, Some, None, slice_get, slice_index, take, drop, min, All, Contains}
-use Rattle.ltl.specs.declared.block.Block.{Block}
-use Rattle.ltl.specs.Function as ltl
+use Rattle.linearize_check_layout.specs.Block.{Block}
+use Rattle.linearize_check_layout.specs.Function as ltl
 use Rattle.linear_language.specs.declared.instruction.Instruction.{Instruction}
 use Rattle.linear_language.specs.Function as linear
 use Rattle.lang_base.specs.declared.fault.Fault.{Fault}

@@ -14,7 +14,7 @@ use std::alloc::Global;
 /// the order is allowed.
 pub fn arrange(
     alloc: Global,
-    input: &ltl::Function,
+    input: &linearize_check_layout::Function,
     nodes: Vec<u16>,
 ) -> Result<Option<(linear_language::Function, Order)>, NoMemory>
     ensures allowed { IfOk result (λ made. IsSome made ↔ IsOrder input.now nodes.items) }
@@ -29,7 +29,11 @@ pub fn arrange(
 }
 
 /// Whether the function can be laid out by the order.
-fn is_order(alloc: Global, input: &ltl::Function, nodes: &[u16]) -> Result<bool, NoMemory>
+fn is_order(
+    alloc: Global,
+    input: &linearize_check_layout::Function,
+    nodes: &[u16],
+) -> Result<bool, NoMemory>
     ensures { IfOk result (λ yes. IsTrue yes ↔ IsOrder input.now nodes.now) }
 {
     if !lists_nodes(input, nodes) {
@@ -40,7 +44,7 @@ fn is_order(alloc: Global, input: &ltl::Function, nodes: &[u16]) -> Result<bool,
 }
 
 /// Whether the numbers are not too many, each a node, and the entry first.
-pub(crate) fn lists_nodes(input: &ltl::Function, nodes: &[u16]) -> bool
+pub(crate) fn lists_nodes(input: &linearize_check_layout::Function, nodes: &[u16]) -> bool
     ensures { IsTrue result ↔ ListsNodes input.now nodes.now }
 {
     nodes.len() <= usize::from(u16::MAX)

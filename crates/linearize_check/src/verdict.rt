@@ -17,7 +17,7 @@ use std::alloc::Global;
 /// is listed twice, has a successor that is not listed, or its stretch is not what the output has in its place.
 pub fn why(
     alloc: Global,
-    input: &ltl::Function,
+    input: &linearize_check_layout::Function,
     output: &linear_language::Function,
     order: &Order,
 ) -> Result<Option<Fault>, NoMemory>
@@ -39,7 +39,7 @@ pub fn why(
 /// Whether the output is laid out by the order.
 pub fn check(
     alloc: Global,
-    input: &ltl::Function,
+    input: &linearize_check_layout::Function,
     output: &linear_language::Function,
     order: &Order,
 ) -> Result<bool, NoMemory>
@@ -49,7 +49,7 @@ pub fn check(
 }
 
 /// Whether the parameters and the slots are the same.
-fn has_frame(input: &ltl::Function, output: &linear_language::Function) -> bool
+fn has_frame(input: &linearize_check_layout::Function, output: &linear_language::Function) -> bool
     ensures { IsTrue result ↔ HasFrame input.now output.now }
 {
     are_same(

@@ -5,7 +5,7 @@ ghost use Rattle.std.specs.Option.{option_copied};
 ghost use Rattle.linearize_check_proof.specs.Layout.{copies, act_code, is_next, jump, body_code, stretch, order_code};
 
 use lang_base::{NoMemory, Row};
-use linear_language::Instruction;
+use linearize_check_proof::Instruction;
 use locations::Location;
 use ltl::{Block, Body};
 use machine::{Act, Move};

@@ -1,3 +1,4 @@
 pub mod Distinct
 pub mod Forms
 pub mod Equal
+pub mod Limits

@@ -12,3 +12,6 @@ pub use Rattle.machine.specs.Calls
 pub use Rattle.machine.specs.Fits
 pub use Rattle.lang_base.specs.Behaviour
 pub use Rattle.lang_base.specs.Machine
+pub use Rattle.machine.specs.declared.act.Act
+pub use Rattle.machine.specs.declared.arguments.Arguments
+pub use Rattle.machine.specs.declared.test.Test

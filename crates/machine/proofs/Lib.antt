@@ -4,3 +4,4 @@ pub mod Forms
 pub mod Equal
 pub mod Distinct
 pub mod Words
+pub mod Limits

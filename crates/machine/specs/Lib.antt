@@ -8,3 +8,4 @@ pub mod Reading
 pub mod Words
 pub mod AfterCalls
 pub mod AtEntry
+pub use Rattle.locations.specs.Limits

@@ -16,8 +16,9 @@ pub use arguments::Arguments;
 pub use callees::callees_begin;
 pub use callers::callers_go_on;
 pub use locations::{
-    Location, Move, REGISTER_COUNT, Register, push_call, push_frame, push_move, push_moves,
-    push_value, read_call, read_frame, read_move, read_moves, read_value,
+    Half, Location, Move, REGISTER_COUNT, ReadOne, Register, push_call, push_each, push_frame,
+    push_move, push_moves, push_value, read_call, read_frame, read_global, read_move, read_moves,
+    read_so_many, read_value,
 };
 pub use reading::{read_act, read_test};
 pub use test::Test;

@@ -14,4 +14,5 @@ mod propose;
 mod register_set;
 mod worth;
 
+pub use alloc_check::EquationLists;
 pub use propose::AllocOracle;

@@ -3,3 +3,7 @@ pub mod LearnsLemmas
 pub mod QuorumLemmas
 pub mod ScheduleLemmas
 pub use Rattle.paxos_core_late_offers.proofs.LateLemmas
+pub use Rattle.paxos_core_late_offers.proofs.BelongsLemmas
+pub use Rattle.paxos_core_late_offers.proofs.WorldLemmas
+pub use Rattle.paxos_core_late_offers.proofs.Reopens
+pub use Rattle.paxos_core_late_offers.proofs.Theorem

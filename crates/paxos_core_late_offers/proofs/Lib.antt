@@ -1,1 +1,9 @@
 pub mod LateLemmas
+pub use Rattle.paxos_core_law.proofs.BelongsLemmas
+pub use Rattle.paxos_core_law.proofs.NoteLemmas
+pub use Rattle.paxos_core_law.proofs.ReachedLemmas
+pub use Rattle.paxos_core_law.proofs.TakesLemmas
+pub use Rattle.paxos_core_law.proofs.WorldLemmas
+pub use Rattle.paxos_core_law.proofs.Reopens
+pub use Rattle.paxos_core_law.proofs.Theorem
+pub use Rattle.paxos_core_world.proofs.Quorums

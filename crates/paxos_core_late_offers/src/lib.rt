@@ -4,4 +4,6 @@
 
 mod theorem;
 
+pub use paxos_core_law::{promises, settled, step};
+pub use paxos_core_world::{ballot, kept, msg, quorum, vote};
 pub use theorem::late_offers;

@@ -1,11 +1,11 @@
 -- What keeps a node in its world: steps of others, and what it notes.
 use Rattle.std.proofs.Common.{◌≡◌, ℕ, ◌<◌, ◌⊎◌, Bool, false, set, Option, Some, None, refl, sym, ap, ◌∙◌, inl, inr}
-use Rattle.paxos_core_world.specs.Ballot.{Owns}
-use Rattle.paxos_core_world.specs.KeptPart.{KeptPart}
-use Rattle.paxos_core_world.specs.Step.{Label, after}
-use Rattle.paxos_core_world.specs.World.{World, Has}
-use Rattle.paxos_core_world.specs.declared.msg.Msg.TheVariants.{Promise, Propose, Accepted}
-use Rattle.paxos_core_world.specs.declared.vote.Vote.{Vote}
+use Rattle.paxos_core_model.specs.Ballot.{Owns}
+use Rattle.paxos_core_model.specs.KeptPart.{KeptPart}
+use Rattle.paxos_core_model.specs.Step.{Label, after}
+use Rattle.paxos_core_model.specs.World.{World, Has}
+use Rattle.paxos_core_model.specs.Msg.TheVariants.{Promise, Propose, Accepted}
+use Rattle.paxos_core_model.specs.Vote.{Vote}
 use Rattle.paxos_core_law.specs.Belongs.{Belongs, IsUnderWay}
 use Rattle.paxos_core_law.specs.NodeState.{NodeState, node_with, nothing_noted}
 use Rattle.paxos_core_law.specs.Notes.{note_of}

@@ -6,3 +6,4 @@ pub mod BelongsLemmas
 pub mod TakesLemmas
 pub mod WouldLemmas
 pub use Rattle.paxos_core_model.proofs.Reopens
+pub use Rattle.paxos_core_model.proofs.Theorem

@@ -2,15 +2,15 @@
 use Rattle.std.proofs.Common.{◌≡◌, ℕ, suc, max, ◌+◌, ◌<◌, ◌≤◌, ◌⊎◌, Bool, true, false, cond, not, ◌&&◌, ltb, List, [], ◌∷◌, set, Option, Some, None, is_none, IsTrue, IfSome, refl, sym, ap, ◌∙◌, subst, inl, inr, arith}
 use Rattle.std.specs.Option.{option_map}
 use Rattle.std.proofs.lemmas.Bool.{ltb-true, leb-true, eqb-true, and_parts, not-true}
-use Rattle.paxos_core_world.specs.Ballot.{Owns}
-use Rattle.paxos_core_world.specs.KeptPart.{KeptPart, with_offer, with_start, with_promise, with_vote, vote}
-use Rattle.paxos_core_world.specs.Quorum.{is_promise_quorum, is_accept_quorum, IsPromiseQuorum, IsAcceptQuorum}
-use Rattle.paxos_core_world.specs.Run.{IsRun, reached}
-use Rattle.paxos_core_world.specs.Step.{Label, Offers, Starts, Promises, Proposes, Accepts, Learns, Restarts, Allowed, after, HasOffered, NamesNone, IsHighest, IsSafeChoice, IsChosen}
-use Rattle.paxos_core_world.specs.World.{World, Has, put}
-use Rattle.paxos_core_world.specs.declared.msg.Msg.{Msg}
-use Rattle.paxos_core_world.specs.declared.msg.Msg.TheVariants.{Prepare, Promise, Propose, Accepted}
-use Rattle.paxos_core_world.specs.declared.vote.Vote.{Vote}
+use Rattle.paxos_core_model.specs.Ballot.{Owns}
+use Rattle.paxos_core_model.specs.KeptPart.{KeptPart, with_offer, with_start, with_promise, with_vote, vote}
+use Rattle.paxos_core_model.specs.Quorum.{is_promise_quorum, is_accept_quorum, IsPromiseQuorum, IsAcceptQuorum}
+use Rattle.paxos_core_model.specs.Run.{IsRun, reached}
+use Rattle.paxos_core_model.specs.Step.{Label, Offers, Starts, Promises, Proposes, Accepts, Learns, Restarts, Allowed, after, HasOffered, NamesNone, IsHighest, IsSafeChoice, IsChosen}
+use Rattle.paxos_core_model.specs.World.{World, Has, put}
+use Rattle.paxos_core_model.specs.Msg.{Msg}
+use Rattle.paxos_core_model.specs.Msg.TheVariants.{Prepare, Promise, Propose, Accepted}
+use Rattle.paxos_core_model.specs.Vote.{Vote}
 use Rattle.paxos_core_law.specs.Acceptor.{is_vote, promises, promise_to, after_prepare, accepts, vote_for, after_propose}
 use Rattle.paxos_core_law.specs.Belongs.{Belongs, IsUnderWay}
 use Rattle.paxos_core_law.specs.Learner.{is_report, is_under_way, notes_promise, after_promise, notes_vote, votes_with, learned_with, voted, after_vote}

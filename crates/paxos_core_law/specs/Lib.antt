@@ -11,3 +11,5 @@ pub mod Taken
 pub mod Takes
 pub mod Would
 pub mod Law
+pub use Rattle.paxos_core_model.specs.Agreement
+pub use Rattle.paxos_core_model.specs.OneCode

@@ -5,3 +5,5 @@
 
 pub mod law;
 pub mod step;
+
+pub use paxos_core_model::{promises, settled};

@@ -2,3 +2,11 @@ pub mod Agreement
 pub mod OneCode
 pub mod Tests
 pub use Rattle.paxos_core_invariant.specs.Invariant
+pub use Rattle.paxos_core_world.specs.Ballot
+pub use Rattle.paxos_core_world.specs.KeptPart
+pub use Rattle.paxos_core_world.specs.Quorum
+pub use Rattle.paxos_core_world.specs.Run
+pub use Rattle.paxos_core_world.specs.Step
+pub use Rattle.paxos_core_world.specs.World
+pub use Rattle.paxos_core_world.specs.declared.msg.Msg
+pub use Rattle.paxos_core_world.specs.declared.vote.Vote

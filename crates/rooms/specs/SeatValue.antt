@@ -6,7 +6,7 @@ use Rattle.rooms_cells.specs.declared.sight.Put.TheVariants as put
 use Rattle.rooms_cells.specs.Seen.{SightOf, names_of, value_at}
 use Rattle.rooms_seat.specs.declared.meeting.Meeting.{Meeting}
 use Rattle.rooms_seat.specs.declared.meeting.Meeting.TheVariants.{Same}
-use Rattle.rooms_state.specs.SeatState.{SeatState}
+use Rattle.rooms_seat.specs.SeatState.{SeatState}
 
 -- T is what an offer is
 pub record SeatValue (T : Type 0) : Type 0 where

@@ -13,5 +13,5 @@ pub use meeting::meet;
 pub use room::{Room, seats_of};
 pub use rooms_cells::Put;
 pub use rooms_seat::Meeting;
-pub use rooms_state::act::Act;
+pub use rooms_seat::act::Act;
 pub use seat::Seat;

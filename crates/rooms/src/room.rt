@@ -10,9 +10,8 @@ use crate::error::RoomError;
 use crate::seat::Seat;
 use lang_base::Pass;
 use offers::Offer;
-use paxos_core::{Kept, settled};
 use rooms_cells::{Put, Shelf, Sights};
-use rooms_seat::Dealer;
+use rooms_seat::{Dealer, Kept, settled};
 use std::alloc::Global;
 use std::sync::Arc;
 

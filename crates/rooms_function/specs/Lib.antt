@@ -7,4 +7,4 @@ pub use Rattle.rooms.specs.SeatValue
 pub use Rattle.cse_check.specs.contracts.pass.CsePass
 pub use Rattle.constprop_check.specs.contracts.pass.ConstPropPass
 pub use Rattle.constprop_check_rules.specs.declared.fact.Fact
-pub use Rattle.cse_check_rules.specs.declared.equation.Equation
+pub use Rattle.cse_check.specs.Equation

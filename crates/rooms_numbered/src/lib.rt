@@ -6,5 +6,7 @@ mod meeting;
 mod seats;
 
 pub use meeting::meet;
-pub use rooms_function::{Alloc, ConstProp, Cse, EquationLists, FactLists, PlaceLists};
+pub use rooms_function::{
+    Alloc, ConstProp, Cse, EquationLists, FactLists, FunctionSeat, PlaceLists,
+};
 pub use seats::Seats;

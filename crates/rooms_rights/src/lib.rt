@@ -7,3 +7,5 @@ mod rights;
 
 pub use opening::{FourRights, open_four, open_one};
 pub use rights::{Board, Rights};
+pub use rooms_rule::{CoreError, Kept, Msg, Node, Step, Vote, acceptor, proposer, settled};
+pub use rooms_table::view;

@@ -5,7 +5,7 @@ ghost use Rattle.rooms_table.specs.Opened.{part_at, CanOpenAll, ShowFirst};
 ghost use Rattle.rooms_rights.specs.Rights.{IsOpened};
 
 use crate::rights::{Board, Rights};
-use paxos_core::Kept;
+use rooms_rule::Kept;
 use rooms_rule::acceptor::AcceptorWord;
 use rooms_rule::proposer::ProposerWord;
 use rooms_table::rule::DealsRoom;

@@ -2,3 +2,6 @@ pub mod RunLemmas
 pub mod WordLemmas
 pub mod Advance
 pub mod Deal
+pub use Rattle.paxos_core.proofs.LateLemmas
+pub use Rattle.paxos_core.proofs.WorldLemmas
+pub use Rattle.paxos_core.proofs.Theorem

@@ -10,3 +10,5 @@ pub mod event;
 pub mod proposer;
 pub mod rule;
 pub mod view;
+
+pub use paxos_core::{CoreError, Kept, Msg, Node, Step, Vote, settled};

@@ -3,16 +3,16 @@ use Rattle.std.proofs.Common.{◌≡◌, ℕ, zero, suc, ◌<◌, [], ◌∷◌,
 use Rattle.paxos_core_world.specs.Settled.{Settled}
 use Rattle.paxos_core_world.specs.World.{nodes_of}
 use Rattle.rooms_rights.specs.Rights.{Held, MayDeal}
-use Rattle.rooms_rule.specs.Deal.{dealing}
-use Rattle.rooms_rule.specs.declared.view.Opening.{Opening}
-use Rattle.rooms_rule.specs.declared.view.View.{View}
-use Rattle.rooms_table.specs.RoomAt.{HasWords}
+use Rattle.rooms_state.specs.Deal.{dealing}
+use Rattle.rooms_state.specs.Opening.{Opening}
+use Rattle.rooms_state.specs.View.{View}
+use Rattle.rooms_rights.specs.RoomAt.{HasWords}
 use Rattle.rooms_state.specs.SeatState.{CanOpen}
-use Rattle.paxos_core_law.specs.NodeState.{IsRoomSize}
+use Rattle.rooms_rights.specs.NodeState.{IsRoomSize}
 use Rattle.rooms_state.proofs.Opened.{room_size}
-use Rattle.rooms_table.specs.Family.{opening_in}
-use Rattle.rooms_table.specs.Opened.{CanOpenAll}
-use Rattle.rooms_table.specs.declared.view.Openings.{Openings}
+use Rattle.rooms_rights.specs.Family.{opening_in}
+use Rattle.rooms_rights.specs.Opened.{CanOpenAll}
+use Rattle.rooms_rights.specs.Openings.{Openings}
 
 pub some_node : {n : ℕ} → IsRoomSize n → 0 < n
 some_node {n} (inl e) = omega arith

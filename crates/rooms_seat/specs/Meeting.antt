@@ -3,9 +3,9 @@ use Rattle.std.specs.Prelude.{◌≡◌, ℕ, ◌<◌, ◌≤◌, ◌⊎◌, Opt
 use Rattle.paxos_core_world.specs.Ballot.{Owns}
 use Rattle.paxos_core_world.specs.KeptPart.{IsWithinPromise}
 use Rattle.paxos_core_world.specs.World.{Has}
-use Rattle.paxos_core_late_offers.specs.LateOffer.{BelongsButOffer}
-use Rattle.paxos_core_law.specs.Proposer.{next_proposal}
-use Rattle.rooms_rule.specs.Views.{IsLegal, BeginsWith}
+use Rattle.rooms_rights.specs.LateOffer.{BelongsButOffer}
+use Rattle.rooms_rights.specs.Proposer.{next_proposal}
+use Rattle.rooms_state.specs.Views.{IsLegal, BeginsWith}
 use Rattle.rooms_state.specs.SeatState.{SeatState, seen_world, proposer_of}
 use Rattle.rooms_seat.specs.declared.meeting.Meeting.{Meeting}
 use Rattle.rooms_seat.specs.declared.meeting.Meeting.TheVariants.{Neither, One, Same}

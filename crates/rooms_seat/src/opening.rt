@@ -1,19 +1,18 @@
 ghost use Rattle.std.specs.Prelude.{◌≡◌, ◌<◌, ◌+◌, length, IfOk, OnOk, OnErr};
-ghost use Rattle.paxos_core_law.specs.NodeState.{IsRoomSize};
+ghost use Rattle.rooms_rights.specs.NodeState.{IsRoomSize};
 ghost use Rattle.paxos_core_world.specs.Settled.{Settled};
 ghost use Rattle.paxos_core_world.specs.World.{nodes_of};
-ghost use Rattle.rooms_rule.specs.Deal.{dealing};
-ghost use Rattle.rooms_table.specs.RoomAt.{HasWords};
+ghost use Rattle.rooms_state.specs.Deal.{dealing};
+ghost use Rattle.rooms_rights.specs.RoomAt.{HasWords};
 ghost use Rattle.rooms_state.specs.SeatState.{opened_acceptor, opened_proposer, opened_seat, opening_of, CanOpen};
 ghost use Rattle.rooms_seat.specs.Dealing.{room_opened, AreAsMany};
 
 use crate::seat::WordSeat;
-use paxos_core::Kept;
-use rooms_rights::{Rights, open_one};
-use rooms_rule::acceptor::AcceptorWord;
-use rooms_rule::proposer::ProposerWord;
-use rooms_rule::view::Opening;
-use rooms_table::view::Openings;
+use rooms_rights::view::Openings;
+use rooms_rights::{Kept, Rights, open_one};
+use rooms_state::acceptor::AcceptorWord;
+use rooms_state::proposer::ProposerWord;
+use rooms_state::view::Opening;
 use std::alloc::{AllocError, Global};
 use std::marker::Model;
 

@@ -1,27 +1,26 @@
 ghost use Rattle.std.specs.Prelude.{◌≡◌, ◌<◌, ◌↔◌, Some, None, IsErr, IsNone, OnErr, IfOk, IfSome};
-ghost use Rattle.paxos_core_law.specs.Proposer.{next_ballot, next_proposal};
-ghost use Rattle.paxos_core_law.specs.declared.step.Act.TheVariants as act;
+ghost use Rattle.rooms_rights.specs.Proposer.{next_ballot, next_proposal};
+ghost use Rattle.rooms_rights.specs.Act.TheVariants as act;
 ghost use Rattle.rooms_state.specs.Did.{Did, Forgotten, LookedAtAcceptor, LookedAtProposer};
 ghost use Rattle.rooms_state.specs.Would.{would, IsAmong};
-ghost use Rattle.paxos_core_law.specs.NodeState.{offered};
+ghost use Rattle.rooms_rights.specs.NodeState.{offered};
 ghost use Rattle.rooms_seat.specs.Meeting.{IsBounded, IsKnown};
 ghost use Rattle.rooms_state.specs.SeatState.{opened_seat, own_words, CanOpen, promise_of, seen_world, vote_by, vote_of};
-ghost use Rattle.rooms_table.specs.RoomAt.{HasWords};
-ghost use Rattle.paxos_core_law.specs.NodeState.{IsRoomSize};
-ghost use Rattle.rooms_rule.specs.Deal.{dealt, informed};
-ghost use Rattle.rooms_rule.specs.Heard.{after_hearing};
+ghost use Rattle.rooms_rights.specs.RoomAt.{HasWords};
+ghost use Rattle.rooms_rights.specs.NodeState.{IsRoomSize};
+ghost use Rattle.rooms_state.specs.Deal.{dealt, informed};
+ghost use Rattle.rooms_state.specs.Heard.{after_hearing};
 ghost use Rattle.paxos_core_world.specs.World.{Has};
 
 use crate::opening::{opened_acceptor, opened_proposer};
-use paxos_core::{CoreError, Kept, Msg, Node, Step, Vote};
-use rooms_rights::Rights;
-use rooms_rule::acceptor::AcceptorWord;
-use rooms_rule::proposer::ProposerWord;
-use rooms_rule::rule::{
+use rooms_rights::{CoreError, Kept, Msg, Node, Rights, Step, Vote};
+use rooms_state::acceptor::AcceptorWord;
+use rooms_state::act::Act;
+use rooms_state::proposer::ProposerWord;
+use rooms_state::rule::{
     Accepts, Forgets, LooksAtAcceptor, LooksAtProposer, Promises, Proposes, Starts,
 };
-use rooms_rule::view::Opening;
-use rooms_state::act::Act;
+use rooms_state::view::Opening;
 use std::marker::Model;
 
 /// One node's right to store its two words of a room and to load all. Its calls take no lock, wait for nobody and return.

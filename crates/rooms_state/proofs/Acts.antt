@@ -20,20 +20,20 @@ use Rattle.paxos_core_law.specs.Reached.{IsReached}
 use Rattle.paxos_core_law.specs.Would.{after_act, next_promise, next_vote}
 use Rattle.paxos_core_law.specs.declared.step.Act.{Act}
 use Rattle.paxos_core_law.specs.declared.step.Act.TheVariants as act
-use Rattle.paxos_core_late_offers.specs.LateOffer.{taken_late_by_propose}
-use Rattle.paxos_core_late_offers.proofs.LateLemmas.{offers_may_be_late}
-use Rattle.rooms_rule.specs.Words.{proposed_in, IsProposerWord, IsAcceptorWord}
-use Rattle.rooms_rule.specs.declared.acceptor.AcceptorWord.{AcceptorWord}
-use Rattle.rooms_rule.specs.declared.proposer.ProposerWord.{ProposerWord}
-use Rattle.rooms_rule.specs.declared.view.Opening.{Opening}
-use Rattle.rooms_rule.specs.declared.view.View.{View}
-use Rattle.rooms_rule.specs.Rule.{RoomRule}
-use Rattle.rooms_rule.specs.Steps.{Advances, AreTakenBy, Took, StoresProposer, StoresAcceptor, StartStore, ProposeStore, PromiseStore, AcceptStore}
-use Rattle.rooms_rule.specs.Views.{world_after}
-use Rattle.rooms_rule.specs.WordsOf.{IsProposerOf}
+use Rattle.rooms_steps.specs.LateOffer.{taken_late_by_propose}
+use Rattle.rooms_steps.proofs.LateLemmas.{offers_may_be_late}
+use Rattle.rooms_steps.specs.Words.{proposed_in, IsProposerWord, IsAcceptorWord}
+use Rattle.rooms_steps.specs.AcceptorWord.{AcceptorWord}
+use Rattle.rooms_steps.specs.ProposerWord.{ProposerWord}
+use Rattle.rooms_steps.specs.Opening.{Opening}
+use Rattle.rooms_steps.specs.View.{View}
+use Rattle.rooms_steps.specs.Rule.{RoomRule}
+use Rattle.rooms_steps.specs.Steps.{Advances, AreTakenBy, Took, StoresProposer, StoresAcceptor, StartStore, ProposeStore, PromiseStore, AcceptStore}
+use Rattle.rooms_steps.specs.Views.{world_after}
+use Rattle.rooms_steps.specs.WordsOf.{IsProposerOf}
 use Rattle.rooms_steps.proofs.HearLemmas.{invariant_of}
 use Rattle.rooms_steps.proofs.OfferLemmas.{message_offered, proposal_offered, proposed_offered}
-use Rattle.rooms_rule.proofs.RunLemmas.{legal_reached, reached_more, kept_of}
+use Rattle.rooms_steps.proofs.RunLemmas.{legal_reached, reached_more, kept_of}
 use Rattle.rooms_steps.proofs.Stores.{keeps_if, stores_promise, stores_vote, stores_start, stores_proposal}
 use Rattle.rooms_state.specs.SeatState.{SeatState, no_proposer, seen_world, vote_by}
 use Rattle.rooms_state.specs.Sound.{IsSound}

@@ -17,8 +17,8 @@ use Rattle.paxos_core_law.specs.declared.step.Step.{Step}
 use Rattle.paxos_core_law.specs.declared.step.Step.TheVariants as step
 use Rattle.paxos_core_law.proofs.BallotLemmas.{least_above_is}
 use Rattle.paxos_core_law.proofs.WouldLemmas.{told_is_done, proposed_once}
-use Rattle.rooms_rule.specs.Heard.{after_shown_vote, after_hearing}
-use Rattle.rooms_rule.specs.declared.acceptor.AcceptorWord.{AcceptorWord}
+use Rattle.rooms_steps.specs.Heard.{after_shown_vote, after_hearing}
+use Rattle.rooms_steps.specs.AcceptorWord.{AcceptorWord}
 use Rattle.rooms_steps.proofs.HearLemmas.{me_hearing}
 use Rattle.rooms_state.specs.declared.act.Act.{Act}
 use Rattle.rooms_state.specs.declared.act.Act.TheVariants as act

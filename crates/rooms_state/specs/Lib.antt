@@ -2,3 +2,14 @@ pub mod SeatState
 pub mod Sound
 pub mod Did
 pub mod Would
+pub use Rattle.rooms_steps.specs.Deal
+pub use Rattle.rooms_steps.specs.Events
+pub use Rattle.rooms_steps.specs.Heard
+pub use Rattle.rooms_steps.specs.Steps
+pub use Rattle.rooms_steps.specs.Views
+pub use Rattle.rooms_steps.specs.Words
+pub use Rattle.rooms_steps.specs.AcceptorWord
+pub use Rattle.rooms_steps.specs.Event
+pub use Rattle.rooms_steps.specs.ProposerWord
+pub use Rattle.rooms_steps.specs.Opening
+pub use Rattle.rooms_steps.specs.View

@@ -3,3 +3,5 @@
 #![tactic(auto)]
 
 pub mod act;
+
+pub use rooms_steps::{acceptor, proposer, rule, view};

@@ -6,13 +6,13 @@ use Rattle.paxos_core_world.specs.World.{World, Has}
 use Rattle.paxos_core_world.specs.declared.msg.Msg.TheVariants.{Promise, Accepted}
 use Rattle.paxos_core_world.specs.declared.vote.Vote.{Vote}
 use Rattle.paxos_core_invariant.specs.Invariant.{Invariant}
-use Rattle.paxos_core_model.proofs.Theorem.{holds}
-use Rattle.paxos_core_law.specs.Acceptor.{is_vote}
-use Rattle.paxos_core_law.specs.Learner.{is_report, is_under_way, notes_promise, after_promise, notes_vote}
-use Rattle.paxos_core_law.specs.NodeState.{NodeState}
-use Rattle.paxos_core_law.specs.Reached.{IsReached}
-use Rattle.paxos_core_late_offers.specs.LateOffer.{BelongsButOffer, TakesLate}
-use Rattle.paxos_core_late_offers.proofs.LateLemmas.{offers_may_be_late}
+use Rattle.rooms_rule.proofs.Theorem.{holds}
+use Rattle.rooms_rule.specs.Acceptor.{is_vote}
+use Rattle.rooms_rule.specs.Learner.{is_report, is_under_way, notes_promise, after_promise, notes_vote}
+use Rattle.rooms_rule.specs.NodeState.{NodeState}
+use Rattle.rooms_rule.specs.Reached.{IsReached}
+use Rattle.rooms_rule.specs.LateOffer.{BelongsButOffer, TakesLate}
+use Rattle.rooms_rule.proofs.LateLemmas.{offers_may_be_late}
 use Rattle.rooms_rule.specs.Heard.{after_shown_vote, taken_on_vote, after_hearing, taken_by_hearing}
 
 pub invariant_of : (n : ℕ) (w : World) → IsReached n w → Invariant n w

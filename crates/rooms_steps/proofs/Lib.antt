@@ -3,3 +3,8 @@ pub mod HearLemmas
 pub mod Looks
 pub mod Stores
 pub mod Stays
+pub use Rattle.rooms_rule.proofs.Advance
+pub use Rattle.rooms_rule.proofs.Deal
+pub use Rattle.rooms_rule.proofs.RunLemmas
+pub use Rattle.rooms_rule.proofs.WordLemmas
+pub use Rattle.rooms_rule.proofs.LateLemmas

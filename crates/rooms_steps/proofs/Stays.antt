@@ -9,8 +9,8 @@ use Rattle.paxos_core_world.specs.World.{World, Has, put}
 use Rattle.paxos_core_world.specs.declared.msg.Msg.{Msg}
 use Rattle.paxos_core_world.specs.declared.msg.Msg.TheVariants.{Prepare, Promise, Propose, Accepted}
 use Rattle.paxos_core_world.specs.declared.vote.Vote.{Vote}
-use Rattle.paxos_core_law.proofs.WorldLemmas.{grows_by}
-use Rattle.paxos_core_law.specs.Reached.{IsReached}
+use Rattle.rooms_rule.proofs.WorldLemmas.{grows_by}
+use Rattle.rooms_rule.specs.Reached.{IsReached}
 use Rattle.rooms_rule.specs.declared.acceptor.AcceptorWord.{AcceptorWord}
 use Rattle.rooms_rule.specs.declared.proposer.ProposerWord.{ProposerWord}
 use Rattle.rooms_rule.specs.NotBelow.{StandsIn, ProposerNotBelow, VoteNotBelow, AcceptorNotBelow}

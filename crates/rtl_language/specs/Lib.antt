@@ -13,3 +13,6 @@ pub use Rattle.lang_base.specs.Behaviour
 pub use Rattle.lang_base.specs.Machine
 pub use Rattle.rtl_parts.specs.declared.act.Act
 pub use Rattle.rtl_parts.specs.MachineFrames
+pub use Rattle.rtl_parts.specs.MachineTable
+pub use Rattle.rtl_parts.specs.declared.arguments.Arguments
+pub use Rattle.rtl_parts.specs.declared.test.Test

@@ -13,5 +13,6 @@ mod writing;
 pub use copying::copy_instruction;
 pub use function::Function;
 pub use instruction::Instruction;
+pub use lang_parts::{ReadOne, WriteOne, push_each, read_so_many};
 pub use language::Rtl;
-pub use rtl_parts::Register;
+pub use rtl_parts::{Act, Arguments, Register, Test};

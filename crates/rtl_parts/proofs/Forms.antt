@@ -23,8 +23,8 @@ use Rattle.rtl_parts.specs.declared.arguments.Arguments.{Arguments}
 use Rattle.rtl_parts.specs.declared.arguments.Arguments.TheVariants.{One, Two}
 use Rattle.rtl_parts.specs.declared.act.Act.{Act}
 use Rattle.rtl_parts.specs.declared.act.Act.TheVariants.{Nop, Constant, Move, Operate, Load, Store, Put}
-use Rattle.lang_parts.specs.Limits.{global}
-use Rattle.lang_parts.proofs.Limits.{global_form}
+use Rattle.machine.specs.Limits.{global}
+use Rattle.machine.proofs.Limits.{global_form}
 use Rattle.rtl_parts.specs.Fits.{parameter_limit, register_limit, RegisterFits, TargetFits, GlobalFits, ArgumentsFit, ActFits, TestFits, ParametersFit}
 use Rattle.rtl_parts.specs.Spelling.{byte_text, register_text, registers_text, target_text, arguments_text, test_text, act_code, act_body, frame_text}
 use Rattle.rtl_parts.specs.Reading.{register, target, arguments, asked, nop, constant, copying, operation, load, store, put, acts, act, parameter, parameters, lies_within, frame}

@@ -4,3 +4,4 @@ pub mod Fits
 pub mod Spelling
 pub mod Reading
 pub use Rattle.machine.specs.Frames as MachineFrames
+pub use Rattle.ints.specs.MachineTable

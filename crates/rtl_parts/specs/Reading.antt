@@ -11,7 +11,7 @@ use Rattle.rtl_parts.specs.declared.arguments.Arguments.TheVariants.{One, Two}
 use Rattle.rtl_parts.specs.declared.act.Act.{Act}
 use Rattle.rtl_parts.specs.declared.act.Act.TheVariants.{Nop, Constant, Move, Operate, Load, Store, Put}
 use Rattle.rtl_parts.specs.declared.test.Test.{Test}
-use Rattle.lang_parts.specs.Limits.{global}
+use Rattle.machine.specs.Limits.{global}
 use Rattle.rtl_parts.specs.Fits.{parameter_limit, register_limit}
 
 -- one of so many registers

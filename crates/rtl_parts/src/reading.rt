@@ -12,7 +12,7 @@ use crate::register::Register;
 use crate::test::Test;
 use ints::{Cond, Op};
 use lang_base::{FormError, Row, read_byte, read_count, read_u16, read_u16_below, read_u32};
-use lang_parts::{ReadOne, read_global, read_so_many};
+use machine::{ReadOne, read_global, read_so_many};
 use std::alloc::Global;
 
 /// One of so many registers.

@@ -10,7 +10,7 @@ use crate::arguments::Arguments;
 use crate::register::Register;
 use crate::test::Test;
 use lang_base::{NoMemory, push_byte, push_u16, push_u32};
-use lang_parts::{Half, push_each};
+use machine::{Half, push_each};
 
 /// The registers of a list, behind their number.
 pub fn push_registers(out: &mut Vec<u8>, registers: &[Register]) -> Result<(), NoMemory>

@@ -2,4 +2,9 @@ pub mod Edges
 pub mod Certificates
 pub mod Laws
 pub mod Handed
-pub use Rattle.rtl_passes.specs.Faults
+pub use Rattle.rtl_passes_filled.specs.Accepted
+pub use Rattle.rtl_passes_filled.specs.Known
+pub use Rattle.rtl_passes_filled.specs.Places
+pub use Rattle.rtl_passes_marks.specs.Function
+pub use Rattle.rtl_passes_marks.specs.Meaning
+pub use Rattle.rtl_passes_marks.specs.Instruction

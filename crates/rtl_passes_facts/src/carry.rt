@@ -8,7 +8,7 @@ ghost use Rattle.rtl_passes_filled.specs.Places.{IsFirstFrom};
 
 use crate::rules::Rules;
 use lang_base::NoMemory;
-use rtl_language::Instruction;
+use rtl_passes_marks::Instruction;
 
 /// Finds the first fact that has no lower place than this, by halves.
 fn first_from<R: Rules>(facts: &[R::Fact], least: u64) -> usize

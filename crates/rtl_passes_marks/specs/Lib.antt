@@ -7,3 +7,17 @@ pub mod RowForm
 pub mod Within
 pub mod Short
 pub mod Handing
+pub use Rattle.rtl_passes.specs.Effects
+pub use Rattle.rtl_passes.specs.Facts
+pub use Rattle.rtl_passes.specs.Faults
+pub use Rattle.rtl_passes.specs.Shape
+pub use Rattle.rtl_passes.specs.Function
+pub use Rattle.rtl_passes.specs.Meaning
+pub use Rattle.rtl_passes.specs.Instruction
+pub use Rattle.rtl_passes.specs.Data
+pub use Rattle.rtl_passes.specs.ListForm
+pub use Rattle.rtl_passes.specs.Acts
+pub use Rattle.rtl_passes.specs.Fits
+pub use Rattle.rtl_passes.specs.Act
+pub use Rattle.rtl_passes.specs.Arguments
+pub use Rattle.rtl_passes.specs.Test

@@ -5,7 +5,7 @@ ghost use Rattle.rtl_passes_marks.specs.Edges.{edges_of};
 ghost use Rattle.rtl_passes_marks.specs.Handing.{is_fed_by, feeds_by, feeds_one, handed_to, handed_on as handed};
 
 use lang_base::{NoMemory, Row};
-use rtl_language::Instruction;
+use rtl_passes::Instruction;
 use std::alloc::Global;
 use std::mem;
 

@@ -8,7 +8,7 @@ ghost use Rattle.rtl_passes_marks.specs.Tables.{once_more as once_more_by, noted
 ghost use Rattle.rtl_passes_marks.specs.declared.marks.Came.TheVariants.{Never};
 
 use lang_base::NoMemory;
-use rtl_language::{Function, Instruction};
+use rtl_passes::{Function, Instruction};
 use std::alloc::Global;
 
 /// From where edges come to a node.

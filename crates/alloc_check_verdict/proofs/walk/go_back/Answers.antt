@@ -5,9 +5,9 @@ use Rattle.std.proofs.lemmas.List.{get_or_default}
 use Rattle.std.proofs.lemmas.Option.{slice_get_within}
 use Rattle.alloc_check_rules.specs.Pairs.{successors_of}
 use Rattle.alloc_check_rules.specs.Rules.{equations_at}
-use Rattle.alloc_check_fill.specs.Fill.{needed}
-use Rattle.alloc_check_fill.specs.Sets.{SameSet}
-use Rattle.alloc_check_fill.proofs.Blocks.{same_through}
+use Rattle.alloc_check_lists.specs.Fill.{needed}
+use Rattle.alloc_check_lists.specs.Sets.{SameSet}
+use Rattle.alloc_check_lists.proofs.Blocks.{same_through}
 use Rattle.alloc_check_laws.specs.Allocated.{filled}
 use Rattle.alloc_check_lists.specs.Ranks.{RiseFrom}
 use Rattle.alloc_check_verdict.specs.Right.{BeginsRight}

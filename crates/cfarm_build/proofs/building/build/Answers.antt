@@ -6,9 +6,9 @@ use Rattle.std.specs.List.{AllByRecursion}
 use Rattle.c_checker_rules.specs.Checked.{program_tree}
 use Rattle.cminor_lowering.specs.Programs.{low}
 use Rattle.rtlgen.specs.Refused.{HasFewNodes}
-use Rattle.farm_nodes_node.specs.Held.{fault_in}
-use Rattle.farm_nodes_passes.specs.Fours.{fours_of}
-use Rattle.farm_nodes_source.specs.declared.source.Source.{Source}
+use Rattle.cfarm_build_linking.specs.Held.{fault_in}
+use Rattle.cfarm_build_linking.specs.Fours.{fours_of}
+use Rattle.cfarm_build_linking.specs.Source.{Source}
 use Rattle.cfarm_build.specs.Nodes.{HasFewFunctions, lowest_failed}
 use Rattle.cfarm_build.proofs.Made.{built_so, refused_so}
 use Rattle.cfarm_build.proofs.Turning.{Meets, Turns, failed_same, have_met_fit, meets_there, ran, share, share_met, share_such}

@@ -1,7 +1,7 @@
 -- Two of the nodes change, one on each side of the cut.
 use Rattle.std.proofs.Common.{◌<◌, ◌++◌, length, set, sym, subst, arith}
 use Rattle.std.specs.List.{AllZip}
-use Rattle.farm_nodes_passes.specs.Fours.{fours_of}
+use Rattle.cfarm_build_linking.specs.Fours.{fours_of}
 use Rattle.cfarm_build.proofs.Zips.{append, one_set}
 use Rattle.cfarm_build.proofs.Turning.{Meets, meets_none}
 use Rattle.cfarm_build.proofs.meeting.meet_at.Goals as goal

@@ -1,7 +1,7 @@
 -- Meetings behind meetings.
 use Rattle.std.proofs.Common.{sym, subst}
 use Rattle.std.specs.Arc.{arc_value}
-use Rattle.farm_nodes_passes.specs.Fours.{fours_of}
+use Rattle.cfarm_build_linking.specs.Fours.{fours_of}
 use Rattle.cfarm_build.specs.Nodes.{HasFewFunctions}
 use Rattle.cfarm_build.proofs.Zips.{all_same, kept}
 use Rattle.cfarm_build.proofs.Turning.{Meets, meets_none, meets_through}

@@ -1,5 +1,5 @@
 use Rattle.std.specs.List.{AllZip}
-use Rattle.farm_nodes_passes.specs.Fours.{fours_of}
+use Rattle.cfarm_build_linking.specs.Fours.{fours_of}
 use Rattle.cfarm_build.proofs.Turning.{Meets}
 use Rattle.cfarm_build.proofs.meeting.meet_neighbours.Given as goal
 

@@ -1,8 +1,8 @@
 -- Rounds behind rounds.
 use Rattle.std.proofs.Common.{arith}
-use Rattle.farm_nodes_passes.specs.Fours.{fours_of}
-use Rattle.farm_nodes_node.specs.Waiting.{IsWaiting}
-use Rattle.farm_nodes_threads.proofs.Coming.{all_stay}
+use Rattle.cfarm_build_linking.specs.Fours.{fours_of}
+use Rattle.cfarm_build_linking.specs.Waiting.{IsWaiting}
+use Rattle.cfarm_build_linking.proofs.Coming.{all_stay}
 use Rattle.cfarm_build.proofs.Turning.{turns_through}
 use Rattle.cfarm_build.proofs.running.run_rounds.Goals as goal
 

@@ -1,8 +1,8 @@
 use Rattle.std.proofs.Common.{◌≤◌}
 use Rattle.std.specs.List.{AllByRecursion, AllZip}
-use Rattle.farm_nodes_passes.specs.Fours.{fours_of}
-use Rattle.farm_nodes_node.specs.Held.{IsSoundNode}
-use Rattle.farm_nodes_node.specs.Waiting.{IsWaiting}
+use Rattle.cfarm_build_linking.specs.Fours.{fours_of}
+use Rattle.cfarm_build_linking.specs.Held.{IsSoundNode}
+use Rattle.cfarm_build_linking.specs.Waiting.{IsWaiting}
 use Rattle.cfarm_build.proofs.Turning.{Turns}
 use Rattle.cfarm_build.proofs.running.run_rounds.Given as goal
 

@@ -5,8 +5,8 @@ use Rattle.std.specs.String.{string_bytes}
 use Rattle.std.proofs.lemmas.List.{length-map}
 use Rattle.c_checker_rules.specs.Checked.{program_tree}
 use Rattle.cminor_lowering.specs.Programs.{low}
-use Rattle.linker.specs.Chains.{names_of}
-use Rattle.linker.specs.Numbers.{function_of_link_error}
+use Rattle.farm_nodes_linked.specs.Chains.{names_of}
+use Rattle.farm_nodes_linked.specs.Numbers.{function_of_link_error}
 use Rattle.farm_nodes_linked.specs.Learned.{learned_by, IsUndecided}
 use Rattle.farm_nodes_linked.specs.Refused.{IsRefused}
 use Rattle.cfarm_build_linking.specs.Node.{node}

@@ -1,6 +1,6 @@
 -- Functions of the passes may be sent to other threads.
 use denote.Param.Send.{sendable}
-use Rattle.farm_nodes_passes.proofs.Sent.{function_send, function_sync}
+use Rattle.farm_nodes_linked.proofs.Sent.{function_send, function_sync}
 use Rattle.cfarm_build_linking.proofs.numbers.is_linked.Goals as goal
 
 pub has_learned_offer-requires-then-has_learned_offer-2-send-P-Out-Fun : goal.has_learned_offer-requires-then-has_learned_offer-2-send-P-Out-Fun

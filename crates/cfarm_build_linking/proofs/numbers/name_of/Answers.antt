@@ -2,7 +2,7 @@
 use Rattle.std.proofs.Common.{get_or, Some, sym, ap, subst, ◌∙◌}
 use Rattle.c_lexer_parts.specs.Lexemes.{IsName}
 use Rattle.c_program.specs.declared.function.Function.{Function}
-use Rattle.farm_nodes_source.proofs.Numbered.{name_at, named_at}
+use Rattle.cfarm_build_faults.proofs.Numbered.{name_at, named_at}
 use Rattle.cfarm_build_linking.proofs.numbers.name_of.Goals as goal
 
 pub text_of-requires : goal.text_of-requires

@@ -1,4 +1,4 @@
-use Rattle.farm_nodes_source.proofs.Names.{name_is_text}
+use Rattle.cfarm_build_faults.proofs.Names.{name_is_text}
 use Rattle.cfarm_build_linking.proofs.numbers.text_of.Goals as goal
 
 pub unreachable-requires : goal.unreachable-requires

@@ -1,7 +1,7 @@
 use Rattle.std.proofs.Common.{◌≡◌, sym, subst}
-use Rattle.rooms_state.specs.declared.act.Act.{Act}
-use Rattle.rooms_state.specs.Would.{Acted}
-use Rattle.rooms_state.proofs.Told.{acted_start, acted_promise, acted_propose, acted_accept}
+use Rattle.rooms_seat.specs.Act.{Act}
+use Rattle.rooms_seat.specs.Would.{Acted}
+use Rattle.rooms_seat.proofs.Told.{acted_start, acted_promise, acted_propose, acted_accept}
 use Rattle.farm_nodes_acting.proofs.acting.take.Goals as goal
 
 pub returns-in-Start : goal.returns-in-Start

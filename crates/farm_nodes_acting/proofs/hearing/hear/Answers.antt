@@ -1,6 +1,6 @@
 use Rattle.std.proofs.Common.{◌≡◌, ◌≢◌, ℕ, sym, ap, arith}
-use Rattle.rooms_state.specs.SeatState.{SeatState}
-use Rattle.rooms_state.proofs.Told.{notes_of}
+use Rattle.rooms_seat.specs.SeatState.{SeatState}
+use Rattle.rooms_seat.proofs.Told.{notes_of}
 use Rattle.farm_nodes_acting.proofs.Answering.{heard_through, heard_proposer, heard_acceptor, quiet_proposer, quiet_acceptor}
 use Rattle.farm_nodes_acting.proofs.Results.{grown_at}
 use Rattle.farm_nodes_acting.proofs.hearing.hear.Goals as goal

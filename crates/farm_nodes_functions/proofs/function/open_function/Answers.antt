@@ -6,8 +6,8 @@ use Rattle.paxos_core_law.specs.NodeState.{IsRoomSize}
 use Rattle.paxos_core_world.specs.KeptPart.{KeptPart}
 use Rattle.rooms_function.specs.Opened.{kept_in}
 use Rattle.rooms_function.specs.Opened as by_pass
-use Rattle.farm_nodes_passes.specs.Numbers.{room_at}
-use Rattle.farm_nodes_passes.specs.declared.which.Which.TheVariants.{First, Second, Third, Fourth}
+use Rattle.farm_nodes_opening.specs.Numbers.{room_at}
+use Rattle.farm_nodes_opening.specs.Which.TheVariants.{First, Second, Third, Fourth}
 use Rattle.farm_nodes_lists.specs.Rows.{offers_of, rows_of}
 use Rattle.farm_nodes_opening.specs.Kept.{four_kept, kept_of}
 use Rattle.farm_nodes_opening.proofs.OneRoom.{offers_as_given}

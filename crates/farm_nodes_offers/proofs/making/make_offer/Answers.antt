@@ -1,7 +1,7 @@
 use Rattle.std.proofs.Common.{sym, ap, subst}
 use Rattle.acceptor_log_form.specs.Text.{room_of}
 use Rattle.acceptor_log.specs.Acknowledged.{acknowledged}
-use Rattle.rooms_state.specs.SeatState.{SeatState}
+use Rattle.farm_nodes_acting.specs.SeatState.{SeatState}
 use Rattle.farm_nodes_acting.proofs.Runs.{one, perhaps}
 use Rattle.farm_nodes_acting.proofs.Steps.{more}
 use Rattle.farm_nodes_offers.specs.declared.halt.Halt.{Halt}

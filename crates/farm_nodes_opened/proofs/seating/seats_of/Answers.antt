@@ -11,10 +11,10 @@ use Rattle.alloc_check.specs.contracts.pass.AllocPass.TheImpl as allocation
 use Rattle.linearize_check.specs.contracts.pass.LinearizePass.TheImpl as order
 use Rattle.paxos_core_law.specs.NodeState.{IsRoomSize}
 use Rattle.paxos_core_world.specs.KeptPart.{KeptPart}
-use Rattle.farm_nodes_passes.specs.declared.which.Which.TheVariants.{First, Second, Third, Fourth}
+use Rattle.farm_nodes_records.specs.Which.TheVariants.{First, Second, Third, Fourth}
 use Rattle.farm_nodes_lists.specs.Rows.{rows_of}
-use Rattle.farm_nodes_opening.specs.Kept.{AreSettled, IsOfferedIn, IsSettledIn}
-use Rattle.farm_nodes_opening.specs.Left.{AreLeftIn}
+use Rattle.farm_nodes_functions.specs.Kept.{AreSettled, IsOfferedIn, IsSettledIn}
+use Rattle.farm_nodes_functions.specs.Left.{AreLeftIn}
 use Rattle.farm_nodes_functions.specs.Opened.{AreOfferedIn, AreOpenedIn, IsSettledBefore}
 use Rattle.farm_nodes_opened.specs.Refused.{HasBadRecord, HasRefusedOffer}
 use Rattle.farm_nodes_opened.specs.Seated.{first_seat, second_seat, third_seat, fourth_seat}

@@ -1,6 +1,6 @@
 use Rattle.std.proofs.Common.{◌||◌, option_copied, Some, sym, ◌∙◌, subst}
 use Rattle.rooms_state.specs.SeatState.{SeatState}
-use Rattle.farm_nodes_acting.proofs.Results.{Grown, grown_on}
+use Rattle.farm_nodes_leading.proofs.Results.{Grown, grown_on}
 use Rattle.farm_nodes_offers.specs.declared.halt.Halt.{Halt}
 use Rattle.farm_nodes_offers.specs.Halted.{fault_of}
 use Rattle.farm_nodes_offers.specs.Pending.{IsTextOf, MayPendOn}

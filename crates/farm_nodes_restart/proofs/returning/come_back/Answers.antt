@@ -2,8 +2,8 @@ use Rattle.std.proofs.Common.{◌*◌, List, length, sym, ◌∙◌, subst, inr}
 use Rattle.acceptor_log_form.specs.declared.record.Record.{Record}
 use Rattle.acceptor_log_form.specs.Order.{AreInOrder}
 use Rattle.acceptor_log_form.specs.Text.{StandsFor}
-use Rattle.farm_nodes_passes.specs.Offers.{IsConstants, IsExpressions, IsAllocation, IsOrder}
-use Rattle.farm_nodes_passes.specs.Fours.{fours_of}
+use Rattle.farm_nodes_restart_records.specs.Offers.{IsConstants, IsExpressions, IsAllocation, IsOrder}
+use Rattle.farm_nodes_restart_records.specs.Fours.{fours_of}
 use Rattle.farm_nodes_restart.specs.Returned.{HoldsBack}
 use Rattle.farm_nodes_restart.proofs.Afterwards.{returned_over}
 use Rattle.farm_nodes_restart.proofs.returning.come_back.Goals as goal

@@ -1,5 +1,5 @@
 use Rattle.std.proofs.Common.{◌≡◌, length}
-use Rattle.farm_nodes_passes.specs.Fours.{fours_of}
+use Rattle.farm_nodes_restart_records.specs.Fours.{fours_of}
 use Rattle.farm_nodes_restart.specs.Returned.{HaveForgotten}
 use Rattle.farm_nodes_restart_seat.proofs.Places.{UpTo}
 use Rattle.farm_nodes_restart.proofs.returning.forget_all.Given as goal

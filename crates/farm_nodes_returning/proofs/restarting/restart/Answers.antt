@@ -3,7 +3,7 @@ use Rattle.std.proofs.lemmas.List.{length-map}
 use Rattle.acceptor_log_form.specs.declared.header.Header.{Header}
 use Rattle.acceptor_log_form.specs.Order.{AreInOrder}
 use Rattle.farm_nodes_acting.specs.declared.stop.Pending.{Pending}
-use Rattle.farm_nodes_passes.specs.Fours.{four_of, fours_of}
+use Rattle.farm_nodes_node.specs.Fours.{four_of, fours_of}
 use Rattle.acceptor_log.specs.Acknowledged.{acknowledged}
 use Rattle.farm_nodes_restart.specs.Returned.{HasCause}
 use Rattle.farm_nodes_restart.specs.Seats.{HaveComeBack}

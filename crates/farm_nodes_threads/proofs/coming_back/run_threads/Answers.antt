@@ -1,6 +1,6 @@
 use Rattle.std.proofs.Common.{◌≡◌, map, length, sym, ap, ◌∙◌, subst, subst₂, arith}
 use Rattle.std.specs.List.{AllByRecursion, AllZip}
-use Rattle.farm_nodes_passes.specs.Fours.{fours_of}
+use Rattle.farm_nodes_node.specs.Fours.{fours_of}
 use Rattle.farm_nodes_node.specs.Held.{IsSoundNode}
 use Rattle.farm_nodes_node.specs.Waiting.{IsWaiting}
 use Rattle.farm_nodes_threads.specs.CameBack.{CameBack}

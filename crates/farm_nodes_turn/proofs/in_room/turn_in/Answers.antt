@@ -3,9 +3,9 @@ use Rattle.rand_pcg.specs.Pcg.{pcg32}
 use Rattle.rooms_state.specs.declared.act.Act.TheVariants as asked
 use Rattle.rooms_state.specs.Would.{would}
 use Rattle.farm_nodes_acting.specs.Quiet.{IsQuiet}
-use Rattle.farm_nodes_leading.specs.Leading.{HasLed}
-use Rattle.farm_nodes_offers.specs.declared.halt.Halt.{Halt}
-use Rattle.farm_nodes_offers.specs.Halted.{left_over, HasHaltCause}
+use Rattle.farm_nodes_playing.specs.Leading.{HasLed}
+use Rattle.farm_nodes_playing.specs.Halt.{Halt}
+use Rattle.farm_nodes_playing.specs.Halted.{left_over, HasHaltCause}
 use Rattle.farm_nodes_passes.specs.declared.which.Which.{Which}
 use Rattle.farm_nodes_passes.specs.Numbers.{function_of, pass_of}
 use Rattle.farm_nodes_passes.specs.Pending.{HasPending, HavePending}

@@ -1,5 +1,5 @@
 use Rattle.std.proofs.Common.{◌≡◌, sym, subst}
-use Rattle.rooms_rule.specs.Deal.{informed}
+use Rattle.rooms_state.specs.Deal.{informed}
 use Rattle.rooms_seat.specs.Meeting.{HaveMet}
 use Rattle.rooms_state.specs.SeatState.{SeatState}
 use Rattle.rooms_seat.proofs.Meetings.{have_met, met_agree}

@@ -1,4 +1,4 @@
-use Rattle.farm_nodes_passes.specs.Fours.{fours_of}
+use Rattle.farm_nodes_compiling.specs.Fours.{fours_of}
 use Rattle.farm_nodes_opened.specs.Held.{IsSoundNode}
 use Rattle.farm_nodes_opened.specs.Waiting.{IsWaiting}
 use Rattle.farm_nodes.proofs.Fit.{all_both}

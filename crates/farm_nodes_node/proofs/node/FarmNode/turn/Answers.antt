@@ -5,8 +5,8 @@ use Rattle.farm_nodes_turn.specs.Numbers.{pass_of}
 use Rattle.farm_nodes_node.specs.declared.halted.Halted.{Halted}
 use Rattle.farm_nodes_turn.specs.Fours.{four_of, fours_of}
 use Rattle.farm_nodes_node.specs.Told.{failure_of}
-use Rattle.farm_nodes_offers.specs.declared.halt.Fault.{Fault}
-use Rattle.farm_nodes_offers.specs.Halted.{HasHaltCause}
+use Rattle.farm_nodes_turn.specs.Fault.{Fault}
+use Rattle.farm_nodes_turn.specs.Halted.{HasHaltCause}
 use Rattle.farm_nodes_turn.specs.Turned.{IsTooLargeFor}
 use Rattle.farm_nodes_node.specs.Held.{fault_in, pending_in, IsSoundNode}
 use Rattle.farm_nodes_node.specs.Stood.{TurnsInto}

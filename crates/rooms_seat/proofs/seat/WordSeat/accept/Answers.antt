@@ -1,7 +1,7 @@
 use Rattle.std.proofs.Common.{◌≡◌, ℕ, ◌<◌, Option, IfSome, get_or, sym, ◌∙◌, subst}
 use Rattle.paxos_core_world.specs.declared.vote.Vote.{Vote}
-use Rattle.paxos_core_law.specs.declared.step.Act.TheVariants as act
-use Rattle.rooms_rule.specs.Steps.{StoresAcceptor}
+use Rattle.rooms_rights.specs.Act.TheVariants as act
+use Rattle.rooms_state.specs.Steps.{StoresAcceptor}
 use Rattle.rooms_state.specs.SeatState.{SeatState, no_proposer}
 use Rattle.rooms_state.proofs.Acts.{given_ballot, given_value, vote_allowed, vote_seen, vote_sound}
 use Rattle.rooms_seat.proofs.Steps.{word_below}

@@ -1,0 +1,16 @@
+pub use Rattle.rooms_rule.specs.Deal
+pub use Rattle.rooms_rule.specs.Events
+pub use Rattle.rooms_rule.specs.Heard
+pub use Rattle.rooms_rule.specs.NotBelow
+pub use Rattle.rooms_rule.specs.Rule
+pub use Rattle.rooms_rule.specs.Sight
+pub use Rattle.rooms_rule.specs.Steps
+pub use Rattle.rooms_rule.specs.Views
+pub use Rattle.rooms_rule.specs.Words
+pub use Rattle.rooms_rule.specs.WordsOf
+pub use Rattle.rooms_rule.specs.declared.acceptor.AcceptorWord
+pub use Rattle.rooms_rule.specs.declared.event.Event
+pub use Rattle.rooms_rule.specs.declared.proposer.ProposerWord
+pub use Rattle.rooms_rule.specs.declared.view.Opening
+pub use Rattle.rooms_rule.specs.declared.view.View
+pub use Rattle.rooms_rule.specs.LateOffer
