@@ -1,125 +1,189 @@
 //! What a crash leaves of a disk in memory, under sixteen generators each.
 
+use crate::asks::{Ask, are_answered, made};
 use durable_model::{Disk, DiskError, MemoryDisk};
 use rand_pcg::Pcg32;
 use std::alloc::Global;
-use std::test::Fail;
 
-/// What a crash leaves under generator number s.
-fn crashed(alloc: Global, disk: &MemoryDisk, s: u64) -> Result<Vec<u8>, Fail> {
-    let mut left = disk.crash(alloc, &mut Pcg32::new(s, 0))?;
-    Ok(left.read(alloc)?)
+/// What a crash may leave: from so many bytes to so many, and these from a place on.
+#[derive(Clone, Copy)]
+struct Image<'a> {
+    least: usize,
+    most: usize,
+    at: usize,
+    bytes: &'a [u8],
 }
 
-#[test]
-fn after_a_sync_a_crash_leaves_what_a_read_gives(rt: HostRuntime) -> Result<(), Fail> {
-    let alloc = rt.alloc();
-    let mut disk = MemoryDisk::new(alloc, 100, 100)?;
-    disk.write_at(0, b"abcdef")?;
-    disk.sync()?;
-    disk.write_at(2, b"XY")?;
-    disk.write_at(6, b"ghi")?;
-    disk.sync()?;
-    for s in 1..17 {
-        assert_eq!(rt;
-            crashed(alloc, &disk, s)?.as_slice(),
-            b"abXYefghi".as_slice()
-        );
+/// Whether the bytes are such an image.
+fn is_image(held: &[u8], image: Image<'_>) -> bool {
+    if held.len() < image.least || image.most < held.len() {
+        return false;
     }
-    Ok(())
+    match held.get(image.at..) {
+        Some(rest) => rest.starts_with(image.bytes),
+        None => false,
+    }
 }
 
-#[test]
-fn what_is_not_synced_is_torn_and_nothing_else(rt: HostRuntime) -> Result<(), Fail> {
-    let alloc = rt.alloc();
-    let mut disk = MemoryDisk::new(alloc, 100, 100)?;
-    disk.write_at(0, b"abcdef")?;
-    disk.sync()?;
-    disk.write_at(2, b"XY")?;
-    disk.write_at(6, b"ghi")?;
-    let (mut kept, mut lost, mut torn) = (0u32, 0u32, 0u32);
+/// Whether the disk holds such an image.
+fn holds(alloc: Global, disk: &mut MemoryDisk, image: Image<'_>) -> bool {
+    match disk.read(alloc) {
+        Ok(held) => is_image(held.as_slice(), image),
+        Err(_) => false,
+    }
+}
+
+/// Of how many generators a crash leaves such an image.
+fn count(alloc: Global, disk: &MemoryDisk, image: Image<'_>) -> u32 {
+    let mut count = 0u32;
     for s in 1..17 {
-        let left = crashed(alloc, &disk, s)?;
-        assert!(rt; left.starts_with(b"ab") && 6 <= left.len() && left.len() <= 9);
-        assert_eq!(rt; left.get(4..6), Some(b"ef".as_slice()));
-        if left.get(2..4) == Some(b"XY".as_slice()) {
-            kept = kept.saturating_add(1);
-        } else if left.get(2..4) == Some(b"cd".as_slice()) {
-            lost = lost.saturating_add(1);
-        } else {
-            torn = torn.saturating_add(1);
+        if let Ok(mut left) = disk.crash(alloc, &mut Pcg32::new(s, 0)) {
+            count = count.saturating_add(u32::from(holds(alloc, &mut left, image)));
         }
     }
-    assert!(rt; kept > 0 && lost > 0 && torn > 0);
-    Ok(())
+    count
 }
 
-#[test]
-fn a_sync_that_failed_leaves_writes_torn(rt: HostRuntime) -> Result<(), Fail> {
-    let alloc = rt.alloc();
-    let mut disk = MemoryDisk::new(alloc, 100, 100)?;
-    disk.fail_at(2);
-    disk.write_at(0, b"a longer text")?;
-    assert!(rt; disk.sync().is_err());
-    let mut whole = 0u32;
-    for s in 1..17 {
-        if crashed(alloc, &disk, s)?.as_slice() == b"a longer text".as_slice() {
-            whole = whole.saturating_add(1);
-        }
+/// Whether what a crash leaves answers so.
+fn are_answered_after(alloc: Global, disk: &MemoryDisk, asks: &[Ask<'_>]) -> bool {
+    match disk.crash(alloc, &mut Pcg32::new(1, 0)) {
+        Ok(mut left) => are_answered(alloc, &mut left, asks),
+        Err(_) => false,
     }
-    assert!(rt; whole < 16);
-    disk.sync()?;
-    for s in 1..17 {
-        assert_eq!(rt;
-            crashed(alloc, &disk, s)?.as_slice(),
-            b"a longer text".as_slice()
-        );
-    }
-    Ok(())
 }
 
-#[test]
-fn a_disk_that_stopped_leaves_what_was_synced(rt: HostRuntime) -> Result<(), Fail> {
-    let alloc = rt.alloc();
-    let mut disk = MemoryDisk::new(alloc, 100, 100)?;
-    disk.stop_from(3);
-    disk.write_at(0, b"abcdef")?;
-    disk.sync()?;
-    assert_eq!(rt; disk.write_at(2, b"XY"), Err(DiskError::Device));
-    assert_eq!(rt; disk.sync(), Err(DiskError::Device));
-    assert!(rt; disk.read(alloc).is_err());
-    assert_eq!(rt; disk.failures(), 3);
-    let mut torn = 0u32;
-    for s in 1..17 {
-        let left = crashed(alloc, &disk, s)?;
-        assert!(rt; left.starts_with(b"ab") && left.len() == 6);
-        assert_eq!(rt; left.get(4..6), Some(b"ef".as_slice()));
-        if left.get(2..4) != Some(b"cd".as_slice()) {
-            torn = torn.saturating_add(1);
-        }
+/// These bytes at a place of an image that is from so many to so many bytes long.
+fn part(least: usize, most: usize, at: usize, bytes: &[u8]) -> Image<'_> {
+    Image {
+        least,
+        most,
+        at,
+        bytes,
     }
-    assert!(rt; torn > 0);
-    let mut left = disk.crash(alloc, &mut Pcg32::new(1, 0))?;
-    left.write_at(2, b"XY")?;
-    left.sync()?;
-    left.write_at(0, b"AB")?;
-    assert_eq!(rt; left.read(alloc)?.as_slice(), b"ABXYef".as_slice());
-    assert_eq!(rt; left.failures(), 0);
-    Ok(())
 }
 
-#[test]
-fn a_disk_that_a_crash_left_has_its_capacity_anew(rt: HostRuntime) -> Result<(), Fail> {
-    let alloc = rt.alloc();
-    let mut disk = MemoryDisk::new(alloc, 2, 6)?;
-    disk.write_at(0, b"abcdef")?;
-    disk.sync()?;
-    assert!(rt; disk.sync().is_err());
+/// After a sync, what a read gives.
+fn is_kept(alloc: Global, disk: &mut MemoryDisk) -> bool {
+    let asks = [
+        Ask::Write(0, b"abcdef"),
+        Ask::Sync,
+        Ask::Write(2, b"XY"),
+        Ask::Write(6, b"ghi"),
+        Ask::Sync,
+    ];
+    are_answered(alloc, disk, &asks) && count(alloc, disk, part(9, 9, 0, b"abXYefghi")) == 16
+}
+
+/// Of a write that was not synced, all, nothing, or something else, and all other bytes.
+fn is_torn(alloc: Global, disk: &mut MemoryDisk) -> bool {
+    let asks = [
+        Ask::Write(0, b"abcdef"),
+        Ask::Sync,
+        Ask::Write(2, b"XY"),
+        Ask::Write(6, b"ghi"),
+    ];
+    if !are_answered(alloc, disk, &asks) {
+        return false;
+    }
+    let front = count(alloc, disk, part(6, 9, 0, b"ab"));
+    let back = count(alloc, disk, part(6, 9, 4, b"ef"));
+    let done = count(alloc, disk, part(6, 9, 2, b"XY"));
+    let lost = count(alloc, disk, part(6, 9, 2, b"cd"));
+    front == 16 && back == 16 && done > 0 && lost > 0 && done.saturating_add(lost) < 16
+}
+
+/// A sync that failed leaves writes torn.
+fn is_torn_where_a_sync_failed(alloc: Global, disk: &mut MemoryDisk) -> bool {
+    let whole = part(13, 13, 0, b"a longer text");
+    are_answered(alloc, disk, &[Ask::Write(0, b"a longer text"), Ask::NoSync])
+        && count(alloc, disk, whole) < 16
+        && disk.sync().is_ok()
+        && count(alloc, disk, whole) == 16
+}
+
+/// A disk that stopped leaves what was synced, and its own crash a disk that goes on.
+fn is_stopped(alloc: Global, disk: &mut MemoryDisk) -> bool {
+    let asks = [
+        Ask::Write(0, b"abcdef"),
+        Ask::Sync,
+        Ask::NoWrite(2, b"XY", DiskError::Device),
+        Ask::NoSync,
+        Ask::NoRead,
+        Ask::Failures(3),
+    ];
+    let after = [
+        Ask::Write(2, b"XY"),
+        Ask::Sync,
+        Ask::Write(0, b"AB"),
+        Ask::Read(b"ABXYef"),
+        Ask::Failures(0),
+    ];
+    are_answered(alloc, disk, &asks)
+        && count(alloc, disk, part(6, 6, 0, b"ab")) == 16
+        && count(alloc, disk, part(6, 6, 4, b"ef")) == 16
+        && count(alloc, disk, part(6, 6, 2, b"cd")) < 16
+        && are_answered_after(alloc, disk, &after)
+}
+
+/// A disk that a crash left has its capacity anew, and no call of it is to fail.
+fn has_capacity_anew(alloc: Global, disk: &mut MemoryDisk) -> bool {
+    let asks = [Ask::Write(0, b"abcdef"), Ask::Sync, Ask::NoSync];
+    let after = [
+        Ask::Write(0, b"ABCDEF"),
+        Ask::Read(b"ABCDEF"),
+        Ask::NoSync,
+        Ask::Failures(1),
+    ];
+    if !are_answered(alloc, disk, &asks) {
+        return false;
+    }
     disk.fail_at(1);
-    let mut left = disk.crash(alloc, &mut Pcg32::new(1, 0))?;
-    left.write_at(0, b"ABCDEF")?;
-    assert_eq!(rt; left.read(alloc)?.as_slice(), b"ABCDEF".as_slice());
-    assert!(rt; left.sync().is_err());
-    assert_eq!(rt; left.failures(), 1);
-    Ok(())
+    are_answered_after(alloc, disk, &after)
+}
+
+/// What a crash is to leave.
+#[derive(Clone, Copy)]
+enum Run {
+    Kept,
+    Torn,
+    TornWhereASyncFailed,
+    Stopped,
+    CapacityAnew,
+}
+
+/// What is tried of which disks.
+const RUNS: [(Run, [usize; 4]); 5] = [
+    (Run::Kept, [100, 100, 0, 0]),
+    (Run::Torn, [100, 100, 0, 0]),
+    (Run::TornWhereASyncFailed, [100, 100, 2, 0]),
+    (Run::Stopped, [100, 100, 0, 3]),
+    (Run::CapacityAnew, [2, 6, 0, 0]),
+];
+
+fn is_so(alloc: Global, disk: &mut MemoryDisk, run: Run) -> bool {
+    match run {
+        Run::Kept => is_kept(alloc, disk),
+        Run::Torn => is_torn(alloc, disk),
+        Run::TornWhereASyncFailed => is_torn_where_a_sync_failed(alloc, disk),
+        Run::Stopped => is_stopped(alloc, disk),
+        Run::CapacityAnew => has_capacity_anew(alloc, disk),
+    }
+}
+
+fn are_so(alloc: Global) -> bool {
+    for (run, numbers) in RUNS {
+        let is_right = match made(alloc, numbers) {
+            Some(mut disk) => is_so(alloc, &mut disk, run),
+            None => false,
+        };
+        if !is_right {
+            return false;
+        }
+    }
+    true
+}
+
+#[test]
+fn a_crash_leaves_what_it_may(rt: HostRuntime) {
+    assert!(rt; are_so(rt.alloc()));
 }

@@ -11,4 +11,6 @@ mod spent;
 #[cfg(test)]
 mod threads;
 #[cfg(test)]
+mod turns;
+#[cfg(test)]
 mod words;

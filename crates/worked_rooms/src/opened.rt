@@ -1,105 +1,101 @@
-//! The seats of rooms of three and of five nodes.
+//! The seats of rooms of nodes. Where a room does not open, fewer are there than it has nodes.
 
-ghost use Rattle.std.specs.Prelude.{◌≡◌, [], ◌∷◌, None, IfSome};
+ghost use Rattle.std.specs.Prelude.{◌≡◌, ◌<◌, ◌+◌, [], ◌∷◌, None, IfSome, IsTrue};
 
-use lang_base::Pass;
-use offers::Offer;
 use paxos_core::{Kept, settled};
 use rooms_function::{FunctionOffers, FunctionRoom, FunctionSeat};
 use rooms_seat::{Dealer, WordSeat};
 use std::alloc::Global;
 
-/// The seats of a room whose nodes have kept these parts, if it opens.
-pub fn three(alloc: Global, first: Kept, second: Kept, third: Kept) -> Option<Vec<WordSeat>> {
-    let kept = [first, second, third];
-    if !settled(&kept) {
-        return None;
-    }
-    let Ok(mut dealer) = Dealer::open(alloc, &kept) else {
-        return None;
-    };
-    let Ok(first) = dealer.deal() else {
-        return None;
-    };
-    let Ok(second) = dealer.deal() else {
-        return None;
-    };
-    let Ok(third) = dealer.deal() else {
-        return None;
-    };
+/// The seats of a room of three or five nodes, which have kept these parts.
+pub fn seats_of(alloc: Global, kept: &[Kept]) -> Vec<WordSeat> {
     let mut seats = Vec::new(alloc);
-    seats.push(first).ok()?;
-    seats.push(second).ok()?;
-    seats.push(third).ok()?;
-    Some(seats)
-}
-
-/// The seats of a room of three nodes that have kept nothing.
-pub fn fresh_three(alloc: Global) -> Option<Vec<WordSeat>> {
-    let nothing = Kept::nothing();
-    three(alloc, nothing, nothing, nothing)
-}
-
-/// The seats of a room of five nodes that have kept nothing.
-pub fn fresh_five(alloc: Global) -> Option<Vec<WordSeat>> {
-    let nothing = Kept::nothing();
-    let kept = [nothing, nothing, nothing, nothing, nothing];
-    if !settled(&kept) {
-        return None;
+    if (kept.len() == 3 || kept.len() == 5) && settled(kept) {
+        if let Ok(mut dealer) = Dealer::open(alloc, kept) {
+            deal_all(&mut dealer, kept.len() == 5, &mut seats);
+        }
     }
-    let Ok(mut dealer) = Dealer::open(alloc, &kept) else {
-        return None;
-    };
-    let Ok(first) = dealer.deal() else {
-        return None;
-    };
-    let Ok(second) = dealer.deal() else {
-        return None;
-    };
-    let Ok(third) = dealer.deal() else {
-        return None;
-    };
-    let Ok(fourth) = dealer.deal() else {
-        return None;
-    };
-    let Ok(fifth) = dealer.deal() else {
-        return None;
-    };
-    let mut seats = Vec::new(alloc);
-    seats.push(first).ok()?;
-    seats.push(second).ok()?;
-    seats.push(third).ok()?;
-    seats.push(fourth).ok()?;
-    seats.push(fifth).ok()?;
-    Some(seats)
+    seats
 }
 
-/// No offer of any of three nodes.
-fn none_offered<P: Pass>(alloc: Global) -> Option<Vec<Option<Offer<P>>>>
-    ensures { IfSome result (λ offers. offers.items ≡ None ∷ None ∷ None ∷ []) }
+/// Deals the seats of three nodes, or of five.
+fn deal_all(dealer: &mut Dealer, is_five: bool, seats: &mut Vec<WordSeat>)
+    requires next { dealer.old.next ≡ 0 }
+    requires three { 2 < dealer.old.opening.count }
+    requires five { IsTrue is_five → dealer.old.opening.count ≡ 5 }
 {
-    let mut offers = Vec::new(alloc);
-    offers.push(None).ok()?;
-    offers.push(None).ok()?;
-    offers.push(None).ok()?;
-    Some(offers)
+    if deal(dealer, seats) && deal(dealer, seats) && deal(dealer, seats) && is_five {
+        let _is_last = deal(dealer, seats) && deal(dealer, seats);
+    }
 }
 
-/// The seats of nodes 0 and 1 of three of a function, where nobody has kept or offered anything.
-pub fn fresh_function(alloc: Global) -> Option<(FunctionSeat, FunctionSeat)> {
-    let nothing = Kept::nothing();
-    let fresh = [nothing, nothing, nothing, nothing];
-    let kept = [fresh, fresh, fresh];
-    let offers = FunctionOffers {
-        first: none_offered(alloc)?,
-        second: none_offered(alloc)?,
-        third: none_offered(alloc)?,
-        fourth: none_offered(alloc)?,
-    };
-    let Ok(mut seats) = FunctionRoom::open(alloc, &kept, offers) else {
+/// Deals the next node's seat.
+fn deal(dealer: &mut Dealer, seats: &mut Vec<WordSeat>) -> bool
+    requires { dealer.old.next < dealer.old.opening.count }
+    ensures next { IsTrue result → dealer.new.next ≡ dealer.old.next + 1 }
+    ensures count { IsTrue result → dealer.new.opening.count ≡ dealer.old.opening.count }
+{
+    match dealer.deal() {
+        Ok(seat) => seats.push(seat).is_ok(),
+        Err(_) => false,
+    }
+}
+
+/// What three nodes have not made.
+fn nothing<T: Drop>(alloc: Global) -> Option<Vec<Option<T>>>
+    ensures { IfSome result (λ made. made.items ≡ None ∷ None ∷ None ∷ []) }
+{
+    let mut made = Vec::new(alloc);
+    let is_made = made.push(None).is_ok() && made.push(None).is_ok() && made.push(None).is_ok();
+    if is_made { Some(made) } else { None }
+}
+
+/// What three nodes have not made, of each of four kinds.
+fn nothings<A: Drop, B: Drop, C: Drop, D: Drop>(
+    alloc: Global,
+) -> Option<
+    (
+        Vec<Option<A>>,
+        Vec<Option<B>>,
+        Vec<Option<C>>,
+        Vec<Option<D>>,
+    ),
+>
+    ensures first { IfSome result (λ made. made.0.items ≡ None ∷ None ∷ None ∷ []) }
+    ensures second { IfSome result (λ made. made.1.items ≡ None ∷ None ∷ None ∷ []) }
+    ensures third { IfSome result (λ made. made.2.items ≡ None ∷ None ∷ None ∷ []) }
+    ensures fourth { IfSome result (λ made. made.3.items ≡ None ∷ None ∷ None ∷ []) }
+{
+    let Some(first) = nothing(alloc) else {
         return None;
     };
-    let _third = seats.pop()?;
-    let second = seats.pop()?;
-    Some((seats.pop()?, second))
+    let Some(second) = nothing(alloc) else {
+        return None;
+    };
+    let Some(third) = nothing(alloc) else {
+        return None;
+    };
+    let Some(fourth) = nothing(alloc) else {
+        return None;
+    };
+    Some((first, second, third, fourth))
+}
+
+/// The seats of three nodes of a function, where nobody has kept or offered anything.
+pub fn function_seats(alloc: Global) -> Vec<FunctionSeat> {
+    let nothing_kept = Kept::nothing();
+    let fresh = [nothing_kept, nothing_kept, nothing_kept, nothing_kept];
+    let Some((first, second, third, fourth)) = nothings(alloc) else {
+        return Vec::new(alloc);
+    };
+    let offers = FunctionOffers {
+        first,
+        second,
+        third,
+        fourth,
+    };
+    match FunctionRoom::open(alloc, &[fresh, fresh, fresh], offers) {
+        Ok(seats) => seats,
+        Err(_) => Vec::new(alloc),
+    }
 }

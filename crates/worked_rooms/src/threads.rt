@@ -4,68 +4,72 @@
 ghost use Rattle.std.specs.Prelude.{◌<◌, ◌≤◌, IsTrue};
 ghost use Rattle.rooms_function.specs.Pass.{words_in};
 
-use crate::opened::{fresh_function, fresh_three};
+use crate::opened::{function_seats, seats_of};
+use paxos_core::Kept;
 use rooms_function::FunctionSeat;
 use rooms_seat::WordSeat;
-use std::alloc::Global;
-use std::test::Fail;
-use std::thread;
+use std::thread::{self, Threads};
 
 /// How often a seat looks for the other's step.
 const LOOKS: u32 = 1_000_000;
 
-/// Starts a ballot, and looks at node 1's acceptor until it has promised it.
-fn is_promised(mut seat: WordSeat) -> bool {
-    let Ok(ballot) = seat.start() else {
-        return false;
-    };
-    for _ in 0..LOOKS {
-        if seat.count() < 3 {
-            return false;
-        }
-        if seat.look_acceptor(1).promised == ballot {
-            return true;
-        }
-        thread::yield_now();
-    }
-    false
+/// A seat that looks for the other's steps.
+trait Looks {
+    /// Node 0 starts ballots, and sees that node 1 promises them.
+    fn is_promised(&mut self) -> bool;
+
+    /// Node 1 sees that node 0 starts ballots, and promises them.
+    fn promises(&mut self) -> bool;
 }
 
-/// Looks at node 0's proposer until it has started a ballot, and promises it.
-fn promises(mut seat: WordSeat) -> bool {
-    for _ in 0..LOOKS {
-        if seat.count() < 3 {
+impl Looks for WordSeat {
+    fn is_promised(&mut self) -> bool {
+        let Ok(ballot) = self.start() else {
             return false;
+        };
+        for _ in 0..LOOKS {
+            if self.count() < 3 {
+                return false;
+            }
+            if self.look_acceptor(1).promised == ballot {
+                return true;
+            }
+            thread::yield_now();
         }
-        let _seen = seat.look_proposer(0);
-        if seat.count() < 3 {
-            return false;
-        }
-        if seat.promise(0).is_some() {
-            return true;
-        }
-        thread::yield_now();
+        false
     }
-    false
+
+    fn promises(&mut self) -> bool {
+        for _ in 0..LOOKS {
+            if self.count() < 3 {
+                return false;
+            }
+            let _seen = self.look_proposer(0);
+            if self.count() < 3 {
+                return false;
+            }
+            if self.promise(0).is_some() {
+                return true;
+            }
+            thread::yield_now();
+        }
+        false
+    }
 }
 
-/// The seats of nodes 0 and 1.
-fn two_seats(alloc: Global) -> Option<(WordSeat, WordSeat)> {
-    let mut seats = fresh_three(alloc)?;
-    let _third = seats.pop()?;
-    let second = seats.pop()?;
-    Some((seats.pop()?, second))
-}
-
-#[test]
-fn two_threads_see_each_other(rt: HostRuntime) -> Result<(), Fail> {
-    let mut both = (false, false);
-    if let Some((first, second)) = two_seats(rt.alloc()) {
-        both = thread::join(&rt, move || is_promised(first), move || promises(second));
+impl Looks for FunctionSeat {
+    /// A ballot in the first pass, and only once it is promised one in the fourth.
+    fn is_promised(&mut self) -> bool {
+        is_promised_in(self, 1) && is_promised_in(self, 4)
     }
-    assert!(rt; both.0);
-    assert!(rt; both.1);
-    Ok(())
+
+    /// The ballot in the first pass, of which the fourth shows nothing before, and then that in the fourth.
+    fn promises(&mut self) -> bool {
+        if !has_three(self, 4) || self.look_proposer(4, 0).started != 0 {
+            return false;
+        }
+        promises_in(self, 1) && promises_in(self, 4)
+    }
 }
 
 /// Whether the room of a pass has a third node.
@@ -122,32 +126,27 @@ fn promises_in(seat: &mut FunctionSeat, pass: u8) -> bool
     false
 }
 
-/// Starts a ballot in the first pass, which node 1 promises, and only then one in the fourth.
-fn are_promised(seat: FunctionSeat) -> bool {
-    let mut seat = seat;
-    is_promised_in(&mut seat, 1) && is_promised_in(&mut seat, 4)
-}
-
-/// Promises node 0's ballot in the first pass, of which the fourth shows nothing before, and then in the fourth.
-fn promises_both(seat: FunctionSeat) -> bool {
-    let mut seat = seat;
-    if !has_three(&seat, 4) || seat.look_proposer(4, 0).started != 0 {
+/// Whether the first two seats, each on a thread, see each other's steps.
+fn see_each_other<R: Threads, S: Looks + Send>(rt: &R, seats: &mut [S]) -> bool {
+    let Some((first, others)) = seats.split_first_mut() else {
         return false;
-    }
-    promises_in(&mut seat, 1) && promises_in(&mut seat, 4)
+    };
+    let Some(second) = others.first_mut() else {
+        return false;
+    };
+    let both = thread::join(rt, || first.is_promised(), || second.promises());
+    both.0 && both.1
 }
 
 #[test]
-fn two_threads_see_each_other_in_two_passes(rt: HostRuntime) -> Result<(), Fail> {
-    let mut both = (false, false);
-    if let Some((first, second)) = fresh_function(rt.alloc()) {
-        both = thread::join(
-            &rt,
-            move || are_promised(first),
-            move || promises_both(second),
-        );
-    }
-    assert!(rt; both.0);
-    assert!(rt; both.1);
-    Ok(())
+fn two_threads_see_each_other(rt: HostRuntime) {
+    let nothing = Kept::nothing();
+    let mut seats = seats_of(rt.alloc(), &[nothing, nothing, nothing]);
+    assert!(rt; see_each_other(&rt, &mut seats));
+}
+
+#[test]
+fn two_threads_see_each_other_in_two_passes(rt: HostRuntime) {
+    let mut seats = function_seats(rt.alloc());
+    assert!(rt; see_each_other(&rt, &mut seats));
 }

@@ -3,42 +3,46 @@
 use paxos_core::Vote;
 use rooms_rule::acceptor::AcceptorWord;
 use rooms_rule::proposer::ProposerWord;
-use std::test::Fail;
 
-#[test]
-fn words_are_these_numbers(rt: HostRuntime) -> Result<(), Fail> {
+/// Whether the acceptor's word is this number, which stands for it.
+fn is_acceptor(word: AcceptorWord, packed: u64, number: u64) -> bool {
+    packed == number && AcceptorWord::unpack(number) == word
+}
+
+/// Whether the proposer's word is this number, which stands for it.
+fn is_proposer(word: ProposerWord, packed: u64, number: u64) -> bool {
+    packed == number && ProposerWord::unpack(number) == word
+}
+
+fn are_these_acceptors() -> bool {
     let vote = Vote {
         ballot: 3,
         value: 0,
     };
-    let acceptor = AcceptorWord {
+    let word = AcceptorWord {
         promised: 4,
         accepted: Some(vote),
     };
-    assert_eq!(rt; acceptor.pack(), 196_612);
-    assert_eq!(rt; AcceptorWord::unpack(196_612), acceptor);
-    let proposer = ProposerWord {
-        started: 4,
-        proposed: Some(0),
-    };
-    assert_eq!(rt; proposer.pack(), 65_540);
-    assert_eq!(rt; ProposerWord::unpack(65_540), proposer);
-    Ok(())
-}
-
-#[test]
-fn words_of_a_fresh_node_are_zero(rt: HostRuntime) -> Result<(), Fail> {
-    let acceptor = AcceptorWord {
+    let fresh = AcceptorWord {
         promised: 0,
         accepted: None,
     };
-    assert_eq!(rt; acceptor.pack(), 0);
-    assert_eq!(rt; AcceptorWord::unpack(0), acceptor);
-    let proposer = ProposerWord {
+    is_acceptor(word, word.pack(), 196_612) && is_acceptor(fresh, fresh.pack(), 0)
+}
+
+fn are_these_proposers() -> bool {
+    let word = ProposerWord {
+        started: 4,
+        proposed: Some(0),
+    };
+    let fresh = ProposerWord {
         started: 0,
         proposed: None,
     };
-    assert_eq!(rt; proposer.pack(), 0);
-    assert_eq!(rt; ProposerWord::unpack(0), proposer);
-    Ok(())
+    is_proposer(word, word.pack(), 65_540) && is_proposer(fresh, fresh.pack(), 0)
+}
+
+#[test]
+fn words_are_these_numbers(rt: HostRuntime) {
+    assert!(rt; are_these_acceptors() && are_these_proposers());
 }
