@@ -17,8 +17,8 @@ import sys
 ROOT = os.path.dirname(os.path.dirname(os.path.realpath(__file__)))
 KIT = f"{os.path.dirname(subprocess.run(['rt', 'doc'], stdout=subprocess.PIPE, text=True, check=True).stdout.strip())}/rlibs"
 LINES, FUNCTIONS, CLAUSE = 1500, 100, 120
-# So many files are read for all stamps (`stamped`), some 30 microseconds each.
-STAMPED = 60_000_000
+# At most so many files are read for all stamps (`stamped`), some 50 microseconds of a processor each.
+STAMPED = 30_000_000
 TOLD = ("specs", "proofs", "src", "must-fail", "planted")
 
 # Each floor: its name, and its crates, lowest first.
@@ -137,7 +137,8 @@ def stamped(below):
     a stamp reads all files of the crates below it, once for each way down."""
     read = {}
     for crate in ORDER:
-        read[crate] = len(list(files_of(crate))) + sum(read[it] for it in below[crate] if it in read)
+        own = sum(kind in ("specs", "proofs", "src") for kind, _, _ in files_of(crate))
+        read[crate] = own + sum(read[it] for it in below[crate] if it in read)
     return 2 * sum(read[it] for it in ORDER if not os.path.isfile(f"{ROOT}/crates/{it}/src/main.rt"))
 
 
