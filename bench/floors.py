@@ -30,7 +30,7 @@ FLOORS = [
      "c_reader_declaration_laws c_reader c_program c_checker_scopes c_checker_rules c_checker_terms "
      "c_checker_bodies c_checker_declarations c_checker c_meaning_machine c_meaning c_texts"),
     ("Languages: whole programs of any, Cminor, RTL, LTL, Linear",
-     "lang locations machine lang_running cminor_syntax cminor_form cminor_codec cminor_language rtl_parts "
+     "lang locations machine lang_running_cells lang_running cminor_syntax cminor_form cminor_codec cminor_language rtl_parts "
      "rtl_language rtl_decoded rtl ltl linear_language linear_decoded linear_groups linear_fused linear_fusing linear"),
     ("Lowerings: C to Cminor, Cminor to RTL",
      "cminor_lowering cminor_lowering_ranges cminor_program_ranges cminor rtlgen_definition rtlgen_code rtlgen"),

@@ -1,4 +1,3 @@
-pub mod FirstWords
 pub mod Decoded
 pub mod UnderWay
 pub mod Shows

@@ -4,10 +4,8 @@
 //! behind those of its caller: a deep recursion takes memory and no stack, and a call takes none that it had before.
 #![tactic(auto)]
 
-mod beginning;
 mod callers;
 mod calls;
-mod cells;
 mod fresh;
 mod functions;
 mod leaving;
@@ -20,9 +18,9 @@ mod stepping;
 mod stop;
 mod turn;
 
-pub use cells::Cells;
 pub use fresh::push_undefined;
 pub use functions::function_at;
+pub use lang_running_cells::Cells;
 pub use leaving::{Callee, Leaving};
 pub use running::run;
 pub use stepping::Machine;

@@ -5,11 +5,11 @@ ghost use Rattle.std.specs.Str.{bytes_eq};
 ghost use Rattle.machine.specs.Frames.{main_number};
 ghost use Rattle.lang_running.specs.Runs.{state_of, RunFits};
 
-use crate::beginning::all_cells;
 use crate::callers::Callers;
 use crate::state::Running;
 use crate::stepping::Machine;
 use lang_base::{Named, NoMemory, Program};
+use lang_running_cells::all_cells;
 use std::alloc::Global;
 
 /// Whether the function is one where a program can begin.

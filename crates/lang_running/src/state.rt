@@ -1,5 +1,5 @@
 use crate::callers::Callers;
-use crate::cells::Cells;
+use lang_running_cells::Cells;
 
 /// Where a run stands: the running function's number, the place in it, the words of all functions that run, and where
 /// its own begin, the globals, and the callers. Each function's words lie behind those of its caller.
