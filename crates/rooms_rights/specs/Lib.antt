@@ -1,4 +1,5 @@
 pub mod Rights
+pub mod Sweep
 pub use Rattle.rooms_table.specs.Family
 pub use Rattle.rooms_table.specs.Opened
 pub use Rattle.rooms_table.specs.RoomAt
@@ -11,3 +12,4 @@ pub use Rattle.rooms_rule.specs.Act
 pub use Rattle.rooms_rule.specs.declared.view.Opening
 pub use Rattle.rooms_rule.specs.declared.acceptor.AcceptorWord
 pub use Rattle.rooms_rule.specs.declared.proposer.ProposerWord
+pub use Rattle.rooms_rights.specs.declared.seen.SeenWords
