@@ -12,4 +12,3 @@ pub use Rattle.rooms_rule.specs.Act
 pub use Rattle.rooms_rule.specs.declared.view.Opening
 pub use Rattle.rooms_rule.specs.declared.acceptor.AcceptorWord
 pub use Rattle.rooms_rule.specs.declared.proposer.ProposerWord
-pub use Rattle.rooms_rights.specs.declared.seen.SeenWords
