@@ -1,7 +1,8 @@
--- What a seat that looks anew at the words of a node leaves.
-use Rattle.std.specs.Prelude.{◌≡◌, ℕ, Bool, false}
+-- What a seat that looks anew at the words of a node leaves, and one that has looked at the first nodes.
+use Rattle.std.specs.Prelude.{◌≡◌, ℕ, ◌<◌, ◌≤◌, Bool, false}
 use Rattle.rooms_rights.specs.AcceptorWord.{AcceptorWord}
 use Rattle.rooms_rights.specs.ProposerWord.{ProposerWord}
+use Rattle.rooms_met.specs.Met.{LookedOn}
 use Rattle.rooms_met.specs.Seen.{IsHeard}
 use Rattle.rooms_state.specs.Did.{LookedAtAcceptor, LookedAtProposer}
 use Rattle.rooms_state.specs.SeatState.{acceptor_of, SeatState}
@@ -15,3 +16,10 @@ pub record LookedAnew (j : ℕ) (news : Bool) (old new : SeatState) : Type 0 whe
   pub second : LookedAtAcceptor j acceptor between new
   pub stays : news ≡ false → new.node ≡ old.node
   pub heard : news ≡ false → IsHeard new.node j (acceptor_of new j)
+
+-- it has looked at the nodes before this one, of all that there are
+pub record LookedBefore (first : ℕ) (old new : SeatState) : Type 0 where
+  pub nodes : 0 < new.node.count
+  pub within : first ≤ new.node.count
+  pub none : first ≡ 0 → new ≡ old
+  pub some : 0 < first → LookedOn old new

@@ -1,7 +1,7 @@
-ghost use Rattle.std.specs.Prelude.{◌≡◌, ℕ, ◌<◌, IsTrue};
+ghost use Rattle.std.specs.Prelude.{◌≡◌, ◌<◌, ◌≤◌, IfSome, IsNone, IsTrue};
 ghost use Rattle.rooms_met.specs.Met.{LookedOn};
 ghost use Rattle.rooms_met.specs.Seen.{IsHeard};
-ghost use Rattle.rooms_met.specs.Anew.{LookedAnew};
+ghost use Rattle.rooms_met.specs.Anew.{LookedAnew, LookedBefore};
 
 use crate::seat::{WordSeat, note};
 use rooms_rights::Node;
@@ -14,37 +14,35 @@ impl WordSeat {
     pub(crate) fn look_at_all(&mut self)
         ensures { LookedOn self.old self.new }
     {
-        let first = self.sweep();
-        if first < self.node.count() {
+        if let Some(first) = self.sweep() {
             self.look_from(first);
         }
     }
 
     /// Where the seat is quiet, loads the words node by node until there is something new. Answers from which node on there
-    /// is still to look.
+    /// is still to look, and none if it has looked at all.
     #[inline(always)]
-    fn sweep(&mut self) -> u8
-        ensures none { result ≡ 0 → self.new ≡ self.old }
-        ensures some { 0 < result → LookedOn self.old self.new }
+    fn sweep(&mut self) -> Option<u8>
+        ensures all { IsNone result → LookedOn self.old self.new }
+        ensures from { IfSome result (λ first. LookedBefore first self.old self.new) }
     {
         if !self.quiet {
-            return 0;
+            return Some(0);
         }
         let count = self.node.count();
-        let Some((j, found)) = self.rights.sweep(&mut self.seen, count) else {
-            return count;
-        };
+        let (j, found) = self.rights.sweep(&mut self.seen, count)?;
         self.quiet = false;
         note(&mut self.node, &mut self.seen[usize::from(j)], j, found);
-        j + 1
+        Some(j + 1)
     }
 
     /// Loads the words of the nodes from that one on. The seat is quiet then, where it has looked at all nodes and there was
     /// nothing new.
     #[inline(never)]
     fn look_from(&mut self, first: u8)
-        requires { first < self.old.node.count }
-        ensures { LookedOn self.old self.new }
+        requires { first ≤ self.old.node.count }
+        ensures none { first ≡ self.old.node.count → self.new ≡ self.old }
+        ensures some { first < self.old.node.count → LookedOn self.old self.new }
     {
         let mut news = false;
         for j in first..self.node.count() {
