@@ -44,7 +44,7 @@ FLOORS = [
     ("Offers, chains of them, and the linked program", "offers offers_choice parallel_validate linker chains"),
     ("Agreement: the protocol, rooms on shared words",
      "paxos_core_world paxos_core_invariant paxos_core_model paxos_core_law paxos_core_late_offers paxos_core "
-     "rooms_rule rooms_table rooms_steps rooms_state rooms_rights rooms_seat rooms_cells rooms_hall rooms rooms_function rooms_numbered"),
+     "rooms_rule rooms_table rooms_steps rooms_state rooms_rights rooms_met rooms_seat rooms_cells rooms_hall rooms rooms_function rooms_numbered"),
     ("Journals", "durable_model_writes durable_model acceptor_log_form acceptor_log"),
     ("The farm",
      "farm_nodes_acting farm_nodes_leading farm_nodes_offers farm_nodes_playing farm_nodes_passes "

@@ -1,3 +1,4 @@
 pub mod Stepping
+pub mod Sweeping
 pub mod Openings
 pub use Rattle.rooms_rule.proofs.WorldLemmas

@@ -1,4 +1,5 @@
 pub mod Rights
+pub mod Sweep
 pub use Rattle.rooms_table.specs.Family
 pub use Rattle.rooms_table.specs.Opened
 pub use Rattle.rooms_table.specs.RoomAt

@@ -4,8 +4,10 @@
 
 mod opening;
 mod rights;
+mod seen;
 
 pub use opening::{FourRights, open_four, open_one};
 pub use rights::{Board, Rights};
 pub use rooms_rule::{CoreError, Kept, Msg, Node, Step, Vote, acceptor, proposer, settled};
 pub use rooms_table::view;
+pub use seen::SeenWords;

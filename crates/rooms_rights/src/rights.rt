@@ -4,8 +4,11 @@ ghost use Rattle.atomic_table.specs.Table.{step};
 ghost use Rattle.rooms_rule.specs.Deal.{dealing_rest, dealing_seat, informed};
 ghost use Rattle.rooms_table.specs.Places.{place_of};
 ghost use Rattle.rooms_rights.specs.Rights.{MayDeal, MayStep};
+ghost use Rattle.rooms_rights.specs.Sweep.{CanLook, Found, MaySweep, SweptTo};
 
-use atomic_table::{Play, Seat as Token, Table};
+use crate::seen::SeenWords;
+use atomic_table::{Play, Seat as Token, Shared, Table};
+use rooms_rule::rule::{LooksAtAcceptor, LooksAtProposer};
 use rooms_rule::view::View;
 use rooms_table::play::In;
 use rooms_table::rule::{DealsNode, TableLaw, Tells};
@@ -16,6 +19,9 @@ use std::sync::Arc;
 
 /// The words of a family of rooms.
 pub type Board = Table<(), Views, Openings, TableLaw, Global>;
+
+/// What each holder of rights shares of them.
+type Words = Shared<(), Views, Openings, TableLaw>;
 
 /// Rights in one room of a table: to step for the nodes that they are for. Each call is the step of a room that is alone.
 #[derive(Drop)]
@@ -63,6 +69,43 @@ impl Rights {
         self.board.shared.load::<In<M>>(&mut self.token, place)
     }
 
+    /// Loads the words of the room's nodes, a proposer's and then its acceptor's, and puts down each proposer's number. Stops
+    /// at the first acceptor's whose number is not the one that was seen: answers which node's it is, and what was found.
+    #[inline(always)]
+    pub fn sweep(&mut self, seen: &mut [SeenWords; 7], count: u8) -> Option<(u8, u64)>
+        requires { MaySweep self.old count }
+        ensures at { self.new.at ≡ self.old.at }
+        ensures told { SweptTo result count self.old.me.0 seen.old self.new.me.0 seen.new }
+    {
+        let board = &self.board.shared;
+        let stride = 2 * usize::from(self.rooms);
+        let place = 2 * usize::from(self.room);
+        let found = look(board, &mut self.token, place, &mut seen[0]);
+        if found != seen[0].acceptor {
+            return Some((0, found));
+        }
+        let place = place + stride;
+        let found = look(board, &mut self.token, place, &mut seen[1]);
+        if found != seen[1].acceptor {
+            return Some((1, found));
+        }
+        let place = place + stride;
+        let found = look(board, &mut self.token, place, &mut seen[2]);
+        if found != seen[2].acceptor {
+            return Some((2, found));
+        }
+        let mut place = place;
+        for j in 3..count {
+            place += stride;
+            let node = usize::from(j);
+            let found = look(board, &mut self.token, place, &mut seen[node]);
+            if found != seen[node].acceptor {
+                return Some((j, found));
+            }
+        }
+        None
+    }
+
     /// Stores a word of the room.
     pub fn store<M: Play<(), View>>(&mut self, word: usize, number: u64)
         requires { MayStep self.old word (λ _. number)
@@ -107,4 +150,16 @@ impl Rights {
             .shared
             .join_seat::<Tells>(&mut self.token, witness);
     }
+}
+
+/// Loads the two words of a node that stand at this place: puts down its proposer's number, and answers its acceptor's.
+#[inline(always)]
+fn look(board: &Words, token: &mut Token<(), Views>, place: usize, seen: &mut SeenWords) -> u64
+    requires { CanLook board.now.table_id token.old.table_id token.old.me place }
+    ensures table { token.new.table_id ≡ token.old.table_id }
+    ensures kept { seen.new.acceptor ≡ seen.old.acceptor }
+    ensures found { Found board.now.table_id.slots place token.old.me seen.new.proposer result token.new.me }
+{
+    seen.proposer = board.load::<In<LooksAtProposer>>(token, place);
+    board.load::<In<LooksAtAcceptor>>(token, place + 1)
 }

@@ -1,5 +1,5 @@
 -- A seat as its room opens.
-use Rattle.std.proofs.Common.{◌≡◌, ℕ, zero, suc, ◌<◌, List, [], ◌∷◌, length, map, get_or, None, refl, ap, ◌∙◌, arith}
+use Rattle.std.proofs.Common.{◌≡◌, ℕ, zero, suc, ◌<◌, List, [], ◌∷◌, length, map, get_or, None, IfSome, refl, sym, ap, ◌∙◌, subst, arith}
 use Rattle.paxos_core_world.specs.KeptPart.{KeptPart, nothing_kept}
 use Rattle.paxos_core_world.specs.World.{nodes_of}
 use Rattle.rooms_rights.specs.NodeState.{NodeState, new_node, node_with, restarted}
@@ -9,7 +9,9 @@ use Rattle.rooms_state.specs.ProposerWord.{ProposerWord}
 use Rattle.rooms_state.specs.Opening.{Opening}
 use Rattle.rooms_state.specs.View.{View}
 use Rattle.rooms_rights.specs.RoomAt.{RoomAt}
-use Rattle.rooms_state.specs.SeatState.{SeatState, opened_acceptor, opened_proposer, opened_seat}
+use Rattle.rooms_state.specs.SeatState.{opened_acceptor, opened_proposer, opened_seat, CanOpen, SeatState}
+use Rattle.rooms_state.specs.Words.{IsVoteInWord}
+use Rattle.rooms_state.proofs.Opened.{vote_fits}
 
 -- what stands in a row, whatever stands for what is not there
 any_default : {A : Type 0} (xs : List A) (j : ℕ) (d e : A) → j < length xs → get_or xs j d ≡ get_or xs j e
@@ -24,6 +26,11 @@ image_at f xs j x d y lt e = e ∙ ap f (any_default xs j x d lt)
 -- what a node keeps, read at its place
 pub kept_at : (kept : List KeptPart) (place i : ℕ) (d : KeptPart) → place ≡ i → i < length kept → get_or kept place d ≡ nodes_of kept i
 kept_at kept place i d at lt = ap (λ (j : ℕ). get_or kept j d) at ∙ any_default kept i d nothing_kept lt
+
+-- a vote that the node has kept fits a word
+pub kept_fits : (o : Opening) → CanOpen o → (i : ℕ) (d : KeptPart) → i < 7 → IfSome (get_or o.kept i d).accepted IsVoteInWord
+kept_fits o can i d lt =
+    subst (λ (k : KeptPart). IfSome k.accepted IsVoteInWord) (sym (kept_at o.kept i i d refl (subst (λ (n : ℕ). i < n) (sym can.row) lt))) (vote_fits o can i)
 
 pub is_opened : (table : RoomAt) (v : View) (o : Opening) (i : ℕ) (node fresh : NodeState) (k : KeptPart) (ps : List ProposerWord) (xs : List AcceptorWord) → v ≡ dealt o i → fresh ≡ new_node i o.count
     → node ≡ restarted fresh k → k ≡ nodes_of o.kept i → ps ≡ map opened_proposer o.kept → xs ≡ map opened_acceptor o.kept

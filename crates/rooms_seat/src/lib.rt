@@ -3,6 +3,7 @@
 //! each call is exactly one load or one store of one word, and which step of the protocol that is.
 #![tactic(auto)]
 
+mod looking;
 mod meeting;
 mod opening;
 mod seat;

@@ -1,5 +1,5 @@
-ghost use Rattle.std.specs.Prelude.{◌≡◌, ℕ, ◌<◌, Some};
-ghost use Rattle.rooms_seat.specs.Meeting.{meeting_of, HaveMet, LookedOn};
+ghost use Rattle.std.specs.Prelude.{◌≡◌, ℕ, Some};
+ghost use Rattle.rooms_seat.specs.Meeting.{meeting_of, HaveMet};
 
 use crate::seat::WordSeat;
 
@@ -22,9 +22,9 @@ pub fn meet(first: &mut WordSeat, second: &mut WordSeat) -> Meeting
     ensures same { (v u : ℕ) → first.new.node.learned ≡ Some v → second.new.node.learned ≡ Some u → v ≡ u }
 {
     second.hear(first);
-    look_at_all(second);
+    second.look_at_all();
     first.hear(second);
-    look_at_all(first);
+    first.look_at_all();
     first.known();
     second.known();
     meeting_of(first.learned(), second.learned())
@@ -38,16 +38,5 @@ fn meeting_of(first: Option<u8>, second: Option<u8>) -> Meeting
         (None, None) => Meeting::Neither,
         (Some(value), Some(_)) => Meeting::Same(value),
         _ => Meeting::One,
-    }
-}
-
-/// Loads every word of the room once.
-fn look_at_all(seat: &mut WordSeat)
-    ensures { LookedOn seat.old seat.new }
-{
-    let count = seat.count();
-    for j in 0..count {
-        let _proposer = seat.look_proposer(j);
-        let _acceptor = seat.look_acceptor(j);
     }
 }

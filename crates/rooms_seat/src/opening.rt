@@ -1,15 +1,17 @@
-ghost use Rattle.std.specs.Prelude.{◌≡◌, ◌<◌, ◌+◌, length, IfOk, OnOk, OnErr};
+ghost use Rattle.std.specs.Prelude.{◌≡◌, ◌<◌, ◌+◌, length, IfOk, IfSome, OnOk, OnErr};
 ghost use Rattle.rooms_rights.specs.NodeState.{IsRoomSize};
 ghost use Rattle.paxos_core_world.specs.Settled.{Settled};
 ghost use Rattle.paxos_core_world.specs.World.{nodes_of};
 ghost use Rattle.rooms_state.specs.Deal.{dealing};
 ghost use Rattle.rooms_rights.specs.RoomAt.{HasWords};
 ghost use Rattle.rooms_state.specs.SeatState.{opened_acceptor, opened_proposer, opened_seat, opening_of, CanOpen};
+ghost use Rattle.rooms_state.specs.Words.{IsVoteInWord};
+ghost use Rattle.rooms_met.specs.Seen.{acceptor_shown, proposer_shown};
 ghost use Rattle.rooms_seat.specs.Dealing.{room_opened, AreAsMany};
 
 use crate::seat::WordSeat;
 use rooms_rights::view::Openings;
-use rooms_rights::{Kept, Rights, open_one};
+use rooms_rights::{Kept, Rights, SeenWords, open_one};
 use rooms_state::acceptor::AcceptorWord;
 use rooms_state::proposer::ProposerWord;
 use rooms_state::view::Opening;
@@ -165,22 +167,22 @@ fn kept_of(kept: &[Kept], node: usize) -> Kept
     }
 }
 
-/// What a proposer's word shows as the room opens.
-pub(crate) fn opened_proposer(kept: Kept) -> ProposerWord
-    ensures { result ≡ opened_proposer kept }
+/// The numbers of a node's two words as the room opens.
+pub(crate) fn opened_words(kept: Kept) -> SeenWords
+    requires { IfSome kept.accepted IsVoteInWord }
+    ensures proposer { proposer_shown result ≡ opened_proposer kept }
+    ensures acceptor { acceptor_shown result ≡ opened_acceptor kept }
 {
-    ProposerWord {
+    let proposer = ProposerWord {
         started: kept.started(),
         proposed: None,
-    }
-}
-
-/// What an acceptor's word shows as the room opens.
-pub(crate) fn opened_acceptor(kept: Kept) -> AcceptorWord
-    ensures { result ≡ opened_acceptor kept }
-{
-    AcceptorWord {
+    };
+    let acceptor = AcceptorWord {
         promised: kept.promised(),
         accepted: kept.accepted(),
+    };
+    SeenWords {
+        proposer: proposer.pack(),
+        acceptor: acceptor.pack(),
     }
 }

@@ -5,15 +5,16 @@ ghost use Rattle.rooms_state.specs.Did.{Did, Forgotten, LookedAtAcceptor, Looked
 ghost use Rattle.rooms_state.specs.Would.{would, IsAmong};
 ghost use Rattle.rooms_rights.specs.NodeState.{offered};
 ghost use Rattle.rooms_seat.specs.Meeting.{IsBounded, IsKnown};
-ghost use Rattle.rooms_state.specs.SeatState.{opened_seat, own_words, CanOpen, promise_of, seen_world, vote_by, vote_of};
+ghost use Rattle.rooms_state.specs.SeatState.{opened_seat, own_words, CanOpen, promise_of, proposer_of, seen_world, vote_by, vote_of};
 ghost use Rattle.rooms_rights.specs.RoomAt.{HasWords};
 ghost use Rattle.rooms_rights.specs.NodeState.{IsRoomSize};
 ghost use Rattle.rooms_state.specs.Deal.{dealt, informed};
 ghost use Rattle.rooms_state.specs.Heard.{after_hearing};
+ghost use Rattle.rooms_state.specs.Words.{accepted_in, promised_in};
 ghost use Rattle.paxos_core_world.specs.World.{Has};
 
-use crate::opening::{opened_acceptor, opened_proposer};
-use rooms_rights::{CoreError, Kept, Msg, Node, Rights, Step, Vote};
+use crate::opening::opened_words;
+use rooms_rights::{CoreError, Kept, Msg, Node, Rights, SeenWords, Step, Vote};
 use rooms_state::acceptor::AcceptorWord;
 use rooms_state::act::Act;
 use rooms_state::proposer::ProposerWord;
@@ -26,17 +27,18 @@ use std::marker::Model;
 /// One node's right to store its two words of a room and to load all. Its calls take no lock, wait for nobody and return.
 #[derive(Drop)]
 pub struct WordSeat {
-    rights: Rights,
-    node: Node,
+    pub(crate) rights: Rights,
+    /// To hear again any acceptor's word that was seen last would leave the node as it is.
+    pub(crate) quiet: bool,
+    pub(crate) node: Node,
+    pub(crate) seen: [SeenWords; 7],
     /// The value that the node has proposed in this run under the ballot that it started last.
     proposed: Option<u8>,
-    proposers: [ProposerWord; 7],
-    acceptors: [AcceptorWord; 7],
 }
 
 impl Model for WordSeat {
     ghost use Rattle.rooms_state.specs.SeatState.{SeatState};
-    ghost use Rattle.rooms_state.specs.Sound.{IsSound};
+    ghost use Rattle.rooms_met.specs.Seen.{acceptors_shown, proposers_shown, IsKept};
 
     ghost Value = { SeatState };
 
@@ -45,17 +47,17 @@ impl Model for WordSeat {
       view = s.rights.me.0;
       node = s.node;
       proposed = s.proposed;
-      proposers = s.proposers;
-      acceptors = s.acceptors;
+      proposers = proposers_shown s.seen;
+      acceptors = acceptors_shown s.seen;
     } };
 
-    ghost invariant = { λ s. IsSound record {
+    ghost invariant = { λ s. IsKept s.quiet record {
       table = s.rights.at;
       view = s.rights.me.0;
       node = s.node;
       proposed = s.proposed;
-      proposers = s.proposers;
-      acceptors = s.acceptors;
+      proposers = proposers_shown s.seen;
+      acceptors = acceptors_shown s.seen;
     } };
 }
 
@@ -72,26 +74,18 @@ impl WordSeat {
         let node = Node::new(me, opening.count).restart(kept[usize::from(me)]);
         WordSeat {
             rights,
+            quiet: false,
             node,
+            seen: [
+                opened_words(kept[0]),
+                opened_words(kept[1]),
+                opened_words(kept[2]),
+                opened_words(kept[3]),
+                opened_words(kept[4]),
+                opened_words(kept[5]),
+                opened_words(kept[6]),
+            ],
             proposed: None,
-            proposers: [
-                opened_proposer(kept[0]),
-                opened_proposer(kept[1]),
-                opened_proposer(kept[2]),
-                opened_proposer(kept[3]),
-                opened_proposer(kept[4]),
-                opened_proposer(kept[5]),
-                opened_proposer(kept[6]),
-            ],
-            acceptors: [
-                opened_acceptor(kept[0]),
-                opened_acceptor(kept[1]),
-                opened_acceptor(kept[2]),
-                opened_acceptor(kept[3]),
-                opened_acceptor(kept[4]),
-                opened_acceptor(kept[5]),
-                opened_acceptor(kept[6]),
-            ],
         }
     }
 
@@ -102,9 +96,8 @@ impl WordSeat {
     {
         let place = usize::from(j);
         let found = self.rights.load::<LooksAtProposer>(2 * place);
-        let word = ProposerWord::unpack(found);
-        self.proposers[place] = word;
-        word
+        self.seen[place].proposer = found;
+        ProposerWord::unpack(found)
     }
 
     /// Loads the word of node `j`'s acceptor: notes the promise that it shows for the ballot under way, and its vote, and
@@ -116,8 +109,11 @@ impl WordSeat {
         let place = usize::from(j);
         let found = self.rights.load::<LooksAtAcceptor>(2 * place + 1);
         let word = AcceptorWord::unpack(found);
-        self.acceptors[place] = word;
-        heard(&mut self.node, j, word);
+        if self.quiet && found == self.seen[place].acceptor {
+            return word;
+        }
+        self.quiet = false;
+        note(&mut self.node, &mut self.seen[place], j, found);
         word
     }
 
@@ -138,6 +134,7 @@ impl WordSeat {
         };
         let place = usize::from(self.node.me());
         self.rights.store::<Starts>(2 * place, word.pack());
+        self.quiet = false;
         self.node = next;
         self.proposed = None;
         Ok(started)
@@ -150,9 +147,7 @@ impl WordSeat {
         ensures some { IfSome result (λ b. Did (act.Promise b) self.old.proposed self.old self.new) }
         ensures none { IsNone result → self.new ≡ self.old }
     {
-        let ballot = self
-            .node
-            .next_promise(self.proposers[usize::from(j)].started)?;
+        let ballot = self.node.next_promise(self.last_seen(j).started)?;
         let mut next = self.node;
         let _promise = next.on(&Msg::Prepare(ballot));
         let word = AcceptorWord {
@@ -161,6 +156,7 @@ impl WordSeat {
         };
         let place = usize::from(self.node.me());
         self.rights.store::<Promises>(2 * place + 1, word.pack());
+        self.quiet = false;
         self.node = next;
         Some(ballot)
     }
@@ -182,6 +178,7 @@ impl WordSeat {
         };
         let place = usize::from(self.node.me());
         self.rights.store::<Proposes>(2 * place, word.pack());
+        self.quiet = false;
         self.node = next;
         self.proposed = proposed;
         Some((ballot, value))
@@ -195,7 +192,7 @@ impl WordSeat {
         ensures some { IfSome result (λ x. Did (act.Accept x.ballot x.value) self.old.proposed self.old self.new) }
         ensures none { IsNone result → self.new ≡ self.old }
     {
-        let vote = next_vote(&self.node, self.proposers[usize::from(j)])?;
+        let vote = next_vote(&self.node, self.last_seen(j))?;
         let mut next = self.node;
         let _accepted = next.on(&Msg::Propose(vote.ballot, vote.value));
         let word = AcceptorWord {
@@ -204,6 +201,7 @@ impl WordSeat {
         };
         let place = usize::from(self.node.me());
         self.rights.store::<Accepts>(2 * place + 1, word.pack());
+        self.quiet = false;
         self.node = next;
         Some(vote)
     }
@@ -216,7 +214,7 @@ impl WordSeat {
         match act {
             Act::Start => Some(Step::Start(self.node.next_start()?)),
             Act::Promise(j) => {
-                let seen = self.proposers[usize::from(j)];
+                let seen = self.last_seen(j);
                 Some(Step::Promise(self.node.next_promise(seen.started)?))
             }
             Act::Propose => {
@@ -224,7 +222,7 @@ impl WordSeat {
                 Some(Step::Propose(ballot, value))
             }
             Act::Accept(j) => {
-                let vote = next_vote(&self.node, self.proposers[usize::from(j)])?;
+                let vote = next_vote(&self.node, self.last_seen(j))?;
                 Some(Step::Accept(vote.ballot, vote.value))
             }
         }
@@ -239,6 +237,7 @@ impl WordSeat {
         let place = usize::from(self.node.me());
         let proposer = self.rights.load::<Forgets>(2 * place);
         let acceptor = self.rights.load::<Forgets>(2 * place + 1);
+        self.quiet = false;
         self.node.forget();
         (
             ProposerWord::unpack(proposer),
@@ -250,7 +249,16 @@ impl WordSeat {
     pub fn offer(&mut self)
         ensures { self.new ≡ record self.old { node = offered self.old.node } }
     {
+        self.quiet = false;
         let _first = self.node.offer();
+    }
+
+    /// The word of node `j`'s proposer as it was seen last.
+    fn last_seen(&self, j: u8) -> ProposerWord
+        requires { j < self.now.node.count }
+        ensures { result ≡ proposer_of self.now j }
+    {
+        ProposerWord::unpack(self.seen[usize::from(j)].proposer)
     }
 
     /// What has to outlive a restart.
@@ -314,6 +322,16 @@ impl WordSeat {
     {
         self.node.learned()
     }
+}
+
+/// Puts the number down that was found of node `j`'s acceptor, and the node notes what it shows.
+#[inline(never)]
+pub(crate) fn note(node: &mut Node, seen: &mut SeenWords, j: u8, found: u64)
+    ensures node { node.new ≡ after_hearing node.old j (promised_in found) (accepted_in found) }
+    ensures seen { seen.new ≡ record seen.old { acceptor = found } }
+{
+    seen.acceptor = found;
+    heard(node, j, AcceptorWord::unpack(found));
 }
 
 /// The node notes what the word of node `j`'s acceptor shows: nothing of a vote that it has noted already.

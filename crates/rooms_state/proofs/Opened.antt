@@ -1,5 +1,6 @@
 -- The seats of a room that has just been opened.
 use Rattle.std.proofs.Common.{◌≡◌, ℕ, zero, suc, ◌/◌, ◌%◌, ◌<◌, ◌≤◌, ◌⊎◌, List, [], ◌∷◌, length, map, get_or, Option, Some, None, IfSome, refl, sym, ap, ◌∙◌, subst, inl, inr, arith}
+use Rattle.std.proofs.lemmas.Bool.{cases_lt}
 use Rattle.rooms_table.specs.RoomAt.{HasWords, RoomAt}
 use Rattle.paxos_core_world.specs.Ballot.{Owns}
 use Rattle.paxos_core_world.specs.KeptPart.{KeptPart, nothing_kept}
@@ -46,7 +47,12 @@ same_nodes kept size = λ k i. same_node kept (room_size (length kept) size) i k
 
 pub can_open : (kept : List KeptPart) → IsRoomSize (length kept) → Settled (length kept) (nodes_of kept) → CanOpen (opening_of kept)
 can_open kept size settled =
-    record { size = size; settled = subst (λ (nodes : ℕ → KeptPart). Settled (length kept) nodes) (sym (same_nodes kept size)) settled; row = refl }
+    record {
+      size = size;
+      settled = subst (λ (nodes : ℕ → KeptPart). Settled (length kept) nodes) (sym (same_nodes kept size)) settled;
+      row = refl;
+      beyond = λ i h. same_node kept (room_size (length kept) size) i ∙ beyond kept i nothing_kept h;
+    }
 
 -- what is seen of node j, in the row of all
 at_map : {A B : Type 0} (f : A → B) (xs : List A) (j : ℕ) (d : A) (e : B) → j < length xs → get_or (map f xs) j e ≡ f (get_or xs j d)
@@ -126,13 +132,16 @@ opened_sound t o i words can lt =
 
 -- ---- the words
 
--- a vote of settled kept parts fits a word
-pub vote_fits : (o : Opening) → CanOpen o → (i : ℕ) → i < o.count → IfSome (nodes_of o.kept i).accepted IsVoteInWord
-vote_fits o can i lt = fits (nodes_of o.kept i).accepted refl
+-- a vote of kept parts with which a room opens fits a word
+pub vote_fits : (o : Opening) → CanOpen o → (i : ℕ) → IfSome (nodes_of o.kept i).accepted IsVoteInWord
+vote_fits o can i = elim (cases_lt i o.count) [
+  | inl lt ↦ fits lt (nodes_of o.kept i).accepted refl
+  | inr ge ↦ subst (λ (k : KeptPart). IfSome k.accepted IsVoteInWord) (sym (can.beyond i ge)) tt
+]
   where
-    fits : (a : Option Vote) → (nodes_of o.kept i).accepted ≡ a → IfSome a IsVoteInWord
-    fits None e = tt
-    fits (Some x) e =
+    fits : i < o.count → (a : Option Vote) → (nodes_of o.kept i).accepted ≡ a → IfSome a IsVoteInWord
+    fits lt None e = tt
+    fits lt (Some x) e =
         let most : o.count ≤ 7 = room_size o.count can.size in
         let number : x.value < o.count = (can.settled.vote i x lt e).offered.0 in
         let within = subst (λ (a : Option Vote). IfSome a (λ y. (1 ≤ y.ballot) × (y.ballot ≤ (nodes_of o.kept i).promised))) e (can.settled.within i lt) in (within.0, omega arith)

@@ -1,6 +1,6 @@
 -- A seat at one moment: what it knows of its room, its node, and what it has last seen of the words.
-use Rattle.std.specs.Prelude.{◌≡◌, ℕ, List, [], ◌∷◌, length, map, if◌then◌else◌, Option, Some, None, slice_index_or}
-use Rattle.paxos_core_world.specs.KeptPart.{KeptPart, vote}
+use Rattle.std.specs.Prelude.{◌≡◌, ℕ, ◌≤◌, List, [], ◌∷◌, length, map, if◌then◌else◌, Option, Some, None, slice_index_or}
+use Rattle.paxos_core_world.specs.KeptPart.{nothing_kept, vote, KeptPart}
 use Rattle.paxos_core_world.specs.Settled.{Settled, is_given}
 use Rattle.paxos_core_world.specs.World.{World, nodes_of}
 use Rattle.paxos_core_world.specs.declared.vote.Vote.{Vote}
@@ -39,11 +39,12 @@ opening_of kept =
       kept = nodes_of kept 0 ∷ nodes_of kept 1 ∷ nodes_of kept 2 ∷ nodes_of kept 3 ∷ nodes_of kept 4 ∷ nodes_of kept 5 ∷ nodes_of kept 6 ∷ [];
     }
 
--- a room is opened from kept parts of 3, 5 or 7 nodes that are settled
+-- a room is opened from kept parts of 3, 5 or 7 nodes that are settled, and beyond its nodes nothing is kept
 pub record CanOpen (o : Opening) : Type 0 where
   pub size : IsRoomSize o.count
   pub settled : Settled o.count (nodes_of o.kept)
   pub row : length o.kept ≡ 7
+  pub beyond : (i : ℕ) → o.count ≤ i → nodes_of o.kept i ≡ nothing_kept
 
 -- the words of a node as its room opens
 abbrev pub opened_proposer : KeptPart → ProposerWord

@@ -1,6 +1,6 @@
 use Rattle.std.proofs.Common.{◌<◌, refl, sym, ap, ◌∙◌, subst}
 use Rattle.rooms_state.specs.Opening.{Opening}
-use Rattle.rooms_seat.proofs.Openings.{four_open, some_node}
+use Rattle.rooms_met.proofs.Openings.{four_open, some_node}
 use Rattle.rooms_seat.proofs.opening.open_four.Goals as goal
 
 pub open_four-requires : goal.open_four-requires

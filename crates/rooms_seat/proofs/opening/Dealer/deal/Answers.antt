@@ -1,6 +1,6 @@
 use Rattle.std.proofs.Common.{◌<◌, sym, subst}
 use Rattle.rooms_seat.specs.Dealing.{Dealing}
-use Rattle.rooms_seat.proofs.Openings.{may_deal}
+use Rattle.rooms_met.proofs.Openings.{may_deal}
 use Rattle.rooms_seat.proofs.opening.Dealer.deal.Goals as goal
 
 pub deal-requires : goal.deal-requires

@@ -1,5 +1,5 @@
 use Rattle.std.proofs.Common.{refl}
-use Rattle.rooms_seat.proofs.Openings.{one_opens}
+use Rattle.rooms_met.proofs.Openings.{one_opens}
 use Rattle.rooms_seat.proofs.opening.Dealer.open.Goals as goal
 
 pub open_one-requires : goal.open_one-requires

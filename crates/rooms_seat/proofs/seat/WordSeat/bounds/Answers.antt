@@ -4,18 +4,19 @@ use Rattle.paxos_core_world.specs.KeptPart.{KeptPart, IsWithinPromise}
 use Rattle.rooms_state.specs.SeatState.{SeatState, no_proposer}
 use Rattle.rooms_seat.specs.Meeting.{IsBounded}
 use Rattle.rooms_state.proofs.Acts.{proposed_value}
+use Rattle.rooms_met.specs.Seen.{proposers_shown}
 use Rattle.rooms_seat.proofs.seat.WordSeat.bounds.Goals as goal
 
 pub returns : goal.returns
 returns c =
-    let sound = c.self.invariant in
+    let sound = c.self.invariant.sound in
     subst (λ (s : SeatState). IsBounded s) c.self.view_is
     record {
       number = subst (λ (i : ℕ). i < c.self.inside.node.count) c.me-node.ensures.value c.me-node.ensures.below;
       most = sound.most;
       within = subst (λ (k : KeptPart). IsWithinPromise k.promised k.accepted) c.kept.ensures c.accepted-vote.ensures.within;
       owned = λ j lt.
-          subst (λ (n : ℕ). ((get_or c.self.inside.proposers j no_proposer).started ≡ 0) ⊎ Owns n j (get_or c.self.inside.proposers j no_proposer).started) (sym sound.count)
+          subst (λ (n : ℕ). ((get_or (proposers_shown c.self.inside.seen) j no_proposer).started ≡ 0) ⊎ Owns n j (get_or (proposers_shown c.self.inside.seen) j no_proposer).started) (sym sound.count)
           (sound.owned j (subst (λ (n : ℕ). j < n) sound.count lt));
       proposal = λ b v e. let low : v < 255 = proposed_value _ sound b v e in omega arith;
     }

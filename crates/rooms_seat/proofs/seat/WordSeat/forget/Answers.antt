@@ -1,12 +1,13 @@
 use Rattle.std.proofs.Common.{◌≡◌, ℕ, ◌<◌, ◌∙◌, subst}
 use Rattle.rooms_state.proofs.Looks.{forgets}
 use Rattle.rooms_state.proofs.Moves.{forgot_sound, forgotten, found_own}
+use Rattle.rooms_met.proofs.Sweeps.{unquiet}
 use Rattle.rooms_seat.proofs.Steps.{word_below}
 use Rattle.rooms_seat.proofs.seat.WordSeat.forget.Goals as goal
 
 pub load-proposer-requires : goal.load-proposer-requires
 load-proposer-requires c =
-    let sound = c.self.invariant in
+    let sound = c.self.invariant.sound in
     let at : c.from-place.result ≡ c.self.inside.node.me = c.from-place.ensures ∙ c.me.ensures.value in
     let mine : c.from-place.result < c.self.inside.node.count = rw at (subst (λ (i : ℕ). i < c.self.inside.node.count) c.me.ensures.value c.me.ensures.below) in
     record {
@@ -19,7 +20,7 @@ load-proposer-requires c =
 pub load-acceptor-requires : goal.load-acceptor-requires
 load-acceptor-requires c =
     let found = c.load-proposer.ensures in
-    let sound = forgot_sound _ c.self.invariant c.load-proposer.new.self.at found.at c.load-proposer.new.self.me.0 found.told.forgot in
+    let sound = forgot_sound _ c.self.invariant.sound c.load-proposer.new.self.at found.at c.load-proposer.new.self.me.0 found.told.forgot in
     let at : c.from-place.result ≡ c.self.inside.node.me = c.from-place.ensures ∙ c.me.ensures.value in
     let mine : c.from-place.result < c.self.inside.node.count = rw at (subst (λ (i : ℕ). i < c.self.inside.node.count) c.me.ensures.value c.me.ensures.below) in
     record {
@@ -33,15 +34,16 @@ pub invariant_of-self : goal.invariant_of-self
 invariant_of-self c =
     let first = c.load-proposer.ensures in
     let second = c.load-acceptor.ensures in
-    (forgotten _ c.self.invariant c.load-proposer.new.self.at c.load-acceptor.new.self.at first.at second.at c.load-proposer.new.self.me.0 c.load-acceptor.new.self.me.0 first.told.forgot second.told.forgot
-    c.forget.new.self c.forget.ensures.state).0
+    unquiet _
+    ((forgotten _ c.self.invariant.sound c.load-proposer.new.self.at c.load-acceptor.new.self.at first.at second.at c.load-proposer.new.self.me.0 c.load-acceptor.new.self.me.0 first.told.forgot second.told.forgot
+    c.forget.new.self c.forget.ensures.state).0)
 
 pub returns-clause-forgotten : goal.returns-clause-forgotten
 returns-clause-forgotten c =
     let first = c.load-proposer.ensures in
     let second = c.load-acceptor.ensures in
     rw (← c.self.view_is)
-    (forgotten _ c.self.invariant c.load-proposer.new.self.at c.load-acceptor.new.self.at first.at second.at c.load-proposer.new.self.me.0 c.load-acceptor.new.self.me.0 first.told.forgot second.told.forgot
+    (forgotten _ c.self.invariant.sound c.load-proposer.new.self.at c.load-acceptor.new.self.at first.at second.at c.load-proposer.new.self.me.0 c.load-acceptor.new.self.me.0 first.told.forgot second.told.forgot
     c.forget.new.self c.forget.ensures.state).1
 
 pub returns-clause-found : goal.returns-clause-found
@@ -51,5 +53,5 @@ returns-clause-found c =
     let at : c.from-place.result ≡ c.self.inside.node.me = c.from-place.ensures ∙ c.me.ensures.value in
     let mine : c.from-place.result < c.self.inside.node.count = rw at (subst (λ (i : ℕ). i < c.self.inside.node.count) c.me.ensures.value c.me.ensures.below) in
     rw (← c.self.view_is)
-    (found_own _ c.self.invariant c.load-proposer.new.self.at c.load-acceptor.new.self.at first.at second.at c.load-proposer.new.self.me.0 c.load-acceptor.new.self.me.0 c.from-place.result at mine
+    (found_own _ c.self.invariant.sound c.load-proposer.new.self.at c.load-acceptor.new.self.at first.at second.at c.load-proposer.new.self.me.0 c.load-acceptor.new.self.me.0 c.from-place.result at mine
     c.load-proposer.result c.load-acceptor.result first.told second.told c.unpack.result c.unpack-2.result c.unpack.ensures.started c.unpack.ensures.proposed c.unpack-2.ensures.promised c.unpack-2.ensures.accepted)

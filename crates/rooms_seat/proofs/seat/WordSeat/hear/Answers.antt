@@ -6,4 +6,4 @@ use Rattle.rooms_seat.proofs.seat.WordSeat.hear.Goals as goal
 pub hear-requires : goal.hear-requires
 hear-requires c =
     let one = ap (λ (s : SeatState). s.table) c.self.view_is ∙ (c.requires ∙ sym (ap (λ (s : SeatState). s.table) c.other.view_is)) in
-    record { room = one; live = c.other.invariant.seated.live; words = some_word _ c.self.invariant }
+    record { room = one; live = c.other.invariant.sound.seated.live; words = some_word _ c.self.invariant.sound }

@@ -1,13 +1,14 @@
-use Rattle.std.proofs.Common.{ℕ, ◌<◌, sym, subst, refl}
+use Rattle.std.proofs.Common.{ℕ, Bool, ◌<◌, sym, subst, refl}
 use Rattle.rooms_state.proofs.Looks.{looks_at_acceptor}
 use Rattle.rooms_state.specs.SeatState.{SeatState}
-use Rattle.rooms_state.proofs.Moves.{acceptor_look}
+use Rattle.rooms_met.specs.Seen.{IsKept}
+use Rattle.rooms_met.proofs.Sweeps.{acceptor_again, acceptor_noted, seat_of, unquiet}
 use Rattle.rooms_seat.proofs.Steps.{word_below}
 use Rattle.rooms_seat.proofs.seat.WordSeat.look_acceptor.Goals as goal
 
 pub load-found-requires : goal.load-found-requires
 load-found-requires c =
-    let sound = c.self.invariant in
+    let sound = c.self.invariant.sound in
     let low : c.from-place.result < c.self.inside.node.count =
     rw c.from-place.ensures (subst (λ (s : SeatState). c.args.j < s.node.count) (sym c.self.view_is) c.requires) in
     record {
@@ -19,19 +20,42 @@ load-found-requires c =
 
 pub invariant_of-self : goal.invariant_of-self
 invariant_of-self c =
-    let sound = c.self.invariant in
+    let kept = c.self.invariant in
     let low : c.from-place.result < c.self.inside.node.count =
     rw c.from-place.ensures (subst (λ (s : SeatState). c.args.j < s.node.count) (sym c.self.view_is) c.requires) in
     let found = c.load-found.ensures in
-    (acceptor_look _ sound c.from-place.result c.args.j c.load-found.result c.from-place.ensures low c.unpack-word.result c.unpack-word.ensures.promised c.unpack-word.ensures.accepted
-    c.load-found.new.self.at found.at c.load-found.new.self.me.0 (found.told c.from-place.result refl (subst (λ (n : ℕ). c.from-place.result < n) sound.count low)) c.heard.new.node c.heard.ensures).0
+    let still = subst (λ (q : Bool). IsKept q (seat_of c.self.inside.rights.at c.self.inside.rights.me.0 c.self.inside.node c.self.inside.proposed c.self.inside.seen)) c.if-self.true kept in
+    subst (λ (q : Bool). IsKept q (seat_of c.load-found.new.self.at c.load-found.new.self.me.0 c.self.inside.node c.self.inside.proposed c.self.inside.seen)) (sym c.if-self.true) (acceptor_again c.self.inside.rights.at c.self.inside.proposed c.self.inside.rights.me.0 c.self.inside.node c.self.inside.seen still c.from-place.result c.args.j c.load-found.result c.from-place.ensures low
+    c.unpack-word.result c.unpack-word.ensures.promised c.unpack-word.ensures.accepted c.load-found.new.self.at found.at c.load-found.new.self.me.0 (found.told c.from-place.result refl (subst (λ (n : ℕ). c.from-place.result < n) kept.sound.count low)) c.if-found-self.true).0
+
+pub returns-then-found-self : goal.returns-then-found-self
+returns-then-found-self c =
+    let kept = c.self.invariant in
+    let low : c.from-place.result < c.self.inside.node.count =
+    rw c.from-place.ensures (subst (λ (s : SeatState). c.args.j < s.node.count) (sym c.self.view_is) c.requires) in
+    let found = c.load-found.ensures in
+    let still = subst (λ (q : Bool). IsKept q (seat_of c.self.inside.rights.at c.self.inside.rights.me.0 c.self.inside.node c.self.inside.proposed c.self.inside.seen)) c.if-self.true kept in
+    rw (← c.self.view_is)
+    (acceptor_again c.self.inside.rights.at c.self.inside.proposed c.self.inside.rights.me.0 c.self.inside.node c.self.inside.seen still c.from-place.result c.args.j c.load-found.result c.from-place.ensures low
+    c.unpack-word.result c.unpack-word.ensures.promised c.unpack-word.ensures.accepted c.load-found.new.self.at found.at c.load-found.new.self.me.0 (found.told c.from-place.result refl (subst (λ (n : ℕ). c.from-place.result < n) kept.sound.count low)) c.if-found-self.true).1
+
+pub invariant_of-self-2 : goal.invariant_of-self-2
+invariant_of-self-2 c =
+    let kept = c.self.invariant in
+    let low : c.from-place.result < c.self.inside.node.count =
+    rw c.from-place.ensures (subst (λ (s : SeatState). c.args.j < s.node.count) (sym c.self.view_is) c.requires) in
+    let found = c.load-found.ensures in
+    unquiet _ (acceptor_noted c.self.inside.rights.at c.self.inside.proposed c.self.inside.rights.me.0 c.self.inside.node c.self.inside.seen kept.sound c.from-place.result c.args.j c.load-found.result c.from-place.ensures low
+    c.unpack-word.result c.unpack-word.ensures.promised c.unpack-word.ensures.accepted c.load-found.new.self.at found.at c.load-found.new.self.me.0 (found.told c.from-place.result refl (subst (λ (n : ℕ). c.from-place.result < n) kept.sound.count low))
+    c.note.new.node c.note.ensures.node c.note.new.seen c.note.ensures.seen).0
 
 pub returns : goal.returns
 returns c =
-    let sound = c.self.invariant in
+    let kept = c.self.invariant in
     let low : c.from-place.result < c.self.inside.node.count =
     rw c.from-place.ensures (subst (λ (s : SeatState). c.args.j < s.node.count) (sym c.self.view_is) c.requires) in
     let found = c.load-found.ensures in
     rw (← c.self.view_is)
-    (acceptor_look _ sound c.from-place.result c.args.j c.load-found.result c.from-place.ensures low c.unpack-word.result c.unpack-word.ensures.promised c.unpack-word.ensures.accepted
-    c.load-found.new.self.at found.at c.load-found.new.self.me.0 (found.told c.from-place.result refl (subst (λ (n : ℕ). c.from-place.result < n) sound.count low)) c.heard.new.node c.heard.ensures).1
+    (acceptor_noted c.self.inside.rights.at c.self.inside.proposed c.self.inside.rights.me.0 c.self.inside.node c.self.inside.seen kept.sound c.from-place.result c.args.j c.load-found.result c.from-place.ensures low
+    c.unpack-word.result c.unpack-word.ensures.promised c.unpack-word.ensures.accepted c.load-found.new.self.at found.at c.load-found.new.self.me.0 (found.told c.from-place.result refl (subst (λ (n : ℕ). c.from-place.result < n) kept.sound.count low))
+    c.note.new.node c.note.ensures.node c.note.new.seen c.note.ensures.seen).1

@@ -4,8 +4,9 @@ use Rattle.paxos_core_world.specs.declared.vote.Vote.{Vote}
 use Rattle.rooms_rights.specs.Act.TheVariants as act
 use Rattle.rooms_state.specs.Words.{IsAcceptorWord, IsVoteInWord}
 use Rattle.rooms_state.specs.Steps.{StoresAcceptor}
-use Rattle.rooms_state.specs.SeatState.{SeatState}
+use Rattle.rooms_state.specs.SeatState.{proposer_of, SeatState}
 use Rattle.rooms_state.proofs.Acts.{kept_value, promise_allowed, promise_sound}
+use Rattle.rooms_met.proofs.Sweeps.{unquiet}
 use Rattle.rooms_seat.proofs.Steps.{word_below}
 use Rattle.rooms_seat.proofs.seat.WordSeat.promise.Goals as goal
 
@@ -21,13 +22,15 @@ pack-requires c =
     let is : c.accepted.result ≡ c.self.inside.node.kept.accepted = c.accepted.ensures.value ∙ ap (λ (k : KeptPart). k.accepted) c.kept.ensures in
     fits c.accepted.result (λ x e. (
       within c.accepted.result _ (subst (λ (o : Option Vote). IfSome o (λ y. (1 ≤ y.ballot) × (y.ballot ≤ c.kept.result.promised))) (sym c.accepted.ensures.value) c.accepted.ensures.within) x e,
-      kept_value _ c.self.invariant x (sym is ∙ e),
+      kept_value _ c.self.invariant.sound x (sym is ∙ e),
     ))
 
 pub store-requires : goal.store-requires
 store-requires c =
-    let sound = c.self.invariant in
-    let low : c.from.result < c.self.inside.node.count = rw c.from.ensures (subst (λ (s : SeatState). c.args.j < s.node.count) (sym c.self.view_is) c.requires) in
+    let sound = c.self.invariant.sound in
+    let low : c.args.j < c.self.inside.node.count = subst (λ (s : SeatState). c.args.j < s.node.count) (sym c.self.view_is) c.requires in
+    let seen = c.last_seen.ensures ∙ sym (ap (λ (s : SeatState). proposer_of s c.args.j) c.self.view_is) in
+    let told = rw seen at c.in_ok-ballot.ensures in
     let at : c.from-place.result ≡ c.self.inside.node.me = c.from-place.ensures ∙ c.me.ensures.value in
     let mine : c.from-place.result < c.self.inside.node.count = rw at (subst (λ (i : ℕ). i < c.self.inside.node.count) c.me.ensures.value c.me.ensures.below) in
     let is : c.accepted.result ≡ c.self.inside.node.kept.accepted = c.accepted.ensures.value ∙ ap (λ (k : KeptPart). k.accepted) c.kept.ensures in
@@ -35,12 +38,13 @@ store-requires c =
       seated = sound.seated;
       words = sound.words;
       below = (word_below _ sound c.from-place.result mine).1;
-      allowed = λ o. promise_allowed _ o _ _ c.self.inside.rights.me _ _ _ _ sound c.from-place.result c.pack.result at c.from.result c.in_ok-ballot.ballot low c.in_ok-ballot.ensures
+      allowed = λ o. promise_allowed _ o _ _ c.self.inside.rights.me _ _ _ _ sound c.from-place.result c.pack.result at c.args.j c.in_ok-ballot.ballot low told
           (subst (λ (o : Option Vote). IsAcceptorWord c.pack.result c.in_ok-ballot.ballot o) is c.pack.ensures.word);
     }
 
 pub invariant_of-self : goal.invariant_of-self
 invariant_of-self c =
     let found = c.store.ensures in
-    promise_sound _ c.self.invariant c.store.new.self.me.0 c.pack.result c.store.new.self.at found.at c.on-promise.new.self c.in_ok-ballot.ballot
-    (subst (λ (b : ℕ). StoresAcceptor (act.Promise b) c.pack.result c.self.inside.rights.me.0 c.store.new.self.me.0) c.pack.ensures.word.tells_promised found.told) c.on-promise.ensures.state
+    unquiet _
+    (promise_sound _ c.self.invariant.sound c.store.new.self.me.0 c.pack.result c.store.new.self.at found.at c.on-promise.new.self c.in_ok-ballot.ballot
+    (subst (λ (b : ℕ). StoresAcceptor (act.Promise b) c.pack.result c.self.inside.rights.me.0 c.store.new.self.me.0) c.pack.ensures.word.tells_promised found.told) c.on-promise.ensures.state)

@@ -4,12 +4,13 @@ use Rattle.rooms_rights.specs.NodeState.{NodeState}
 use Rattle.rooms_rights.specs.Proposer.{next_ballot}
 use Rattle.rooms_state.specs.Words.{IsProposerWord}
 use Rattle.rooms_state.proofs.Acts.{start_allowed, start_sound}
+use Rattle.rooms_met.proofs.Sweeps.{unquiet}
 use Rattle.rooms_seat.proofs.Steps.{word_below}
 use Rattle.rooms_seat.proofs.seat.WordSeat.start.Goals as goal
 
 pub store-requires : goal.store-requires
 store-requires c =
-    let sound = c.self.invariant in
+    let sound = c.self.invariant.sound in
     let at : c.from-place.result ≡ c.self.inside.node.me = c.from-place.ensures ∙ c.me.ensures.value in
     let mine : c.from-place.result < c.self.inside.node.count = rw at (subst (λ (i : ℕ). i < c.self.inside.node.count) c.me.ensures.value c.me.ensures.below) in
     let spent : 65535 < next_ballot c.self.inside.node → ⊥ = λ h. let bad : false ≡ true = c.in-Ok.ensures.spent.1 h in cc in
@@ -27,4 +28,5 @@ pub invariant_of-self : goal.invariant_of-self
 invariant_of-self c =
     let found = c.store.ensures in
     let spent : 65535 < next_ballot c.self.inside.node → ⊥ = λ h. let bad : false ≡ true = c.in-Ok.ensures.spent.1 h in cc in
-    start_sound _ c.self.invariant c.store.new.self.me.0 c.pack.result c.store.new.self.at found.at c.start.new.self found.told c.pack.ensures.word.tells_proposed (omega arith) c.in-Ok.ensures.ok.1
+    unquiet _
+    (start_sound _ c.self.invariant.sound c.store.new.self.me.0 c.pack.result c.store.new.self.at found.at c.start.new.self found.told c.pack.ensures.word.tells_proposed (omega arith) c.in-Ok.ensures.ok.1)

@@ -21,7 +21,7 @@ use Rattle.rooms_state.specs.Views.{world_after, BeginsWith}
 use Rattle.rooms_state.proofs.HearLemmas.{me_hearing}
 use Rattle.rooms_state.proofs.RunLemmas.{world_after-append, begins_through}
 use Rattle.rooms_state.specs.Did.{LookedAtAcceptor, LookedAtProposer}
-use Rattle.rooms_seat.specs.Meeting.{IsKnown, LookedOn, HaveMet}
+use Rattle.rooms_met.specs.Met.{IsKnown, LookedOn, HaveMet}
 use Rattle.rooms_state.specs.SeatState.{SeatState}
 use Rattle.rooms_state.specs.Sound.{IsSound}
 use Rattle.rooms_state.proofs.Moves.{kept_hearing}
@@ -37,7 +37,7 @@ count_shown : (s : NodeState) (j : ℕ) (x : Option Vote) → (after_shown_vote 
 count_shown s j None = refl
 count_shown s j (Some x) = count_if (notes_vote s j x) s _ refl
 
-count_hearing : (s : NodeState) (j p : ℕ) (x : Option Vote) → (after_hearing s j p x).count ≡ s.count
+pub count_hearing : (s : NodeState) (j p : ℕ) (x : Option Vote) → (after_hearing s j p x).count ≡ s.count
 count_hearing s j p x = count_shown (after_promise s j p x) j x ∙ count_if (notes_promise s j p x) s _ refl
 
 seen_more : (v : View) (steps : List Label) (t : NodeState) (w : View) → Advances v steps t w → BeginsWith w.seen v.seen
@@ -88,10 +88,10 @@ on_through a b c h k =
       learned = λ v e. k.learned v (h.learned v e);
     }
 
--- after the looks at one node more
-pub on_next : (first s m t : SeatState) (j : ℕ) (x : ProposerWord) (y : AcceptorWord) (k : ℕ) → (k ≡ 0 → s ≡ first) → (0 < k → LookedOn first s) → LookedAtProposer j x s m → LookedAtAcceptor j y m t → LookedOn first t
-on_next first s m t j x y zero at on p q = subst (λ (z : SeatState). LookedOn z t) (at refl) (on_through s m t (on_proposer j x s m p) (on_acceptor j y m t q))
-on_next first s m t j x y (suc k) at on p q = on_through first s t (on (omega arith)) (on_through s m t (on_proposer j x s m p) (on_acceptor j y m t q))
+-- what is looked at then, after k looks
+pub on_then : (k : ℕ) (first s t : SeatState) → (k ≡ 0 → s ≡ first) → (0 < k → LookedOn first s) → LookedOn s t → LookedOn first t
+on_then zero first s t at on h = subst (λ (z : SeatState). LookedOn z t) (at refl) h
+on_then (suc k) first s t at on h = on_through first s t (on (omega arith)) h
 
 -- ---- telling
 

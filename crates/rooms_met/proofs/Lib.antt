@@ -1,0 +1,4 @@
+pub mod Meetings
+pub mod Sweeps
+pub mod Anew
+pub mod Openings
