@@ -325,7 +325,7 @@ impl WordSeat {
 }
 
 /// Puts the number down that was found of node `j`'s acceptor, and the node notes what it shows.
-#[inline(never)]
+#[inline(always)]
 pub(crate) fn note(node: &mut Node, seen: &mut SeenWords, j: u8, found: u64)
     ensures node { node.new ≡ after_hearing node.old j (promised_in found) (accepted_in found) }
     ensures seen { seen.new ≡ record seen.old { acceptor = found } }
