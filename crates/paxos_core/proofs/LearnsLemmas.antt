@@ -1,15 +1,14 @@
--- A node learns at once, and a vote or a promise that is noted again changes nothing.
-use Rattle.std.proofs.Common.{◌≡◌, ◌≢◌, ℕ, zero, suc, Bool, true, false, cond, ltb, ◌&&◌, List, [], ◌∷◌, set, Option, Some, None, IsTrue, IsSome, refl, sym, ap, ◌∙◌, subst, inl, inr}
-use Rattle.std.proofs.lemmas.Bool.{cases_eq, cond_both, eq-eqb, ne_eqb}
+-- A node learns at once, and a vote that is noted again changes nothing.
+use Rattle.std.proofs.Common.{◌≡◌, ℕ, zero, suc, Bool, true, false, List, [], ◌∷◌, set, Option, Some, None, IsTrue, IsSome, refl, sym, ap, ◌∙◌, subst, inl, inr}
+use Rattle.std.proofs.lemmas.Bool.{eq-eqb, cases_eq, cond_both}
 use Rattle.paxos_core_late_offers.specs.Quorum.{is_accept_quorum, IsAcceptQuorum}
 use Rattle.paxos_core_late_offers.specs.Vote.{Vote}
 use Rattle.paxos_core_late_offers.proofs.Quorums.{member_of, accept_quorum_grows}
-use Rattle.paxos_core_late_offers.specs.Learner.{after_promise, after_vote, is_report, is_under_way, learned_with, notes_promise, notes_vote, voted}
+use Rattle.paxos_core_late_offers.specs.Learner.{notes_vote, learned_with, voted, after_vote}
 use Rattle.paxos_core_late_offers.specs.NodeState.{NodeState, nothing_noted}
 use Rattle.paxos_core_late_offers.specs.Notes.{note_of, is_under, has_voted}
 use Rattle.paxos_core_late_offers.proofs.NoteLemmas.{note_of-set, note_of-nothing, voted_vote}
 use Rattle.paxos_core.specs.LearnsAtOnce.{LearnsAtOnce}
-use Rattle.paxos_core.specs.Noting.{IsPromiseNoted}
 
 -- ---- where nothing is noted
 
@@ -30,7 +29,7 @@ under_vote None b y e h = absurd (cc)
 under_vote (Some z) b y e h = let same : z ≡ y = cc in eq-eqb z.ballot b (ap (λ (u : Vote). u.ballot) same ∙ h)
 
 -- who has voted under another ballot had voted under it before
-voted_before : (votes : List (Option Vote)) (a : ℕ) (x : Vote) (b : ℕ) → (x.ballot ≡ b → ⊥) → (k : ℕ) → IsTrue (has_voted (set votes a (Some x)) b k) → IsTrue (has_voted votes b k)
+pub voted_before : (votes : List (Option Vote)) (a : ℕ) (x : Vote) (b : ℕ) → (x.ballot ≡ b → ⊥) → (k : ℕ) → IsTrue (has_voted (set votes a (Some x)) b k) → IsTrue (has_voted votes b k)
 voted_before votes a x b other k h =
     let y = voted_vote (set votes a (Some x)) b k h in
     elim (note_of-set votes a k x y.0 y.1) [
@@ -53,12 +52,13 @@ learns_no_more n votes learned a x h short = learns_on n votes learned learned a
 
 -- ---- the same vote again
 
-set_again : {T : Type 0} (notes : List (Option T)) (a : ℕ) (x : T) → note_of notes a ≡ Some x → set notes a (Some x) ≡ notes
+set_again : (votes : List (Option Vote)) (a : ℕ) (x : Vote) → note_of votes a ≡ Some x → set votes a (Some x) ≡ votes
 set_again [] a x h = absurd (cc)
 set_again (y ∷ ys) zero x h = ap (λ z. z ∷ ys) (sym h)
 set_again (y ∷ ys) (suc a) x h = ap (λ zs. y ∷ zs) (set_again ys a x h)
 
-learned_again : (learned : Option ℕ) (q : Bool) (v : ℕ) → (q ≡ true → IsSome learned) → learned_with learned q v ≡ learned
+-- what is learned stays, unless the vote is one of a quorum and nothing is learned
+pub learned_again : (learned : Option ℕ) (q : Bool) (v : ℕ) → (q ≡ true → IsSome learned) → learned_with learned q v ≡ learned
 learned_again (Some u) q v h = refl
 learned_again None true v h = absurd (let bad = h refl in cc)
 learned_again None false v h = refl
@@ -71,27 +71,3 @@ voted_again s a x h e =
 -- a vote that is noted is noted again
 pub noted_again : (s : NodeState) (a : ℕ) (x : Vote) → LearnsAtOnce s.count s.votes s.learned → note_of s.votes a ≡ Some x → after_vote s a x ≡ s
 noted_again s a x h e = cond_both (notes_vote s a x) (voted s a x) s (λ t. t ≡ s) (λ _. voted_again s a x h e) (λ _. refl)
-
--- ---- the same promise again
-
-not_under_way : (o : Option ℕ) (b : ℕ) → o ≢ Some b → is_under_way o b ≡ false
-not_under_way None b h = refl
-not_under_way (Some c) b h = elim (cases_eq c b) [
-  | inl same ↦ absurd (h (ap {B = Option ℕ} (λ (x : ℕ). Some x) same))
-  | inr other ↦ ne_eqb c b other
-]
-
-unless : (p q r : Bool) (t : Bool) → t ≡ false → (p && (q && (r && t))) ≡ false
-unless true true true t e = e
-unless true true false t e = refl
-unless true false r t e = refl
-unless false q r t e = refl
-
--- a promise that is noted, or whose ballot is not under way, is noted again
-pub promised_again : (s : NodeState) (a b : ℕ) (report : Option Vote) → IsPromiseNoted s a b report → after_promise s a b report ≡ s
-promised_again s a b report (inl away) =
-    ap (λ (t : Bool). cond t (record s { promises = set s.promises a (Some report) }) s)
-    (unless (ltb 0 b) (ltb a s.count) (is_report s.count b report) (is_under_way s.ballot b) (not_under_way s.ballot b away))
-promised_again s a b report (inr noted) =
-    cond_both (notes_promise s a b report) (record s { promises = set s.promises a (Some report) }) s (λ t. t ≡ s)
-    (λ _. ap (λ (ps : List (Option (Option Vote))). record s { promises = ps }) (set_again s.promises a report noted.1)) (λ _. refl)

@@ -1,5 +1,5 @@
 ghost use Rattle.std.specs.Prelude.{◌≡◌, ℕ, ◌<◌, ◌≤◌, ◌↔◌, IsTrue, IsErr, IsNone, OnErr, IfOk, Some, None, SomeIff, false};
-ghost use Rattle.paxos_core.specs.Noting.{IsPromiseNoted, TakesItsSteps};
+ghost use Rattle.paxos_core.specs.Noting.{TakesItsSteps};
 ghost use Rattle.paxos_core_late_offers.specs.KeptPart.{nothing_kept};
 ghost use Rattle.paxos_core_late_offers.specs.World.{World};
 ghost use Rattle.paxos_core_late_offers.specs.Msg.TheVariants.{Accepted, Prepare, Promise};
@@ -313,17 +313,6 @@ impl Node {
         if sound && self.ballot == Some(ballot) {
             self.promises[usize::from(from)] = Some(report);
         }
-    }
-
-    /// Whether to note this promise of node `from` changes nothing: its ballot is not under way, or just it is noted.
-    pub fn has_noted_promise(&self, from: u8, ballot: u16, report: Option<Vote>) -> bool
-        ensures is { IsTrue result ↔ IsPromiseNoted self.now from ballot report }
-        ensures same { IsTrue result → after_promise self.now from ballot report ≡ self.now }
-    {
-        if self.ballot != Some(ballot) {
-            return true;
-        }
-        from < self.count && self.promises[usize::from(from)] == Some(report)
     }
 
     /// Whether just this vote of node `from` is noted: then to note it again changes nothing.

@@ -1,4 +1,4 @@
+pub mod Hearing
 pub mod Meetings
 pub mod Sweeps
-pub mod Anew
 pub mod Openings

@@ -1,5 +1,6 @@
 -- Two seats of one room that have told each other what they have seen have learned one value.
-use Rattle.std.proofs.Common.{◌≡◌, ℕ, zero, suc, ◌<◌, Bool, true, false, cond, List, [], ◌++◌, append_assoc, Option, Some, None, refl, sym, ap, ◌∙◌, subst, arith}
+use Rattle.std.proofs.Common.{◌≡◌, ℕ, zero, suc, ◌<◌, ◌≤◌, Bool, true, false, cond, List, [], ◌++◌, append_assoc, Option, Some, None, refl, sym, ap, ◌∙◌, subst, inl, inr, arith}
+use Rattle.std.proofs.lemmas.Bool.{cases_lt}
 use Rattle.paxos_core_world.specs.KeptPart.{KeptPart}
 use Rattle.paxos_core_world.specs.Step.{Label}
 use Rattle.paxos_core_world.specs.World.{World, Has, nodes_of}
@@ -21,7 +22,7 @@ use Rattle.rooms_state.specs.Views.{world_after, BeginsWith}
 use Rattle.rooms_state.proofs.HearLemmas.{me_hearing}
 use Rattle.rooms_state.proofs.RunLemmas.{world_after-append, begins_through}
 use Rattle.rooms_state.specs.Did.{LookedAtAcceptor, LookedAtProposer}
-use Rattle.rooms_met.specs.Met.{IsKnown, LookedOn, HaveMet}
+use Rattle.rooms_met.specs.Met.{IsKnown, LookedBefore, LookedOn, HaveMet}
 use Rattle.rooms_state.specs.SeatState.{SeatState}
 use Rattle.rooms_state.specs.Sound.{IsSound}
 use Rattle.rooms_state.proofs.Moves.{kept_hearing}
@@ -92,6 +93,19 @@ on_through a b c h k =
 pub on_then : (k : ℕ) (first s t : SeatState) → (k ≡ 0 → s ≡ first) → (0 < k → LookedOn first s) → LookedOn s t → LookedOn first t
 on_then zero first s t at on h = subst (λ (z : SeatState). LookedOn z t) (at refl) h
 on_then (suc k) first s t at on h = on_through first s t (on (omega arith)) h
+
+-- it has looked at all, once it has looked at the others
+pub on_all : (first : ℕ) (old mid new : SeatState) → LookedBefore first old mid → (first ≡ mid.node.count → new ≡ mid) → (first < mid.node.count → LookedOn mid new) → LookedOn old new
+on_all first old mid new before none some = elim (cases_lt first mid.node.count) [
+  | inl lt ↦ on_then first old mid new before.none before.some (some lt)
+  | inr ge ↦ subst (λ (s : SeatState). LookedOn old s) (sym (none (same ge))) (before.some (positive ge))
+]
+  where
+    same : mid.node.count ≤ first → first ≡ mid.node.count
+    same ge = let le : first ≤ mid.node.count = before.within in omega arith
+
+    positive : mid.node.count ≤ first → 0 < first
+    positive ge = let lt : 0 < mid.node.count = before.nodes in omega arith
 
 -- ---- telling
 

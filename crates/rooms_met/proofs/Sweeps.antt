@@ -1,5 +1,6 @@
 -- What a sweep of the words leaves of a seat.
-use Rattle.std.proofs.Common.{◌≡◌, ℕ, zero, suc, ◌<◌, ◌≤◌, Bool, true, false, List, [], ◌∷◌, Option, length, map, set, get_or, get_or-set_same, refl, sym, ap, ◌∙◌, subst, arith}
+use Rattle.std.proofs.Common.{◌≡◌, ℕ, zero, suc, ◌<◌, ◌≤◌, ◌⊎◌, List, [], ◌∷◌, Option, length, map, set, get_or, get_or-set_other, get_or-set_same, refl, sym, ap, ◌∙◌, subst, inl, inr, arith}
+use native.Mathlib.Decide.{ℕ_discrete}
 use Rattle.std.proofs.lemmas.List.{length-map, map-set, set-get_or}
 use Rattle.rooms_rights.specs.NodeState.{NodeState}
 use Rattle.rooms_rights.specs.RoomAt.{RoomAt}
@@ -12,11 +13,12 @@ use Rattle.rooms_state.specs.Heard.{after_hearing}
 use Rattle.rooms_state.specs.Steps.{LooksAtAcceptor, LooksAtProposer}
 use Rattle.rooms_state.specs.Words.{accepted_in, promised_in, proposed_in, started_in}
 use Rattle.rooms_state.specs.Did.{LookedAtAcceptor, LookedAtProposer}
-use Rattle.rooms_state.specs.SeatState.{SeatState, no_acceptor, no_proposer}
+use Rattle.rooms_state.specs.SeatState.{acceptor_of, SeatState, no_acceptor, no_proposer}
 use Rattle.rooms_state.specs.Sound.{IsSound}
 use Rattle.rooms_state.proofs.Moves.{acceptor_look, proposer_look}
 use Rattle.rooms_met.specs.Met.{LookedOn}
-use Rattle.rooms_met.specs.Seen.{acceptor_shown, acceptors_shown, proposer_shown, proposers_shown, with_acceptor, IsHeard, IsKept}
+use Rattle.rooms_met.specs.Seen.{acceptor_shown, acceptors_shown, proposer_shown, proposers_shown, with_acceptor, heard_with, IsHeard, IsKept}
+use Rattle.rooms_met.proofs.Hearing.{heard_before, heard_now, heard_other, heard_still, hears_again, SameNotes}
 use Rattle.rooms_met.proofs.Meetings.{on_acceptor, on_proposer, on_through}
 
 -- ---- the rows of words
@@ -54,13 +56,6 @@ proposers_stay xs j n =
 same_put : (xs : List SeenWords) (j : ℕ) → with_acceptor xs j (seen_of xs j).acceptor ≡ xs
 same_put xs j = set-get_or xs j none_seen
 
--- what is put down is what was seen last
-pub acceptor_now : (xs : List SeenWords) (place j n : ℕ) → place ≡ j → place < length (acceptors_shown xs) → (x : AcceptorWord) → x.promised ≡ promised_in n → x.accepted ≡ accepted_in n → get_or (acceptors_shown (with_acceptor xs place n)) j no_acceptor ≡ x
-acceptor_now xs place j n at lt x es ep =
-    subst (λ (i : ℕ). get_or (acceptors_shown (with_acceptor xs place n)) i no_acceptor ≡ x) at
-    (ap (λ (ys : List AcceptorWord). get_or ys place no_acceptor) (acceptor_put xs place n)
-    ∙ (get_or-set_same (acceptors_shown xs) place _ no_acceptor lt ∙ (λ i. record { promised = sym es i; accepted = sym ep i })))
-
 -- ---- the looks at one node
 
 -- a seat of these parts
@@ -92,41 +87,73 @@ module _ (table : RoomAt) (p : Option ℕ) where
       subst (λ (z : SeatState). IsSound z × LookedAtAcceptor j x (seat_of table v node p s) z) (λ i. after u w heard (sym (proposers_stay s place n) i) (row i))
       (acceptor_look (seat_of table v node p s) sound place j n at lt x es ep u eu w h heard eh)
 
-  -- a look at a proposer leaves a seat as quiet as it is
-  pub proposer_kept : (q : Bool) (v : View) (node : NodeState) (s : List SeenWords) → IsKept q (seat_of table v node p s) → (place j n : ℕ) → place ≡ j → place < node.count → (x : ProposerWord) → x.started ≡ started_in n → x.proposed ≡ proposed_in n
+  -- a look at a proposer leaves what was heard
+  pub proposer_kept : (heard : ℕ) (v : View) (node : NodeState) (s : List SeenWords) → IsKept heard (seat_of table v node p s) → (place j n : ℕ) → place ≡ j → place < node.count → (x : ProposerWord) → x.started ≡ started_in n → x.proposed ≡ proposed_in n
       → (u : RoomAt) → u ≡ table → (w : View) → LooksAtProposer place n v w
-      → IsKept q (seat_of u w node p (with_proposer s place n)) × LookedAtProposer j x (seat_of table v node p s) (seat_of u w node p (with_proposer s place n))
-  proposer_kept q v node s kept place j n at lt x es ep u eu w h =
+      → IsKept heard (seat_of u w node p (with_proposer s place n)) × LookedAtProposer j x (seat_of table v node p s) (seat_of u w node p (with_proposer s place n))
+  proposer_kept heard v node s kept place j n at lt x es ep u eu w h =
       let found = proposer_found v node s kept.sound place j n at lt x es ep u eu w h in (
         record {
           sound = found.0;
-          quiet_so = λ e i il. subst (λ (xs : List AcceptorWord). IsHeard node i (get_or xs i no_acceptor)) (sym (acceptors_stay s place n)) (kept.quiet_so e i il);
+          heard_so = λ i il. subst (λ (xs : List AcceptorWord). IsHeard node i (get_or xs i no_acceptor)) (sym (acceptors_stay s place n)) (kept.heard_so i il);
         },
         found.1,
       )
 
-  -- so does one at an acceptor, where the number is found again that was seen last
-  pub acceptor_again : (v : View) (node : NodeState) (s : List SeenWords) → IsKept true (seat_of table v node p s) → (place j n : ℕ) → place ≡ j → place < node.count → (x : AcceptorWord) → x.promised ≡ promised_in n → x.accepted ≡ accepted_in n
+  -- so does one at an acceptor whose word is heard, where the number is found again that was seen last
+  pub acceptor_again : (heard : ℕ) (v : View) (node : NodeState) (s : List SeenWords) → IsKept heard (seat_of table v node p s) → (place j n : ℕ) → place ≡ j → place < node.count → j < heard → (x : AcceptorWord) → x.promised ≡ promised_in n → x.accepted ≡ accepted_in n
       → (u : RoomAt) → u ≡ table → (w : View) → LooksAtAcceptor place n v w → n ≡ (seen_of s place).acceptor
-      → IsKept true (seat_of u w node p s) × LookedAtAcceptor j x (seat_of table v node p s) (seat_of u w node p s)
-  acceptor_again v node s kept place j n at lt x es ep u eu w h again =
+      → IsKept heard (seat_of u w node p s) × LookedAtAcceptor j x (seat_of table v node p s) (seat_of u w node p s)
+  acceptor_again heard v node s kept place j n at lt low x es ep u eu w h again =
       let word : get_or (acceptors_shown s) place no_acceptor ≡ x =
       acceptor_at s place ∙ (λ i. record { promised = (ap (λ (m : ℕ). promised_in m) (sym again) ∙ sym es) i; accepted = (ap (λ (m : ℕ). accepted_in m) (sym again) ∙ sym ep) i }) in
-      let heard : IsHeard node j x = subst (λ (i : ℕ). IsHeard node i x) at (subst (λ (y : AcceptorWord). IsHeard node place y) word (kept.quiet_so refl place lt)) in
-      let found = acceptor_found v node s kept.sound place j n at lt x es ep u eu w h node (sym heard) in
+      let had : IsHeard node j x = subst (λ (y : AcceptorWord). IsHeard node j y) (ap (λ (i : ℕ). get_or (acceptors_shown s) i no_acceptor) (sym at) ∙ word) (kept.heard_so j low) in
+      let found = acceptor_found v node s kept.sound place j n at lt x es ep u eu w h node (sym (hears_again node j x had)) in
       let same : with_acceptor s place n ≡ s = ap (λ (m : ℕ). with_acceptor s place m) again ∙ same_put s place in (
-        record { sound = subst (λ (xs : List SeenWords). IsSound (seat_of u w node p xs)) same found.0; quiet_so = kept.quiet_so },
+        record { sound = subst (λ (xs : List SeenWords). IsSound (seat_of u w node p xs)) same found.0; heard_so = kept.heard_so },
         subst (λ (xs : List SeenWords). LookedAtAcceptor j x (seat_of table v node p s) (seat_of u w node p xs)) same found.1,
       )
 
-  -- another number is put down, and the node hears it
-  pub acceptor_noted : (v : View) (node : NodeState) (s : List SeenWords) → IsSound (seat_of table v node p s) → (place j n : ℕ) → place ≡ j → place < node.count → (x : AcceptorWord) → x.promised ≡ promised_in n → x.accepted ≡ accepted_in n
-      → (u : RoomAt) → u ≡ table → (w : View) → LooksAtAcceptor place n v w → (heard : NodeState) → heard ≡ after_hearing node j (promised_in n) (accepted_in n) → (put : SeenWords) → put ≡ record (seen_of s place) { acceptor = n }
-      → IsSound (seat_of u w heard p (set s place put)) × LookedAtAcceptor j x (seat_of table v node p s) (seat_of u w heard p (set s place put))
-  acceptor_noted v node s sound place j n at lt x es ep u eu w h heard eh put is =
-      let hears : heard ≡ after_hearing node j x.promised x.accepted = eh ∙ (λ i. after_hearing node j (sym es i) (sym ep i)) in
-      subst (λ (y : SeenWords). IsSound (seat_of u w heard p (set s place y)) × LookedAtAcceptor j x (seat_of table v node p s) (seat_of u w heard p (set s place y))) (sym is)
-      (acceptor_found v node s sound place j n at lt x es ep u eu w h heard hears)
+  -- what was heard before is heard still once node j's word is, and that is heard
+  still_heard : (heard now : ℕ) (v : View) (node : NodeState) (s : List SeenWords) → IsKept heard (seat_of table v node p s) → (j n : ℕ) → j < node.count
+      → ((k : ℕ) → k < now → (k ≡ j) ⊎ (k < heard))
+      → (k : ℕ) → k < now → IsHeard (after_hearing node j (promised_in n) (accepted_in n)) k (get_or (acceptors_shown (with_acceptor s j n)) k no_acceptor)
+  still_heard heard now v node s kept j n lt which k low = by_case (ℕ_discrete k j) (which k low)
+    where
+      hears : NodeState
+      hears = after_hearing node j (promised_in n) (accepted_in n)
+
+      room : j < length (acceptors_shown s)
+      room = let row : length (acceptors_shown s) ≡ 7 = kept.sound.acceptor_row in let most : node.count ≤ 7 = kept.sound.most in omega arith
+
+      now_there : get_or (acceptors_shown (with_acceptor s j n)) j no_acceptor ≡ record { promised = promised_in n; accepted = accepted_in n }
+      now_there = ap (λ (xs : List AcceptorWord). get_or xs j no_acceptor) (acceptor_put s j n) ∙ get_or-set_same (acceptors_shown s) j _ no_acceptor room
+
+      as_before : (k ≡ j → ⊥) → get_or (acceptors_shown (with_acceptor s j n)) k no_acceptor ≡ get_or (acceptors_shown s) k no_acceptor
+      as_before d = ap (λ (xs : List AcceptorWord). get_or xs k no_acceptor) (acceptor_put s j n) ∙ get_or-set_other (acceptors_shown s) j k _ no_acceptor d
+
+      by_case : Dec (k ≡ j) → (k ≡ j) ⊎ (k < heard) → IsHeard hears k (get_or (acceptors_shown (with_acceptor s j n)) k no_acceptor)
+      by_case (yes e) _ =
+          subst (λ (i : ℕ). IsHeard hears i (get_or (acceptors_shown (with_acceptor s j n)) i no_acceptor)) (sym e)
+          (subst (λ (x : AcceptorWord). IsHeard hears j x) (sym now_there) (heard_now node j (record { promised = promised_in n; accepted = accepted_in n })))
+      by_case (no d) (inl e) = absurd (d e)
+      by_case (no d) (inr before) =
+          subst (λ (x : AcceptorWord). IsHeard hears k x) (sym (as_before d)) (heard_other node k j (get_or (acceptors_shown s) k no_acceptor) (promised_in n) (accepted_in n) d (kept.heard_so k before))
+
+  -- a number is put down, and the node hears it
+  pub acceptor_noted : (heard now : ℕ) (v : View) (node : NodeState) (s : List SeenWords) → IsKept heard (seat_of table v node p s) → (place j n : ℕ) → place ≡ j → place < node.count → (x : AcceptorWord) → x.promised ≡ promised_in n → x.accepted ≡ accepted_in n
+      → (u : RoomAt) → u ≡ table → (w : View) → LooksAtAcceptor place n v w → (hears : NodeState) → hears ≡ after_hearing node j (promised_in n) (accepted_in n) → (put : SeenWords) → put ≡ record (seen_of s place) { acceptor = n } → now ≡ heard_with heard j
+      → IsKept now (seat_of u w hears p (set s place put)) × LookedAtAcceptor j x (seat_of table v node p s) (seat_of u w hears p (set s place put))
+  acceptor_noted heard now v node s kept place j n at lt x es ep u eu w h hears eh put is en =
+      let same : hears ≡ after_hearing node j x.promised x.accepted = eh ∙ (λ i. after_hearing node j (sym es i) (sym ep i)) in
+      let found = acceptor_found v node s kept.sound place j n at lt x es ep u eu w h hears same in
+      let which : (k : ℕ) → k < now → (k ≡ j) ⊎ (k < heard) = λ k low. heard_before heard j k (subst (λ (m : ℕ). k < m) en low) in
+      let low : j < node.count = subst (λ (i : ℕ). i < node.count) at lt in
+      let all : (k : ℕ) → k < now → IsHeard hears k (get_or (acceptors_shown (with_acceptor s place n)) k no_acceptor) = λ k l.
+      subst (λ (i : ℕ). IsHeard hears k (get_or (acceptors_shown (with_acceptor s i n)) k no_acceptor)) (sym at)
+      (subst (λ (z : NodeState). IsHeard z k (get_or (acceptors_shown (with_acceptor s j n)) k no_acceptor)) (sym eh) (still_heard heard now v node s kept j n low which k l)) in
+      subst (λ (y : SeenWords). IsKept now (seat_of u w hears p (set s place y)) × LookedAtAcceptor j x (seat_of table v node p s) (seat_of u w hears p (set s place y))) (sym is)
+      (record { sound = found.0; heard_so = all }, found.1)
 
   -- both words of a node were looked at
   pub node_found : (v : View) (node : NodeState) (s : List SeenWords) → IsSound (seat_of table v node p s) → (j number : ℕ) → j < node.count → (w : View) (t : List SeenWords) → LookedAtNode j number v s w t
@@ -170,21 +197,21 @@ module _ (table : RoomAt) (p : Option ℕ) where
   length_shown : (r : List SeenWords) → length (proposers_shown r) ≡ length r
   length_shown r = length-map r proposer_shown
 
-  pub swept_on : (v : View) (node : NodeState) (s : List SeenWords) → IsKept true (seat_of table v node p s) → (j : ℕ) → j ≤ node.count → (w : View) (t : List SeenWords) → Swept j v s w t → SweptOn v node s j w t
-  swept_on v node s kept zero most w t h =
+  pub swept_on : (heard : ℕ) (v : View) (node : NodeState) (s : List SeenWords) → IsKept heard (seat_of table v node p s) → node.count ≤ heard → (j : ℕ) → j ≤ node.count → (w : View) (t : List SeenWords) → Swept j v s w t → SweptOn v node s j w t
+  swept_on heard v node s kept all zero most w t h =
       record {
         sound = subst (λ (z : View). IsSound (seat_of table z node p t)) (sym h.0) (subst (λ (xs : List SeenWords). IsSound (seat_of table v node p xs)) (sym h.1) kept.sound);
         same = ap acceptors_shown h.1;
         start = λ e. h;
         on = λ lt. absurd (omega arith);
       }
-  swept_on v node s kept (suc j) most w t (u, r, h, k) =
-      let before = swept_on v node s kept j (omega arith) u r h in
+  swept_on heard v node s kept all (suc j) most w t (u, r, h, k) =
+      let before = swept_on heard v node s kept all j (omega arith) u r h in
       let word : get_or (acceptors_shown s) j no_acceptor ≡ acceptor_shown (seen_of r j) = sym (ap (λ (xs : List AcceptorWord). get_or xs j no_acceptor) before.same) ∙ acceptor_at r j in
-      let heard : IsHeard node j (acceptor_shown (seen_of r j)) = subst (λ (y : AcceptorWord). IsHeard node j y) word (kept.quiet_so refl j (omega arith)) in
+      let had : IsHeard node j (acceptor_shown (seen_of r j)) = subst (λ (y : AcceptorWord). IsHeard node j y) word (kept.heard_so j (omega arith)) in
       let row : length r ≡ 7 = sym (length_shown r) ∙ before.sound.proposer_row in
       let few : node.count ≤ 7 = before.sound.most in
-      let both = node_found u node r before.sound j (seen_of r j).acceptor (omega arith) w t k node (sym heard) t (shown_again r t j k.found (omega arith) k.put) in
+      let both = node_found u node r before.sound j (seen_of r j).acceptor (omega arith) w t k node (sym (hears_again node j (acceptor_shown (seen_of r j)) had)) t (shown_again r t j k.found (omega arith) k.put) in
       record {
         sound = both.0;
         same = ap acceptors_shown k.put ∙ (acceptors_stay r j k.found ∙ before.same);
@@ -193,24 +220,40 @@ module _ (table : RoomAt) (p : Option ℕ) where
       }
 
   -- all nodes were looked at
-  pub all_swept : (v : View) (node : NodeState) (s : List SeenWords) → IsKept true (seat_of table v node p s) → (w : View) (t : List SeenWords) → Swept node.count v s w t
-      → IsKept true (seat_of table w node p t) × (0 < node.count → LookedOn (seat_of table v node p s) (seat_of table w node p t))
-  all_swept v node s kept w t h =
-      let on = swept_on v node s kept node.count (omega arith) w t h in (
-        record { sound = on.sound; quiet_so = λ e j lt. subst (λ (xs : List AcceptorWord). IsHeard node j (get_or xs j no_acceptor)) (sym on.same) (kept.quiet_so refl j lt) },
+  pub all_swept : (heard : ℕ) (v : View) (node : NodeState) (s : List SeenWords) → IsKept heard (seat_of table v node p s) → node.count ≤ heard → (w : View) (t : List SeenWords) → Swept node.count v s w t
+      → IsKept heard (seat_of table w node p t) × (0 < node.count → LookedOn (seat_of table v node p s) (seat_of table w node p t))
+  all_swept heard v node s kept all w t h =
+      let on = swept_on heard v node s kept all node.count (omega arith) w t h in (
+        record { sound = on.sound; heard_so = λ j lt. subst (λ (xs : List AcceptorWord). IsHeard node j (get_or xs j no_acceptor)) (sym on.same) (kept.heard_so j lt) },
         on.on,
       )
 
-  -- it stopped at a node, and that heard what was found
-  pub swept_until : (v : View) (node : NodeState) (s : List SeenWords) → IsKept true (seat_of table v node p s) → (j number : ℕ) (w : View) (t : List SeenWords) → StoppedAt j number node.count v s w t
-      → (heard : NodeState) → heard ≡ after_hearing node j (promised_in number) (accepted_in number) → (r : List SeenWords) → r ≡ with_acceptor t j number
-      → IsSound (seat_of table w heard p r) × LookedOn (seat_of table v node p s) (seat_of table w heard p r)
-  swept_until v node s kept j number w t h heard eh r er =
+  -- it stopped at a node, and heard what was found
+  pub swept_until : (heard : ℕ) (v : View) (node : NodeState) (s : List SeenWords) → IsKept heard (seat_of table v node p s) → node.count ≤ heard → (j number : ℕ) (w : View) (t : List SeenWords) → StoppedAt j number node.count v s w t
+      → (hears : NodeState) → hears ≡ after_hearing node j (promised_in number) (accepted_in number) → (r : List SeenWords) → r ≡ with_acceptor t j number
+      → IsKept heard (seat_of table w hears p r) × LookedOn (seat_of table v node p s) (seat_of table w hears p r)
+  swept_until heard v node s kept all j number w t h hears eh r er =
       let below : j < node.count = h.node in
-      let before = swept_on v node s kept j (omega arith) h.before h.seen h.swept in
-      let last = node_found h.before node h.seen before.sound j number below w t h.looked heard eh r er in
-      (last.0, on_more v node s j h.before h.seen before (seat_of table w heard p r) last.1)
+      let before = swept_on heard v node s kept all j (omega arith) h.before h.seen h.swept in
+      let last = node_found h.before node h.seen before.sound j number below w t h.looked hears eh r er in
+      let kept' : IsKept heard (seat_of table h.before node p h.seen) =
+      record { sound = before.sound; heard_so = λ k lt. subst (λ (xs : List AcceptorWord). IsHeard node k (get_or xs k no_acceptor)) (sym before.same) (kept.heard_so k lt) } in
+      let shown : acceptors_shown r ≡ acceptors_shown (with_acceptor h.seen j number) =
+      ap acceptors_shown er ∙ (acceptor_put t j number ∙ (ap (λ (xs : List AcceptorWord). set xs j (record { promised = promised_in number; accepted = accepted_in number })) (ap acceptors_shown h.looked.put ∙ acceptors_stay h.seen j h.looked.found) ∙ sym (acceptor_put h.seen j number))) in
+      let each : (k : ℕ) → k < heard → IsHeard hears k (get_or (acceptors_shown r) k no_acceptor) = λ k lt.
+      subst (λ (xs : List AcceptorWord). IsHeard hears k (get_or xs k no_acceptor)) (sym shown)
+      (subst (λ (z : NodeState). IsHeard z k (get_or (acceptors_shown (with_acceptor h.seen j number)) k no_acceptor)) (sym eh)
+      (still_heard heard heard h.before node h.seen kept' j number below (λ i il. inr il) k lt)) in
+      (record { sound = last.0; heard_so = each }, on_more v node s j h.before h.seen before (seat_of table w hears p r) last.1)
 
--- a seat that is not said to be quiet
-pub unquiet : (s : SeatState) → IsSound s → IsKept false s
-unquiet s sound = record { sound = sound; quiet_so = λ e. absurd (let bad : false ≡ true = e in cc) }
+-- a seat that has heard no word that it saw last
+pub none_heard : (s : SeatState) → IsSound s → IsKept 0 s
+none_heard s sound = record { sound = sound; heard_so = λ j lt. absurd (omega arith) }
+
+-- a seat keeps what it has heard where nothing of its notes changes, nor what it saw of acceptors
+pub kept_heard : (heard : ℕ) (s t : SeatState) → IsKept heard s → IsSound t → t.acceptors ≡ s.acceptors → SameNotes s.node t.node → IsKept heard t
+kept_heard heard s t kept sound same notes =
+    record {
+      sound = sound;
+      heard_so = λ j lt. subst (λ (xs : List AcceptorWord). IsHeard t.node j (get_or xs j no_acceptor)) (sym same) (heard_still s.node t.node notes j (acceptor_of s j) (kept.heard_so j lt));
+    }

@@ -37,6 +37,13 @@ pub record LookedOn (old new : SeatState) : Type 0 where
   pub kept : new.node.kept ≡ old.node.kept
   pub learned : (v : ℕ) → old.node.learned ≡ Some v → new.node.learned ≡ Some v
 
+-- it has looked at the nodes before this one, of all that there are
+pub record LookedBefore (first : ℕ) (old new : SeatState) : Type 0 where
+  pub nodes : 0 < new.node.count
+  pub within : first ≤ new.node.count
+  pub none : first ≡ 0 → new ≡ old
+  pub some : 0 < first → LookedOn old new
+
 -- what a meeting leaves of a seat
 pub record Remains (old new : SeatState) : Type 0 where
   pub opening : new.view.opening ≡ old.view.opening

@@ -1,11 +1,12 @@
--- What a seat holds of the words of its room: the numbers that it saw last.
-use Rattle.std.specs.Prelude.{◌≡◌, ℕ, ◌<◌, Bool, true, List, map, slice_set}
+-- What a seat holds of the words of its room: the numbers that it saw last, and which of the words its node has heard.
+use Rattle.std.specs.Prelude.{◌≡◌, ℕ, ◌<◌, ◌+◌, ◌==◌, if◌then◌else◌, List, map, slice_set}
+use Rattle.rooms_rights.specs.Learner.{after_promise}
 use Rattle.rooms_rights.specs.NodeState.{NodeState}
 use Rattle.rooms_rights.specs.declared.seen.SeenWords.{SeenWords}
 use Rattle.rooms_rights.specs.Sweep.{seen_of}
 use Rattle.rooms_state.specs.AcceptorWord.{AcceptorWord}
 use Rattle.rooms_state.specs.ProposerWord.{ProposerWord}
-use Rattle.rooms_state.specs.Heard.{after_hearing}
+use Rattle.rooms_state.specs.Heard.{after_shown_vote}
 use Rattle.rooms_state.specs.SeatState.{SeatState, acceptor_of}
 use Rattle.rooms_state.specs.Sound.{IsSound}
 use Rattle.rooms_state.specs.Words.{accepted_in, promised_in, proposed_in, started_in}
@@ -27,15 +28,16 @@ acceptors_shown seen = map acceptor_shown seen
 abbrev pub with_acceptor : List SeenWords → ℕ → ℕ → List SeenWords
 with_acceptor seen j found = slice_set seen j (record (seen_of seen j) { acceptor = found })
 
--- to hear this word of node j's acceptor leaves the node as it is
-abbrev pub IsHeard : NodeState → ℕ → AcceptorWord → Type 0
-IsHeard s j x = after_hearing s j x.promised x.accepted ≡ s
+-- to note again the promise that this word of node j's acceptor shows leaves the node as it is, and so does its vote
+pub record IsHeard (s : NodeState) (j : ℕ) (x : AcceptorWord) : Type 0 where
+  pub promise : after_promise s j x.promised x.accepted ≡ s
+  pub vote : after_shown_vote s j x.accepted ≡ s
 
--- to hear again any acceptor's word that the seat saw last leaves its node as it is
-abbrev pub IsQuiet : SeatState → Type 0
-IsQuiet s = (j : ℕ) → j < s.node.count → IsHeard s.node j (acceptor_of s j)
+-- how many of the first nodes' words are heard, once node j's is
+abbrev pub heard_with : ℕ → ℕ → ℕ
+heard_with heard j = if heard == j then j + 1 else heard
 
--- a seat keeps this, and where it says so it is quiet
-pub record IsKept (quiet : Bool) (s : SeatState) : Type 0 where
+-- a seat keeps this: of the first so many nodes it has heard the acceptors' words that it saw last
+pub record IsKept (heard : ℕ) (s : SeatState) : Type 0 where
   pub sound : IsSound s
-  pub quiet_so : quiet ≡ true → IsQuiet s
+  pub heard_so : (j : ℕ) → j < heard → IsHeard s.node j (acceptor_of s j)

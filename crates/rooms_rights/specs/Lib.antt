@@ -4,9 +4,11 @@ pub use Rattle.rooms_table.specs.Family
 pub use Rattle.rooms_table.specs.Opened
 pub use Rattle.rooms_table.specs.RoomAt
 pub use Rattle.rooms_table.specs.declared.view.Openings
+pub use Rattle.rooms_rule.specs.Acceptor
 pub use Rattle.rooms_rule.specs.LateOffer
 pub use Rattle.rooms_rule.specs.Learner
 pub use Rattle.rooms_rule.specs.NodeState
+pub use Rattle.rooms_rule.specs.Notes
 pub use Rattle.rooms_rule.specs.Proposer
 pub use Rattle.rooms_rule.specs.Act
 pub use Rattle.rooms_rule.specs.declared.view.Opening

@@ -8,6 +8,7 @@ ghost use Rattle.rooms_seat.specs.Meeting.{IsBounded, IsKnown};
 ghost use Rattle.rooms_state.specs.SeatState.{opened_seat, own_words, CanOpen, promise_of, proposer_of, seen_world, vote_by, vote_of};
 ghost use Rattle.rooms_rights.specs.RoomAt.{HasWords};
 ghost use Rattle.rooms_rights.specs.NodeState.{IsRoomSize};
+ghost use Rattle.rooms_met.specs.Seen.{heard_with};
 ghost use Rattle.rooms_state.specs.Deal.{dealt, informed};
 ghost use Rattle.rooms_state.specs.Heard.{after_hearing};
 ghost use Rattle.rooms_state.specs.Words.{accepted_in, promised_in};
@@ -28,8 +29,9 @@ use std::marker::Model;
 #[derive(Drop)]
 pub struct WordSeat {
     pub(crate) rights: Rights,
-    /// To hear again any acceptor's word that was seen last would leave the node as it is.
-    pub(crate) quiet: bool,
+    /// How many nodes' words are heard, the first of all: to hear again an acceptor's word that was seen last would leave the node as
+    /// it is.
+    pub(crate) heard: u8,
     pub(crate) node: Node,
     pub(crate) seen: [SeenWords; 7],
     /// The value that the node has proposed in this run under the ballot that it started last.
@@ -51,7 +53,7 @@ impl Model for WordSeat {
       acceptors = acceptors_shown s.seen;
     } };
 
-    ghost invariant = { λ s. IsKept s.quiet record {
+    ghost invariant = { λ s. IsKept s.heard record {
       table = s.rights.at;
       view = s.rights.me.0;
       node = s.node;
@@ -74,7 +76,7 @@ impl WordSeat {
         let node = Node::new(me, opening.count).restart(kept[usize::from(me)]);
         WordSeat {
             rights,
-            quiet: false,
+            heard: 0,
             node,
             seen: [
                 opened_words(kept[0]),
@@ -109,11 +111,11 @@ impl WordSeat {
         let place = usize::from(j);
         let found = self.rights.load::<LooksAtAcceptor>(2 * place + 1);
         let word = AcceptorWord::unpack(found);
-        if self.quiet && found == self.seen[place].acceptor {
+        if j < self.heard && found == self.seen[place].acceptor {
             return word;
         }
-        self.quiet = false;
         note(&mut self.node, &mut self.seen[place], j, found);
+        self.heard = heard_with(self.heard, j);
         word
     }
 
@@ -134,7 +136,7 @@ impl WordSeat {
         };
         let place = usize::from(self.node.me());
         self.rights.store::<Starts>(2 * place, word.pack());
-        self.quiet = false;
+        self.heard = 0;
         self.node = next;
         self.proposed = None;
         Ok(started)
@@ -156,7 +158,6 @@ impl WordSeat {
         };
         let place = usize::from(self.node.me());
         self.rights.store::<Promises>(2 * place + 1, word.pack());
-        self.quiet = false;
         self.node = next;
         Some(ballot)
     }
@@ -178,7 +179,6 @@ impl WordSeat {
         };
         let place = usize::from(self.node.me());
         self.rights.store::<Proposes>(2 * place, word.pack());
-        self.quiet = false;
         self.node = next;
         self.proposed = proposed;
         Some((ballot, value))
@@ -201,7 +201,6 @@ impl WordSeat {
         };
         let place = usize::from(self.node.me());
         self.rights.store::<Accepts>(2 * place + 1, word.pack());
-        self.quiet = false;
         self.node = next;
         Some(vote)
     }
@@ -237,7 +236,7 @@ impl WordSeat {
         let place = usize::from(self.node.me());
         let proposer = self.rights.load::<Forgets>(2 * place);
         let acceptor = self.rights.load::<Forgets>(2 * place + 1);
-        self.quiet = false;
+        self.heard = 0;
         self.node.forget();
         (
             ProposerWord::unpack(proposer),
@@ -249,7 +248,6 @@ impl WordSeat {
     pub fn offer(&mut self)
         ensures { self.new ≡ record self.old { node = offered self.old.node } }
     {
-        self.quiet = false;
         let _first = self.node.offer();
     }
 
@@ -331,11 +329,19 @@ pub(crate) fn note(node: &mut Node, seen: &mut SeenWords, j: u8, found: u64)
     ensures seen { seen.new ≡ record seen.old { acceptor = found } }
 {
     seen.acceptor = found;
-    heard(node, j, AcceptorWord::unpack(found));
+    hear_word(node, j, AcceptorWord::unpack(found));
+}
+
+/// How many nodes' words are heard, the first of all, once node `j`'s is.
+fn heard_with(heard: u8, j: u8) -> u8
+    requires { j < 255 }
+    ensures { result ≡ heard_with heard j }
+{
+    if heard == j { j + 1 } else { heard }
 }
 
 /// The node notes what the word of node `j`'s acceptor shows: nothing of a vote that it has noted already.
-fn heard(node: &mut Node, j: u8, word: AcceptorWord)
+fn hear_word(node: &mut Node, j: u8, word: AcceptorWord)
     ensures { node.new ≡ after_hearing node.old j word.promised word.accepted }
 {
     node.note_promise(j, word.promised, word.accepted);

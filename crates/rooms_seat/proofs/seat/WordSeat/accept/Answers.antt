@@ -1,11 +1,12 @@
-use Rattle.std.proofs.Common.{◌≡◌, ℕ, ◌<◌, Option, Some, IfSome, sym, ap, ◌∙◌, subst}
+use Rattle.std.proofs.Common.{◌≡◌, ℕ, ◌<◌, Option, Some, IfSome, refl, sym, ap, ◌∙◌, subst}
 use Rattle.paxos_core_world.specs.declared.vote.Vote.{Vote}
 use Rattle.rooms_rights.specs.Act.TheVariants as act
 use Rattle.rooms_state.specs.Steps.{StoresAcceptor}
 use Rattle.rooms_rights.specs.ProposerWord.{ProposerWord}
 use Rattle.rooms_state.specs.SeatState.{proposer_of, vote_by, SeatState}
 use Rattle.rooms_state.proofs.Acts.{given_ballot, given_value, vote_allowed, vote_seen, vote_sound}
-use Rattle.rooms_met.proofs.Sweeps.{unquiet}
+use Rattle.rooms_met.proofs.Hearing.{same_voted}
+use Rattle.rooms_met.proofs.Sweeps.{kept_heard}
 use Rattle.rooms_seat.proofs.Steps.{word_below}
 use Rattle.rooms_seat.proofs.seat.WordSeat.accept.Goals as goal
 
@@ -27,9 +28,10 @@ store-requires c =
 pub invariant_of-self : goal.invariant_of-self
 invariant_of-self c =
     let found = c.store.ensures in
-    unquiet _
+    kept_heard _ _ _ c.self.invariant
     (vote_sound _ c.self.invariant.sound c.store.new.self.me.0 c.pack.result c.store.new.self.at found.at c.on-accepted.new.self c.in_ok-vote.vote
     (subst (λ (o : Option Vote). IfSome o (λ y. StoresAcceptor (act.Accept y.ballot y.value) c.pack.result c.self.inside.rights.me.0 c.store.new.self.me.0)) c.pack.ensures.word.tells_accepted found.told) c.on-accepted.ensures.state)
+    refl (same_voted c.self.inside.node c.on-accepted.new.self c.in_ok-vote.vote c.on-accepted.ensures.state)
 
 pub pack-requires : goal.pack-requires
 pack-requires c =

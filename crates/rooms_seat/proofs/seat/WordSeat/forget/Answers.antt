@@ -1,7 +1,7 @@
 use Rattle.std.proofs.Common.{◌≡◌, ℕ, ◌<◌, ◌∙◌, subst}
 use Rattle.rooms_state.proofs.Looks.{forgets}
 use Rattle.rooms_state.proofs.Moves.{forgot_sound, forgotten, found_own}
-use Rattle.rooms_met.proofs.Sweeps.{unquiet}
+use Rattle.rooms_met.proofs.Sweeps.{none_heard}
 use Rattle.rooms_seat.proofs.Steps.{word_below}
 use Rattle.rooms_seat.proofs.seat.WordSeat.forget.Goals as goal
 
@@ -34,7 +34,7 @@ pub invariant_of-self : goal.invariant_of-self
 invariant_of-self c =
     let first = c.load-proposer.ensures in
     let second = c.load-acceptor.ensures in
-    unquiet _
+    none_heard _
     ((forgotten _ c.self.invariant.sound c.load-proposer.new.self.at c.load-acceptor.new.self.at first.at second.at c.load-proposer.new.self.me.0 c.load-acceptor.new.self.me.0 first.told.forgot second.told.forgot
     c.forget.new.self c.forget.ensures.state).0)
 

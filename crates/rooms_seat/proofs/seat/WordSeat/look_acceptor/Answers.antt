@@ -1,8 +1,7 @@
-use Rattle.std.proofs.Common.{ℕ, Bool, ◌<◌, sym, subst, refl}
+use Rattle.std.proofs.Common.{ℕ, ◌<◌, sym, subst, refl}
 use Rattle.rooms_state.proofs.Looks.{looks_at_acceptor}
 use Rattle.rooms_state.specs.SeatState.{SeatState}
-use Rattle.rooms_met.specs.Seen.{IsKept}
-use Rattle.rooms_met.proofs.Sweeps.{acceptor_again, acceptor_noted, seat_of, unquiet}
+use Rattle.rooms_met.proofs.Sweeps.{acceptor_again, acceptor_noted}
 use Rattle.rooms_seat.proofs.Steps.{word_below}
 use Rattle.rooms_seat.proofs.seat.WordSeat.look_acceptor.Goals as goal
 
@@ -24,8 +23,7 @@ invariant_of-self c =
     let low : c.from-place.result < c.self.inside.node.count =
     rw c.from-place.ensures (subst (λ (s : SeatState). c.args.j < s.node.count) (sym c.self.view_is) c.requires) in
     let found = c.load-found.ensures in
-    let still = subst (λ (q : Bool). IsKept q (seat_of c.self.inside.rights.at c.self.inside.rights.me.0 c.self.inside.node c.self.inside.proposed c.self.inside.seen)) c.if-self.true kept in
-    subst (λ (q : Bool). IsKept q (seat_of c.load-found.new.self.at c.load-found.new.self.me.0 c.self.inside.node c.self.inside.proposed c.self.inside.seen)) (sym c.if-self.true) (acceptor_again c.self.inside.rights.at c.self.inside.proposed c.self.inside.rights.me.0 c.self.inside.node c.self.inside.seen still c.from-place.result c.args.j c.load-found.result c.from-place.ensures low
+    (acceptor_again c.self.inside.rights.at c.self.inside.proposed c.self.inside.heard c.self.inside.rights.me.0 c.self.inside.node c.self.inside.seen kept c.from-place.result c.args.j c.load-found.result c.from-place.ensures low c.if-j-self.true
     c.unpack-word.result c.unpack-word.ensures.promised c.unpack-word.ensures.accepted c.load-found.new.self.at found.at c.load-found.new.self.me.0 (found.told c.from-place.result refl (subst (λ (n : ℕ). c.from-place.result < n) kept.sound.count low)) c.if-found-self.true).0
 
 pub returns-then-found-self : goal.returns-then-found-self
@@ -34,9 +32,8 @@ returns-then-found-self c =
     let low : c.from-place.result < c.self.inside.node.count =
     rw c.from-place.ensures (subst (λ (s : SeatState). c.args.j < s.node.count) (sym c.self.view_is) c.requires) in
     let found = c.load-found.ensures in
-    let still = subst (λ (q : Bool). IsKept q (seat_of c.self.inside.rights.at c.self.inside.rights.me.0 c.self.inside.node c.self.inside.proposed c.self.inside.seen)) c.if-self.true kept in
     rw (← c.self.view_is)
-    (acceptor_again c.self.inside.rights.at c.self.inside.proposed c.self.inside.rights.me.0 c.self.inside.node c.self.inside.seen still c.from-place.result c.args.j c.load-found.result c.from-place.ensures low
+    (acceptor_again c.self.inside.rights.at c.self.inside.proposed c.self.inside.heard c.self.inside.rights.me.0 c.self.inside.node c.self.inside.seen kept c.from-place.result c.args.j c.load-found.result c.from-place.ensures low c.if-j-self.true
     c.unpack-word.result c.unpack-word.ensures.promised c.unpack-word.ensures.accepted c.load-found.new.self.at found.at c.load-found.new.self.me.0 (found.told c.from-place.result refl (subst (λ (n : ℕ). c.from-place.result < n) kept.sound.count low)) c.if-found-self.true).1
 
 pub invariant_of-self-2 : goal.invariant_of-self-2
@@ -45,9 +42,9 @@ invariant_of-self-2 c =
     let low : c.from-place.result < c.self.inside.node.count =
     rw c.from-place.ensures (subst (λ (s : SeatState). c.args.j < s.node.count) (sym c.self.view_is) c.requires) in
     let found = c.load-found.ensures in
-    unquiet _ (acceptor_noted c.self.inside.rights.at c.self.inside.proposed c.self.inside.rights.me.0 c.self.inside.node c.self.inside.seen kept.sound c.from-place.result c.args.j c.load-found.result c.from-place.ensures low
+    (acceptor_noted c.self.inside.rights.at c.self.inside.proposed c.self.inside.heard c.heard_with-self-inside.result c.self.inside.rights.me.0 c.self.inside.node c.self.inside.seen kept c.from-place.result c.args.j c.load-found.result c.from-place.ensures low
     c.unpack-word.result c.unpack-word.ensures.promised c.unpack-word.ensures.accepted c.load-found.new.self.at found.at c.load-found.new.self.me.0 (found.told c.from-place.result refl (subst (λ (n : ℕ). c.from-place.result < n) kept.sound.count low))
-    c.note.new.node c.note.ensures.node c.note.new.seen c.note.ensures.seen).0
+    c.note.new.node c.note.ensures.node c.note.new.seen c.note.ensures.seen c.heard_with-self-inside.ensures).0
 
 pub returns : goal.returns
 returns c =
@@ -56,6 +53,6 @@ returns c =
     rw c.from-place.ensures (subst (λ (s : SeatState). c.args.j < s.node.count) (sym c.self.view_is) c.requires) in
     let found = c.load-found.ensures in
     rw (← c.self.view_is)
-    (acceptor_noted c.self.inside.rights.at c.self.inside.proposed c.self.inside.rights.me.0 c.self.inside.node c.self.inside.seen kept.sound c.from-place.result c.args.j c.load-found.result c.from-place.ensures low
+    (acceptor_noted c.self.inside.rights.at c.self.inside.proposed c.self.inside.heard c.heard_with-self-inside.result c.self.inside.rights.me.0 c.self.inside.node c.self.inside.seen kept c.from-place.result c.args.j c.load-found.result c.from-place.ensures low
     c.unpack-word.result c.unpack-word.ensures.promised c.unpack-word.ensures.accepted c.load-found.new.self.at found.at c.load-found.new.self.me.0 (found.told c.from-place.result refl (subst (λ (n : ℕ). c.from-place.result < n) kept.sound.count low))
-    c.note.new.node c.note.ensures.node c.note.new.seen c.note.ensures.seen).1
+    c.note.new.node c.note.ensures.node c.note.new.seen c.note.ensures.seen c.heard_with-self-inside.ensures).1

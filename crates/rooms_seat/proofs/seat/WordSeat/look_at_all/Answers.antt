@@ -1,4 +1,4 @@
-use Rattle.rooms_met.proofs.Anew.{on_all}
+use Rattle.rooms_met.proofs.Meetings.{on_all}
 use Rattle.rooms_seat.proofs.seat.WordSeat.look_at_all.Goals as goal
 
 pub returns-in-Some : goal.returns-in-Some

@@ -23,7 +23,7 @@ invariant_of-self c =
     let low : c.from-place.result < c.self.inside.node.count =
     rw c.from-place.ensures (subst (λ (s : SeatState). c.args.j < s.node.count) (sym c.self.view_is) c.requires) in
     let found = c.load-found.ensures in
-    (proposer_kept c.self.inside.rights.at c.self.inside.proposed c.self.inside.quiet c.self.inside.rights.me.0 c.self.inside.node c.self.inside.seen kept c.from-place.result c.args.j c.load-found.result c.from-place.ensures low
+    (proposer_kept c.self.inside.rights.at c.self.inside.proposed c.self.inside.heard c.self.inside.rights.me.0 c.self.inside.node c.self.inside.seen kept c.from-place.result c.args.j c.load-found.result c.from-place.ensures low
     c.unpack.result c.unpack.ensures.started c.unpack.ensures.proposed c.load-found.new.self.at found.at c.load-found.new.self.me.0 (found.told c.from-place.result refl (subst (λ (n : ℕ). c.from-place.result < n) kept.sound.count low))).0
 
 pub returns : goal.returns
@@ -33,5 +33,5 @@ returns c =
     rw c.from-place.ensures (subst (λ (s : SeatState). c.args.j < s.node.count) (sym c.self.view_is) c.requires) in
     let found = c.load-found.ensures in
     rw (← c.self.view_is)
-    (proposer_kept c.self.inside.rights.at c.self.inside.proposed c.self.inside.quiet c.self.inside.rights.me.0 c.self.inside.node c.self.inside.seen kept c.from-place.result c.args.j c.load-found.result c.from-place.ensures low
+    (proposer_kept c.self.inside.rights.at c.self.inside.proposed c.self.inside.heard c.self.inside.rights.me.0 c.self.inside.node c.self.inside.seen kept c.from-place.result c.args.j c.load-found.result c.from-place.ensures low
     c.unpack.result c.unpack.ensures.started c.unpack.ensures.proposed c.load-found.new.self.at found.at c.load-found.new.self.me.0 (found.told c.from-place.result refl (subst (λ (n : ℕ). c.from-place.result < n) kept.sound.count low))).1

@@ -1,8 +1,8 @@
-use Rattle.std.proofs.Common.{◌≡◌, false, ◌<◌, ◌≤◌, List, [], ◌∷◌, length, map, get_or, sym, ◌∙◌, subst, arith}
+use Rattle.std.proofs.Common.{◌≡◌, ◌<◌, ◌≤◌, List, [], ◌∷◌, length, map, get_or, sym, ◌∙◌, subst, arith}
 use Rattle.paxos_core_world.specs.KeptPart.{KeptPart, nothing_kept}
 use Rattle.rooms_state.specs.SeatState.{SeatState, opened_acceptor, opened_proposer}
 use Rattle.rooms_met.specs.Seen.{acceptor_shown, proposer_shown, IsKept}
-use Rattle.rooms_met.proofs.Sweeps.{unquiet}
+use Rattle.rooms_met.proofs.Sweeps.{none_heard}
 use Rattle.rooms_state.proofs.Opened.{opened_sound, room_size, seven}
 use Rattle.rooms_seat.proofs.Starting.{image_at, is_opened, kept_at, kept_fits}
 use Rattle.rooms_seat.proofs.seat.WordSeat.new.Goals as goal
@@ -36,8 +36,8 @@ returns c =
 
 pub invariant_of-result : goal.invariant_of-result
 invariant_of-result c =
-    subst (λ (s : SeatState). IsKept false s) (sym (returns c))
-    (unquiet _ (opened_sound c.args.rights.at c.args.opening.now c.args.me c.requires.words c.requires.opening c.requires.number))
+    subst (λ (s : SeatState). IsKept 0 s) (sym (returns c))
+    (none_heard _ (opened_sound c.args.rights.at c.args.opening.now c.args.me c.requires.words c.requires.opening c.requires.number))
 
 pub opened_words-requires : goal.opened_words-requires
 opened_words-requires c = kept_fits c.args.opening.now c.requires.opening 0 c.index-kept-0.result (omega arith)

@@ -1,6 +1,8 @@
+use Rattle.std.proofs.Common.{refl}
 use Rattle.rooms_state.proofs.Moves.{offer_sound}
-use Rattle.rooms_met.proofs.Sweeps.{unquiet}
+use Rattle.rooms_met.proofs.Hearing.{same_offered}
+use Rattle.rooms_met.proofs.Sweeps.{kept_heard}
 use Rattle.rooms_seat.proofs.seat.WordSeat.offer.Goals as goal
 
 pub invariant_of-self : goal.invariant_of-self
-invariant_of-self c = rw c.offer-first.ensures.state (unquiet _ (offer_sound _ c.self.invariant.sound))
+invariant_of-self c = rw c.offer-first.ensures.state (kept_heard _ _ _ c.self.invariant (offer_sound _ c.self.invariant.sound) refl (same_offered c.self.inside.node))

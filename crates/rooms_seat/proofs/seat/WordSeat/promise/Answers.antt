@@ -6,7 +6,8 @@ use Rattle.rooms_state.specs.Words.{IsAcceptorWord, IsVoteInWord}
 use Rattle.rooms_state.specs.Steps.{StoresAcceptor}
 use Rattle.rooms_state.specs.SeatState.{proposer_of, SeatState}
 use Rattle.rooms_state.proofs.Acts.{kept_value, promise_allowed, promise_sound}
-use Rattle.rooms_met.proofs.Sweeps.{unquiet}
+use Rattle.rooms_met.proofs.Hearing.{same_promised}
+use Rattle.rooms_met.proofs.Sweeps.{kept_heard}
 use Rattle.rooms_seat.proofs.Steps.{word_below}
 use Rattle.rooms_seat.proofs.seat.WordSeat.promise.Goals as goal
 
@@ -45,6 +46,7 @@ store-requires c =
 pub invariant_of-self : goal.invariant_of-self
 invariant_of-self c =
     let found = c.store.ensures in
-    unquiet _
+    kept_heard _ _ _ c.self.invariant
     (promise_sound _ c.self.invariant.sound c.store.new.self.me.0 c.pack.result c.store.new.self.at found.at c.on-promise.new.self c.in_ok-ballot.ballot
     (subst (λ (b : ℕ). StoresAcceptor (act.Promise b) c.pack.result c.self.inside.rights.me.0 c.store.new.self.me.0) c.pack.ensures.word.tells_promised found.told) c.on-promise.ensures.state)
+    refl (same_promised c.self.inside.node c.on-promise.new.self c.in_ok-ballot.ballot c.on-promise.ensures.state)

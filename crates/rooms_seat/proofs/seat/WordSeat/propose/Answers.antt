@@ -1,8 +1,9 @@
-use Rattle.std.proofs.Common.{◌≡◌, ℕ, ◌<◌, Some, sym, ap, ◌∙◌, subst, arith}
+use Rattle.std.proofs.Common.{◌≡◌, ℕ, ◌<◌, Some, refl, sym, ap, ◌∙◌, subst, arith}
 use Rattle.paxos_core_world.specs.KeptPart.{KeptPart}
 use Rattle.rooms_state.specs.Words.{IsProposerWord}
 use Rattle.rooms_state.proofs.Acts.{proposed_value, propose_allowed, propose_sound}
-use Rattle.rooms_met.proofs.Sweeps.{unquiet}
+use Rattle.rooms_met.proofs.Hearing.{same_proposed}
+use Rattle.rooms_met.proofs.Sweeps.{kept_heard}
 use Rattle.rooms_seat.proofs.Steps.{word_below}
 use Rattle.rooms_seat.proofs.seat.WordSeat.propose.Goals as goal
 
@@ -30,6 +31,7 @@ store-requires c =
 pub invariant_of-self : goal.invariant_of-self
 invariant_of-self c =
     let found = c.store.ensures in
-    unquiet _
+    kept_heard _ _ _ c.self.invariant
     (propose_sound _ c.self.invariant.sound c.store.new.self.me.0 c.pack.result c.store.new.self.at found.at c.propose-propose.new.self c.in_ok-ballot.ballot c.in_ok-ballot.value
     found.told c.pack.ensures.word.tells_proposed (sym c.in_ok-ballot.ensures) c.propose-propose.ensures.state)
+    refl (same_proposed c.self.inside.node c.propose-propose.new.self c.propose-propose.ensures.state)

@@ -4,7 +4,7 @@ use Rattle.rooms_rights.specs.NodeState.{NodeState}
 use Rattle.rooms_rights.specs.Proposer.{next_ballot}
 use Rattle.rooms_state.specs.Words.{IsProposerWord}
 use Rattle.rooms_state.proofs.Acts.{start_allowed, start_sound}
-use Rattle.rooms_met.proofs.Sweeps.{unquiet}
+use Rattle.rooms_met.proofs.Sweeps.{none_heard}
 use Rattle.rooms_seat.proofs.Steps.{word_below}
 use Rattle.rooms_seat.proofs.seat.WordSeat.start.Goals as goal
 
@@ -28,5 +28,5 @@ pub invariant_of-self : goal.invariant_of-self
 invariant_of-self c =
     let found = c.store.ensures in
     let spent : 65535 < next_ballot c.self.inside.node → ⊥ = λ h. let bad : false ≡ true = c.in-Ok.ensures.spent.1 h in cc in
-    unquiet _
+    none_heard _
     (start_sound _ c.self.invariant.sound c.store.new.self.me.0 c.pack.result c.store.new.self.at found.at c.start.new.self found.told c.pack.ensures.word.tells_proposed (omega arith) c.in-Ok.ensures.ok.1)

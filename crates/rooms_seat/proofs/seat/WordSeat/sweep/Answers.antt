@@ -1,50 +1,48 @@
-use Rattle.std.proofs.Common.{◌≡◌, ℕ, ◌<◌, Bool, true, set, sym, ap, ◌∙◌, subst, arith}
+use Rattle.std.proofs.Common.{◌≡◌, ℕ, ◌<◌, ◌≤◌, set, sym, ap, ◌∙◌, subst, arith}
 use Rattle.rooms_met.specs.Met.{LookedOn}
 use Rattle.rooms_met.specs.Seen.{with_acceptor, IsKept}
 use Rattle.rooms_met.proofs.Openings.{some_node}
-use Rattle.rooms_met.proofs.Sweeps.{all_swept, seat_of, swept_until, unquiet}
+use Rattle.rooms_met.proofs.Sweeps.{all_swept, seat_of, swept_until}
 use Rattle.rooms_rights.specs.NodeState.{IsRoomSize}
 use Rattle.rooms_rights.specs.RoomAt.{RoomAt}
 use Rattle.rooms_rights.specs.Sweep.{StoppedAt, Swept}
 use Rattle.rooms_rights.specs.declared.seen.SeenWords.{SeenWords}
-use Rattle.rooms_state.specs.Sound.{IsSound}
 use Rattle.rooms_seat.proofs.seat.WordSeat.sweep.Goals as goal
 
 pub invariant_of-self : goal.invariant_of-self
 invariant_of-self c =
-    let quiet : c.self.inside.quiet ≡ true = c.if-not-self.false in
-    let still = subst (λ (q : Bool). IsKept q (seat_of c.self.inside.rights.at c.self.inside.rights.me.0 c.self.inside.node c.self.inside.proposed c.self.inside.seen)) quiet c.self.invariant in
+    let heard : c.count-count.result ≤ c.self.inside.heard = c.if-self-count.false in
+    let whole : c.self.inside.node.count ≤ c.self.inside.heard = subst (λ (n : ℕ). n ≤ c.self.inside.heard) c.count-count.ensures.value heard in
     let told = subst (λ (n : ℕ). Swept n c.self.inside.rights.me.0 c.self.inside.seen c.sweep.new.self.me.0 c.sweep.new.seen) c.count-count.ensures.value c.in_err-j.ensures.told in
-    let all = all_swept c.self.inside.rights.at c.self.inside.proposed c.self.inside.rights.me.0 c.self.inside.node c.self.inside.seen still c.sweep.new.self.me.0 c.sweep.new.seen told in
-    subst (λ (q : Bool). IsKept q (seat_of c.sweep.new.self.at c.sweep.new.self.me.0 c.self.inside.node c.self.inside.proposed c.sweep.new.seen)) (sym quiet)
-    (subst (λ (u : RoomAt). IsKept true (seat_of u c.sweep.new.self.me.0 c.self.inside.node c.self.inside.proposed c.sweep.new.seen)) (sym c.sweep.ensures.at) all.0)
+    let all = all_swept c.self.inside.rights.at c.self.inside.proposed c.self.inside.heard c.self.inside.rights.me.0 c.self.inside.node c.self.inside.seen c.self.invariant whole c.sweep.new.self.me.0 c.sweep.new.seen told in
+    subst (λ (u : RoomAt). IsKept c.self.inside.heard (seat_of u c.sweep.new.self.me.0 c.self.inside.node c.self.inside.proposed c.sweep.new.seen)) (sym c.sweep.ensures.at) all.0
 
 pub returns-in_err-j-clause-all : goal.returns-in_err-j-clause-all
 returns-in_err-j-clause-all c = λ _.
-    let quiet : c.self.inside.quiet ≡ true = c.if-not-self.false in
-    let still = subst (λ (q : Bool). IsKept q (seat_of c.self.inside.rights.at c.self.inside.rights.me.0 c.self.inside.node c.self.inside.proposed c.self.inside.seen)) quiet c.self.invariant in
+    let heard : c.count-count.result ≤ c.self.inside.heard = c.if-self-count.false in
+    let whole : c.self.inside.node.count ≤ c.self.inside.heard = subst (λ (n : ℕ). n ≤ c.self.inside.heard) c.count-count.ensures.value heard in
     let told = subst (λ (n : ℕ). Swept n c.self.inside.rights.me.0 c.self.inside.seen c.sweep.new.self.me.0 c.sweep.new.seen) c.count-count.ensures.value c.in_err-j.ensures.told in
-    let all = all_swept c.self.inside.rights.at c.self.inside.proposed c.self.inside.rights.me.0 c.self.inside.node c.self.inside.seen still c.sweep.new.self.me.0 c.sweep.new.seen told in
+    let all = all_swept c.self.inside.rights.at c.self.inside.proposed c.self.inside.heard c.self.inside.rights.me.0 c.self.inside.node c.self.inside.seen c.self.invariant whole c.sweep.new.self.me.0 c.sweep.new.seen told in
     let some : 0 < c.self.inside.node.count = some_node (subst (λ (n : ℕ). IsRoomSize n) c.count-count.ensures.value c.count-count.ensures.size) in
     rw (← c.self.view_is)
     (subst (λ (u : RoomAt). LookedOn (seat_of c.self.inside.rights.at c.self.inside.rights.me.0 c.self.inside.node c.self.inside.proposed c.self.inside.seen) (seat_of u c.sweep.new.self.me.0 c.self.inside.node c.self.inside.proposed c.sweep.new.seen)) (sym c.sweep.ensures.at) (all.1 some))
 
 pub invariant_of-self-2 : goal.invariant_of-self-2
 invariant_of-self-2 c =
-    let quiet : c.self.inside.quiet ≡ true = c.if-not-self.false in
-    let still = subst (λ (q : Bool). IsKept q (seat_of c.self.inside.rights.at c.self.inside.rights.me.0 c.self.inside.node c.self.inside.proposed c.self.inside.seen)) quiet c.self.invariant in
+    let heard : c.count-count.result ≤ c.self.inside.heard = c.if-self-count.false in
+    let whole : c.self.inside.node.count ≤ c.self.inside.heard = subst (λ (n : ℕ). n ≤ c.self.inside.heard) c.count-count.ensures.value heard in
     let told = subst (λ (n : ℕ). StoppedAt c.in_ok-j.j c.in_ok-j.found n c.self.inside.rights.me.0 c.self.inside.seen c.sweep.new.self.me.0 c.sweep.new.seen) c.count-count.ensures.value c.in_ok-j.ensures.told in
     let put = ap (λ (y : SeenWords). set c.sweep.new.seen c.from.result y) c.note.ensures.seen ∙ ap (λ (i : ℕ). with_acceptor c.sweep.new.seen i c.in_ok-j.found) c.from.ensures in
-    let until = swept_until c.self.inside.rights.at c.self.inside.proposed c.self.inside.rights.me.0 c.self.inside.node c.self.inside.seen still c.in_ok-j.j c.in_ok-j.found c.sweep.new.self.me.0 c.sweep.new.seen told c.note.new.node c.note.ensures.node (set c.sweep.new.seen c.from.result c.note.new.seen) put in
-    unquiet _ (subst (λ (u : RoomAt). IsSound (seat_of u c.sweep.new.self.me.0 c.note.new.node c.self.inside.proposed (set c.sweep.new.seen c.from.result c.note.new.seen))) (sym c.sweep.ensures.at) until.0)
+    let until = swept_until c.self.inside.rights.at c.self.inside.proposed c.self.inside.heard c.self.inside.rights.me.0 c.self.inside.node c.self.inside.seen c.self.invariant whole c.in_ok-j.j c.in_ok-j.found c.sweep.new.self.me.0 c.sweep.new.seen told c.note.new.node c.note.ensures.node (set c.sweep.new.seen c.from.result c.note.new.seen) put in
+    subst (λ (u : RoomAt). IsKept c.self.inside.heard (seat_of u c.sweep.new.self.me.0 c.note.new.node c.self.inside.proposed (set c.sweep.new.seen c.from.result c.note.new.seen))) (sym c.sweep.ensures.at) until.0
 
 pub returns-clause-from : goal.returns-clause-from
 returns-clause-from c =
-    let quiet : c.self.inside.quiet ≡ true = c.if-not-self.false in
-    let still = subst (λ (q : Bool). IsKept q (seat_of c.self.inside.rights.at c.self.inside.rights.me.0 c.self.inside.node c.self.inside.proposed c.self.inside.seen)) quiet c.self.invariant in
+    let heard : c.count-count.result ≤ c.self.inside.heard = c.if-self-count.false in
+    let whole : c.self.inside.node.count ≤ c.self.inside.heard = subst (λ (n : ℕ). n ≤ c.self.inside.heard) c.count-count.ensures.value heard in
     let told = subst (λ (n : ℕ). StoppedAt c.in_ok-j.j c.in_ok-j.found n c.self.inside.rights.me.0 c.self.inside.seen c.sweep.new.self.me.0 c.sweep.new.seen) c.count-count.ensures.value c.in_ok-j.ensures.told in
     let put = ap (λ (y : SeenWords). set c.sweep.new.seen c.from.result y) c.note.ensures.seen ∙ ap (λ (i : ℕ). with_acceptor c.sweep.new.seen i c.in_ok-j.found) c.from.ensures in
-    let until = swept_until c.self.inside.rights.at c.self.inside.proposed c.self.inside.rights.me.0 c.self.inside.node c.self.inside.seen still c.in_ok-j.j c.in_ok-j.found c.sweep.new.self.me.0 c.sweep.new.seen told c.note.new.node c.note.ensures.node (set c.sweep.new.seen c.from.result c.note.new.seen) put in
+    let until = swept_until c.self.inside.rights.at c.self.inside.proposed c.self.inside.heard c.self.inside.rights.me.0 c.self.inside.node c.self.inside.seen c.self.invariant whole c.in_ok-j.j c.in_ok-j.found c.sweep.new.self.me.0 c.sweep.new.seen told c.note.new.node c.note.ensures.node (set c.sweep.new.seen c.from.result c.note.new.seen) put in
     let on = subst (λ (u : RoomAt). LookedOn (seat_of c.self.inside.rights.at c.self.inside.rights.me.0 c.self.inside.node c.self.inside.proposed c.self.inside.seen) (seat_of u c.sweep.new.self.me.0 c.note.new.node c.self.inside.proposed (set c.sweep.new.seen c.from.result c.note.new.seen))) (sym c.sweep.ensures.at) until.1 in
     let count : c.note.new.node.count ≡ c.self.inside.node.count = on.count in
     let below : c.in_ok-j.j < c.self.inside.node.count = told.node in
