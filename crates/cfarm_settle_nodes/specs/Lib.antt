@@ -2,3 +2,4 @@ pub mod Goes
 pub mod Learned
 pub mod Agreed
 pub mod Nodes
+pub mod Leads

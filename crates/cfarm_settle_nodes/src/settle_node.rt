@@ -1,6 +1,7 @@
 //! A node of a room of three.
 
-ghost use Rattle.std.specs.Prelude.{◌≡◌, ◌≢◌, IfErr};
+ghost use Rattle.std.specs.Prelude.{◌≡◌, ◌≢◌, ◌↔◌, IfErr, IsSome, IsTrue};
+ghost use Rattle.cfarm_settle_nodes.specs.Leads.{leads};
 ghost use Rattle.cfarm_settle_nodes.specs.Nodes.{HasTurned};
 
 use crate::node::turn;
@@ -47,12 +48,16 @@ impl<O: Oracle + Drop> SettleNode<O> {
     }
 
     /// Whether it has learned.
-    pub fn has_learned(&self) -> bool {
+    pub fn has_learned(&self) -> bool
+        ensures { IsTrue result ↔ IsSome self.now.seat.words.node.learned }
+    {
         self.seat.learned().is_some()
     }
 
     /// Whether its own ballot is under way, and it has promised no higher one.
-    pub fn leads(&self) -> bool {
+    pub fn leads(&self) -> bool
+        ensures { result ≡ leads self.now.seat.words.node }
+    {
         match self.seat.ballot() {
             Some(ballot) => ballot >= self.seat.kept().promised(),
             None => false,

@@ -1,4 +1,4 @@
-ghost use Rattle.std.specs.Prelude.{◌≡◌};
+ghost use Rattle.std.specs.Prelude.{◌≡◌, IfOk};
 ghost use Rattle.std.specs.Arc.{arc_value};
 ghost use Rattle.atomic_table.specs.Seated.{TableId};
 
@@ -56,7 +56,9 @@ impl Model for Opened {
 
 impl Opened {
     /// A hall in which no number was given.
-    pub fn new(alloc: Global) -> Result<Opened, AllocError> {
+    pub fn new(alloc: Global) -> Result<Opened, AllocError>
+        ensures { IfOk result (λ hall. hall.words ≡ 1) }
+    {
         let (board, _first) = Board::of_words(alloc, &[0], &())?;
         let board = Arc::new(alloc, board)?;
         Ok(Opened { board })
@@ -65,6 +67,7 @@ impl Opened {
     /// The hall, under its name.
     pub fn named<H: Naming>(self) -> Hall<H>
         requires { self ≡ H.hall }
+        ensures { H.hall.words ≡ 1 }
     {
         let Opened { board } = self;
         Hall {

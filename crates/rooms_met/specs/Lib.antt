@@ -1,2 +1,11 @@
 pub mod Met
 pub mod Seen
+pub use Rattle.rooms_rights.specs.AcceptorWord
+pub use Rattle.rooms_rights.specs.Act
+pub use Rattle.rooms_rights.specs.NodeState
+pub use Rattle.rooms_rights.specs.Opening
+pub use Rattle.rooms_rights.specs.Proposer
+pub use Rattle.rooms_rights.specs.ProposerWord
+pub use Rattle.rooms_rights.specs.RoomAt
+pub use Rattle.rooms_rights.specs.Sweep
+pub use Rattle.rooms_rights.specs.declared.seen.SeenWords

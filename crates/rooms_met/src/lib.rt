@@ -3,4 +3,7 @@
 //! seat stand.
 #![tactic(auto)]
 
-pub use rooms_rights::SeenWords;
+pub use rooms_rights::{
+    CoreError, Kept, Msg, Node, Rights, SeenWords, Step, Vote, acceptor, open_four, open_one,
+    proposer, settled, view,
+};

@@ -5,7 +5,7 @@ use Rattle.paxos_core_world.specs.KeptPart.{KeptPart}
 use Rattle.rooms_state.specs.Deal.{dealing}
 use Rattle.rooms_state.specs.Opening.{Opening}
 use Rattle.rooms_state.specs.View.{View}
-use Rattle.rooms_rights.specs.RoomAt.{HasWords, RoomAt}
+use Rattle.rooms_met.specs.RoomAt.{HasWords, RoomAt}
 use Rattle.rooms_state.specs.SeatState.{opening_of, CanOpen}
 
 -- which room it is, how it was opened, and whose seat comes next

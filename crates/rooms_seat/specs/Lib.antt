@@ -4,7 +4,7 @@ pub use Rattle.rooms_state.specs.Did
 pub use Rattle.rooms_state.specs.SeatState
 pub use Rattle.rooms_state.specs.Would
 pub use Rattle.rooms_state.specs.declared.act.Act
-pub use Rattle.rooms_rights.specs.RoomAt
-pub use Rattle.rooms_rights.specs.Opening
-pub use Rattle.rooms_rights.specs.AcceptorWord
-pub use Rattle.rooms_rights.specs.ProposerWord
+pub use Rattle.rooms_met.specs.RoomAt
+pub use Rattle.rooms_met.specs.Opening
+pub use Rattle.rooms_met.specs.AcceptorWord
+pub use Rattle.rooms_met.specs.ProposerWord

@@ -1,17 +1,17 @@
 ghost use Rattle.std.specs.Prelude.{◌≡◌, ◌<◌, ◌+◌, length, IfOk, IfSome, OnOk, OnErr};
-ghost use Rattle.rooms_rights.specs.NodeState.{IsRoomSize};
+ghost use Rattle.rooms_met.specs.NodeState.{IsRoomSize};
 ghost use Rattle.paxos_core_world.specs.Settled.{Settled};
 ghost use Rattle.paxos_core_world.specs.World.{nodes_of};
 ghost use Rattle.rooms_state.specs.Deal.{dealing};
-ghost use Rattle.rooms_rights.specs.RoomAt.{HasWords};
+ghost use Rattle.rooms_met.specs.RoomAt.{HasWords};
 ghost use Rattle.rooms_state.specs.SeatState.{opened_acceptor, opened_proposer, opened_seat, opening_of, CanOpen};
 ghost use Rattle.rooms_state.specs.Words.{IsVoteInWord};
 ghost use Rattle.rooms_met.specs.Seen.{acceptor_shown, proposer_shown};
 ghost use Rattle.rooms_seat.specs.Dealing.{room_opened, AreAsMany};
 
 use crate::seat::WordSeat;
-use rooms_rights::view::Openings;
-use rooms_rights::{Kept, Rights, SeenWords, open_one};
+use rooms_met::view::Openings;
+use rooms_met::{Kept, Rights, SeenWords, open_one};
 use rooms_state::acceptor::AcceptorWord;
 use rooms_state::proposer::ProposerWord;
 use rooms_state::view::Opening;
@@ -118,7 +118,7 @@ pub fn open_four(
         rooms: 4,
         each: [opening1, opening2, opening3, opening4],
     };
-    let rights = rooms_rights::open_four(alloc, &openings)?;
+    let rights = rooms_met::open_four(alloc, &openings)?;
     Ok(FourDealers {
         first: Dealer::of(rights.first, &opening1),
         second: Dealer::of(rights.second, &opening2),

@@ -1,13 +1,13 @@
 ghost use Rattle.std.specs.Prelude.{◌≡◌, ◌<◌, ◌↔◌, Some, None, IsErr, IsNone, OnErr, IfOk, IfSome};
-ghost use Rattle.rooms_rights.specs.Proposer.{next_ballot, next_proposal};
-ghost use Rattle.rooms_rights.specs.Act.TheVariants as act;
+ghost use Rattle.rooms_met.specs.Proposer.{next_ballot, next_proposal};
+ghost use Rattle.rooms_met.specs.Act.TheVariants as act;
 ghost use Rattle.rooms_state.specs.Did.{Did, Forgotten, LookedAtAcceptor, LookedAtProposer};
 ghost use Rattle.rooms_state.specs.Would.{would, IsAmong};
-ghost use Rattle.rooms_rights.specs.NodeState.{offered};
+ghost use Rattle.rooms_met.specs.NodeState.{offered};
 ghost use Rattle.rooms_seat.specs.Meeting.{IsBounded, IsKnown};
 ghost use Rattle.rooms_state.specs.SeatState.{opened_seat, own_words, CanOpen, promise_of, proposer_of, seen_world, vote_by, vote_of};
-ghost use Rattle.rooms_rights.specs.RoomAt.{HasWords};
-ghost use Rattle.rooms_rights.specs.NodeState.{IsRoomSize};
+ghost use Rattle.rooms_met.specs.RoomAt.{HasWords};
+ghost use Rattle.rooms_met.specs.NodeState.{IsRoomSize};
 ghost use Rattle.rooms_met.specs.Seen.{heard_with};
 ghost use Rattle.rooms_state.specs.Deal.{dealt, informed};
 ghost use Rattle.rooms_state.specs.Heard.{after_hearing};
@@ -15,7 +15,7 @@ ghost use Rattle.rooms_state.specs.Words.{accepted_in, promised_in};
 ghost use Rattle.paxos_core_world.specs.World.{Has};
 
 use crate::opening::opened_words;
-use rooms_rights::{CoreError, Kept, Msg, Node, Rights, SeenWords, Step, Vote};
+use rooms_met::{CoreError, Kept, Msg, Node, Rights, SeenWords, Step, Vote};
 use rooms_state::acceptor::AcceptorWord;
 use rooms_state::act::Act;
 use rooms_state::proposer::ProposerWord;

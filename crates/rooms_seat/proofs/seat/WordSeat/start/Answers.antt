@@ -1,7 +1,7 @@
 use Rattle.std.proofs.Common.{◌≡◌, ℕ, ◌<◌, false, true, None, ap, ◌∙◌, subst, arith}
 use Rattle.paxos_core_world.specs.KeptPart.{KeptPart}
-use Rattle.rooms_rights.specs.NodeState.{NodeState}
-use Rattle.rooms_rights.specs.Proposer.{next_ballot}
+use Rattle.rooms_met.specs.NodeState.{NodeState}
+use Rattle.rooms_met.specs.Proposer.{next_ballot}
 use Rattle.rooms_state.specs.Words.{IsProposerWord}
 use Rattle.rooms_state.proofs.Acts.{start_allowed, start_sound}
 use Rattle.rooms_met.proofs.Sweeps.{none_heard}

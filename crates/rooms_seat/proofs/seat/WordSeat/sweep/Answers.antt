@@ -3,10 +3,10 @@ use Rattle.rooms_met.specs.Met.{LookedOn}
 use Rattle.rooms_met.specs.Seen.{with_acceptor, IsKept}
 use Rattle.rooms_met.proofs.Openings.{some_node}
 use Rattle.rooms_met.proofs.Sweeps.{all_swept, seat_of, swept_until}
-use Rattle.rooms_rights.specs.NodeState.{IsRoomSize}
-use Rattle.rooms_rights.specs.RoomAt.{RoomAt}
-use Rattle.rooms_rights.specs.Sweep.{StoppedAt, Swept}
-use Rattle.rooms_rights.specs.declared.seen.SeenWords.{SeenWords}
+use Rattle.rooms_met.specs.NodeState.{IsRoomSize}
+use Rattle.rooms_met.specs.RoomAt.{RoomAt}
+use Rattle.rooms_met.specs.Sweep.{StoppedAt, Swept}
+use Rattle.rooms_met.specs.SeenWords.{SeenWords}
 use Rattle.rooms_seat.proofs.seat.WordSeat.sweep.Goals as goal
 
 pub invariant_of-self : goal.invariant_of-self
