@@ -2,7 +2,7 @@
 -- statement adds 1 to the highest of its parts.
 use Rattle.std.specs.Prelude.{ℕ, suc, ◌≤◌, List, [], ◌∷◌, Option, Some, None, max}
 use Rattle.std.specs.List.{AllByRecursion}
-use Rattle.c_syntax.specs.Trees.{ExpressionTree, CallTree, ValueTree, LvalueTree, SetTree, LocalTree, StartTree, StatementTree, StatementsTree, InitialTree, InitializerTree, DeclarationTree}
+use Rattle.c_syntax.specs.Trees.{ExpressionTree, CallTree, ValueTree, LvalueTree, ChangeTree, SetTree, LocalTree, StartTree, StatementTree, StatementsTree, InitialTree, InitializerTree, DeclarationTree}
 use Rattle.c_syntax.specs.Trees as T
 
 -- no function and no initializer is higher
@@ -35,8 +35,12 @@ abbrev pub lvalue_height : LvalueTree → ℕ
 lvalue_height (T.Name x) = 1
 lvalue_height (T.Cell a e) = suc (max 1 (expression_height e))
 
+abbrev pub change_height : ChangeTree → ℕ
+change_height c = suc (max (lvalue_height c.lvalue) (expression_height c.value))
+
 abbrev pub set_height : SetTree → ℕ
-set_height s = suc (max (lvalue_height s.lvalue) (expression_height s.value))
+set_height (T.Becomes l e) = suc (max (lvalue_height l) (expression_height e))
+set_height (T.Changes c) = change_height c
 
 -- a part that may be missing
 abbrev pub optional_height : {A : Type 0} → (A → ℕ) → Option A → ℕ
@@ -59,9 +63,11 @@ abbrev mutual
   statement_height (T.Call c) = suc (call_height c)
   statement_height (T.Assign x v) = suc (max 1 (value_height v))
   statement_height (T.Store a i e) = suc (max (suc (max 1 (expression_height i))) (expression_height e))
+  statement_height (T.Change c) = change_height c
   statement_height (T.If e s) = suc (max (expression_height e) (statement_height s))
   statement_height (T.IfElse e s t) = suc (max (expression_height e) (max (statement_height s) (statement_height t)))
   statement_height (T.While e s) = suc (max (expression_height e) (statement_height s))
+  statement_height (T.Do s e) = suc (max (statement_height s) (expression_height e))
   statement_height (T.For start e step s) = suc (max (start_height start) (max (optional_height expression_height e) (max (optional_height set_height step) (statement_height s))))
   statement_height (T.Break at) = 1
   statement_height (T.Continue at) = 1

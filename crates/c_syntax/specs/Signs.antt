@@ -1,4 +1,4 @@
--- The sign of each operator, and how strongly a binary one binds: from 1, the weakest, to 10 (C99 6.5.3 to 6.5.14).
+-- The sign of each operator, and how strongly a binary one binds: from 1, the weakest, to 10 (C99 6.5.3 to 6.5.14 and 6.5.16).
 use Rattle.std.specs.Prelude.{ℕ}
 use Rattle.c_syntax.specs.declared.punctuator.Punctuator.{Punctuator}
 use Rattle.c_syntax.specs.declared.punctuator.Punctuator.TheVariants as P
@@ -6,6 +6,8 @@ use Rattle.c_syntax.specs.declared.expression.UnaryOperator.{UnaryOperator}
 use Rattle.c_syntax.specs.declared.expression.UnaryOperator.TheVariants as U
 use Rattle.c_syntax.specs.declared.expression.BinaryOperator.{BinaryOperator}
 use Rattle.c_syntax.specs.declared.expression.BinaryOperator.TheVariants as B
+use Rattle.c_syntax.specs.declared.expression.AssignOperator.{AssignOperator}
+use Rattle.c_syntax.specs.declared.expression.AssignOperator.TheVariants as A
 
 abbrev pub unary_sign : UnaryOperator → Punctuator
 unary_sign U.Minus = P.Minus
@@ -56,3 +58,29 @@ binding B.Remainder = 10
 
 abbrev pub operand_level : ℕ
 operand_level = 11
+
+-- the sign of a compound assignment
+abbrev pub assign_sign : AssignOperator → Punctuator
+assign_sign A.Multiply = P.StarAssign
+assign_sign A.Divide = P.SlashAssign
+assign_sign A.Remainder = P.PercentAssign
+assign_sign A.Add = P.PlusAssign
+assign_sign A.Subtract = P.MinusAssign
+assign_sign A.ShiftLeft = P.ShiftLeftAssign
+assign_sign A.ShiftRight = P.ShiftRightAssign
+assign_sign A.And = P.AndAssign
+assign_sign A.Xor = P.CaretAssign
+assign_sign A.Or = P.OrAssign
+
+-- the operator that it applies
+abbrev pub binary_of : AssignOperator → BinaryOperator
+binary_of A.Multiply = B.Multiply
+binary_of A.Divide = B.Divide
+binary_of A.Remainder = B.Remainder
+binary_of A.Add = B.Add
+binary_of A.Subtract = B.Subtract
+binary_of A.ShiftLeft = B.ShiftLeft
+binary_of A.ShiftRight = B.ShiftRight
+binary_of A.And = B.And
+binary_of A.Xor = B.Xor
+binary_of A.Or = B.Or

@@ -6,6 +6,7 @@ use Rattle.c_syntax.specs.declared.constant.IntegerType.{IntegerType}
 use Rattle.c_syntax.specs.declared.identifier.Identifier.{Identifier}
 use Rattle.c_syntax.specs.declared.expression.UnaryOperator.{UnaryOperator}
 use Rattle.c_syntax.specs.declared.expression.BinaryOperator.{BinaryOperator}
+use Rattle.c_syntax.specs.declared.expression.AssignOperator.{AssignOperator}
 use Rattle.c_syntax.specs.declared.declaration.ReturnType.{ReturnType}
 use Rattle.c_syntax.specs.declared.declaration.Parameter.{Parameter}
 use Rattle.c_syntax.specs.declared.declaration.Prototype.{Prototype}
@@ -29,14 +30,21 @@ pub data ValueTree : Type 0 where
   Plain : (e : ExpressionTree) → ValueTree
   Called : (c : CallTree) → ValueTree
 
--- what a `for` sets
+-- what is changed, and what a `for` sets
 pub data LvalueTree : Type 0 where
   Name : (x : Identifier) → LvalueTree
   Cell : (a : Identifier) (e : ExpressionTree) → LvalueTree
 
-pub record SetTree : Type 0 where
+-- an lvalue is changed by an operator and a value
+pub record ChangeTree : Type 0 where
   pub lvalue : LvalueTree
+  pub operator : AssignOperator
   pub value : ExpressionTree
+
+-- what a `for` begins with, and what it does behind each turn
+pub data SetTree : Type 0 where
+  Becomes : (l : LvalueTree) (e : ExpressionTree) → SetTree
+  Changes : (c : ChangeTree) → SetTree
 
 pub record LocalTree : Type 0 where
   pub kind : IntegerType
@@ -57,9 +65,11 @@ mutual
     Call : (c : CallTree) → StatementTree
     Assign : (x : Identifier) (v : ValueTree) → StatementTree
     Store : (a : Identifier) (i e : ExpressionTree) → StatementTree
+    Change : (c : ChangeTree) → StatementTree
     If : (e : ExpressionTree) (s : StatementTree) → StatementTree
     IfElse : (e : ExpressionTree) (s t : StatementTree) → StatementTree
     While : (e : ExpressionTree) (s : StatementTree) → StatementTree
+    Do : (s : StatementTree) (e : ExpressionTree) → StatementTree
     For : (start : StartTree) (e : Option ExpressionTree) (step : Option SetTree) (s : StatementTree) → StatementTree
     Break : (at : ℕ) → StatementTree
     Continue : (at : ℕ) → StatementTree

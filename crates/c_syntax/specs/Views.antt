@@ -1,6 +1,6 @@
 -- The tree that a value of the code stands for: the same, without its addresses in memory.
 use Rattle.std.specs.Prelude.{List, [], ◌∷◌, map, Option, Some, None}
-use Rattle.c_syntax.specs.Trees.{ExpressionTree, CallTree, ValueTree, LvalueTree, SetTree, LocalTree, StartTree, StatementTree, StatementsTree, InitialTree, InitializerTree, GlobalTree, FunctionTree, DeclarationTree}
+use Rattle.c_syntax.specs.Trees.{ExpressionTree, CallTree, ValueTree, LvalueTree, ChangeTree, SetTree, LocalTree, StartTree, StatementTree, StatementsTree, InitialTree, InitializerTree, GlobalTree, FunctionTree, DeclarationTree}
 use Rattle.c_syntax.specs.Trees as T
 use Rattle.c_syntax.specs.declared.expression.Expression.{Expression}
 use Rattle.c_syntax.specs.declared.expression.Expression.TheVariants as E
@@ -9,7 +9,9 @@ use Rattle.c_syntax.specs.declared.statement.Value.{Value}
 use Rattle.c_syntax.specs.declared.statement.Value.TheVariants as V
 use Rattle.c_syntax.specs.declared.statement.Lvalue.{Lvalue}
 use Rattle.c_syntax.specs.declared.statement.Lvalue.TheVariants as lvalue
+use Rattle.c_syntax.specs.declared.statement.Change as H
 use Rattle.c_syntax.specs.declared.statement.Set.{Set}
+use Rattle.c_syntax.specs.declared.statement.Set.TheVariants as set
 use Rattle.c_syntax.specs.declared.statement.Local as L
 use Rattle.c_syntax.specs.declared.statement.ForStart.{ForStart}
 use Rattle.c_syntax.specs.declared.statement.ForStart.TheVariants as F
@@ -49,8 +51,12 @@ abbrev pub lvalue_tree : Lvalue → LvalueTree
 lvalue_tree (lvalue.Variable x) = T.Name x
 lvalue_tree (lvalue.Element a e) = T.Cell a (expression_tree e)
 
+abbrev pub change_tree : H.Change → ChangeTree
+change_tree c = record { lvalue = lvalue_tree c.lvalue; operator = c.operator; value = expression_tree c.value }
+
 abbrev pub set_tree : Set → SetTree
-set_tree s = record { lvalue = lvalue_tree s.lvalue; value = expression_tree s.value }
+set_tree (set.Becomes l e) = T.Becomes (lvalue_tree l) (expression_tree e)
+set_tree (set.Changes c) = T.Changes (change_tree c)
 
 abbrev pub local_tree : L.Local → LocalTree
 local_tree l = record { kind = l.kind; name = l.name; value = optional_tree value_tree l.value }
@@ -68,9 +74,11 @@ abbrev mutual
   statement_tree (S.Call c) = T.Call (call_tree c)
   statement_tree (S.Assign x v) = T.Assign x (value_tree v)
   statement_tree (S.Store a i e) = T.Store a (expression_tree i) (expression_tree e)
+  statement_tree (S.Change c) = T.Change (change_tree c)
   statement_tree (S.If' e p s) = T.If (expression_tree e) (statement_tree s)
   statement_tree (S.IfElse' e p s q t) = T.IfElse (expression_tree e) (statement_tree s) (statement_tree t)
   statement_tree (S.While' e p s) = T.While (expression_tree e) (statement_tree s)
+  statement_tree (S.Do' p s e) = T.Do (statement_tree s) (expression_tree e)
   statement_tree (S.For' head p s) = T.For (start_tree head.value.start) (optional_tree expression_tree head.value.condition) (optional_tree set_tree head.value.step) (statement_tree s)
   statement_tree (S.Break at) = T.Break at
   statement_tree (S.Continue at) = T.Continue at

@@ -33,6 +33,22 @@ pub enum BinaryOperator {
     Remainder,
 }
 
+/// What stands between an lvalue and the value that changes it: the operator of a compound assignment
+/// (C99 6.5.16.2).
+#[derive(Clone, Copy, Debug, PartialEq, Eq)]
+pub enum AssignOperator {
+    Multiply,
+    Divide,
+    Remainder,
+    Add,
+    Subtract,
+    ShiftLeft,
+    ShiftRight,
+    And,
+    Xor,
+    Or,
+}
+
 /// An expression without calls (C99 6.5).
 #[derive(Drop)]
 pub enum Expression {

@@ -18,10 +18,10 @@ pub use declaration::{
     Declaration, Function, Global, Initial, Initializer, OpenParameter, Parameter, Prototype,
     ReturnType,
 };
-pub use expression::{BinaryOperator, Expression, UnaryOperator};
+pub use expression::{AssignOperator, BinaryOperator, Expression, UnaryOperator};
 pub use identifier::Identifier;
 pub use keyword::Keyword;
 pub use punctuator::Punctuator;
-pub use statement::{Call, ForHead, ForStart, Local, Lvalue, Set, Statement, Value};
+pub use statement::{Call, Change, ForHead, ForStart, Local, Lvalue, Set, Statement, Value};
 pub use token::{Name, Token, TokenKind};
 pub use unit::Unit;

@@ -63,28 +63,28 @@ pub enum Punctuator {
     Tilde,
     /// `!`
     Exclamation,
-    /// `++`, reserved
+    /// `++`
     Increment,
-    /// `--`, reserved
+    /// `--`
     Decrement,
-    /// `+=`, reserved
+    /// `+=`
     PlusAssign,
-    /// `-=`, reserved
+    /// `-=`
     MinusAssign,
-    /// `*=`, reserved
+    /// `*=`
     StarAssign,
-    /// `/=`, reserved
+    /// `/=`
     SlashAssign,
-    /// `%=`, reserved
+    /// `%=`
     PercentAssign,
-    /// `&=`, reserved
+    /// `&=`
     AndAssign,
-    /// `|=`, reserved
+    /// `|=`
     OrAssign,
-    /// `^=`, reserved
+    /// `^=`
     CaretAssign,
-    /// `<<=`, reserved
+    /// `<<=`
     ShiftLeftAssign,
-    /// `>>=`, reserved
+    /// `>>=`
     ShiftRightAssign,
 }

@@ -1,5 +1,5 @@
 use crate::IntegerType;
-use crate::expression::Expression;
+use crate::expression::{AssignOperator, Expression};
 use crate::identifier::Identifier;
 use lang_base::Row;
 
@@ -17,18 +17,28 @@ pub enum Value {
     Call(Call),
 }
 
-/// A name or a cell that a `for` sets.
+/// A name or a cell that is changed, or that a `for` sets.
 #[derive(Drop)]
 pub enum Lvalue {
     Variable(Identifier),
     Element(Identifier, Expression),
 }
 
-/// An lvalue is given a value: what a `for` begins with, and what it does behind each turn.
+/// An lvalue is changed by an operator and a value (C99 6.5.16.2). `t++` and `++t` are `t += 1`, and `t--` and `--t`
+/// are `t -= 1` (C99 6.5.2.4 and 6.5.3.1).
 #[derive(Drop)]
-pub struct Set {
+pub struct Change {
     pub lvalue: Lvalue,
+    pub operator: AssignOperator,
     pub value: Expression,
+}
+
+/// What a `for` begins with, and what it does behind each turn.
+#[derive(Drop)]
+pub enum Set {
+    /// An lvalue becomes a value.
+    Becomes(Lvalue, Expression),
+    Changes(Change),
 }
 
 /// The declaration of a local.
@@ -67,9 +77,12 @@ pub enum Statement {
     Assign(Identifier, Value),
     /// An array's cell, named by its index, becomes a value.
     Store(Identifier, Expression, Expression),
+    Change(Change),
     If(Expression, Box<Statement>),
     IfElse(Expression, Box<Statement>, Box<Statement>),
     While(Expression, Box<Statement>),
+    /// `do`: its body, and the condition behind it.
+    Do(Box<Statement>, Expression),
     /// What stands between its parentheses, apart since it is far larger than the parts of the others, and its body.
     For(Box<ForHead>, Box<Statement>),
     /// The byte offset of the keyword.
