@@ -1,12 +1,10 @@
 -- What is spelled so, and is low, is read.
-use Rattle.std.proofs.Common.{◌≡◌, ℕ, zero, suc, ◌+◌, ◌-◌, ◌≤◌, ◌<◌, Bool, true, false, cond, leb, List, [], ◌∷◌, ◌++◌, Option, Some, None, Result, Ok, Err, inl, inr, refl, sym, ap, subst, ◌∙◌, append_assoc, zero-add, arith}
-use Rattle.std.specs.Prelude.{max, ◌⊎◌}
+use Rattle.std.proofs.Common.{◌≡◌, ℕ, zero, suc, ◌+◌, ◌-◌, ◌≤◌, ◌<◌, true, false, List, ◌++◌, Ok, inl, inr, refl, sym, ap, subst, ◌∙◌, zero-add, arith}
 use Rattle.std.proofs.lemmas.Bool.{le-leb}
 use Rattle.c_syntax.specs.declared.constant.Constant.{Constant}
 use Rattle.c_syntax.specs.declared.constant.IntegerType.{IntegerType}
 use Rattle.c_syntax.specs.declared.constant.IntegerType.TheVariants.{Int, Unsigned}
 use Rattle.c_syntax.specs.declared.keyword.Keyword.TheVariants as K
-use Rattle.c_syntax.specs.declared.punctuator.Punctuator.{Punctuator}
 use Rattle.c_syntax.specs.declared.punctuator.Punctuator.TheVariants as P
 use Rattle.c_syntax.specs.declared.token.Token.{Token}
 use Rattle.c_syntax.specs.declared.token.TokenKind.{TokenKind}
@@ -19,18 +17,16 @@ use Rattle.c_syntax.specs.Trees as E
 use Rattle.c_syntax.specs.Signs.{unary_sign, binary_sign, binding, operand_level}
 use Rattle.c_syntax.specs.Heights.{expression_height}
 use Rattle.c_syntax.specs.Expressions.{IsExpressionAt}
-use Rattle.c_syntax.specs.Parts.{One, OneAt, Sign, Word, IsName, IsConstant, IsType, ◌⨾◌}
-use Rattle.c_reader_tokens.specs.declared.fault.Fault.{Fault}
+use Rattle.c_syntax.specs.Parts.{One, Sign, IsName, IsConstant, IsType, ◌⨾◌}
 use Rattle.c_reader_tokens.specs.Reading.{Reading, ◌>>=◌}
-use Rattle.c_reader_tokens.specs.Peeking.{is_sign, is_sign_next, is_word, is_word_next, is_type_next}
-use Rattle.c_reader_tokens.specs.Tokens.{sign, placed_name, constant, integer_type}
+use Rattle.c_reader_tokens.specs.Peeking.{is_sign_next, is_word, is_word_next, is_type_next}
 use Rattle.c_reader_tokens.proofs.Laws.{parts_behind}
-use Rattle.c_reader_tokens.proofs.Tokens.{sign_again, is_sign_next-again, is_word_next-again, placed_name_again, constant_again, integer_type_again}
-use Rattle.c_reader_expression_laws.specs.declared.next.Next.TheVariants.{Operator, Choice, Stop}
-use Rattle.c_reader_expression_laws.specs.Operators.{unary_of, next, Stops, Ends}
+use Rattle.c_reader_tokens.proofs.Tokens.{sign_again, is_sign_next-again, placed_name_again, constant_again, integer_type_again}
+use Rattle.c_reader_expression_laws.specs.declared.next.Next.TheVariants.{Operator, Choice}
+use Rattle.c_reader_expression_laws.specs.Operators.{next, Stops, Ends}
 use Rattle.c_reader_expression_laws.specs.Operands.{Levels, number, indexed, variable, cast, enclosed, parenthesized, signed, operand_at, operand}
 use Rattle.c_reader_expression_laws.specs.Reading.{operated, chosen, chain}
-use Rattle.c_reader_expression_laws.proofs.Continuing.{unary_of-sign, unary_is_no_parenthesis, is_operator, ends_behind, ends_above, ends_choice, next_choice, ends_operator, next_operator, stops_operand, height-positive}
+use Rattle.c_reader_expression_laws.proofs.Continuing.{unary_of-sign, unary_is_no_parenthesis, is_operator, ends_behind, ends_above, ends_choice, next_choice, ends_operator, next_operator, stops_operand}
 
 -- an operand is read by its first token
 operand_one : (below : Levels) (kind : TokenKind) (xs rest : List Token) → One kind xs → operand below (xs ++ rest) ≡ operand_at below kind (xs ++ rest)

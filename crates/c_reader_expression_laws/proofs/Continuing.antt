@@ -1,12 +1,10 @@
 -- Operators and their signs, and how an expression goes on or stops.
-use Rattle.std.proofs.Common.{◌≡◌, ◌≢◌, ℕ, zero, suc, ◌≤◌, ◌<◌, Bool, true, false, cond, eqb, leb, List, [], ◌∷◌, ◌++◌, Option, Some, None, inl, inr, refl, sym, ap, ◌∙◌, arith}
-use Rattle.std.specs.Prelude.{max}
-use Rattle.std.proofs.lemmas.Bool.{eqb-true, leb-true, leb-false, le-leb, lt-leb, ne_eqb}
+use Rattle.std.proofs.Common.{◌≡◌, ℕ, zero, suc, ◌≤◌, ◌<◌, Bool, true, false, cond, eqb, leb, List, [], ◌∷◌, ◌++◌, Option, Some, None, inl, inr, refl, sym, ap, ◌∙◌, arith}
+use Rattle.std.proofs.lemmas.Bool.{leb-true, leb-false, le-leb, lt-leb, ne_eqb}
 use Rattle.lang_base.proofs.Parts.{chosen as which}
 use Rattle.c_syntax.specs.declared.punctuator.Punctuator.{Punctuator}
 use Rattle.c_syntax.specs.declared.punctuator.Punctuator.TheVariants as P
 use Rattle.c_syntax.specs.declared.token.Token.{Token}
-use Rattle.c_syntax.specs.declared.token.TokenKind.{TokenKind}
 use Rattle.c_syntax.specs.declared.token.TokenKind.TheVariants as T
 use Rattle.c_syntax.specs.declared.expression.UnaryOperator.{UnaryOperator}
 use Rattle.c_syntax.specs.declared.expression.UnaryOperator.TheVariants as U
@@ -18,7 +16,7 @@ use Rattle.c_syntax.specs.Signs.{unary_sign, binary_sign, binding}
 use Rattle.c_syntax.specs.Heights.{expression_height}
 use Rattle.c_syntax.specs.Expressions.{IsExpressionAt}
 use Rattle.c_syntax.specs.Parts.{Sign}
-use Rattle.c_reader_tokens.specs.Peeking.{is_sign, is_sign_next}
+use Rattle.c_reader_tokens.specs.Peeking.{is_sign}
 use Rattle.c_reader_expression_laws.specs.declared.next.Next.{Next}
 use Rattle.c_reader_expression_laws.specs.declared.next.Next.TheVariants.{Operator, Choice, Stop}
 use Rattle.c_reader_expression_laws.specs.Operators.{unary_of, binary_of, binary_at, taken_at, next, Stops, Ends}

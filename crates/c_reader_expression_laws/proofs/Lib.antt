@@ -3,3 +3,4 @@ pub mod Taking
 pub mod Again
 pub mod Staying
 pub mod Laws
+pub mod Beginning

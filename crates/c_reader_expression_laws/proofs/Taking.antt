@@ -1,9 +1,7 @@
 -- What is read is spelled at its level, is low, and does not go on.
-use Rattle.std.proofs.Common.{◌≡◌, ℕ, zero, suc, ◌≤◌, ◌<◌, Bool, true, false, cond, leb, List, [], ◌∷◌, ◌++◌, Option, Some, None, Result, Ok, Err, inl, inr, refl, sym, ap, subst, ◌∙◌, append_assoc, arith}
-use Rattle.std.specs.Prelude.{max}
+use Rattle.std.proofs.Common.{◌≡◌, ℕ, zero, suc, ◌≤◌, cond, leb, List, [], ◌∷◌, ◌++◌, Option, Some, None, Result, Ok, Err, inl, inr, refl, subst, arith}
 use Rattle.std.proofs.lemmas.Bool.{leb-true}
 use Rattle.lang_base.proofs.Parts.{chosen as which}
-use Rattle.c_syntax.specs.declared.punctuator.Punctuator.{Punctuator}
 use Rattle.c_syntax.specs.declared.punctuator.Punctuator.TheVariants as P
 use Rattle.c_syntax.specs.declared.token.Token.{Token}
 use Rattle.c_syntax.specs.declared.token.TokenKind.{TokenKind}
@@ -15,20 +13,19 @@ use Rattle.c_syntax.specs.Trees.{ExpressionTree, Number, Variable, Element, Pare
 use Rattle.c_syntax.specs.Signs.{unary_sign, binary_sign, binding, operand_level}
 use Rattle.c_syntax.specs.Heights.{expression_height}
 use Rattle.c_syntax.specs.Expressions.{IsExpressionAt}
-use Rattle.c_syntax.specs.Parts.{Sign, IsName, ◌⨾◌}
+use Rattle.c_syntax.specs.Parts.{Sign, IsName}
 use Rattle.c_reader_tokens.specs.declared.fault.Fault.{Fault}
 use Rattle.c_reader_tokens.specs.declared.fault.Fault.TheVariants.{TooDeep}
-use Rattle.c_reader_tokens.specs.Reading.{◌>>=◌, misfit, Takes}
+use Rattle.c_reader_tokens.specs.Reading.{◌>>=◌, Takes}
 use Rattle.c_reader_tokens.specs.Peeking.{is_sign, is_sign_next, is_type_next}
 use Rattle.c_reader_tokens.specs.Tokens.{sign, placed_name, constant, integer_type}
 use Rattle.c_reader_tokens.proofs.Laws.{done, ok_is, bind_ok, takes_then}
 use Rattle.c_reader_tokens.proofs.Tokens.{sign_takes, placed_name_takes, constant_takes, integer_type_takes}
-use Rattle.c_reader_expression_laws.specs.declared.next.Next.{Next}
 use Rattle.c_reader_expression_laws.specs.declared.next.Next.TheVariants.{Operator, Choice, Stop}
 use Rattle.c_reader_expression_laws.specs.Operators.{unary_of, next, Stops}
 use Rattle.c_reader_expression_laws.specs.Operands.{Levels, number, indexed, variable, cast, enclosed, parenthesized, signed, perhaps_signed, operand_at, operand}
 use Rattle.c_reader_expression_laws.specs.Reading.{operated, chosen, if_fuel, by_next, chain}
-use Rattle.c_reader_expression_laws.proofs.Continuing.{IsOperator, is_operator, next-between, choice_level, stops_operand, height-positive, lower_level}
+use Rattle.c_reader_expression_laws.proofs.Continuing.{is_operator, next-between, choice_level, height-positive, lower_level}
 
 abbrev pub Found : Type 0
 Found = ExpressionTree × List Token

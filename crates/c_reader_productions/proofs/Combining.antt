@@ -1,5 +1,5 @@
 -- Readings put together that read what fits and is spelled so, and nothing else: both directions at once.
-use Rattle.std.proofs.Common.{◌≡◌, ℕ, zero, suc, Bool, true, false, List, ◌++◌, Option, Some, Ok}
+use Rattle.std.proofs.Common.{◌≡◌, ℕ, zero, suc, Bool, true, false, List, ◌++◌, Ok}
 use Rattle.c_syntax.specs.declared.token.Token.{Token}
 use Rattle.c_syntax.specs.Parts.{◌⨾◌, Perhaps}
 use Rattle.c_syntax.specs.Heights.{IfThere}

@@ -7,8 +7,8 @@ use Rattle.c_syntax.specs.Parts.{◌⨾◌, Nothing, Perhaps}
 use Rattle.c_syntax.specs.Heights.{IfThere}
 use Rattle.c_reader_tokens.specs.declared.fault.Fault.{Fault}
 use Rattle.c_reader_tokens.specs.Reading.{Reading, ◌>>=◌, Takes, Stays}
-use Rattle.c_reader_tokens.proofs.Laws.{done, ok_is, bind_ok, parts_behind}
-use Rattle.c_reader_productions.specs.Combining.{Mark, ◌▷◌, ◌◁◌, ◌&◌, made, either, missing, there, repeated, each}
+use Rattle.c_reader_tokens.proofs.Laws.{done, ok_is, bind_ok, takes_then, parts_behind}
+use Rattle.c_reader_productions.specs.Combining.{Mark, ◌▷◌, ◌◁◌, marks, ◌&◌, made, either, missing, there, repeated, each}
 use Rattle.c_reader_productions.specs.Parts.{less, under}
 
 pub bind_is : {A B : Type 0} (r : Result A Fault) (f : A → Result B Fault) (x : A) → r ≡ Ok x → (r >>= f) ≡ f x
@@ -22,6 +22,20 @@ chosen false x y z e = inr (refl, e)
 pub record IsMark (mark : Mark) (Spelled : List Token → Type 0) : Type 0 where
   pub takes : (ts rest : List Token) → mark ts ≡ Ok rest → Takes Spelled ts rest
   pub again : (xs rest : List Token) → Spelled xs → mark (xs ++ rest) ≡ Ok rest
+
+module _ {mark more : Mark} {S U : List Token → Type 0} (m : IsMark mark S) (n : IsMark more U) where
+  marks_takes : (ts rest : List Token) → marks mark more ts ≡ Ok rest → Takes (S ⨾ U) ts rest
+  marks_takes ts rest e =
+      let b = bind_ok (mark ts) more rest e in
+      takes_then (m.takes ts b.0 b.1) (n.takes b.0 rest b.2)
+
+  marks_again : (xs rest : List Token) → (S ⨾ U) xs → marks mark more (xs ++ rest) ≡ Ok rest
+  marks_again xs rest d =
+      ap (marks mark more) (parts_behind xs d.0 d.1 rest d.4) ∙ bind_is (mark (d.0 ++ (d.1 ++ rest))) more (d.1 ++ rest) (m.again d.0 (d.1 ++ rest) d.2) ∙ n.again d.1 rest d.3
+
+  -- two marks behind one another
+  pub both_marks : IsMark (marks mark more) (S ⨾ U)
+  both_marks = record { takes = marks_takes; again = marks_again }
 
 -- what was read of these tokens: a value that fits, spelled by the front, and the rest, of which this is known
 pub record IsTaken {A : Type 0} (Fits : A → Type 0) (Spells Leaves : A → List Token → Type 0) (ts : List Token) (x : A) (rest : List Token) : Type 0 where

@@ -4,7 +4,7 @@ use Rattle.std.proofs.lemmas.List.{length-append}
 use Rattle.c_syntax.specs.declared.keyword.Keyword.{Keyword}
 use Rattle.c_syntax.specs.declared.keyword.Keyword.TheVariants as K
 use Rattle.c_syntax.specs.declared.punctuator.Punctuator.{Punctuator}
-use Rattle.c_syntax.specs.declared.punctuator.Punctuator.TheVariants.{LeftParenthesis, RightParenthesis, LeftBracket, RightBracket, Semicolon, Assign, Comma}
+use Rattle.c_syntax.specs.declared.punctuator.Punctuator.TheVariants.{LeftParenthesis, RightParenthesis, Semicolon, Assign, Comma}
 use Rattle.c_syntax.specs.declared.token.Token.{Token}
 use Rattle.c_syntax.specs.declared.token.TokenKind.TheVariants as Kind
 use Rattle.c_syntax.specs.declared.token.TokenKind.{TokenKind}
@@ -13,8 +13,8 @@ use Rattle.c_syntax.specs.Trees.{ExpressionTree, CallTree, ValueTree, LvalueTree
 use Rattle.c_syntax.specs.Trees as T
 use Rattle.c_syntax.specs.Parts.{OneAt, Sign, Word, IsName, IsType, ◌⨾◌, Commas}
 use Rattle.c_syntax.specs.Expressions.{IsExpression}
-use Rattle.c_syntax.specs.Statements.{IsCall, IsValue, IsLvalue, IsSet, IsLocalValue, IsLocal}
-use Rattle.c_syntax.specs.Heights.{expression_height, arguments_height, call_height, value_height, lvalue_height, set_height, optional_height, local_height, IfThere}
+use Rattle.c_syntax.specs.Statements.{IsCall, IsValue, IsLocalValue, IsLocal}
+use Rattle.c_syntax.specs.Heights.{expression_height, arguments_height, call_height, value_height, optional_height, local_height, IfThere}
 use Rattle.c_reader_tokens.specs.Reading.{Reading, ◌>>=◌}
 use Rattle.c_reader_tokens.specs.Peeking.{is_sign, is_next, is_sign_next, is_word_next, is_call_next}
 use Rattle.c_reader_tokens.specs.Tokens.{sign, placed_word, placed_name, integer_type}
@@ -25,10 +25,10 @@ use Rattle.c_reader_expression_laws.specs.Reading.{expression_at}
 use Rattle.c_reader_expression_laws.proofs.Continuing.{ends_behind}
 use Rattle.c_reader_expression_laws.proofs.Laws.{expression_again}
 use Rattle.c_reader_productions.specs.Combining.{◌▷◌, ◌◁◌, ◌&◌, made, repeated, each, commas}
-use Rattle.c_reader_productions.specs.Parts.{less, name, arguments, call, value, is_cell_next, cell, lvalue, set, local_value, local}
+use Rattle.c_reader_productions.specs.Parts.{name, arguments, call, value, local_value, local}
 use Rattle.c_reader_productions.proofs.Laws.{IsWhole, Any, Whatever, after', before', both', made_again, only', either_first, either_second, under_again, Each, AllFit}
 use Rattle.c_reader_productions.proofs.PartsTaken.{sign_mark}
-use Rattle.c_reader_productions.proofs.Beginning.{expression_begins, not_sign, expression_no_call}
+use Rattle.c_reader_expression_laws.proofs.Beginning.{expression_begins, not_sign, expression_no_call}
 
 placed_name_whole : IsWhole placed_name Whatever IsName Any
 placed_name_whole = record { again = λ x xs rest f d e. placed_name_again x xs rest d }
@@ -198,7 +198,7 @@ value_again fuel (T.Called k) xs rest low d c =
 pub value_whole : (fuel : ℕ) → IsWhole (value fuel) (λ v. value_height v ≤ fuel) IsValue (λ v rest. Closed rest)
 value_whole fuel = record { again = value_again fuel }
 
--- ---- what a `for` sets
+-- ---- how something begins
 
 pub closed_semicolon : (xs rest : List Token) → Sign Semicolon xs → Closed (xs ++ rest)
 closed_semicolon = closed_by Semicolon refl refl (λ us r t. ends_behind Semicolon refl refl refl 0 us r t)
@@ -228,40 +228,6 @@ passes_is passes kind b e xs rest s = rw (s.parts, s.is) e
 
 pub starts_name : (x : Identifier) (xs : List Token) → IsName x xs → Starts (Kind.Name x.name) xs
 starts_name x xs d = starts_placed (Kind.Name x.name) x.offset xs d
-
-cell_again : (fuel : ℕ) (a : Identifier) (e : ExpressionTree) (xs rest : List Token) → lvalue_height (T.Cell a e) ≤ fuel → IsLvalue (T.Cell a e) xs → cell fuel (xs ++ rest) ≡ Ok (T.Cell a e, rest)
-unfolding cell less
-cell_again zero a e xs rest low d = absurd (omega arith)
-cell_again (suc r) a e xs rest low d =
-    made_again (λ v. T.Cell v.0 v.1) (both' (name_whole r) (after' (sign_mark LeftBracket) (before' (expression_whole r) (sign_mark RightBracket) (λ e ys rest s. ends_behind RightBracket refl refl refl 0 ys rest s))) (λ x e ys rest d k. tt)) (a, e) xs rest (omega arith, omega arith) d tt
-
-lvalue_again : (fuel : ℕ) (p : LvalueTree) (xs rest : List Token) → lvalue_height p ≤ fuel → IsLvalue p xs → is_sign_next LeftBracket rest ≡ false → lvalue fuel (xs ++ rest) ≡ Ok (p, rest)
-unfolding lvalue
-lvalue_again fuel (T.Name x) xs rest low d free =
-    let other : is_cell_next (xs ++ rest) ≡ false = rw (d.3, d.1, free) refl in
-    either_second is_cell_next (cell fuel) (made (λ x. T.Name x) (name fuel)) (xs ++ rest) other ∙ made_again (λ x. T.Name x) (name_whole fuel) x xs rest low d tt
-lvalue_again fuel (T.Cell a e) xs rest low d free =
-    let n = d.2 in
-    let q = d.3 in
-    let behind : is_sign_next LeftBracket (d.1 ++ rest) ≡ true =
-    subst (λ l. is_sign_next LeftBracket l ≡ true) (sym (parts_behind d.1 q.0 q.1 rest q.4)) (is_sign_next-again LeftBracket q.0 (q.1 ++ rest) q.2) in
-    let next : is_cell_next (xs ++ rest) ≡ true = subst (λ l. is_cell_next l ≡ true) (sym (parts_behind xs d.0 d.1 rest d.4)) (rw (n.3, n.1, behind) refl) in
-    either_first is_cell_next (cell fuel) (made (λ x. T.Name x) (name fuel)) (xs ++ rest) next ∙ cell_again fuel a e xs rest low d
-
-lvalue_whole : (fuel : ℕ) → IsWhole (lvalue fuel) (λ p. lvalue_height p ≤ fuel) IsLvalue (λ p rest. is_sign_next LeftBracket rest ≡ false)
-lvalue_whole fuel = record { again = lvalue_again fuel }
-
-set_again : (fuel : ℕ) (s : SetTree) (xs rest : List Token) → set_height s ≤ fuel → IsSet s xs → Ends 0 rest → set fuel (xs ++ rest) ≡ Ok (s, rest)
-unfolding set less
-set_again zero s xs rest low d e = absurd (omega arith)
-set_again (suc r) s xs rest low d e =
-    made_again (λ v. record { lvalue = v.0; value = v.1 })
-    (both' (lvalue_whole r) (after' (sign_mark Assign) (expression_whole r)) (λ p y ys rest d k.
-    passes_is (is_sign LeftBracket) (Kind.Punctuator Assign) false refl ys rest (starts_then (Kind.Punctuator Assign) ys d (starts_sign Assign d.0 d.2))))
-    (s.lvalue, s.value) xs rest (omega arith, omega arith) d e
-
-pub set_whole : (fuel : ℕ) → IsWhole (set fuel) (λ s. set_height s ≤ fuel) IsSet (λ s rest. Ends 0 rest)
-set_whole fuel = record { again = set_again fuel }
 
 -- ---- locals
 

@@ -1,9 +1,8 @@
 -- Parts of statements that are no statements: what is read is spelled so, and is no higher than the fuel.
 use Rattle.std.proofs.Common.{◌≡◌, ℕ, suc, ◌≤◌, List, [], ◌∷◌, ◌++◌, Option, Some, None, Ok, refl, sym, ap, subst, ◌∙◌, append_assoc, append-nil, arith}
-use Rattle.std.specs.Prelude.{max}
 use Rattle.c_syntax.specs.declared.keyword.Keyword.{Keyword}
 use Rattle.c_syntax.specs.declared.punctuator.Punctuator.{Punctuator}
-use Rattle.c_syntax.specs.declared.punctuator.Punctuator.TheVariants.{LeftParenthesis, RightParenthesis, LeftBracket, RightBracket, Semicolon, Assign, Comma}
+use Rattle.c_syntax.specs.declared.punctuator.Punctuator.TheVariants.{LeftParenthesis, RightParenthesis, Semicolon, Assign, Comma}
 use Rattle.c_syntax.specs.declared.token.Token.{Token}
 use Rattle.c_syntax.specs.declared.token.TokenKind.TheVariants as Kind
 use Rattle.c_syntax.specs.declared.identifier.Identifier.{Identifier}
@@ -11,17 +10,17 @@ use Rattle.c_syntax.specs.Trees.{ExpressionTree, CallTree, ValueTree, LvalueTree
 use Rattle.c_syntax.specs.Trees as T
 use Rattle.c_syntax.specs.Parts.{OneAt, Sign, Word, IsName, IsType, ◌⨾◌, Perhaps, Commas}
 use Rattle.c_syntax.specs.Expressions.{IsExpression}
-use Rattle.c_syntax.specs.Statements.{IsCall, IsValue, IsLvalue, IsSet, IsLocalValue, IsLocal, IsStart}
-use Rattle.c_syntax.specs.Heights.{expression_height, arguments_height, call_height, value_height, lvalue_height, set_height, optional_height, local_height, start_height, IfThere}
+use Rattle.c_syntax.specs.Statements.{IsCall, IsValue, IsLocalValue, IsLocal}
+use Rattle.c_syntax.specs.Heights.{expression_height, arguments_height, call_height, value_height, optional_height, local_height, IfThere}
 use Rattle.c_reader_tokens.specs.Reading.{Reading}
-use Rattle.c_reader_tokens.specs.Peeking.{is_sign_next, is_type_next, is_call_next}
+use Rattle.c_reader_tokens.specs.Peeking.{is_sign_next, is_call_next}
 use Rattle.c_reader_tokens.specs.Tokens.{sign, word, placed_word, placed_name, integer_type}
 use Rattle.c_reader_tokens.proofs.Laws.{done, ok_is, bind_ok}
 use Rattle.c_reader_tokens.proofs.Tokens.{sign_takes, sign_again, word_takes, word_again, placed_word_takes, placed_name_takes, integer_type_takes}
 use Rattle.c_reader_expression_laws.specs.Reading.{expression_at}
 use Rattle.c_reader_expression_laws.proofs.Laws.{expression_takes}
-use Rattle.c_reader_productions.specs.Combining.{◌▷◌, ◌◁◌, ◌&◌, made, either, commas}
-use Rattle.c_reader_productions.specs.Parts.{under, name, arguments, call, value, is_cell_next, cell, lvalue, set, local_value, local, start_local, start_set, start_nothing, start}
+use Rattle.c_reader_productions.specs.Combining.{◌▷◌, made, commas}
+use Rattle.c_reader_productions.specs.Parts.{name, arguments, call, value, local_value, local}
 use Rattle.c_reader_productions.proofs.Laws.{IsMark, IsTaken, IsSound, Any, Whatever, after, before, both, made_takes, either_takes, only, under_takes, Each, AllFit, each_sound}
 
 pub sign_mark : (p : Punctuator) → IsMark (sign p) (Sign p)
@@ -114,34 +113,6 @@ value_sound fuel = record {
       (λ ts x rest h. made_takes (λ e. T.Plain e) (expression_sound fuel) (λ v. value_height v ≤ fuel) IsValue Any (λ v f. f) (λ v xs d. d) (λ v r l. tt) ts x rest);
 }
 
--- ---- what a `for` sets
-
-cell_sound : (fuel : ℕ) → IsSound (cell fuel) (λ p. lvalue_height p ≤ fuel) IsLvalue Any
-unfolding cell
-cell_sound fuel = record {
-  takes = under_takes (λ r p. lvalue_height p ≤ r) (λ r. record {
-    takes = made_takes (λ v. T.Cell v.0 v.1) (both (name_sound r) (after (sign_mark LeftBracket) (before (expression_sound r) (sign_mark RightBracket)))) (λ p. lvalue_height p ≤ suc r) IsLvalue Any
-        (λ v f. let one = f.0 in let low = f.1 in omega arith) (λ v xs d. d) (λ v rest l. tt);
-  }) (λ r x f. f) fuel;
-}
-
-pub lvalue_sound : (fuel : ℕ) → IsSound (lvalue fuel) (λ p. lvalue_height p ≤ fuel) IsLvalue Any
-unfolding lvalue
-lvalue_sound fuel = record {
-  takes = either_takes is_cell_next (cell fuel) (made (λ x. T.Name x) (name fuel))
-      (λ ts x rest h. (cell_sound fuel).takes ts x rest)
-      (λ ts x rest h. made_takes (λ x. T.Name x) (name_sound fuel) (λ p. lvalue_height p ≤ fuel) IsLvalue Any (λ v f. f) (λ v xs d. d) (λ v r l. tt) ts x rest);
-}
-
-pub set_sound : (fuel : ℕ) → IsSound (set fuel) (λ s. set_height s ≤ fuel) IsSet Any
-unfolding set
-set_sound fuel = record {
-  takes = under_takes (λ r s. set_height s ≤ r) (λ r. record {
-    takes = made_takes (λ v. record { lvalue = v.0; value = v.1 }) (both (lvalue_sound r) (after (sign_mark Assign) (expression_sound r))) (λ s. set_height s ≤ suc r) IsSet Any
-        (λ v f. let one = f.0 in let low = f.1 in omega arith) (λ v xs d. d) (λ v rest l. tt);
-  }) (λ r x f. f) fuel;
-}
-
 -- ---- locals
 
 pub option_low : {A : Type 0} (height : A → ℕ) (fuel : ℕ) (o : Option A) → IfThere (λ x. height x ≤ fuel) o → optional_height height o ≤ fuel
@@ -163,22 +134,6 @@ local_sound fuel = record {
       (λ v f. let one = f.1.0 in let low = f.1.1 in omega arith) (λ v xs d. d) (λ v rest l. tt);
 }
 
--- ---- how a `for` begins
-
-start_local_sound : (fuel : ℕ) → IsSound (start_local fuel) (λ s. start_height s ≤ fuel) IsStart Any
-unfolding start_local
-start_local_sound fuel =
-    let behind : IsSound (under (λ r. name r & sign Assign ▷ expression_at r 0 ◁ sign Semicolon) fuel) (λ v. suc (max 1 (expression_height v.1)) ≤ fuel) (λ v. IsName v.0 ⨾ (Sign Assign ⨾ (IsExpression v.1 ⨾ Sign Semicolon))) Any = record {
-      takes = under_takes (λ r v. suc (max 1 (expression_height v.1)) ≤ r) (λ r. both (name_sound r) (after (sign_mark Assign) (before (expression_sound r) (sign_mark Semicolon)))) (λ r v f. let one = f.0 in let low = f.1 in omega arith) fuel;
-    } in
-    record { takes = made_takes (λ v. T.StartLocal v.0 v.1.0 v.1.1) (both type_sound behind) (λ s. start_height s ≤ fuel) IsStart Any (λ v f. f.1) (λ v xs d. d) (λ v rest l. tt) }
-
-start_set_sound : (fuel : ℕ) → IsSound (start_set fuel) (λ s. start_height s ≤ fuel) IsStart Any
-unfolding start_set
-start_set_sound fuel = record {
-  takes = made_takes (λ s. T.StartSet s) (before (set_sound fuel) (sign_mark Semicolon)) (λ s. start_height s ≤ fuel) IsStart Any (λ v f. f) (λ v xs d. d) (λ v rest l. tt);
-}
-
 -- one mark that stands for a value
 pub marked_takes : {A : Type 0} (p : Punctuator) (value : A) (F : A → Type 0) (P L : A → List Token → Type 0) → F value → ((xs : List Token) → Sign p xs → P value xs) → ((rest : List Token) → L value rest) → (ts : List Token) (x : A) (rest : List Token) → (sign p ▷ (λ r. Ok (value, r))) ts ≡ Ok (x, rest) → IsTaken F P L ts x rest
 marked_takes {A} p value F P L fits spells leaves ts x rest e =
@@ -186,11 +141,3 @@ marked_takes {A} p value F P L fits spells leaves ts x rest e =
     let t = sign_takes p ts b.0 b.1 in
     subst (λ (z : A × List Token). IsTaken F P L ts z.0 z.1) (ok_is (value, b.0) (x, rest) b.2)
     (record { fits = fits; leaves = leaves b.0; front = t.front; spelled = spells t.front t.spelled; parts = t.parts })
-
-pub start_sound : (fuel : ℕ) → IsSound (start fuel) (λ s. start_height s ≤ fuel) IsStart Any
-unfolding start start_nothing
-start_sound fuel = record {
-  takes = either_takes (is_sign_next Semicolon) start_nothing (either is_type_next (start_local fuel) (start_set fuel))
-      (λ ts x rest h. marked_takes Semicolon T.StartNothing (λ s. start_height s ≤ fuel) IsStart Any (omega arith) (λ xs d. d) (λ r. tt) ts x rest)
-      (λ ts x rest h. either_takes is_type_next (start_local fuel) (start_set fuel) (λ ts x rest h. (start_local_sound fuel).takes ts x rest) (λ ts x rest h. (start_set_sound fuel).takes ts x rest) ts x rest);
-}

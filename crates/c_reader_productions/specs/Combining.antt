@@ -26,6 +26,12 @@ abbrev pub ◌◁◌ : {A : Type 0} → Reading A → Mark → Reading A
   rest ← mark x.1
   Ok (x.0, rest)
 
+-- a mark, and another behind it
+abbrev pub marks : Mark → Mark → Mark
+marks first second ts = do
+  rest ← first ts
+  second rest
+
 -- a part, and another behind it
 infixr 15 ◌&◌
 abbrev pub ◌&◌ : {A B : Type 0} → Reading A → Reading B → Reading (A × B)

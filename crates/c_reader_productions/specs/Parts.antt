@@ -4,15 +4,18 @@ use Rattle.std.specs.Prelude.{ℕ, zero, suc, Bool, false, List, [], ◌∷◌, 
 use Rattle.c_syntax.specs.declared.punctuator.Punctuator.TheVariants.{LeftParenthesis, RightParenthesis, LeftBracket, RightBracket, Semicolon, Assign}
 use Rattle.c_syntax.specs.declared.token.Token.{Token}
 use Rattle.c_syntax.specs.declared.identifier.Identifier.{Identifier}
-use Rattle.c_syntax.specs.Trees.{ExpressionTree, CallTree, ValueTree, LvalueTree, SetTree, LocalTree, StartTree}
+use Rattle.c_syntax.specs.Trees.{ExpressionTree, CallTree, ValueTree, LvalueTree, ChangeTree, SetTree, LocalTree, StartTree}
 use Rattle.c_syntax.specs.Trees as T
+use Rattle.c_syntax.specs.Statements.{one}
 use Rattle.c_reader_tokens.specs.declared.fault.Fault.{Fault}
 use Rattle.c_reader_tokens.specs.declared.fault.Fault.TheVariants.{TooDeep}
 use Rattle.c_reader_tokens.specs.Reading.{Reading, ◌>>=◌}
 use Rattle.c_reader_tokens.specs.Peeking.{is_name, is_sign_next, is_type_next, is_call_next}
 use Rattle.c_reader_tokens.specs.Tokens.{sign, placed_name, integer_type}
+use Rattle.c_reader_tokens.specs.Assigning.{step_operator, is_step_next}
 use Rattle.c_reader_expression_laws.specs.Reading.{expression_at}
 use Rattle.c_reader_productions.specs.Combining.{◌▷◌, ◌◁◌, ◌&◌, made, either, missing, there, commas}
+use Rattle.c_reader_productions.specs.Deeds.{Deed, Becomes, Changes, deed, changing}
 
 -- one less fuel, for the parts of something
 unfoldable pub less : ℕ → Result ℕ Fault
@@ -43,14 +46,26 @@ abbrev pub is_cell_next : List Token → Bool
 is_cell_next [] = false
 is_cell_next (t ∷ ts) = is_name t.kind && is_sign_next LeftBracket ts
 
-unfoldable pub cell : ℕ → Reading LvalueTree
-cell fuel ts = under (λ r. made (λ v. T.Cell v.0 v.1) (name r & sign LeftBracket ▷ expression_at r 0 ◁ sign RightBracket)) fuel ts
+unfoldable pub cell : ℕ → Reading (Identifier × ExpressionTree)
+cell fuel ts = under (λ r. name r & sign LeftBracket ▷ expression_at r 0 ◁ sign RightBracket) fuel ts
 
 unfoldable pub lvalue : ℕ → Reading LvalueTree
-lvalue fuel ts = either is_cell_next (cell fuel) (made (λ x. T.Name x) (name fuel)) ts
+lvalue fuel ts = either is_cell_next (made (λ v. T.Cell v.0 v.1) (cell fuel)) (made (λ x. T.Name x) (name fuel)) ts
+
+-- `++` or `--` before an lvalue
+unfoldable pub prefixed : ℕ → Reading ChangeTree
+prefixed fuel ts = made (λ v. record { lvalue = v.1; operator = v.0; value = one }) (step_operator & lvalue fuel) ts
+
+-- an lvalue, and what a `for` does to it
+abbrev pub set_of : LvalueTree → Deed ExpressionTree → SetTree
+set_of l (Becomes e) = T.Becomes l e
+set_of l (Changes o e) = T.Changes (record { lvalue = l; operator = o; value = e })
+
+unfoldable pub set_behind : ℕ → Reading SetTree
+set_behind fuel ts = made (λ v. set_of v.0 v.1) (lvalue fuel & deed (expression_at fuel 0) (changing fuel)) ts
 
 unfoldable pub set : ℕ → Reading SetTree
-set fuel ts = under (λ r. made (λ v. record { lvalue = v.0; value = v.1 }) (lvalue r & sign Assign ▷ expression_at r 0)) fuel ts
+set fuel ts = under (λ r. either is_step_next (made (λ c. T.Changes c) (prefixed r)) (set_behind r)) fuel ts
 
 unfoldable pub local_value : ℕ → Reading (Option ValueTree)
 local_value fuel ts = either (is_sign_next Assign) (there (sign Assign ▷ value fuel)) missing ts

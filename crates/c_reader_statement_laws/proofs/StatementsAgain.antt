@@ -6,20 +6,23 @@ use Rattle.c_syntax.specs.declared.constant.IntegerType.TheVariants.{Int, Unsign
 use Rattle.c_syntax.specs.declared.keyword.Keyword.TheVariants as K
 use Rattle.c_syntax.specs.declared.keyword.Keyword.{Keyword}
 use Rattle.c_syntax.specs.declared.punctuator.Punctuator.{Punctuator}
-use Rattle.c_syntax.specs.declared.punctuator.Punctuator.TheVariants.{LeftParenthesis, RightParenthesis, LeftBracket, RightBracket, LeftBrace, RightBrace, Semicolon, Assign, Question}
+use Rattle.c_syntax.specs.declared.punctuator.Punctuator.TheVariants.{LeftParenthesis, RightParenthesis, LeftBracket, RightBracket, LeftBrace, RightBrace, Semicolon, Assign, Question, Increment, Decrement}
 use Rattle.c_syntax.specs.declared.token.Token.{Token}
 use Rattle.c_syntax.specs.declared.token.TokenKind.{TokenKind}
 use Rattle.c_syntax.specs.declared.token.TokenKind.TheVariants as Kind
 use Rattle.c_syntax.specs.declared.identifier.Identifier.{Identifier}
-use Rattle.c_syntax.specs.Trees.{ExpressionTree, CallTree, LocalTree, ValueTree, LvalueTree, SetTree, StartTree, StatementTree, StatementsTree}
+use Rattle.c_syntax.specs.declared.expression.AssignOperator.{AssignOperator}
+use Rattle.c_syntax.specs.Trees.{ExpressionTree, CallTree, LocalTree, ValueTree, LvalueTree, ChangeTree, SetTree, StartTree, StatementTree, StatementsTree}
 use Rattle.c_syntax.specs.Trees as T
 use Rattle.c_syntax.specs.Parts.{OneAt, Sign, Word, IsName, IsType, ◌⨾◌, Perhaps}
 use Rattle.c_syntax.specs.Expressions.{IsExpression}
-use Rattle.c_syntax.specs.Statements.{IsCall, IsLocal, IsValue, IsLvalue, IsSet, IsStart, IsStatementIn, AreStatements}
-use Rattle.c_syntax.specs.Heights.{expression_height, call_height, value_height, set_height, optional_height, start_height, statement_height, statements_height, IfThere}
+use Rattle.c_syntax.specs.Statements.{IsCall, IsLocal, IsValue, IsLvalue, IsChange, IsSet, IsStart, IsStatementIn, AreStatements}
+use Rattle.c_syntax.specs.Heights.{expression_height, call_height, value_height, lvalue_height, set_height, optional_height, start_height, statement_height, statements_height, IfThere}
 use Rattle.c_reader_tokens.specs.Reading.{◌>>=◌}
-use Rattle.c_reader_tokens.specs.Peeking.{is_sign, is_word, is_sign_next, is_word_next, is_type_next, is_call_next}
+use Rattle.c_reader_tokens.specs.Peeking.{is_sign, is_word, is_next, is_sign_next, is_word_next, is_type_next, is_call_next}
 use Rattle.c_reader_tokens.specs.Tokens.{sign, word, placed_word}
+use Rattle.c_reader_tokens.specs.Assigning.{step_of}
+use Rattle.c_reader_tokens.proofs.Changes.{step_token}
 use Rattle.c_reader_tokens.proofs.Laws.{done, parts_behind}
 use Rattle.c_reader_tokens.proofs.Tokens.{is_sign-true, sign_again, is_sign_next-again}
 use Rattle.c_reader_expression_laws.specs.Operators.{binary_of, Ends}
@@ -28,13 +31,15 @@ use Rattle.c_reader_expression_laws.proofs.Continuing.{ends_behind}
 use Rattle.c_reader_statement_laws.specs.declared.first.First.{First}
 use Rattle.c_reader_statement_laws.specs.declared.first.First.TheVariants as F
 use Rattle.c_reader_productions.specs.Combining.{◌▷◌, ◌◁◌, ◌&◌, made, either, missing, there, each}
-use Rattle.c_reader_productions.specs.Parts.{under, name, call, is_cell_next, local, start_local, start_set, start_nothing, start}
-use Rattle.c_reader_statement_laws.specs.Reading.{Below, goes_on, items_in, block_in, first_of, empty, call_statement, assign, store, break_statement, continue_statement, returned, return_statement, condition, step, statements_of, branched, else_in, branches_in, if_in, while_in, for_in, by_first, statement_at}
-use Rattle.c_reader_productions.proofs.Laws.{IsWhole, Any, after', before', both', made_again, unless', EndsOption, Passes, Each, AllFit, either_first, either_second, under_again, bind_is}
+use Rattle.c_reader_productions.specs.Deeds.{Deed, Becomes, Changes}
+use Rattle.c_reader_productions.specs.Parts.{under, name, call, value, is_cell_next, local, start_local, start_set, start_nothing, start}
+use Rattle.c_reader_statement_laws.specs.Reading.{Below, goes_on, items_in, block_in, first_of, empty, call_statement, assigned, stored, changed, assign, store, step_statement, break_statement, continue_statement, returned, return_statement, condition, step, statements_of, branched, else_in, branches_in, if_in, while_in, do_end, do_in, for_in, by_first, statement_at}
+use Rattle.c_reader_productions.proofs.Laws.{IsWhole, Any, both_marks, after', before', both', made_again, unless', EndsOption, Passes, Each, AllFit, either_first, either_second, under_again, bind_is}
 use Rattle.c_reader_productions.proofs.PartsTaken.{sign_mark, word_mark}
-use Rattle.c_reader_productions.proofs.Beginning.{expression_begins, not_sign}
-use Rattle.c_reader_productions.proofs.PartsAgain.{Starts, starts_sign, starts_word, starts_placed, starts_name, starts_then, passes_is, type_whole, expression_whole, name_whole, value_whole, set_whole, name_no_int, Closed, closed_semicolon, option_fits, each_whole, call_again, local_again, placed_word_whole}
-use Rattle.c_reader_statement_laws.proofs.StatementsTaken.{Leaves, Low, SpellsBranches, LeavesBranches}
+use Rattle.c_reader_expression_laws.proofs.Beginning.{expression_begins, not_sign, apart_from}
+use Rattle.c_reader_productions.proofs.PartsAgain.{Starts, starts_sign, starts_word, starts_placed, starts_name, starts_then, passes_is, type_whole, expression_whole, name_whole, value_whole, name_no_int, Closed, closed_semicolon, option_fits, each_whole, call_again, local_again, placed_word_whole}
+use Rattle.c_reader_productions.proofs.Sets.{grouped, apart, IsChanging, is_changing, passes_then, changing_begins, changing_whole, FitsDeed, SpellsDeed, deed_whole, deed_not, LowCell, IsCell, cell_whole, IsPrefixed, parted, prefixed_whole, set_whole, begins_set, change_begins, set_begins, begins_no_word, begins_no_type}
+use Rattle.c_reader_statement_laws.proofs.StatementsTaken.{cell_apart, Leaves, Low, SpellsBranches, LeavesBranches}
 
 -- ---- with which tokens the parts begin
 
@@ -42,17 +47,6 @@ value_no_semicolon : (v : ValueTree) (xs rest : List Token) → IsValue v xs →
 value_no_semicolon (T.Plain e) xs rest d = not_sign Semicolon refl xs rest (expression_begins 0 e xs d)
 value_no_semicolon (T.Called c) xs rest d =
     passes_is (is_sign Semicolon) (Kind.Name c.callee.name) false refl xs rest (starts_then (Kind.Name c.callee.name) xs d (starts_name c.callee d.0 d.2))
-
-abbrev pub set_name : LvalueTree → Identifier
-set_name (T.Name x) = x
-set_name (T.Cell a e) = a
-
-lvalue_starts : (p : LvalueTree) (xs : List Token) → IsLvalue p xs → Starts (Kind.Name (set_name p).name) xs
-lvalue_starts (T.Name x) xs d = starts_name x xs d
-lvalue_starts (T.Cell a e) xs d = starts_then (Kind.Name a.name) xs d (starts_name a d.0 d.2)
-
-set_starts : (s : SetTree) (xs : List Token) → IsSet s xs → Starts (Kind.Name (set_name s.lvalue).name) xs
-set_starts s xs d = starts_then (Kind.Name (set_name s.lvalue).name) xs d (lvalue_starts s.lvalue d.0 d.2)
 
 type_next : (t : IntegerType) (xs rest : List Token) → IsType t xs → is_type_next (xs ++ rest) ≡ true
 type_next Int xs rest s = rw (s.2, s.1) refl
@@ -82,10 +76,9 @@ start_again fuel T.StartNothing xs rest low d =
     either_first (is_sign_next Semicolon) start_nothing (either is_type_next (start_local fuel) (start_set fuel)) (xs ++ rest) (is_sign_next-again Semicolon xs rest d)
     ∙ bind_is (sign Semicolon (xs ++ rest)) (λ r. done (T.StartNothing, r)) rest (sign_again Semicolon xs rest d)
 start_again fuel (T.StartSet s) xs rest low d =
-    let n = starts_then (Kind.Name (set_name s.lvalue).name) xs d (set_starts s d.0 d.2) in
-    let no_type : is_type_next (xs ++ rest) ≡ false = rw (n.parts, n.is) refl in
-    either_second (is_sign_next Semicolon) start_nothing (either is_type_next (start_local fuel) (start_set fuel)) (xs ++ rest) (passes_is (is_sign Semicolon) (Kind.Name (set_name s.lvalue).name) false refl xs rest n)
-    ∙ either_second is_type_next (start_local fuel) (start_set fuel) (xs ++ rest) no_type
+    let n = passes_then begins_set xs d (set_begins s d.0 d.2) in
+    either_second (is_sign_next Semicolon) start_nothing (either is_type_next (start_local fuel) (start_set fuel)) (xs ++ rest) (apart_from begins_set Semicolon refl xs rest n)
+    ∙ either_second is_type_next (start_local fuel) (start_set fuel) (xs ++ rest) (begins_no_type xs rest n)
     ∙ made_again (λ s. T.StartSet s) (before' (set_whole fuel) (sign_mark Semicolon) (λ s ys r k. ends_behind Semicolon refl refl refl 0 ys r k)) s xs rest low d tt
 start_again fuel (T.StartLocal t x e) xs rest low d =
     let here = parts_behind xs d.0 d.1 rest d.4 in
@@ -108,7 +101,7 @@ condition_whole fuel = record {
 
 step_whole : (fuel : ℕ) → IsWhole (step fuel) (λ o. optional_height set_height o ≤ fuel) (Perhaps IsSet) (λ o rest. (is_sign_next RightParenthesis rest ≡ true) × Ends 0 rest)
 step_whole fuel = record {
-  again = λ o xs rest f d e. (unless' (is_sign_next RightParenthesis) (set_whole fuel) (λ s ys r k. passes_is (is_sign RightParenthesis) (Kind.Name (set_name s.lvalue).name) false refl ys r (set_starts s ys k))).again o xs rest (option_fits set_height fuel o f) d (option_ends o rest e);
+  again = λ o xs rest f d e. (unless' (is_sign_next RightParenthesis) (set_whole fuel) (λ s ys r k. apart_from begins_set RightParenthesis refl ys r (set_begins s ys k))).again o xs rest (option_fits set_height fuel o f) d (option_ends o rest e);
 } where
   option_ends : (o : Option SetTree) (rest : List Token) → (is_sign_next RightParenthesis rest ≡ true) × Ends 0 rest → EndsOption (Passes (is_sign_next RightParenthesis) true) (λ e r. Ends 0 r) o rest
   option_ends None rest e = e.0
@@ -141,6 +134,19 @@ first_while : (block : Bool) (xs rest : List Token) → Starts (Kind.Keyword K.W
 unfolding first_of
 first_while true xs rest s = rw (s.parts, s.is) refl
 first_while false xs rest s = rw (s.parts, s.is) refl
+
+first_do : (block : Bool) (xs rest : List Token) → Starts (Kind.Keyword K.Do) xs → first_of block (xs ++ rest) ≡ F.Do
+unfolding first_of
+first_do true xs rest s = rw (s.parts, s.is) refl
+first_do false xs rest s = rw (s.parts, s.is) refl
+
+first_step : (block : Bool) (p : Punctuator) (o : AssignOperator) (xs rest : List Token) → step_of p ≡ Some o → Starts (Kind.Punctuator p) xs → first_of block (xs ++ rest) ≡ F.Step
+unfolding first_of
+first_step true Increment o xs rest e s = rw (s.parts, s.is) refl
+first_step false Increment o xs rest e s = rw (s.parts, s.is) refl
+first_step true Decrement o xs rest e s = rw (s.parts, s.is) refl
+first_step false Decrement o xs rest e s = rw (s.parts, s.is) refl
+first_step block _ o xs rest e s = absurd cc
 
 first_for : (block : Bool) (xs rest : List Token) → Starts (Kind.Keyword K.For) xs → first_of block (xs ++ rest) ≡ F.For
 unfolding first_of
@@ -188,6 +194,16 @@ first_behind_name block x p Q xs rest d =
     first_named block x xs rest (starts_then (Kind.Name x.name) xs d (starts_name x d.0 d.2)) ∙ ap (λ b. cond b F.Call (cond (is_cell_next (xs ++ rest)) F.Store F.Assign)) two.0
     ∙ ap (λ b. cond (is_sign LeftParenthesis (Kind.Punctuator p)) F.Call (cond b F.Store F.Assign)) two.1
 
+-- a name, and behind it neither `(` nor `[`
+first_alone : (block : Bool) (x : Identifier) {Q : List Token → Type 0} (xs rest : List Token) (d : (IsName x ⨾ Q) xs) → is_sign_next LeftParenthesis (d.1 ++ rest) ≡ false → is_sign_next LeftBracket (d.1 ++ rest) ≡ false → first_of block (xs ++ rest) ≡ F.Assign
+first_alone block x xs rest d no_call no_cell =
+    let n = d.2 in
+    let whole : xs ++ rest ≡ n.0 ∷ (d.1 ++ rest) = parts_behind xs d.0 d.1 rest d.4 ∙ ap (λ (l : List Token). l ++ (d.1 ++ rest)) n.3 in
+    let call : is_call_next (xs ++ rest) ≡ false = rw (whole, n.1, no_call) refl in
+    let cell : is_cell_next (xs ++ rest) ≡ false = rw (whole, n.1, no_cell) refl in
+    first_named block x xs rest (starts_then (Kind.Name x.name) xs d (starts_name x d.0 d.2))
+    ∙ ap (λ b. cond b F.Call (cond (is_cell_next (xs ++ rest)) F.Store F.Assign)) call ∙ ap (λ b. cond b F.Store F.Assign) cell
+
 -- no statement begins with `}` or `else`
 pub record StatementStarts (xs : List Token) : Type 0 where
   pub kind : TokenKind
@@ -215,6 +231,15 @@ begins_with_type Int xs s = begins_with_word K.Int refl xs s
 begins_with_type Unsigned xs (inl s) = begins_with_word K.Unsigned refl xs s
 begins_with_type Unsigned xs (inr d) = begins_then xs d (begins_with_word K.Unsigned refl d.0 d.2)
 
+begins_with_set : (xs : List Token) → is_next begins_set xs ≡ true → StatementStarts xs
+begins_with_set [] e = absurd cc
+begins_with_set (t ∷ ts) e = record {
+  kind = t.kind;
+  starts = record { token = t; more = ts; is = refl; parts = refl };
+  no_brace = apart_from begins_set RightBrace refl (t ∷ ts) [] e;
+  no_else = begins_no_word K.Else t.kind e;
+}
+
 pub statement_starts : (block : Bool) (s : StatementTree) (xs : List Token) → IsStatementIn block s xs → StatementStarts xs
 statement_starts block T.Empty xs d = begins_with_sign Semicolon refl xs d
 statement_starts block (T.Local l) xs d = let e = d.1 in begins_then xs e (begins_with_type l.kind e.0 e.2)
@@ -222,9 +247,11 @@ statement_starts block (T.Block s) xs d = begins_then xs d (begins_with_sign Lef
 statement_starts block (T.Call c) xs d = let e = d.2 in begins_then xs d (begins_then d.0 e (begins_with_name c.callee e.0 e.2))
 statement_starts block (T.Assign x v) xs d = begins_then xs d (begins_with_name x d.0 d.2)
 statement_starts block (T.Store a i e) xs d = begins_then xs d (begins_with_name a d.0 d.2)
+statement_starts block (T.Change c) xs d = begins_with_set xs (passes_then begins_set xs d (change_begins c d.0 d.2))
 statement_starts block (T.If e s) xs d = begins_then xs d (begins_with_word K.If refl d.0 d.2)
 statement_starts block (T.IfElse e s t) xs d = let f = d.1 in begins_then xs f (begins_with_word K.If refl f.0 f.2)
 statement_starts block (T.While e s) xs d = begins_then xs d (begins_with_word K.While refl d.0 d.2)
+statement_starts block (T.Do s e) xs d = begins_then xs d (begins_with_word K.Do refl d.0 d.2)
 statement_starts block (T.For start e step s) xs d = begins_then xs d (begins_with_word K.For refl d.0 d.2)
 statement_starts block (T.Break at) xs d = begins_then xs d (begins_with_placed K.Break at refl d.0 d.2)
 statement_starts block (T.Continue at) xs d = begins_then xs d (begins_with_placed K.Continue at refl d.0 d.2)
@@ -319,6 +346,20 @@ module _ (below : Below) (fuel : ℕ) (whole : (block : Bool) → IsWhole (below
       made_again (λ v. T.While v.0 v.1) (after' (word_mark K.While) (after' (sign_mark LeftParenthesis) (both' (expression_whole fuel) (after' (sign_mark RightParenthesis) (whole false))
       (λ e v ys r d l. ends_then RightParenthesis refl refl refl ys r d)))) (e, s) xs rest (omega arith, omega arith) d l
 
+  do_end_whole : IsWhole (do_end fuel) (λ e. expression_height e ≤ fuel) (λ e. Word K.While ⨾ (Sign LeftParenthesis ⨾ (IsExpression e ⨾ (Sign RightParenthesis ⨾ Sign Semicolon)))) Any
+  unfolding do_end
+  do_end_whole = record {
+    again = (after' (word_mark K.While) (after' (sign_mark LeftParenthesis) (before' (expression_whole fuel) (both_marks (sign_mark RightParenthesis) (sign_mark Semicolon))
+        (λ e ys r s. ends_then RightParenthesis refl refl refl ys r s)))).again;
+  }
+
+  -- The `while` behind a statement of a `do` is no `else`.
+  do_again : (block : Bool) (s : StatementTree) (e : ExpressionTree) (xs rest : List Token) → Low (suc fuel) (T.Do s e) → IsStatementIn block (T.Do s e) xs → do_in below fuel (xs ++ rest) ≡ Ok (T.Do s e, rest)
+  unfolding do_in
+  do_again block s e xs rest low d =
+      made_again (λ v. T.Do v.0 v.1) (after' (word_mark K.Do) (both' (whole false) do_end_whole
+      (λ s e ys r d k. λ open'. passes_is (is_word K.Else) (Kind.Keyword K.While) false refl ys r (starts_then (Kind.Keyword K.While) ys d (starts_word K.While d.0 d.2))))) (s, e) xs rest (omega arith, omega arith) d tt
+
   for_again : (block : Bool) (start : StartTree) (e : Option ExpressionTree) (step : Option SetTree) (s : StatementTree) (xs rest : List Token) → Low (suc fuel) (T.For start e step s) → IsStatementIn block (T.For start e step s) xs → Leaves (T.For start e step s) rest → for_in below fuel (xs ++ rest) ≡ Ok (T.For start e step s, rest)
   unfolding for_in
   for_again block start e step s xs rest low d l =
@@ -344,28 +385,58 @@ module _ (below : Below) (fuel : ℕ) (whole : (block : Bool) → IsWhole (below
       let first : first_of block (xs ++ rest) ≡ F.Call = subst (λ ts. first_of block ts ≡ F.Call) (sym (parts_behind xs d.0 d.1 rest d.4)) (first_behind_name block c.callee LeftParenthesis _ d.0 (d.1 ++ rest) d.2) in
       at block F.Call (xs ++ rest) _ first (made_again (λ c. T.Call c) (before' calls (sign_mark Semicolon) (λ c ys r s. tt)) c xs rest (omega arith) d tt)
 
-  assign_case : (block : Bool) (x : Identifier) (v : ValueTree) (xs rest : List Token) → Low (suc fuel) (T.Assign x v) → IsStatementIn block (T.Assign x v) xs → by_first below fuel (first_of block (xs ++ rest)) (xs ++ rest) ≡ Ok (T.Assign x v, rest)
-  unfolding assign
-  assign_case block x v xs rest low d =
-      at block F.Assign (xs ++ rest) _ (first_behind_name block x Assign _ xs rest d)
-      (made_again (λ v. T.Assign v.0 v.1) (both' (name_whole fuel) (after' (sign_mark Assign) (before' (value_whole fuel) (sign_mark Semicolon) (λ v ys r s. closed_semicolon ys r s))) (λ x v ys r d e. tt)) (x, v) xs rest (omega arith, omega arith) d tt)
+  changed_whole : IsWhole (changed fuel) (λ c. expression_height c.1 ≤ fuel) (λ c. IsChanging c ⨾ Sign Semicolon) Any
+  unfolding changed
+  changed_whole = record { again = (before' (changing_whole fuel) (sign_mark Semicolon) (λ c ys r s. ends_behind Semicolon refl refl refl 0 ys r s)).again }
 
-  store_case : (block : Bool) (a : Identifier) (i e : ExpressionTree) (xs rest : List Token) → Low (suc fuel) (T.Store a i e) → IsStatementIn block (T.Store a i e) xs → by_first below fuel (first_of block (xs ++ rest)) (xs ++ rest) ≡ Ok (T.Store a i e, rest)
+  changed_begins : (c : AssignOperator × ExpressionTree) (xs : List Token) → (IsChanging c ⨾ Sign Semicolon) xs → is_next is_changing xs ≡ true
+  changed_begins c xs d = passes_then is_changing xs d (changing_begins c d.0 d.2)
+
+  becomes_value : IsWhole (value fuel ◁ sign Semicolon) (λ v. value_height v ≤ fuel) (λ v. IsValue v ⨾ Sign Semicolon) Any
+  becomes_value = before' (value_whole fuel) (sign_mark Semicolon) (λ v ys r s. closed_semicolon ys r s)
+
+  becomes_expression : IsWhole (expression_at fuel 0 ◁ sign Semicolon) (λ e. expression_height e ≤ fuel) (λ e. IsExpression e ⨾ Sign Semicolon) Any
+  becomes_expression = before' (expression_whole fuel) (sign_mark Semicolon) (λ e ys r s. ends_behind Semicolon refl refl refl 0 ys r s)
+
+  assign_case : (block : Bool) (x : Identifier) (v : Deed ValueTree) (xs rest : List Token) → 1 ≤ fuel → FitsDeed (λ v. value_height v ≤ fuel) (λ c. expression_height c.1 ≤ fuel) v → (IsName x ⨾ SpellsDeed (λ v. IsValue v ⨾ Sign Semicolon) (λ c. IsChanging c ⨾ Sign Semicolon) v) xs → by_first below fuel (first_of block (xs ++ rest)) (xs ++ rest) ≡ Ok (assigned x v, rest)
+  unfolding assign
+  assign_case block x v xs rest low f d =
+      let first = first_alone block x xs rest d (deed_not becomes_value changed_whole changed_begins LeftParenthesis refl refl v d.1 rest d.3) (deed_not becomes_value changed_whole changed_begins LeftBracket refl refl v d.1 rest d.3) in
+      at block F.Assign (xs ++ rest) _ first
+      (made_again (λ v. assigned v.0 v.1) (both' (name_whole fuel) (deed_whole becomes_value changed_whole changed_begins) (λ x v ys r d e. tt)) (x, v) xs rest (low, f) d tt)
+
+  store_case : (block : Bool) (c : Identifier × ExpressionTree) (v : Deed ExpressionTree) (xs rest : List Token) → LowCell fuel c → FitsDeed (λ e. expression_height e ≤ fuel) (λ c. expression_height c.1 ≤ fuel) v → (IsCell c ⨾ SpellsDeed (λ e. IsExpression e ⨾ Sign Semicolon) (λ c. IsChanging c ⨾ Sign Semicolon) v) xs → by_first below fuel (first_of block (xs ++ rest)) (xs ++ rest) ≡ Ok (stored c v, rest)
   unfolding store
-  store_case block a i e xs rest low d =
-      let parts : (r : ℕ) → IsWhole (name r & sign LeftBracket ▷ expression_at r 0 & sign RightBracket ▷ sign Assign ▷ expression_at fuel 0 ◁ sign Semicolon)
-      (λ v. (1 ≤ r) × ((expression_height v.1.0 ≤ r) × (expression_height v.1.1 ≤ fuel)))
-      (λ v. IsName v.0 ⨾ (Sign LeftBracket ⨾ (IsExpression v.1.0 ⨾ (Sign RightBracket ⨾ (Sign Assign ⨾ (IsExpression v.1.1 ⨾ Sign Semicolon)))))) Any =
-      λ r. both' (name_whole r) (after' (sign_mark LeftBracket) (both' (expression_whole r) (after' (sign_mark RightBracket) (after' (sign_mark Assign) (before' (expression_whole fuel) (sign_mark Semicolon) (λ e ys r s. ends_behind Semicolon refl refl refl 0 ys r s))))
-      (λ e v ys r d l. ends_then RightBracket refl refl refl ys r d))) (λ x v ys r d e. tt) in
-      let whole_parts : IsWhole (under (λ r. name r & sign LeftBracket ▷ expression_at r 0 & sign RightBracket ▷ sign Assign ▷ expression_at fuel 0 ◁ sign Semicolon) fuel)
-      (λ v. (suc (max 1 (expression_height v.1.0)) ≤ fuel) × (expression_height v.1.1 ≤ fuel))
-      (λ v. IsName v.0 ⨾ (Sign LeftBracket ⨾ (IsExpression v.1.0 ⨾ (Sign RightBracket ⨾ (Sign Assign ⨾ (IsExpression v.1.1 ⨾ Sign Semicolon)))))) Any = record {
-        again = under_again (λ r v. (suc (max 1 (expression_height v.1.0)) ≤ r) × (expression_height v.1.1 ≤ fuel)) parts
-            (λ r v f. let one = f.0 in (omega arith, (omega arith, f.1))) (λ v f. absurd (let one = f.0 in omega arith)) fuel;
-      } in
-      at block F.Store (xs ++ rest) _ (first_behind_name block a LeftBracket _ xs rest d)
-      (made_again (λ v. T.Store v.0 v.1.0 v.1.1) whole_parts (a, (i, e)) xs rest (omega arith, omega arith) d tt)
+  store_case block c v xs rest low f d =
+      at block F.Store (xs ++ rest) _ (first_behind_name block c.0 LeftBracket _ xs rest (cell_apart c xs d))
+      (made_again (λ v. stored v.0 v.1) (both' (cell_whole fuel) (deed_whole becomes_expression changed_whole changed_begins) (λ x v ys r d e. tt)) (c, v) xs rest (low, f) d tt)
+
+  -- a cell, and more behind it, of one row of parts
+  cell_grouped : {R : List Token → Type 0} (c : Identifier × ExpressionTree) (xs : List Token) → (IsName c.0 ⨾ (Sign LeftBracket ⨾ (IsExpression c.1 ⨾ (Sign RightBracket ⨾ R)))) xs → (IsCell c ⨾ R) xs
+  cell_grouped c xs d =
+      let q = d.3 in
+      grouped xs (d.0, d.1, d.2, grouped d.1 (q.0, q.1, q.2, grouped q.1 q.3, q.4), d.4)
+
+  behind_case : (block : Bool) (l : LvalueTree) (o : AssignOperator) (e : ExpressionTree) (xs rest : List Token) → lvalue_height l ≤ fuel → expression_height e ≤ fuel → (IsLvalue l ⨾ (IsChanging (o, e) ⨾ Sign Semicolon)) xs → by_first below fuel (first_of block (xs ++ rest)) (xs ++ rest) ≡ Ok (T.Change (record { lvalue = l; operator = o; value = e }), rest)
+  behind_case block (T.Name x) o e xs rest low f d = assign_case block x (Changes o e) xs rest low f d
+  behind_case block (T.Cell a i) o e xs rest low f d = store_case block (a, i) (Changes o e) xs rest low f d
+
+  prefixed_case : (block : Bool) (c : ChangeTree) (xs rest : List Token) → Low (suc fuel) (T.Change c) → (IsPrefixed c ⨾ Sign Semicolon) xs → by_first below fuel (first_of block (xs ++ rest)) (xs ++ rest) ≡ Ok (T.Change c, rest)
+  unfolding step_statement
+  prefixed_case block c xs rest low d =
+      let p = d.2.1 in
+      let k = step_token c.operator p.0 p.2 in
+      let kind = Kind.Punctuator k.sign in
+      let first = starts_then kind xs d (starts_then kind d.0 p (record { token = k.token; more = []; is = k.is; parts = k.parts })) in
+      at block F.Step (xs ++ rest) _ (first_step block k.sign c.operator xs rest k.stands first)
+      (made_again (λ c. T.Change c) (before' (prefixed_whole fuel) (sign_mark Semicolon) (λ c ys r s. passes_is (is_sign LeftBracket) (Kind.Punctuator Semicolon) false refl ys r (starts_sign Semicolon ys s))) c xs rest low d tt)
+
+  change_case : (block : Bool) (c : ChangeTree) (xs rest : List Token) → Low (suc fuel) (T.Change c) → (IsChange c ⨾ Sign Semicolon) xs → by_first below fuel (first_of block (xs ++ rest)) (xs ++ rest) ≡ Ok (T.Change c, rest)
+  change_case block c xs rest low d =
+      elim (parted c d.0 d.2) [
+        | inl b ↦ behind_case block c.lvalue c.operator c.value xs rest (omega arith) (omega arith) (apart xs (d.0, d.1, b, d.3, d.4))
+        | inr p ↦ prefixed_case block c xs rest low (d.0, d.1, p, d.3, d.4)
+      ]
 
   word_case : (k : Keyword) (first : First) (make : ℕ → StatementTree) (block : Bool) (n : ℕ) (xs rest : List Token) → ((ts : List Token) → by_first below fuel first ts ≡ made make (placed_word k ◁ sign Semicolon) ts) → ((ys r : List Token) → Starts (Kind.Keyword k) ys → first_of block (ys ++ r) ≡ first) → (OneAt (Kind.Keyword k) n ⨾ Sign Semicolon) xs → by_first below fuel (first_of block (xs ++ rest)) (xs ++ rest) ≡ Ok (make n, rest)
   word_case k first make block n xs rest same is d =
@@ -394,8 +465,9 @@ module _ (below : Below) (fuel : ℕ) (whole : (block : Bool) → IsWhole (below
       at block F.Block (xs ++ rest) _ (first_block block xs rest (starts_then (Kind.Punctuator LeftBrace) xs d (starts_sign LeftBrace d.0 d.2)))
       (bind_is (block_in below (xs ++ rest)) (λ y. done (T.Block y.0, y.1)) (ss, rest) (block_again ss xs rest (omega arith) d))
   by_first_again block (T.Call c) xs rest low d l = call_case block c xs rest low d
-  by_first_again block (T.Assign x v) xs rest low d l = assign_case block x v xs rest low d
-  by_first_again block (T.Store a i e) xs rest low d l = store_case block a i e xs rest low d
+  by_first_again block (T.Assign x v) xs rest low d l = assign_case block x (Becomes v) xs rest (omega arith) (omega arith) d
+  by_first_again block (T.Store a i e) xs rest low d l = store_case block (a, i) (Becomes e) xs rest (omega arith) (omega arith) (cell_grouped (a, i) xs d)
+  by_first_again block (T.Change c) xs rest low d l = change_case block c xs rest low d
   by_first_again block (T.If e s) xs rest low d l =
       at block F.If (xs ++ rest) _ (first_if block xs rest (starts_then (Kind.Keyword K.If) xs d (starts_word K.If d.0 d.2))) (if_again block e s None xs rest (omega arith) (omega arith) tt d (l refl))
   by_first_again block (T.IfElse e s t) xs rest low d l =
@@ -407,6 +479,8 @@ module _ (below : Below) (fuel : ℕ) (whole : (block : Bool) → IsWhole (below
       (if_again block e s (Some t) xs rest (omega arith) (omega arith) (omega arith) (f.0, f.1, f.2, (p.0, p.1, p.2, (q.0, q.1, q.2, (r.0, r.1, r.2, (d.0, r.3), r.4), q.4), p.4), f.4) l)
   by_first_again block (T.While e s) xs rest low d l =
       at block F.While (xs ++ rest) _ (first_while block xs rest (starts_then (Kind.Keyword K.While) xs d (starts_word K.While d.0 d.2))) (while_again block e s xs rest low d l)
+  by_first_again block (T.Do s e) xs rest low d l =
+      at block F.Do (xs ++ rest) _ (first_do block xs rest (starts_then (Kind.Keyword K.Do) xs d (starts_word K.Do d.0 d.2))) (do_again block s e xs rest low d)
   by_first_again block (T.For start e step s) xs rest low d l =
       at block F.For (xs ++ rest) _ (first_for block xs rest (starts_then (Kind.Keyword K.For) xs d (starts_word K.For d.0 d.2))) (for_again block start e step s xs rest low d l)
   by_first_again block (T.Break n) xs rest low d l = word_case K.Break F.Break (λ n. T.Break n) block n xs rest break_same (first_break block) d
@@ -420,9 +494,11 @@ statement_high (T.Block s) = omega arith
 statement_high (T.Call c) = omega arith
 statement_high (T.Assign x v) = omega arith
 statement_high (T.Store a i e) = omega arith
+statement_high (T.Change c) = omega arith
 statement_high (T.If e s) = omega arith
 statement_high (T.IfElse e s t) = omega arith
 statement_high (T.While e s) = omega arith
+statement_high (T.Do s e) = omega arith
 statement_high (T.For start e step s) = omega arith
 statement_high (T.Break at) = omega arith
 statement_high (T.Continue at) = omega arith

@@ -1,27 +1,31 @@
 -- Statements: what is read is spelled so, is no higher than the fuel, and takes an `else` that is next.
 use Rattle.std.proofs.Common.{◌≡◌, ℕ, zero, suc, ◌≤◌, Bool, true, false, cond, List, [], ◌∷◌, ◌++◌, Option, Some, None, Ok, inl, inr, refl, sym, ap, subst, ◌∙◌, append_assoc, arith}
-use Rattle.std.specs.Prelude.{max}
 use Rattle.c_syntax.specs.declared.keyword.Keyword.TheVariants as K
-use Rattle.c_syntax.specs.declared.punctuator.Punctuator.TheVariants.{LeftParenthesis, RightParenthesis, LeftBracket, RightBracket, LeftBrace, RightBrace, Semicolon, Assign}
+use Rattle.c_syntax.specs.declared.punctuator.Punctuator.TheVariants.{LeftParenthesis, RightParenthesis, LeftBracket, RightBracket, LeftBrace, RightBrace, Semicolon}
 use Rattle.c_syntax.specs.declared.token.Token.{Token}
-use Rattle.c_syntax.specs.Trees.{ExpressionTree, SetTree, StartTree, StatementTree, StatementsTree}
+use Rattle.c_syntax.specs.declared.identifier.Identifier.{Identifier}
+use Rattle.c_syntax.specs.declared.expression.AssignOperator.{AssignOperator}
+use Rattle.c_syntax.specs.Trees.{ExpressionTree, ValueTree, LvalueTree, SetTree, StartTree, StatementTree, StatementsTree}
 use Rattle.c_syntax.specs.Trees as T
 use Rattle.c_syntax.specs.Parts.{Sign, Word, IsName, ◌⨾◌}
 use Rattle.c_syntax.specs.Expressions.{IsExpression}
-use Rattle.c_syntax.specs.Statements.{ends_open, IsStatementIn, AreStatements}
+use Rattle.c_syntax.specs.Statements.{ends_open, IsValue, IsLvalue, IsStatementIn, AreStatements}
 use Rattle.c_syntax.specs.Heights.{expression_height, value_height, set_height, start_height, statement_height, statements_height, IfThere}
 use Rattle.c_reader_tokens.specs.Reading.{◌>>=◌, misfit}
 use Rattle.c_reader_tokens.specs.Peeking.{is_sign_next, is_word_next, is_name_next, is_call_next}
-use Rattle.c_reader_tokens.specs.Tokens.{sign, word}
+use Rattle.c_reader_tokens.specs.Tokens.{word}
+use Rattle.c_reader_tokens.specs.Assigning.{is_step_next}
 use Rattle.c_reader_tokens.proofs.Laws.{done, ok_is, bind_ok}
-use Rattle.c_reader_expression_laws.specs.Reading.{expression_at}
 use Rattle.c_reader_statement_laws.specs.declared.first.First.{First}
 use Rattle.c_reader_statement_laws.specs.declared.first.First.TheVariants as F
-use Rattle.c_reader_productions.specs.Combining.{◌▷◌, ◌◁◌, ◌&◌, made, missing, there}
-use Rattle.c_reader_productions.specs.Parts.{under, name, is_cell_next, local, start}
-use Rattle.c_reader_statement_laws.specs.Reading.{first_word, first_of, empty, call_statement, assign, store, break_statement, continue_statement, return_statement, branched, statements_of, Below, goes_on, items_in, block_in, else_in, branches_in, if_in, while_in, for_in, by_first, too_high, statement_at}
-use Rattle.c_reader_productions.proofs.Laws.{chosen, IsTaken, IsSound, Any, after, before, both, made_takes, unless, under_takes, Each, AllFit, each_sound}
-use Rattle.c_reader_productions.proofs.PartsTaken.{sign_mark, word_mark, sound_as, placed_word_sound, expression_sound, name_sound, call_sound, value_sound, set_sound, option_low, local_sound, start_sound, marked_takes}
+use Rattle.c_reader_productions.specs.Combining.{◌▷◌, made, missing, there}
+use Rattle.c_reader_productions.specs.Deeds.{Deed, Becomes, Changes}
+use Rattle.c_reader_productions.specs.Parts.{is_cell_next, local}
+use Rattle.c_reader_statement_laws.specs.Reading.{first_word, first_of, empty, call_statement, assigned, stored, changed, assign, store, step_statement, break_statement, continue_statement, return_statement, branched, statements_of, Below, goes_on, items_in, block_in, else_in, branches_in, if_in, while_in, do_end, do_in, for_in, by_first, too_high, statement_at}
+use Rattle.c_reader_productions.proofs.Laws.{chosen, IsTaken, IsSound, Any, both_marks, after, before, both, made_takes, unless, Each, AllFit, each_sound}
+use Rattle.c_reader_productions.proofs.PartsTaken.{sign_mark, word_mark, sound_as, placed_word_sound, expression_sound, name_sound, call_sound, value_sound, option_low, local_sound, marked_takes}
+use Rattle.c_reader_productions.proofs.Sets as sets
+use Rattle.c_reader_productions.proofs.Sets.{grouped, apart, IsChanging, LowChanging, changing_sound, FitsDeed, SpellsDeed, deed_sound, LowCell, IsCell, cell_sound, prefixed_sound, set_sound, start_sound}
 
 -- no `else` is left behind an `if` without one
 abbrev pub Leaves : StatementTree → List Token → Type 0
@@ -40,26 +44,67 @@ call_statement_sound fuel block = record {
   takes = made_takes (λ c. T.Call c) (before (call_sound fuel) (sign_mark Semicolon)) (Low (suc fuel)) (IsStatementIn block) Leaves (λ v f. omega arith) (λ v xs d. d) (λ v rest l. closed rest);
 }
 
+-- ---- what is done to a name or a cell
+
+changed_sound : (fuel : ℕ) → IsSound (changed fuel) (LowChanging fuel) (λ c. IsChanging c ⨾ Sign Semicolon) Any
+unfolding changed
+changed_sound fuel = record { takes = (before (changing_sound fuel) (sign_mark Semicolon)).takes }
+
+changed_spelled : (block : Bool) (l : LvalueTree) (o : AssignOperator) (e : ExpressionTree) (xs : List Token) → (IsLvalue l ⨾ (IsChanging (o, e) ⨾ Sign Semicolon)) xs → IsStatementIn block (T.Change (record { lvalue = l; operator = o; value = e })) xs
+changed_spelled block l o e xs d = let g = grouped xs d in (g.0, g.1, sets.changed l o e g.0 g.2, g.3, g.4)
+
+assigned_low : (fuel : ℕ) (x : Identifier) (v : Deed ValueTree) → 1 ≤ fuel → FitsDeed (λ v. value_height v ≤ fuel) (LowChanging fuel) v → Low (suc fuel) (assigned x v)
+assigned_low fuel x (Becomes v) le f = omega arith
+assigned_low fuel x (Changes o e) le f = let low = f le in omega arith
+
+assigned_spelled : (block : Bool) (x : Identifier) (v : Deed ValueTree) (xs : List Token) → (IsName x ⨾ SpellsDeed (λ v. IsValue v ⨾ Sign Semicolon) (λ c. IsChanging c ⨾ Sign Semicolon) v) xs → IsStatementIn block (assigned x v) xs
+assigned_spelled block x (Becomes v) xs d = d
+assigned_spelled block x (Changes o e) xs d = changed_spelled block (T.Name x) o e xs d
+
+assigned_leaves : (x : Identifier) (v : Deed ValueTree) (rest : List Token) → Leaves (assigned x v) rest
+assigned_leaves x (Becomes v) rest = closed rest
+assigned_leaves x (Changes o e) rest = closed rest
+
 assign_sound : (fuel : ℕ) (block : Bool) → IsSound (assign fuel) (Low (suc fuel)) (IsStatementIn block) Leaves
 unfolding assign
 assign_sound fuel block = record {
-  takes = made_takes (λ v. T.Assign v.0 v.1) (both (name_sound fuel) (after (sign_mark Assign) (before (value_sound fuel) (sign_mark Semicolon)))) (Low (suc fuel)) (IsStatementIn block) Leaves
-      (λ v f. let one = f.0 in let low = f.1 in omega arith) (λ v xs d. d) (λ v rest l. closed rest);
+  takes = made_takes (λ v. assigned v.0 v.1) (both (name_sound fuel) (deed_sound (before (value_sound fuel) (sign_mark Semicolon)) (changed_sound fuel))) (Low (suc fuel)) (IsStatementIn block) Leaves
+      (λ v f. assigned_low fuel v.0 v.1 f.0 f.1) (λ v xs d. assigned_spelled block v.0 v.1 xs d) (λ v rest l. assigned_leaves v.0 v.1 rest);
 }
+
+-- a cell, and more behind it, as one row of parts
+pub cell_apart : {R : List Token → Type 0} (c : Identifier × ExpressionTree) (xs : List Token) → (IsCell c ⨾ R) xs → (IsName c.0 ⨾ (Sign LeftBracket ⨾ (IsExpression c.1 ⨾ (Sign RightBracket ⨾ R)))) xs
+cell_apart c xs d =
+    let a = apart xs d in
+    let b = apart a.1 a.3 in
+    (a.0, a.1, a.2, (b.0, b.1, b.2, apart b.1 b.3, b.4), a.4)
+
+stored_low : (fuel : ℕ) (c : Identifier × ExpressionTree) (v : Deed ExpressionTree) → LowCell fuel c → FitsDeed (λ e. expression_height e ≤ fuel) (LowChanging fuel) v → Low (suc fuel) (stored c v)
+stored_low fuel c (Becomes e) le f = omega arith
+stored_low fuel c (Changes o e) le f = let low = f (omega arith) in omega arith
+
+stored_spelled : (block : Bool) (c : Identifier × ExpressionTree) (v : Deed ExpressionTree) (xs : List Token) → (IsCell c ⨾ SpellsDeed (λ e. IsExpression e ⨾ Sign Semicolon) (λ c. IsChanging c ⨾ Sign Semicolon) v) xs → IsStatementIn block (stored c v) xs
+stored_spelled block c (Becomes e) xs d = cell_apart c xs d
+stored_spelled block c (Changes o e) xs d = changed_spelled block (T.Cell c.0 c.1) o e xs d
+
+stored_leaves : (c : Identifier × ExpressionTree) (v : Deed ExpressionTree) (rest : List Token) → Leaves (stored c v) rest
+stored_leaves c (Becomes e) rest = closed rest
+stored_leaves c (Changes o e) rest = closed rest
 
 store_sound : (fuel : ℕ) (block : Bool) → IsSound (store fuel) (Low (suc fuel)) (IsStatementIn block) Leaves
 unfolding store
-store_sound fuel block =
-    let parts : IsSound (under (λ r. name r & sign LeftBracket ▷ expression_at r 0 & sign RightBracket ▷ sign Assign ▷ expression_at fuel 0 ◁ sign Semicolon) fuel)
-    (λ v. (suc (max 1 (expression_height v.1.0)) ≤ fuel) × (expression_height v.1.1 ≤ fuel))
-    (λ v. IsName v.0 ⨾ (Sign LeftBracket ⨾ (IsExpression v.1.0 ⨾ (Sign RightBracket ⨾ (Sign Assign ⨾ (IsExpression v.1.1 ⨾ Sign Semicolon)))))) Any = record {
-      takes = under_takes (λ r v. (suc (max 1 (expression_height v.1.0)) ≤ r) × (expression_height v.1.1 ≤ fuel))
-          (λ r. both (name_sound r) (after (sign_mark LeftBracket) (both (expression_sound r) (after (sign_mark RightBracket) (after (sign_mark Assign) (before (expression_sound fuel) (sign_mark Semicolon)))))))
-          (λ r v f. (let one = f.0 in let low = f.1.0 in omega arith, f.1.1)) fuel;
-    } in
-    record {
-      takes = made_takes (λ v. T.Store v.0 v.1.0 v.1.1) parts (Low (suc fuel)) (IsStatementIn block) Leaves (λ v f. let one = f.0 in let low = f.1 in omega arith) (λ v xs d. d) (λ v rest l. closed rest);
-    }
+store_sound fuel block = record {
+  takes = made_takes (λ v. stored v.0 v.1) (both (cell_sound fuel) (deed_sound (before (expression_sound fuel) (sign_mark Semicolon)) (changed_sound fuel))) (Low (suc fuel)) (IsStatementIn block) Leaves
+      (λ v f. stored_low fuel v.0 v.1 f.0 f.1) (λ v xs d. stored_spelled block v.0 v.1 xs d) (λ v rest l. stored_leaves v.0 v.1 rest);
+}
+
+step_statement_sound : (fuel : ℕ) (block : Bool) → IsSound (step_statement fuel) (Low (suc fuel)) (IsStatementIn block) Leaves
+unfolding step_statement
+step_statement_sound fuel block = record {
+  takes = made_takes (λ c. T.Change c) (before (prefixed_sound fuel) (sign_mark Semicolon)) (Low (suc fuel)) (IsStatementIn block) Leaves (λ c f. f) (λ c xs d. d) (λ c rest l. closed rest);
+}
+
+-- ---- other statements without statements inside
 
 break_sound : (fuel : ℕ) (block : Bool) → IsSound break_statement (Low (suc fuel)) (IsStatementIn block) Leaves
 unfolding break_statement
@@ -124,6 +169,19 @@ module _ (below : Below) (fuel : ℕ) (sound : (block : Bool) → IsSound (below
   while_sound block = record {
     takes = made_takes (λ v. T.While v.0 v.1) (after (word_mark K.While) (after (sign_mark LeftParenthesis) (both (expression_sound fuel) (after (sign_mark RightParenthesis) (sound false))))) (Low (suc fuel)) (IsStatementIn block) Leaves
         (λ v f. let one = f.0 in let low = f.1 in omega arith) (λ v xs d. d) (λ v rest l. l);
+  }
+
+  do_end_sound : IsSound (do_end fuel) (λ e. expression_height e ≤ fuel) (λ e. Word K.While ⨾ (Sign LeftParenthesis ⨾ (IsExpression e ⨾ (Sign RightParenthesis ⨾ Sign Semicolon)))) Any
+  unfolding do_end
+  do_end_sound = record {
+    takes = (after (word_mark K.While) (after (sign_mark LeftParenthesis) (before (expression_sound fuel) (both_marks (sign_mark RightParenthesis) (sign_mark Semicolon))))).takes;
+  }
+
+  do_sound : (block : Bool) → IsSound (do_in below fuel) (Low (suc fuel)) (IsStatementIn block) Leaves
+  unfolding do_in
+  do_sound block = record {
+    takes = made_takes (λ v. T.Do v.0 v.1) (after (word_mark K.Do) (both (sound false) do_end_sound)) (Low (suc fuel)) (IsStatementIn block) Leaves
+        (λ v f. let one = f.0 in let low = f.1 in omega arith) (λ v xs d. d) (λ v rest l. closed rest);
   }
 
   for_low : (start : StartTree) (e : Option ExpressionTree) (s : Option SetTree) (body : StatementTree) → start_height start ≤ fuel → IfThere (λ x. expression_height x ≤ fuel) e → IfThere (λ x. set_height x ≤ fuel) s → Low fuel body → Low (suc fuel) (T.For start e s body)
@@ -224,8 +282,10 @@ module _ (below : Below) (fuel : ℕ) (sound : (block : Bool) → IsSound (below
   by_first_taken block F.Call ok ts s rest e = (call_statement_sound fuel block).takes ts s rest e
   by_first_taken block F.Assign ok ts s rest e = (assign_sound fuel block).takes ts s rest e
   by_first_taken block F.Store ok ts s rest e = (store_sound fuel block).takes ts s rest e
+  by_first_taken block F.Step ok ts s rest e = (step_statement_sound fuel block).takes ts s rest e
   by_first_taken block F.If ok ts s rest e = (if_sound block).takes ts s rest e
   by_first_taken block F.While ok ts s rest e = (while_sound block).takes ts s rest e
+  by_first_taken block F.Do ok ts s rest e = (do_sound block).takes ts s rest e
   by_first_taken block F.For ok ts s rest e = (for_sound block).takes ts s rest e
   by_first_taken block F.Break ok ts s rest e = (break_sound fuel block).takes ts s rest e
   by_first_taken block F.Continue ok ts s rest e = (continue_sound fuel block).takes ts s rest e
@@ -234,14 +294,16 @@ module _ (below : Below) (fuel : ℕ) (sound : (block : Bool) → IsSound (below
 
 -- ---- a local begins in a block alone
 
-words_no_local : (a b c d e f : Bool) → cond a F.If (cond b F.While (cond c F.For (cond d F.Break (cond e F.Continue (cond f F.Return F.Other))))) ≡ F.Local → ⊥
-words_no_local true b c d e f h = cc
-words_no_local false true c d e f h = cc
-words_no_local false false true d e f h = cc
-words_no_local false false false true e f h = cc
-words_no_local false false false false true f h = cc
-words_no_local false false false false false true h = cc
-words_no_local false false false false false false h = cc
+words_no_local : (a b c d e f g h : Bool) → cond a F.If (cond b F.While (cond c F.For (cond d F.Break (cond e F.Continue (cond f F.Return (cond g F.Do (cond h F.Step F.Other))))))) ≡ F.Local → ⊥
+words_no_local true b c d e f g h local = cc
+words_no_local false true c d e f g h local = cc
+words_no_local false false true d e f g h local = cc
+words_no_local false false false true e f g h local = cc
+words_no_local false false false false true f g h local = cc
+words_no_local false false false false false true g h local = cc
+words_no_local false false false false false false true h local = cc
+words_no_local false false false false false false false true local = cc
+words_no_local false false false false false false false false local = cc
 
 none_local : (a b c d e : Bool) (word : First) → (word ≡ F.Local → ⊥) → cond a F.Empty (cond b F.Block (cond c F.Call (cond d F.Store (cond e F.Assign word)))) ≡ F.Local → ⊥
 none_local true b c d e word none h = cc
@@ -256,7 +318,7 @@ unfolding first_of
 local_in_block true ts e = refl
 local_in_block false ts e =
     absurd (none_local (is_sign_next Semicolon ts) (is_sign_next LeftBrace ts) (is_call_next ts) (is_cell_next ts) (is_name_next ts) (first_word ts)
-    (words_no_local (is_word_next K.If ts) (is_word_next K.While ts) (is_word_next K.For ts) (is_word_next K.Break ts) (is_word_next K.Continue ts) (is_word_next K.Return ts)) e)
+    (words_no_local (is_word_next K.If ts) (is_word_next K.While ts) (is_word_next K.For ts) (is_word_next K.Break ts) (is_word_next K.Continue ts) (is_word_next K.Return ts) (is_word_next K.Do ts) (is_step_next ts)) e)
 
 too_high_none : (first : First) (ts : List Token) (x : StatementTree × List Token) → too_high first ts ≡ done x → ⊥
 too_high_none F.Other [] x e = cc
@@ -267,8 +329,10 @@ too_high_none F.Block ts x e = cc
 too_high_none F.Call ts x e = cc
 too_high_none F.Assign ts x e = cc
 too_high_none F.Store ts x e = cc
+too_high_none F.Step ts x e = cc
 too_high_none F.If ts x e = cc
 too_high_none F.While ts x e = cc
+too_high_none F.Do ts x e = cc
 too_high_none F.For ts x e = cc
 too_high_none F.Break ts x e = cc
 too_high_none F.Continue ts x e = cc

@@ -3,17 +3,22 @@ use Rattle.std.proofs.Common.{ℕ, zero, suc, ◌≤◌, Bool, true, false, List
 use Rattle.c_syntax.specs.declared.keyword.Keyword.TheVariants as K
 use Rattle.c_syntax.specs.declared.punctuator.Punctuator.TheVariants.{LeftParenthesis, RightParenthesis, LeftBracket, RightBracket, LeftBrace, RightBrace, Semicolon, Assign, Comma}
 use Rattle.c_syntax.specs.declared.token.Token.{Token}
+use Rattle.c_syntax.specs.declared.expression.AssignOperator.{AssignOperator}
+use Rattle.c_syntax.specs.Trees.{ExpressionTree}
 use Rattle.c_syntax.specs.Trees as T
+use Rattle.c_syntax.specs.Statements.{one}
 use Rattle.c_reader_tokens.specs.Reading.{Reading}
 use Rattle.c_reader_tokens.specs.Peeking.{is_sign_next, is_word_next, is_type_next, is_call_next}
 use Rattle.c_reader_tokens.specs.Tokens.{sign, word, placed_word, placed_name, integer_type}
+use Rattle.c_reader_tokens.specs.Assigning.{assign_operator, step_operator, is_step_next}
 use Rattle.c_reader_expression_laws.specs.Reading.{expression_at}
 use Rattle.c_reader_expression_laws.proofs.Laws.{expression_stays}
 use Rattle.c_reader_statement_laws.specs.declared.first.First.{First}
 use Rattle.c_reader_statement_laws.specs.declared.first.First.TheVariants as F
-use Rattle.c_reader_productions.specs.Combining.{◌▷◌, ◌◁◌, ◌&◌, made, missing, there, repeated, each, commas}
-use Rattle.c_reader_productions.specs.Parts.{less, name, arguments, call, value, is_cell_next, cell, lvalue, set, local_value, local, start_local, start_set, start_nothing, start}
-use Rattle.c_reader_statement_laws.specs.Reading.{first_of, call_statement, assign, store, return_statement, branched, statements_of, Below, goes_on, items_in, block_in, branches_in, if_in, while_in, for_in, by_first, too_high, statement_at}
+use Rattle.c_reader_productions.specs.Combining.{◌▷◌, ◌◁◌, marks, ◌&◌, made, either, missing, there, repeated, each, commas}
+use Rattle.c_reader_productions.specs.Deeds.{Becomes, Changes, deed, changing}
+use Rattle.c_reader_productions.specs.Parts.{name, arguments, call, value, is_cell_next, cell, lvalue, prefixed, set_of, set_behind, set, local_value, local, start_local, start_set, start_nothing, start}
+use Rattle.c_reader_statement_laws.specs.Reading.{first_of, call_statement, assigned, stored, changed, assign, store, step_statement, return_statement, branched, statements_of, Below, goes_on, items_in, block_in, branches_in, if_in, while_in, do_end, do_in, for_in, by_first, too_high, statement_at}
 use Rattle.c_reader_productions.proofs.Laws.{Keeps, keeps_same, keeps_after, keeps_before, keeps_both, keeps_made, keeps_either, keeps_under}
 
 pub repeated_keeps : {A : Type 0} (goes : List Token → Bool) {part more : Reading A} → Keeps part more → (limit : ℕ) → Keeps (repeated goes part limit) (repeated goes more limit)
@@ -55,18 +60,36 @@ value_keeps fuel more le ts = keeps_either is_call_next (keeps_made (λ c. T.Cal
 cell_keeps : (fuel more : ℕ) → fuel ≤ more → Keeps (cell fuel) (cell more)
 unfolding cell
 cell_keeps fuel more le ts =
-    keeps_under (λ r. made (λ v. T.Cell v.0 v.1) (name r & sign LeftBracket ▷ expression_at r 0 ◁ sign RightBracket))
-    (λ r s l. keeps_made (λ v. T.Cell v.0 v.1) (keeps_both (name_keeps r s l) (keeps_after (sign LeftBracket) (keeps_before (sign RightBracket) (expression_keeps r s l))))) fuel more le ts
+    keeps_under (λ r. name r & sign LeftBracket ▷ expression_at r 0 ◁ sign RightBracket)
+    (λ r s l. keeps_both (name_keeps r s l) (keeps_after (sign LeftBracket) (keeps_before (sign RightBracket) (expression_keeps r s l)))) fuel more le ts
 
 lvalue_keeps : (fuel more : ℕ) → fuel ≤ more → Keeps (lvalue fuel) (lvalue more)
 unfolding lvalue
-lvalue_keeps fuel more le ts = keeps_either is_cell_next (cell_keeps fuel more le) (keeps_made (λ x. T.Name x) (name_keeps fuel more le)) ts
+lvalue_keeps fuel more le ts = keeps_either is_cell_next (keeps_made (λ v. T.Cell v.0 v.1) (cell_keeps fuel more le)) (keeps_made (λ x. T.Name x) (name_keeps fuel more le)) ts
+
+prefixed_keeps : (fuel more : ℕ) → fuel ≤ more → Keeps (prefixed fuel) (prefixed more)
+unfolding prefixed
+prefixed_keeps fuel more le ts =
+    keeps_made (λ v. record { lvalue = v.1; operator = v.0; value = one }) (keeps_both (keeps_same step_operator) (lvalue_keeps fuel more le)) ts
+
+changing_keeps : (fuel more : ℕ) → fuel ≤ more → Keeps (changing fuel) (changing more)
+unfolding changing
+changing_keeps fuel more le ts =
+    keeps_either is_step_next (keeps_same (made (λ o. (o, one)) step_operator)) (keeps_both (keeps_same assign_operator) (expression_keeps fuel more le)) ts
+
+deed_keeps : {A : Type 0} {becomes becomes' : Reading A} {changes changes' : Reading (AssignOperator × ExpressionTree)} → Keeps becomes becomes' → Keeps changes changes' → Keeps (deed becomes changes) (deed becomes' changes')
+deed_keeps k h ts = keeps_either (is_sign_next Assign) (keeps_made (λ x. Becomes x) (keeps_after (sign Assign) k)) (keeps_made (λ c. Changes c.0 c.1) h) ts
+
+set_behind_keeps : (fuel more : ℕ) → fuel ≤ more → Keeps (set_behind fuel) (set_behind more)
+unfolding set_behind
+set_behind_keeps fuel more le ts =
+    keeps_made (λ v. set_of v.0 v.1) (keeps_both (lvalue_keeps fuel more le) (deed_keeps (expression_keeps fuel more le) (changing_keeps fuel more le))) ts
 
 set_keeps : (fuel more : ℕ) → fuel ≤ more → Keeps (set fuel) (set more)
 unfolding set
 set_keeps fuel more le ts =
-    keeps_under (λ r. made (λ v. record { lvalue = v.0; value = v.1 }) (lvalue r & sign Assign ▷ expression_at r 0))
-    (λ r s l. keeps_made (λ v. record { lvalue = v.0; value = v.1 }) (keeps_both (lvalue_keeps r s l) (keeps_after (sign Assign) (expression_keeps r s l)))) fuel more le ts
+    keeps_under (λ r. either is_step_next (made (λ c. T.Changes c) (prefixed r)) (set_behind r))
+    (λ r s l. keeps_either is_step_next (keeps_made (λ c. T.Changes c) (prefixed_keeps r s l)) (set_behind_keeps r s l)) fuel more le ts
 
 local_value_keeps : (fuel more : ℕ) → fuel ≤ more → Keeps (local_value fuel) (local_value more)
 unfolding local_value
@@ -98,20 +121,28 @@ call_statement_keeps : (fuel more : ℕ) → fuel ≤ more → Keeps (call_state
 unfolding call_statement
 call_statement_keeps fuel more le ts = keeps_made (λ c. T.Call c) (keeps_before (sign Semicolon) (call_keeps fuel more le)) ts
 
+changed_keeps : (fuel more : ℕ) → fuel ≤ more → Keeps (changed fuel) (changed more)
+unfolding changed
+changed_keeps fuel more le ts = keeps_before (sign Semicolon) (changing_keeps fuel more le) ts
+
 assign_keeps : (fuel more : ℕ) → fuel ≤ more → Keeps (assign fuel) (assign more)
 unfolding assign
 assign_keeps fuel more le ts =
-    keeps_made (λ v. T.Assign v.0 v.1) (keeps_both (name_keeps fuel more le) (keeps_after (sign Assign) (keeps_before (sign Semicolon) (value_keeps fuel more le)))) ts
+    keeps_made (λ v. assigned v.0 v.1) (keeps_both (name_keeps fuel more le) (deed_keeps (keeps_before (sign Semicolon) (value_keeps fuel more le)) (changed_keeps fuel more le))) ts
 
--- The index has one less fuel than the value: each of the two has more.
 store_keeps : (fuel more : ℕ) → fuel ≤ more → Keeps (store fuel) (store more)
-unfolding store less
-store_keeps zero zero le ts = inr refl
-store_keeps zero (suc s) le ts = inl refl
-store_keeps (suc r) zero le ts = absurd (omega arith)
-store_keeps (suc r) (suc s) le ts =
-    keeps_made (λ v. T.Store v.0 v.1.0 v.1.1)
-    (keeps_both (name_keeps r s (omega arith)) (keeps_after (sign LeftBracket) (keeps_both (expression_keeps r s (omega arith)) (keeps_after (sign RightBracket) (keeps_after (sign Assign) (keeps_before (sign Semicolon) (expression_keeps (suc r) (suc s) le))))))) ts
+unfolding store
+store_keeps fuel more le ts =
+    keeps_made (λ v. stored v.0 v.1) (keeps_both (cell_keeps fuel more le) (deed_keeps (keeps_before (sign Semicolon) (expression_keeps fuel more le)) (changed_keeps fuel more le))) ts
+
+step_statement_keeps : (fuel more : ℕ) → fuel ≤ more → Keeps (step_statement fuel) (step_statement more)
+unfolding step_statement
+step_statement_keeps fuel more le ts = keeps_made (λ c. T.Change c) (keeps_before (sign Semicolon) (prefixed_keeps fuel more le)) ts
+
+do_end_keeps : (fuel more : ℕ) → fuel ≤ more → Keeps (do_end fuel) (do_end more)
+unfolding do_end
+do_end_keeps fuel more le ts =
+    keeps_after (word K.While) (keeps_after (sign LeftParenthesis) (keeps_before (marks (sign RightParenthesis) (sign Semicolon)) (expression_keeps fuel more le))) ts
 
 return_keeps : (fuel more : ℕ) → fuel ≤ more → Keeps (return_statement fuel) (return_statement more)
 unfolding return_statement
@@ -140,6 +171,10 @@ module _ (below above : Below) (fuel more : ℕ) (le : fuel ≤ more) (keeps : (
       keeps_made (λ v. T.While v.0 v.1)
       (keeps_after (word K.While) (keeps_after (sign LeftParenthesis) (keeps_both (expression_keeps fuel more le) (keeps_after (sign RightParenthesis) (keeps false))))) ts
 
+  do_keeps : Keeps (do_in below fuel) (do_in above more)
+  unfolding do_in
+  do_keeps ts = keeps_made (λ v. T.Do v.0 v.1) (keeps_after (word K.Do) (keeps_both (keeps false) (do_end_keeps fuel more le))) ts
+
   for_keeps : Keeps (for_in below fuel) (for_in above more)
   unfolding for_in
   for_keeps ts =
@@ -156,8 +191,10 @@ module _ (below above : Below) (fuel more : ℕ) (le : fuel ≤ more) (keeps : (
   by_first_keeps F.Call ts = call_statement_keeps fuel more le ts
   by_first_keeps F.Assign ts = assign_keeps fuel more le ts
   by_first_keeps F.Store ts = store_keeps fuel more le ts
+  by_first_keeps F.Step ts = step_statement_keeps fuel more le ts
   by_first_keeps F.If ts = if_keeps ts
   by_first_keeps F.While ts = while_keeps ts
+  by_first_keeps F.Do ts = do_keeps ts
   by_first_keeps F.For ts = for_keeps ts
   by_first_keeps F.Break ts = inr refl
   by_first_keeps F.Continue ts = inr refl
@@ -172,8 +209,10 @@ too_high_keeps below fuel F.Block ts = inl refl
 too_high_keeps below fuel F.Call ts = inl refl
 too_high_keeps below fuel F.Assign ts = inl refl
 too_high_keeps below fuel F.Store ts = inl refl
+too_high_keeps below fuel F.Step ts = inl refl
 too_high_keeps below fuel F.If ts = inl refl
 too_high_keeps below fuel F.While ts = inl refl
+too_high_keeps below fuel F.Do ts = inl refl
 too_high_keeps below fuel F.For ts = inl refl
 too_high_keeps below fuel F.Break ts = inl refl
 too_high_keeps below fuel F.Continue ts = inl refl

@@ -1,21 +1,25 @@
 -- How statements are read. The number is the fuel: a tree that is higher is not read.
 use Rattle.std.specs.Prelude.{ℕ, zero, suc, Bool, true, false, not, ◌&&◌, List, [], ◌∷◌, Option, Some, None, Ok, Err, if◌then◌else◌}
 use Rattle.c_syntax.specs.declared.keyword.Keyword.TheVariants as K
-use Rattle.c_syntax.specs.declared.punctuator.Punctuator.TheVariants.{LeftParenthesis, RightParenthesis, LeftBracket, RightBracket, LeftBrace, RightBrace, Semicolon, Assign}
+use Rattle.c_syntax.specs.declared.punctuator.Punctuator.TheVariants.{LeftParenthesis, RightParenthesis, LeftBrace, RightBrace, Semicolon}
 use Rattle.c_syntax.specs.declared.token.Token.{Token}
+use Rattle.c_syntax.specs.declared.identifier.Identifier.{Identifier}
+use Rattle.c_syntax.specs.declared.expression.AssignOperator.{AssignOperator}
 use Rattle.c_syntax.specs.Trees.{ExpressionTree, ValueTree, SetTree, StatementTree, StatementsTree}
 use Rattle.c_syntax.specs.Trees as T
 use Rattle.c_reader_tokens.specs.declared.fault.Fault.TheVariants.{TooDeep}
 use Rattle.c_reader_tokens.specs.Reading.{Reading, misfit}
 use Rattle.c_reader_tokens.specs.Peeking.{is_sign_next, is_word_next, is_name_next, is_type_next, is_call_next}
 use Rattle.c_reader_tokens.specs.Tokens.{sign, word, placed_word}
+use Rattle.c_reader_tokens.specs.Assigning.{is_step_next}
 use Rattle.c_reader_expression_laws.specs.Reading.{expression_at}
 use Rattle.c_reader_statement_laws.specs.declared.first.First.{First}
 use Rattle.c_reader_statement_laws.specs.declared.first.First.TheVariants as F
-use Rattle.c_reader_productions.specs.Combining.{◌▷◌, ◌◁◌, ◌&◌, made, either, missing, there, each}
-use Rattle.c_reader_productions.specs.Parts.{under, name, call, value, is_cell_next, set, local, start}
+use Rattle.c_reader_productions.specs.Combining.{◌▷◌, ◌◁◌, marks, ◌&◌, made, either, missing, there, each}
+use Rattle.c_reader_productions.specs.Deeds.{Deed, Becomes, Changes, deed, changing}
+use Rattle.c_reader_productions.specs.Parts.{name, call, value, is_cell_next, cell, prefixed, set, local, start}
 
--- what begins, by the next two tokens; a local begins in a block alone
+-- what begins with a keyword, or with `++` or `--`
 abbrev pub first_word : List Token → First
 first_word ts =
     if is_word_next K.If ts then F.If
@@ -24,8 +28,11 @@ first_word ts =
     else if is_word_next K.Break ts then F.Break
     else if is_word_next K.Continue ts then F.Continue
     else if is_word_next K.Return ts then F.Return
+    else if is_word_next K.Do ts then F.Do
+    else if is_step_next ts then F.Step
     else F.Other
 
+-- what begins, by the next two tokens; a local begins in a block alone
 unfoldable pub first_of : (block : Bool) → List Token → First
 first_of block ts =
     if is_sign_next Semicolon ts then F.Empty
@@ -42,12 +49,27 @@ empty ts = (sign Semicolon ▷ (λ rest. Ok (T.Empty, rest))) ts
 unfoldable pub call_statement : ℕ → Reading StatementTree
 call_statement fuel ts = made (λ c. T.Call c) (call fuel ◁ sign Semicolon) ts
 
+-- what is done to a name, or to a cell: a name may become a call
+abbrev pub assigned : Identifier → Deed ValueTree → StatementTree
+assigned x (Becomes v) = T.Assign x v
+assigned x (Changes o e) = T.Change (record { lvalue = T.Name x; operator = o; value = e })
+
+abbrev pub stored : Identifier × ExpressionTree → Deed ExpressionTree → StatementTree
+stored cell (Becomes e) = T.Store cell.0 cell.1 e
+stored cell (Changes o e) = T.Change (record { lvalue = T.Cell cell.0 cell.1; operator = o; value = e })
+
+-- what changes an lvalue before it, and the end of the statement
+unfoldable pub changed : ℕ → Reading (AssignOperator × ExpressionTree)
+changed fuel ts = (changing fuel ◁ sign Semicolon) ts
+
 unfoldable pub assign : ℕ → Reading StatementTree
-assign fuel ts = made (λ v. T.Assign v.0 v.1) (name fuel & sign Assign ▷ value fuel ◁ sign Semicolon) ts
+assign fuel ts = made (λ v. assigned v.0 v.1) (name fuel & deed (value fuel ◁ sign Semicolon) (changed fuel)) ts
 
 unfoldable pub store : ℕ → Reading StatementTree
-store fuel ts = made (λ v. T.Store v.0 v.1.0 v.1.1)
-    (under (λ r. name r & sign LeftBracket ▷ expression_at r 0 & sign RightBracket ▷ sign Assign ▷ expression_at fuel 0 ◁ sign Semicolon) fuel) ts
+store fuel ts = made (λ v. stored v.0 v.1) (cell fuel & deed (expression_at fuel 0 ◁ sign Semicolon) (changed fuel)) ts
+
+unfoldable pub step_statement : ℕ → Reading StatementTree
+step_statement fuel ts = made (λ c. T.Change c) (prefixed fuel ◁ sign Semicolon) ts
 
 unfoldable pub break_statement : Reading StatementTree
 break_statement ts = made (λ at. T.Break at) (placed_word K.Break ◁ sign Semicolon) ts
@@ -101,6 +123,14 @@ unfoldable pub while_in : Below → ℕ → Reading StatementTree
 while_in below fuel ts = made (λ v. T.While v.0 v.1)
     (word K.While ▷ sign LeftParenthesis ▷ expression_at fuel 0 & sign RightParenthesis ▷ below false) ts
 
+-- the condition behind the statement of a `do`
+unfoldable pub do_end : ℕ → Reading ExpressionTree
+do_end fuel ts =
+    (word K.While ▷ sign LeftParenthesis ▷ expression_at fuel 0 ◁ marks (sign RightParenthesis) (sign Semicolon)) ts
+
+unfoldable pub do_in : Below → ℕ → Reading StatementTree
+do_in below fuel ts = made (λ v. T.Do v.0 v.1) (word K.Do ▷ below false & do_end fuel) ts
+
 -- the condition of a `for`, and what it sets behind each turn
 abbrev pub condition : ℕ → Reading (Option ExpressionTree)
 condition fuel ts = either (is_sign_next Semicolon) missing (there (expression_at fuel 0)) ts
@@ -119,8 +149,10 @@ by_first below fuel F.Block ts = made (λ s. T.Block s) (block_in below) ts
 by_first below fuel F.Call ts = call_statement fuel ts
 by_first below fuel F.Assign ts = assign fuel ts
 by_first below fuel F.Store ts = store fuel ts
+by_first below fuel F.Step ts = step_statement fuel ts
 by_first below fuel F.If ts = if_in below fuel ts
 by_first below fuel F.While ts = while_in below fuel ts
+by_first below fuel F.Do ts = do_in below fuel ts
 by_first below fuel F.For ts = for_in below fuel ts
 by_first below fuel F.Break ts = break_statement ts
 by_first below fuel F.Continue ts = continue_statement ts
@@ -136,8 +168,10 @@ too_high F.Block ts = Err TooDeep
 too_high F.Call ts = Err TooDeep
 too_high F.Assign ts = Err TooDeep
 too_high F.Store ts = Err TooDeep
+too_high F.Step ts = Err TooDeep
 too_high F.If ts = Err TooDeep
 too_high F.While ts = Err TooDeep
+too_high F.Do ts = Err TooDeep
 too_high F.For ts = Err TooDeep
 too_high F.Break ts = Err TooDeep
 too_high F.Continue ts = Err TooDeep

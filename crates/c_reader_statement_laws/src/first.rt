@@ -7,10 +7,15 @@ pub enum First {
     Local,
     Block,
     Call,
+    /// A name that becomes a value or is changed.
     Assign,
+    /// A cell that becomes a value or is changed.
     Store,
+    /// `++` or `--` before an lvalue.
+    Step,
     If,
     While,
+    Do,
     For,
     Break,
     Continue,

@@ -1,6 +1,6 @@
 -- What stands behind the head of a statement: its statements, which another reading reads.
 use Rattle.std.specs.Prelude.{◌≡◌, ℕ, List, false, Ok}
-use Rattle.c_syntax.specs.declared.punctuator.Punctuator.TheVariants.{RightBrace}
+use Rattle.c_syntax.specs.declared.punctuator.Punctuator.TheVariants.{RightBrace, Semicolon, Assign}
 use Rattle.c_syntax.specs.declared.expression.Expression.{Expression}
 use Rattle.c_syntax.specs.declared.token.Token.{Token}
 use Rattle.c_syntax.specs.Trees.{ExpressionTree, StatementTree}
@@ -8,8 +8,8 @@ use Rattle.c_syntax.specs.Trees as T
 use Rattle.c_syntax.specs.Views.{statement_tree, expression_tree, optional_tree, set_tree, start_tree}
 use Rattle.c_reader_tokens.specs.Reading.{Reading}
 use Rattle.c_reader_tokens.specs.Tokens.{sign}
-use Rattle.c_reader_productions.specs.Combining.{◌◁◌, ◌&◌, made}
-use Rattle.c_reader_statement_laws.specs.Reading.{Below, statements_of, branched, items_in, branches_in, if_in}
+use Rattle.c_reader_productions.specs.Combining.{◌▷◌, ◌◁◌, ◌&◌, made}
+use Rattle.c_reader_statement_laws.specs.Reading.{Below, statements_of, branched, items_in, branches_in, if_in, do_end}
 use Rattle.c_reader_statements.specs.declared.heads.Head.{Head}
 use Rattle.c_reader_statements.specs.declared.heads.Head.TheVariants as H
 use Rattle.c_reader_statements.specs.declared.heads.Loop.{Loop}
@@ -18,6 +18,10 @@ use Rattle.c_reader_statements.specs.declared.heads.Loop.TheVariants as L
 -- what was read before
 abbrev pub have : {A : Type 0} → A → Reading A
 have x ts = Ok (x, ts)
+
+-- `=`, what an lvalue becomes, and `;`
+abbrev pub becoming : {A : Type 0} → Reading A → Reading A
+becoming part ts = (sign Assign ▷ part ◁ sign Semicolon) ts
 
 -- what a loop makes of its body
 abbrev pub looped : Loop → StatementTree → StatementTree
@@ -36,8 +40,12 @@ behind_loop below (L.While e) ts = made (λ v. T.While v.0 v.1) (have (expressio
 behind_loop below (L.For head) ts = made (λ v. T.For v.0 v.1.0 v.1.1.0 v.1.1.1)
     (have (start_tree head.value.start) & have (optional_tree expression_tree head.value.condition) & have (optional_tree set_tree head.value.step) & below false) ts
 
-abbrev pub behind_head : Below → Head → Reading StatementTree
-behind_head below (H.Whole s) ts = have (statement_tree s) ts
-behind_head below H.Block ts = made (λ s. T.Block s) (made statements_of (items_in below ◁ sign RightBrace)) ts
-behind_head below (H.If e) ts = behind_if below (expression_tree e) ts
-behind_head below (H.Loop head) ts = behind_loop below head ts
+abbrev pub behind_do : Below → ℕ → Reading StatementTree
+behind_do below fuel ts = made (λ v. T.Do v.0 v.1) (below false & do_end fuel) ts
+
+abbrev pub behind_head : Below → ℕ → Head → Reading StatementTree
+behind_head below fuel (H.Whole s) ts = have (statement_tree s) ts
+behind_head below fuel H.Block ts = made (λ s. T.Block s) (made statements_of (items_in below ◁ sign RightBrace)) ts
+behind_head below fuel (H.If e) ts = behind_if below (expression_tree e) ts
+behind_head below fuel (H.Loop head) ts = behind_loop below head ts
+behind_head below fuel H.Do ts = behind_do below fuel ts

@@ -6,11 +6,12 @@ ghost use Rattle.c_reader_statement_laws.specs.Reading.{first_word, first_of, to
 use crate::parts::is_cell_next;
 use c_reader_statement_laws::First;
 use c_reader_tokens::{
-    Fault, is_call_next, is_name_next, is_sign_next, is_type_next, is_word_next, misfit,
+    Fault, is_call_next, is_name_next, is_sign_next, is_step_next, is_type_next, is_word_next,
+    misfit,
 };
 use c_syntax::{Keyword, Punctuator, Token};
 
-/// What begins with a keyword.
+/// What begins with a keyword, or with `++` or `--`.
 fn first_word(tokens: &[Token]) -> First
     ensures { result ≡ first_word tokens.now }
 {
@@ -26,6 +27,10 @@ fn first_word(tokens: &[Token]) -> First
         First::Continue
     } else if is_word_next(Keyword::Return, tokens) {
         First::Return
+    } else if is_word_next(Keyword::Do, tokens) {
+        First::Do
+    } else if is_step_next(tokens) {
+        First::Step
     } else {
         First::Other
     }
@@ -65,8 +70,10 @@ pub(crate) fn too_high(first: First, tokens: &[Token]) -> Fault
         | First::Call
         | First::Assign
         | First::Store
+        | First::Step
         | First::If
         | First::While
+        | First::Do
         | First::For
         | First::Break
         | First::Continue

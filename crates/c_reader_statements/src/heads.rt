@@ -5,10 +5,10 @@ ghost use Rattle.c_syntax.specs.Views.{optional_tree, expression_tree, set_tree}
 ghost use Rattle.c_reader_statement_laws.specs.Reading.{Below, condition, step, by_first, if_in, while_in, for_in};
 ghost use Rattle.c_reader_statements.specs.Heads.{BeginsIf, behind_loop, behind_head};
 
-use crate::parts::{read_set, read_start};
+use crate::sets::{read_set, read_start};
 use crate::simple::{
     read_assign, read_break, read_call_statement, read_continue, read_empty, read_local_statement,
-    read_return, read_store,
+    read_return, read_step_statement, read_store,
 };
 use c_reader_expressions::expression;
 use c_reader_statement_laws::First;
@@ -34,6 +34,8 @@ pub(crate) enum Head {
     /// An `if` and its condition.
     If(Expression),
     Loop(Loop),
+    /// The word `do`.
+    Do,
 }
 
 /// `if` and its condition (C99 6.8.4.1).
@@ -126,14 +128,14 @@ fn read_for_head(alloc: Global, fuel: u8, tokens: &[Token]) -> Result<(Loop, &[T
 }
 
 /// What begins so, up to a statement inside it; its parts have this fuel.
-#[tactic(auto, unfolding(c_reader_statement_laws::specs::Reading::block_in))]
+#[tactic(auto, unfolding(c_reader_statement_laws::specs::Reading::block_in, c_reader_statement_laws::specs::Reading::do_in))]
 pub(crate) fn read_head(
     alloc: Global,
     fuel: u8,
     first: First,
     tokens: &[Token],
 ) -> Result<(Head, &[Token]), Fault>
-    ensures ok { IfOk result (λ r. (below : Below) → by_first below fuel first tokens.now ≡ behind_head below r.0 r.1.now) }
+    ensures ok { IfOk result (λ r. (below : Below) → by_first below fuel first tokens.now ≡ behind_head below fuel r.0 r.1.now) }
     ensures err { IfErr result (λ e. e ≢ Fault.NoMemory → (below : Below) → by_first below fuel first tokens.now ≡ Err e) }
 {
     let (statement, rest) = match first {
@@ -153,11 +155,16 @@ pub(crate) fn read_head(
             let (head, rest) = ok!(read_for_head(alloc, fuel, tokens));
             return Ok((Head::Loop(head), rest));
         }
+        First::Do => {
+            let rest = ok!(read_word(Keyword::Do, tokens));
+            return Ok((Head::Do, rest));
+        }
         First::Empty => ok!(read_empty(tokens)),
         First::Local => ok!(read_local_statement(alloc, fuel, tokens)),
         First::Call => ok!(read_call_statement(alloc, fuel, tokens)),
         First::Assign => ok!(read_assign(alloc, fuel, tokens)),
         First::Store => ok!(read_store(alloc, fuel, tokens)),
+        First::Step => ok!(read_step_statement(alloc, fuel, tokens)),
         First::Break => ok!(read_break(tokens)),
         First::Continue => ok!(read_continue(tokens)),
         First::Return => ok!(read_return(alloc, fuel, tokens)),

@@ -6,6 +6,7 @@ mod first;
 mod heads;
 mod parts;
 mod reading;
+mod sets;
 mod simple;
 
 pub use reading::read_block;

@@ -1,19 +1,17 @@
 //! Readers of the parts of statements that are no statements.
 
 ghost use Rattle.std.specs.Prelude.{◌≡◌, ◌≢◌, ◌<◌, suc, IfOk, IfErr, Ok, Err, map, length};
-ghost use Rattle.c_syntax.specs.Views.{expression_tree, call_tree, value_tree, lvalue_tree, set_tree, local_tree, start_tree, optional_tree};
+ghost use Rattle.c_syntax.specs.Views.{expression_tree, call_tree, value_tree, local_tree, optional_tree};
 ghost use Rattle.c_reader_tokens.specs.Tokens.{sign};
 ghost use Rattle.c_reader_expression_laws.specs.Reading.{expression_at};
 ghost use Rattle.c_reader_productions.specs.Combining.{commas};
-ghost use Rattle.c_reader_productions.specs.Parts.{less, name, arguments, call, value, is_cell_next, cell, lvalue, set, local_value, local, start_local, start_set, start};
+ghost use Rattle.c_reader_productions.specs.Parts.{less, name, arguments, call, value, is_cell_next, local_value, local};
 
 use c_reader_expressions::expression;
 use c_reader_tokens::{
-    Fault, is_call_next, is_name_next, is_sign_next, is_type_next, read_name, read_sign, read_type,
+    Fault, is_call_next, is_name_next, is_sign_next, read_name, read_sign, read_type,
 };
-use c_syntax::{
-    Call, Expression, ForStart, Identifier, Local, Lvalue, Punctuator, Set, Token, Value,
-};
+use c_syntax::{Call, Expression, Identifier, Local, Punctuator, Token, Value};
 use lang_base::Row;
 use lang_parts::{beside, ok};
 use std::alloc::Global;
@@ -136,45 +134,6 @@ pub(crate) fn is_cell_next(tokens: &[Token]) -> bool
     }
 }
 
-#[tactic(auto, unfolding(c_reader_productions::specs::Parts::cell))]
-fn read_cell(alloc: Global, fuel: u8, tokens: &[Token]) -> Result<(Lvalue, &[Token]), Fault>
-    ensures ok { IfOk result (λ r. cell fuel tokens.now ≡ Ok (lvalue_tree r.0, r.1.now)) }
-    ensures err { IfErr result (λ e. e ≢ Fault.NoMemory → cell fuel tokens.now ≡ Err e) }
-{
-    let below = ok!(one_less(fuel));
-    let (array, rest) = ok!(read_name_in(alloc, below, tokens));
-    let (array, rest) = ok!(beside(array, read_sign(Punctuator::LeftBracket, rest)));
-    let (array, (index, rest)) = ok!(beside(array, expression(alloc, below, 0, rest)));
-    let (cell, rest) = ok!(beside((array, index), read_sign(Punctuator::RightBracket, rest)));
-    let (array, index) = cell;
-    Ok((Lvalue::Element(array, index), rest))
-}
-
-#[tactic(auto, unfolding(c_reader_productions::specs::Parts::lvalue))]
-fn read_lvalue(alloc: Global, fuel: u8, tokens: &[Token]) -> Result<(Lvalue, &[Token]), Fault>
-    ensures ok { IfOk result (λ r. lvalue fuel tokens.now ≡ Ok (lvalue_tree r.0, r.1.now)) }
-    ensures err { IfErr result (λ e. e ≢ Fault.NoMemory → lvalue fuel tokens.now ≡ Err e) }
-{
-    if is_cell_next(tokens) {
-        return read_cell(alloc, fuel, tokens);
-    }
-    let (variable, rest) = ok!(read_name_in(alloc, fuel, tokens));
-    Ok((Lvalue::Variable(variable), rest))
-}
-
-/// What a `for` sets.
-#[tactic(auto, unfolding(c_reader_productions::specs::Parts::set))]
-pub(crate) fn read_set(alloc: Global, fuel: u8, tokens: &[Token]) -> Result<(Set, &[Token]), Fault>
-    ensures ok { IfOk result (λ r. set fuel tokens.now ≡ Ok (set_tree r.0, r.1.now)) }
-    ensures err { IfErr result (λ e. e ≢ Fault.NoMemory → set fuel tokens.now ≡ Err e) }
-{
-    let below = ok!(one_less(fuel));
-    let (lvalue, rest) = ok!(read_lvalue(alloc, below, tokens));
-    let (lvalue, rest) = ok!(beside(lvalue, read_sign(Punctuator::Assign, rest)));
-    let (lvalue, (value, rest)) = ok!(beside(lvalue, expression(alloc, below, 0, rest)));
-    Ok((Set { lvalue, value }, rest))
-}
-
 #[tactic(auto, unfolding(c_reader_productions::specs::Parts::local_value))]
 fn read_local_value(
     alloc: Global,
@@ -208,53 +167,4 @@ pub(crate) fn read_local(
     let (parts, rest) = ok!(beside((name, value), read_sign(Punctuator::Semicolon, rest)));
     let (name, value) = parts;
     Ok((Local { kind, name, value }, rest))
-}
-
-#[tactic(auto, unfolding(c_reader_productions::specs::Parts::start_local))]
-fn read_start_local(
-    alloc: Global,
-    fuel: u8,
-    tokens: &[Token],
-) -> Result<(ForStart, &[Token]), Fault>
-    ensures ok { IfOk result (λ r. start_local fuel tokens.now ≡ Ok (start_tree r.0, r.1.now)) }
-    ensures err { IfErr result (λ e. e ≢ Fault.NoMemory → start_local fuel tokens.now ≡ Err e) }
-{
-    let (kind, rest) = ok!(read_type(tokens));
-    let below = ok!(one_less(fuel));
-    let (name, rest) = ok!(read_name_in(alloc, below, rest));
-    let (name, rest) = ok!(beside(name, read_sign(Punctuator::Assign, rest)));
-    let (name, (value, rest)) = ok!(beside(name, expression(alloc, below, 0, rest)));
-    let (parts, rest) = ok!(beside((name, value), read_sign(Punctuator::Semicolon, rest)));
-    let (name, value) = parts;
-    Ok((ForStart::Local(kind, name, value), rest))
-}
-
-#[tactic(auto, unfolding(c_reader_productions::specs::Parts::start_set))]
-fn read_start_set(alloc: Global, fuel: u8, tokens: &[Token]) -> Result<(ForStart, &[Token]), Fault>
-    ensures ok { IfOk result (λ r. start_set fuel tokens.now ≡ Ok (start_tree r.0, r.1.now)) }
-    ensures err { IfErr result (λ e. e ≢ Fault.NoMemory → start_set fuel tokens.now ≡ Err e) }
-{
-    let (set, rest) = ok!(read_set(alloc, fuel, tokens));
-    let (set, rest) = ok!(beside(set, read_sign(Punctuator::Semicolon, rest)));
-    Ok((ForStart::Set(set), rest))
-}
-
-/// How a `for` begins, with the `;` behind it (C99 6.8.5.3).
-#[tactic(auto, unfolding(c_reader_productions::specs::Parts::start, c_reader_productions::specs::Parts::start_nothing))]
-pub(crate) fn read_start(
-    alloc: Global,
-    fuel: u8,
-    tokens: &[Token],
-) -> Result<(ForStart, &[Token]), Fault>
-    ensures ok { IfOk result (λ r. start fuel tokens.now ≡ Ok (start_tree r.0, r.1.now)) }
-    ensures err { IfErr result (λ e. e ≢ Fault.NoMemory → start fuel tokens.now ≡ Err e) }
-{
-    if is_sign_next(Punctuator::Semicolon, tokens) {
-        let rest = ok!(read_sign(Punctuator::Semicolon, tokens));
-        return Ok((ForStart::Nothing, rest));
-    }
-    if is_type_next(tokens) {
-        return read_start_local(alloc, fuel, tokens);
-    }
-    read_start_set(alloc, fuel, tokens)
 }

@@ -2,16 +2,17 @@
 //! statement, and put it together.
 
 ghost use Rattle.std.specs.Prelude.{◌≡◌, ◌≢◌, IfOk, IfErr, Ok, Err, map};
-ghost use Rattle.c_syntax.specs.Views.{statement_tree, statements_tree};
+ghost use Rattle.c_syntax.specs.Views.{statement_tree, statements_tree, expression_tree};
 ghost use Rattle.c_syntax.specs.Trees as T;
 ghost use Rattle.c_syntax.specs.declared.keyword.Keyword.TheVariants as K;
 ghost use Rattle.c_reader_tokens.specs.Peeking.{is_word_next};
-ghost use Rattle.c_reader_statement_laws.specs.Reading.{items_in, block_in, else_in, branches_in, statement_at};
+ghost use Rattle.c_reader_statement_laws.specs.Reading.{items_in, block_in, else_in, branches_in, do_end, statement_at};
 ghost use Rattle.c_reader_statements.specs.Branches.{branched_tree, branches_tree, if_else_tree, other_tree};
-ghost use Rattle.c_reader_statements.specs.Heads.{behind_head, looped};
+ghost use Rattle.c_reader_statements.specs.Heads.{behind_do, behind_head, looped};
 
 use crate::first::{first_of, too_high};
 use crate::heads::{Head, Loop, read_head};
+use c_reader_expressions::expression;
 use c_reader_tokens::{Fault, is_sign_next, is_word_next, read_sign, read_word};
 use c_syntax::{Expression, Keyword, Punctuator, Statement, Token};
 use lang_parts::{beside, ok};
@@ -66,6 +67,29 @@ fn looped(alloc: Global, head: Loop, body: Statement) -> Result<Statement, Fault
         Loop::While(condition) => Ok(Statement::While(condition, body)),
         Loop::For(head) => Ok(Statement::For(head, body)),
     }
+}
+
+/// A `do` with its body and its condition.
+fn repeated(alloc: Global, body: Statement, condition: Expression) -> Result<Statement, Fault>
+    ensures ok { IfOk result (λ s. statement_tree s ≡ T.Do (statement_tree body) (expression_tree condition)) }
+    ensures err { IfErr result (λ e. e ≡ Fault.NoMemory) }
+{
+    let (condition, body) = ok!(beside(condition, boxed(alloc, body)));
+    Ok(Statement::Do(body, condition))
+}
+
+/// The condition behind the body of a `do`, and `;` (C99 6.8.5.2).
+#[tactic(auto, unfolding(c_reader_statement_laws::specs::Reading::do_end))]
+fn read_do_end(alloc: Global, fuel: u8, tokens: &[Token]) -> Result<(Expression, &[Token]), Fault>
+    ensures ok { IfOk result (λ r. do_end fuel tokens.now ≡ Ok (expression_tree r.0, r.1.now)) }
+    ensures err { IfErr result (λ e. e ≢ Fault.NoMemory → do_end fuel tokens.now ≡ Err e) }
+{
+    let rest = ok!(read_word(Keyword::While, tokens));
+    let rest = ok!(read_sign(Punctuator::LeftParenthesis, rest));
+    let (condition, rest) = ok!(expression(alloc, fuel, 0, rest));
+    let (condition, rest) = ok!(beside(condition, read_sign(Punctuator::RightParenthesis, rest)));
+    let (condition, rest) = ok!(beside(condition, read_sign(Punctuator::Semicolon, rest)));
+    Ok((condition, rest))
 }
 
 /// The same statements, with no space for more: most blocks hold few, and a statement is large.
@@ -149,6 +173,17 @@ fn read_branches(
     Ok(((then, other), rest))
 }
 
+/// What stands behind the word `do` (C99 6.8.5.2).
+#[cycle(statements)]
+fn read_do(alloc: Global, fuel: u8, tokens: &[Token]) -> Result<(Statement, &[Token]), Fault>
+    ensures ok { IfOk result (λ r. behind_do (statement_at fuel) fuel tokens.now ≡ Ok (statement_tree r.0, r.1.now)) }
+    ensures err { IfErr result (λ e. e ≢ Fault.NoMemory → behind_do (statement_at fuel) fuel tokens.now ≡ Err e) }
+{
+    let (body, rest) = ok!(read_statement(alloc, fuel, false, tokens));
+    let (body, (condition, rest)) = ok!(beside(body, read_do_end(alloc, fuel, rest)));
+    Ok((ok!(repeated(alloc, body, condition)), rest))
+}
+
 /// What stands behind a head, whose statements have this fuel.
 #[cycle(statements)]
 #[tactic(auto, using(crate::proofs::Trees::statements_named))]
@@ -158,8 +193,8 @@ fn read_behind(
     head: Head,
     tokens: &[Token],
 ) -> Result<(Statement, &[Token]), Fault>
-    ensures ok { IfOk result (λ r. behind_head (statement_at fuel) head tokens.now ≡ Ok (statement_tree r.0, r.1.now)) }
-    ensures err { IfErr result (λ e. e ≢ Fault.NoMemory → behind_head (statement_at fuel) head tokens.now ≡ Err e) }
+    ensures ok { IfOk result (λ r. behind_head (statement_at fuel) fuel head tokens.now ≡ Ok (statement_tree r.0, r.1.now)) }
+    ensures err { IfErr result (λ e. e ≢ Fault.NoMemory → behind_head (statement_at fuel) fuel head tokens.now ≡ Err e) }
 {
     match head {
         Head::Whole(statement) => Ok((statement, tokens)),
@@ -178,6 +213,7 @@ fn read_behind(
             let (head, (body, rest)) = ok!(beside(head, body));
             Ok((ok!(looped(alloc, head, body)), rest))
         }
+        Head::Do => read_do(alloc, fuel, tokens),
     }
 }
 

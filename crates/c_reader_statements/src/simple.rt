@@ -1,16 +1,21 @@
 //! Readers of statements that have none inside them (C99 6.8.3 and 6.8.6).
 
 ghost use Rattle.std.specs.Prelude.{◌≡◌, ◌≢◌, IfOk, IfErr, Ok, Err};
-ghost use Rattle.c_syntax.specs.Views.{statement_tree, optional_tree, value_tree};
+ghost use Rattle.c_syntax.specs.Views.{statement_tree, expression_tree, optional_tree, value_tree};
 ghost use Rattle.c_syntax.specs.Trees as T;
+ghost use Rattle.c_reader_expression_laws.specs.Reading.{expression_at};
 ghost use Rattle.c_reader_productions.specs.Combining.{made};
-ghost use Rattle.c_reader_productions.specs.Parts.{local};
-ghost use Rattle.c_reader_statement_laws.specs.Reading.{empty, call_statement, assign, store, break_statement, continue_statement, returned, return_statement};
+ghost use Rattle.c_reader_productions.specs.Parts.{value, local};
+ghost use Rattle.c_reader_statement_laws.specs.Reading.{empty, call_statement, changed, assign, store, step_statement, break_statement, continue_statement, returned, return_statement};
+ghost use Rattle.c_reader_statements.specs.Heads.{becoming};
 
-use crate::parts::{one_less, read_call, read_local, read_name_in, read_value};
+use crate::parts::{read_call, read_local, read_name_in, read_value};
+use crate::sets::{read_cell, read_changing, read_prefixed};
 use c_reader_expressions::expression;
 use c_reader_tokens::{Fault, is_sign_next, read_placed_word, read_sign};
-use c_syntax::{Keyword, Punctuator, Statement, Token, Value};
+use c_syntax::{
+    AssignOperator, Change, Expression, Keyword, Lvalue, Punctuator, Statement, Token, Value,
+};
 use lang_parts::{beside, ok};
 use std::alloc::Global;
 
@@ -49,6 +54,44 @@ pub(crate) fn read_call_statement(
     Ok((Statement::Call(call), rest))
 }
 
+/// What changes the lvalue before it, and `;`.
+#[tactic(auto, unfolding(c_reader_statement_laws::specs::Reading::changed))]
+fn read_changed(
+    alloc: Global,
+    fuel: u8,
+    tokens: &[Token],
+) -> Result<((AssignOperator, Expression), &[Token]), Fault>
+    ensures ok { IfOk result (λ r. changed fuel tokens.now ≡ Ok ((r.0.0, expression_tree r.0.1), r.1.now)) }
+    ensures err { IfErr result (λ e. e ≢ Fault.NoMemory → changed fuel tokens.now ≡ Err e) }
+{
+    let (change, rest) = ok!(read_changing(alloc, fuel, tokens));
+    let (change, rest) = ok!(beside(change, read_sign(Punctuator::Semicolon, rest)));
+    Ok((change, rest))
+}
+
+/// What a name becomes.
+fn read_assigned(alloc: Global, fuel: u8, tokens: &[Token]) -> Result<(Value, &[Token]), Fault>
+    ensures ok { IfOk result (λ r. becoming (value fuel) tokens.now ≡ Ok (value_tree r.0, r.1.now)) }
+    ensures err { IfErr result (λ e. e ≢ Fault.NoMemory → becoming (value fuel) tokens.now ≡ Err e) }
+{
+    let rest = ok!(read_sign(Punctuator::Assign, tokens));
+    let (value, rest) = ok!(read_value(alloc, fuel, rest));
+    let (value, rest) = ok!(beside(value, read_sign(Punctuator::Semicolon, rest)));
+    Ok((value, rest))
+}
+
+/// What a cell becomes.
+fn read_stored(alloc: Global, fuel: u8, tokens: &[Token]) -> Result<(Expression, &[Token]), Fault>
+    ensures ok { IfOk result (λ r. becoming (expression_at fuel 0) tokens.now ≡ Ok (expression_tree r.0, r.1.now)) }
+    ensures err { IfErr result (λ e. e ≢ Fault.NoMemory → becoming (expression_at fuel 0) tokens.now ≡ Err e) }
+{
+    let rest = ok!(read_sign(Punctuator::Assign, tokens));
+    let (value, rest) = ok!(expression(alloc, fuel, 0, rest));
+    let (value, rest) = ok!(beside(value, read_sign(Punctuator::Semicolon, rest)));
+    Ok((value, rest))
+}
+
+/// A name, and what it becomes or how it is changed (C99 6.5.16).
 #[tactic(auto, unfolding(c_reader_statement_laws::specs::Reading::assign))]
 pub(crate) fn read_assign(
     alloc: Global,
@@ -59,12 +102,24 @@ pub(crate) fn read_assign(
     ensures err { IfErr result (λ e. e ≢ Fault.NoMemory → assign fuel tokens.now ≡ Err e) }
 {
     let (name, rest) = ok!(read_name_in(alloc, fuel, tokens));
-    let (name, rest) = ok!(beside(name, read_sign(Punctuator::Assign, rest)));
-    let (name, (value, rest)) = ok!(beside(name, read_value(alloc, fuel, rest)));
-    let ((name, value), rest) = ok!(beside((name, value), read_sign(Punctuator::Semicolon, rest)));
-    Ok((Statement::Assign(name, value), rest))
+    if is_sign_next(Punctuator::Assign, rest) {
+        let (name, (value, rest)) = ok!(beside(name, read_assigned(alloc, fuel, rest)));
+        return Ok((Statement::Assign(name, value), rest));
+    }
+    let (name, (change, rest)) = ok!(beside(name, read_changed(alloc, fuel, rest)));
+    let (operator, value) = change;
+    let lvalue = Lvalue::Variable(name);
+    Ok((
+        Statement::Change(Change {
+            lvalue,
+            operator,
+            value,
+        }),
+        rest,
+    ))
 }
 
+/// A cell, and what it becomes or how it is changed (C99 6.5.16).
 #[tactic(auto, unfolding(c_reader_statement_laws::specs::Reading::store))]
 pub(crate) fn read_store(
     alloc: Global,
@@ -74,16 +129,37 @@ pub(crate) fn read_store(
     ensures ok { IfOk result (λ r. store fuel tokens.now ≡ Ok (statement_tree r.0, r.1.now)) }
     ensures err { IfErr result (λ e. e ≢ Fault.NoMemory → store fuel tokens.now ≡ Err e) }
 {
-    let below = ok!(one_less(fuel));
-    let (array, rest) = ok!(read_name_in(alloc, below, tokens));
-    let (array, rest) = ok!(beside(array, read_sign(Punctuator::LeftBracket, rest)));
-    let (array, (index, rest)) = ok!(beside(array, expression(alloc, below, 0, rest)));
-    let (cell, rest) = ok!(beside((array, index), read_sign(Punctuator::RightBracket, rest)));
-    let (cell, rest) = ok!(beside(cell, read_sign(Punctuator::Assign, rest)));
-    let (cell, (value, rest)) = ok!(beside(cell, expression(alloc, fuel, 0, rest)));
-    let (parts, rest) = ok!(beside((cell, value), read_sign(Punctuator::Semicolon, rest)));
-    let ((array, index), value) = parts;
-    Ok((Statement::Store(array, index, value), rest))
+    let (cell, rest) = ok!(read_cell(alloc, fuel, tokens));
+    if is_sign_next(Punctuator::Assign, rest) {
+        let ((array, index), (value, rest)) = ok!(beside(cell, read_stored(alloc, fuel, rest)));
+        return Ok((Statement::Store(array, index, value), rest));
+    }
+    let ((array, index), (change, rest)) = ok!(beside(cell, read_changed(alloc, fuel, rest)));
+    let (operator, value) = change;
+    let lvalue = Lvalue::Element(array, index);
+    Ok((
+        Statement::Change(Change {
+            lvalue,
+            operator,
+            value,
+        }),
+        rest,
+    ))
+}
+
+/// `++` or `--` and an lvalue.
+#[tactic(auto, unfolding(c_reader_statement_laws::specs::Reading::step_statement))]
+pub(crate) fn read_step_statement(
+    alloc: Global,
+    fuel: u8,
+    tokens: &[Token],
+) -> Result<(Statement, &[Token]), Fault>
+    ensures ok { IfOk result (λ r. step_statement fuel tokens.now ≡ Ok (statement_tree r.0, r.1.now)) }
+    ensures err { IfErr result (λ e. e ≢ Fault.NoMemory → step_statement fuel tokens.now ≡ Err e) }
+{
+    let (change, rest) = ok!(read_prefixed(alloc, fuel, tokens));
+    let (change, rest) = ok!(beside(change, read_sign(Punctuator::Semicolon, rest)));
+    Ok((Statement::Change(change), rest))
 }
 
 #[tactic(auto, unfolding(c_reader_statement_laws::specs::Reading::break_statement))]

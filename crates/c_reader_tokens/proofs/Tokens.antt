@@ -95,7 +95,7 @@ given_is (Some y) t ts x rest e =
     let one = ok_is (y, ts) (x, rest) e in
     (ap (λ (p : _ × List Token). Some p.0) one, ap (λ (p : _ × List Token). p.1) one)
 
-valued_takes : {A : Type 0} (value_of : Token → Option A) (ts : List Token) (x : A) (rest : List Token) → valued value_of ts ≡ Ok (x, rest) → (t : Token) × (value_of t ≡ Some x) × (ts ≡ t ∷ rest)
+pub valued_takes : {A : Type 0} (value_of : Token → Option A) (ts : List Token) (x : A) (rest : List Token) → valued value_of ts ≡ Ok (x, rest) → (t : Token) × (value_of t ≡ Some x) × (ts ≡ t ∷ rest)
 valued_takes value_of [] x rest e = absurd cc
 valued_takes value_of (t ∷ ts) x rest e =
     let g = given_is (value_of t) t ts x rest e in

@@ -1,3 +1,4 @@
 pub mod Reading
 pub mod Peeking
 pub mod Tokens
+pub mod Assigning

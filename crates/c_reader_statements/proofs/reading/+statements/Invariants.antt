@@ -17,6 +17,9 @@ decreases-read_items l = 4 * l.fuel + 1
 abbrev pub decreases-read_other : goal.decreases-read_other
 decreases-read_other l = 4 * l.fuel + 1
 
+abbrev pub decreases-read_do : goal.decreases-read_do
+decreases-read_do l = 4 * l.fuel + 1
+
 abbrev pub decreases-read_branches : goal.decreases-read_branches
 decreases-read_branches l = 4 * l.fuel + 2
 

@@ -23,9 +23,9 @@ use Rattle.c_reader_expression_laws.specs.Operators.{begins_operand}
 abbrev pub Begins : List Token → Type 0
 Begins xs = is_next begins_operand xs ≡ true
 
-begins_more : (xs rest : List Token) → Begins xs → Begins (xs ++ rest)
-begins_more [] rest e = absurd cc
-begins_more (t ∷ ts) rest e = e
+pub next_more : (passes : TokenKind → Bool) (xs rest : List Token) → is_next passes xs ≡ true → is_next passes (xs ++ rest) ≡ true
+next_more passes [] rest e = absurd cc
+next_more passes (t ∷ ts) rest e = e
 
 begins_unary : (o : UnaryOperator) → begins_operand (Kind.Punctuator (unary_sign o)) ≡ true
 begins_unary U.Minus = refl
@@ -48,18 +48,22 @@ expression_begins level (T.Cast t e) xs s =
 expression_begins level (T.Unary o e) xs s =
     let n = s.2 in begins_with (Kind.Punctuator (unary_sign o)) xs (begins_unary o) n.0 s.1 n.1 (s.4 ∙ ap (λ l. l ++ s.1) n.2)
 expression_begins level (T.Binary o a b) xs s =
-    let d = s.1 in subst Begins (sym d.4) (begins_more d.0 d.1 (expression_begins (binding o) a d.0 d.2))
+    let d = s.1 in subst Begins (sym d.4) (next_more begins_operand d.0 d.1 (expression_begins (binding o) a d.0 d.2))
 expression_begins level (T.Conditional c a b) xs s =
-    let d = s.1 in subst Begins (sym d.4) (begins_more d.0 d.1 (expression_begins 1 c d.0 d.2))
+    let d = s.1 in subst Begins (sym d.4) (next_more begins_operand d.0 d.1 (expression_begins 1 c d.0 d.2))
 
-no_sign : (p : Punctuator) → begins_operand (Kind.Punctuator p) ≡ false → (kind : TokenKind) (b : Bool) → is_sign p kind ≡ b → begins_operand kind ≡ true → b ≡ false
-no_sign p never kind false e begins = refl
-no_sign p never kind true e begins = absurd (let same = ap begins_operand (is_sign-true p kind e) in cc)
+no_sign : (passes : TokenKind → Bool) (p : Punctuator) → passes (Kind.Punctuator p) ≡ false → (kind : TokenKind) (b : Bool) → is_sign p kind ≡ b → passes kind ≡ true → b ≡ false
+no_sign passes p never kind false e holds = refl
+no_sign passes p never kind true e holds = absurd (let same = ap passes (is_sign-true p kind e) in cc)
+
+-- a token that passes a test is none of the signs that do not
+pub apart_from : (passes : TokenKind → Bool) (p : Punctuator) → passes (Kind.Punctuator p) ≡ false → (xs rest : List Token) → is_next passes xs ≡ true → is_sign_next p (xs ++ rest) ≡ false
+apart_from passes p never [] rest e = absurd cc
+apart_from passes p never (t ∷ ts) rest e = no_sign passes p never t.kind (is_sign p t.kind) refl e
 
 -- what begins an expression is none of the other signs
 pub not_sign : (p : Punctuator) → begins_operand (Kind.Punctuator p) ≡ false → (xs rest : List Token) → Begins xs → is_sign_next p (xs ++ rest) ≡ false
-not_sign p never [] rest e = absurd cc
-not_sign p never (t ∷ ts) rest e = no_sign p never t.kind (is_sign p t.kind) refl e
+not_sign p never xs rest e = apart_from begins_operand p never xs rest e
 
 -- ---- an expression is no call
 
