@@ -1,14 +1,17 @@
 -- Turns of a loop. A turn answers a next step, or none where it is done and the loop goes on from its head.
-use Rattle.std.specs.Prelude.{◌≡◌, ℕ, ◌+◌, ◌-◌, ◌≤◌, List, Option, MatchOption}
+use Rattle.std.specs.Prelude.{◌≡◌, ℕ, ◌+◌, ◌-◌, ◌≤◌, List, ◌∷◌, Option, MatchOption, take}
 use Rattle.c_program.specs.declared.action.Action.{Action}
 use Rattle.c_program.specs.Views.{term_tree, action_tree, actions_tree}
 use Rattle.c_program.specs.State.{State}
-use Rattle.c_program.specs.Meaning.{Outcome, Level, exec, exec_all, level, after_body, turns_again}
+use Rattle.c_program.specs.Meaning.{Outcome, Level, goes_on, exec, exec_all, level, after_body, turns_again}
 use Rattle.c_meaning_machine.specs.declared.left.Cycle.{Cycle}
+use Rattle.c_meaning_machine.specs.declared.left.Left.{Left}
 use Rattle.c_meaning_machine.specs.declared.machine.Machine.{Machine}
 use Rattle.c_meaning_machine.specs.declared.next.Next.{Next}
-use Rattle.c_meaning_machine.specs.Costs.{cost, level_cost, behind_cost, rest_cost}
-use Rattle.c_meaning_machine.specs.Resume.{functions_of, here, rest_of, work_of}
+use Rattle.c_meaning_machine.specs.Costs.{cost, cost_all, level_cost, behind_cost, left_cost, rest_cost}
+use Rattle.c_meaning_machine.specs.Resume.{functions_of, here, rest_of, resume, work_of}
+use Rattle.c_meaning_machine.specs.Stacks.{waiting}
+use Rattle.c_meaning_machine.specs.Steps.{Meets, next_cost}
 use Rattle.c_meaning.specs.Reaching.{ReachesRest, RestCostsAtMost}
 
 -- the loop from its head on, with this bound
@@ -78,6 +81,21 @@ TurnsBehind old new c = TurnReaches old new c.bound c (behind_of_loop old c)
 
 abbrev pub BehindCostsAtMost : Machine → Machine → Cycle → Option Next → Type 0
 BehindCostsAtMost old new c = TurnCosts old new c.bound c (loop_behind_cost old c)
+
+-- With this bound an action is done, and the others behind it, and then what is left.
+abbrev pub BeginsBefore : Machine → Machine → Left → ℕ → Action → List Action → Next → Type 0
+BeginsBefore old new left bound action rest next =
+    let lower = level (functions_of old) bound in
+    Meets next new
+    (λ output.
+    resume (functions_of old) (left ∷ waiting old.left) (take old.scope.base old.scope.locals.items)
+    (goes_on (exec_all lower (actions_tree rest)) (exec lower (action_tree action) (here old output))))
+
+-- what that costs at most
+abbrev pub BeginCostsAtMost : Machine → Machine → Left → ℕ → Action → List Action → Next → Type 0
+BeginCostsAtMost old new left bound action rest next =
+    let lower = level_cost (functions_of old) bound in
+    next_cost next new ≤ 2 + (cost lower (action_tree action) + cost_all lower (actions_tree rest) + left_cost (functions_of old) (left ∷ waiting old.left))
 
 -- These actions in order do what the one does.
 abbrev pub DoTheSame : Action → List Action → Type 0

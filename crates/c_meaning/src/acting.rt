@@ -1,7 +1,7 @@
 //! One step of a run.
 
 ghost use Rattle.std.specs.Prelude.{◌≤◌, ◌<◌, IfOk};
-ghost use Rattle.c_program.specs.Trees.{Sequence, Give, Store};
+ghost use Rattle.c_program.specs.Trees.{Sequence, Give, Store, Update};
 ghost use Rattle.c_program.specs.Views.{term_tree, given_tree, action_tree, actions_tree};
 ghost use Rattle.c_program.specs.Meaning.{Falls};
 ghost use Rattle.c_meaning.specs.Parts.{choice_tree, loop_work};
@@ -13,8 +13,9 @@ use crate::arriving::{arrive, store};
 use crate::calling::call;
 use crate::leaving::{breaks, continues, falls, returns};
 use crate::looping::{listed, turn};
-use c_meaning_machine::{Cycle, Front, Left, Machine, Next, advance, evaluate};
+use c_meaning_machine::{Cycle, Front, Left, Machine, Next, advance, evaluate, update};
 use c_program::{Action, Target, Term, Value};
+use ints::Op;
 use lang_base::{NoMemory, Shown};
 
 /// What gives a value is done, and the value goes to its target.
@@ -49,6 +50,19 @@ fn store_value(machine: &mut Machine, global: usize, index: &Term, value: &Term)
         return Next::Stops(Shown::Wrong);
     };
     store(machine, global, index, word)
+}
+
+/// A cell becomes what an operator gives of its word and of what an expression gives.
+#[tactic(auto, using(c_meaning_machine::proofs::Stops::resume_fails))]
+fn update_cell(machine: &mut Machine, global: usize, index: &Term, op: Op, value: &Term) -> Next
+    ensures meaning { Does machine.old machine.new (Update global (term_tree index.now) op (term_tree value.now)) result }
+    ensures cost { next_cost result machine.new ≤ later_cost machine.old }
+{
+    if update(&mut machine.scope, global, index, op, value) {
+        Next::Goes
+    } else {
+        Next::Stops(Shown::Wrong)
+    }
 }
 
 /// One of two actions, by a condition.
@@ -87,6 +101,9 @@ fn act<'a>(machine: &mut Machine<'a>, action: &'a Action) -> Result<Next, NoMemo
         Action::Sequence(all) => begin_sequence(machine, all.as_slice()),
         Action::Give(target, value) => give(machine, *target, value),
         Action::Store(global, index, value) => Ok(store_value(machine, *global, index, value)),
+        Action::Update(global, index, op, value) => {
+            Ok(update_cell(machine, *global, index, *op, value))
+        }
         Action::If(condition, then, other) => choose(machine, condition, then, other),
         Action::Loop(condition, body, behind) => begin_loop(machine, condition, body, behind),
         Action::Break => Ok(breaks(machine)),

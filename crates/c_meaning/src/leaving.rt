@@ -32,8 +32,8 @@ pub fn breaks(machine: &mut Machine) -> Next
     Next::Stops(Shown::Wrong)
 }
 
-/// `continue`: the rest of the nearest loop's body is left out.
-#[tactic(auto, using(c_meaning_machine::proofs::Stops::resume_fails))]
+/// `continue`: the rest of the nearest loop's body is left out. Behind the body, the loop is left.
+#[tactic(auto, using(c_meaning_machine::proofs::Stops::resume_fails, c_meaning_machine::proofs::Levels::cost_some))]
 pub fn continues(machine: &mut Machine) -> Result<Next, NoMemory>
     ensures meaning { IfOk result (ReachesRest machine.old machine.new Continues) }
     ensures cost { IfOk result (λ next. next_cost next machine.new ≤ rest_cost machine.old) }
@@ -42,7 +42,11 @@ pub fn continues(machine: &mut Machine) -> Result<Next, NoMemory>
         match left {
             Left::Rest(_, _) => {}
             Left::Body(cycle) => return after_body(machine, cycle),
-            Left::Behind(_) | Left::Back(_) => return Ok(Next::Stops(Shown::Wrong)),
+            Left::Behind(_) => {
+                machine.actions = &[];
+                return Ok(Next::Goes);
+            }
+            Left::Back(_) => return Ok(Next::Stops(Shown::Wrong)),
         }
     }
     Ok(Next::Stops(Shown::Wrong))

@@ -5,7 +5,7 @@ ghost use Rattle.std.specs.Option.{option_map};
 ghost use Rattle.c_program.specs.Views.{term_tree, action_tree, actions_tree};
 ghost use Rattle.c_program.specs.State.{word};
 ghost use Rattle.c_meaning.specs.Reaching.{ReachesRest, RestCostsAtMost};
-ghost use Rattle.c_meaning.specs.Turning.{loop_of, loop_cost, behind_of_loop, loop_behind_cost, TurnsOnce, TurnCostsAtMost, TurnsBody, BodyCostsAtMost, TurnsBehind, BehindCostsAtMost, DoTheSame};
+ghost use Rattle.c_meaning.specs.Turning.{loop_of, loop_cost, behind_of_loop, loop_behind_cost, TurnsOnce, TurnCostsAtMost, TurnsBody, BodyCostsAtMost, TurnsBehind, BehindCostsAtMost, BeginsBefore, BeginCostsAtMost, DoTheSame};
 ghost use Rattle.c_meaning_machine.specs.AtOnce.{holds};
 ghost use Rattle.c_meaning_machine.specs.Costs.{Costs, cost, cost_all};
 ghost use Rattle.c_meaning_machine.specs.Resume.{here};
@@ -73,6 +73,25 @@ fn one_turn<'a>(machine: &mut Machine<'a>, cycle: Cycle<'a>) -> Result<Option<Ne
     }
 }
 
+/// An action that needs the stack begins, with this bound: behind it come the others, and then what is left.
+#[inline(always)]
+fn begin<'a>(
+    machine: &mut Machine<'a>,
+    left: Left<'a>,
+    bound: u32,
+    action: &'a Action,
+    rest: &'a [Action],
+) -> Result<Next, NoMemory>
+    ensures meaning { IfOk result (BeginsBefore machine.old machine.new left.entry bound action.entry.now rest.entry.now) }
+    ensures cost { IfOk result (BeginCostsAtMost machine.old machine.new left.entry bound action.entry.now rest.entry.now) }
+{
+    machine.left.push(left)?;
+    machine.left.push(Left::Rest(bound, rest))?;
+    machine.bound = bound;
+    machine.actions = listed(action);
+    Ok(Next::Goes)
+}
+
 /// The body of a loop, and what stands behind it. Where the answer is none, both are done.
 #[inline(always)]
 #[tactic(auto, using(c_meaning_machine::proofs::Stops::resume_fails))]
@@ -84,16 +103,13 @@ fn body_turn<'a>(machine: &mut Machine<'a>, cycle: Cycle<'a>) -> Result<Option<N
         Front::Wrong => Ok(Some(Next::Stops(Shown::Wrong))),
         Front::Done => behind_turn(machine, cycle),
         Front::Stays(action, rest) => {
-            machine.left.push(Left::Body(cycle))?;
-            machine.left.push(Left::Rest(cycle.bound, rest))?;
-            machine.bound = cycle.bound;
-            machine.actions = listed(action);
-            Ok(Some(Next::Goes))
+            let next = begin(machine, Left::Body(cycle), cycle.bound, action, rest)?;
+            Ok(Some(next))
         }
     }
 }
 
-/// What stands behind a loop's body. Where the answer is none, it is done.
+/// What stands behind a loop's body: `continue` leaves the loop there. Where the answer is none, it is done.
 #[inline(always)]
 #[tactic(auto, using(c_meaning_machine::proofs::Stops::resume_fails))]
 fn behind_turn<'a>(machine: &mut Machine<'a>, cycle: Cycle<'a>) -> Result<Option<Next>, NoMemory>
@@ -103,12 +119,13 @@ fn behind_turn<'a>(machine: &mut Machine<'a>, cycle: Cycle<'a>) -> Result<Option
     match advance(&mut machine.scope, listed(cycle.behind)) {
         Front::Wrong => Ok(Some(Next::Stops(Shown::Wrong))),
         Front::Done => Ok(None),
-        Front::Stays(action, rest) => {
-            machine.left.push(Left::Behind(cycle))?;
-            machine.left.push(Left::Rest(cycle.bound, rest))?;
-            machine.bound = cycle.bound;
-            machine.actions = listed(action);
+        Front::Stays(Action::Continue, _) => {
+            machine.actions = &[];
             Ok(Some(Next::Goes))
+        }
+        Front::Stays(action, rest) => {
+            let next = begin(machine, Left::Behind(cycle), cycle.bound, action, rest)?;
+            Ok(Some(next))
         }
     }
 }

@@ -1,9 +1,10 @@
 -- What is done at once, without the stack.
 use Rattle.std.specs.Prelude.{◌≡◌, ℕ, ◌+◌, ◌≤◌, Bool, true, false, not, List, Option, Some, None, ◌==◌}
+use Rattle.ints.specs.declared.operators.Op.{Op}
 use Rattle.c_program.specs.declared.term.Term.{Term}
 use Rattle.c_program.specs.declared.action.Action.{Action}
 use Rattle.c_program.specs.declared.action.Target.TheVariants.{Local}
-use Rattle.c_program.specs.Trees.{ActionTree, Give, Plain, Store}
+use Rattle.c_program.specs.Trees.{ActionTree, Give, Plain, Store, Update}
 use Rattle.c_program.specs.Values.{value}
 use Rattle.c_program.specs.Views.{term_tree, action_tree, actions_tree}
 use Rattle.c_program.specs.Meaning.{Level, Falls, Fails, goes_on, exec, exec_all}
@@ -30,6 +31,10 @@ Assigned done number term old new = Ran (Some done) (Give (Local number) (Plain 
 -- A cell became what an expression gives, if both are there.
 abbrev pub Stored : Bool → ℕ → Term → Term → Scope → Scope → Type 0
 Stored done global index term old new = Ran (Some done) (Store global (term_tree index) (term_tree term)) old new
+
+-- A cell became what an operator gives of its word and of what an expression gives, if all are there.
+abbrev pub Updated : Bool → ℕ → Term → Op → Term → Scope → Scope → Type 0
+Updated done global index o term old new = Ran (Some done) (Update global (term_tree index) o (term_tree term)) old new
 
 -- The expression gives this.
 abbrev pub IsWorth : Term → Scope → Option ℕ → Type 0

@@ -1,6 +1,6 @@
 -- How many steps a run takes at most: a number that falls at each step, so that each run ends at its bound.
 use Rattle.std.specs.Prelude.{ℕ, zero, suc, ◌+◌, List, [], ◌∷◌, Option, Some, None, slice_get}
-use Rattle.c_program.specs.Trees.{TermTree, GivenTree, ActionTree, ActionsTree, FunctionTree, Plain, Called, Put, Nothing, Declare, Sequence, Give, Store, If, Loop, Break, Continue, Leave, Done, First}
+use Rattle.c_program.specs.Trees.{TermTree, GivenTree, ActionTree, ActionsTree, FunctionTree, Plain, Called, Put, Nothing, Declare, Sequence, Give, Store, Update, If, Loop, Break, Continue, Leave, Done, First}
 use Rattle.c_program.specs.Views.{term_tree, action_tree, actions_tree}
 use Rattle.c_program.specs.Meaning.{Work, Turns, Calls}
 use Rattle.c_meaning_machine.specs.declared.left.Left.{Left}
@@ -26,6 +26,7 @@ abbrev mutual
   cost lower (Sequence ss) = 2 + cost_all lower ss
   cost lower (Give target v) = given_cost lower v
   cost lower (Store g i e) = 1
+  cost lower (Update g i o e) = 1
   cost lower (If c t u) = 2 + (cost lower t + cost lower u)
   cost lower (Loop c body behind) = 2 + lower (Turns c body behind)
   cost lower Break = 1

@@ -17,6 +17,6 @@ pub use evaluation::evaluate;
 pub use left::{Cycle, Left, Waiting};
 pub use machine::Machine;
 pub use next::Next;
-pub use plain::{Front, advance};
+pub use plain::{Front, advance, update};
 pub use scope::Scope;
 pub use stack::Stack;

@@ -1,12 +1,14 @@
 //! Actions that need no stack: they are done at once.
 
 ghost use Rattle.std.specs.Prelude.{◌≡◌, IfSome, IfNone, take};
-ghost use Rattle.c_meaning_machine.specs.AtOnce.{Ran, Assigned, Stored, Chooses, ChoosesNone, Comes, ComesCheaper, CostsNoMore};
+ghost use Rattle.c_meaning_machine.specs.AtOnce.{Ran, Assigned, Stored, Updated, Chooses, ChoosesNone, Comes, ComesCheaper, CostsNoMore};
 ghost use Rattle.c_program.specs.Views.{action_tree};
 
 use crate::evaluation::{evaluate, operand};
+use crate::operators::on_two;
 use crate::scope::Scope;
 use c_program::{Action, Target, Term, Value};
+use ints::Op;
 
 /// What some actions have come to, once those in front that only change variables are done.
 #[derive(Clone, Copy)]
@@ -77,6 +79,7 @@ fn at_once(scope: &mut Scope, action: &Action) -> Option<bool>
             scope, *number, term,
         )),
         Action::Store(global, index, value) => Some(store(scope, *global, index, value)),
+        Action::Update(global, index, op, value) => Some(update(scope, *global, index, *op, value)),
         _ => None,
     }
 }
@@ -108,6 +111,29 @@ fn store(scope: &mut Scope, global: usize, index: &Term, value: &Term) -> bool
         return false;
     };
     let Some(word) = operand(value, scope) else {
+        return false;
+    };
+    scope.set_cell(global, index, word)
+}
+
+/// A cell becomes what an operator gives of its word and of what an expression gives: whether all are there
+/// (C99 6.5.16.2).
+#[inline(never)]
+pub fn update(scope: &mut Scope, global: usize, index: &Term, op: Op, value: &Term) -> bool
+    ensures ran { Updated result global index.now op value.now scope.old scope.new }
+    ensures base { scope.new.base ≡ scope.old.base }
+    ensures below { take scope.old.base scope.new.locals.items ≡ take scope.old.base scope.old.locals.items }
+{
+    let Some(index) = operand(index, scope) else {
+        return false;
+    };
+    let Some(other) = operand(value, scope) else {
+        return false;
+    };
+    let Some(held) = scope.cell(global, index) else {
+        return false;
+    };
+    let Some(word) = on_two(op, held, other) else {
         return false;
     };
     scope.set_cell(global, index, word)

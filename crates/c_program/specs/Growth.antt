@@ -3,13 +3,15 @@ use Rattle.std.proofs.Common.{◌≡◌, ℕ, zero, suc, ◌+◌, ◌==◌, Bool
 use Rattle.std.specs.Prelude.{slice_get, ◌%◌}
 use Rattle.lang_base.specs.Behaviour.{IsBeginningOf, GoesOnTo, IsRun}
 use Rattle.lang_base.proofs.Beginnings.{IsBeginningOf-refl, IsBeginningOf-trans}
+use Rattle.ints.specs.declared.operators.Op.{Op}
 use Rattle.c_program.specs.declared.action.Target.{Target}
 use Rattle.c_program.specs.declared.action.Target.TheVariants.{Nowhere, Local, Global, Caller}
 use Rattle.c_program.specs.declared.function.Ending.{Ending}
 use Rattle.c_program.specs.declared.function.Ending.TheVariants as E
-use Rattle.c_program.specs.Trees.{TermTree, GivenTree, ActionTree, ActionsTree, FunctionTree, ProgramTree, Plain, Called, Put, Nothing, Declare, Sequence, Give, Store, If, Loop, Break, Continue, Leave, Done, First}
+use Rattle.c_program.specs.Trees.{TermTree, GivenTree, ActionTree, ActionsTree, FunctionTree, ProgramTree, Plain, Called, Put, Nothing, Declare, Sequence, Give, Store, Update, If, Loop, Break, Continue, Leave, Done, First}
+use Rattle.c_program.specs.Values.{cell_of, on_two}
 use Rattle.c_program.specs.State.{State, word, words, put_cell}
-use Rattle.c_program.specs.Meaning.{Outcome, Falls, Breaks, Continues, Returns, RunsOut, Fails, Work, Turns, Calls, Level, goes_on, with_globals, stores, arrives, yields, puts, branches, hands_back, resumed, comes_back, calls, gives, exec, exec_all, turns_again, after_body, turns, reaches, ends, begins, enters, level, shown, start, crun}
+use Rattle.c_program.specs.Meaning.{Outcome, Falls, Breaks, Continues, Returns, RunsOut, Fails, Work, Turns, Calls, Level, goes_on, with_globals, stores, updates, arrives, yields, puts, branches, hands_back, resumed, comes_back, calls, gives, exec, exec_all, turns_again, after_body, turns, reaches, ends, begins, enters, level, shown, start, crun}
 
 -- what is printed at an outcome
 abbrev pub output_of : Outcome → List ℕ
@@ -46,6 +48,10 @@ prints-stores : (g : ℕ) (s : State) (i w : Option ℕ) → PrintsOn s.output (
 prints-stores g s None w = IsBeginningOf-refl s.output
 prints-stores g s (Some i) None = IsBeginningOf-refl s.output
 prints-stores g s (Some i) (Some w) = prints-with_globals s (put_cell s.globals g i w)
+
+prints-updates : (g : ℕ) (o : Op) (s : State) (i w : Option ℕ) → PrintsOn s.output (updates g o s i w)
+prints-updates g o s None w = IsBeginningOf-refl s.output
+prints-updates g o s (Some i) w = prints-stores g s (Some i) (on_two o (cell_of s.globals g i) w)
 
 pub prints-arrives : (target : Target) (w : ℕ) (s : State) → PrintsOn s.output (arrives target w s)
 prints-arrives Nowhere w s = IsBeginningOf-refl s.output
@@ -105,6 +111,7 @@ mutual
   prints-exec lower adds (Sequence ss) s = prints-exec_all lower adds ss s
   prints-exec lower adds (Give target v) s = prints-gives lower adds target v s
   prints-exec lower adds (Store g i e) s = prints-stores g s (word i s) (word e s)
+  prints-exec lower adds (Update g i o e) s = prints-updates g o s (word i s) (word e s)
   prints-exec lower adds (If c t u) s = prints-branches s (word c s) (exec lower t s) (exec lower u s) (prints-exec lower adds t s) (prints-exec lower adds u s)
   prints-exec lower adds (Loop c body behind) s = adds (Turns c body behind) s
   prints-exec lower adds Break s = IsBeginningOf-refl s.output
@@ -229,6 +236,7 @@ mutual
   later-exec lower upper next adds (Sequence ss) s = later-exec_all lower upper next adds ss s
   later-exec lower upper next adds (Give target v) s = later-gives lower upper next target v s
   later-exec lower upper next adds (Store g i e) s = later-same (stores g s (word i s) (word e s))
+  later-exec lower upper next adds (Update g i o e) s = later-same (updates g o s (word i s) (word e s))
   later-exec lower upper next adds (If c t u) s = later-branches s (word c s) (exec lower t s) (exec lower u s) (exec upper t s) (exec upper u s) (later-exec lower upper next adds t s) (later-exec lower upper next adds u s)
   later-exec lower upper next adds (Loop c body behind) s = next (Turns c body behind) s
   later-exec lower upper next adds Break s = refl

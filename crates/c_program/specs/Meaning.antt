@@ -3,12 +3,14 @@
 use Rattle.std.specs.Prelude.{ℕ, zero, suc, ◌-◌, ◌%◌, ◌==◌, List, [], ◌∷◌, ◌++◌, length, Option, Some, None, map, replicate, slice_get, if◌then◌else◌}
 use Rattle.lang_base.specs.declared.shown.Shown.TheVariants.{Running, Ended, Wrong}
 use Rattle.lang_base.specs.Behaviour.{Shows, Behaviour}
+use Rattle.ints.specs.declared.operators.Op.{Op}
 use Rattle.c_program.specs.declared.action.Target.{Target}
 use Rattle.c_program.specs.declared.action.Target.TheVariants.{Nowhere, Local, Global, Caller}
 use Rattle.c_program.specs.declared.function.Ending.{Ending}
 use Rattle.c_program.specs.declared.function.Ending.TheVariants as E
 use Rattle.c_program.specs.declared.function.GlobalVariable.{GlobalVariable}
-use Rattle.c_program.specs.Trees.{TermTree, GivenTree, ActionTree, ActionsTree, FunctionTree, ProgramTree, Plain, Called, Put, Nothing, Declare, Sequence, Give, Store, If, Loop, Break, Continue, Leave, Done, First}
+use Rattle.c_program.specs.Trees.{TermTree, GivenTree, ActionTree, ActionsTree, FunctionTree, ProgramTree, Plain, Called, Put, Nothing, Declare, Sequence, Give, Store, Update, If, Loop, Break, Continue, Leave, Done, First}
+use Rattle.c_program.specs.Values.{cell_of, on_two}
 use Rattle.c_program.specs.State.{State, word, words, with_local, put_cell}
 
 -- how a statement leaves
@@ -54,6 +56,11 @@ abbrev pub stores : ℕ → State → Option ℕ → Option ℕ → Outcome
 stores g s None w = Fails s.output
 stores g s (Some i) None = Fails s.output
 stores g s (Some i) (Some w) = with_globals s (put_cell s.globals g i w)
+
+-- a cell of a global becomes what an operator gives of its word and another: the index is evaluated once
+abbrev pub updates : ℕ → Op → State → Option ℕ → Option ℕ → Outcome
+updates g o s None w = Fails s.output
+updates g o s (Some i) w = stores g s (Some i) (on_two o (cell_of s.globals g i) w)
 
 -- a word goes to its target: a variable without size is its cell 0
 abbrev pub arrives : Target → ℕ → State → Outcome
@@ -117,6 +124,7 @@ abbrev mutual
   exec lower (Sequence ss) s = exec_all lower ss s
   exec lower (Give target v) s = gives lower target v s
   exec lower (Store g i e) s = stores g s (word i s) (word e s)
+  exec lower (Update g i o e) s = updates g o s (word i s) (word e s)
   exec lower (If c t u) s = branches s (word c s) (exec lower t s) (exec lower u s)
   exec lower (Loop c body behind) s = lower (Turns c body behind) s
   exec lower Break s = Breaks s
@@ -127,11 +135,12 @@ abbrev mutual
   exec_all lower Done s = Falls s
   exec_all lower (First t rest) s = goes_on (exec_all lower rest) (exec lower t s)
 
--- the next turn of a loop, where what stands behind its body falls through: it neither breaks nor continues
+-- The next turn of a loop, where what stands behind its body falls through. `continue` ends the part of the loop that it
+-- stands in: in the body it goes to what stands behind, and there it leaves the loop. Nothing behind a body breaks.
 abbrev pub turns_again : Level → TermTree → ActionTree → ActionTree → Outcome → Outcome
 turns_again lower c body behind (Falls s) = lower (Turns c body behind) s
 turns_again lower c body behind (Breaks s) = Fails s.output
-turns_again lower c body behind (Continues s) = Fails s.output
+turns_again lower c body behind (Continues s) = Falls s
 turns_again lower c body behind (Returns w s) = Returns w s
 turns_again lower c body behind (RunsOut printed) = RunsOut printed
 turns_again lower c body behind (Fails printed) = Fails printed

@@ -28,6 +28,7 @@ mutual
     Sequence : (s : ActionsTree) → ActionTree
     Give : (target : Target) (v : GivenTree) → ActionTree
     Store : (global : ℕ) (index e : TermTree) → ActionTree
+    Update : (global : ℕ) (index : TermTree) (o : Op) (e : TermTree) → ActionTree
     If : (c : TermTree) (s t : ActionTree) → ActionTree
     Loop : (c : TermTree) (body behind : ActionTree) → ActionTree
     Break : ActionTree

@@ -32,6 +32,7 @@ abbrev mutual
   action_tree (A.Sequence' shape all) = T.Sequence (row_tree all)
   action_tree (A.Give target v) = T.Give target (given_tree v)
   action_tree (A.Store g i e) = T.Store g (term_tree i) (term_tree e)
+  action_tree (A.Update g i o e) = T.Update g (term_tree i) o (term_tree e)
   action_tree (A.If' c p s q t) = T.If (term_tree c) (action_tree s) (action_tree t)
   action_tree (A.Loop' c p s q t) = T.Loop (term_tree c) (action_tree s) (action_tree t)
   action_tree A.Break = T.Break

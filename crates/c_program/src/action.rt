@@ -1,4 +1,5 @@
 use crate::term::Term;
+use ints::Op;
 use lang_base::Row;
 
 /// A call of a function with a body.
@@ -40,8 +41,12 @@ pub enum Action {
     Give(Target, Value),
     /// A cell of a global, by the global's number and the cell's, becomes a word.
     Store(usize, Term, Term),
+    /// A cell of a global, by the global's number and the cell's, becomes what the operator gives of its word and
+    /// another.
+    Update(usize, Term, Op, Term),
     If(Term, Box<Action>, Box<Action>),
-    /// The condition of each turn, its body, and what is done behind it, also after a `continue`.
+    /// The condition of each turn, its body, and what is done behind it, also after a `continue`. A `continue` that
+    /// stands behind the body leaves the loop.
     Loop(Term, Box<Action>, Box<Action>),
     Break,
     Continue,
