@@ -15,6 +15,9 @@ rest_low d s t low = let m : t ≤ max s t = le-max_right s t in omega arith
 pub if_low : (d e s : ℕ) → d + suc (max e s) ≤ 1000 → d + s ≤ 1000
 if_low d e s low = let m : s ≤ max e s = le-max_right e s in omega arith
 
+pub do_low : (d s e : ℕ) → d + suc (max s e) ≤ 1000 → d + s ≤ 1000
+do_low d s e low = let m : s ≤ max s e = le-max_left s e in omega arith
+
 pub holds_low : (d e s t : ℕ) → d + suc (max e (max s t)) ≤ 1000 → d + s ≤ 1000
 holds_low d e s t low =
     let m : max s t ≤ max e (max s t) = le-max_right e (max s t) in

@@ -1,3 +1,5 @@
 pub mod Loops
 pub mod Sources
+pub mod Changes
+pub mod Holders
 pub mod ForSources

@@ -1,16 +1,20 @@
 -- The rules of statements, asked of what the reader made: the faults of a part, and what it stands for.
-use Rattle.std.specs.Prelude.{◌≡◌, ℕ, [], List, ◌++◌, Option}
+use Rattle.std.specs.Prelude.{ℕ, List, ◌++◌, Option}
 use Rattle.c_syntax.specs.declared.identifier.Identifier.{Identifier}
 use Rattle.c_syntax.specs.declared.expression.Expression.{Expression}
+use Rattle.c_syntax.specs.declared.constant.IntegerType.{IntegerType}
 use Rattle.c_syntax.specs.declared.declaration.ReturnType.{ReturnType}
+use Rattle.c_syntax.specs.Trees.{StartTree, StartLocal}
 use Rattle.c_syntax.specs.declared.statement.Call.{Call}
 use Rattle.c_syntax.specs.declared.statement.Value.{Value}
 use Rattle.c_syntax.specs.declared.statement.Set.{Set}
 use Rattle.c_syntax.specs.declared.statement.Local as L
 use Rattle.c_syntax.specs.declared.statement.Statement.{Statement}
 use Rattle.c_syntax.specs.Views.{optional_tree, expression_tree, call_tree, value_tree, set_tree, statement_tree, statements_tree}
-use Rattle.c_program.specs.declared.action.Target.TheVariants.{Nowhere}
-use Rattle.c_program.specs.Trees.{TermTree, ActionTree, ActionsTree, Give, Store}
+use Rattle.c_program.specs.declared.action.Target.TheVariants.{Nowhere, Local}
+use Rattle.c_program.specs.Trees.{TermTree, ActionTree, ActionsTree, Declare, Give, Store}
+use Rattle.c_program.specs.declared.action.Value as C
+use Rattle.c_program.specs.Views.{given_tree}
 use Rattle.c_checker_rules.specs.declared.errors.CheckError.{CheckError}
 use Rattle.c_checker_rules.specs.declared.context.Context.{Context}
 use Rattle.c_checker_rules.specs.Names.{Scope, meaning_of}
@@ -47,6 +51,14 @@ store_action scope name index value =
 abbrev pub local_action : Functions → ℕ → Here → L.Local → ActionTree
 local_action f depth h local =
     A.declared f (with_local depth h local.kind local.name).scope h.locals (optional_tree value_tree local.value)
+
+-- a local is declared, and then a value goes to it
+abbrev pub given_local : ℕ → C.Value → ActionTree
+given_local n value = A.two (Declare n) (Give (Local n) (given_tree value))
+
+-- a `for` begins with the declaration of a local
+abbrev pub local_start : IntegerType → Identifier → Expression → StartTree
+local_start kind name value = StartLocal kind name (expression_tree value)
 
 -- the condition of a `for`, and what it does behind each turn
 abbrev pub condition_faults : Scope → Option Expression → List CheckError

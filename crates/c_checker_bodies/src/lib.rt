@@ -2,6 +2,7 @@
 //! (C99 6.8 and 6.9.1).
 #![tactic(auto)]
 
+mod changes;
 mod here;
 mod locals;
 mod loops;

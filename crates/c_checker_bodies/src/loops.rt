@@ -7,6 +7,7 @@ ghost use Rattle.c_program.specs.Views.{term_tree, action_tree};
 ghost use Rattle.c_checker_rules.specs.Told.{Tells};
 ghost use Rattle.c_checker_rules.specs.Actions as A;
 ghost use Rattle.c_checker_bodies.specs.Sources.{condition_term, step_tree};
+ghost use Rattle.c_checker_bodies.specs.Holders.{do_action};
 ghost use Rattle.c_checker_bodies.specs.ForSources.{started, turn_faults, head_faults, head_condition, head_step, for_tree};
 
 use crate::here::Here;
@@ -38,6 +39,23 @@ pub(crate) fn repeated(
 {
     let (condition, (body, behind)) = ok!(beside(condition, boxes(alloc, body, behind)));
     Ok(Action::Loop(condition, body, behind))
+}
+
+/// What stands behind the body of a `do`: a false condition leaves the loop.
+fn until(alloc: Global, condition: Term) -> Result<Box<Action>, NoMemory>
+    ensures { IfOk result (λ b. action_tree b.value ≡ P.If (term_tree condition) P.Nothing P.Continue) }
+{
+    let both = boxes(alloc, Action::Nothing, Action::Continue);
+    let (condition, (again, leaves)) = ok!(beside(condition, both));
+    Ok(Box::new(alloc, Action::If(condition, again, leaves))?)
+}
+
+/// The `do` with this body and this condition.
+pub(crate) fn do_of(alloc: Global, body: Box<Action>, condition: Term) -> Result<Action, NoMemory>
+    ensures { IfOk result (λ a. action_tree a ≡ do_action body.value condition) }
+{
+    let (body, behind) = ok!(beside(body, until(alloc, condition)));
+    Ok(Action::Loop(Term::Constant(1), body, behind))
 }
 
 impl Heads {

@@ -1,7 +1,7 @@
 //! The parts of statements that hold no statement (C99 6.8).
 
 ghost use Rattle.std.specs.Prelude.{◌≡◌, [], false, OnOk, IfOk, IfErr};
-ghost use Rattle.c_syntax.specs.Views.{call_tree, set_tree, local_tree, start_tree};
+ghost use Rattle.c_syntax.specs.Views.{call_tree, local_tree, start_tree};
 ghost use Rattle.c_program.specs.Views.{term_tree, action_tree};
 ghost use Rattle.c_checker_rules.specs.Told.{unless, Tells};
 ghost use Rattle.c_checker_rules.specs.Names as N;
@@ -11,8 +11,9 @@ ghost use Rattle.c_checker_rules.specs.Locals.{with_local};
 ghost use Rattle.c_checker_rules.specs.Statements as S;
 ghost use Rattle.c_checker_rules.specs.Actions as A;
 ghost use Rattle.c_checker_rules.specs.declared.errors.CheckError.TheVariants.{StrayBreak};
-ghost use Rattle.c_checker_bodies.specs.Sources.{call_action, assignment_faults, assignment_action, store_faults, store_action, local_action, condition_faults, condition_term, step_faults, step_tree, return_faults, return_action};
+ghost use Rattle.c_checker_bodies.specs.Sources.{call_action, assignment_faults, assignment_action, store_faults, store_action, given_local, local_action, local_start, condition_faults, condition_term, step_faults, step_tree, return_faults, return_action};
 
+use crate::changes::check_set;
 use crate::here::Here;
 use crate::locals::declare_local;
 use c_checker_rules::{CheckError, Meaning};
@@ -21,7 +22,7 @@ use c_checker_terms::{
     Functions, Typed, array, check_call, check_expression, check_value, meaning_of,
 };
 use c_program::{Action, Target, Term, Value};
-use c_syntax::{Call, Expression, ForStart, Identifier, Local, Lvalue, ReturnType, Set};
+use c_syntax::{Call, Expression, ForStart, Identifier, IntegerType, Local, ReturnType, Set};
 use lang_base::NoMemory;
 use lang_parts::{beside, ok, pair};
 use std::alloc::Global;
@@ -34,8 +35,16 @@ pub(crate) fn two(alloc: Global, first: Action, second: Action) -> Result<Action
     Ok(Action::Sequence(pair(alloc, first, second)?))
 }
 
+/// A local is declared, and then a value goes to it.
+fn declared_as(alloc: Global, number: usize, value: Value) -> Result<Action, NoMemory>
+    ensures { IfOk result (λ a. action_tree a ≡ given_local number value) }
+{
+    let given = Action::Give(Target::Local(number), value);
+    two(alloc, Action::Declare(number), given)
+}
+
 /// A variable without size to which a value may be given.
-fn check_target(scope: &Scopes<Meaning>, name: &Identifier) -> Result<Target, CheckError>
+pub(crate) fn check_target(scope: &Scopes<Meaning>, name: &Identifier) -> Result<Target, CheckError>
     ensures ok { IfOk result (λ t. variable_faults (N.meaning_of scope.now name.now) name.now.offset ≡ []) }
     ensures target { IfOk result (λ t. t ≡ A.target_of (N.meaning_of scope.now name.now)) }
     ensures err { IfErr result (λ e. Tells e (variable_faults (N.meaning_of scope.now name.now) name.now.offset)) }
@@ -101,27 +110,6 @@ pub(crate) fn check_store(
     Ok(Action::Store(number, cell, value.term))
 }
 
-/// What a `for` sets.
-#[tactic(auto, using(c_checker_rules::proofs::Firsts::tells_front, c_checker_rules::proofs::Firsts::tells_behind))]
-pub(crate) fn check_set(
-    alloc: Global,
-    scope: &Scopes<Meaning>,
-    set: &Set,
-) -> Result<Action, CheckError>
-    ensures ok { OnOk result (S.set_faults scope.now (set_tree set.now) ≡ []) }
-    ensures action { IfOk result (λ a. action_tree a ≡ A.set_action scope.now (set_tree set.now)) }
-    ensures err { IfErr result (λ e. Tells e (S.set_faults scope.now (set_tree set.now))) }
-{
-    match &set.lvalue {
-        Lvalue::Variable(name) => {
-            let target = ok!(check_target(scope, name));
-            let Typed { term, .. } = ok!(check_expression(alloc, scope, &set.value));
-            Ok(Action::Give(target, Value::Term(term)))
-        }
-        Lvalue::Element(name, index) => check_store(alloc, scope, name, index, &set.value),
-    }
-}
-
 /// The declaration of a local, with its value if it has one.
 #[tactic(auto, using(c_checker_rules::proofs::Firsts::tells_front, c_checker_rules::proofs::Firsts::tells_behind))]
 pub(crate) fn check_declaration(
@@ -141,14 +129,32 @@ pub(crate) fn check_declaration(
         None => Ok(Action::Declare(number)),
         Some(value) => {
             let value = ok!(check_value(alloc, functions, &here.scope, value));
-            let given = Action::Give(Target::Local(number), value);
-            Ok(two(alloc, Action::Declare(number), given)?)
+            Ok(declared_as(alloc, number, value)?)
         }
     }
 }
 
-/// How a `for` begins.
+/// A `for` begins with the declaration of a local.
 #[tactic(auto, using(c_checker_rules::proofs::Firsts::tells_front, c_checker_rules::proofs::Firsts::tells_behind))]
+fn check_local_start(
+    alloc: Global,
+    depth: u32,
+    here: &mut Here,
+    kind: IntegerType,
+    name: &Identifier,
+    value: &Expression,
+) -> Result<Action, CheckError>
+    ensures ok { OnOk result (S.start_faults depth here.old (local_start kind name.now value.now) ≡ []) }
+    ensures action { IfOk result (λ a. action_tree a ≡ A.start_action depth here.old (local_start kind name.now value.now)) }
+    ensures here { OnOk result (here.new ≡ S.with_start depth here.old (local_start kind name.now value.now)) }
+    ensures err { IfErr result (λ e. Tells e (S.start_faults depth here.old (local_start kind name.now value.now))) }
+{
+    let number = ok!(declare_local(depth, here, kind, name));
+    let Typed { term, .. } = ok!(check_expression(alloc, &here.scope, value));
+    Ok(declared_as(alloc, number, Value::Term(term))?)
+}
+
+/// How a `for` begins.
 pub(crate) fn check_start(
     alloc: Global,
     depth: u32,
@@ -164,10 +170,7 @@ pub(crate) fn check_start(
         ForStart::Nothing => Ok(Action::Nothing),
         ForStart::Set(set) => check_set(alloc, &here.scope, set),
         ForStart::Local(kind, name, value) => {
-            let number = ok!(declare_local(depth, here, *kind, name));
-            let Typed { term, .. } = ok!(check_expression(alloc, &here.scope, value));
-            let given = Action::Give(Target::Local(number), Value::Term(term));
-            Ok(two(alloc, Action::Declare(number), given)?)
+            check_local_start(alloc, depth, here, *kind, name, value)
         }
     }
 }

@@ -8,11 +8,14 @@ ghost use Rattle.c_program.specs.Views.{action_tree, actions_tree};
 ghost use Rattle.c_checker_rules.specs.Told.{Tells};
 ghost use Rattle.c_checker_rules.specs.Locals.{deeper, looping, left};
 ghost use Rattle.c_checker_rules.specs.Statements as S;
+ghost use Rattle.c_checker_rules.specs.Actions as A;
 ghost use Rattle.c_checker_bodies.specs.Sources.{faults_in, action_for, faults_in_all, actions_for, block_actions, behind_all};
+ghost use Rattle.c_checker_bodies.specs.Holders.{if_tree, while_tree, do_tree};
 ghost use Rattle.c_checker_bodies.specs.ForSources.{NoneInFor, TellsOfFor, IsFor, behind_for};
 
+use crate::changes::check_change;
 use crate::here::Here;
-use crate::loops::check_heads;
+use crate::loops::{check_heads, do_of};
 use crate::parts::{
     check_assignment, check_call_alone, check_declaration, check_return, check_store, in_loop,
 };
@@ -62,7 +65,7 @@ fn nothing(alloc: Global) -> Result<Box<Action>, CheckError>
 
 /// The action that a statement stands for, or the first fault in it. What it declares is declared here.
 #[cycle(statements)]
-#[tactic(auto, using(c_checker_rules::proofs::Firsts::tells_front, c_checker_rules::proofs::Firsts::tells_behind, crate::proofs::Heights::if_low, crate::proofs::Heights::holds_low, crate::proofs::Heights::other_low, crate::proofs::Heights::for_low, crate::proofs::Blocks::view_block, c_program::proofs::Sequences::view_sequence))]
+#[tactic(auto, using(c_checker_rules::proofs::Firsts::tells_front, c_checker_rules::proofs::Firsts::tells_behind, crate::proofs::Heights::if_low, crate::proofs::Heights::holds_low, crate::proofs::Heights::other_low, crate::proofs::Heights::do_low, crate::proofs::Heights::for_low, crate::proofs::Blocks::view_block, c_program::proofs::Sequences::view_sequence))]
 fn check_statement(
     alloc: Global,
     functions: &Functions,
@@ -92,12 +95,9 @@ fn check_statement(
         Statement::Store(name, index, value) => {
             check_store(alloc, &here.scope, name, index, value)
         }
+        Statement::Change(change) => check_change(alloc, &here.scope, change),
         Statement::If(condition, inner) => {
-            let condition = ok!(check_expression(alloc, &here.scope, condition));
-            let holds = check_inner(alloc, functions, context, here, inner);
-            let (condition, holds) = ok!(beside(condition.term, holds));
-            let (condition, other) = ok!(beside(condition, nothing(alloc)));
-            Ok(Action::If(condition, holds, other))
+            check_if(alloc, functions, context, here, inner, condition)
         }
         Statement::IfElse(condition, inner, other) => {
             let condition = ok!(check_expression(alloc, &here.scope, condition));
@@ -108,11 +108,10 @@ fn check_statement(
             Ok(Action::If(condition, holds, other))
         }
         Statement::While(condition, inner) => {
-            let condition = ok!(check_expression(alloc, &here.scope, condition));
-            let body = check_inner(alloc, functions, looping(context), here, inner);
-            let (condition, body) = ok!(beside(condition.term, body));
-            let (condition, behind) = ok!(beside(condition, nothing(alloc)));
-            Ok(Action::Loop(condition, body, behind))
+            check_while(alloc, functions, context, here, inner, condition)
+        }
+        Statement::Do(inner, condition) => {
+            check_do(alloc, functions, context, here, inner, condition)
         }
         Statement::For(head, inner) => {
             let ForHead {
@@ -159,6 +158,77 @@ fn check_inner(
     let action = ok!(check_statement(alloc, functions, context, here, statement));
     leave(here, mark);
     Ok(Box::new(alloc, action)?)
+}
+
+/// `if` without `else`, in this context.
+#[cycle(statements)]
+#[tactic(auto, using(c_checker_rules::proofs::Firsts::tells_front, c_checker_rules::proofs::Firsts::tells_behind))]
+fn check_if(
+    alloc: Global,
+    functions: &Functions,
+    context: Context,
+    here: &mut Here,
+    inner: &Statement,
+    condition: &Expression,
+) -> Result<Action, CheckError>
+    requires { context.depth + statement_height (statement_tree inner.now) ≤ 1000 }
+    ensures ok { OnOk result (S.statement_faults functions.now context here.old (if_tree inner.now condition.now) ≡ []) }
+    ensures action { IfOk result (λ a. action_tree a ≡ A.action_of functions.now context.depth here.old (if_tree inner.now condition.now)) }
+    ensures here { OnOk result (here.new ≡ S.after context.depth here.old (if_tree inner.now condition.now)) }
+    ensures err { IfErr result (λ e. Tells e (S.statement_faults functions.now context here.old (if_tree inner.now condition.now))) }
+{
+    let condition = ok!(check_expression(alloc, &here.scope, condition));
+    let holds = check_inner(alloc, functions, context, here, inner);
+    let (condition, holds) = ok!(beside(condition.term, holds));
+    let (condition, other) = ok!(beside(condition, nothing(alloc)));
+    Ok(Action::If(condition, holds, other))
+}
+
+/// `while`, in this context.
+#[cycle(statements)]
+#[tactic(auto, using(c_checker_rules::proofs::Firsts::tells_front, c_checker_rules::proofs::Firsts::tells_behind))]
+fn check_while(
+    alloc: Global,
+    functions: &Functions,
+    context: Context,
+    here: &mut Here,
+    inner: &Statement,
+    condition: &Expression,
+) -> Result<Action, CheckError>
+    requires { context.depth + statement_height (statement_tree inner.now) ≤ 1000 }
+    ensures ok { OnOk result (S.statement_faults functions.now context here.old (while_tree inner.now condition.now) ≡ []) }
+    ensures action { IfOk result (λ a. action_tree a ≡ A.action_of functions.now context.depth here.old (while_tree inner.now condition.now)) }
+    ensures here { OnOk result (here.new ≡ S.after context.depth here.old (while_tree inner.now condition.now)) }
+    ensures err { IfErr result (λ e. Tells e (S.statement_faults functions.now context here.old (while_tree inner.now condition.now))) }
+{
+    let condition = ok!(check_expression(alloc, &here.scope, condition));
+    let body = check_inner(alloc, functions, looping(context), here, inner);
+    let (condition, body) = ok!(beside(condition.term, body));
+    let (condition, behind) = ok!(beside(condition, nothing(alloc)));
+    Ok(Action::Loop(condition, body, behind))
+}
+
+/// `do`, whose condition stands outside of its body's scope (C99 6.8.5), in this context.
+#[cycle(statements)]
+#[tactic(auto, using(c_checker_rules::proofs::Firsts::tells_front, c_checker_rules::proofs::Firsts::tells_behind))]
+fn check_do(
+    alloc: Global,
+    functions: &Functions,
+    context: Context,
+    here: &mut Here,
+    inner: &Statement,
+    condition: &Expression,
+) -> Result<Action, CheckError>
+    requires { context.depth + statement_height (statement_tree inner.now) ≤ 1000 }
+    ensures ok { OnOk result (S.statement_faults functions.now context here.old (do_tree inner.now condition.now) ≡ []) }
+    ensures action { IfOk result (λ a. action_tree a ≡ A.action_of functions.now context.depth here.old (do_tree inner.now condition.now)) }
+    ensures here { OnOk result (here.new ≡ S.after context.depth here.old (do_tree inner.now condition.now)) }
+    ensures err { IfErr result (λ e. Tells e (S.statement_faults functions.now context here.old (do_tree inner.now condition.now))) }
+{
+    let body = ok!(check_inner(alloc, functions, looping(context), here, inner));
+    let condition = check_expression(alloc, &here.scope, condition);
+    let (body, condition) = ok!(beside(body, condition));
+    Ok(do_of(alloc, body, condition.term)?)
 }
 
 /// The statements of a block in this context. Its scope is deeper, and its names are forgotten behind it.

@@ -1,3 +1,4 @@
+pub mod Changes
 pub mod Firsts
 pub mod Lists
 pub mod Scopes

@@ -1,7 +1,7 @@
--- What a statement stands for (C99 6.8): its names are resolved, each declaration is reached where it stands, and all three
+-- What a statement stands for (C99 6.8): its names are resolved, each declaration is reached where it stands, and all
 -- loops are one.
 use Rattle.std.specs.Prelude.{ℕ, suc, Option, Some, None}
-use Rattle.c_syntax.specs.Trees.{ExpressionTree, ValueTree, LvalueTree, SetTree, LocalTree, StartTree, StatementTree, StatementsTree}
+use Rattle.c_syntax.specs.Trees.{ExpressionTree, ValueTree, LvalueTree, ChangeTree, SetTree, LocalTree, StartTree, StatementTree, StatementsTree}
 use Rattle.c_syntax.specs.Trees as T
 use Rattle.c_program.specs.declared.action.Target.{Target}
 use Rattle.c_program.specs.declared.action.Target.TheVariants as G
@@ -10,7 +10,9 @@ use Rattle.c_program.specs.Trees as P
 use Rattle.c_checker_rules.specs.declared.meaning.Meaning.{Meaning}
 use Rattle.c_checker_rules.specs.declared.meaning.Meaning.TheVariants as M
 use Rattle.c_checker_rules.specs.Names.{Scope, meaning_of}
-use Rattle.c_checker_rules.specs.Terms.{array_number, term_of}
+use Rattle.c_syntax.specs.Signs.{binary_of}
+use Rattle.c_checker_rules.specs.Types.{variable_type, type_of}
+use Rattle.c_checker_rules.specs.Terms.{array_number, variable_term, binary_term, change_operator, term_of}
 use Rattle.c_checker_rules.specs.Calls.{Functions, call_given, value_given}
 use Rattle.c_checker_rules.specs.Locals.{Here, left, with_local}
 use Rattle.c_checker_rules.specs.Statements.{with_start, after}
@@ -31,12 +33,27 @@ abbrev pub declared : Functions → Scope → ℕ → Option ValueTree → Actio
 declared f scope n None = P.Declare n
 declared f scope n (Some v) = two (P.Declare n) (P.Give (G.Local n) (value_given f scope v))
 
-abbrev pub set_action : Scope → SetTree → ActionTree
-set_action scope s = set_lvalue s.lvalue (term_of scope s.value)
+-- an lvalue becomes a word
+abbrev pub set_lvalue : Scope → LvalueTree → TermTree → ActionTree
+set_lvalue scope (T.Name x) e = P.Give (target_of (meaning_of scope x)) (P.Plain e)
+set_lvalue scope (T.Cell a i) e = P.Store (array_number (meaning_of scope a)) (term_of scope i) e
+
+-- `t op= e` is `t = t op (e)`, but that t is evaluated once (6.5.16.2)
+abbrev pub change_action : Scope → ChangeTree → ActionTree
+change_action scope c = change c.lvalue
   where
-    set_lvalue : LvalueTree → TermTree → ActionTree
-    set_lvalue (T.Name x) e = P.Give (target_of (meaning_of scope x)) (P.Plain e)
-    set_lvalue (T.Cell a i) e = P.Store (array_number (meaning_of scope a)) (term_of scope i) e
+    change : LvalueTree → ActionTree
+    change (T.Name x) =
+        set_lvalue scope (T.Name x)
+        (binary_term (binary_of c.operator) (variable_type (meaning_of scope x)) (type_of scope c.value)
+        (variable_term (meaning_of scope x)) (term_of scope c.value))
+    change (T.Cell a i) =
+        P.Update (array_number (meaning_of scope a)) (term_of scope i)
+        (change_operator c.operator (variable_type (meaning_of scope a)) (type_of scope c.value)) (term_of scope c.value)
+
+abbrev pub set_action : Scope → SetTree → ActionTree
+set_action scope (T.Becomes l e) = set_lvalue scope l (term_of scope e)
+set_action scope (T.Changes c) = change_action scope c
 
 abbrev pub start_action : ℕ → Here → StartTree → ActionTree
 start_action depth h T.StartNothing = P.Nothing
@@ -65,10 +82,13 @@ abbrev mutual
   action_of f depth h (T.Call c) = P.Give G.Nowhere (call_given f h.scope c)
   action_of f depth h (T.Assign x v) = P.Give (target_of (meaning_of h.scope x)) (value_given f h.scope v)
   action_of f depth h (T.Store a i e) = P.Store (array_number (meaning_of h.scope a)) (term_of h.scope i) (term_of h.scope e)
+  action_of f depth h (T.Change c) = change_action h.scope c
   action_of f depth h (T.If e s) = P.If (term_of h.scope e) (action_of f depth h s) P.Nothing
   action_of f depth h (T.IfElse e s t) =
       P.If (term_of h.scope e) (action_of f depth h s) (action_of f depth (left h (after depth h s)) t)
   action_of f depth h (T.While e s) = P.Loop (term_of h.scope e) (action_of f depth h s) P.Nothing
+  action_of f depth h (T.Do s e) =
+      P.Loop (P.Constant 1) (action_of f depth h s) (P.If (term_of h.scope e) P.Nothing P.Continue)
   action_of f depth h (T.For start e step s) =
       two (start_action (suc depth) h start)
       (P.Loop (condition (with_start (suc depth) h start).scope e)

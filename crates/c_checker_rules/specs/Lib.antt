@@ -8,6 +8,7 @@ pub mod Calls
 pub mod Locals
 pub mod Statements
 pub mod Actions
+pub mod Updates
 pub mod Globals
 pub mod Functions
 pub mod Units

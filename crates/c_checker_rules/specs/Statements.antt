@@ -2,7 +2,7 @@
 use Rattle.std.specs.Prelude.{ℕ, suc, List, [], ◌∷◌, ◌++◌, Option, Some, None, false}
 use Rattle.c_syntax.specs.declared.declaration.ReturnType.{ReturnType}
 use Rattle.c_syntax.specs.declared.declaration.ReturnType.TheVariants as R
-use Rattle.c_syntax.specs.Trees.{ExpressionTree, ValueTree, LvalueTree, SetTree, LocalTree, StartTree, StatementTree, StatementsTree}
+use Rattle.c_syntax.specs.Trees.{ExpressionTree, ValueTree, LvalueTree, ChangeTree, SetTree, LocalTree, StartTree, StatementTree, StatementsTree}
 use Rattle.c_syntax.specs.Trees as T
 use Rattle.c_checker_rules.specs.declared.errors.CheckError.{CheckError}
 use Rattle.c_checker_rules.specs.declared.errors.CheckError.TheVariants.{VoidValue, StrayBreak}
@@ -27,9 +27,11 @@ abbrev mutual
   after depth h (T.Call c) = h
   after depth h (T.Assign x v) = h
   after depth h (T.Store a i e) = h
+  after depth h (T.Change c) = h
   after depth h (T.If e s) = left h (after depth h s)
   after depth h (T.IfElse e s t) = left h (after depth (left h (after depth h s)) t)
   after depth h (T.While e s) = left h (after depth h s)
+  after depth h (T.Do s e) = left h (after depth h s)
   after depth h (T.For start e step s) = left h (after (suc depth) (with_start (suc depth) h start) s)
   after depth h (T.Break at) = h
   after depth h (T.Continue at) = h
@@ -48,8 +50,12 @@ abbrev pub lvalue_faults : Scope → LvalueTree → List CheckError
 lvalue_faults scope (T.Name x) = variable_faults (meaning_of scope x) x.offset
 lvalue_faults scope (T.Cell a e) = array_faults (meaning_of scope a) a.offset ++ expression_faults scope e
 
+abbrev pub change_faults : Scope → ChangeTree → List CheckError
+change_faults scope c = lvalue_faults scope c.lvalue ++ expression_faults scope c.value
+
 abbrev pub set_faults : Scope → SetTree → List CheckError
-set_faults scope s = lvalue_faults scope s.lvalue ++ expression_faults scope s.value
+set_faults scope (T.Becomes l e) = lvalue_faults scope l ++ expression_faults scope e
+set_faults scope (T.Changes c) = change_faults scope c
 
 -- The scope of a local begins before its value (6.2.1, paragraph 7).
 abbrev pub start_faults : ℕ → Here → StartTree → List CheckError
@@ -76,10 +82,12 @@ abbrev mutual
   statement_faults f p h (T.Call c) = call_faults f h.scope false c
   statement_faults f p h (T.Assign x v) = variable_faults (meaning_of h.scope x) x.offset ++ value_faults f h.scope v
   statement_faults f p h (T.Store a i e) = array_faults (meaning_of h.scope a) a.offset ++ expression_faults h.scope i ++ expression_faults h.scope e
+  statement_faults f p h (T.Change c) = change_faults h.scope c
   statement_faults f p h (T.If e s) = expression_faults h.scope e ++ statement_faults f p h s
   statement_faults f p h (T.IfElse e s t) =
       expression_faults h.scope e ++ statement_faults f p h s ++ statement_faults f p (left h (after p.depth h s)) t
   statement_faults f p h (T.While e s) = expression_faults h.scope e ++ statement_faults f (looping p) h s
+  statement_faults f p h (T.Do s e) = statement_faults f (looping p) h s ++ expression_faults h.scope e
   statement_faults f p h (T.For start e step s) =
       start_faults (suc p.depth) h start
       ++ optional_faults (expression_faults (with_start (suc p.depth) h start).scope) e

@@ -10,6 +10,8 @@ use Rattle.c_syntax.specs.declared.expression.UnaryOperator.{UnaryOperator}
 use Rattle.c_syntax.specs.declared.expression.UnaryOperator.TheVariants as U
 use Rattle.c_syntax.specs.declared.expression.BinaryOperator.{BinaryOperator}
 use Rattle.c_syntax.specs.declared.expression.BinaryOperator.TheVariants as B
+use Rattle.c_syntax.specs.declared.expression.AssignOperator.{AssignOperator}
+use Rattle.c_syntax.specs.declared.expression.AssignOperator.TheVariants as A
 use Rattle.c_syntax.specs.Trees.{ExpressionTree}
 use Rattle.c_syntax.specs.Trees as T
 use Rattle.c_program.specs.Trees.{TermTree}
@@ -66,6 +68,19 @@ binary_term B.Subtract s t a b = P.Binary (by_type (common s t) O.SubS O.SubU) a
 binary_term B.Multiply s t a b = P.Binary (by_type (common s t) O.MulS O.MulU) a b
 binary_term B.Divide s t a b = P.Binary (by_type (common s t) O.DivS O.DivU) a b
 binary_term B.Remainder s t a b = P.Binary (by_type (common s t) O.ModS O.ModU) a b
+
+-- the operator of a compound assignment (6.5.16.2): s and t are the types of the lvalue and of the value
+abbrev pub change_operator : AssignOperator → IntegerType → IntegerType → Op
+change_operator A.Multiply s t = by_type (common s t) O.MulS O.MulU
+change_operator A.Divide s t = by_type (common s t) O.DivS O.DivU
+change_operator A.Remainder s t = by_type (common s t) O.ModS O.ModU
+change_operator A.Add s t = by_type (common s t) O.AddS O.AddU
+change_operator A.Subtract s t = by_type (common s t) O.SubS O.SubU
+change_operator A.ShiftLeft s t = by_type s O.ShlS O.ShlU
+change_operator A.ShiftRight s t = by_type s O.ShrS O.ShrU
+change_operator A.And s t = O.And
+change_operator A.Xor s t = O.Xor
+change_operator A.Or s t = O.Or
 
 abbrev pub term_of : Scope → ExpressionTree → TermTree
 term_of scope (T.Number c) = P.Constant c.value

@@ -4,12 +4,14 @@
 
 mod context;
 mod errors;
+mod law;
 mod meaning;
 mod program;
 mod signature;
 
 pub use context::Context;
 pub use errors::CheckError;
+pub use law::updates_as_assigned;
 pub use meaning::Meaning;
 pub use program::CProgram;
 pub use signature::Signature;

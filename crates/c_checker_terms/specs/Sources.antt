@@ -4,6 +4,8 @@ use Rattle.c_syntax.specs.declared.identifier.Identifier.{Identifier}
 use Rattle.c_syntax.specs.declared.constant.IntegerType.{IntegerType}
 use Rattle.c_syntax.specs.declared.expression.Expression.{Expression}
 use Rattle.c_syntax.specs.declared.expression.BinaryOperator.{BinaryOperator}
+use Rattle.c_syntax.specs.declared.expression.AssignOperator.{AssignOperator}
+use Rattle.c_syntax.specs.Signs.{binary_of}
 use Rattle.c_syntax.specs.Views.{expression_tree}
 use Rattle.c_program.specs.declared.term.Term.{Term}
 use Rattle.c_program.specs.Trees.{TermTree, Conditional}
@@ -29,3 +31,7 @@ choice_tree condition then other = Conditional (term_tree condition) (term_tree 
 -- an operator on two terms of these types
 abbrev pub binary_tree : BinaryOperator → IntegerType → IntegerType → Term → Term → TermTree
 binary_tree operator left right a b = binary_term operator left right (term_tree a) (term_tree b)
+
+-- the operator of a compound assignment on a variable and a value of these types
+abbrev pub changed_tree : AssignOperator → IntegerType → IntegerType → Term → Term → TermTree
+changed_tree operator left right a b = binary_term (binary_of operator) left right (term_tree a) (term_tree b)

@@ -3,14 +3,17 @@
 #![tactic(auto)]
 
 mod calls;
+mod changes;
 mod constants;
 mod expressions;
 mod functions;
 mod names;
 mod parts;
 mod typed;
+mod ways;
 
 pub use calls::{check_call, check_value, is_putchar};
+pub use changes::{change_operator, changed};
 pub use constants::{constant_value, has_name};
 pub use expressions::check_expression;
 pub use functions::Functions;

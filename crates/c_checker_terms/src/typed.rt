@@ -7,6 +7,7 @@ ghost use Rattle.c_checker_rules.specs.Types.{common, unary_type, binary_type};
 ghost use Rattle.c_checker_rules.specs.Terms.{by_type, unary_term, binary_term};
 ghost use Rattle.c_checker_terms.specs.Sources.{binary_tree, choice_tree};
 
+use crate::ways::{Way, way_of};
 use c_program::Term;
 use c_syntax::{BinaryOperator, IntegerType, UnaryOperator};
 use ints::Op;
@@ -22,7 +23,7 @@ pub struct Typed {
 }
 
 /// The type that two operands are brought to (C99 6.3.1.8).
-fn common(left: IntegerType, right: IntegerType) -> IntegerType
+pub(crate) fn common(left: IntegerType, right: IntegerType) -> IntegerType
     ensures { result ≡ common left right }
 {
     match left {
@@ -32,7 +33,7 @@ fn common(left: IntegerType, right: IntegerType) -> IntegerType
 }
 
 /// The operator for `int`, or the one for `unsigned int`.
-fn by_type(kind: IntegerType, signed: Op, unsigned: Op) -> Op
+pub(crate) fn by_type(kind: IntegerType, signed: Op, unsigned: Op) -> Op
     ensures { result ≡ by_type kind signed unsigned }
 {
     match kind {
@@ -93,7 +94,12 @@ fn binary_type(operator: BinaryOperator, left: IntegerType, right: IntegerType) 
 }
 
 /// An operator of the tables on two terms.
-fn applied(alloc: Global, operator: Op, left: Term, right: Term) -> Result<Term, NoMemory>
+pub(crate) fn applied(
+    alloc: Global,
+    operator: Op,
+    left: Term,
+    right: Term,
+) -> Result<Term, NoMemory>
     ensures { IfOk result (λ t. term_tree t ≡ P.Binary operator (term_tree left) (term_tree right)) }
 {
     let (left, right) = ok!(boxes(alloc, left, right));
@@ -110,40 +116,16 @@ fn binary_term(
 ) -> Result<Term, NoMemory>
     ensures { IfOk result (λ t. term_tree t ≡ binary_term operator kinds.0 kinds.1 (term_tree left) (term_tree right)) }
 {
-    let kind = common(kinds.0, kinds.1);
-    let shifted = kinds.0;
-    match operator {
-        BinaryOperator::LogicalOr => {
+    match way_of(operator, kinds) {
+        Way::Applied(chosen) => applied(alloc, chosen, left, right),
+        Way::Swapped(chosen) => applied(alloc, chosen, right, left),
+        Way::Either => {
             let (left, right) = ok!(boxes(alloc, left, right));
             Ok(Term::Either(left, right))
         }
-        BinaryOperator::LogicalAnd => {
+        Way::Both => {
             let (left, right) = ok!(boxes(alloc, left, right));
             Ok(Term::Both(left, right))
-        }
-        BinaryOperator::Or => applied(alloc, Op::Or, left, right),
-        BinaryOperator::Xor => applied(alloc, Op::Xor, left, right),
-        BinaryOperator::And => applied(alloc, Op::And, left, right),
-        BinaryOperator::Equal => applied(alloc, Op::Eq, left, right),
-        BinaryOperator::NotEqual => applied(alloc, Op::Ne, left, right),
-        BinaryOperator::Less => applied(alloc, by_type(kind, Op::LtS, Op::LtU), left, right),
-        BinaryOperator::Greater => applied(alloc, by_type(kind, Op::LtS, Op::LtU), right, left),
-        BinaryOperator::LessEqual => applied(alloc, by_type(kind, Op::LeS, Op::LeU), left, right),
-        BinaryOperator::GreaterEqual => {
-            applied(alloc, by_type(kind, Op::LeS, Op::LeU), right, left)
-        }
-        BinaryOperator::ShiftLeft => {
-            applied(alloc, by_type(shifted, Op::ShlS, Op::ShlU), left, right)
-        }
-        BinaryOperator::ShiftRight => {
-            applied(alloc, by_type(shifted, Op::ShrS, Op::ShrU), left, right)
-        }
-        BinaryOperator::Add => applied(alloc, by_type(kind, Op::AddS, Op::AddU), left, right),
-        BinaryOperator::Subtract => applied(alloc, by_type(kind, Op::SubS, Op::SubU), left, right),
-        BinaryOperator::Multiply => applied(alloc, by_type(kind, Op::MulS, Op::MulU), left, right),
-        BinaryOperator::Divide => applied(alloc, by_type(kind, Op::DivS, Op::DivU), left, right),
-        BinaryOperator::Remainder => {
-            applied(alloc, by_type(kind, Op::ModS, Op::ModU), left, right)
         }
     }
 }

@@ -1,4 +1,4 @@
-use Rattle.std.proofs.Common.{◌≡◌, ◌++◌}
+use Rattle.std.proofs.Common.{◌++◌}
 use Rattle.std.proofs.lemmas.Result.{err_from_is_err_and, IfOk-weaker, IfErr-weaker, MatchResult-from_both}
 use Rattle.c_checker_rules.specs.Expressions.{expression_faults}
 use Rattle.c_checker_terms.proofs.Checked.{faults_told, no_faults, none_in_both, none_or_told, first_told}
