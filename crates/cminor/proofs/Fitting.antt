@@ -1,6 +1,5 @@
 -- The parts of a statement that is in range are in range.
-use Rattle.std.proofs.Common.{ℕ, List, [], ◌∷◌, Option, Some, None, map, arith}
-use Rattle.std.specs.Prelude.{All}
+use Rattle.std.proofs.Common.{ℕ, List, [], ◌∷◌, Option, Some, None, map, arith, All}
 use Rattle.std.specs.List.{AllByRecursion}
 use Rattle.std.proofs.lemmas.List.Elements.{All-from_recursion}
 use Rattle.c_program.specs.declared.term.Term.{Term}

@@ -1,6 +1,5 @@
 -- What is known of each function that a program is lowered to, said of the functions that it is lowered from.
-use Rattle.std.proofs.Common.{List, [], ◌∷◌, map}
-use Rattle.std.specs.Prelude.{All}
+use Rattle.std.proofs.Common.{List, [], ◌∷◌, map, All}
 use Rattle.std.specs.List.{AllByRecursion}
 use Rattle.std.proofs.lemmas.List.Elements.{All-from_recursion}
 use Rattle.c_program.specs.declared.function.Function.{Function}

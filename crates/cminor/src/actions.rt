@@ -8,7 +8,7 @@ ghost use Rattle.cminor_syntax.specs.Views.{statement_tree};
 ghost use Rattle.cminor_lowering.specs.Actions.{low_action};
 
 use crate::lower_term;
-use crate::parts::{boxed, turns};
+use crate::parts::{boxed, turns, update};
 use crate::sequences::sequence_of;
 use crate::values::lower_given;
 use c_program::Action;
@@ -42,6 +42,11 @@ fn lower_action(alloc: Global, spare: u16, action: &Action) -> Result<Statement,
             let index = lower_term(alloc, index)?;
             let (index, word) = beside(index, lower_term(alloc, word))?;
             Ok(Statement::Store(*global as u16, index, word))
+        }
+        Action::Update(global, index, op, word) => {
+            let index = lower_term(alloc, index)?;
+            let (index, word) = beside(index, lower_term(alloc, word))?;
+            update(alloc, spare, *global as u16, index, *op, word)
         }
         Action::If(condition, then, other) => {
             let condition = lower_term(alloc, condition)?;

@@ -3,11 +3,13 @@
 ghost use Rattle.std.specs.Prelude.{◌≡◌, IfOk};
 ghost use Rattle.cminor_syntax.specs.Trees as T;
 ghost use Rattle.cminor_syntax.specs.Views.{expression_tree, statement_tree};
-ghost use Rattle.cminor_lowering.specs.Actions.{two};
+ghost use Rattle.cminor_lowering.specs.Actions.{two, update};
 ghost use Rattle.cminor.specs.Parts.{three_tree, turn_tree, turns_tree};
 
+use crate::choices;
 use cminor_codec::sequence;
 use cminor_syntax::{Expression, Statement};
+use ints::Op;
 use lang_base::NoMemory;
 use lang_parts::beside;
 use std::alloc::Global;
@@ -24,6 +26,33 @@ pub(crate) fn two(alloc: Global, first: Statement, second: Statement) -> Result<
     ensures { IfOk result (λ s. statement_tree s ≡ two (statement_tree first) (statement_tree second)) }
 {
     Ok(sequence(vec![in alloc; first, second]?))
+}
+
+/// The cell whose index a variable holds, in a box.
+fn held_cell(alloc: Global, variable: u16, global: u16) -> Result<Box<Expression>, NoMemory>
+    ensures { IfOk result (λ b. expression_tree b.value ≡ T.Load global (T.Variable variable)) }
+{
+    let index = choices::boxed(alloc, Expression::Variable(variable))?;
+    choices::boxed(alloc, Expression::Load(global, index))
+}
+
+/// A cell becomes what an operator gives of its word and another. The spare variable holds its index.
+pub(crate) fn update(
+    alloc: Global,
+    spare: u16,
+    global: u16,
+    index: Expression,
+    op: Op,
+    word: Expression,
+) -> Result<Statement, NoMemory>
+    ensures { IfOk result (λ s. statement_tree s ≡ update spare global (expression_tree index) op (expression_tree word)) }
+{
+    let (index, word) = beside(index, choices::boxed(alloc, word))?;
+    let (parts, cell) = beside((index, word), held_cell(alloc, spare, global))?;
+    let (index, word) = parts;
+    let becomes = Expression::Binary(op, cell, word);
+    let stores = Statement::Store(global, Expression::Variable(spare), becomes);
+    two(alloc, Statement::Assign(spare, index), stores)
 }
 
 /// Three statements, one after the other.

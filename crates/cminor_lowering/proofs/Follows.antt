@@ -4,6 +4,7 @@ use Rattle.std.specs.Prelude.{◌⊎◌}
 use Rattle.c_program.specs.Trees.{TermTree, ActionTree}
 use Rattle.c_program.specs.State as S
 use Rattle.c_program.specs.Meaning as C
+use Rattle.cminor_syntax.specs.Trees.{Done}
 use Rattle.cminor_syntax.specs.State as V
 use Rattle.cminor_syntax.specs.Meaning as M
 use Rattle.cminor_lowering.proofs.Sees.{Shares, Sees}
@@ -47,6 +48,15 @@ follows_goes_on spare next next' (C.Returns w s) m then f = (f.0, ap (M.goes_on 
 follows_goes_on spare next next' (C.RunsOut printed) m then f = ap (M.goes_on next') f
 follows_goes_on spare next next' (C.Fails printed) m then f = tt
 
+-- nothing behind the last statement
+pub closed_follows : (spare : ℕ) (lower : M.Level) (o : C.Outcome) (m : M.Outcome) → Follows spare o m → Follows spare o (M.goes_on (M.exec_all lower Done) m)
+closed_follows spare lower (C.Falls u) m f = (f.0, ap (M.goes_on (M.exec_all lower Done)) f.1, f.2)
+closed_follows spare lower (C.Breaks u) m f = (f.0, ap (M.goes_on (M.exec_all lower Done)) f.1, f.2)
+closed_follows spare lower (C.Continues u) m f = (f.0, ap (M.goes_on (M.exec_all lower Done)) f.1, f.2)
+closed_follows spare lower (C.Returns x u) m f = (f.0, ap (M.goes_on (M.exec_all lower Done)) f.1, f.2)
+closed_follows spare lower (C.RunsOut printed) m f = ap (M.goes_on (M.exec_all lower Done)) f
+closed_follows spare lower (C.Fails printed) m f = tt
+
 -- ---- loops
 
 -- the block round a loop is left where the loop ends
@@ -64,7 +74,7 @@ module _ (spare : ℕ) (lower : C.Level) (c : TermTree) (body behind : ActionTre
   behind_follows : (o : C.Outcome) (m : M.Outcome) → Follows spare o m → FollowsLoop spare (C.turns_again lower c body behind o) (M.goes_on loop (M.goes_on (λ t. M.Falls t) m))
   behind_follows (C.Falls s) m f = subst (λ x. FollowsLoop spare (lower (C.Turns c body behind) s) (M.goes_on loop (M.goes_on (λ t. M.Falls t) x))) (sym f.1) (again s f.0 f.2)
   behind_follows (C.Breaks s) m f = tt
-  behind_follows (C.Continues s) m f = tt
+  behind_follows (C.Continues s) m f = (f.0, ap (λ x. M.goes_on loop (M.goes_on (λ t. M.Falls t) x)) f.1, f.2)
   behind_follows (C.Returns w s) m f = (f.0, ap (λ x. M.goes_on loop (M.goes_on (λ t. M.Falls t) x)) f.1, f.2)
   behind_follows (C.RunsOut printed) m f = ap (λ x. M.goes_on loop (M.goes_on (λ t. M.Falls t) x)) f
   behind_follows (C.Fails printed) m f = tt

@@ -61,6 +61,7 @@ module _ (lower : C.Level) where
   return_leaves (T.Give (Local n) v) s u r e = absurd cc
   return_leaves (T.Give (Global g) v) s u r e = absurd cc
   return_leaves (T.Store g i e') s u r e = absurd cc
+  return_leaves (T.Update g i o e') s u r e = absurd cc
   return_leaves (T.If c a b) s u r e = absurd cc
   return_leaves (T.Loop c a b) s u r e = absurd cc
   return_leaves T.Break s u r e = absurd cc

@@ -13,7 +13,7 @@ use Rattle.cminor_lowering.specs.Terms.{low_term}
 use Rattle.cminor_lowering.specs.Actions.{low_plain, low_given_by}
 use Rattle.cminor_lowering.proofs.Sees.{Sees, sees_set, sees_spare, sees_with, spare_held}
 use Rattle.cminor_lowering.proofs.InitialWords.{value_keeps, word_keeps}
-use Rattle.cminor_lowering.proofs.Follows.{Follows, FollowsCall}
+use Rattle.cminor_lowering.proofs.Follows.{Follows, FollowsCall, closed_follows}
 
 -- a cell of a global becomes a word
 pub stores_follow : (spare g i w : ℕ) (s : S.State) (t : V.State) → Sees spare s t → Follows spare (C.stores g s (Some i) (Some w)) (M.stores g t (Some i) (Some w))
@@ -52,15 +52,7 @@ module _ (spare : ℕ) (lower : M.Level) (s : S.State) (t : V.State) (sees : See
       let held = spare_held spare w (base t globals output) sees.space in
       let stored = subst (λ x. Follows spare (C.stores g (base_of s globals output) (Some 0) (Some w)) (M.stores g now (Some 0) x)) (sym held) (stores_follow spare g 0 w (base_of s globals output) now with) in
       subst (λ o. Follows spare (C.stores g (base_of s globals output) (Some 0) (Some w)) (then (Store g (Number 0) (Variable spare)) o)) (sym (gives (Some spare)))
-      (closed (C.stores g (base_of s globals output) (Some 0) (Some w)) (M.stores g now (Some 0) (V.held spare now)) stored)
-    where
-      closed : (o : C.Outcome) (m : M.Outcome) → Follows spare o m → Follows spare o (M.goes_on (M.exec_all lower Done) m)
-      closed (C.Falls u) m f = (f.0, ap (M.goes_on (M.exec_all lower Done)) f.1, f.2)
-      closed (C.Breaks u) m f = (f.0, ap (M.goes_on (M.exec_all lower Done)) f.1, f.2)
-      closed (C.Continues u) m f = (f.0, ap (M.goes_on (M.exec_all lower Done)) f.1, f.2)
-      closed (C.Returns x u) m f = (f.0, ap (M.goes_on (M.exec_all lower Done)) f.1, f.2)
-      closed (C.RunsOut printed) m f = ap (M.goes_on (M.exec_all lower Done)) f
-      closed (C.Fails printed) m f = tt
+      (closed_follows spare lower (C.stores g (base_of s globals output) (Some 0) (Some w)) (M.stores g now (Some 0) (V.held spare now)) stored)
   given_follows Caller w globals output gives =
       let now = V.given (Some spare) (Some w) (base t globals output) in
       let held = spare_held spare w (base t globals output) sees.space in

@@ -34,7 +34,7 @@ Keeps x v = (w : ℕ) → x ≡ Some w → v ≡ Some (Some w)
 pub not_zero : (n : ℕ) → (suc n == 0) ≡ false
 not_zero n = search (rules)
 
-cell_keeps : (globals : List (List ℕ)) (g : ℕ) (x : Option ℕ) (v : Option (Option ℕ)) → Keeps x v → Keeps (option_and_then (cell_of globals g) x) (defined (option_and_then (M.cell globals g) (word_of v)))
+pub cell_keeps : (globals : List (List ℕ)) (g : ℕ) (x : Option ℕ) (v : Option (Option ℕ)) → Keeps x v → Keeps (option_and_then (cell_of globals g) x) (defined (option_and_then (M.cell globals g) (word_of v)))
 cell_keeps globals g None v keeps w e = absurd cc
 cell_keeps globals g (Some i) v keeps w e = rw (keeps i refl) (ap defined e)
 
@@ -42,7 +42,7 @@ unary_keeps : (o : Op) (x : Option ℕ) (v : Option (Option ℕ)) → Keeps x v 
 unary_keeps o None v keeps w e = absurd cc
 unary_keeps o (Some y) v keeps w e = rw (keeps y refl) (ap defined (answered o (y ∷ []) w e))
 
-binary_keeps : (o : Op) (x y : Option ℕ) (u v : Option (Option ℕ)) → Keeps x u → Keeps y v → Keeps (on_two o x y) (defined (option_and_then (machine_table o) (pair_of (word_of u) (word_of v))))
+pub binary_keeps : (o : Op) (x y : Option ℕ) (u v : Option (Option ℕ)) → Keeps x u → Keeps y v → Keeps (on_two o x y) (defined (option_and_then (machine_table o) (pair_of (word_of u) (word_of v))))
 binary_keeps o None y u v keeps also w e = absurd cc
 binary_keeps o (Some a) None u v keeps also w e = absurd cc
 binary_keeps o (Some a) (Some b) u v keeps also w e = rw (keeps a refl, also b refl) (ap defined (answered o (a ∷ b ∷ []) w e))

@@ -3,6 +3,7 @@ pub mod Sees
 pub mod InitialWords
 pub mod Follows
 pub mod Given
+pub mod Updates
 pub mod Statements
 pub mod Functions
 pub mod Levels

@@ -16,6 +16,7 @@ use Rattle.cminor_lowering.proofs.InitialWords.{word_keeps, words_keep}
 use Rattle.cminor_lowering.proofs.Follows.{Follows, FollowsLoop, FollowsCall, follows_goes_on, follows_loop, body_follows}
 use Rattle.cminor_lowering.proofs.Pieces.{exec_sequence}
 use Rattle.cminor_lowering.proofs.Given.{stores_follow, back_follows, put_follows, plain_follows}
+use Rattle.cminor_lowering.proofs.Updates.{update_follows}
 
 -- the loops and the calls of Cminor follow those of C, one bound less
 pub record LowerFollows (lower : C.Level) (lower' : M.Level) : Type 0 where
@@ -70,6 +71,7 @@ module _ (lower : C.Level) (lower' : M.Level) (follows : LowerFollows lower lowe
         subst (Follows spare (C.exec_all lower ss s)) (sym (exec_sequence lower' (low_actions spare ss) t)) (actions_follow ss s t sees)
     action_follows (T.Give target v) s t sees = gives_follow target v s t sees
     action_follows (T.Store g i e) s t sees = store_follows g i e s t sees (S.word i s) (S.word e s) refl refl
+    action_follows (T.Update g i o e) s t sees = update_follows spare lower' s t sees g i o e
     action_follows (T.If c a b) s t sees =
         choice_follows c s t (C.exec lower a s) (C.exec lower b s) (M.exec lower' (low_action spare a) t) (M.exec lower' (low_action spare b) t) sees (action_follows a s t sees) (action_follows b s t sees) (S.word c s) refl
     action_follows (T.Loop c body behind) s t sees =

@@ -1,12 +1,14 @@
 -- The statement of Cminor that an action of C stands for (C99 6.8; Leroy 2009, section 3.1). `continue` leaves the block round a
--- loop's body, and `break` the one round the loop. One variable more than the locals, the spare one, holds what a call or
--- `putchar` gives before it goes to a global or to the caller.
+-- loop's body, and `break` the one round the loop. What stands behind the body has no block of its own, so that `continue` there
+-- leaves the loop. One variable more than the locals, the spare one, holds what a call or `putchar` gives before it goes to a
+-- global or to the caller, and the index of a cell that is updated.
 use Rattle.std.specs.Prelude.{ℕ, Option, Some, None, map}
+use Rattle.ints.specs.declared.operators.Op.{Op}
 use Rattle.c_program.specs.declared.action.Target.{Target}
 use Rattle.c_program.specs.declared.action.Target.TheVariants.{Nowhere, Local, Global, Caller}
 use Rattle.c_program.specs.Trees.{TermTree, GivenTree, ActionTree, ActionsTree}
 use Rattle.c_program.specs.Trees as C
-use Rattle.cminor_syntax.specs.Trees.{ExpressionTree, StatementTree, StatementsTree, Number, Variable, Skip, Assign, Store, Call, Put, Sequence, If, Loop, Block, Exit, Return, Done, First}
+use Rattle.cminor_syntax.specs.Trees.{ExpressionTree, StatementTree, StatementsTree, Number, Variable, Load, Binary, Skip, Assign, Store, Call, Put, Sequence, If, Loop, Block, Exit, Return, Done, First}
 use Rattle.cminor_lowering.specs.Sequences.{sequence}
 use Rattle.cminor_lowering.specs.Terms.{low_term}
 
@@ -32,6 +34,10 @@ low_given spare target (C.Plain e) = low_plain target (low_term e)
 low_given spare target (C.Called f es) = low_given_by spare target (λ v. Call f v (map low_term es))
 low_given spare target (C.Put e) = low_given_by spare target (λ v. Put v (low_term e))
 
+-- a cell of a global becomes what an operator gives of its word and another: the index is evaluated once (C99 6.5.16.2)
+abbrev pub update : ℕ → ℕ → ExpressionTree → Op → ExpressionTree → StatementTree
+update spare g i o e = two (Assign spare i) (Store g (Variable spare) (Binary o (Load g (Variable spare)) e))
+
 -- a turn of a loop: its condition, its body, and what stands behind that
 abbrev pub turn : ExpressionTree → StatementTree → StatementTree → StatementTree
 turn c body behind = Sequence (First (If c Skip (Exit 0)) (First (Block body) (First behind Done)))
@@ -43,6 +49,7 @@ abbrev mutual
   low_action spare (C.Sequence ss) = sequence (low_actions spare ss)
   low_action spare (C.Give target v) = low_given spare target v
   low_action spare (C.Store g i e) = Store g (low_term i) (low_term e)
+  low_action spare (C.Update g i o e) = update spare g (low_term i) o (low_term e)
   low_action spare (C.If c s t) = If (low_term c) (low_action spare s) (low_action spare t)
   low_action spare (C.Loop c body behind) = Block (Loop (turn (low_term c) (low_action spare body) (low_action spare behind)))
   low_action spare C.Break = Exit 1

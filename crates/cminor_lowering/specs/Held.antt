@@ -35,6 +35,7 @@ abbrev mutual
   IsHeld (C.Sequence ss) = (action_count ss < action_limit) × AreHeld ss
   IsHeld (C.Give target v) = GivenHasWords v
   IsHeld (C.Store g i e) = HasWords i × HasWords e
+  IsHeld (C.Update g i o e) = HasWords i × HasWords e
   IsHeld (C.If c s t) = HasWords c × (IsHeld s × IsHeld t)
   IsHeld (C.Loop c s t) = HasWords c × (IsHeld s × IsHeld t)
   IsHeld C.Break = Unit {0}

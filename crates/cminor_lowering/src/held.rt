@@ -29,7 +29,7 @@ fn action_held(action: &Action)
             actions_held(all);
         }
         Action::Give(_, value) => value_words(value),
-        Action::Store(_, index, word) => {
+        Action::Store(_, index, word) | Action::Update(_, index, _, word) => {
             term_words(index);
             term_words(word);
         }

@@ -7,9 +7,11 @@ use Rattle.c_syntax.specs.declared.expression.UnaryOperator.{UnaryOperator}
 use Rattle.c_syntax.specs.declared.expression.UnaryOperator.TheVariants as U
 use Rattle.c_syntax.specs.declared.expression.BinaryOperator.{BinaryOperator}
 use Rattle.c_syntax.specs.declared.expression.BinaryOperator.TheVariants as B
+use Rattle.c_syntax.specs.declared.expression.AssignOperator.{AssignOperator}
 use Rattle.c_syntax.specs.Trees.{ExpressionTree, CallTree, ValueTree, LvalueTree, SetTree, StartTree, StatementTree, StatementsTree}
 use Rattle.c_syntax.specs.Trees as T
 use Rattle.c_syntax.specs.Heights as H
+use Rattle.c_syntax.specs.Signs.{binary_of}
 use Rattle.c_checker_scopes.specs.Bound.{found}
 use Rattle.c_program.specs.declared.action.Target.{Target}
 use Rattle.c_program.specs.declared.action.Target.TheVariants as G
@@ -18,12 +20,12 @@ use Rattle.c_program.specs.Trees as P
 use Rattle.c_checker_rules.specs.declared.meaning.Meaning.{Meaning}
 use Rattle.c_checker_rules.specs.declared.meaning.Meaning.TheVariants as M
 use Rattle.c_checker_rules.specs.Names.{Scope, meaning_of}
-use Rattle.c_checker_rules.specs.Types.{type_of}
+use Rattle.c_checker_rules.specs.Types.{variable_type, type_of}
 use Rattle.c_checker_rules.specs.Terms.{variable_term, unary_term, binary_term, term_of}
 use Rattle.c_checker_rules.specs.Calls.{Functions, is_putchar, first_of, number_of, call_given, value_given}
 use Rattle.c_checker_rules.specs.Locals.{Here, left, with_local}
 use Rattle.c_checker_rules.specs.Statements.{with_start, after}
-use Rattle.c_checker_rules.specs.Actions.{target_of, declared, set_action, start_action, condition, step_action, returned, action_of, actions_of}
+use Rattle.c_checker_rules.specs.Actions.{target_of, declared, change_action, set_action, start_action, condition, step_action, returned, action_of, actions_of}
 use Rattle.cminor_syntax.specs.Fits as F
 use Rattle.cminor_lowering.specs.Terms.{low_term}
 use Rattle.cminor_lowering.specs.Actions.{low_given, low_action, low_actions}
@@ -146,9 +148,11 @@ some_statement (T.Block s) = omega arith
 some_statement (T.Call c) = omega arith
 some_statement (T.Assign x v) = omega arith
 some_statement (T.Store a i e) = omega arith
+some_statement (T.Change c) = omega arith
 some_statement (T.If e s) = omega arith
 some_statement (T.IfElse e s t) = omega arith
 some_statement (T.While e s) = omega arith
+some_statement (T.Do s e) = omega arith
 some_statement (T.For start e step s) = omega arith
 some_statement (T.Break at) = omega arith
 some_statement (T.Continue at) = omega arith
@@ -163,14 +167,26 @@ give_plain_low n target scope e = omega (arith, give_low n target (P.Plain (term
 give_value_low : (n : ℕ) (target : Target) (f : Functions) (scope : Scope) (v : ValueTree) → action_height n (P.Give target (value_given f scope v)) ≤ 3 + 2 * H.value_height v
 give_value_low n target f scope v = omega (arith, give_low n target (value_given f scope v), value_low f scope v)
 
-set_low : (n : ℕ) (scope : Scope) (lvalue : LvalueTree) (value : ExpressionTree) →
-    action_height n (set_action scope (record { lvalue = lvalue; value = value })) ≤ 5 * H.set_height (record { lvalue = lvalue; value = value })
-set_low n scope (T.Name x) value = omega (arith, give_plain_low n (target_of (meaning_of scope x)) scope value)
-set_low n scope (T.Cell a i) value = omega (arith, term_low scope i, term_low scope value)
+becomes_low : (n : ℕ) (scope : Scope) (l : LvalueTree) (e : ExpressionTree) → action_height n (set_action scope (T.Becomes l e)) ≤ 5 * H.set_height (T.Becomes l e)
+becomes_low n scope (T.Name x) e = omega (arith, give_plain_low n (target_of (meaning_of scope x)) scope e)
+becomes_low n scope (T.Cell a i) e = omega (arith, term_low scope i, term_low scope e)
+
+change_low : (n : ℕ) (scope : Scope) (l : LvalueTree) (o : AssignOperator) (e : ExpressionTree) →
+    action_height n (change_action scope (record { lvalue = l; operator = o; value = e })) ≤ 5 * H.change_height (record { lvalue = l; operator = o; value = e })
+change_low n scope (T.Name x) o e =
+    let m = meaning_of scope x in
+    let old = variable_term m in
+    let new = binary_term (binary_of o) (variable_type m) (type_of scope e) old (term_of scope e) in
+    omega (arith, give_low n (target_of m) (P.Plain new), binary_low (binary_of o) (variable_type m) (type_of scope e) old (term_of scope e), variable_low m, term_low scope e)
+change_low n scope (T.Cell a i) o e = omega (arith, term_low scope i, term_low scope e)
+
+set_low : (n : ℕ) (scope : Scope) (s : SetTree) → action_height n (set_action scope s) ≤ 5 * H.set_height s
+set_low n scope (T.Becomes l e) = becomes_low n scope l e
+set_low n scope (T.Changes c) = change_low n scope c.lvalue c.operator c.value
 
 start_low : (n depth : ℕ) (h : Here) (start : StartTree) → action_height n (start_action depth h start) ≤ 1 + 5 * H.start_height start
 start_low n depth h T.StartNothing = omega arith
-start_low n depth h (T.StartSet s) = omega (arith, set_low n h.scope s.lvalue s.value)
+start_low n depth h (T.StartSet s) = omega (arith, set_low n h.scope s)
 start_low n depth h (T.StartLocal t x e) = omega (arith, give_plain_low n (G.Local h.locals) (with_local depth h t x).scope e)
 
 condition_low : (scope : Scope) (e : Option ExpressionTree) → term_height (condition scope e) ≤ 1 + 2 * H.optional_height H.expression_height e
@@ -179,7 +195,7 @@ condition_low scope (Some e) = omega (arith, term_low scope e)
 
 step_low : (n : ℕ) (scope : Scope) (step : Option SetTree) → action_height n (step_action scope step) ≤ 1 + 5 * H.optional_height H.set_height step
 step_low n scope None = omega arith
-step_low n scope (Some s) = omega (arith, set_low n scope s.lvalue s.value)
+step_low n scope (Some s) = omega (arith, set_low n scope s)
 
 declared_low : (n : ℕ) (f : Functions) (scope : Scope) (k : ℕ) (v : Option ValueTree) → action_height n (declared f scope k v) ≤ 5 * suc (max 1 (H.optional_height H.value_height v))
 declared_low n f scope k None = omega arith
@@ -219,6 +235,7 @@ module _ (n : ℕ) (f : Functions) where
     statement_low depth h (T.Call c) = omega (arith, give_low n G.Nowhere (call_given f h.scope c), call_low f h.scope c)
     statement_low depth h (T.Assign x v) = omega (arith, give_value_low n (target_of (meaning_of h.scope x)) f h.scope v)
     statement_low depth h (T.Store a i e) = omega (arith, term_low h.scope i, term_low h.scope e)
+    statement_low depth h (T.Change c) = change_low n h.scope c.lvalue c.operator c.value
     statement_low depth h (T.If e s) = omega (arith, term_low h.scope e, statement_low depth h s)
     statement_low depth h (T.IfElse e s t) = omega (arith, term_low h.scope e, statement_low depth h s, statement_low depth (left h (after depth h s)) t)
     statement_low depth h (T.While e s) =
@@ -227,6 +244,12 @@ module _ (n : ℕ) (f : Functions) where
         let c = term_low h.scope e in
         let inner = statement_low depth h s in
         loop_low n (5 * suc m) (term_of h.scope e) (action_of f depth h s) P.Nothing (omega arith) (omega arith) (omega arith)
+    statement_low depth h (T.Do s e) =
+        let m = max (H.statement_height s) (H.expression_height e) in
+        let some = some_statement s in
+        let c = term_low h.scope e in
+        let inner = statement_low depth h s in
+        loop_low n (5 * suc m) (P.Constant 1) (action_of f depth h s) (P.If (term_of h.scope e) P.Nothing P.Continue) (omega arith) (omega arith) (omega arith)
     statement_low depth h (T.For start e step s) =
         let inner = with_start (suc depth) h start in
         for_low n (H.start_height start) (H.optional_height H.expression_height e) (H.optional_height H.set_height step) (H.statement_height s)

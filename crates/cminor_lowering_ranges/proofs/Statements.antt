@@ -3,6 +3,8 @@ use Rattle.std.proofs.Common.{◌≡◌, ℕ, suc, ◌<◌, ◌≤◌, [], Optio
 use Rattle.std.specs.Prelude.{false}
 use Rattle.c_syntax.specs.declared.declaration.ReturnType.{ReturnType}
 use Rattle.c_syntax.specs.declared.declaration.ReturnType.TheVariants as R
+use Rattle.c_syntax.specs.declared.expression.AssignOperator.{AssignOperator}
+use Rattle.c_syntax.specs.Signs.{binary_of}
 use Rattle.c_syntax.specs.Trees.{ExpressionTree, ValueTree, LvalueTree, SetTree, StartTree, StatementTree, StatementsTree}
 use Rattle.c_syntax.specs.Trees as T
 use Rattle.c_program.specs.declared.action.Target.TheVariants as G
@@ -10,19 +12,20 @@ use Rattle.c_program.specs.Trees.{TermTree, ActionTree, ActionsTree}
 use Rattle.c_program.specs.Trees as P
 use Rattle.c_checker_rules.specs.declared.context.Context.{Context}
 use Rattle.c_checker_rules.specs.Names.{Scope, meaning_of}
-use Rattle.c_checker_rules.specs.Terms.{term_of}
+use Rattle.c_checker_rules.specs.Types.{variable_type, type_of}
+use Rattle.c_checker_rules.specs.Terms.{variable_term, term_of}
 use Rattle.c_checker_rules.specs.Expressions.{variable_faults, expression_faults}
 use Rattle.c_checker_rules.specs.Calls.{Functions, value_faults}
 use Rattle.c_checker_rules.specs.Locals.{Here, left, deeper, looping, local_faults, with_local}
 use Rattle.c_checker_rules.specs.Statements.{with_start, after, after_all, optional_faults, set_faults, start_faults, return_faults, statement_faults, statements_faults}
-use Rattle.c_checker_rules.specs.Actions.{target_of, declared, set_action, start_action, condition, step_action, returned, action_of, actions_of}
+use Rattle.c_checker_rules.specs.Actions.{target_of, declared, change_action, set_action, start_action, condition, step_action, returned, action_of, actions_of}
 use Rattle.cminor_syntax.specs.Fits.{StatementFits, StatementsFit, statement_count}
 use Rattle.cminor_lowering.specs.Actions.{low_action, low_actions}
 use Rattle.cminor_lowering.specs.Held.{HasWords, IsHeld, AreHeld, action_count}
 use Rattle.cminor_lowering.proofs.Pieces.{sequence_fits}
 use Rattle.cminor_lowering_ranges.proofs.Faults.{none_before, none_behind, three_parts, four_parts}
 use Rattle.cminor_lowering_ranges.proofs.Scopes.{ScopeFits, meant_fits, array_fits, target_fits}
-use Rattle.cminor_lowering_ranges.proofs.Terms.{TermFits, term_fits}
+use Rattle.cminor_lowering_ranges.proofs.Terms.{TermFits, variable_fits, binary_fits, two_arguments, term_fits}
 use Rattle.cminor_lowering_ranges.proofs.Values.{FunctionsFit, call_fits, value_fits, give_fits}
 use Rattle.cminor_lowering_ranges.proofs.Locals.{grows, all_grow, start_scope, scope_behind}
 
@@ -37,17 +40,33 @@ ActionFits n a = StatementFits (suc n) (low_action n a)
 loop_fits : (n : ℕ) (c : TermTree) (body behind : ActionTree) → TermFits n c → ActionFits n body → ActionFits n behind → ActionFits n (P.Loop c body behind)
 loop_fits n c body behind cond inner step = (omega arith, ((cond, (tt, omega arith)), (inner, (step, tt))))
 
-set_fits : (n : ℕ) (scope : Scope) (lvalue : LvalueTree) (value : ExpressionTree) → ScopeFits n scope →
-    IsHeld (set_action scope (record { lvalue = lvalue; value = value })) → ActionFits n (set_action scope (record { lvalue = lvalue; value = value }))
-set_fits n scope (T.Name x) value fits words =
-    give_fits n (target_of (meaning_of scope x)) (P.Plain (term_of scope value)) (target_fits n (meaning_of scope x) (meant_fits n scope x fits)) (term_fits n scope value fits words)
-set_fits n scope (T.Cell a i) value fits words =
-    (array_fits n (meaning_of scope a) (meant_fits n scope a fits), (term_fits n scope i fits words.0, term_fits n scope value fits words.1))
+becomes_fits : (n : ℕ) (scope : Scope) (l : LvalueTree) (e : ExpressionTree) → ScopeFits n scope →
+    IsHeld (set_action scope (T.Becomes l e)) → ActionFits n (set_action scope (T.Becomes l e))
+becomes_fits n scope (T.Name x) e fits words =
+    give_fits n (target_of (meaning_of scope x)) (P.Plain (term_of scope e)) (target_fits n (meaning_of scope x) (meant_fits n scope x fits)) (term_fits n scope e fits words)
+becomes_fits n scope (T.Cell a i) e fits words =
+    (array_fits n (meaning_of scope a) (meant_fits n scope a fits), (term_fits n scope i fits words.0, term_fits n scope e fits words.1))
+
+change_fits : (n : ℕ) (scope : Scope) (l : LvalueTree) (o : AssignOperator) (e : ExpressionTree) → ScopeFits n scope →
+    IsHeld (change_action scope (record { lvalue = l; operator = o; value = e })) → ActionFits n (change_action scope (record { lvalue = l; operator = o; value = e }))
+change_fits n scope (T.Name x) o e fits words =
+    let m = meaning_of scope x in
+    let there = meant_fits n scope x fits in
+    give_fits n (target_of m) (P.Plain _) (target_fits n m there)
+    (binary_fits n (variable_type m) (type_of scope e) (variable_term m) (term_of scope e) (λ w. variable_fits n m there) (term_fits n scope e fits) (binary_of o) words)
+change_fits n scope (T.Cell a i) o e fits words =
+    let there = array_fits n (meaning_of scope a) (meant_fits n scope a fits) in
+    let count = two_arguments o (variable_type (meaning_of scope a)) (type_of scope e) in
+    (omega arith, ((omega arith, term_fits n scope i fits words.0), ((there, (omega arith, (count, ((there, omega arith), term_fits n scope e fits words.1)))), tt)))
+
+set_fits : (n : ℕ) (scope : Scope) (s : SetTree) → ScopeFits n scope → IsHeld (set_action scope s) → ActionFits n (set_action scope s)
+set_fits n scope (T.Becomes l e) fits words = becomes_fits n scope l e fits words
+set_fits n scope (T.Changes c) fits words = change_fits n scope c.lvalue c.operator c.value fits words
 
 start_fits : (n depth : ℕ) (h : Here) (start : StartTree) → ScopeFits n h.scope → (with_start depth h start).locals ≤ n →
     IsHeld (start_action depth h start) → ActionFits n (start_action depth h start)
 start_fits n depth h T.StartNothing fits within words = tt
-start_fits n depth h (T.StartSet s) fits within words = set_fits n h.scope s.lvalue s.value fits words
+start_fits n depth h (T.StartSet s) fits within words = set_fits n h.scope s fits words
 start_fits n depth h (T.StartLocal t x e) fits within words =
     let inner = (with_local depth h t x).scope in
     (omega arith, (tt, (give_fits n (G.Local h.locals) (P.Plain (term_of inner e)) within (term_fits n inner e (within, fits) words.1.1.0), tt)))
@@ -58,7 +77,7 @@ condition_fits n scope (Some e) fits words = term_fits n scope e fits words
 
 step_fits : (n : ℕ) (scope : Scope) (step : Option SetTree) → ScopeFits n scope → IsHeld (step_action scope step) → ActionFits n (step_action scope step)
 step_fits n scope None fits words = tt
-step_fits n scope (Some s) fits words = set_fits n scope s.lvalue s.value fits words
+step_fits n scope (Some s) fits words = set_fits n scope s fits words
 
 module _ (n : ℕ) (f : Functions) (known : FunctionsFit f) where
   declared_fits : (scope : Scope) (k : ℕ) (v : Option ValueTree) → k < n → ScopeFits n scope → optional_faults (value_faults f scope) v ≡ [] →
@@ -89,6 +108,7 @@ module _ (n : ℕ) (f : Functions) (known : FunctionsFit f) where
         give_fits n (target_of m) _ (target_fits n m (meant_fits n h.scope x fits)) (value_fits n f h.scope v known fits (none_behind (variable_faults m x.offset) (value_faults f h.scope v) none) words)
     statement_fits p h (T.Store a i e) fits within none words =
         (array_fits n (meaning_of h.scope a) (meant_fits n h.scope a fits), (term_fits n h.scope i fits words.0, term_fits n h.scope e fits words.1))
+    statement_fits p h (T.Change c) fits within none words = change_fits n h.scope c.lvalue c.operator c.value fits words
     statement_fits p h (T.If e s) fits within none words =
         (term_fits n h.scope e fits words.0, (statement_fits p h s fits within (none_behind (expression_faults h.scope e) (statement_faults f p h s) none) words.1.0, tt))
     statement_fits p h (T.IfElse e s t) fits within none words =
@@ -99,6 +119,10 @@ module _ (n : ℕ) (f : Functions) (known : FunctionsFit f) where
     statement_fits p h (T.While e s) fits within none words =
         loop_fits n (term_of h.scope e) (action_of f p.depth h s) P.Nothing (term_fits n h.scope e fits words.0)
         (statement_fits (looping p) h s fits within (none_behind (expression_faults h.scope e) (statement_faults f (looping p) h s) none) words.1.0) tt
+    statement_fits p h (T.Do s e) fits within none words =
+        loop_fits n (P.Constant 1) (action_of f p.depth h s) (P.If (term_of h.scope e) P.Nothing P.Continue) (omega arith)
+        (statement_fits (looping p) h s fits within (none_before (statement_faults f (looping p) h s) (expression_faults h.scope e) none) words.1.0)
+        (term_fits n h.scope e fits words.1.1.0, (tt, omega arith))
     statement_fits p h (T.For start e step s) fits within none words =
         let depth = suc p.depth in
         let inner = with_start depth h start in

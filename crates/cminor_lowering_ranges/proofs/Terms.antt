@@ -10,6 +10,8 @@ use Rattle.c_syntax.specs.declared.expression.UnaryOperator.{UnaryOperator}
 use Rattle.c_syntax.specs.declared.expression.UnaryOperator.TheVariants as U
 use Rattle.c_syntax.specs.declared.expression.BinaryOperator.{BinaryOperator}
 use Rattle.c_syntax.specs.declared.expression.BinaryOperator.TheVariants as B
+use Rattle.c_syntax.specs.declared.expression.AssignOperator.{AssignOperator}
+use Rattle.c_syntax.specs.declared.expression.AssignOperator.TheVariants as A
 use Rattle.c_syntax.specs.Trees.{ExpressionTree}
 use Rattle.c_syntax.specs.Trees as T
 use Rattle.c_program.specs.Trees.{TermTree}
@@ -17,7 +19,7 @@ use Rattle.c_checker_rules.specs.declared.meaning.Meaning.{Meaning}
 use Rattle.c_checker_rules.specs.declared.meaning.Meaning.TheVariants as M
 use Rattle.c_checker_rules.specs.Names.{Scope, meaning_of}
 use Rattle.c_checker_rules.specs.Types.{type_of, common}
-use Rattle.c_checker_rules.specs.Terms.{variable_term, by_type, unary_term, binary_term, term_of}
+use Rattle.c_checker_rules.specs.Terms.{variable_term, by_type, unary_term, binary_term, change_operator, term_of}
 use Rattle.cminor_syntax.specs.Fits.{ExpressionFits}
 use Rattle.cminor_lowering.specs.Terms.{low_term}
 use Rattle.cminor_lowering.specs.Held.{HasWords}
@@ -27,7 +29,7 @@ use Rattle.cminor_lowering_ranges.proofs.Scopes.{ScopeFits, MeantFits, meant_fit
 abbrev pub TermFits : ℕ → TermTree → Type 0
 TermFits n t = ExpressionFits (suc n) (low_term t)
 
-variable_fits : (n : ℕ) (m : Option Meaning) → MeantFits n m → TermFits n (variable_term m)
+pub variable_fits : (n : ℕ) (m : Option Meaning) → MeantFits n m → TermFits n (variable_term m)
 variable_fits n None fits = omega arith
 variable_fits n (Some (M.Local k t)) fits = omega arith
 variable_fits n (Some (M.Variable k t)) fits = (fits, omega arith)
@@ -38,6 +40,19 @@ either_count : (t : IntegerType) (s u : Op) (k : ℕ) → argument_count_of s �
 either_count Int s u k signed unsigned = signed
 either_count Unsigned s u k signed unsigned = unsigned
 
+pub two_arguments : (o : AssignOperator) (s t : IntegerType) → argument_count_of (change_operator o s t) ≡ 2
+unfolding argument_count_of
+two_arguments A.Multiply s t = either_count (common s t) O.MulS O.MulU 2 refl refl
+two_arguments A.Divide s t = either_count (common s t) O.DivS O.DivU 2 refl refl
+two_arguments A.Remainder s t = either_count (common s t) O.ModS O.ModU 2 refl refl
+two_arguments A.Add s t = either_count (common s t) O.AddS O.AddU 2 refl refl
+two_arguments A.Subtract s t = either_count (common s t) O.SubS O.SubU 2 refl refl
+two_arguments A.ShiftLeft s t = either_count s O.ShlS O.ShlU 2 refl refl
+two_arguments A.ShiftRight s t = either_count s O.ShrS O.ShrU 2 refl refl
+two_arguments A.And s t = refl
+two_arguments A.Xor s t = refl
+two_arguments A.Or s t = refl
+
 unary_fits : (n : ℕ) (o : UnaryOperator) (t : IntegerType) (e : TermTree) → (HasWords e → TermFits n e) → HasWords (unary_term o t e) → TermFits n (unary_term o t e)
 unfolding argument_count_of
 unary_fits n U.Minus t e fits words = (either_count t O.NegS O.NegU 1 refl refl, fits words)
@@ -46,7 +61,7 @@ unary_fits n U.Complement t e fits words = (refl, fits words)
 unary_fits n U.Not t e fits words = (refl, fits words)
 
 module _ (n : ℕ) (s t : IntegerType) (a b : TermTree) (left : HasWords a → TermFits n a) (right : HasWords b → TermFits n b) where
-  binary_fits : (o : BinaryOperator) → HasWords (binary_term o s t a b) → TermFits n (binary_term o s t a b)
+  pub binary_fits : (o : BinaryOperator) → HasWords (binary_term o s t a b) → TermFits n (binary_term o s t a b)
   unfolding argument_count_of
   binary_fits B.LogicalOr words = (left words.0, (omega arith, (right words.1, (omega arith, omega arith))))
   binary_fits B.LogicalAnd words = (left words.0, ((right words.1, (omega arith, omega arith)), omega arith))

@@ -1,5 +1,4 @@
-use Rattle.std.proofs.Common.{◌≤◌, max, suc, sym, subst, arith}
-use Rattle.std.specs.Prelude.{All}
+use Rattle.std.proofs.Common.{◌≤◌, max, suc, sym, subst, arith, All}
 use Rattle.c_program.specs.Views.{action_tree, actions_tree}
 use Rattle.cminor_syntax.specs.Fits.{StatementFits}
 use Rattle.cminor_lowering.specs.Actions.{low_action, low_actions}
