@@ -1,11 +1,13 @@
 #!/usr/bin/env python3
 """Draws well-formed C programs that never go wrong, and writes them with what two C compilers say of them.
 
-    bench/draw_programs.py COUNT SEED    prints so many rows of crates/worked_rows/data/drawn.txt
+    bench/draw_programs.py COUNT SEED                 prints so many rows of crates/worked_rows/data/drawn.txt
+    bench/draw_programs.py --statements COUNT SEED    the same, with `do`, compound assignment, `++` and `--`
 
 A row: the bound, the program, its output and its closing line, with tabs between. A program has globals, arrays,
 functions that call those before them, loops with few turns, `break`, `continue`, `if` with and without `else`, all
-operators, and prints letters. One that the run-time checks of gcc or clang refuse (signed overflow, a shift or a
+operators, and prints letters; with `--statements` most assignments are by an operator or a step, of names and cells, and
+some loops are a `do`. One that the run-time checks of gcc or clang refuse (signed overflow, a shift or a
 quotient that has no answer, an index past an array) or that runs for more than a second is drawn again.
 """
 import os
@@ -178,6 +180,60 @@ class Drawn:
         return " ".join(parts + [f"int main(void){{{body} {result}}}"])
 
 
+class DrawnWithChanges(Drawn):
+    """One program, with `do`, compound assignment, `++` and `--`."""
+
+    def change(self, lvalue):
+        words = self.words
+        shape = words.randrange(8)
+        if shape == 0:
+            return f"{lvalue}{words.choice(('++', '--'))};"
+        if shape == 1:
+            return f"{words.choice(('++', '--'))}{lvalue};"
+        if shape == 2:
+            return f"{lvalue}{words.choice(('/=', '%='))}({self.expression(2)})|1;"
+        if shape == 3:
+            return f"{lvalue}{words.choice(('<<=', '>>=', '>>='))}{self.operand(2)}&7;"
+        if shape == 4:
+            return f"{lvalue}{words.choice(('*=', '&=', '^=', '|='))}{self.expression(1)};"
+        return f"{lvalue}{words.choice(('+=', '-=', '^='))}{self.expression(2)};"
+
+    def statement(self, depth):
+        words = self.words
+        shape = words.randrange(5)
+        target = self.target()
+        if shape == 0 and self.arrays:
+            array, size = words.choice(self.arrays)
+            return self.change(f"{array}[(unsigned)({self.expression(1)})%{size}u]")
+        if shape < 2 and target:
+            return self.change(target)
+        if shape == 2 and depth > 0:
+            return self.loop(depth)
+        return super().statement(depth)
+
+    def loop(self, depth):
+        counter, words = self.name("i"), self.words
+        turns = words.randrange(1, 7)
+        self.locals.append(counter)
+        self.fixed.add(counter)
+        self.loops += 1
+        body = self.block(depth - 1)
+        self.loops -= 1
+        self.locals.remove(counter)
+        shape = words.randrange(6)
+        if shape == 0:
+            return f"for(int {counter}=0;{counter}<{turns};{words.choice((f'{counter}++', f'++{counter}'))}){body}"
+        if shape == 1:
+            return f"for(int {counter}={turns * turns};{counter};{counter}>>=1){body}"
+        if shape == 2:
+            return f"{{int {counter}={turns}; do {body} while({counter}>{turns});}}"
+        if shape == 3:
+            return f"{{int {counter}={turns}; do{{{counter}--; {body[1:]}while({counter});}}"
+        if shape == 4:
+            return f"{{int {counter}=0; do{{{counter}+=2; {body[1:]}while({counter}<{turns});}}"
+        return f"{{int {counter}=0; while({counter}<{turns}){{{counter}++; {body[1:]}}}"
+
+
 def answers(program, folder):
     """What the compiled program prints and returns; none where it goes wrong or runs too long."""
     source, driver, binary = (os.path.join(folder, name) for name in ("program.c", "driver.c", "program"))
@@ -203,11 +259,13 @@ def ran(command, binary):
 
 
 def main():
-    count, seed = map(int, sys.argv[1:])
+    given = sys.argv[1:]
+    drawn = DrawnWithChanges if given[0] == "--statements" else Drawn
+    count, seed = map(int, given[-2:])
     words = random.Random(seed)
     with tempfile.TemporaryDirectory() as folder:
         while count > 0:
-            program = Drawn(words).program()
+            program = drawn(words).program()
             told = answers(program, folder)
             if told and len(program) < 1500 and len(told[0]) < 400:
                 print(f"100000\t{program}\t{told[0]}\t{told[1]}", flush=True)

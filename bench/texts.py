@@ -5,8 +5,9 @@
     bench/texts.py --megabytes 8    smaller texts
     bench/texts.py --keep FOLDER    leaves the texts there
 
-The texts: source like a program's (functions over a few names, with comments and white space), the same
-without white space or comments, one name after another, nothing but `;`, and one comment. The program
+The texts: source like a program's (functions over a few names, with comments and white space), such source with `do`,
+compound assignment, `++` and `--`, the first without white space or comments, one name after another, nothing but `;`, and
+one comment. The program
 `measure` tells how long its calls of the lexer and the reader took; memory is the most that it held.
 Beside them, as the floor of the machine, a C program that only writes a record of a token's size for each
 token, into an array that grows twofold.
@@ -21,6 +22,7 @@ import tempfile
 
 ROOT = os.path.dirname(os.path.dirname(os.path.abspath(__file__)))
 TOKEN = 48
+OPERATORS = ("+=", "-=", "*=", "/=", "%=", "<<=", ">>=", "&=", "^=", "|=")
 
 FLOOR = """
 #include <stdio.h>
@@ -72,7 +74,26 @@ def operand_name(words):
     return words.choice(["value", "count", "left", "right", "total", "n", "x"])
 
 
-def function(words, number):
+def changing(words, indent):
+    """A statement, often a `do`, an assignment by an operator, or a step."""
+    blank = " " * indent
+    shape = words.randrange(8)
+    if shape == 0 and indent < 16:
+        return f"{blank}do {{\n{changing(words, indent + 4)}{blank}}} while ({expression(words)});\n"
+    if shape == 1:
+        return f"{blank}for (n = 0; n < {operand(words)}; n++)\n    {changing(words, indent)}"
+    if shape == 2:
+        return f"{blank}table[{expression(words)}] {words.choice(OPERATORS)} {expression(words)};\n"
+    if shape == 3:
+        return f"{blank}{words.choice(('++', '--'))}{operand_name(words)};\n"
+    if shape == 4:
+        return f"{blank}{operand_name(words)}{words.choice(('++', '--'))};\n"
+    if shape == 5:
+        return f"{blank}{operand_name(words)} {words.choice(OPERATORS)} {expression(words)};\n"
+    return statement(words, indent)
+
+
+def function(words, number, statement=statement):
     body = "".join(statement(words, 4) for _ in range(words.randrange(4, 20)))
     return (
         f"/* Function {number}: made for measuring. */\nint function_{number}(int left, unsigned right)\n"
@@ -80,10 +101,10 @@ def function(words, number):
     )
 
 
-def source(size):
+def source(size, statement=statement):
     """Functions of a program, the same thousand again and again, up to the size."""
     words = random.Random(1)
-    text = "".join(function(words, number) for number in range(1000)).encode()
+    text = "".join(function(words, number, statement) for number in range(1000)).encode()
     times = size // len(text)
     return text * times
 
@@ -95,6 +116,7 @@ def dense(size):
 
 SHAPES = (
     ("source", source),
+    ("changes", lambda size: source(size, changing)),
     ("dense", dense),
     ("names", lambda size: b"a " * (size // 2)),
     ("signs", lambda size: b";" * size),

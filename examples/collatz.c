@@ -2,15 +2,19 @@
 int putchar(int);
 
 void number(unsigned n) {
-    if (n > 9u) number(n / 10u);
-    putchar('0' + (int)(n % 10u));
+    unsigned unit = 1u;
+    while (n / unit > 9u) unit *= 10u;
+    do {
+        putchar('0' + (int)(n / unit % 10u));
+        unit /= 10u;
+    } while (unit > 0u);
 }
 
 unsigned steps(unsigned n) {
     unsigned taken = 0u;
     while (n != 1u) {
         n = n % 2u == 0u ? n / 2u : 3u * n + 1u;
-        taken = taken + 1u;
+        taken++;
     }
     return taken;
 }
@@ -18,7 +22,7 @@ unsigned steps(unsigned n) {
 int main(void) {
     unsigned best = 1u;
     unsigned longest = 0u;
-    for (unsigned n = 1u; n < 1000u; n = n + 1u) {
+    for (unsigned n = 1u; n < 1000u; n++) {
         unsigned taken = steps(n);
         if (taken > longest) {
             longest = taken;

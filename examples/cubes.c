@@ -15,10 +15,10 @@ int main(void) {
   int n = 1;
   while (n <= 5) {
     int next = cube(n);
-    total = total + next;
+    total += next;
     print(total);
     putchar('\n');
-    n = n + 1;
+    n++;
   }
   return total;
 }

@@ -4,7 +4,7 @@ int putchar(int);
 int column[8];
 
 int attacked(int row, int at) {
-    for (int above = 0; above < row; above = above + 1) {
+    for (int above = 0; above < row; above++) {
         int apart = column[above] - at;
         if (apart < 0) apart = -apart;
         if (apart == 0 || apart == row - above) return 1;
@@ -13,8 +13,8 @@ int attacked(int row, int at) {
 }
 
 void show(void) {
-    for (int row = 0; row < 8; row = row + 1) {
-        for (int at = 0; at < 8; at = at + 1) putchar(column[row] == at ? 'Q' : '.');
+    for (int row = 0; row < 8; row++) {
+        for (int at = 0; at < 8; at++) putchar(column[row] == at ? 'Q' : '.');
         putchar('\n');
     }
 }
@@ -24,10 +24,10 @@ int found;
 void place(int row) {
     if (row == 8) {
         if (found == 0) show();
-        found = found + 1;
+        found++;
         return;
     }
-    for (int at = 0; at < 8; at = at + 1) {
+    for (int at = 0; at < 8; at++) {
         int taken = attacked(row, at);
         if (taken) continue;
         column[row] = at;

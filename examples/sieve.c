@@ -11,11 +11,11 @@ void number(int n) {
 
 int main(void) {
     int count = 0;
-    for (int n = 2; n < 100; n = n + 1) {
+    for (int n = 2; n < 100; n++) {
         if (composite[n]) continue;
         number(n);
-        count = count + 1;
-        for (int m = n * n; m < 100; m = m + n) composite[m] = 1;
+        count++;
+        for (int m = n * n; m < 100; m += n) composite[m] = 1;
     }
     putchar('\n');
     return count;

@@ -3,9 +3,10 @@
 //! The crates [`worked_commands`], [`worked_agreement`], [`worked_texts`], [`worked_forms`], [`worked_offers`] and
 //! [`worked_farm`] ask for theirs. This one runs C texts with known answers through the commands `check` and `interpret`, and those that end as programs of RTL and as linked programs
 //! too, once of the baselines and once of the optimisers' offers. `vectors.txt` was made by an independent reading of the
-//! language, the answers in `gcc.txt`, `examples.txt` and `drawn.txt`, whose programs were drawn by chance, are those of a
-//! C compiler, and `rows.txt` was written by hand. `links.txt` links the baselines of two programs of known answers, and
-//! has a row for each refusal to link. `exec.txt` has linked programs, in bytes, for `exec`.
+//! language, the answers in `gcc.txt`, `statements.txt` (`do`, compound assignment, `++` and `--`), `examples.txt` and
+//! `drawn.txt`, whose programs were drawn by chance, are those of a C compiler, and `rows.txt` was written by hand.
+//! `links.txt` links the baselines of two programs of known answers, and has a row for each refusal to link. `exec.txt` has
+//! linked programs, in bytes, for `exec`.
 //!
 //! All are one program, since a program is linked with all that it stands on, by two compilers.
 #![tactic(auto)]
@@ -52,6 +53,7 @@ fn main(rt: HostRuntime) -> io::Result<()> {
 fn tell(rt: &HostRuntime) -> io::Result<()> {
     compare(rt, "vectors.txt", Form::Hex)?;
     compare(rt, "gcc.txt", Form::Plain)?;
+    compare(rt, "statements.txt", Form::Plain)?;
     compare(rt, "examples.txt", Form::Hex)?;
     compare(rt, "drawn.txt", Form::Plain)?;
     compare(rt, "rows.txt", Form::Plain)?;
