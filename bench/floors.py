@@ -1,12 +1,14 @@
 #!/usr/bin/env python3
-"""The floor plan of the crates, and whether the house keeps to it.
+"""The floor plan of the crates, their index, and whether the house keeps to both.
 
     bench/floors.py             says what does not hold: an edge of crates.txt that no file of the crate names or that
                                 is missing, a crate on no floor or below one that it stands on, a crate over 1,500
-                                lines or 100 functions, more ways down than the gate has time for, and how many clauses
-                                are over 120 characters
-    bench/floors.py --write     writes crates.txt: the floors below, and for each crate exactly what its files name
+                                lines or 100 functions, an index that is not that of the crates; and how many clauses
+                                are over 120 characters, their lines joined
+    bench/floors.py --write     writes crates.txt, which has the floors below and for each crate exactly what its files
+                                name, and crates/README.md, the index
     bench/floors.py --clauses   prints each clause over 120 characters
+    bench/floors.py --stamps    prints how many files a kit reads that remembers no stamps
 
 A crate names another where its code (`name::`), its definitions, its proofs (`Rattle.name.`) or its edits do."""
 import os
@@ -17,9 +19,8 @@ import sys
 ROOT = os.path.dirname(os.path.dirname(os.path.realpath(__file__)))
 KIT = f"{os.path.dirname(subprocess.run(['rt', 'doc'], stdout=subprocess.PIPE, text=True, check=True).stdout.strip())}/rlibs"
 LINES, FUNCTIONS, CLAUSE = 1500, 100, 120
-# At most so many files are read for all stamps (`stamped`), some 50 microseconds of a processor each.
-STAMPED = 30_000_000
 TOLD = ("specs", "proofs", "src", "must-fail", "planted")
+FUNCTION = r"^\s*(?:pub(?:\(\w+\))? )?(?:const )?fn "
 
 # Each floor: its name, and its crates, lowest first.
 FLOORS = [
@@ -61,6 +62,14 @@ FLOORS = [
      "worked_rows worked_disk worked_journals worked_rooms worked_hostile"),
 ]
 ORDER = [crate for _, crates in FLOORS for crate in crates.split()]
+# The product's public face. A crate whose name begins with that of a face and `_` is a part of it: what a caller needs of it the face
+# passes on. The other crates are shared by several faces.
+FACES = (
+    "ints lang c_lexer c_reader c_checker c_meaning cminor rtl rtlgen ltl linear constprop_check cse_check alloc_check linearize_check "
+    "oracle_const oracle_cse oracle_alloc oracle_order offers parallel_validate linker durable_model acceptor_log paxos_core rooms "
+    "farm_nodes cfarm"
+).split()
+INDEX = f"{ROOT}/crates/README.md"
 
 
 def files_of(crate):
@@ -123,13 +132,76 @@ def write():
 
 
 def clauses():
+    """Each clause over the limit, its lines joined by a blank."""
     for crate in ORDER:
         for kind, file, text in files_of(crate):
-            if kind == "src":
-                for at, line in enumerate(text.split("\n"), 1):
-                    it = line.strip()
-                    if re.match(r"(requires|ensures)\b", it) and len(it) > CLAUSE:
-                        yield crate, file, at, it
+            if kind != "src":
+                continue
+            for found in re.finditer(r"^[ \t]*(?:requires|ensures)\b[^{\n]*\{", text, re.M):
+                depth, at = 1, found.end()
+                while depth and at < len(text):
+                    depth += {"{": 1, "}": -1}.get(text[at], 0)
+                    at += 1
+                joined = " ".join(text[found.start() : at].split())
+                if len(joined) > CLAUSE:
+                    yield crate, file, text.count("\n", 0, found.start()) + 1, joined
+
+
+def what_it_is(crate):
+    """The first sentence of what the crate says of itself."""
+    for root in ("lib", "main"):
+        path = f"{ROOT}/crates/{crate}/src/{root}.rt"
+        if os.path.isfile(path):
+            with open(path, encoding="utf-8") as it:
+                said = " ".join(re.findall(r"^//! ?(.*)$", it.read(), flags=re.M))
+            return re.split(r"(?<=\.) ", said)[0]
+    return ""
+
+
+def sizes(crate):
+    """Lines of code, of definitions and of proofs, and how many functions."""
+    lines, functions = dict.fromkeys(("src", "specs", "proofs"), 0), 0
+    for kind, _, text in files_of(crate):
+        if kind in lines:
+            lines[kind] += text.count("\n")
+        if kind == "src":
+            functions += len(re.findall(FUNCTION, text, flags=re.M))
+    return lines, functions
+
+
+def kind_of(crate, floor, lines, functions):
+    """What a crate mostly is."""
+    if floor == "Tests":
+        return "tests"
+    if functions > 3:
+        return "code"
+    return "laws" if lines["proofs"] > lines["specs"] else "definitions"
+
+
+def face_of(crate):
+    """The face that the crate is, or is a part of; None where it is shared."""
+    return max((it for it in FACES if crate == it or crate.startswith(f"{it}_")), key=len, default=None)
+
+
+def index():
+    """The text of crates/README.md."""
+    told = [
+        "# The crates",
+        "",
+        "By floor, lowest first (written by `bench/floors.py --write`). A name in bold is a face: what callers name. A crate whose name begins",
+        "with a face's is a part of it, and what callers need of it the face passes on; the others are shared by several faces. Behind each: what",
+        "it mostly is, its lines of code, definitions and proofs, and what it is for. A face with many parts has a README of its own.",
+    ]
+    for name, crates in FLOORS:
+        told += ["", f"## {name}", "", "| Crate | Kind | Code | Definitions | Proofs | What it is |", "|---|---|---:|---:|---:|---|"]
+        for crate in crates.split():
+            lines, functions = sizes(crate)
+            kind = kind_of(crate, name, lines, functions)
+            shown = f"**`{crate}`**" if crate in FACES else f"`{crate}`"
+            if os.path.isfile(f"{ROOT}/crates/{crate}/README.md"):
+                shown = f"[{shown}]({crate}/README.md)"
+            told.append(f"| {shown} | {kind} | {lines['src']} | {lines['specs']} | {lines['proofs']} | {what_it_is(crate)} |")
+    return "\n".join(told) + "\n"
 
 
 def stamped(below):
@@ -144,11 +216,12 @@ def stamped(below):
 
 def faults():
     plan, below = read_plan(), edges()
-    if stamped(below) > STAMPED:
-        yield f"{stamped(below):,} files are read for stamps: let high crates name what is far below by the crate next below"
     place = {crate: at for at, crate in enumerate(ORDER)}
-    for crate in sorted(set(os.listdir(f"{ROOT}/crates")) ^ set(ORDER)):
+    for crate in sorted((set(os.listdir(f"{ROOT}/crates")) - {os.path.basename(INDEX)}) ^ set(ORDER)):
         yield f"{crate}: on no floor, or no crate"
+    with open(INDEX, encoding="utf-8") as it:
+        if it.read() != index():
+            yield "crates/README.md: not the index of the crates: bench/floors.py --write"
     for crate in ORDER:
         listed = plan.get(crate, ([], []))[1]
         for it in set(listed) - set(below[crate]):
@@ -158,9 +231,8 @@ def faults():
         for it in below[crate]:
             if place.get(it, -1) > place[crate]:
                 yield f"{crate}: stands below {it}, which it names"
-        code = [(kind, text) for kind, _, text in files_of(crate) if kind in ("src", "specs", "proofs")]
-        lines = sum(text.count("\n") for _, text in code)
-        functions = sum(len(re.findall(r"^\s*(?:pub(?:\(\w+\))? )?(?:const )?fn ", text, flags=re.M)) for kind, text in code if kind == "src")
+        lines, functions = sizes(crate)
+        lines = sum(lines.values())
         if lines > LINES or functions > FUNCTIONS:
             yield f"{crate}: {lines} lines, {functions} functions"
 
@@ -168,6 +240,10 @@ def faults():
 def main():
     if "--write" in sys.argv:
         write()
+        with open(INDEX, "w", encoding="utf-8") as it:
+            it.write(index())
+    if "--stamps" in sys.argv:
+        print(f"{stamped(edges()):,} files are read for stamps")
     long = list(clauses())
     if "--clauses" in sys.argv:
         for crate, file, at, it in long:

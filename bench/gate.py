@@ -51,6 +51,8 @@ def table(file):
     with open(file, encoding="utf-8") as rows:
         for row in rows:
             crate, kind, _, took = row.strip().split(",")
+            # (a seed is what the edits of a crate begin from)
+            kind = "edits" if kind in ("seed", "again") else kind
             seconds.setdefault(crate, dict.fromkeys(KINDS, 0.0))[kind] += float(took)
     dear = sorted(seconds, key=lambda it: -sum(seconds[it].values()))
     told = []
