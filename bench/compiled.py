@@ -20,12 +20,11 @@ import subprocess
 import sys
 import tempfile
 
-ROOT = os.path.dirname(os.path.dirname(os.path.realpath(__file__)))
-PLAN = os.path.join(ROOT, "crates.txt")
-PATCH = os.path.join(ROOT, "bench", "compiled.patch")
+from laid_out import LaidOut, ROOT
+
 CFARM = os.path.join(ROOT, "crates", "cfarm", "out", "cfarm")
-LINKED = os.path.join(ROOT, "crates", "linked", "out", "linked")
-LINE = "linked: chains farm_nodes_source lang linear_language anyhow rand_pcg rand_core\n"
+LAID = LaidOut("compiled.patch", "linked: chains farm_nodes_source lang linear_language anyhow rand_pcg rand_core\n")
+LINKED = LAID.program
 LIMIT = str(2**63 - 1)
 GENERATORS = (1, 2, 3, 4)
 
@@ -80,22 +79,6 @@ PROGRAMS = {
         "    sys.stdout.write(str(at) + str(to) + '\\n')\n    move(disks - 1, by, to)\nmove(18, 0, 2)\n",
     ),
 }
-
-
-def add():
-    subprocess.run(["git", "apply", PATCH], cwd=ROOT, check=True)
-    with open(PLAN, "a", encoding="utf-8") as plan:
-        plan.write(LINE)
-    return subprocess.run(["rt", "run"], cwd=os.path.join(ROOT, "crates", "linked"), check=False).returncode
-
-
-def remove():
-    subprocess.run(["git", "apply", "--reverse", PATCH], cwd=ROOT, check=True)
-    with open(PLAN, encoding="utf-8") as plan:
-        lines = plan.readlines()
-    with open(PLAN, "w", encoding="utf-8") as plan:
-        plan.writelines(it for it in lines if it != LINE)
-    return 0
 
 
 def write(folder, name, text):
@@ -167,7 +150,7 @@ def main():
     words.add_argument("--lua", default="lua5.4")
     given = words.parse_args()
     if given.add or given.remove:
-        return add() if given.add else remove()
+        return LAID.add() if given.add else LAID.remove()
     return measure(given)
 
 

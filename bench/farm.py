@@ -19,31 +19,14 @@ import subprocess
 import sys
 import tempfile
 
-ROOT = os.path.dirname(os.path.dirname(os.path.realpath(__file__)))
-PLAN = os.path.join(ROOT, "crates.txt")
-PATCH = os.path.join(ROOT, "bench", "farm.patch")
-PROGRAM = os.path.join(ROOT, "crates", "farmed", "out", "farmed")
-LINE = (
+from laid_out import LaidOut, ROOT
+
+LAID = LaidOut(
+    "farm.patch",
     "farmed may_wait=8: chains farm_nodes durable_model parallel_validate paxos_core_law oracle_const oracle_cse oracle_alloc"
-    " oracle_order offers_choice offers rtl_language linear_language lang_base rand_pcg\n"
+    " oracle_order offers_choice offers rtl_language linear_language lang_base rand_pcg\n",
 )
-
-
-def add():
-    subprocess.run(["git", "apply", PATCH], cwd=ROOT, check=True)
-    with open(PLAN, "a", encoding="utf-8") as plan:
-        plan.write(LINE)
-    subprocess.run(["rt", "run"], cwd=os.path.join(ROOT, "crates", "farmed"), check=False)
-    return 0 if os.path.exists(PROGRAM) else 1
-
-
-def remove():
-    subprocess.run(["git", "apply", "--reverse", PATCH], cwd=ROOT, check=True)
-    with open(PLAN, encoding="utf-8") as plan:
-        lines = plan.readlines()
-    with open(PLAN, "w", encoding="utf-8") as plan:
-        plan.writelines(it for it in lines if it != LINE)
-    return 0
+PROGRAM = LAID.program
 
 
 def texts():
@@ -178,12 +161,12 @@ def main():
     ask.add_argument("--program", default=PROGRAM)
     said = ask.parse_args()
     if said.remove:
-        return remove()
+        return LAID.remove()
     if said.beside:
         return beside(said.program, said.runs, said.statements, said.each)
     if said.turns:
         return turns(said.program, said.runs)
-    return big(said.program) if said.large else add()
+    return big(said.program) if said.large else LAID.add_built()
 
 
 if __name__ == "__main__":

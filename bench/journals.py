@@ -23,11 +23,10 @@ import sys
 import tempfile
 import time
 
-ROOT = os.path.dirname(os.path.dirname(os.path.realpath(__file__)))
-PLAN = os.path.join(ROOT, "crates.txt")
-PATCH = os.path.join(ROOT, "bench", "journals.patch")
-PROGRAM = os.path.join(ROOT, "crates", "journaled", "out", "journaled")
-LINE = "journaled: acceptor_log durable_model lang_base\n"
+from laid_out import LaidOut, ROOT
+
+LAID = LaidOut("journals.patch", "journaled: acceptor_log durable_model lang_base\n")
+PROGRAM = LAID.program
 HEADER = b"CFJ1\x03\x00" + b"\x07" * 32
 
 SHIM = r"""
@@ -82,24 +81,6 @@ int main(int argc, char **argv) {
   return argc != 4;
 }
 """
-
-
-def add():
-    subprocess.run(["git", "apply", PATCH], cwd=ROOT, check=True)
-    with open(PLAN, "a", encoding="utf-8") as plan:
-        plan.write(LINE)
-    # without words the program does nothing
-    subprocess.run(["rt", "run"], cwd=os.path.join(ROOT, "crates", "journaled"), check=False)
-    return 0 if os.path.exists(PROGRAM) else 1
-
-
-def remove():
-    subprocess.run(["git", "apply", "--reverse", PATCH], cwd=ROOT, check=True)
-    with open(PLAN, encoding="utf-8") as plan:
-        lines = plan.readlines()
-    with open(PLAN, "w", encoding="utf-8") as plan:
-        plan.writelines(it for it in lines if it != LINE)
-    return 0
 
 
 def last_told(out):
@@ -258,12 +239,12 @@ def main():
     ask.add_argument("--seed", type=int, default=1)
     said = ask.parse_args()
     if said.remove:
-        return remove()
+        return LAID.remove()
     if said.kills:
         return kills(said.kills, said.seed)
     if said.calls:
         return calls()
-    return speed(said.runs) if said.speed else add()
+    return speed(said.runs) if said.speed else LAID.add_built()
 
 
 if __name__ == "__main__":

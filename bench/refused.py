@@ -20,36 +20,18 @@ import subprocess
 import sys
 import tempfile
 
+from laid_out import LaidOut
 import shim
 
-ROOT = os.path.dirname(os.path.dirname(os.path.realpath(__file__)))
-PLAN = os.path.join(ROOT, "crates.txt")
-PATCH = os.path.join(ROOT, "bench", "refused.patch")
-PROGRAM = os.path.join(ROOT, "crates", "refused", "out", "refused")
-LINE = (
+LAID = LaidOut(
+    "refused.patch",
     "refused may_wait=10: farm_nodes farm_nodes_node farm_nodes_passes acceptor_log acceptor_log_form rooms_numbered"
     " rooms_hall rooms_seat rooms rooms_rule paxos_core durable_model parallel_validate offers linker lang linearize_check linear_language"
-    " cminor_program_ranges c_checker_rules lang_base hex rand_pcg\n"
+    " cminor_program_ranges c_checker_rules lang_base hex rand_pcg\n",
 )
+PROGRAM = LAID.program
 CALLS = ("open", "linked", "restart", "meet", "append", "read", "check_all", "offer", "seat")
 MARKS = ("before", "behind")
-
-
-def add():
-    subprocess.run(["git", "apply", PATCH], cwd=ROOT, check=True)
-    with open(PLAN, "a", encoding="utf-8") as plan:
-        plan.write(LINE)
-    subprocess.run(["rt", "run"], cwd=os.path.join(ROOT, "crates", "refused"), check=False)
-    return 0 if os.path.exists(PROGRAM) else 1
-
-
-def remove():
-    subprocess.run(["git", "apply", "--reverse", PATCH], cwd=ROOT, check=True)
-    with open(PLAN, encoding="utf-8") as plan:
-        lines = plan.readlines()
-    with open(PLAN, "w", encoding="utf-8") as plan:
-        plan.writelines(it for it in lines if it != LINE)
-    return 0
 
 
 def ran(given, call, onward, number):
@@ -111,9 +93,9 @@ def main():
     ask.add_argument("--most", type=int, default=100_000, help="fewer faults than this of a call")
     given = ask.parse_args()
     if given.remove:
-        return remove()
+        return LAID.remove()
     if given.sweep is None:
-        return add()
+        return LAID.add_built()
     wrong = []
     with tempfile.TemporaryDirectory() as given.scratch:
         given.shim = os.path.join(given.scratch, "shim.so")

@@ -10,32 +10,14 @@ Each load and each look waits for what the one before it found, as a seat's do, 
 
 It is no part of the gate, so it stands as a patch, bench/rooms.patch, and is proved whenever it is used. Remove it
 before anything is committed."""
-import os
 import subprocess
 import sys
 
-ROOT = os.path.dirname(os.path.dirname(os.path.realpath(__file__)))
-PLAN = os.path.join(ROOT, "crates.txt")
-PATCH = os.path.join(ROOT, "bench", "rooms.patch")
-PROGRAM = os.path.join(ROOT, "crates", "looked", "out", "looked")
-LINE = "looked: rooms_seat paxos_core\n"
+from laid_out import LaidOut
+
+LAID = LaidOut("rooms.patch", "looked: rooms_seat paxos_core\n")
+PROGRAM = LAID.program
 COUNT = 10_000_000
-
-
-def add():
-    subprocess.run(["git", "apply", PATCH], cwd=ROOT, check=True)
-    with open(PLAN, "a", encoding="utf-8") as plan:
-        plan.write(LINE)
-    return subprocess.run(["rt", "run"], cwd=os.path.join(ROOT, "crates", "looked"), check=False).returncode
-
-
-def remove():
-    subprocess.run(["git", "apply", "--reverse", PATCH], cwd=ROOT, check=True)
-    with open(PLAN, encoding="utf-8") as plan:
-        lines = plan.readlines()
-    with open(PLAN, "w", encoding="utf-8") as plan:
-        plan.writelines(it for it in lines if it != LINE)
-    return 0
 
 
 def speed():
@@ -51,4 +33,4 @@ def speed():
 
 
 if __name__ == "__main__":
-    sys.exit({"--remove": remove, "--speed": speed}.get(sys.argv[1] if sys.argv[1:] else "", add)())
+    sys.exit({"--remove": LAID.remove, "--speed": speed}.get(sys.argv[1] if sys.argv[1:] else "", LAID.add)())
