@@ -16,6 +16,7 @@
     kills     a build is killed at its nth call of the system, and builds are killed at random moments (bench/kills.py)
     journals  each journal of a small build is cut at each length and changed at each byte, one at a time
     files     what else may stand in the way: files that are none, endless, huge, forbidden, full devices, closed streams
+    pairs     two builds are started at once in one folder, fresh, after a kill and built: one at a time has it
     examples  each example is built with 3, 5 and 7 nodes and four seeds, and run
 
 An answer is right where it is the one without a fault, or a status and a line of the program's table; want of memory is answered by `memory`,
@@ -519,6 +520,10 @@ def linked_in(folder):
     return os.path.join(folder, "linked.cfp")
 
 
+def lock_in(folder):
+    return os.path.join(folder, "cfarm.lock")
+
+
 def replaced(make, path=journal):
     """Makes another file of a journal: `make` gets its path, where nothing stands, since the file is put aside."""
 
@@ -597,6 +602,12 @@ def folder_cases():
         Case("text is empty", ("refused",), words=lambda text, folder: ["build", "/dev/null", "--dir", folder], mends=kept),
         Case("linked.cfp is a folder", ("file",), replaced(os.mkdir, linked_in), mends=lambda folder: put_back(folder, linked_in)),
         Case("linked.cfp.new is a folder", ("file",), lambda folder: os.mkdir(beside(folder)), mends=lambda folder: os.rmdir(beside(folder))),
+        Case("linked.cfp.new is a pipe", ("file",), lambda folder: os.mkfifo(beside(folder)), mends=lambda folder: os.remove(beside(folder))),
+        Case("linked.cfp.new is a link", ("done",), lambda folder: os.symlink("/dev/full", beside(folder)), mends=kept),
+        Case("linked.cfp.new is a file", ("done",), lambda folder: write(beside(folder), b"old"), mends=kept),
+        Case("cfarm.lock is a folder", ("file",), replaced(os.mkdir, lock_in), mends=lambda folder: put_back(folder, lock_in)),
+        Case("cfarm.lock is a pipe", ("done", "file"), replaced(os.mkfifo, lock_in), mends=lambda folder: put_back(folder, lock_in)),
+        Case("cfarm.lock is a link to nothing", ("done", "file"), replaced(lambda path: os.symlink("none/none", path), lock_in), mends=lambda folder: put_back(folder, lock_in)),
         Case("linked.cfp.new is left", ("done",), lambda folder: write(beside(folder), b"left"), mends=kept),
         Case("no turns", ("undecided",), words=lambda text, folder: ["build", text, "--turns", "0", "--dir", folder], is_built=False, mends=kept),
     ]
@@ -741,6 +752,46 @@ def try_files(sweep):
                     sweep.count(row, *try_case(sweep, case, building, built))
 
 
+# Two builds at once.
+
+
+def started(sweep, words):
+    return subprocess.Popen([sweep.program, *words], stdout=subprocess.PIPE, stderr=subprocess.PIPE, stdin=subprocess.DEVNULL)
+
+
+def answer_of(process):
+    out, err = process.communicate(timeout=300)
+    return Answer(process.returncode, out, err)
+
+
+def try_pairs(sweep):
+    """Each of two builds that are started at once is done, or is told that the other has the folder, and the folder is as any other behind them."""
+    text = sweep.file("pair.c", TEXT.encode())
+    done = sweep.folder()
+    sweep.run(Building(sweep, text).words(done))
+    for title, like in (("fresh", None), ("after a kill", killed_folder(sweep, text)), ("again", done)):
+        building = Building(sweep, text, like)
+
+        def job(number):
+            folder = sweep.folder(like)
+            busy = f"file {os.path.join(folder, 'cfarm.lock')}\n".encode()
+            words = building.words(folder)
+            first = started(sweep, words)
+            second = started(sweep, [*words, "--turns", str(10000 + number)])
+            answers = [answer_of(first), answer_of(second)]
+            refused = [it for it in answers if it.status == 2 and it.err == busy and not it.out]
+            wrong = [shown(it) for it in answers if it not in refused and it.status != 0]
+            wrong += [] if len(refused) < 2 else ["both are refused"]
+            for it in answers:
+                wrong += building.report(folder, it) if it.status == 0 else []
+            wrong += building.again(folder, content(os.path.join(folder, "linked.cfp")))
+            sweep.leave(folder)
+            return "one refused" if refused else "both done", [f"pair {number}: {one}" for one in wrong]
+
+        if sweep.wants(f"pairs, {title}"):
+            sweep.try_all(f"pairs, {title}", range(8 if sweep.given.quick else 70), job)
+
+
 # Examples.
 
 
@@ -767,6 +818,7 @@ PARTS = {
     "examples": try_examples,
     "files": try_files,
     "kills": try_kills,
+    "pairs": try_pairs,
     "threads": try_threads,
     "memory": try_memory,
     "calls": try_calls,

@@ -22,6 +22,7 @@ use Rattle.cfarm_build.specs.Built.{Built}
 use Rattle.cfarm_build.specs.BuildError.{BuildError}
 use Rattle.cfarm_build.specs.BuildError.TheVariants.{NoMemory, NoThread, Source as TextFault, Disks, Failed, Undecided, Unlinked, Names}
 use Rattle.cfarm_files.specs.Placing.{Placed, Keeps, Places}
+use Rattle.cfarm_files.specs.Locking.{lock_path}
 use Rattle.cfarm_options.specs.Counts.{count_of}
 use Rattle.cfarm_options.specs.Paths.{linked_path}
 use Rattle.cfarm_options.specs.declared.options.BuildOptions.{BuildOptions}
@@ -54,6 +55,20 @@ keeps_same (Some placed) = refl
 
 module _ {D : Type 0} (disk : disks.Ghosts D) {H : Type 0} (h : naming.Ghosts H) (may_give : List ℕ → D → Type 0)
     (options : BuildOptions) (text : List ℕ) where
+  -- the folder's lock is refused
+  pub no_lock : (source : Source) → IsSourceOf text source → (e : BuildingError)
+      → IsRefusedAt (lock_path options.folder.now) e → IsUncompiled disk h may_give options text e
+  no_lock source is (Build NoMemory) none = tt
+  no_lock source is (Build NoThread) none = tt
+  no_lock source is (Build (TextFault f)) none = absurd none
+  no_lock source is (Build (Disks f)) none = absurd none
+  no_lock source is (Build (Failed n f)) none = absurd none
+  no_lock source is (Build Undecided) none = absurd none
+  no_lock source is (Build (Unlinked f name)) none = absurd none
+  no_lock source is (Build Names) none = absurd none
+  no_lock source is (File path) none = record { source = source; is = is; so = inl none }
+  no_lock source is Write none = absurd none
+
   -- the first journal that is refused
   pub no_disk : (source : Source) → IsSourceOf text source → (e : BuildingError)
       → HasNoDisk may_give options.folder.now (count_of options.nodes) e → IsUncompiled disk h may_give options text e
@@ -65,7 +80,7 @@ module _ {D : Type 0} (disk : disks.Ghosts D) {H : Type 0} (h : naming.Ghosts H)
   no_disk source is (Build Undecided) none = absurd none.refused
   no_disk source is (Build (Unlinked f name)) none = absurd none.refused
   no_disk source is (Build Names) none = absurd none.refused
-  no_disk source is (File path) none = record { source = source; is = is; so = none }
+  no_disk source is (File path) none = record { source = source; is = is; so = inr none }
   no_disk source is Write none = absurd none.refused
 
   -- what the farm refuses

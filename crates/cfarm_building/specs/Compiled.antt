@@ -1,5 +1,5 @@
 -- What is built of a text by a farm over the journals of a folder.
-use Rattle.std.specs.Prelude.{ℕ, List}
+use Rattle.std.specs.Prelude.{◌⊎◌, ℕ, List}
 use Rattle.durable_model.specs.declared.disk.Disk as disks
 use Rattle.rooms_hall.specs.declared.hall.Naming as naming
 use Rattle.farm_nodes_source.specs.Refused.{IsUnprepared}
@@ -11,7 +11,8 @@ use Rattle.cfarm_build.specs.Built.{Built}
 use Rattle.cfarm_build.specs.BuildError.TheVariants.{NoMemory, NoThread, Source as TextFault, Disks, Failed, Undecided, Unlinked, Names}
 use Rattle.cfarm_build.specs.BuildError.{BuildError}
 use Rattle.cfarm_options.specs.Counts.{count_of}
-use Rattle.cfarm_building.specs.Disks.{AreGiven, HasNoDisk}
+use Rattle.cfarm_files.specs.Locking.{lock_path}
+use Rattle.cfarm_building.specs.Disks.{AreGiven, HasNoDisk, IsRefusedAt}
 use Rattle.cfarm_building.specs.declared.error.BuildingError.{BuildingError}
 use Rattle.cfarm_building.specs.declared.error.BuildingError.TheVariants.{Build, File, Write}
 use Rattle.cfarm_options.specs.declared.options.BuildOptions.{BuildOptions}
@@ -38,7 +39,12 @@ module _ {D : Type 0} (disk : disks.Ghosts D) {H : Type 0} (h : naming.Ghosts H)
   abbrev pub HasNotBuilt : BuildError → Type 0
   HasNotBuilt fault = OfSource (λ source. OverDisks (λ given. IsUnbuilt disk h options.seed source given fault))
 
-  -- In this order: the text, the files, the farm. That memory or a thread was refused says nothing.
+  -- somebody else has the folder, or a journal cannot be opened
+  abbrev pub HasNoFile : BuildingError → Type 0
+  HasNoFile fault =
+      IsRefusedAt (lock_path options.folder.now) fault ⊎ HasNoDisk may_give options.folder.now (count_of options.nodes) fault
+
+  -- In this order: the text, the folder's lock, the journals, the farm. That memory or a thread was refused says nothing.
   abbrev pub IsUncompiled : BuildingError → Type 0
   IsUncompiled (Build NoMemory) = Unit {0}
   IsUncompiled (Build NoThread) = Unit {0}
@@ -48,5 +54,5 @@ module _ {D : Type 0} (disk : disks.Ghosts D) {H : Type 0} (h : naming.Ghosts H)
   IsUncompiled (Build Undecided) = HasNotBuilt Undecided
   IsUncompiled (Build (Unlinked fault name)) = HasNotBuilt (Unlinked fault name)
   IsUncompiled (Build Names) = HasNotBuilt Names
-  IsUncompiled (File path) = OfSource (λ source. HasNoDisk may_give options.folder.now (count_of options.nodes) (File path))
+  IsUncompiled (File path) = OfSource (λ source. HasNoFile (File path))
   IsUncompiled Write = ⊥

@@ -29,7 +29,7 @@ fn line_of(report: String) -> Result<String, AllocError>
     }
 }
 
-/// Builds a C text in the folder: the linked program is put in its file, and then the report is printed on one line and flushed. What
+/// Builds a C text in the folder, whose lock is held from the text's acceptance on to the end: the linked program is put in its file, and then the report is printed on one line and flushed. What
 /// is shown while the farm runs is taken away before.
 pub fn build_text<H: Naming + Send, R: Threads + Wait + Sync, F: Files, M: Meter, W: Write>(
     rt: &R,
@@ -49,15 +49,15 @@ pub fn build_text<H: Naming + Send, R: Threads + Wait + Sync, F: Files, M: Meter
     ensures refused { IfErr result (λ fault. IsNotBuilt F.Disk.Disk H.Naming (F.may_give files.old) options.entry
         text.now (F.placed files.old) (F.placed files.new) fault (W.contents out.old) (W.contents out.new)) }
 {
-    let built = match compiled(rt, alloc, hall, text, options, &*files, meter) {
-        Ok(built) => built,
+    let (built, lock) = match compiled(rt, alloc, hall, text, options, &*files, meter) {
+        Ok(made) => made,
         Err(fault) => return Err(fault),
     };
     let Built { program, report } = built;
     let Ok(line) = line_of(report) else {
         return Err(BuildingError::Build(BuildError::NoMemory));
     };
-    match place(alloc, options.folder, files, &program) {
+    match place(alloc, options.folder, files, &lock, &program) {
         Ok(()) => {}
         Err(fault) => return Err(fault),
     }

@@ -1,9 +1,11 @@
 //! From a text and its journals to what is built.
 
 ghost use Rattle.std.specs.Prelude.{IfOk, IfErr};
+ghost use Rattle.cfarm_files.specs.Locking.{CoversFolder};
 ghost use Rattle.cfarm_building.specs.Compiled.{IsCompiled, IsUncompiled};
 
 use crate::error::BuildingError;
+use crate::locking::locked;
 use crate::opening::open_disks;
 use cfarm_build::{BuildError, Built, build, optimisers_of};
 use cfarm_files::Files;
@@ -15,7 +17,8 @@ use std::alloc::Global;
 use std::sync::Wait;
 use std::thread::Threads;
 
-/// What is built of a text by a farm over the journals of the folder. The text comes first, then the files, then the farm.
+/// What is built of a text by a farm over the journals of the folder, and the folder's lock. The text comes first, then the lock, then
+/// the journals, then the farm.
 fn compiled_by<H: Naming + Send, R: Threads + Wait + Sync, F: Files, M: Meter>(
     rt: &R,
     alloc: Global,
@@ -24,15 +27,20 @@ fn compiled_by<H: Naming + Send, R: Threads + Wait + Sync, F: Files, M: Meter>(
     options: BuildOptions<'_>,
     files: &F,
     meter: &mut M,
-) -> Result<Built, BuildingError>
-    ensures built { IfOk result (IsCompiled F.Disk.Disk H.Naming (F.may_give files.now) options.entry text.now) }
+) -> Result<(Built, F::Lock), BuildingError>
+    ensures built { IfOk result (λ r. IsCompiled F.Disk.Disk H.Naming (F.may_give files.now) options.entry text.now r.0) }
+    ensures locked { IfOk result (λ r. CoversFolder (F.covers r.1) options.entry.folder.now) }
     ensures refused { IfErr result (IsUncompiled F.Disk.Disk H.Naming (F.may_give files.now) options.entry text.now) }
 {
     let source = match prepare(alloc, text) {
         Ok(source) => source,
         Err(fault) => return Err(BuildingError::Build(BuildError::Source(fault))),
     };
-    let disks = match open_disks(alloc, options, files) {
+    let lock = match locked(alloc, options.folder, files) {
+        Ok(lock) => lock,
+        Err(fault) => return Err(fault),
+    };
+    let disks = match open_disks(alloc, options, files, &lock) {
         Ok(disks) => disks,
         Err(fault) => return Err(fault),
     };
@@ -41,7 +49,7 @@ fn compiled_by<H: Naming + Send, R: Threads + Wait + Sync, F: Files, M: Meter>(
     };
     let (turns, seed) = (u64::from(options.turns), options.seed);
     match build(rt, alloc, hall, source, disks, oracles, turns, seed, meter) {
-        Ok(built) => Ok(built),
+        Ok(built) => Ok((built, lock)),
         Err(fault) => Err(BuildingError::Build(fault)),
     }
 }
@@ -55,8 +63,9 @@ pub(crate) fn compiled<H: Naming + Send, R: Threads + Wait + Sync, F: Files, M: 
     options: BuildOptions<'_>,
     files: &F,
     meter: &mut M,
-) -> Result<Built, BuildingError>
-    ensures built { IfOk result (IsCompiled F.Disk.Disk H.Naming (F.may_give files.now) options.entry text.now) }
+) -> Result<(Built, F::Lock), BuildingError>
+    ensures built { IfOk result (λ r. IsCompiled F.Disk.Disk H.Naming (F.may_give files.now) options.entry text.now r.0) }
+    ensures locked { IfOk result (λ r. CoversFolder (F.covers r.1) options.entry.folder.now) }
     ensures refused { IfErr result (IsUncompiled F.Disk.Disk H.Naming (F.may_give files.now) options.entry text.now) }
 {
     let made = compiled_by(rt, alloc, hall, text, options, files, meter);

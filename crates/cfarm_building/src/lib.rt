@@ -6,6 +6,7 @@
 mod building;
 mod compiling;
 mod error;
+mod locking;
 mod opening;
 mod placing;
 

@@ -2,6 +2,7 @@
 
 ghost use Rattle.std.specs.Prelude.{IfOk, IfErr};
 ghost use Rattle.cfarm_options.specs.Counts.{count_of};
+ghost use Rattle.cfarm_files.specs.Locking.{CoversFolder};
 ghost use Rattle.cfarm_building.specs.Disks.{AreGiven, HasNoDisk, IsRefusedAt};
 ghost use Rattle.cfarm_options.specs.Paths.{journal_path};
 
@@ -17,14 +18,16 @@ fn disk_of<F: Files>(
     folder: &str,
     node: usize,
     files: &F,
+    lock: &F::Lock,
 ) -> Result<F::Disk, BuildingError>
+    requires locked { CoversFolder (F.covers lock.now) folder.now }
     ensures given { IfOk result (F.may_give files.now (journal_path folder.now node)) }
     ensures refused { IfErr result (IsRefusedAt (journal_path folder.now node)) }
 {
     let Ok(path) = journal_path(alloc, folder, node) else {
         return Err(BuildingError::Build(BuildError::NoMemory));
     };
-    match files.disk(&path) {
+    match files.disk(lock, &path) {
         Ok(disk) => Ok(disk),
         Err(FileFault::NoMemory) => Err(BuildingError::Build(BuildError::NoMemory)),
         Err(FileFault::Refused) => Err(BuildingError::File(path)),
@@ -36,7 +39,9 @@ pub(crate) fn open_disks<F: Files>(
     alloc: Global,
     options: BuildOptions<'_>,
     files: &F,
+    lock: &F::Lock,
 ) -> Result<Vec<F::Disk>, BuildingError>
+    requires locked { CoversFolder (F.covers lock.now) options.folder.now }
     ensures given { IfOk result (λ disks.
         AreGiven (F.may_give files.now) options.entry.folder.now (count_of options.entry.nodes) disks.items) }
     ensures refused { IfErr result
@@ -47,7 +52,7 @@ pub(crate) fn open_disks<F: Files>(
         return Err(BuildingError::Build(BuildError::NoMemory));
     };
     for node in 0..count {
-        let disk = match disk_of(alloc, options.folder, node, files) {
+        let disk = match disk_of(alloc, options.folder, node, files, lock) {
             Ok(disk) => disk,
             Err(fault) => return Err(fault),
         };

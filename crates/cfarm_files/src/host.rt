@@ -2,8 +2,10 @@
 
 use crate::fault::FileFault;
 use crate::files::Files;
+use crate::locking::locked;
 use crate::placing::place;
 use durable_model::FileDisk;
+use std::fs::File;
 use std::io::ErrorKind;
 use std::{fs, io};
 
@@ -30,6 +32,8 @@ fn disk_over(rt: &HostRuntime, path: &str) -> io::Result<FileDisk> {
 impl Files for HostFiles<'_> {
     type Disk = FileDisk;
 
+    type Lock = File;
+
     fn read(&self, path: &str) -> Result<Vec<u8>, FileFault> {
         match fs::read(self.0, path) {
             Ok(bytes) => Ok(bytes),
@@ -37,14 +41,21 @@ impl Files for HostFiles<'_> {
         }
     }
 
-    fn disk(&self, path: &str) -> Result<FileDisk, FileFault> {
+    fn lock(&self, _folder: &str, path: &str) -> Result<File, FileFault> {
+        match locked(self.0, path) {
+            Ok(lock) => Ok(lock),
+            Err(fault) => Err(fault_of(&fault)),
+        }
+    }
+
+    fn disk(&self, _lock: &File, path: &str) -> Result<FileDisk, FileFault> {
         match disk_over(self.0, path) {
             Ok(disk) => Ok(disk),
             Err(fault) => Err(fault_of(&fault)),
         }
     }
 
-    fn put(&mut self, path: &str, bytes: &[u8]) -> Result<(), FileFault> {
+    fn put(&mut self, _lock: &File, path: &str, bytes: &[u8]) -> Result<(), FileFault> {
         match place(self.0, path, bytes) {
             Ok(()) => Ok(()),
             Err(fault) => Err(fault_of(&fault)),

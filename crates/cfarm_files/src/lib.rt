@@ -1,12 +1,14 @@
-//! The files that the program reads and writes, as a trait: one file read whole, disks over files for journals, and a file put in the
-//! place of another. `HostFiles` are those of the machine; a test has its own.
+//! The files that the program reads and writes, as a trait: one file read whole, the lock of a folder, disks over files for journals, and a file put
+//! in the place of another. `HostFiles` are those of the machine; a test has its own.
 #![tactic(auto)]
 
 mod fault;
 mod files;
 mod host;
+mod locking;
 mod placing;
 
 pub use fault::FileFault;
 pub use files::Files;
 pub use host::HostFiles;
+pub use locking::lock_path;

@@ -1,6 +1,6 @@
 //! A file in the place of another.
 
-use std::fs::File;
+use std::fs::{File, OpenOptions};
 use std::io::Write;
 use std::path::Path;
 use std::{fs, io};
@@ -13,16 +13,33 @@ fn folder_of(path: &str) -> Path<'_> {
     }
 }
 
-/// A new file with these bytes, synced. What stood there is lost.
-fn write_synced(rt: &HostRuntime, path: &str, bytes: &[u8]) -> io::Result<()> {
-    let mut file = File::create(rt, path)?;
+/// Whether a plain file or a link is there.
+fn may_be_taken_away(rt: &HostRuntime, path: &str) -> bool {
+    match fs::symlink_metadata(rt, path) {
+        Ok(found) => found.is_file() || found.is_symlink(),
+        Err(_) => false,
+    }
+}
+
+/// A new file. A plain file or a link that stands there is taken away before; anything else there is refused.
+fn new_file(rt: &HostRuntime, path: &str) -> io::Result<File> {
+    if may_be_taken_away(rt, path) {
+        fs::remove_file(rt, path)?;
+    }
+    let mut options = OpenOptions::new();
+    options.write(true).create_new(true).open(rt, path)
+}
+
+/// Writes the bytes to the file and syncs it.
+fn write_synced(file: &mut File, bytes: &[u8]) -> io::Result<()> {
     file.write_all(bytes)?;
     file.sync_all()
 }
 
-/// Writes the bytes beside, and gives that file the name; it is taken away where that is refused.
+/// Writes the bytes to a new file beside, and gives that the name; it is taken away where that is refused.
 fn written_and_renamed(rt: &HostRuntime, beside: &str, path: &str, bytes: &[u8]) -> io::Result<()> {
-    let mut done = write_synced(rt, beside, bytes);
+    let mut file = new_file(rt, beside)?;
+    let mut done = write_synced(&mut file, bytes);
     if done.is_ok() {
         done = fs::rename(rt, beside, path);
     }

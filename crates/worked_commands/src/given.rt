@@ -58,8 +58,22 @@ fn disk_in(alloc: Global, folder: &str, name: &str) -> Option<MemoryDisk> {
     }
 }
 
+/// The lock of a folder in memory.
+#[derive(Drop)]
+pub struct Held;
+
 impl Files for Given<'_> {
     type Disk = MemoryDisk;
+
+    type Lock = Held;
+
+    fn lock(&self, folder: &str, _path: &str) -> Result<Held, FileFault> {
+        match folder {
+            "missing" | "busy" => Err(FileFault::Refused),
+            "locked" => Err(FileFault::NoMemory),
+            _ => Ok(Held),
+        }
+    }
 
     fn read(&self, path: &str) -> Result<Vec<u8>, FileFault> {
         match path {
@@ -72,7 +86,7 @@ impl Files for Given<'_> {
         }
     }
 
-    fn disk(&self, path: &str) -> Result<MemoryDisk, FileFault> {
+    fn disk(&self, _lock: &Held, path: &str) -> Result<MemoryDisk, FileFault> {
         let (folder, name) = path.rsplit_once('/').unwrap_or(("", path));
         if folder == "scarce" {
             return Err(FileFault::NoMemory);
@@ -83,7 +97,7 @@ impl Files for Given<'_> {
         }
     }
 
-    fn put(&mut self, path: &str, bytes: &[u8]) -> Result<(), FileFault> {
+    fn put(&mut self, _lock: &Held, path: &str, bytes: &[u8]) -> Result<(), FileFault> {
         if path.starts_with("full/") {
             return Err(FileFault::Refused);
         }

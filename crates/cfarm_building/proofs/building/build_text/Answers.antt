@@ -15,7 +15,7 @@ returns-in-Err-clause-refused g c =
 pub returns-in-Err-place-clause-refused : goal.returns-in-Err-place-clause-refused
 returns-in-Err-place-clause-refused g c =
     not_placed g.F.Disk.Disk g.H.Naming (g.F.Files.may_give c.args.files.now) c.args.options c.args.text.now _ _ _ _
-    c.in-Ok.built c.in-Ok.ensures.built c.in-Err-place.fault c.in-Err-place.ensures.refused c.in-Err-place.ensures.kept refl
+    c.in-Ok.made.0 c.in-Ok.ensures.built c.in-Err-place.fault c.in-Err-place.ensures.refused c.in-Err-place.ensures.kept refl
 
 -- the report is printed
 pub returns-in-Ok-print_whole-clause-built : goal.returns-in-Ok-print_whole-clause-built
@@ -24,7 +24,7 @@ returns-in-Ok-print_whole-clause-built g c =
     let after = g.W.Write.contents c.print_whole.new.out in
     has_put g.F.Disk.Disk g.H.Naming (g.F.Files.may_give c.args.files.now) c.args.options c.args.text.now
     (g.F.Files.placed c.args.files.now) (g.F.Files.placed c.place.new.files) (λ built. Appends before after (report_line built))
-    c.in-Ok.built c.in-Ok.ensures.built c.deref.result.now c.deref.ensures.value c.in-Ok-place.ensures.put
+    c.in-Ok.made.0 c.in-Ok.ensures.built c.deref.result.now c.deref.ensures.value c.in-Ok-place.ensures.put
     (subst (λ bytes. Appends before after bytes) (c.as_bytes.ensures.value ∙ c.in-Ok-line_of.ensures) c.in-Ok-print_whole.ensures.printed)
 
 -- a beginning of it is
@@ -34,5 +34,5 @@ returns-clause-refused g c =
     let after = g.W.Write.contents c.print_whole.new.out in
     has_put g.F.Disk.Disk g.H.Naming (g.F.Files.may_give c.args.files.now) c.args.options c.args.text.now
     (g.F.Files.placed c.args.files.now) (g.F.Files.placed c.place.new.files) (λ built. IsBegun (report_line built) before after)
-    c.in-Ok.built c.in-Ok.ensures.built c.deref.result.now c.deref.ensures.value c.in-Ok-place.ensures.put
+    c.in-Ok.made.0 c.in-Ok.ensures.built c.deref.result.now c.deref.ensures.value c.in-Ok-place.ensures.put
     (subst (λ bytes. IsBegun bytes before after) (c.as_bytes.ensures.value ∙ c.in-Ok-line_of.ensures) c.in-Err-print_whole.ensures.begun)

@@ -1,10 +1,16 @@
 use Rattle.std.proofs.Common.{sym, subst, ◌∙◌}
 use Rattle.paxos_core_law.specs.NodeState.{IsRoomSize}
-use Rattle.cfarm_building.proofs.Refusing.{no_disk, not_built, ready}
+use Rattle.cfarm_building.proofs.Refusing.{no_disk, no_lock, not_built, ready}
 use Rattle.cfarm_building.proofs.compiling.compiled_by.Goals as goal
 
 pub returns-in-Err-clause-refused : goal.returns-in-Err-clause-refused
 returns-in-Err-clause-refused g c = c.in-Err.ensures.refused
+
+pub returns-in-Err-locked-clause-refused : goal.returns-in-Err-locked-clause-refused
+returns-in-Err-locked-clause-refused g c =
+    let made = c.in-Ok.ensures in
+    no_lock g.F.Disk.Disk g.H.Naming (g.F.Files.may_give c.args.files.now) c.args.options c.args.text.now c.in-Ok.source
+    (ready _ _ made.accepted made.translated made.keeps made.names made.count made.digest) c.in-Err-locked.fault c.in-Err-locked.ensures.refused
 
 pub returns-in-Err-open_disks-clause-refused : goal.returns-in-Err-open_disks-clause-refused
 returns-in-Err-open_disks-clause-refused g c =
