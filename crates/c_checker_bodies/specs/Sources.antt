@@ -1,5 +1,5 @@
 -- The rules of statements, asked of what the reader made: the faults of a part, and what it stands for.
-use Rattle.std.specs.Prelude.{ℕ, List, ◌++◌, Option}
+use Rattle.std.specs.Prelude.{◌≡◌, ℕ, List, ◌++◌, Option}
 use Rattle.c_syntax.specs.declared.identifier.Identifier.{Identifier}
 use Rattle.c_syntax.specs.declared.expression.Expression.{Expression}
 use Rattle.c_syntax.specs.declared.constant.IntegerType.{IntegerType}
@@ -14,7 +14,8 @@ use Rattle.c_syntax.specs.Views.{optional_tree, expression_tree, call_tree, valu
 use Rattle.c_program.specs.declared.action.Target.TheVariants.{Nowhere, Local}
 use Rattle.c_program.specs.Trees.{TermTree, ActionTree, ActionsTree, Declare, Give, Store}
 use Rattle.c_program.specs.declared.action.Value as C
-use Rattle.c_program.specs.Views.{given_tree}
+use Rattle.c_program.specs.declared.action.Action.{Action}
+use Rattle.c_program.specs.Views.{given_tree, action_tree}
 use Rattle.c_checker_rules.specs.declared.errors.CheckError.{CheckError}
 use Rattle.c_checker_rules.specs.declared.context.Context.{Context}
 use Rattle.c_checker_rules.specs.Names.{Scope, meaning_of}
@@ -59,6 +60,10 @@ given_local n value = A.two (Declare n) (Give (Local n) (given_tree value))
 -- a `for` begins with the declaration of a local
 abbrev pub local_start : IntegerType → Identifier → Expression → StartTree
 local_start kind name value = StartLocal kind name (expression_tree value)
+
+-- the action is what this start stands for
+abbrev pub IsStart : ℕ → Here → StartTree → Action → Type 0
+IsStart depth h start a = action_tree a ≡ A.start_action depth h start
 
 -- the condition of a `for`, and what it does behind each turn
 abbrev pub condition_faults : Scope → Option Expression → List CheckError

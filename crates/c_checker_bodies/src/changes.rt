@@ -6,7 +6,7 @@ ghost use Rattle.c_program.specs.Views.{action_tree};
 ghost use Rattle.c_checker_rules.specs.Told.{Tells};
 ghost use Rattle.c_checker_rules.specs.Statements as S;
 ghost use Rattle.c_checker_rules.specs.Actions as A;
-ghost use Rattle.c_checker_bodies.specs.Changes.{becomes, name_changed, cell_changed};
+ghost use Rattle.c_checker_bodies.specs.Changes.{becomes, name_changed, cell_changed, IsChange, TellsOfChange};
 
 use crate::parts::{check_store, check_target};
 use c_checker_rules::{CheckError, Meaning};
@@ -27,8 +27,8 @@ fn check_name_changed(
     value: &Expression,
 ) -> Result<Action, CheckError>
     ensures ok { OnOk result (S.change_faults scope.now (name_changed name.now operator value.now) ≡ []) }
-    ensures action { IfOk result (λ a. action_tree a ≡ A.change_action scope.now (name_changed name.now operator value.now)) }
-    ensures err { IfErr result (λ e. Tells e (S.change_faults scope.now (name_changed name.now operator value.now))) }
+    ensures action { IfOk result (IsChange scope.now (name_changed name.now operator value.now)) }
+    ensures err { IfErr result (TellsOfChange scope.now (name_changed name.now operator value.now)) }
 {
     let target = ok!(check_target(scope, name));
     let left = ok!(variable(alloc, scope, name));
@@ -48,8 +48,8 @@ fn check_cell_changed(
     value: &Expression,
 ) -> Result<Action, CheckError>
     ensures ok { OnOk result (S.change_faults scope.now (cell_changed name.now index.now operator value.now) ≡ []) }
-    ensures action { IfOk result (λ a. action_tree a ≡ A.change_action scope.now (cell_changed name.now index.now operator value.now)) }
-    ensures err { IfErr result (λ e. Tells e (S.change_faults scope.now (cell_changed name.now index.now operator value.now))) }
+    ensures action { IfOk result (IsChange scope.now (cell_changed name.now index.now operator value.now)) }
+    ensures err { IfErr result (TellsOfChange scope.now (cell_changed name.now index.now operator value.now)) }
 {
     let (number, kind) = ok!(array(scope, name));
     let Typed { term: cell, .. } = ok!(check_expression(alloc, scope, index));
@@ -65,8 +65,8 @@ pub(crate) fn check_change(
     change: &Change,
 ) -> Result<Action, CheckError>
     ensures ok { OnOk result (S.change_faults scope.now (change_tree change.now) ≡ []) }
-    ensures action { IfOk result (λ a. action_tree a ≡ A.change_action scope.now (change_tree change.now)) }
-    ensures err { IfErr result (λ e. Tells e (S.change_faults scope.now (change_tree change.now))) }
+    ensures action { IfOk result (IsChange scope.now (change_tree change.now)) }
+    ensures err { IfErr result (TellsOfChange scope.now (change_tree change.now)) }
 {
     let operator = change.operator;
     match &change.lvalue {

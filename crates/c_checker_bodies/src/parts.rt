@@ -11,7 +11,7 @@ ghost use Rattle.c_checker_rules.specs.Locals.{with_local};
 ghost use Rattle.c_checker_rules.specs.Statements as S;
 ghost use Rattle.c_checker_rules.specs.Actions as A;
 ghost use Rattle.c_checker_rules.specs.declared.errors.CheckError.TheVariants.{StrayBreak};
-ghost use Rattle.c_checker_bodies.specs.Sources.{call_action, assignment_faults, assignment_action, store_faults, store_action, given_local, local_action, local_start, condition_faults, condition_term, step_faults, step_tree, return_faults, return_action};
+ghost use Rattle.c_checker_bodies.specs.Sources.{call_action, assignment_faults, assignment_action, store_faults, store_action, given_local, local_action, local_start, IsStart, condition_faults, condition_term, step_faults, step_tree, return_faults, return_action};
 
 use crate::changes::check_set;
 use crate::here::Here;
@@ -145,7 +145,7 @@ fn check_local_start(
     value: &Expression,
 ) -> Result<Action, CheckError>
     ensures ok { OnOk result (S.start_faults depth here.old (local_start kind name.now value.now) ≡ []) }
-    ensures action { IfOk result (λ a. action_tree a ≡ A.start_action depth here.old (local_start kind name.now value.now)) }
+    ensures action { IfOk result (IsStart depth here.old (local_start kind name.now value.now)) }
     ensures here { OnOk result (here.new ≡ S.with_start depth here.old (local_start kind name.now value.now)) }
     ensures err { IfErr result (λ e. Tells e (S.start_faults depth here.old (local_start kind name.now value.now))) }
 {

@@ -8,9 +8,8 @@ ghost use Rattle.c_program.specs.Views.{action_tree, actions_tree};
 ghost use Rattle.c_checker_rules.specs.Told.{Tells};
 ghost use Rattle.c_checker_rules.specs.Locals.{deeper, looping, left};
 ghost use Rattle.c_checker_rules.specs.Statements as S;
-ghost use Rattle.c_checker_rules.specs.Actions as A;
 ghost use Rattle.c_checker_bodies.specs.Sources.{faults_in, action_for, faults_in_all, actions_for, block_actions, behind_all};
-ghost use Rattle.c_checker_bodies.specs.Holders.{if_tree, while_tree, do_tree};
+ghost use Rattle.c_checker_bodies.specs.Holders.{if_tree, while_tree, do_tree, TellsOf, StandsFor};
 ghost use Rattle.c_checker_bodies.specs.ForSources.{NoneInFor, TellsOfFor, IsFor, behind_for};
 
 use crate::changes::check_change;
@@ -173,9 +172,9 @@ fn check_if(
 ) -> Result<Action, CheckError>
     requires { context.depth + statement_height (statement_tree inner.now) ≤ 1000 }
     ensures ok { OnOk result (S.statement_faults functions.now context here.old (if_tree inner.now condition.now) ≡ []) }
-    ensures action { IfOk result (λ a. action_tree a ≡ A.action_of functions.now context.depth here.old (if_tree inner.now condition.now)) }
+    ensures action { IfOk result (StandsFor functions.now context here.old (if_tree inner.now condition.now)) }
     ensures here { OnOk result (here.new ≡ S.after context.depth here.old (if_tree inner.now condition.now)) }
-    ensures err { IfErr result (λ e. Tells e (S.statement_faults functions.now context here.old (if_tree inner.now condition.now))) }
+    ensures err { IfErr result (TellsOf functions.now context here.old (if_tree inner.now condition.now)) }
 {
     let condition = ok!(check_expression(alloc, &here.scope, condition));
     let holds = check_inner(alloc, functions, context, here, inner);
@@ -197,9 +196,9 @@ fn check_while(
 ) -> Result<Action, CheckError>
     requires { context.depth + statement_height (statement_tree inner.now) ≤ 1000 }
     ensures ok { OnOk result (S.statement_faults functions.now context here.old (while_tree inner.now condition.now) ≡ []) }
-    ensures action { IfOk result (λ a. action_tree a ≡ A.action_of functions.now context.depth here.old (while_tree inner.now condition.now)) }
+    ensures action { IfOk result (StandsFor functions.now context here.old (while_tree inner.now condition.now)) }
     ensures here { OnOk result (here.new ≡ S.after context.depth here.old (while_tree inner.now condition.now)) }
-    ensures err { IfErr result (λ e. Tells e (S.statement_faults functions.now context here.old (while_tree inner.now condition.now))) }
+    ensures err { IfErr result (TellsOf functions.now context here.old (while_tree inner.now condition.now)) }
 {
     let condition = ok!(check_expression(alloc, &here.scope, condition));
     let body = check_inner(alloc, functions, looping(context), here, inner);
@@ -221,9 +220,9 @@ fn check_do(
 ) -> Result<Action, CheckError>
     requires { context.depth + statement_height (statement_tree inner.now) ≤ 1000 }
     ensures ok { OnOk result (S.statement_faults functions.now context here.old (do_tree inner.now condition.now) ≡ []) }
-    ensures action { IfOk result (λ a. action_tree a ≡ A.action_of functions.now context.depth here.old (do_tree inner.now condition.now)) }
+    ensures action { IfOk result (StandsFor functions.now context here.old (do_tree inner.now condition.now)) }
     ensures here { OnOk result (here.new ≡ S.after context.depth here.old (do_tree inner.now condition.now)) }
-    ensures err { IfErr result (λ e. Tells e (S.statement_faults functions.now context here.old (do_tree inner.now condition.now))) }
+    ensures err { IfErr result (TellsOf functions.now context here.old (do_tree inner.now condition.now)) }
 {
     let body = ok!(check_inner(alloc, functions, looping(context), here, inner));
     let condition = check_expression(alloc, &here.scope, condition);

@@ -49,7 +49,7 @@ fn read_initial(alloc: Memory, tokens: &[Token]) -> Result<(Initial, &[Token]), 
 }
 
 /// Initial expressions with a comma between each two.
-#[tactic(auto, using(c_reader_statements::proofs::Loops::commas_begin))]
+#[tactic(auto, using(c_reader_statement_laws::proofs::Loops::commas_begin))]
 fn read_initials(alloc: Memory, tokens: &[Token]) -> Result<(Vec<Initial>, &[Token]), Misread>
     ensures ok { IfOk result (λ r. commas (initial highest) tokens.now ≡ Ok (map initial_tree r.0.items, r.1.now)) }
     ensures err { IfErr result (λ e. e.fault ≢ Fault.NoMemory → commas (initial highest) tokens.now ≡ Err e.fault) }

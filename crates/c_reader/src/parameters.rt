@@ -40,7 +40,7 @@ fn read_open_parameter(alloc: Global, tokens: &[Token]) -> Result<(OpenParameter
 }
 
 /// Parameters with a comma between each two.
-#[tactic(auto, using(c_reader_statements::proofs::Loops::commas_begin))]
+#[tactic(auto, using(c_reader_statement_laws::proofs::Loops::commas_begin))]
 fn read_listed(alloc: Global, tokens: &[Token]) -> Result<(Vec<OpenParameter>, &[Token]), Fault>
     ensures ok { IfOk result (λ r. commas open_parameter tokens.now ≡ Ok (r.0.items, r.1.now)) }
     ensures err { IfErr result (λ e. e ≢ Fault.NoMemory → commas open_parameter tokens.now ≡ Err e) }

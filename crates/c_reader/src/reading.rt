@@ -58,7 +58,7 @@ fn told(misread: Misread, tokens: &[Token], end: usize) -> ReadError
 }
 
 /// Declarations up to the end, which is at this offset.
-#[tactic(auto, using(c_reader_statements::proofs::Loops::each_begins), unfolding(c_reader_declaration_laws::specs::Reading::declarations))]
+#[tactic(auto, using(c_reader_statement_laws::proofs::Loops::each_begins), unfolding(c_reader_declaration_laws::specs::Reading::declarations))]
 fn read_declarations(
     alloc: Global,
     tokens: &[Token],

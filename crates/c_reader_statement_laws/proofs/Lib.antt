@@ -2,3 +2,4 @@ pub mod StatementsTaken
 pub mod Stays
 pub mod StatementsAgain
 pub mod Body
+pub mod Loops

@@ -2,6 +2,7 @@
 
 ghost use Rattle.std.specs.Prelude.{◌≡◌, Err};
 ghost use Rattle.c_reader_statement_laws.specs.Reading.{first_word, first_of, too_high};
+ghost use Rattle.c_reader_statements.specs.Heads.{is_whole};
 
 use crate::parts::is_cell_next;
 use c_reader_statement_laws::First;
@@ -55,6 +56,25 @@ pub(crate) fn first_of(block: bool, tokens: &[Token]) -> First
         First::Assign
     } else {
         first_word(tokens)
+    }
+}
+
+/// Whether what begins so has no statement inside.
+pub(crate) fn is_whole(first: First) -> bool
+    ensures { result ≡ is_whole first }
+{
+    match first {
+        First::Block | First::If | First::While | First::Do | First::For => false,
+        First::Empty
+        | First::Local
+        | First::Call
+        | First::Assign
+        | First::Store
+        | First::Step
+        | First::Break
+        | First::Continue
+        | First::Return
+        | First::Other => true,
     }
 }
 

@@ -1,9 +1,9 @@
 //! What statements begin with, up to the statements inside them.
 
-ghost use Rattle.std.specs.Prelude.{◌≡◌, ◌≢◌, IfOk, IfErr, Ok, Err};
-ghost use Rattle.c_syntax.specs.Views.{optional_tree, expression_tree, set_tree};
+ghost use Rattle.std.specs.Prelude.{◌≡◌, ◌≢◌, true, false, IfOk, IfErr, Ok, Err};
+ghost use Rattle.c_syntax.specs.Views.{optional_tree, expression_tree, set_tree, statement_tree};
 ghost use Rattle.c_reader_statement_laws.specs.Reading.{Below, condition, step, by_first, if_in, while_in, for_in};
-ghost use Rattle.c_reader_statements.specs.Heads.{BeginsIf, behind_loop, behind_head};
+ghost use Rattle.c_reader_statements.specs.Heads.{BeginsIf, Begins, BeginsWhole, is_whole, behind_loop};
 
 use crate::sets::{read_set, read_start};
 use crate::simple::{
@@ -24,11 +24,9 @@ pub(crate) enum Loop {
     For(Box<ForHead>),
 }
 
-/// What a statement begins with, up to a statement inside it.
+/// What a statement that has statements inside begins with, up to those.
 #[derive(Drop)]
 pub(crate) enum Head {
-    /// All of a statement that has none inside.
-    Whole(Statement),
     /// The `{` of a block.
     Block,
     /// An `if` and its condition.
@@ -127,7 +125,32 @@ fn read_for_head(alloc: Global, fuel: u8, tokens: &[Token]) -> Result<(Loop, &[T
     Ok((Loop::For(ok!(boxed(alloc, start, condition, step))), rest))
 }
 
-/// What begins so, up to a statement inside it; its parts have this fuel.
+/// A statement that has none inside, whose parts have this fuel, or the fault of what begins no statement.
+pub(crate) fn read_whole(
+    alloc: Global,
+    fuel: u8,
+    first: First,
+    tokens: &[Token],
+) -> Result<(Statement, &[Token]), Fault>
+    requires { is_whole first ≡ true }
+    ensures ok { IfOk result (λ r. BeginsWhole fuel first tokens.now (statement_tree r.0) r.1.now) }
+    ensures err { IfErr result (λ e. e ≢ Fault.NoMemory → (below : Below) → by_first below fuel first tokens.now ≡ Err e) }
+{
+    match first {
+        First::Empty => read_empty(tokens),
+        First::Local => read_local_statement(alloc, fuel, tokens),
+        First::Call => read_call_statement(alloc, fuel, tokens),
+        First::Assign => read_assign(alloc, fuel, tokens),
+        First::Store => read_store(alloc, fuel, tokens),
+        First::Step => read_step_statement(alloc, fuel, tokens),
+        First::Break => read_break(tokens),
+        First::Continue => read_continue(tokens),
+        First::Return => read_return(alloc, fuel, tokens),
+        _ => Err(misfit(tokens)),
+    }
+}
+
+/// What begins so, up to the statements inside it; its parts have this fuel.
 #[tactic(auto, unfolding(c_reader_statement_laws::specs::Reading::block_in, c_reader_statement_laws::specs::Reading::do_in))]
 pub(crate) fn read_head(
     alloc: Global,
@@ -135,40 +158,31 @@ pub(crate) fn read_head(
     first: First,
     tokens: &[Token],
 ) -> Result<(Head, &[Token]), Fault>
-    ensures ok { IfOk result (λ r. (below : Below) → by_first below fuel first tokens.now ≡ behind_head below fuel r.0 r.1.now) }
+    requires { is_whole first ≡ false }
+    ensures ok { IfOk result (λ r. Begins fuel first tokens.now r.0 r.1.now) }
     ensures err { IfErr result (λ e. e ≢ Fault.NoMemory → (below : Below) → by_first below fuel first tokens.now ≡ Err e) }
 {
-    let (statement, rest) = match first {
+    match first {
         First::Block => {
             let rest = ok!(read_sign(Punctuator::LeftBrace, tokens));
-            return Ok((Head::Block, rest));
+            Ok((Head::Block, rest))
         }
         First::If => {
             let (condition, rest) = ok!(read_if_head(alloc, fuel, tokens));
-            return Ok((Head::If(condition), rest));
+            Ok((Head::If(condition), rest))
         }
         First::While => {
             let (head, rest) = ok!(read_while_head(alloc, fuel, tokens));
-            return Ok((Head::Loop(head), rest));
+            Ok((Head::Loop(head), rest))
         }
         First::For => {
             let (head, rest) = ok!(read_for_head(alloc, fuel, tokens));
-            return Ok((Head::Loop(head), rest));
+            Ok((Head::Loop(head), rest))
         }
         First::Do => {
             let rest = ok!(read_word(Keyword::Do, tokens));
-            return Ok((Head::Do, rest));
+            Ok((Head::Do, rest))
         }
-        First::Empty => ok!(read_empty(tokens)),
-        First::Local => ok!(read_local_statement(alloc, fuel, tokens)),
-        First::Call => ok!(read_call_statement(alloc, fuel, tokens)),
-        First::Assign => ok!(read_assign(alloc, fuel, tokens)),
-        First::Store => ok!(read_store(alloc, fuel, tokens)),
-        First::Step => ok!(read_step_statement(alloc, fuel, tokens)),
-        First::Break => ok!(read_break(tokens)),
-        First::Continue => ok!(read_continue(tokens)),
-        First::Return => ok!(read_return(alloc, fuel, tokens)),
-        First::Other => return Err(misfit(tokens)),
-    };
-    Ok((Head::Whole(statement), rest))
+        _ => Err(misfit(tokens)),
+    }
 }

@@ -6,6 +6,7 @@ ghost use Rattle.c_reader_tokens.specs.Tokens.{sign};
 ghost use Rattle.c_reader_expression_laws.specs.Reading.{expression_at};
 ghost use Rattle.c_reader_productions.specs.Combining.{commas};
 ghost use Rattle.c_reader_productions.specs.Parts.{less, name, arguments, call, value, is_cell_next, local_value, local};
+ghost use Rattle.c_reader_statements.specs.Heads.{given, local_end};
 
 use c_reader_expressions::expression;
 use c_reader_tokens::{
@@ -82,6 +83,21 @@ fn read_arguments(
     Ok((Row::from_vec(expressions), rest))
 }
 
+/// Arguments between parentheses.
+fn read_given(
+    alloc: Global,
+    fuel: u8,
+    tokens: &[Token],
+) -> Result<(Row<Expression>, &[Token]), Fault>
+    ensures ok { IfOk result (λ r. given fuel tokens.now ≡ Ok (map expression_tree r.0, r.1.now)) }
+    ensures err { IfErr result (λ e. e ≢ Fault.NoMemory → given fuel tokens.now ≡ Err e) }
+{
+    let rest = ok!(read_sign(Punctuator::LeftParenthesis, tokens));
+    let (arguments, rest) = ok!(read_arguments(alloc, fuel, rest));
+    let (arguments, rest) = ok!(beside(arguments, read_sign(Punctuator::RightParenthesis, rest)));
+    Ok((arguments, rest))
+}
+
 /// A call (C99 6.5.2.2).
 #[tactic(auto, unfolding(c_reader_productions::specs::Parts::call))]
 pub(crate) fn read_call(
@@ -94,13 +110,7 @@ pub(crate) fn read_call(
 {
     let below = ok!(one_less(fuel));
     let (callee, rest) = ok!(read_name_in(alloc, below, tokens));
-    let (callee, rest) = ok!(beside(callee, read_sign(Punctuator::LeftParenthesis, rest)));
-    let (callee, (arguments, rest)) = ok!(beside(callee, read_arguments(alloc, below, rest)));
-    let (parts, rest) = ok!(beside(
-        (callee, arguments),
-        read_sign(Punctuator::RightParenthesis, rest),
-    ));
-    let (callee, arguments) = parts;
+    let (callee, (arguments, rest)) = ok!(beside(callee, read_given(alloc, below, rest)));
     Ok((Call { callee, arguments }, rest))
 }
 
@@ -151,6 +161,20 @@ fn read_local_value(
     Ok((Some(value), rest))
 }
 
+/// The value of a local, if it has one, and `;`.
+fn read_local_end(
+    alloc: Global,
+    fuel: u8,
+    tokens: &[Token],
+) -> Result<(Option<Value>, &[Token]), Fault>
+    ensures ok { IfOk result (λ r. local_end fuel tokens.now ≡ Ok (optional_tree value_tree r.0, r.1.now)) }
+    ensures err { IfErr result (λ e. e ≢ Fault.NoMemory → local_end fuel tokens.now ≡ Err e) }
+{
+    let (value, rest) = ok!(read_local_value(alloc, fuel, tokens));
+    let (value, rest) = ok!(beside(value, read_sign(Punctuator::Semicolon, rest)));
+    Ok((value, rest))
+}
+
 /// The declaration of a local (C99 6.7), whose parts have this fuel.
 #[tactic(auto, unfolding(c_reader_productions::specs::Parts::local))]
 pub(crate) fn read_local(
@@ -163,8 +187,6 @@ pub(crate) fn read_local(
 {
     let (kind, rest) = ok!(read_type(tokens));
     let (name, rest) = ok!(read_name_in(alloc, fuel, rest));
-    let (name, (value, rest)) = ok!(beside(name, read_local_value(alloc, fuel, rest)));
-    let (parts, rest) = ok!(beside((name, value), read_sign(Punctuator::Semicolon, rest)));
-    let (name, value) = parts;
+    let (name, (value, rest)) = ok!(beside(name, read_local_end(alloc, fuel, rest)));
     Ok((Local { kind, name, value }, rest))
 }

@@ -1,17 +1,20 @@
 //! Readers of statements (C99 6.8). Those that call each other read no more than the statements inside a
 //! statement, and put it together.
 
-ghost use Rattle.std.specs.Prelude.{◌≡◌, ◌≢◌, IfOk, IfErr, Ok, Err, map};
+ghost use Rattle.std.specs.Prelude.{◌≡◌, ◌≢◌, false, IfOk, IfErr, Ok, Err, map};
 ghost use Rattle.c_syntax.specs.Views.{statement_tree, statements_tree, expression_tree};
 ghost use Rattle.c_syntax.specs.Trees as T;
 ghost use Rattle.c_syntax.specs.declared.keyword.Keyword.TheVariants as K;
+ghost use Rattle.c_syntax.specs.declared.punctuator.Punctuator.TheVariants as P;
+ghost use Rattle.c_reader_tokens.specs.Tokens.{sign};
+ghost use Rattle.c_reader_productions.specs.Combining.{marks};
 ghost use Rattle.c_reader_tokens.specs.Peeking.{is_word_next};
 ghost use Rattle.c_reader_statement_laws.specs.Reading.{items_in, block_in, else_in, branches_in, do_end, statement_at};
-ghost use Rattle.c_reader_statements.specs.Branches.{branched_tree, branches_tree, if_else_tree, other_tree};
-ghost use Rattle.c_reader_statements.specs.Heads.{behind_do, behind_head, looped};
+ghost use Rattle.c_reader_statements.specs.Branches.{branched_tree, branches_tree, other_tree};
+ghost use Rattle.c_reader_statements.specs.Heads.{behind, behind_do, looped};
 
-use crate::first::{first_of, too_high};
-use crate::heads::{Head, Loop, read_head};
+use crate::first::{first_of, is_whole, too_high};
+use crate::heads::{Head, Loop, read_head, read_whole};
 use c_reader_expressions::expression;
 use c_reader_tokens::{Fault, is_sign_next, is_word_next, read_sign, read_word};
 use c_syntax::{Expression, Keyword, Punctuator, Statement, Token};
@@ -26,56 +29,34 @@ fn boxed(alloc: Global, statement: Statement) -> Result<Box<Statement>, Fault>
     Ok(Box::new(alloc, statement)?)
 }
 
-/// An `if` with `else`.
-fn branched_twice(
-    alloc: Global,
-    condition: Expression,
-    then: Box<Statement>,
-    other: Statement,
-) -> Result<Statement, Fault>
-    ensures ok { IfOk result (λ s. statement_tree s ≡ if_else_tree condition then.value other) }
-    ensures err { IfErr result (λ e. e ≡ Fault.NoMemory) }
-{
-    let ((condition, then), other) = ok!(beside((condition, then), boxed(alloc, other)));
-    Ok(Statement::IfElse(condition, then, other))
-}
-
 /// What an `if` makes of its condition, its statement, and what stands behind `else`.
-fn branched(
-    alloc: Global,
-    condition: Expression,
-    branches: (Statement, Option<Statement>),
-) -> Result<Statement, Fault>
-    ensures ok { IfOk result (λ s. statement_tree s ≡ branched_tree condition branches) }
-    ensures err { IfErr result (λ e. e ≡ Fault.NoMemory) }
+fn branched(condition: Expression, branches: (Box<Statement>, Option<Box<Statement>>)) -> Statement
+    ensures { statement_tree result ≡ branched_tree condition branches }
 {
     let (then, other) = branches;
-    let ((condition, other), then) = ok!(beside((condition, other), boxed(alloc, then)));
     match other {
-        None => Ok(Statement::If(condition, then)),
-        Some(other) => branched_twice(alloc, condition, then, other),
+        None => Statement::If(condition, then),
+        Some(other) => Statement::IfElse(condition, then, other),
     }
 }
 
 /// What a loop makes of its body.
-fn looped(alloc: Global, head: Loop, body: Statement) -> Result<Statement, Fault>
-    ensures ok { IfOk result (λ s. statement_tree s ≡ looped head (statement_tree body)) }
-    ensures err { IfErr result (λ e. e ≡ Fault.NoMemory) }
+fn looped(head: Loop, body: Box<Statement>) -> Statement
+    ensures { statement_tree result ≡ looped head (statement_tree body.value) }
 {
-    let (head, body) = ok!(beside(head, boxed(alloc, body)));
     match head {
-        Loop::While(condition) => Ok(Statement::While(condition, body)),
-        Loop::For(head) => Ok(Statement::For(head, body)),
+        Loop::While(condition) => Statement::While(condition, body),
+        Loop::For(head) => Statement::For(head, body),
     }
 }
 
-/// A `do` with its body and its condition.
-fn repeated(alloc: Global, body: Statement, condition: Expression) -> Result<Statement, Fault>
-    ensures ok { IfOk result (λ s. statement_tree s ≡ T.Do (statement_tree body) (expression_tree condition)) }
-    ensures err { IfErr result (λ e. e ≡ Fault.NoMemory) }
+/// The `)` and the `;` behind the condition of a `do`.
+fn read_closing(tokens: &[Token]) -> Result<&[Token], Fault>
+    ensures ok { IfOk result (λ rest. marks (sign P.RightParenthesis) (sign P.Semicolon) tokens.now ≡ Ok rest.now) }
+    ensures err { IfErr result (λ e. marks (sign P.RightParenthesis) (sign P.Semicolon) tokens.now ≡ Err e) }
 {
-    let (condition, body) = ok!(beside(condition, boxed(alloc, body)));
-    Ok(Statement::Do(body, condition))
+    let rest = ok!(read_sign(Punctuator::RightParenthesis, tokens));
+    read_sign(Punctuator::Semicolon, rest)
 }
 
 /// The condition behind the body of a `do`, and `;` (C99 6.8.5.2).
@@ -87,8 +68,7 @@ fn read_do_end(alloc: Global, fuel: u8, tokens: &[Token]) -> Result<(Expression,
     let rest = ok!(read_word(Keyword::While, tokens));
     let rest = ok!(read_sign(Punctuator::LeftParenthesis, rest));
     let (condition, rest) = ok!(expression(alloc, fuel, 0, rest));
-    let (condition, rest) = ok!(beside(condition, read_sign(Punctuator::RightParenthesis, rest)));
-    let (condition, rest) = ok!(beside(condition, read_sign(Punctuator::Semicolon, rest)));
+    let (condition, rest) = ok!(beside(condition, read_closing(rest)));
     Ok((condition, rest))
 }
 
@@ -139,13 +119,27 @@ fn read_items(
     Ok((statements, rest))
 }
 
+/// A statement inside another, in a box.
+#[cycle(statements)]
+fn read_inside(
+    alloc: Global,
+    fuel: u8,
+    tokens: &[Token],
+) -> Result<(Box<Statement>, &[Token]), Fault>
+    ensures ok { IfOk result (λ r. statement_at fuel false tokens.now ≡ Ok (statement_tree r.0.value, r.1.now)) }
+    ensures err { IfErr result (λ e. e ≢ Fault.NoMemory → statement_at fuel false tokens.now ≡ Err e) }
+{
+    let (statement, rest) = ok!(read_statement(alloc, fuel, false, tokens));
+    Ok((ok!(boxed(alloc, statement)), rest))
+}
+
 /// The statement behind `else`, if that is next.
 #[cycle(statements)]
 fn read_other(
     alloc: Global,
     fuel: u8,
     tokens: &[Token],
-) -> Result<(Option<Statement>, &[Token]), Fault>
+) -> Result<(Option<Box<Statement>>, &[Token]), Fault>
     ensures ok { IfOk result (λ r. else_in (statement_at fuel) tokens.now ≡ Ok (other_tree r.0, r.1.now)) }
     ensures err { IfErr result (λ e. e ≢ Fault.NoMemory → else_in (statement_at fuel) tokens.now ≡ Err e) }
 {
@@ -153,7 +147,7 @@ fn read_other(
         return Ok((None, tokens));
     }
     let rest = ok!(read_word(Keyword::Else, tokens));
-    let (other, rest) = ok!(read_statement(alloc, fuel, false, rest));
+    let (other, rest) = ok!(read_inside(alloc, fuel, rest));
     Ok((Some(other), rest))
 }
 
@@ -164,11 +158,11 @@ fn read_branches(
     alloc: Global,
     fuel: u8,
     tokens: &[Token],
-) -> Result<((Statement, Option<Statement>), &[Token]), Fault>
+) -> Result<((Box<Statement>, Option<Box<Statement>>), &[Token]), Fault>
     ensures ok { IfOk result (λ r. branches_in (statement_at fuel) tokens.now ≡ Ok (branches_tree r.0, r.1.now)) }
     ensures err { IfErr result (λ e. e ≢ Fault.NoMemory → branches_in (statement_at fuel) tokens.now ≡ Err e) }
 {
-    let (then, rest) = ok!(read_statement(alloc, fuel, false, tokens));
+    let (then, rest) = ok!(read_inside(alloc, fuel, tokens));
     let (then, (other, rest)) = ok!(beside(then, read_other(alloc, fuel, rest)));
     Ok(((then, other), rest))
 }
@@ -179,9 +173,9 @@ fn read_do(alloc: Global, fuel: u8, tokens: &[Token]) -> Result<(Statement, &[To
     ensures ok { IfOk result (λ r. behind_do (statement_at fuel) fuel tokens.now ≡ Ok (statement_tree r.0, r.1.now)) }
     ensures err { IfErr result (λ e. e ≢ Fault.NoMemory → behind_do (statement_at fuel) fuel tokens.now ≡ Err e) }
 {
-    let (body, rest) = ok!(read_statement(alloc, fuel, false, tokens));
+    let (body, rest) = ok!(read_inside(alloc, fuel, tokens));
     let (body, (condition, rest)) = ok!(beside(body, read_do_end(alloc, fuel, rest)));
-    Ok((ok!(repeated(alloc, body, condition)), rest))
+    Ok((Statement::Do(body, condition), rest))
 }
 
 /// What stands behind a head, whose statements have this fuel.
@@ -193,11 +187,10 @@ fn read_behind(
     head: Head,
     tokens: &[Token],
 ) -> Result<(Statement, &[Token]), Fault>
-    ensures ok { IfOk result (λ r. behind_head (statement_at fuel) fuel head tokens.now ≡ Ok (statement_tree r.0, r.1.now)) }
-    ensures err { IfErr result (λ e. e ≢ Fault.NoMemory → behind_head (statement_at fuel) fuel head tokens.now ≡ Err e) }
+    ensures ok { IfOk result (λ r. behind (statement_at fuel) fuel head tokens.now ≡ Ok (statement_tree r.0, r.1.now)) }
+    ensures err { IfErr result (λ e. e ≢ Fault.NoMemory → behind (statement_at fuel) fuel head tokens.now ≡ Err e) }
 {
     match head {
-        Head::Whole(statement) => Ok((statement, tokens)),
         Head::Block => {
             let (statements, rest) = ok!(read_items(alloc, fuel, tokens));
             let rest = ok!(read_sign(Punctuator::RightBrace, rest));
@@ -206,12 +199,12 @@ fn read_behind(
         Head::If(condition) => {
             let branches = read_branches(alloc, fuel, tokens);
             let (condition, (branches, rest)) = ok!(beside(condition, branches));
-            Ok((ok!(branched(alloc, condition, branches)), rest))
+            Ok((branched(condition, branches), rest))
         }
         Head::Loop(head) => {
-            let body = read_statement(alloc, fuel, false, tokens);
+            let body = read_inside(alloc, fuel, tokens);
             let (head, (body, rest)) = ok!(beside(head, body));
-            Ok((ok!(looped(alloc, head, body)), rest))
+            Ok((looped(head, body), rest))
         }
         Head::Do => read_do(alloc, fuel, tokens),
     }
@@ -232,6 +225,9 @@ fn read_statement(
     let first = first_of(block, tokens);
     if fuel == 0 {
         return Err(too_high(first, tokens));
+    }
+    if is_whole(first) {
+        return read_whole(alloc, fuel - 1, first, tokens);
     }
     let (head, rest) = ok!(read_head(alloc, fuel - 1, first, tokens));
     read_behind(alloc, fuel - 1, head, rest)

@@ -3,8 +3,13 @@
 ghost use Rattle.std.specs.Prelude.{◌≡◌, ◌≢◌, IfOk, IfErr, Ok, Err};
 ghost use Rattle.c_syntax.specs.Statements.{one};
 ghost use Rattle.c_syntax.specs.Views.{expression_tree, lvalue_tree, change_tree, set_tree, start_tree};
+ghost use Rattle.c_syntax.specs.declared.punctuator.Punctuator.TheVariants as P;
+ghost use Rattle.c_reader_tokens.specs.Tokens.{sign};
+ghost use Rattle.c_reader_expression_laws.specs.Reading.{expression_at};
+ghost use Rattle.c_reader_productions.specs.Combining.{◌▷◌};
 ghost use Rattle.c_reader_productions.specs.Deeds.{changing};
 ghost use Rattle.c_reader_productions.specs.Parts.{cell, lvalue, prefixed, set_behind, set, start_local, start_set, start};
+ghost use Rattle.c_reader_statements.specs.Heads.{index, becoming};
 
 use crate::parts::{is_cell_next, one_less, read_name_in};
 use c_reader_expressions::expression;
@@ -19,7 +24,18 @@ use c_syntax::{
 use lang_parts::{beside, ok};
 use std::alloc::Global;
 
-/// A cell: an array's name, and an index between brackets (C99 6.5.2.1).
+/// An index between brackets.
+fn read_index(alloc: Global, fuel: u8, tokens: &[Token]) -> Result<(Expression, &[Token]), Fault>
+    ensures ok { IfOk result (λ r. index fuel tokens.now ≡ Ok (expression_tree r.0, r.1.now)) }
+    ensures err { IfErr result (λ e. e ≢ Fault.NoMemory → index fuel tokens.now ≡ Err e) }
+{
+    let rest = ok!(read_sign(Punctuator::LeftBracket, tokens));
+    let (index, rest) = ok!(expression(alloc, fuel, 0, rest));
+    let (index, rest) = ok!(beside(index, read_sign(Punctuator::RightBracket, rest)));
+    Ok((index, rest))
+}
+
+/// A cell: an array's name and an index (C99 6.5.2.1).
 #[tactic(auto, unfolding(c_reader_productions::specs::Parts::cell))]
 pub(crate) fn read_cell(
     alloc: Global,
@@ -31,10 +47,8 @@ pub(crate) fn read_cell(
 {
     let below = ok!(one_less(fuel));
     let (array, rest) = ok!(read_name_in(alloc, below, tokens));
-    let (array, rest) = ok!(beside(array, read_sign(Punctuator::LeftBracket, rest)));
-    let (array, (index, rest)) = ok!(beside(array, expression(alloc, below, 0, rest)));
-    let (cell, rest) = ok!(beside((array, index), read_sign(Punctuator::RightBracket, rest)));
-    Ok((cell, rest))
+    let (array, (index, rest)) = ok!(beside(array, read_index(alloc, below, rest)));
+    Ok(((array, index), rest))
 }
 
 #[tactic(auto, unfolding(c_reader_productions::specs::Parts::lvalue))]
@@ -48,6 +62,21 @@ fn read_lvalue(alloc: Global, fuel: u8, tokens: &[Token]) -> Result<(Lvalue, &[T
     }
     let (variable, rest) = ok!(read_name_in(alloc, fuel, tokens));
     Ok((Lvalue::Variable(variable), rest))
+}
+
+/// `=`, an expression and `;`.
+pub(crate) fn read_becoming(
+    alloc: Global,
+    fuel: u8,
+    tokens: &[Token],
+) -> Result<(Expression, &[Token]), Fault>
+    ensures ok { IfOk result (λ r. becoming (expression_at fuel 0) tokens.now ≡ Ok (expression_tree r.0, r.1.now)) }
+    ensures err { IfErr result (λ e. e ≢ Fault.NoMemory → becoming (expression_at fuel 0) tokens.now ≡ Err e) }
+{
+    let rest = ok!(read_sign(Punctuator::Assign, tokens));
+    let (value, rest) = ok!(expression(alloc, fuel, 0, rest));
+    let (value, rest) = ok!(beside(value, read_sign(Punctuator::Semicolon, rest)));
+    Ok((value, rest))
 }
 
 /// What `++` adds and `--` subtracts.
@@ -102,6 +131,19 @@ pub(crate) fn read_prefixed(
     ))
 }
 
+/// `=` and an expression.
+fn read_set_value(
+    alloc: Global,
+    fuel: u8,
+    tokens: &[Token],
+) -> Result<(Expression, &[Token]), Fault>
+    ensures ok { IfOk result (λ r. (sign P.Assign ▷ expression_at fuel 0) tokens.now ≡ Ok (expression_tree r.0, r.1.now)) }
+    ensures err { IfErr result (λ e. e ≢ Fault.NoMemory → (sign P.Assign ▷ expression_at fuel 0) tokens.now ≡ Err e) }
+{
+    let rest = ok!(read_sign(Punctuator::Assign, tokens));
+    expression(alloc, fuel, 0, rest)
+}
+
 /// An lvalue, and behind it what a `for` sets it to or how it is changed.
 #[tactic(auto, unfolding(c_reader_productions::specs::Parts::set_behind))]
 fn read_set_behind(alloc: Global, fuel: u8, tokens: &[Token]) -> Result<(Set, &[Token]), Fault>
@@ -110,8 +152,7 @@ fn read_set_behind(alloc: Global, fuel: u8, tokens: &[Token]) -> Result<(Set, &[
 {
     let (lvalue, rest) = ok!(read_lvalue(alloc, fuel, tokens));
     if is_sign_next(Punctuator::Assign, rest) {
-        let (lvalue, rest) = ok!(beside(lvalue, read_sign(Punctuator::Assign, rest)));
-        let (lvalue, (value, rest)) = ok!(beside(lvalue, expression(alloc, fuel, 0, rest)));
+        let (lvalue, (value, rest)) = ok!(beside(lvalue, read_set_value(alloc, fuel, rest)));
         return Ok((Set::Becomes(lvalue, value), rest));
     }
     let (lvalue, (change, rest)) = ok!(beside(lvalue, read_changing(alloc, fuel, rest)));
@@ -152,10 +193,7 @@ fn read_start_local(
     let (kind, rest) = ok!(read_type(tokens));
     let below = ok!(one_less(fuel));
     let (name, rest) = ok!(read_name_in(alloc, below, rest));
-    let (name, rest) = ok!(beside(name, read_sign(Punctuator::Assign, rest)));
-    let (name, (value, rest)) = ok!(beside(name, expression(alloc, below, 0, rest)));
-    let (parts, rest) = ok!(beside((name, value), read_sign(Punctuator::Semicolon, rest)));
-    let (name, value) = parts;
+    let (name, (value, rest)) = ok!(beside(name, read_becoming(alloc, below, rest)));
     Ok((ForStart::Local(kind, name, value), rest))
 }
 

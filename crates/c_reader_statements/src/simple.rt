@@ -3,15 +3,13 @@
 ghost use Rattle.std.specs.Prelude.{◌≡◌, ◌≢◌, IfOk, IfErr, Ok, Err};
 ghost use Rattle.c_syntax.specs.Views.{statement_tree, expression_tree, optional_tree, value_tree};
 ghost use Rattle.c_syntax.specs.Trees as T;
-ghost use Rattle.c_reader_expression_laws.specs.Reading.{expression_at};
 ghost use Rattle.c_reader_productions.specs.Combining.{made};
 ghost use Rattle.c_reader_productions.specs.Parts.{value, local};
 ghost use Rattle.c_reader_statement_laws.specs.Reading.{empty, call_statement, changed, assign, store, step_statement, break_statement, continue_statement, returned, return_statement};
 ghost use Rattle.c_reader_statements.specs.Heads.{becoming};
 
 use crate::parts::{read_call, read_local, read_name_in, read_value};
-use crate::sets::{read_cell, read_changing, read_prefixed};
-use c_reader_expressions::expression;
+use crate::sets::{read_becoming, read_cell, read_changing, read_prefixed};
 use c_reader_tokens::{Fault, is_sign_next, read_placed_word, read_sign};
 use c_syntax::{
     AssignOperator, Change, Expression, Keyword, Lvalue, Punctuator, Statement, Token, Value,
@@ -69,6 +67,14 @@ fn read_changed(
     Ok((change, rest))
 }
 
+/// A change in a box.
+fn boxed(alloc: Global, change: Change) -> Result<Box<Change>, Fault>
+    ensures ok { IfOk result (λ b. b.value ≡ change) }
+    ensures err { IfErr result (λ e. e ≡ Fault.NoMemory) }
+{
+    Ok(Box::new(alloc, change)?)
+}
+
 /// What a name becomes.
 fn read_assigned(alloc: Global, fuel: u8, tokens: &[Token]) -> Result<(Value, &[Token]), Fault>
     ensures ok { IfOk result (λ r. becoming (value fuel) tokens.now ≡ Ok (value_tree r.0, r.1.now)) }
@@ -76,17 +82,6 @@ fn read_assigned(alloc: Global, fuel: u8, tokens: &[Token]) -> Result<(Value, &[
 {
     let rest = ok!(read_sign(Punctuator::Assign, tokens));
     let (value, rest) = ok!(read_value(alloc, fuel, rest));
-    let (value, rest) = ok!(beside(value, read_sign(Punctuator::Semicolon, rest)));
-    Ok((value, rest))
-}
-
-/// What a cell becomes.
-fn read_stored(alloc: Global, fuel: u8, tokens: &[Token]) -> Result<(Expression, &[Token]), Fault>
-    ensures ok { IfOk result (λ r. becoming (expression_at fuel 0) tokens.now ≡ Ok (expression_tree r.0, r.1.now)) }
-    ensures err { IfErr result (λ e. e ≢ Fault.NoMemory → becoming (expression_at fuel 0) tokens.now ≡ Err e) }
-{
-    let rest = ok!(read_sign(Punctuator::Assign, tokens));
-    let (value, rest) = ok!(expression(alloc, fuel, 0, rest));
     let (value, rest) = ok!(beside(value, read_sign(Punctuator::Semicolon, rest)));
     Ok((value, rest))
 }
@@ -108,15 +103,12 @@ pub(crate) fn read_assign(
     }
     let (name, (change, rest)) = ok!(beside(name, read_changed(alloc, fuel, rest)));
     let (operator, value) = change;
-    let lvalue = Lvalue::Variable(name);
-    Ok((
-        Statement::Change(Change {
-            lvalue,
-            operator,
-            value,
-        }),
-        rest,
-    ))
+    let change = Change {
+        lvalue: Lvalue::Variable(name),
+        operator,
+        value,
+    };
+    Ok((Statement::Change(ok!(boxed(alloc, change))), rest))
 }
 
 /// A cell, and what it becomes or how it is changed (C99 6.5.16).
@@ -131,20 +123,17 @@ pub(crate) fn read_store(
 {
     let (cell, rest) = ok!(read_cell(alloc, fuel, tokens));
     if is_sign_next(Punctuator::Assign, rest) {
-        let ((array, index), (value, rest)) = ok!(beside(cell, read_stored(alloc, fuel, rest)));
+        let ((array, index), (value, rest)) = ok!(beside(cell, read_becoming(alloc, fuel, rest)));
         return Ok((Statement::Store(array, index, value), rest));
     }
     let ((array, index), (change, rest)) = ok!(beside(cell, read_changed(alloc, fuel, rest)));
     let (operator, value) = change;
-    let lvalue = Lvalue::Element(array, index);
-    Ok((
-        Statement::Change(Change {
-            lvalue,
-            operator,
-            value,
-        }),
-        rest,
-    ))
+    let change = Change {
+        lvalue: Lvalue::Element(array, index),
+        operator,
+        value,
+    };
+    Ok((Statement::Change(ok!(boxed(alloc, change))), rest))
 }
 
 /// `++` or `--` and an lvalue.
@@ -159,7 +148,7 @@ pub(crate) fn read_step_statement(
 {
     let (change, rest) = ok!(read_prefixed(alloc, fuel, tokens));
     let (change, rest) = ok!(beside(change, read_sign(Punctuator::Semicolon, rest)));
-    Ok((Statement::Change(change), rest))
+    Ok((Statement::Change(ok!(boxed(alloc, change))), rest))
 }
 
 #[tactic(auto, unfolding(c_reader_statement_laws::specs::Reading::break_statement))]

@@ -74,7 +74,7 @@ abbrev mutual
   statement_tree (S.Call c) = T.Call (call_tree c)
   statement_tree (S.Assign x v) = T.Assign x (value_tree v)
   statement_tree (S.Store a i e) = T.Store a (expression_tree i) (expression_tree e)
-  statement_tree (S.Change c) = T.Change (change_tree c)
+  statement_tree (S.Change c) = T.Change (change_tree c.value)
   statement_tree (S.If' e p s) = T.If (expression_tree e) (statement_tree s)
   statement_tree (S.IfElse' e p s q t) = T.IfElse (expression_tree e) (statement_tree s) (statement_tree t)
   statement_tree (S.While' e p s) = T.While (expression_tree e) (statement_tree s)

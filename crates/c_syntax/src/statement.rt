@@ -77,7 +77,8 @@ pub enum Statement {
     Assign(Identifier, Value),
     /// An array's cell, named by its index, becomes a value.
     Store(Identifier, Expression, Expression),
-    Change(Change),
+    /// In a box, since it is larger than the parts of the others.
+    Change(Box<Change>),
     If(Expression, Box<Statement>),
     IfElse(Expression, Box<Statement>, Box<Statement>),
     While(Expression, Box<Statement>),

@@ -5,7 +5,7 @@ use Rattle.c_syntax.specs.declared.punctuator.Punctuator.TheVariants.{Comma}
 use Rattle.c_reader_tokens.specs.Peeking.{is_sign_next}
 use Rattle.c_reader_tokens.specs.Tokens.{sign}
 use Rattle.c_reader_productions.specs.Combining.{◌▷◌, commas}
-use Rattle.c_reader_statements.proofs.Loops.{goes_on, stops, ends, is_done}
+use Rattle.c_reader_statement_laws.proofs.Loops.{goes_on, stops, ends, is_done}
 use Rattle.c_reader_statements.proofs.Trees.{mark_fails, behind_mark}
 use Rattle.c_reader.proofs.Commas.{commas_fail}
 use Rattle.c_syntax.specs.Heights.{highest}

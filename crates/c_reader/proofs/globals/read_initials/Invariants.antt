@@ -5,7 +5,7 @@ use Rattle.c_syntax.specs.Views.{initial_tree}
 use Rattle.c_reader_tokens.specs.Peeking.{is_sign_next}
 use Rattle.c_reader_tokens.specs.Tokens.{sign}
 use Rattle.c_reader_productions.specs.Combining.{◌▷◌, commas}
-use Rattle.c_reader_statements.proofs.Loops.{IsUnderWay}
+use Rattle.c_reader_statement_laws.proofs.Loops.{IsUnderWay}
 use Rattle.c_reader_declaration_laws.specs.Reading.{initial}
 use Rattle.c_reader.proofs.globals.read_initials.Given as goal
 

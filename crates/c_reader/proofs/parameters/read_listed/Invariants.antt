@@ -3,7 +3,7 @@ use Rattle.c_syntax.specs.declared.punctuator.Punctuator.TheVariants.{Comma}
 use Rattle.c_reader_tokens.specs.Peeking.{is_sign_next}
 use Rattle.c_reader_tokens.specs.Tokens.{sign}
 use Rattle.c_reader_productions.specs.Combining.{◌▷◌, commas}
-use Rattle.c_reader_statements.proofs.Loops.{IsUnderWay}
+use Rattle.c_reader_statement_laws.proofs.Loops.{IsUnderWay}
 use Rattle.c_reader_declaration_laws.specs.Reading.{open_parameter}
 use Rattle.c_reader.proofs.parameters.read_listed.Given as goal
 

@@ -2,7 +2,7 @@ use Rattle.std.proofs.Common.{◌≡◌, true, false, length, map, rules}
 use Rattle.std.proofs.lemmas.List.{map-append}
 use Rattle.c_syntax.specs.Heights.{highest}
 use Rattle.c_syntax.specs.Views.{declaration_tree}
-use Rattle.c_reader_statements.proofs.Loops.{goes_on, stops, ends, is_done}
+use Rattle.c_reader_statement_laws.proofs.Loops.{goes_on, stops, ends, is_done}
 use Rattle.c_reader_declaration_laws.specs.Reading.{declaration, is_next_there, declarations}
 use Rattle.c_reader.proofs.Telling.{tells_fault}
 use Rattle.c_reader.proofs.reading.read_declarations.Goals as goal

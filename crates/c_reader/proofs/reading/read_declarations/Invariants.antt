@@ -1,7 +1,7 @@
 use Rattle.std.proofs.Common.{map, length}
 use Rattle.c_syntax.specs.Heights.{highest}
 use Rattle.c_syntax.specs.Views.{declaration_tree}
-use Rattle.c_reader_statements.proofs.Loops.{IsUnderWay}
+use Rattle.c_reader_statement_laws.proofs.Loops.{IsUnderWay}
 use Rattle.c_reader_declaration_laws.specs.Reading.{declaration, is_next_there, declarations}
 use Rattle.c_reader.proofs.reading.read_declarations.Given as goal
 

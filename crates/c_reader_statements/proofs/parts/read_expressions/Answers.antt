@@ -7,7 +7,7 @@ use Rattle.c_reader_tokens.specs.Peeking.{is_sign_next}
 use Rattle.c_reader_tokens.specs.Tokens.{sign}
 use Rattle.c_reader_expression_laws.specs.Reading.{expression_at}
 use Rattle.c_reader_productions.specs.Combining.{◌▷◌, commas}
-use Rattle.c_reader_statements.proofs.Loops.{goes_on, stops, ends, is_done}
+use Rattle.c_reader_statement_laws.proofs.Loops.{goes_on, stops, ends, is_done}
 use Rattle.c_reader_statements.proofs.Trees.{mark_fails, behind_mark}
 use Rattle.c_reader_statements.proofs.parts.read_expressions.Goals as goal
 use Rattle.c_reader_statements.proofs.parts.read_expressions.Goals.{else-loop-test, then-loop-test+then-not-is_sign_next}

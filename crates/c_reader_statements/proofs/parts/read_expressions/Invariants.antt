@@ -5,7 +5,7 @@ use Rattle.c_reader_tokens.specs.Peeking.{is_sign_next}
 use Rattle.c_reader_tokens.specs.Tokens.{sign}
 use Rattle.c_reader_expression_laws.specs.Reading.{expression_at}
 use Rattle.c_reader_productions.specs.Combining.{◌▷◌, commas}
-use Rattle.c_reader_statements.proofs.Loops.{IsUnderWay}
+use Rattle.c_reader_statement_laws.proofs.Loops.{IsUnderWay}
 use Rattle.c_reader_statements.proofs.parts.read_expressions.Given as goal
 
 abbrev pub invariant-loop : goal.invariant-loop

@@ -7,7 +7,7 @@ use Rattle.c_reader_tokens.specs.Peeking.{is_sign_next}
 use Rattle.c_reader_productions.specs.Combining.{each}
 use Rattle.c_reader_statement_laws.specs.Reading as reading
 use Rattle.c_reader_statement_laws.specs.Reading.{statement_at, items_in}
-use Rattle.c_reader_statements.proofs.Loops.{goes_on, stops, ends, is_done}
+use Rattle.c_reader_statement_laws.proofs.Loops.{goes_on, stops, ends, is_done}
 use Rattle.c_reader_statements.proofs.Trees.{goes_on-true, goes_on-false}
 use Rattle.c_reader_statements.proofs.reading.+statements.Goals as goal
 use Rattle.c_reader_statements.proofs.reading.+statements.Goals.{read_items-else-loop-test, read_items-then-loop-test+then-is_sign_next}
