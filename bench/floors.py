@@ -44,11 +44,11 @@ FLOORS = [
      "oracle_facts oracle_const oracle_cse oracle_alloc_blocks oracle_alloc oracle_order"),
     ("Offers, chains of them, and the linked program", "offers offers_choice parallel_validate linker chains"),
     ("Agreement: the protocol, rooms on shared words",
-     "paxos_core_world paxos_core_invariant paxos_core_model paxos_core_law paxos_core_late_offers paxos_core "
+     "paxos_core_world paxos_core_invariant paxos_core_model paxos_core_law paxos_core_late_offers paxos_core_crash paxos_core "
      "rooms_rule rooms_table rooms_steps rooms_state rooms_rights rooms_met rooms_seat rooms_cells rooms_hall rooms rooms_function rooms_numbered"),
     ("Journals", "durable_model_writes durable_model acceptor_log_form acceptor_log"),
     ("The farm",
-     "farm_nodes_acting farm_nodes_leading farm_nodes_offers farm_nodes_playing farm_nodes_passes "
+     "farm_nodes_order farm_nodes_acting farm_nodes_leading farm_nodes_offers farm_nodes_playing farm_nodes_passes "
      "farm_nodes_turn farm_nodes_node farm_nodes_meeting farm_nodes_nodes farm_nodes_restart_seat "
      "farm_nodes_restart_records farm_nodes_restart farm_nodes_returning farm_nodes_records farm_nodes_disks "
      "farm_nodes_stored farm_nodes_lists farm_nodes_opening farm_nodes_functions farm_nodes_joining "

@@ -3,7 +3,7 @@ use Rattle.std.proofs.Common.{◌≡◌, ℕ, ◌<◌, ◌≤◌, ◌⊎◌, Boo
 use Rattle.std.proofs.lemmas.Bool.{ltb-true, and_parts}
 use Rattle.std.proofs.lemmas.List.{get_or-set_same}
 use Rattle.paxos_core_late_offers.specs.KeptPart.{KeptPart, vote}
-use Rattle.paxos_core_late_offers.specs.Quorum.{is_accept_quorum, IsAcceptQuorum}
+use Rattle.paxos_core_late_offers.specs.Quorum.{Sizes, AreQuorums, is_accept_quorum, IsAcceptQuorum}
 use Rattle.paxos_core_late_offers.specs.Msg.{Msg}
 use Rattle.paxos_core_late_offers.specs.Msg.TheVariants.{Prepare, Promise, Propose, Accepted}
 use Rattle.paxos_core_late_offers.specs.Vote.{Vote}
@@ -22,7 +22,7 @@ use Rattle.paxos_core.proofs.LearnsLemmas.{learns_on, nothing_to_learn}
 
 -- the call is no restart and notes no vote: votes and what is learned stay
 pub record KeepsVotes (s t : NodeState) : Type 0 where
-  pub count : t.count ≡ s.count
+  pub quorums : t.quorums ≡ s.quorums
   pub votes : t.votes ≡ s.votes
   pub learned : t.learned ≡ s.learned
 
@@ -35,20 +35,20 @@ pub record Notes (s t : NodeState) (a : ℕ) (x : Vote) : Type 0 where
 abbrev pub VotesChange : NodeState → NodeState → Type 0
 VotesChange s t = KeepsVotes s t ⊎ ((a : ℕ) × (x : Vote) × Notes s t a x)
 
-either : (b : Bool) (s t : NodeState) → t.count ≡ s.count → t.votes ≡ s.votes → t.learned ≡ s.learned → VotesChange s (cond b t s)
-either true s t c v l = inl (record { count = c; votes = v; learned = l })
-either false s t c v l = inl (record { count = refl; votes = refl; learned = refl })
+either : (b : Bool) (s t : NodeState) → t.quorums ≡ s.quorums → t.votes ≡ s.votes → t.learned ≡ s.learned → VotesChange s (cond b t s)
+either true s t c v l = inl (record { quorums = c; votes = v; learned = l })
+either false s t c v l = inl (record { quorums = refl; votes = refl; learned = refl })
 
 vote_or_not : (b : Bool) (s : NodeState) (a : ℕ) (x : Vote) → notes_vote s a x ≡ b → VotesChange s (cond b (voted s a x) s)
 vote_or_not true s a x e = inr (a, x, record { may = e; is = refl })
-vote_or_not false s a x e = inl (record { count = refl; votes = refl; learned = refl })
+vote_or_not false s a x e = inl (record { quorums = refl; votes = refl; learned = refl })
 
 after_answer_votes : (s : NodeState) (answer : Option Msg) → VotesChange s (after_answer s answer)
-after_answer_votes s None = inl (record { count = refl; votes = refl; learned = refl })
-after_answer_votes s (Some m) = inl (record { count = refl; votes = refl; learned = refl })
+after_answer_votes s None = inl (record { quorums = refl; votes = refl; learned = refl })
+after_answer_votes s (Some m) = inl (record { quorums = refl; votes = refl; learned = refl })
 
 votes_change : (s : NodeState) (c : Call) → HasNoRestart (c ∷ []) → VotesChange s (after_call s c)
-votes_change s Offer h = inl (record { count = refl; votes = refl; learned = refl })
+votes_change s Offer h = inl (record { quorums = refl; votes = refl; learned = refl })
 votes_change s Start h = either (has_ballot s) s _ refl refl refl
 votes_change s Proposal h = after_answer_votes s (proposal s)
 votes_change s (On (Prepare b)) h = either (promises s b) s _ refl refl refl
@@ -66,14 +66,14 @@ stays_with None q v h = absurd (cc)
 stays : (s t : NodeState) → VotesChange s t → IsSome s.learned → IsSome t.learned
 stays s t d h = elim d [
   | inl e ↦ rw e.learned h
-  | inr e ↦ rw e.2.is (stays_with s.learned (is_accept_quorum s.count (has_voted (votes_with s e.0 e.1) e.1.ballot)) e.1.value h)
+  | inr e ↦ rw e.2.is (stays_with s.learned (is_accept_quorum s.quorums (has_voted (votes_with s e.0 e.1) e.1.ballot)) e.1.value h)
 ]
 
 -- ---- what a quorum votes for is learned
 
 -- once an accept quorum has voted under a ballot, a value is learned
 abbrev HasLearned : NodeState → Type 0
-HasLearned s = LearnsAtOnce s.count s.votes s.learned
+HasLearned s = LearnsAtOnce s.quorums s.votes s.learned
 
 learned_now : (o : Option ℕ) (q : Bool) (v : ℕ) → q ≡ true → IsSome (learned_with o q v)
 learned_now (Some u) q v h = refl
@@ -81,17 +81,17 @@ learned_now None true v h = refl
 learned_now None false v h = absurd (cc)
 
 -- the quorum, in terms of what it was before
-quorum_of : (n m b : ℕ) (vs us : List (Option Vote)) → n ≡ m → vs ≡ us → IsAcceptQuorum n (has_voted vs b) → IsAcceptQuorum m (has_voted us b)
-quorum_of n m b vs us e f h = rw (← e, ← f) h
+quorum_of : (y z : Sizes) (b : ℕ) (vs us : List (Option Vote)) → y ≡ z → vs ≡ us → IsAcceptQuorum y (has_voted vs b) → IsAcceptQuorum z (has_voted us b)
+quorum_of y z b vs us e f h = rw (← e, ← f) h
 
 learned_vote : (s : NodeState) (a : ℕ) (x : Vote) → HasLearned s → HasLearned (voted s a x)
 learned_vote s a x h =
-    learns_on s.count s.votes s.learned _ a x h (stays_with s.learned (is_accept_quorum s.count (has_voted (votes_with s a x) x.ballot)) x.value)
-    (learned_now s.learned (is_accept_quorum s.count (has_voted (votes_with s a x) x.ballot)) x.value)
+    learns_on s.quorums s.votes s.learned _ a x h (stays_with s.learned (is_accept_quorum s.quorums (has_voted (votes_with s a x) x.ballot)) x.value)
+    (learned_now s.learned (is_accept_quorum s.quorums (has_voted (votes_with s a x) x.ballot)) x.value)
 
 learned_after : (s t : NodeState) → VotesChange s t → HasLearned s → HasLearned t
 learned_after s t d h = elim d [
-  | inl e ↦ λ b q. rw e.learned (h b (quorum_of t.count s.count b t.votes s.votes e.count e.votes q))
+  | inl e ↦ λ b q. rw e.learned (h b (quorum_of t.quorums s.quorums b t.votes s.votes e.quorums e.votes q))
   | inr e ↦ subst HasLearned (sym e.2.is) (learned_vote s e.0 e.1 h)
 ]
 
@@ -124,22 +124,22 @@ learned_cases (Some w) q u v h = inl h
 learned_cases None true u v h = inr (refl, cc)
 learned_cases None false u v h = absurd (cc)
 
-module _ (me n : ℕ) (kept : KeptPart) where
+module _ (me : ℕ) (z : Sizes) (kept : KeptPart) where
   abbrev fresh : NodeState
-  fresh = node_with me n kept
+  fresh = node_with me z kept
 
-  all_learned : (cs : List Call) → HasNoRestart cs → HasLearned (after_calls fresh cs)
-  all_learned [] h = nothing_to_learn n None
-  all_learned (c ∷ cs) h = learned_after (after_calls fresh cs) (after_calls fresh (c ∷ cs)) (change_by fresh c cs h) (all_learned cs (no_restart_tail c cs h))
+  all_learned : AreQuorums z → (cs : List Call) → HasNoRestart cs → HasLearned (after_calls fresh cs)
+  all_learned are [] h = nothing_to_learn z are None
+  all_learned are (c ∷ cs) h = learned_after (after_calls fresh cs) (after_calls fresh (c ∷ cs)) (change_by fresh c cs h) (all_learned are cs (no_restart_tail c cs h))
 
   stays_learned : (later earlier : List Call) → HasNoRestart (later ++ earlier) → IsSome (after_calls fresh earlier).learned → IsSome (after_calls fresh (later ++ earlier)).learned
   stays_learned [] earlier h k = k
   stays_learned (c ∷ later) earlier h k =
       stays (after_calls fresh (later ++ earlier)) _ (change_by fresh c (later ++ earlier) h) (stays_learned later earlier (no_restart_tail c (later ++ earlier) h) k)
 
-  is_node : (cs : List Call) → IsNode me n (after_calls fresh cs)
-  is_node [] = node_with-is me n kept
-  is_node (c ∷ cs) = after_call-is me n (after_calls fresh cs) c (is_node cs)
+  is_node : (cs : List Call) → IsNode me z (after_calls fresh cs)
+  is_node [] = node_with-is me z kept
+  is_node (c ∷ cs) = after_call-is me z (after_calls fresh cs) c (is_node cs)
 
   later_than : (c : Call) (cs : List Call) (v : ℕ) → WasQuorum fresh cs v → WasQuorum fresh (c ∷ cs) v
   later_than c cs v h =
@@ -154,7 +154,7 @@ module _ (me n : ℕ) (kept : KeptPart) where
       }
 
   -- the vote that was noted last completed the quorum
-  completed : (c : Call) (cs : List Call) (a : ℕ) (x : Vote) (v : ℕ) → n ≤ 7 → Notes (after_calls fresh cs) (after_calls fresh (c ∷ cs)) a x → is_accept_quorum (after_calls fresh cs).count (has_voted (votes_with (after_calls fresh cs) a x) x.ballot) ≡ true → x.value ≡ v → WasQuorum fresh (c ∷ cs) v
+  completed : (c : Call) (cs : List Call) (a : ℕ) (x : Vote) (v : ℕ) → z.nodes ≤ 7 → Notes (after_calls fresh cs) (after_calls fresh (c ∷ cs)) a x → is_accept_quorum (after_calls fresh cs).quorums (has_voted (votes_with (after_calls fresh cs) a x) x.ballot) ≡ true → x.value ≡ v → WasQuorum fresh (c ∷ cs) v
   completed c cs a x v few noted q e =
       record {
         later = [];
@@ -169,13 +169,13 @@ module _ (me n : ℕ) (kept : KeptPart) where
       s : NodeState
       s = after_calls fresh cs
 
-      below : a < s.count
-      below = ltb-true a s.count (and_parts (ltb a s.count) (is_vote s.count x && is_at_most (note_of s.votes a) x.ballot) noted.may).0
+      below : a < s.quorums.nodes
+      below = ltb-true a s.quorums.nodes (and_parts (ltb a s.quorums.nodes) (is_vote s.quorums.nodes x && is_at_most (note_of s.votes a) x.ballot) noted.may).0
 
       inside : a < length s.votes
-      inside = let under = below in let places = (is_node cs).places in let count = (is_node cs).count in omega arith
+      inside = let under = below in let places = (is_node cs).places in let count = ap (λ (x : Sizes). x.nodes) (is_node cs).quorums in omega arith
 
-  learned_from : (cs : List Call) (v : ℕ) → n ≤ 7 → HasNoRestart cs → (after_calls fresh cs).learned ≡ Some v → WasQuorum fresh cs v
+  learned_from : (cs : List Call) (v : ℕ) → z.nodes ≤ 7 → HasNoRestart cs → (after_calls fresh cs).learned ≡ Some v → WasQuorum fresh cs v
   learned_from [] v few h e = absurd (cc)
   learned_from (c ∷ cs) v few h e =
       let tail = no_restart_tail c cs h in
@@ -188,8 +188,8 @@ module _ (me n : ℕ) (kept : KeptPart) where
       ]
 
 pub learns_from_quorum : LearnsFromQuorum
-learns_from_quorum me n kept calls v few h e = learned_from me n kept calls v few h e
+learns_from_quorum me z kept calls v few h e = learned_from me z kept calls v few h e
 
 pub quorum_is_learned : QuorumIsLearned
-quorum_is_learned me n kept later earlier b h q =
-    stays_learned me n kept later earlier h (all_learned me n kept earlier (no_restart_earlier later earlier h) b q)
+quorum_is_learned me z kept later earlier b are h q =
+    stays_learned me z kept later earlier h (all_learned me z kept are earlier (no_restart_earlier later earlier h) b q)

@@ -3,6 +3,7 @@ use Rattle.std.proofs.Common.{◌≡◌, ℕ, ◌<◌, Bool, true, false, cond, 
 use Rattle.std.specs.Option.{option_to_list}
 use Rattle.std.proofs.lemmas.Bool.{leb-true, eqb-true, eqb-false, cond-true, cond-false, cases_Bool}
 use Rattle.paxos_core_late_offers.specs.KeptPart.{KeptPart, vote}
+use Rattle.paxos_core_late_offers.specs.Quorum.{Sizes, AreQuorums}
 use Rattle.paxos_core_late_offers.specs.Run.{reached}
 use Rattle.paxos_core_late_offers.specs.Settled.{Settled}
 use Rattle.paxos_core_late_offers.specs.Step.{Label, Offers, Starts, Promises, Accepts, Learns}
@@ -30,16 +31,16 @@ use Rattle.paxos_core_late_offers.proofs.TakesLemmas.{offer_takes, start_takes, 
 
 -- ---- each call takes its steps
 
-start_if : (t : Bool) (n : ℕ) (w : World) (s : NodeState) → IsReached n w → Belongs n w s → has_ballot s ≡ t → Takes n w (cond t (taken_by_start s) []) (cond t (started s) s) (cond t (Some (Prepare (next_ballot s))) None)
-start_if true n w s r h t = start_takes s (leb-true (next_ballot s) 65535 t) n w r h
-start_if false n w s r h t = record { run = tt; own = tt; belongs = h; sent = tt }
+start_if : (t : Bool) (z : Sizes) (w : World) (s : NodeState) → IsReached z w → Belongs z w s → has_ballot s ≡ t → Takes z w (cond t (taken_by_start s) []) (cond t (started s) s) (cond t (Some (Prepare (next_ballot s))) None)
+start_if true z w s r h t = start_takes s (leb-true (next_ballot s) 65535 t) z w r h
+start_if false z w s r h t = record { run = tt; own = tt; belongs = h; sent = tt }
 
-pub call_takes : (n : ℕ) (w : World) (s : NodeState) (c : Call) → IsReached n w → Belongs n w s → WasSent w.sent c → Takes n w (taken_by s c) (after_call s c) (answer_to s c)
-call_takes n w s Offer r h m = offer_takes s n w r h
-call_takes n w s Start r h m = start_if (has_ballot s) n w s r h refl
-call_takes n w s Proposal r h m = propose_takes s n w r h
-call_takes n w s (On message) r h m = on_takes s message n w r h m
-call_takes n w s Restart r h m = restart_takes s s.kept n w h.number h.count h.kept
+pub call_takes : (z : Sizes) (w : World) (s : NodeState) (c : Call) → IsReached z w → Belongs z w s → WasSent w.sent c → Takes z w (taken_by s c) (after_call s c) (answer_to s c)
+call_takes z w s Offer r h m = offer_takes s z w r h
+call_takes z w s Start r h m = start_if (has_ballot s) z w s r h refl
+call_takes z w s Proposal r h m = propose_takes s z w r h
+call_takes z w s (On message) r h m = on_takes s message z w r h m
+call_takes z w s Restart r h m = restart_takes s s.kept z w h.number h.quorums h.kept
 
 -- ---- what is sent is the answer
 
@@ -67,22 +68,22 @@ sent_by_vote : (t : Bool) (i v : ℕ) (w : World) → (reached w (cond t (Learns
 sent_by_vote true i v w = refl
 sent_by_vote false i v w = refl
 
-call_sends : (n : ℕ) (w : World) (s : NodeState) (c : Call) → Belongs n w s → (reached w (taken_by s c)).sent ≡ option_to_list (answer_to s c) ++ w.sent
-call_sends n w s Offer h = sent_by_offer s.kept.offered s.me w
-call_sends n w s Start h = sent_by_start (has_ballot s) s.me (next_ballot s) w
-call_sends n w s Proposal h = sent_by_proposal (next_proposal s) w
-call_sends n w s (On (Prepare b)) h = sent_by_prepare (promises s b) b w s h.kept
-call_sends n w s (On (Propose b v)) h = sent_by_propose (accepts s (vote b v)) s.me b v w
-call_sends n w s (On (Promise a b report)) h = refl
-call_sends n w s (On (Accepted a b v)) h = sent_by_vote (learns_from s a (vote b v)) s.me v w
-call_sends n w s Restart h = refl
+call_sends : (z : Sizes) (w : World) (s : NodeState) (c : Call) → Belongs z w s → (reached w (taken_by s c)).sent ≡ option_to_list (answer_to s c) ++ w.sent
+call_sends z w s Offer h = sent_by_offer s.kept.offered s.me w
+call_sends z w s Start h = sent_by_start (has_ballot s) s.me (next_ballot s) w
+call_sends z w s Proposal h = sent_by_proposal (next_proposal s) w
+call_sends z w s (On (Prepare b)) h = sent_by_prepare (promises s b) b w s h.kept
+call_sends z w s (On (Propose b v)) h = sent_by_propose (accepts s (vote b v)) s.me b v w
+call_sends z w s (On (Promise a b report)) h = refl
+call_sends z w s (On (Accepted a b v)) h = sent_by_vote (learns_from s a (vote b v)) s.me v w
+call_sends z w s Restart h = refl
 
 -- ---- the other nodes
 
 -- steps of node j leave the other nodes in the world
-others_belong : (n : ℕ) (w : World) (ls : List Label) (s : NodeState) (j : ℕ) → Belongs n w s → AreStepsOf n j ls → (s.me ≡ j → ⊥) → Belongs n (reached w ls) s
-others_belong n w [] s j h o d = h
-others_belong n w (l ∷ ls) s j h o d = belongs_after_others n (reached w ls) l s j (others_belong n w ls s j h o.1 d) o.0 d
+others_belong : (z : Sizes) (w : World) (ls : List Label) (s : NodeState) (j : ℕ) → Belongs z w s → AreStepsOf z.nodes j ls → (s.me ≡ j → ⊥) → Belongs z (reached w ls) s
+others_belong z w [] s j h o d = h
+others_belong z w (l ∷ ls) s j h o d = belongs_after_others z (reached w ls) l s j (others_belong z w ls s j h o.1 d) o.0 d
 
 -- ---- a schedule, call by call
 
@@ -96,35 +97,35 @@ put_cases P nodes i j s here there = elim (cases_Bool (eqb j i)) [
 was_sent : (c : Call) (xs ys : List Msg) → xs ≡ ys → WasSent xs c → WasSent ys c
 was_sent c xs ys e h = subst (λ zs. WasSent zs c) e h
 
-module _ (n : ℕ) (kept : ℕ → KeptPart) where
+module _ (z : Sizes) (kept : ℕ → KeptPart) where
   -- the world after a schedule
   abbrev world_of : List NodeCall → World
-  world_of calls = reached (opening n kept) (steps_of (opened n kept) calls)
+  world_of calls = reached (opening z.nodes kept) (steps_of (opened z kept) calls)
 
   -- each node keeps its number
-  played_nodes : (calls : List NodeCall) (i : ℕ) → IsNode i n ((played (opened n kept) calls).nodes i)
-  played_nodes [] i = node_with-is i n (kept i)
+  played_nodes : (calls : List NodeCall) (i : ℕ) → IsNode i z ((played (opened z kept) calls).nodes i)
+  played_nodes [] i = node_with-is i z (kept i)
   played_nodes (c ∷ calls) i =
-      put_cases (λ j s. IsNode j n s) (played (opened n kept) calls).nodes c.node i _ (after_call-is c.node n _ c.call (played_nodes calls c.node)) (λ d. played_nodes calls i)
+      put_cases (λ j s. IsNode j z s) (played (opened z kept) calls).nodes c.node i _ (after_call-is c.node z _ c.call (played_nodes calls c.node)) (λ d. played_nodes calls i)
 
-  played_reached : (calls : List NodeCall) → Settled n kept → IsPlayed n kept calls → IsReached n (world_of calls)
-  played_reached calls settled h =
-      record { nodes = kept; steps = steps_of (opened n kept) calls; run = record { settled = settled; run = h.run }; world = refl }
+  played_reached : (calls : List NodeCall) → AreQuorums z → Settled z kept → IsPlayed z kept calls → IsReached z (world_of calls)
+  played_reached calls are settled h =
+      record { nodes = kept; steps = steps_of (opened z kept) calls; run = record { sizes = are; settled = settled; run = h.run }; world = refl }
 
-  played_none : IsPlayed n kept []
-  played_none = record { run = tt; number = λ i h. refl; nodes = λ i h. belongs_with n (opening n kept) i (kept i) h refl; sent = refl }
+  played_none : IsPlayed z kept []
+  played_none = record { run = tt; number = λ i h. refl; nodes = λ i h. belongs_with z (opening z.nodes kept) i (kept i) h refl; sent = refl }
 
-  played_more : (c : NodeCall) (calls : List NodeCall) → IsPlayed n kept calls → c.node < n → Takes n (world_of calls) (taken_by ((played (opened n kept) calls).nodes c.node) c.call) (after_call ((played (opened n kept) calls).nodes c.node) c.call) (answer_to ((played (opened n kept) calls).nodes c.node) c.call) → IsPlayed n kept (c ∷ calls)
+  played_more : (c : NodeCall) (calls : List NodeCall) → IsPlayed z kept calls → c.node < z.nodes → Takes z (world_of calls) (taken_by ((played (opened z kept) calls).nodes c.node) c.call) (after_call ((played (opened z kept) calls).nodes c.node) c.call) (answer_to ((played (opened z kept) calls).nodes c.node) c.call) → IsPlayed z kept (c ∷ calls)
   played_more c calls h below t =
       record {
-        run = run_append n (opening n kept) labels (steps_of (opened n kept) calls) h.run t.run;
+        run = run_append z (opening z.nodes kept) labels (steps_of (opened z kept) calls) h.run t.run;
         number = λ j k. (played_nodes (c ∷ calls) j).number;
-        nodes = λ j k. subst (λ (w : World). Belongs n w (put_node room.nodes c.node (after_call s c.call) j)) (sym appended) (put_cases (λ i x. Belongs n (reached (world_of calls) labels) x) room.nodes c.node j (after_call s c.call) t.belongs (λ d. other j k d));
-        sent = ap (λ xs. option_to_list (answer_to s c.call) ++ xs) h.sent ∙ sym (ap (λ (w : World). w.sent) appended ∙ call_sends n (world_of calls) s c.call (h.nodes c.node below));
+        nodes = λ j k. subst (λ (w : World). Belongs z w (put_node room.nodes c.node (after_call s c.call) j)) (sym appended) (put_cases (λ i x. Belongs z (reached (world_of calls) labels) x) room.nodes c.node j (after_call s c.call) t.belongs (λ d. other j k d));
+        sent = ap (λ xs. option_to_list (answer_to s c.call) ++ xs) h.sent ∙ sym (ap (λ (w : World). w.sent) appended ∙ call_sends z (world_of calls) s c.call (h.nodes c.node below));
       }
     where
       room : Room
-      room = played (opened n kept) calls
+      room = played (opened z kept) calls
 
       s : NodeState
       s = room.nodes c.node
@@ -133,41 +134,41 @@ module _ (n : ℕ) (kept : ℕ → KeptPart) where
       labels = taken_by s c.call
 
       appended : world_of (c ∷ calls) ≡ reached (world_of calls) labels
-      appended = reached-append (opening n kept) labels (steps_of (opened n kept) calls)
+      appended = reached-append (opening z.nodes kept) labels (steps_of (opened z kept) calls)
 
-      own : AreStepsOf n s.me labels
-      own = subst (λ i. AreStepsOf n i labels) ((after_call-is c.node n s c.call (played_nodes calls c.node)).number ∙ sym (played_nodes calls c.node).number) t.own
+      own : AreStepsOf z.nodes s.me labels
+      own = subst (λ i. AreStepsOf z.nodes i labels) ((after_call-is c.node z s c.call (played_nodes calls c.node)).number ∙ sym (played_nodes calls c.node).number) t.own
 
-      other : (j : ℕ) → j < n → (j ≡ c.node → ⊥) → Belongs n (reached (world_of calls) labels) (room.nodes j)
-      other j k d = others_belong n (world_of calls) labels (room.nodes j) s.me (h.nodes j k) own (λ e. d (sym (h.number j k) ∙ (e ∙ h.number c.node below)))
+      other : (j : ℕ) → j < z.nodes → (j ≡ c.node → ⊥) → Belongs z (reached (world_of calls) labels) (room.nodes j)
+      other j k d = others_belong z (world_of calls) labels (room.nodes j) s.me (h.nodes j k) own (λ e. d (sym (h.number j k) ∙ (e ∙ h.number c.node below)))
 
-  pub plays : (calls : List NodeCall) → Settled n kept → IsSchedule n (opened n kept) calls → IsPlayed n kept calls
-  plays [] settled h = played_none
-  plays (c ∷ calls) settled h =
-      let before = plays calls settled h.0 in
-      let s = (played (opened n kept) calls).nodes c.node in
+  pub plays : (calls : List NodeCall) → AreQuorums z → Settled z kept → IsSchedule z.nodes (opened z kept) calls → IsPlayed z kept calls
+  plays [] are settled h = played_none
+  plays (c ∷ calls) are settled h =
+      let before = plays calls are settled h.0 in
+      let s = (played (opened z kept) calls).nodes c.node in
       played_more c calls before h.1
-      (call_takes n (world_of calls) s c.call (played_reached calls settled before) (before.nodes c.node h.1) (was_sent c.call _ _ before.sent h.2))
+      (call_takes z (world_of calls) s c.call (played_reached calls are settled before) (before.nodes c.node h.1) (was_sent c.call _ _ before.sent h.2))
 
   -- what nodes have learned was learned in the world, where it is one value
-  pub learns_one : (calls : List NodeCall) → Settled n kept → IsSchedule n (opened n kept) calls → AllLearnOne n (played (opened n kept) calls)
-  learns_one calls settled h i j v u k l e f =
-      let all = plays calls settled h in
-      learned_one n (world_of calls) _ _ v u (played_reached calls settled all) ((all.nodes i k).learned v e) ((all.nodes j l).learned u f)
+  pub learns_one : (calls : List NodeCall) → AreQuorums z → Settled z kept → IsSchedule z.nodes (opened z kept) calls → AllLearnOne z.nodes (played (opened z kept) calls)
+  learns_one calls are settled h i j v u k l e f =
+      let all = plays calls are settled h in
+      learned_one z (world_of calls) _ _ v u (played_reached calls are settled all) ((all.nodes i k).learned v e) ((all.nodes j l).learned u f)
 
   -- the run that a schedule is shows what all have learned
-  pub shows : (calls : List NodeCall) (v : ℕ) → Settled n kept → IsSchedule n (opened n kept) calls → ((i : ℕ) → i < n → ((played (opened n kept) calls).nodes i).learned ≡ Some v) → AllLearned n kept (steps_of (opened n kept) calls) v
-  shows calls v settled h all =
-      let p = plays calls settled h in
-      let run : IsSettledRun n kept (steps_of (opened n kept) calls) = record { settled = settled; run = p.run } in
-      let learned : (i : ℕ) → i < n → Has (i, v) (world_of calls).learned
+  pub shows : (calls : List NodeCall) (v : ℕ) → AreQuorums z → Settled z kept → IsSchedule z.nodes (opened z kept) calls → ((i : ℕ) → i < z.nodes → ((played (opened z kept) calls).nodes i).learned ≡ Some v) → AllLearned z kept (steps_of (opened z kept) calls) v
+  shows calls v are settled h all =
+      let p = plays calls are settled h in
+      let run : IsSettledRun z kept (steps_of (opened z kept) calls) = record { sizes = are; settled = settled; run = p.run } in
+      let learned : (i : ℕ) → i < z.nodes → Has (i, v) (world_of calls).learned
       = λ i k. subst (λ j. Has (j, v) (world_of calls).learned) (p.number i k) ((p.nodes i k).learned v (all i k)) in
       record {
         run = run;
         learned = learned;
         only = λ i u k.
-            let from = (holds n kept (steps_of (opened n kept) calls) run).learned i u k in
-            let one = member_of n from.1.members from.1.quorum in
-            let few : one.node < n = one.below in
-            runs_learn_one n kept (steps_of (opened n kept) calls) run i 0 u v k (learned 0 (omega arith));
+            let from = (holds z kept (steps_of (opened z kept) calls) run).learned i u k in
+            let one = member_of z are from.1.members from.1.quorum in
+            let few : one.node < z.nodes = one.below in
+            runs_learn_one z kept (steps_of (opened z kept) calls) run i 0 u v k (learned 0 (omega arith));
       }

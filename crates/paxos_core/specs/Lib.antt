@@ -15,6 +15,7 @@ pub use Rattle.paxos_core_late_offers.specs.Act
 pub use Rattle.paxos_core_late_offers.specs.Agreement
 pub use Rattle.paxos_core_late_offers.specs.Ballot
 pub use Rattle.paxos_core_late_offers.specs.KeptPart
+pub use Rattle.paxos_core_late_offers.specs.Quorum
 pub use Rattle.paxos_core_late_offers.specs.Run
 pub use Rattle.paxos_core_late_offers.specs.Settled
 pub use Rattle.paxos_core_late_offers.specs.Step

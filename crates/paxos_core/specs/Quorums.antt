@@ -1,7 +1,7 @@
 -- What it takes to learn (Lamport, Paxos Made Simple, section 2.3), over all the calls of a node since a restart.
 use Rattle.std.specs.Prelude.{◌≡◌, ℕ, ◌≤◌, List, [], ◌∷◌, ◌++◌, Some, IsSome}
 use Rattle.paxos_core_late_offers.specs.KeptPart.{KeptPart, vote}
-use Rattle.paxos_core_late_offers.specs.Quorum.{IsAcceptQuorum}
+use Rattle.paxos_core_late_offers.specs.Quorum.{Sizes, AreQuorums, IsAcceptQuorum}
 use Rattle.paxos_core.specs.Call.{Call, Offer, Start, Proposal, On, Restart, after_calls}
 use Rattle.paxos_core_late_offers.specs.NodeState.{NodeState, node_with}
 use Rattle.paxos_core_late_offers.specs.Notes.{note_of, has_voted}
@@ -17,7 +17,7 @@ HasNoRestart (Restart ∷ cs) = ⊥
 
 -- the votes noted of an accept quorum have this one ballot
 abbrev pub HasQuorum : NodeState → ℕ → Type 0
-HasQuorum s b = IsAcceptQuorum s.count (has_voted s.votes b)
+HasQuorum s b = IsAcceptQuorum s.quorums (has_voted s.votes b)
 
 -- at some moment of these calls the votes noted of an accept quorum had one ballot, and a vote under it for v was noted
 pub record WasQuorum (s : NodeState) (calls : List Call) (v : ℕ) : Type 0 where
@@ -32,11 +32,11 @@ pub record WasQuorum (s : NodeState) (calls : List Call) (v : ℕ) : Type 0 wher
 -- what a node of a room has learned since a restart, it learned from such a quorum
 abbrev pub LearnsFromQuorum : Type 0
 LearnsFromQuorum =
-    (me n : ℕ) (kept : KeptPart) (calls : List Call) (v : ℕ) → n ≤ 7 → HasNoRestart calls
-    → (after_calls (node_with me n kept) calls).learned ≡ Some v → WasQuorum (node_with me n kept) calls v
+    (me : ℕ) (q : Sizes) (kept : KeptPart) (calls : List Call) (v : ℕ) → q.nodes ≤ 7 → HasNoRestart calls
+    → (after_calls (node_with me q kept) calls).learned ≡ Some v → WasQuorum (node_with me q kept) calls v
 
 -- and once there was such a quorum, it has learned
 abbrev pub QuorumIsLearned : Type 0
 QuorumIsLearned =
-    (me n : ℕ) (kept : KeptPart) (later earlier : List Call) (b : ℕ) → HasNoRestart (later ++ earlier)
-    → HasQuorum (after_calls (node_with me n kept) earlier) b → IsSome (after_calls (node_with me n kept) (later ++ earlier)).learned
+    (me : ℕ) (q : Sizes) (kept : KeptPart) (later earlier : List Call) (b : ℕ) → AreQuorums q → HasNoRestart (later ++ earlier)
+    → HasQuorum (after_calls (node_with me q kept) earlier) b → IsSome (after_calls (node_with me q kept) (later ++ earlier)).learned

@@ -3,6 +3,7 @@
 use Rattle.std.specs.Prelude.{◌≡◌, ℕ, ◌<◌, ◌==◌, if◌then◌else◌, List, [], ◌∷◌, ◌++◌, Some}
 use Rattle.std.specs.Option.{option_to_list}
 use Rattle.paxos_core_late_offers.specs.KeptPart.{KeptPart}
+use Rattle.paxos_core_late_offers.specs.Quorum.{Sizes, AreQuorums}
 use Rattle.paxos_core_late_offers.specs.Run.{IsRun, reached}
 use Rattle.paxos_core_late_offers.specs.Settled.{Settled}
 use Rattle.paxos_core_late_offers.specs.Step.{Label}
@@ -17,9 +18,9 @@ pub record Room : Type 0 where
   pub nodes : ℕ → NodeState
   pub sent : List Msg
 
--- the room of n nodes as it is opened with these kept parts
-abbrev pub opened : ℕ → (ℕ → KeptPart) → Room
-opened n kept = record { nodes = λ i. node_with i n (kept i); sent = shown n kept }
+-- the room as it is opened with these quorums and kept parts
+abbrev pub opened : Sizes → (ℕ → KeptPart) → Room
+opened q kept = record { nodes = λ i. node_with i q (kept i); sent = shown q.nodes kept }
 
 -- the call of a node
 pub record NodeCall : Type 0 where
@@ -63,11 +64,11 @@ steps_of room (c ∷ cs) = taken_by ((played room cs).nodes c.node) c.call ++ st
 
 -- the schedule is a run of the protocol: each node, still of its number, belongs to the world to which its steps lead,
 -- in which the same messages were sent
-pub record IsPlayed (n : ℕ) (kept : ℕ → KeptPart) (calls : List NodeCall) : Type 0 where
-  pub run : IsRun n (opening n kept) (steps_of (opened n kept) calls)
-  pub number : (i : ℕ) → i < n → ((played (opened n kept) calls).nodes i).me ≡ i
-  pub nodes : (i : ℕ) → i < n → Belongs n (reached (opening n kept) (steps_of (opened n kept) calls)) ((played (opened n kept) calls).nodes i)
-  pub sent : (played (opened n kept) calls).sent ≡ (reached (opening n kept) (steps_of (opened n kept) calls)).sent
+pub record IsPlayed (q : Sizes) (kept : ℕ → KeptPart) (calls : List NodeCall) : Type 0 where
+  pub run : IsRun q (opening q.nodes kept) (steps_of (opened q kept) calls)
+  pub number : (i : ℕ) → i < q.nodes → ((played (opened q kept) calls).nodes i).me ≡ i
+  pub nodes : (i : ℕ) → i < q.nodes → Belongs q (reached (opening q.nodes kept) (steps_of (opened q kept) calls)) ((played (opened q kept) calls).nodes i)
+  pub sent : (played (opened q kept) calls).sent ≡ (reached (opening q.nodes kept) (steps_of (opened q kept) calls)).sent
 
 -- two values that nodes have learned after a schedule are equal
 abbrev pub AllLearnOne : ℕ → Room → Type 0
@@ -78,10 +79,10 @@ AllLearnOne n room = (i j v u : ℕ) → i < n → j < n → (room.nodes i).lear
 -- every schedule from settled kept parts is a run of the protocol
 abbrev pub SchedulesAreRuns : Type 0
 SchedulesAreRuns =
-    (n : ℕ) (kept : ℕ → KeptPart) (calls : List NodeCall) → Settled n kept → IsSchedule n (opened n kept) calls → IsPlayed n kept calls
+    (q : Sizes) (kept : ℕ → KeptPart) (calls : List NodeCall) → AreQuorums q → Settled q kept → IsSchedule q.nodes (opened q kept) calls → IsPlayed q kept calls
 
 -- in every schedule from settled kept parts all nodes that learn a value learn the same
 abbrev pub SchedulesLearnOne : Type 0
 SchedulesLearnOne =
-    (n : ℕ) (kept : ℕ → KeptPart) (calls : List NodeCall) → Settled n kept → IsSchedule n (opened n kept) calls
-    → AllLearnOne n (played (opened n kept) calls)
+    (q : Sizes) (kept : ℕ → KeptPart) (calls : List NodeCall) → AreQuorums q → Settled q kept → IsSchedule q.nodes (opened q kept) calls
+    → AllLearnOne q.nodes (played (opened q kept) calls)

@@ -14,6 +14,7 @@ pub use node::Node;
 pub use paxos_core_late_offers::ballot::owns;
 pub use paxos_core_late_offers::kept::Kept;
 pub use paxos_core_late_offers::msg::Msg;
+pub use paxos_core_late_offers::quorum::Quorums;
 pub use paxos_core_late_offers::settled::settled;
 pub use paxos_core_late_offers::step::{Act, Step};
 pub use paxos_core_late_offers::vote::Vote;

@@ -3,12 +3,14 @@ ghost use Rattle.paxos_core.specs.Noting.{TakesItsSteps};
 ghost use Rattle.paxos_core_late_offers.specs.KeptPart.{nothing_kept};
 ghost use Rattle.paxos_core_late_offers.specs.World.{World};
 ghost use Rattle.paxos_core_late_offers.specs.Msg.TheVariants.{Accepted, Prepare, Promise};
+ghost use Rattle.paxos_core_late_offers.specs.Act.TheVariants.{Propose};
 ghost use Rattle.paxos_core_late_offers.specs.Acceptor.{promise_to, after_prepare, vote_for, after_propose, is_vote};
 ghost use Rattle.paxos_core_late_offers.specs.Learner.{after_promise, after_vote, is_at_most, is_report};
 ghost use Rattle.paxos_core_late_offers.specs.Message.{reply, after_message};
 ghost use Rattle.paxos_core_late_offers.specs.NextBallot.{IsLeastAbove, IsSpent};
+ghost use Rattle.paxos_core_late_offers.specs.Quorum.{AreQuorums, Sizes};
 ghost use Rattle.paxos_core_late_offers.specs.Notes.{note_of};
-ghost use Rattle.paxos_core_late_offers.specs.NodeState.{IsRoomSize, new_node, node_with, offered, restarted};
+ghost use Rattle.paxos_core_late_offers.specs.NodeState.{new_node, node_with, offered, restarted};
 ghost use Rattle.paxos_core_late_offers.specs.Belongs.{Belongs};
 ghost use Rattle.paxos_core_late_offers.specs.Taken.{taken_by_offer, taken_by_start, taken_by_propose, taken_by_restart, taken_on, LearnsAtMost};
 ghost use Rattle.paxos_core_late_offers.specs.Takes.{Takes, TakesSteps, TakesStepsOn};
@@ -20,7 +22,7 @@ use crate::error::CoreError;
 use crate::tally::{count_promises, count_votes, highest_report};
 use paxos_core_late_offers::kept::Kept;
 use paxos_core_late_offers::msg::Msg;
-use paxos_core_late_offers::quorum::{is_accept_quorum, is_promise_quorum};
+use paxos_core_late_offers::quorum::{Quorums, is_accept_quorum, is_promise_quorum};
 use paxos_core_late_offers::step::{Act, Step};
 use paxos_core_late_offers::vote::Vote;
 use std::marker::Model;
@@ -33,7 +35,7 @@ pub const MOST_NODES: usize = 7;
 #[derive(Clone, Copy, Debug)]
 pub struct Node {
     me: u8,
-    count: u8,
+    quorums: Quorums,
     kept: Kept,
     ballot: Option<u16>,
     proposed: bool,
@@ -45,13 +47,14 @@ pub struct Node {
 impl Model for Node {
     ghost use Rattle.std.specs.Prelude.{◌<◌};
     ghost use Rattle.paxos_core.specs.LearnsAtOnce.{LearnsAtOnce};
-    ghost use Rattle.paxos_core_late_offers.specs.NodeState.{IsRoomSize, NodeState};
+    ghost use Rattle.paxos_core_late_offers.specs.NodeState.{NodeState};
+    ghost use Rattle.paxos_core_late_offers.specs.Quorum.{AreQuorums};
 
     ghost Value = { NodeState };
 
     ghost view = { λ s. record {
       me = s.me;
-      count = s.count;
+      quorums = s.quorums;
       kept = s.kept;
       ballot = s.ballot;
       proposed = s.proposed;
@@ -60,11 +63,11 @@ impl Model for Node {
       learned = s.learned;
     } };
 
-    ghost invariant = { λ s. (s.me < s.count) × IsRoomSize s.count × LearnsAtOnce s.count s.votes s.learned };
+    ghost invariant = { λ s. (s.me < s.quorums.nodes) × AreQuorums s.quorums × LearnsAtOnce s.quorums s.votes s.learned };
 
     ghost inverse = { λ s. record {
       me = s.me;
-      count = s.count;
+      quorums = s.quorums;
       kept = s.kept;
       ballot = s.ballot;
       proposed = s.proposed;
@@ -75,30 +78,37 @@ impl Model for Node {
 }
 
 impl Node {
-    /// Node `me` of a room of `n`, which has done nothing yet.
-    pub fn new(me: u8, n: u8) -> Self
-        requires size { IsRoomSize n }
-        requires number { me < n }
-        ensures state { result ≡ new_node me n }
-        ensures belongs { (w : World) → w.nodes me ≡ nothing_kept → Belongs n w result }
+    /// Node `me` of a room with these quorums, which has done nothing yet.
+    pub fn new(me: u8, quorums: Quorums) -> Self
+        requires { me < quorums.nodes }
+        ensures state { result ≡ new_node me quorums }
+        ensures belongs { (w : World) → w.nodes me ≡ nothing_kept → Belongs quorums w result }
     {
-        Node::with(me, n, Kept::nothing())
+        Node::with(me, quorums, Kept::nothing())
     }
 
     /// Its number.
     pub fn me(&self) -> u8
         ensures value { result ≡ self.now.me }
-        ensures below { result < self.now.count }
+        ensures below { result < self.now.quorums.nodes }
     {
         self.me
     }
 
     /// How many nodes the room has.
     pub fn count(&self) -> u8
-        ensures value { result ≡ self.now.count }
-        ensures size { IsRoomSize result }
+        ensures value { result ≡ self.now.quorums.nodes }
+        ensures sizes { AreQuorums self.now.quorums }
     {
-        self.count
+        self.quorums.nodes()
+    }
+
+    /// The room's quorums.
+    pub fn quorums(&self) -> Quorums
+        ensures value { result ≡ self.now.quorums }
+        ensures sizes { AreQuorums self.now.quorums }
+    {
+        self.quorums
     }
 
     /// The ballot under way, that the node started last since its last restart.
@@ -125,10 +135,10 @@ impl Node {
     /// The node after a restart with what was kept.
     pub fn restart(self, kept: Kept) -> Self
         ensures state { result ≡ restarted self kept }
-        ensures step { (n : ℕ) (w : World) → self.me < n → self.count ≡ n → w.nodes self.me ≡ kept
-            → Takes n w (taken_by_restart self) result None }
+        ensures step { (q : Sizes) (w : World) → self.me < q.nodes → self.quorums ≡ q → w.nodes self.me ≡ kept
+            → Takes q w (taken_by_restart self) result None }
     {
-        Node::with(self.me, self.count, kept)
+        Node::with(self.me, self.quorums, kept)
     }
 
     /// Forgets all but what it keeps, as at a restart.
@@ -136,17 +146,17 @@ impl Node {
         ensures state { self.new ≡ restarted self.old self.old.kept }
         ensures step { TakesSteps self.old self.new (taken_by_restart self.old) None }
     {
-        *self = Node::with(self.me, self.count, self.kept);
+        *self = Node::with(self.me, self.quorums, self.kept);
     }
 
-    fn with(me: u8, count: u8, kept: Kept) -> Self
-        requires number { me < count }
-        requires size { IsRoomSize count }
-        ensures { result ≡ node_with me count kept }
+    fn with(me: u8, quorums: Quorums, kept: Kept) -> Self
+        requires { me < quorums.nodes }
+        ensures { result ≡ node_with me quorums kept }
     {
+        let _nodes = quorums.nodes();
         Node {
             me,
-            count,
+            quorums,
             kept,
             ballot: None,
             proposed: false,
@@ -174,15 +184,19 @@ impl Node {
         match act {
             Act::Start => Some(Step::Start(self.next_start()?)),
             Act::Promise(ballot) => Some(Step::Promise(self.next_promise(ballot)?)),
-            Act::Propose => {
-                let (ballot, value) = self.proposal()?;
-                Some(Step::Propose(ballot, value))
-            }
+            Act::Propose => self.next_propose(),
             Act::Accept(ballot, value) => {
                 let vote = self.next_vote(Vote { ballot, value })?;
                 Some(Step::Accept(vote.ballot, vote.value))
             }
         }
+    }
+
+    fn next_propose(&self) -> Option<Step>
+        ensures { result ≡ would self.now Propose }
+    {
+        let (ballot, value) = self.proposal()?;
+        Some(Step::Propose(ballot, value))
     }
 
     /// The ballot that `start` would start.
@@ -191,7 +205,7 @@ impl Node {
         ensures value { SomeIff result (next_ballot self.now ≤ 65535) (next_ballot self.now) }
     {
         let floor = self.kept.started().max(self.kept.promised());
-        next_ballot(self.me, self.count, floor)
+        next_ballot(self.me, self.quorums.nodes(), floor)
     }
 
     /// The ballot and the value that `propose` would propose.
@@ -199,8 +213,9 @@ impl Node {
         ensures { result ≡ next_proposal self.now }
     {
         let ballot = self.ballot?;
-        let count = usize::from(self.count);
-        if self.proposed || !is_promise_quorum(count, count_promises(&self.promises, count)) {
+        let count = usize::from(self.quorums.nodes());
+        let promised = count_promises(&self.promises, count);
+        if self.proposed || !is_promise_quorum(self.quorums, promised) {
             return None;
         }
         let value = match highest_report(&self.promises, count) {
@@ -226,7 +241,7 @@ impl Node {
     pub fn next_vote(&self, vote: Vote) -> Option<Vote>
         ensures { result ≡ next_vote self.now vote }
     {
-        if is_vote(self.count, vote) && self.kept.promised() <= vote.ballot {
+        if is_vote(self.quorums.nodes(), vote) && self.kept.promised() <= vote.ballot {
             Some(vote)
         } else {
             None
@@ -236,9 +251,9 @@ impl Node {
     /// Starts the node's least own ballot above all that it has started or promised: phase 1a.
     pub fn start(&mut self) -> Result<Msg, CoreError>
         ensures ok { IfOk result (λ sent. (sent ≡ Prepare (next_ballot self.old)) × (self.new ≡ started self.old)) }
-        ensures least { IsLeastAbove self.old.me self.old.count (floor_of self.old) (next_ballot self.old) }
+        ensures least { IsLeastAbove self.old.me self.old.quorums.nodes (floor_of self.old) (next_ballot self.old) }
         ensures spent { IsErr result ↔ (65535 < next_ballot self.old) }
-        ensures none_left { OnErr result (IsSpent self.old.me self.old.count (floor_of self.old)) }
+        ensures none_left { OnErr result (IsSpent self.old.me self.old.quorums.nodes (floor_of self.old)) }
         ensures err { OnErr result (self.new ≡ self.old) }
         ensures step { IfOk result (λ sent. TakesSteps self.old self.new (taken_by_start self.old) (Some sent)) }
     {
@@ -309,7 +324,8 @@ impl Node {
         ensures state { self.new ≡ after_promise self.old from ballot report }
         ensures step { TakesItsSteps self.old (Promise from ballot report) self.new }
     {
-        let sound = 0 < ballot && from < self.count && is_report(self.count, ballot, report);
+        let nodes = self.quorums.nodes();
+        let sound = 0 < ballot && from < nodes && is_report(nodes, ballot, report);
         if sound && self.ballot == Some(ballot) {
             self.promises[usize::from(from)] = Some(report);
         }
@@ -317,10 +333,10 @@ impl Node {
 
     /// Whether just this vote of node `from` is noted: then to note it again changes nothing.
     pub fn has_noted(&self, from: u8, vote: Vote) -> bool
-        ensures is { IsTrue result ↔ ((from < self.now.count) × (note_of self.now.votes from ≡ Some vote)) }
+        ensures is { IsTrue result ↔ ((from < self.now.quorums.nodes) × (note_of self.now.votes from ≡ Some vote)) }
         ensures same { IsTrue result → after_vote self.now from vote ≡ self.now }
     {
-        from < self.count && self.votes[usize::from(from)] == Some(vote)
+        from < self.quorums.nodes() && self.votes[usize::from(from)] == Some(vote)
     }
 
     /// Notes a vote of node `from`, and may learn its value: what `on` does with the message.
@@ -328,13 +344,13 @@ impl Node {
         ensures state { self.new ≡ after_vote self.old from vote }
         ensures step { TakesItsSteps self.old (Accepted from vote.ballot vote.value) self.new }
     {
-        let sound = from < self.count && is_vote(self.count, vote);
+        let sound = from < self.quorums.nodes() && is_vote(self.quorums.nodes(), vote);
         if !sound || !is_at_most(self.votes[usize::from(from)], vote.ballot) {
             return;
         }
         self.votes[usize::from(from)] = Some(vote);
-        let count = usize::from(self.count);
-        let quorum = is_accept_quorum(count, count_votes(&self.votes, count, vote.ballot));
+        let count = usize::from(self.quorums.nodes());
+        let quorum = is_accept_quorum(self.quorums, count_votes(&self.votes, count, vote.ballot));
         if quorum && self.learned.is_none() {
             self.learned = Some(vote.value as u8);
         }

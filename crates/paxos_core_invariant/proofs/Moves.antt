@@ -3,6 +3,7 @@
 use Rattle.std.proofs.Common.{◌≡◌, ℕ, ◌≤◌, ◌⊎◌, Bool, true, false, cond, IsTrue, Option, eqb, eqb-true, inl, inr, refl, sym, ap, subst, arith}
 use Rattle.std.proofs.lemmas.Bool.{eqb-false}
 use Rattle.paxos_core_world.specs.KeptPart.{KeptPart, with_offer, with_start, with_promise, with_vote, vote}
+use Rattle.paxos_core_world.specs.Quorum.{Sizes}
 use Rattle.paxos_core_world.specs.Step.{Label, Offers, Starts, Promises, Proposes, Accepts, Learns, Restarts, Allowed, after, HasOffered, IsChosen}
 use Rattle.paxos_core_world.specs.World.{World, Has, put}
 use Rattle.paxos_core_world.specs.declared.msg.Msg.{Msg}
@@ -49,8 +50,8 @@ learned_stays w (Accepts a c u) i v h = h
 learned_stays w (Learns j u) i v h = inr h
 learned_stays w (Restarts j) i v h = h
 
-pub chosen_stays : (n : ℕ) (w : World) (l : Label) (b v : ℕ) → IsChosen n w b v → IsChosen n (after w l) b v
-chosen_stays n w l b v h =
+pub chosen_stays : (q : Sizes) (w : World) (l : Label) (b v : ℕ) → IsChosen q w b v → IsChosen q (after w l) b v
+chosen_stays q w l b v h =
     record { members = h.members; quorum = h.quorum; votes = λ a below member. message_stays w l _ (h.votes a below member) }
 
 -- ---- where a message comes from
@@ -148,16 +149,16 @@ node_cases w (Restarts i) a P old offer start promise accept = old
 
 -- ---- what only grows
 
-pub promised_grows : (n : ℕ) (w : World) (l : Label) (a : ℕ) → Allowed n w l → (w.nodes a).promised ≤ ((after w l).nodes a).promised
-promised_grows n w l a ok =
+pub promised_grows : (q : Sizes) (w : World) (l : Label) (a : ℕ) → Allowed q w l → (w.nodes a).promised ≤ ((after w l).nodes a).promised
+promised_grows q w l a ok =
     node_cases w l a (λ k. (w.nodes a).promised ≤ k.promised) (omega arith) (λ _. omega arith) (λ b _. omega arith)
-    (λ b e. let step : Allowed n w (Promises a b) = subst (Allowed n w) e ok in omega arith)
-    (λ b v e. let step : Allowed n w (Accepts a b v) = subst (Allowed n w) e ok in omega arith)
+    (λ b e. let step : Allowed q w (Promises a b) = subst (Allowed q w) e ok in omega arith)
+    (λ b v e. let step : Allowed q w (Accepts a b v) = subst (Allowed q w) e ok in omega arith)
 
-pub started_grows : (n : ℕ) (w : World) (l : Label) (i : ℕ) → Allowed n w l → (w.nodes i).started ≤ ((after w l).nodes i).started
-started_grows n w l i ok =
+pub started_grows : (q : Sizes) (w : World) (l : Label) (i : ℕ) → Allowed q w l → (w.nodes i).started ≤ ((after w l).nodes i).started
+started_grows q w l i ok =
     node_cases w l i (λ k. (w.nodes i).started ≤ k.started) (omega arith) (λ _. omega arith)
-    (λ b e. let step : Allowed n w (Starts i b) = subst (Allowed n w) e ok in omega arith)
+    (λ b e. let step : Allowed q w (Starts i b) = subst (Allowed q w) e ok in omega arith)
     (λ b _. omega arith) (λ b v _. omega arith)
 
 pub offer_stays : (n : ℕ) (w : World) (l : Label) (v : ℕ) → HasOffered n w.nodes v → HasOffered n (after w l).nodes v

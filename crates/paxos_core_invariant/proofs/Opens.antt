@@ -3,7 +3,7 @@ use Rattle.std.proofs.Common.{◌≡◌, ℕ, zero, suc, ◌<◌, ◌≤◌, ◌
 use Rattle.std.proofs.lemmas.Bool.{cases_eq, and_parts, and_from}
 use Rattle.paxos_core_world.specs.Ballot.{Owns}
 use Rattle.paxos_core_world.specs.KeptPart.{KeptPart, vote}
-use Rattle.paxos_core_world.specs.Quorum.{IsPromiseQuorum}
+use Rattle.paxos_core_world.specs.Quorum.{Sizes, AreQuorums, IsPromiseQuorum}
 use Rattle.paxos_core_world.specs.Settled.{Settled, has_promised, has_passed, same_vote, is_given}
 use Rattle.paxos_core_world.specs.Step.{HasOffered}
 use Rattle.paxos_core_world.specs.World.{Has, opening, shown, shown_start, shown_vote}
@@ -144,29 +144,29 @@ not_given_is c u o h e =
     let given : is_given (vote c u) o ≡ true = subst (λ (p : Option Vote). is_given (vote c u) p ≡ true) (sym e) (given_self (vote c u)) in cc
 
 -- of two settled votes the lower one of another value can no more be chosen; and one that nobody holds cannot either, since a promise quorum has promised above it
-opening_passed : (n : ℕ) (nodes : ℕ → KeptPart) → Settled n nodes → (a b v c u : ℕ) → a < n → (nodes a).accepted ≡ Some (vote b v)
-    → c < b → (u ≡ v → ⊥) → IsPassed n (opening n nodes) c u
-opening_passed n nodes s a b v c u below e low other = elim (find_below n (λ j. is_given (vote c u) (nodes j).accepted)) [
+opening_passed : (q : Sizes) (nodes : ℕ → KeptPart) → Settled q nodes → (a b v c u : ℕ) → a < q.nodes → (nodes a).accepted ≡ Some (vote b v)
+    → c < b → (u ≡ v → ⊥) → IsPassed q (opening q.nodes nodes) c u
+opening_passed q nodes s a b v c u below e low other = elim (find_below q.nodes (λ j. is_given (vote c u) (nodes j).accepted)) [
   | inl held ↦ by_pair held.0 held.1 (given_is c u (nodes held.0).accepted held.2)
   | inr none ↦ by_promises none
 ]
   where
-    by_pair : (j : ℕ) → j < n → (nodes j).accepted ≡ Some (vote c u) → IsPassed n (opening n nodes) c u
+    by_pair : (j : ℕ) → j < q.nodes → (nodes j).accepted ≡ Some (vote c u) → IsPassed q (opening q.nodes nodes) c u
     by_pair j member f =
         record {
           members = λ i. has_passed (vote c u) (nodes i);
           quorum = (s.pair a j (vote b v) (vote c u) below member e f).lower low other;
           above = λ i _ passed. passed_above (vote c u) (nodes i) passed;
-          silent = λ i _ passed sent. passed_silent (vote c u) (nodes i) passed (vote_shown n nodes i c u sent).1;
+          silent = λ i _ passed sent. passed_silent (vote c u) (nodes i) passed (vote_shown q.nodes nodes i c u sent).1;
         }
 
-    by_promises : ((j : ℕ) → j < n → is_given (vote c u) (nodes j).accepted ≡ false) → IsPassed n (opening n nodes) c u
+    by_promises : ((j : ℕ) → j < q.nodes → is_given (vote c u) (nodes j).accepted ≡ false) → IsPassed q (opening q.nodes nodes) c u
     by_promises none =
         record {
           members = λ i. has_promised b (nodes i);
           quorum = (s.vote a (vote b v) below e).quorum;
           above = λ i _ promised. (let high : b ≤ (nodes i).promised = leb-true b (nodes i).promised promised in omega arith);
-          silent = λ i node _ sent. not_given_is c u (nodes i).accepted (none i node) (vote_shown n nodes i c u sent).1;
+          silent = λ i node _ sent. not_given_is c u (nodes i).accepted (none i node) (vote_shown q.nodes nodes i c u sent).1;
         }
 
 -- ---- the invariant
@@ -175,9 +175,9 @@ backed_shown : (n : ℕ) (nodes : ℕ → KeptPart) (b v : ℕ) → Backed (open
 backed_shown n nodes b v (inl proposal) = absurd (no_proposal_shown n nodes b v proposal)
 backed_shown n nodes b v (inr voted) = let at = vote_shown n nodes voted.0 b v voted.1 in (voted.0, at.0, at.1)
 
-opening_vote : (n : ℕ) (nodes : ℕ → KeptPart) → Settled n nodes → (a b v : ℕ) → Has (Accepted a b v) (shown n nodes) → VoteKept n (opening n nodes) a b v
-opening_vote n nodes s a b v h =
-    let at = vote_shown n nodes a b v h in
+opening_vote : (q : Sizes) (nodes : ℕ → KeptPart) → Settled q nodes → (a b v : ℕ) → Has (Accepted a b v) (shown q.nodes nodes) → VoteKept q.nodes (opening q.nodes nodes) a b v
+opening_vote q nodes s a b v h =
+    let at = vote_shown q.nodes nodes a b v h in
     record {
       node = at.0;
       bound = (within_at (nodes a).promised (nodes a).accepted (vote b v) at.1 (s.within a at.0)).1;
@@ -185,58 +185,59 @@ opening_vote n nodes s a b v h =
       origin = inr (λ never. never);
     }
 
-opening_prepared : (n : ℕ) (nodes : ℕ → KeptPart) → Settled n nodes → (i b : ℕ) → i < n → Has (Prepare b) (shown n nodes) → Owns n i b → b ≤ (nodes i).started
-opening_prepared n nodes s i b below h own = from (prepare_shown n nodes b h)
+opening_prepared : (q : Sizes) (nodes : ℕ → KeptPart) → Settled q nodes → (i b : ℕ) → i < q.nodes → Has (Prepare b) (shown q.nodes nodes) → Owns q.nodes i b → b ≤ (nodes i).started
+opening_prepared q nodes s i b below h own = from (prepare_shown q.nodes nodes b h)
   where
-    from : (j : ℕ) × (j < n) × (b ≡ (nodes j).started) × (1 ≤ b) → b ≤ (nodes i).started
+    from : (j : ℕ) × (j < q.nodes) × (b ≡ (nodes j).started) × (1 ≤ b) → b ≤ (nodes i).started
     from (j, member, is, first) = elim (s.ballots j member).own [
       | inl none ↦ absurd (omega arith)
       | inr owned ↦ (
-          let turn : b % n ≡ j = subst (λ (c : ℕ). c % n ≡ j) (sym is) owned.turn in
+          let turn : b % q.nodes ≡ j = subst (λ (c : ℕ). c % q.nodes ≡ j) (sym is) owned.turn in
           let same : j ≡ i = sym turn ∙ own.turn in
           let at : b ≡ (nodes i).started = subst (λ (k : ℕ). b ≡ (nodes k).started) same is in
           omega arith)
     ]
 
-opening_voted : (n : ℕ) (nodes : ℕ → KeptPart) → Settled n nodes → (i a b v : ℕ) → i < n → Has (Accepted a b v) (shown n nodes) → Owns n i b → b ≤ (nodes i).started
-opening_voted n nodes s i a b v below h own =
-    let at = vote_shown n nodes a b v h in (s.ballots i below).accepted a (vote b v) at.0 at.1 own
+opening_voted : (q : Sizes) (nodes : ℕ → KeptPart) → Settled q nodes → (i a b v : ℕ) → i < q.nodes → Has (Accepted a b v) (shown q.nodes nodes) → Owns q.nodes i b → b ≤ (nodes i).started
+opening_voted q nodes s i a b v below h own =
+    let at = vote_shown q.nodes nodes a b v h in (s.ballots i below).accepted a (vote b v) at.0 at.1 own
 
-opening_one_vote : (n : ℕ) (nodes : ℕ → KeptPart) → Settled n nodes → (a c b v u : ℕ) → Has (Accepted a b v) (shown n nodes) → Has (Accepted c b u) (shown n nodes) → v ≡ u
-opening_one_vote n nodes s a c b v u h k =
-    let at = vote_shown n nodes a b v h in
-    let there = vote_shown n nodes c b u k in
+opening_one_vote : (q : Sizes) (nodes : ℕ → KeptPart) → Settled q nodes → (a c b v u : ℕ) → Has (Accepted a b v) (shown q.nodes nodes) → Has (Accepted c b u) (shown q.nodes nodes) → v ≡ u
+opening_one_vote q nodes s a c b v u h k =
+    let at = vote_shown q.nodes nodes a b v h in
+    let there = vote_shown q.nodes nodes c b u k in
     (s.pair a c (vote b v) (vote b u) at.0 there.0 at.1 there.1).same refl
 
-opening_offered : (n : ℕ) (nodes : ℕ → KeptPart) → Settled n nodes → (b v : ℕ) → Backed (opening n nodes) b v → HasOffered n nodes v
-opening_offered n nodes s b v h = let at = backed_shown n nodes b v h in (s.vote at.0 (vote b v) at.1 at.2).offered
+opening_offered : (q : Sizes) (nodes : ℕ → KeptPart) → Settled q nodes → (b v : ℕ) → Backed (opening q.nodes nodes) b v → HasOffered q.nodes nodes v
+opening_offered q nodes s b v h = let at = backed_shown q.nodes nodes b v h in (s.vote at.0 (vote b v) at.1 at.2).offered
 
-opening_backed : (n : ℕ) (nodes : ℕ → KeptPart) → Settled n nodes → (b v : ℕ) → Backed (opening n nodes) b v → IsPromiseQuorum n (λ a. has_promised b (nodes a))
-opening_backed n nodes s b v h = let at = backed_shown n nodes b v h in (s.vote at.0 (vote b v) at.1 at.2).quorum
+opening_backed : (q : Sizes) (nodes : ℕ → KeptPart) → Settled q nodes → (b v : ℕ) → Backed (opening q.nodes nodes) b v → IsPromiseQuorum q (λ a. has_promised b (nodes a))
+opening_backed q nodes s b v h = let at = backed_shown q.nodes nodes b v h in (s.vote at.0 (vote b v) at.1 at.2).quorum
 
-opening_safe : (n : ℕ) (nodes : ℕ → KeptPart) → Settled n nodes → (b v c u : ℕ) → Backed (opening n nodes) b v → c < b → (u ≡ v → ⊥) → IsPassed n (opening n nodes) c u
-opening_safe n nodes s b v c u h low other =
-    let at = backed_shown n nodes b v h in opening_passed n nodes s at.0 b v c u at.1 at.2 low other
+opening_safe : (q : Sizes) (nodes : ℕ → KeptPart) → Settled q nodes → (b v c u : ℕ) → Backed (opening q.nodes nodes) b v → c < b → (u ≡ v → ⊥) → IsPassed q (opening q.nodes nodes) c u
+opening_safe q nodes s b v c u h low other =
+    let at = backed_shown q.nodes nodes b v h in opening_passed q nodes s at.0 b v c u at.1 at.2 low other
 
-pub opens : (n : ℕ) (nodes : ℕ → KeptPart) → Settled n nodes → Invariant n (opening n nodes)
-opens n nodes s = record {
+pub opens : (q : Sizes) (nodes : ℕ → KeptPart) → AreQuorums q → Settled q nodes → Invariant q (opening q.nodes nodes)
+opens q nodes are s = record {
+  sizes = are;
   within = s.within;
-  kept = λ a x below e. shows_vote n nodes a x below e;
-  votes = opening_vote n nodes s;
-  promises = λ a b report h. absurd (no_promise_shown n nodes a b report h);
-  one_vote = opening_one_vote n nodes s;
-  one_proposal = λ b v u h _. absurd (no_proposal_shown n nodes b v h);
-  proposed = λ b v h. absurd (no_proposal_shown n nodes b v h);
+  kept = λ a x below e. shows_vote q.nodes nodes a x below e;
+  votes = opening_vote q nodes s;
+  promises = λ a b report h. absurd (no_promise_shown q.nodes nodes a b report h);
+  one_vote = opening_one_vote q nodes s;
+  one_proposal = λ b v u h _. absurd (no_proposal_shown q.nodes nodes b v h);
+  proposed = λ b v h. absurd (no_proposal_shown q.nodes nodes b v h);
   begun = λ b h. absurd h;
   begun_own = λ b h. absurd h;
   own = λ i below. (s.ballots i below).own;
-  started = shows_start n nodes;
-  prepared = opening_prepared n nodes s;
+  started = shows_start q.nodes nodes;
+  prepared = opening_prepared q nodes s;
   promised = λ i a below member own. (s.ballots i below).promised a member own;
-  voted = opening_voted n nodes s;
-  offered = opening_offered n nodes s;
-  backed = opening_backed n nodes s;
-  safe = opening_safe n nodes s;
+  voted = opening_voted q nodes s;
+  offered = opening_offered q nodes s;
+  backed = opening_backed q nodes s;
+  safe = opening_safe q nodes s;
   answered = λ a below h. absurd h;
   learned = λ i v h. absurd h;
 }

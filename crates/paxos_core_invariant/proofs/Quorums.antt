@@ -1,7 +1,7 @@
 -- A promise quorum and an accept quorum meet: they share a node.
 use Rattle.std.proofs.Common.{◌≡◌, ℕ, zero, suc, ◌+◌, ◌<◌, ◌⊎◌, Bool, true, false, IsTrue, if◌then◌else◌, inl, inr, refl, sym, subst, arith, eqb, eqb-true}
 use Rattle.std.proofs.lemmas.Bool.{eqb-false}
-use Rattle.paxos_core_world.specs.Quorum.{count_below, IsPromiseQuorum, IsAcceptQuorum}
+use Rattle.paxos_core_world.specs.Quorum.{Sizes, AreQuorums, count_below, IsPromiseQuorum, IsAcceptQuorum}
 use Rattle.paxos_core_world.proofs.Quorums.{overlap}
 
 -- a node in both sets
@@ -27,8 +27,8 @@ meet_below : (n : ℕ) (p q : ℕ → Bool) → n < count_below n p + count_belo
 meet_below zero p q h = absurd (omega arith)
 meet_below (suc n) p q h = meet_step n p q (meet_below n p q) (p n) (q n) refl refl h
 
-pub meet : (n : ℕ) (p a : ℕ → Bool) → IsPromiseQuorum n p → IsAcceptQuorum n a → Shared n p a
-meet n p a h k = meet_below n p a (overlap n (count_below n p) (count_below n a) h k)
+pub meet : (q : Sizes) → AreQuorums q → (s t : ℕ → Bool) → IsPromiseQuorum q s → IsAcceptQuorum q t → Shared q.nodes s t
+meet q are s t h k = meet_below q.nodes s t (overlap q are (count_below q.nodes s) (count_below q.nodes t) h k)
 
 -- some node below n passes the test, or none does
 Found : ℕ → (ℕ → Bool) → Type 0

@@ -2,6 +2,7 @@
 use Rattle.std.proofs.Common.{◌≡◌, ℕ, ◌<◌, ◌≤◌, ◌⊎◌, Bool, true, false, cond, ◌&&◌, not, List, [], ◌∷◌, ◌++◌, Option, Some, None, is_some, is_none, IfSome, refl, sym, ap, subst, inl, inr}
 use Rattle.std.proofs.lemmas.Bool.{and_parts}
 use Rattle.paxos_core_world.specs.KeptPart.{KeptPart, with_offer, without_offer, vote}
+use Rattle.paxos_core_world.specs.Quorum.{Sizes}
 use Rattle.paxos_core_world.specs.Run.{reached}
 use Rattle.paxos_core_world.specs.Step.{Label, Offers, after}
 use Rattle.paxos_core_world.specs.World.{World, Has}
@@ -24,12 +25,12 @@ use Rattle.paxos_core_law.proofs.BelongsLemmas.{belongs_kept, belongs_after_othe
 use Rattle.paxos_core_law.proofs.TakesLemmas.{offer_takes, start_takes, propose_anywhere, on_takes, restart_takes}
 
 -- a call that leaves the node with its offer, or without it
-late : {n : ℕ} {w : World} {ls : List Label} {t : NodeState} {m : Option Msg} → Takes n w ls t m → TakesLate n w ls t m
+late : {z : Sizes} {w : World} {ls : List Label} {t : NodeState} {m : Option Msg} → Takes z w ls t m → TakesLate z w ls t m
 late h = record { run = h.run; own = h.own; belongs = inl h.belongs; sent = h.sent }
 
-but_offer : {n : ℕ} {w : World} {ls : List Label} {m : Option Msg} (t u : NodeState) → u ≡ unoffered t → Takes n w ls u m → TakesLate n w ls t m
-but_offer {n} {w} {ls} {m} t u e h =
-    let same = subst (λ x. Takes n w ls x m) e h in
+but_offer : {z : Sizes} {w : World} {ls : List Label} {m : Option Msg} (t u : NodeState) → u ≡ unoffered t → Takes z w ls u m → TakesLate z w ls t m
+but_offer {z} {w} {ls} {m} t u e h =
+    let same = subst (λ x. Takes z w ls x m) e h in
     record { run = same.run; own = same.own; belongs = inr same.belongs; sent = same.sent }
 
 -- ---- offer, start, restart, messages
@@ -37,25 +38,25 @@ but_offer {n} {w} {ls} {m} t u e h =
 kept_as : (k : KeptPart) (t : Bool) → k.offered ≡ t → k ≡ record { offered = t; started = k.started; promised = k.promised; accepted = k.accepted }
 kept_as k t e = ap {B = KeptPart} (λ o. record { offered = o; started = k.started; promised = k.promised; accepted = k.accepted }) e
 
-offer_by : (t : Bool) (n : ℕ) (w : World) (s : NodeState) → s.kept.offered ≡ t → BelongsButOffer n w s → BelongsButOffer n w (offered s)
-offer_by t n w s e (inr h) = inr h
-offer_by true n w s e (inl h) = inl (belongs_kept n w s (with_offer s.kept) h (kept_as s.kept true e))
-offer_by false n w s e (inl h) = inr (belongs_kept n w s (without_offer s.kept) h (kept_as s.kept false e))
+offer_by : (t : Bool) (z : Sizes) (w : World) (s : NodeState) → s.kept.offered ≡ t → BelongsButOffer z w s → BelongsButOffer z w (offered s)
+offer_by t z w s e (inr h) = inr h
+offer_by true z w s e (inl h) = inl (belongs_kept z w s (with_offer s.kept) h (kept_as s.kept true e))
+offer_by false z w s e (inl h) = inr (belongs_kept z w s (without_offer s.kept) h (kept_as s.kept false e))
 
 offer_late : (s : NodeState) → TakesStepsLate s (offered s) (λ _. []) None
-offer_late s n w r h = record { run = tt; own = tt; belongs = offer_by s.kept.offered n w s refl h; sent = tt }
+offer_late s z w r h = record { run = tt; own = tt; belongs = offer_by s.kept.offered z w s refl h; sent = tt }
 
 start_late : (s : NodeState) → next_ballot s ≤ 65535 → TakesStepsLate s (started s) (λ _. taken_by_start s) (Some (Prepare (next_ballot s)))
-start_late s last n w r (inl h) = late (start_takes s last n w r h)
-start_late s last n w r (inr h) = but_offer (started s) _ refl (start_takes (unoffered s) last n w r h)
+start_late s last z w r (inl h) = late (start_takes s last z w r h)
+start_late s last z w r (inr h) = but_offer (started s) _ refl (start_takes (unoffered s) last z w r h)
 
-restart_late : (s : NodeState) (k : KeptPart) (n : ℕ) (w : World) → s.me < n → s.count ≡ n → (w.nodes s.me ≡ k) ⊎ (w.nodes s.me ≡ without_offer k) → TakesLate n w (taken_by_restart s) (restarted s k) None
-restart_late s k n w i c (inl e) = late (restart_takes s k n w i c e)
-restart_late s k n w i c (inr e) = but_offer (restarted s k) _ refl (restart_takes s (without_offer k) n w i c e)
+restart_late : (s : NodeState) (k : KeptPart) (z : Sizes) (w : World) → s.me < z.nodes → s.quorums ≡ z → (w.nodes s.me ≡ k) ⊎ (w.nodes s.me ≡ without_offer k) → TakesLate z w (taken_by_restart s) (restarted s k) None
+restart_late s k z w i c (inl e) = late (restart_takes s k z w i c e)
+restart_late s k z w i c (inr e) = but_offer (restarted s k) _ refl (restart_takes s (without_offer k) z w i c e)
 
 forget_late : (s : NodeState) → TakesStepsLate s (restarted s s.kept) (λ _. taken_by_restart s) None
-forget_late s n w r (inl h) = restart_late s s.kept n w h.number h.count (inl h.kept)
-forget_late s n w r (inr h) = restart_late s s.kept n w h.number h.count (inr h.kept)
+forget_late s z w r (inl h) = restart_late s s.kept z w h.number h.quorums (inl h.kept)
+forget_late s z w r (inr h) = restart_late s s.kept z w h.number h.quorums (inr h.kept)
 
 unoffered_if : (t : Bool) (s u : NodeState) → cond t (unoffered u) (unoffered s) ≡ unoffered (cond t u s)
 unoffered_if true s u = refl
@@ -79,13 +80,13 @@ taken_unoffered s (Propose b v) = refl
 taken_unoffered s (Promise a b report) = refl
 taken_unoffered s (Accepted a b v) = refl
 
-message_late : (s : NodeState) (m : Msg) (n : ℕ) (w : World) → IsReached n w → BelongsButOffer n w s → Has m w.sent → TakesLate n w (taken_on s m) (after_message s m) (reply s m)
-message_late s m n w r (inl h) k = late (on_takes s m n w r h k)
-message_late s m n w r (inr h) k =
+message_late : (s : NodeState) (m : Msg) (z : Sizes) (w : World) → IsReached z w → BelongsButOffer z w s → Has m w.sent → TakesLate z w (taken_on s m) (after_message s m) (reply s m)
+message_late s m z w r (inl h) k = late (on_takes s m z w r h k)
+message_late s m z w r (inr h) k =
     but_offer (after_message s m) _ (message_unoffered s m)
-    (subst (λ ls. Takes n w ls (after_message (unoffered s) m) (reply s m)) (taken_unoffered s m)
-    (subst (λ x. Takes n w (taken_on (unoffered s) m) (after_message (unoffered s) m) x) (reply_unoffered s m)
-    (on_takes (unoffered s) m n w r h k)))
+    (subst (λ ls. Takes z w ls (after_message (unoffered s) m) (reply s m)) (taken_unoffered s m)
+    (subst (λ x. Takes z w (taken_on (unoffered s) m) (after_message (unoffered s) m) x) (reply_unoffered s m)
+    (on_takes (unoffered s) m z w r h k)))
 
 -- ---- propose
 
@@ -121,13 +122,13 @@ are_steps-append n i [] before h k = k
 are_steps-append n i (l ∷ later) before h k = (h.0, are_steps-append n i later before h.1 k)
 
 -- one call's steps after another's
-both : (n : ℕ) (w : World) (before later : List Label) (s t : NodeState) (m : Option Msg) → t.me ≡ s.me → Takes n w before s None → Takes n (reached w before) later t m → Takes n w (later ++ before) t m
-both n w before later s t m e first second =
+both : (z : Sizes) (w : World) (before later : List Label) (s t : NodeState) (m : Option Msg) → t.me ≡ s.me → Takes z w before s None → Takes z (reached w before) later t m → Takes z w (later ++ before) t m
+both z w before later s t m e first second =
     let there = sym (reached-append w later before) in
     record {
-      run = run_append n w later before first.run second.run;
-      own = are_steps-append n t.me later before second.own (subst (λ i. AreStepsOf n i before) (sym e) first.own);
-      belongs = subst (λ (x : World). Belongs n x t) there second.belongs;
+      run = run_append z w later before first.run second.run;
+      own = are_steps-append z.nodes t.me later before second.own (subst (λ i. AreStepsOf z.nodes i before) (sym e) first.own);
+      belongs = subst (λ (x : World). Belongs z x t) there second.belongs;
       sent = subst (λ (x : World). IfSome m (λ a. Has a x.sent)) there second.sent;
     }
 
@@ -135,26 +136,26 @@ number_after : (o : Option Msg) (s : NodeState) → (after_answer s o).me ≡ s.
 number_after None s = refl
 number_after (Some m) s = refl
 
-module _ (n : ℕ) (w : World) (s : NodeState) (r : IsReached n w) where
+module _ (z : Sizes) (w : World) (s : NodeState) (r : IsReached z w) where
   own_has : proposes_own s ≡ true → s.kept.offered ≡ true
-  own_has e = own_offered s.ballot (may_propose s) (highest_below s.count s.promises) s.kept.offered s.me e
+  own_has e = own_offered s.ballot (may_propose s) (highest_below s.quorums.nodes s.promises) s.kept.offered s.me e
 
   -- once the offer is taken, the node belongs
-  offered_then : Belongs n w (unoffered s) → proposes_own s ≡ true → Takes n w (Offers s.me ∷ []) s None
+  offered_then : Belongs z w (unoffered s) → proposes_own s ≡ true → Takes z w (Offers s.me ∷ []) s None
   offered_then h e =
-      subst (λ x. Takes n w (Offers s.me ∷ []) x None)
+      subst (λ x. Takes z w (Offers s.me ∷ []) x None)
       (ap (λ (k : KeptPart). record s { kept = k }) (sym (kept_as s.kept true (own_has e))))
-      (offer_takes (unoffered s) n w r h)
+      (offer_takes (unoffered s) z w r h)
 
-  without : Belongs n w (unoffered s) → proposes_own s ≡ false → TakesLate n w (taken_by_propose s) (after_proposal s) (proposal s)
+  without : Belongs z w (unoffered s) → proposes_own s ≡ false → TakesLate z w (taken_by_propose s) (after_proposal s) (proposal s)
   without h e =
-      let same = same_without s.ballot (may_propose s) (highest_below s.count s.promises) s.kept.offered s.me e in
+      let same = same_without s.ballot (may_propose s) (highest_below s.quorums.nodes s.promises) s.kept.offered s.me e in
       but_offer (after_proposal s) (after_answer (unoffered s) (proposal s)) (answer_unoffered (proposal s) s)
-      (subst (λ (p : Option (ℕ × ℕ)). Takes n w (proposes (propose_message p)) (after_answer (unoffered s) (propose_message p)) (propose_message p)) same
-      (propose_anywhere (unoffered s) n w h))
+      (subst (λ (p : Option (ℕ × ℕ)). Takes z w (proposes (propose_message p)) (after_answer (unoffered s) (propose_message p)) (propose_message p)) same
+      (propose_anywhere (unoffered s) z w h))
 
-  propose_by : (t : Bool) → owes_offer w s ≡ t → BelongsButOffer n w s → TakesLate n w (cond t (taken_by_propose s ++ Offers s.me ∷ []) (taken_by_propose s)) (after_proposal s) (proposal s)
-  propose_by false e (inl h) = late (propose_anywhere s n w h)
+  propose_by : (t : Bool) → owes_offer w s ≡ t → BelongsButOffer z w s → TakesLate z w (cond t (taken_by_propose s ++ Offers s.me ∷ []) (taken_by_propose s)) (after_proposal s) (proposal s)
+  propose_by false e (inl h) = late (propose_anywhere s z w h)
   propose_by false e (inr h) = without h (and_false (proposes_own s) (subst (λ (k : KeptPart). (proposes_own s && not k.offered) ≡ false) h.kept e))
   propose_by true e (inl h) =
       let parts = and_parts (proposes_own s) (not (w.nodes s.me).offered) e in
@@ -166,11 +167,11 @@ module _ (n : ℕ) (w : World) (s : NodeState) (r : IsReached n w) where
   propose_by true e (inr h) =
       let parts = and_parts (proposes_own s) (not (w.nodes s.me).offered) e in
       let first = offered_then h parts.0 in
-      late (both n w (Offers s.me ∷ []) (taken_by_propose s) s (after_proposal s) (proposal s) (number_after (proposal s) s) first
-      (propose_anywhere s n (after w (Offers s.me)) first.belongs))
+      late (both z w (Offers s.me ∷ []) (taken_by_propose s) s (after_proposal s) (proposal s) (number_after (proposal s) s) first
+      (propose_anywhere s z (after w (Offers s.me)) first.belongs))
 
 propose_late : (s : NodeState) → TakesStepsLate s (after_proposal s) (λ w. taken_late_by_propose w s) (proposal s)
-propose_late s n w r h = propose_by n w s r (owes_offer w s) refl h
+propose_late s z w r h = propose_by z w s r (owes_offer w s) refl h
 
 -- ---- the promises
 
@@ -178,7 +179,7 @@ pub offers_may_be_late : OffersMayBeLate
 offers_may_be_late = record { offer = offer_late; start = start_late; propose = propose_late; message = message_late; forget = forget_late; restart = restart_late }
 
 pub others_leave_it : OthersLeaveIt
-others_leave_it n w l s j o d = (
-  λ h. belongs_after_others n w l s j h o d,
-  λ h. elim h [ inl h ↦ inl (belongs_after_others n w l s j h o d) | inr h ↦ inr (belongs_after_others n w l (unoffered s) j h o d) ],
+others_leave_it z w l s j o d = (
+  λ h. belongs_after_others z w l s j h o d,
+  λ h. elim h [ inl h ↦ inl (belongs_after_others z w l s j h o d) | inr h ↦ inr (belongs_after_others z w l (unoffered s) j h o d) ],
 )

@@ -3,7 +3,6 @@ use Rattle.std.proofs.Common.{◌≡◌, ℕ, suc, ◌+◌, ◌-◌, ◌*◌, �
 use Rattle.std.proofs.Math.Nat.{add-mod_left, mod-eq_of_lt, mul-le-mul_left, mod-lt}
 use Rattle.std.proofs.lemmas.Bool.{cases_lt}
 use Rattle.std.proofs.lemmas.Nat.{mod-mul-add, div-add-mod'}
-use Rattle.paxos_core_model.specs.Ballot.{Owns}
 use Rattle.paxos_core_law.specs.NextBallot.{least_above, IsLeastAbove, IsSpent}
 
 -- how far it is from a number of remainder r to the next one of remainder i

@@ -1,14 +1,13 @@
 -- What keeps a node in its world: steps of others, and what it notes.
-use Rattle.std.proofs.Common.{◌≡◌, ℕ, ◌<◌, ◌⊎◌, Bool, false, set, Option, Some, None, refl, sym, ap, ◌∙◌, inl, inr}
-use Rattle.paxos_core_model.specs.Ballot.{Owns}
+use Rattle.std.proofs.Common.{◌≡◌, ℕ, ◌<◌, Bool, set, Option, Some, refl, sym, ap, ◌∙◌, inl, inr}
 use Rattle.paxos_core_model.specs.KeptPart.{KeptPart}
+use Rattle.paxos_core_model.specs.Quorum.{Sizes}
 use Rattle.paxos_core_model.specs.Step.{Label, after}
 use Rattle.paxos_core_model.specs.World.{World, Has}
-use Rattle.paxos_core_model.specs.Msg.TheVariants.{Promise, Propose, Accepted}
+use Rattle.paxos_core_model.specs.Msg.TheVariants.{Promise, Accepted}
 use Rattle.paxos_core_model.specs.Vote.{Vote}
 use Rattle.paxos_core_law.specs.Belongs.{Belongs, IsUnderWay}
-use Rattle.paxos_core_law.specs.NodeState.{NodeState, node_with, nothing_noted}
-use Rattle.paxos_core_law.specs.Notes.{note_of}
+use Rattle.paxos_core_law.specs.NodeState.{NodeState, node_with}
 use Rattle.paxos_core_law.specs.Takes.{IsStepOf}
 use Rattle.paxos_core_law.proofs.NoteLemmas.{note_of-set, note_of-nothing}
 use Rattle.paxos_core_law.proofs.WorldLemmas.{grows, nodes_of_others, ProposesNot, proposed_before, proposes_not_of_others}
@@ -23,13 +22,13 @@ under_way_after n w l i b p k u =
     }
 
 -- a node belongs to the world after a step, with the kept part that stands there
-pub belongs_after : (n : ℕ) (w : World) (l : Label) (s : NodeState) (k : KeptPart) → Belongs n w s → (after w l).nodes s.me ≡ k → k.started ≡ s.kept.started → ((b : ℕ) → s.ballot ≡ Some b → ProposesNot b l) → Belongs n (after w l) (record s { kept = k })
-belongs_after n w l s k h e t q =
+pub belongs_after : (z : Sizes) (w : World) (l : Label) (s : NodeState) (k : KeptPart) → Belongs z w s → (after w l).nodes s.me ≡ k → k.started ≡ s.kept.started → ((b : ℕ) → s.ballot ≡ Some b → ProposesNot b l) → Belongs z (after w l) (record s { kept = k })
+belongs_after z w l s k h e t q =
     record {
-      count = h.count;
+      quorums = h.quorums;
       number = h.number;
       kept = e;
-      ballot = λ b i. under_way_after n w l s.me b s.proposed (q b i) (h.ballot b i);
+      ballot = λ b i. under_way_after z.nodes w l s.me b s.proposed (q b i) (h.ballot b i);
       started = λ b i. t ∙ h.started b i;
       promises = λ b a r i j. (grows w l).sent _ (h.promises b a r i j);
       votes = λ a x i. (grows w l).sent _ (h.votes a x i);
@@ -37,15 +36,15 @@ belongs_after n w l s k h e t q =
     }
 
 -- a step of another node leaves it there
-pub belongs_after_others : (n : ℕ) (w : World) (l : Label) (s : NodeState) (j : ℕ) → Belongs n w s → IsStepOf n j l → (s.me ≡ j → ⊥) → Belongs n (after w l) s
-belongs_after_others n w l s j h o d =
-    belongs_after n w l s s.kept h (nodes_of_others n w l s.me j o d ∙ h.kept) refl (λ b e. proposes_not_of_others n s.me j b l o (h.ballot b e).own d)
+pub belongs_after_others : (z : Sizes) (w : World) (l : Label) (s : NodeState) (j : ℕ) → Belongs z w s → IsStepOf z.nodes j l → (s.me ≡ j → ⊥) → Belongs z (after w l) s
+belongs_after_others z w l s j h o d =
+    belongs_after z w l s s.kept h (nodes_of_others z.nodes w l s.me j o d ∙ h.kept) refl (λ b e. proposes_not_of_others z.nodes s.me j b l o (h.ballot b e).own d)
 
 -- a node that knows its kept part alone belongs where that stands
-pub belongs_with : (n : ℕ) (w : World) (i : ℕ) (k : KeptPart) → i < n → w.nodes i ≡ k → Belongs n w (node_with i n k)
-belongs_with n w i k h e =
+pub belongs_with : (z : Sizes) (w : World) (i : ℕ) (k : KeptPart) → i < z.nodes → w.nodes i ≡ k → Belongs z w (node_with i z k)
+belongs_with z w i k h e =
     record {
-      count = refl;
+      quorums = refl;
       number = h;
       kept = e;
       ballot = λ b q. absurd (cc);
@@ -56,10 +55,10 @@ belongs_with n w i k h e =
     }
 
 -- it may note a promise that was sent for its ballot
-pub belongs_promise : (n : ℕ) (w : World) (s : NodeState) (b a : ℕ) (r : Option Vote) → Belongs n w s → s.ballot ≡ Some b → Has (Promise a b r) w.sent → Belongs n w (record s { promises = set s.promises a (Some r) })
-belongs_promise n w s b a r h e m =
+pub belongs_promise : (z : Sizes) (w : World) (s : NodeState) (b a : ℕ) (r : Option Vote) → Belongs z w s → s.ballot ≡ Some b → Has (Promise a b r) w.sent → Belongs z w (record s { promises = set s.promises a (Some r) })
+belongs_promise z w s b a r h e m =
     record {
-      count = h.count;
+      quorums = h.quorums;
       number = h.number;
       kept = h.kept;
       ballot = h.ballot;
@@ -79,10 +78,10 @@ belongs_promise n w s b a r h e m =
     promise_at w a b k c r q ka rq bc m = rw (ka, ← rq, ← bc) m
 
 -- it may note a vote that was sent, and hold what it learned
-pub belongs_vote : (n : ℕ) (w : World) (s : NodeState) (a : ℕ) (x : Vote) (o : Option ℕ) → Belongs n w s → Has (Accepted a x.ballot x.value) w.sent → ((v : ℕ) → o ≡ Some v → Has (s.me, v) w.learned) → Belongs n w (record s { votes = set s.votes a (Some x); learned = o })
-belongs_vote n w s a x o h m l =
+pub belongs_vote : (z : Sizes) (w : World) (s : NodeState) (a : ℕ) (x : Vote) (o : Option ℕ) → Belongs z w s → Has (Accepted a x.ballot x.value) w.sent → ((v : ℕ) → o ≡ Some v → Has (s.me, v) w.learned) → Belongs z w (record s { votes = set s.votes a (Some x); learned = o })
+belongs_vote z w s a x o h m l =
     record {
-      count = h.count;
+      quorums = h.quorums;
       number = h.number;
       kept = h.kept;
       ballot = h.ballot;
@@ -99,10 +98,10 @@ belongs_vote n w s a x o h m l =
     vote_at w a k x y e q m = rw (e, ← q) m
 
 -- its kept part may be told otherwise
-pub belongs_kept : (n : ℕ) (w : World) (s : NodeState) (k : KeptPart) → Belongs n w s → s.kept ≡ k → Belongs n w (record s { kept = k })
-belongs_kept n w s k h e =
+pub belongs_kept : (z : Sizes) (w : World) (s : NodeState) (k : KeptPart) → Belongs z w s → s.kept ≡ k → Belongs z w (record s { kept = k })
+belongs_kept z w s k h e =
     record {
-      count = h.count;
+      quorums = h.quorums;
       number = h.number;
       kept = h.kept ∙ e;
       ballot = h.ballot;

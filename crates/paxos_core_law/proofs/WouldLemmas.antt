@@ -1,12 +1,11 @@
 -- What a node tells is what it does.
-use Rattle.std.proofs.Common.{◌≡◌, ℕ, Bool, true, false, cond, leb, List, [], ◌∷◌, Option, Some, None, refl, ap}
+use Rattle.std.proofs.Common.{◌≡◌, ℕ, Bool, true, false, cond, leb, [], ◌∷◌, Option, Some, None, refl, ap}
 use Rattle.std.specs.Option.{option_map}
 use Rattle.paxos_core_model.specs.KeptPart.{with_promise, with_vote, vote}
-use Rattle.paxos_core_model.specs.Step.{Label, Starts, Promises, Accepts}
+use Rattle.paxos_core_model.specs.Step.{Starts, Promises, Accepts}
 use Rattle.paxos_core_model.specs.Vote.{Vote}
 use Rattle.paxos_core_law.specs.declared.step.Act.{Act}
 use Rattle.paxos_core_law.specs.declared.step.Act.TheVariants as act
-use Rattle.paxos_core_law.specs.declared.step.Step.{Step}
 use Rattle.paxos_core_law.specs.declared.step.Step.TheVariants as step
 use Rattle.paxos_core_law.specs.Acceptor.{promises, accepts}
 use Rattle.paxos_core_law.specs.NodeState.{NodeState}

@@ -25,7 +25,7 @@ after_prepare s b = if promises s b then record s { kept = with_promise b s.kept
 
 -- the node votes as it was asked
 abbrev pub accepts : NodeState → Vote → Bool
-accepts s x = is_vote s.count x && nat_le s.kept.promised x.ballot
+accepts s x = is_vote s.quorums.nodes x && nat_le s.kept.promised x.ballot
 
 -- phase 2b: its answer to the proposal of a vote
 abbrev pub vote_for : NodeState → Vote → Option Msg

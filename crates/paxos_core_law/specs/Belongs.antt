@@ -1,6 +1,7 @@
 -- When a node is one of those in a world: what it keeps stands there, and what it has noted has happened there.
 use Rattle.std.specs.Prelude.{◌≡◌, ℕ, ◌<◌, Bool, false, Option, Some}
 use Rattle.paxos_core_model.specs.Ballot.{Owns}
+use Rattle.paxos_core_model.specs.Quorum.{Sizes}
 use Rattle.paxos_core_model.specs.World.{World, Has}
 use Rattle.paxos_core_model.specs.Msg.TheVariants.{Promise, Propose, Accepted}
 use Rattle.paxos_core_model.specs.Vote.{Vote}
@@ -13,12 +14,12 @@ pub record IsUnderWay (n : ℕ) (w : World) (i b : ℕ) (proposed : Bool) : Type
   pub begun : Has b w.begun
   pub unproposed : proposed ≡ false → (v : ℕ) → ¬ Has (Propose b v) w.sent
 
--- the node is node s.me of the n nodes of the world; a ballot that it has under way is the one that it keeps as started
-pub record Belongs (n : ℕ) (w : World) (s : NodeState) : Type 0 where
-  pub count : s.count ≡ n
-  pub number : s.me < n
+-- the node is node s.me of the world's nodes, with the world's quorums; a ballot that it has under way is the one that it keeps as started
+pub record Belongs (q : Sizes) (w : World) (s : NodeState) : Type 0 where
+  pub quorums : s.quorums ≡ q
+  pub number : s.me < q.nodes
   pub kept : w.nodes s.me ≡ s.kept
-  pub ballot : (b : ℕ) → s.ballot ≡ Some b → IsUnderWay n w s.me b s.proposed
+  pub ballot : (b : ℕ) → s.ballot ≡ Some b → IsUnderWay q.nodes w s.me b s.proposed
   pub started : (b : ℕ) → s.ballot ≡ Some b → s.kept.started ≡ b
   pub promises : (b a : ℕ) (report : Option Vote) → s.ballot ≡ Some b → note_of s.promises a ≡ Some report → Has (Promise a b report) w.sent
   pub votes : (a : ℕ) (x : Vote) → note_of s.votes a ≡ Some x → Has (Accepted a x.ballot x.value) w.sent

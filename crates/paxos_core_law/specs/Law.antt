@@ -1,6 +1,7 @@
 -- The promises of the definitions of a node: each call is a step of the protocol.
 use Rattle.std.specs.Prelude.{◌≡◌, ℕ, ◌<◌, ◌≤◌, Some, None}
 use Rattle.paxos_core_model.specs.KeptPart.{KeptPart}
+use Rattle.paxos_core_model.specs.Quorum.{Sizes}
 use Rattle.paxos_core_model.specs.World.{World}
 use Rattle.paxos_core_model.specs.Msg.{Msg}
 use Rattle.paxos_core_model.specs.Msg.TheVariants.{Prepare}
@@ -38,8 +39,8 @@ MessagesAreSteps = (s : NodeState) (m : Msg) → TakesStepsOn s m (after_message
 -- restart with what stands in the world
 abbrev pub RestartsAreSteps : Type 0
 RestartsAreSteps =
-    (s : NodeState) (k : KeptPart) (n : ℕ) (w : World) → s.me < n → s.count ≡ n → w.nodes s.me ≡ k
-    → Takes n w (taken_by_restart s) (restarted s k) None
+    (s : NodeState) (k : KeptPart) (q : Sizes) (w : World) → s.me < q.nodes → s.quorums ≡ q → w.nodes s.me ≡ k
+    → Takes q w (taken_by_restart s) (restarted s k) None
 
 -- what was told is what is done
 abbrev pub WhatIsToldIsDone : Type 0

@@ -19,7 +19,7 @@ is_under_way (Some c) b = c == b
 
 -- a promise of node a is noted: it can be, and is for the ballot under way
 abbrev pub notes_promise : NodeState → ℕ → ℕ → Option Vote → Bool
-notes_promise s a b report = nat_lt 0 b && (nat_lt a s.count && (is_report s.count b report && is_under_way s.ballot b))
+notes_promise s a b report = nat_lt 0 b && (nat_lt a s.quorums.nodes && (is_report s.quorums.nodes b report && is_under_way s.ballot b))
 
 -- after Promise(a, b, report)
 abbrev pub after_promise : NodeState → ℕ → ℕ → Option Vote → NodeState
@@ -33,7 +33,7 @@ is_at_most (Some x) b = nat_le x.ballot b
 
 -- a vote of node a is noted: it can be, and no vote of a higher ballot is noted of a
 abbrev pub notes_vote : NodeState → ℕ → Vote → Bool
-notes_vote s a x = nat_lt a s.count && (is_vote s.count x && is_at_most (note_of s.votes a) x.ballot)
+notes_vote s a x = nat_lt a s.quorums.nodes && (is_vote s.quorums.nodes x && is_at_most (note_of s.votes a) x.ballot)
 
 -- the votes, once that one is noted
 abbrev pub votes_with : NodeState → ℕ → Vote → List (Option Vote)
@@ -50,7 +50,7 @@ abbrev pub voted : NodeState → ℕ → Vote → NodeState
 voted s a x =
     record s {
       votes = votes_with s a x;
-      learned = learned_with s.learned (is_accept_quorum s.count (has_voted (votes_with s a x) x.ballot)) x.value;
+      learned = learned_with s.learned (is_accept_quorum s.quorums (has_voted (votes_with s a x) x.ballot)) x.value;
     }
 
 -- after Accepted(a, x)

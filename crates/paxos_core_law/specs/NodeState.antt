@@ -1,14 +1,15 @@
 -- A node of a room at one moment: all that its calls read and change. Its kept part outlives a restart, the rest does not.
-use Rattle.std.specs.Prelude.{◌≡◌, ℕ, ◌⊎◌, Bool, true, false, List, replicate, Option, None}
+use Rattle.std.specs.Prelude.{ℕ, Bool, false, List, replicate, Option, None}
 use Rattle.paxos_core_model.specs.KeptPart.{KeptPart, nothing_kept, with_offer}
+use Rattle.paxos_core_model.specs.Quorum.{Sizes}
 use Rattle.paxos_core_model.specs.Vote.{Vote}
 
--- its number and that of all nodes, its kept part, the ballot that it has under way and whether it has proposed under
+-- its number, the room's quorums, its kept part, the ballot that it has under way and whether it has proposed under
 -- it, by node the promises noted for that ballot with the votes that they report, by node the vote noted last, and the
 -- value that it has learned
 pub record NodeState : Type 0 where
   pub me : ℕ
-  pub count : ℕ
+  pub quorums : Sizes
   pub kept : KeptPart
   pub ballot : Option ℕ
   pub proposed : Bool
@@ -20,16 +21,12 @@ pub record NodeState : Type 0 where
 abbrev pub nothing_noted : {T : Type 0} → List (Option T)
 nothing_noted = replicate 7 None
 
--- a room has 3, 5 or 7 nodes
-abbrev pub IsRoomSize : ℕ → Type 0
-IsRoomSize n = (n ≡ 3) ⊎ (n ≡ 5) ⊎ (n ≡ 7)
-
 -- the node that knows its kept part alone
-abbrev pub node_with : ℕ → ℕ → KeptPart → NodeState
-node_with me count kept =
+abbrev pub node_with : ℕ → Sizes → KeptPart → NodeState
+node_with me quorums kept =
     record {
       me = me;
-      count = count;
+      quorums = quorums;
       kept = kept;
       ballot = None;
       proposed = false;
@@ -39,12 +36,12 @@ node_with me count kept =
     }
 
 -- a node that has done nothing yet
-abbrev pub new_node : ℕ → ℕ → NodeState
-new_node me count = node_with me count nothing_kept
+abbrev pub new_node : ℕ → Sizes → NodeState
+new_node me quorums = node_with me quorums nothing_kept
 
 -- after a restart with what was kept
 abbrev pub restarted : NodeState → KeptPart → NodeState
-restarted s kept = node_with s.me s.count kept
+restarted s kept = node_with s.me s.quorums kept
 
 -- after its offer
 abbrev pub offered : NodeState → NodeState

@@ -1,6 +1,6 @@
 -- The proposer (Lamport, Paxos Made Simple, section 2.2): phase 1a asks all nodes for promises under a ballot of its
 -- own, and phase 2a proposes a value under it once a promise quorum has promised.
-use Rattle.std.specs.Prelude.{ℕ, max, Bool, true, false, ◌&&◌, not, if◌then◌else◌, Option, Some, None}
+use Rattle.std.specs.Prelude.{ℕ, max, Bool, true, false, ◌&&◌, not, Option, Some, None}
 use Rattle.std.specs.Option.{option_map}
 use Rattle.paxos_core_model.specs.KeptPart.{with_start}
 use Rattle.paxos_core_model.specs.Quorum.{is_promise_quorum}
@@ -17,7 +17,7 @@ floor_of s = max s.kept.started s.kept.promised
 
 -- its least own ballot above that
 abbrev pub next_ballot : NodeState → ℕ
-next_ballot s = least_above s.me s.count (floor_of s)
+next_ballot s = least_above s.me s.quorums.nodes (floor_of s)
 
 -- phase 1a: that ballot is under way, with no promise noted and nothing proposed
 abbrev pub started : NodeState → NodeState
@@ -37,7 +37,7 @@ choice None false me = None
 
 -- nothing is proposed under the ballot yet, and a promise quorum has promised it
 abbrev pub may_propose : NodeState → Bool
-may_propose s = not s.proposed && is_promise_quorum s.count (has_promised s.promises)
+may_propose s = not s.proposed && is_promise_quorum s.quorums (has_promised s.promises)
 
 -- ballot and value of a proposal, if there is a ballot and the node may propose
 abbrev pub proposal_under : Option ℕ → Bool → Option ℕ → Option (ℕ × ℕ)
@@ -47,7 +47,7 @@ proposal_under (Some ballot) true value = option_map (λ v. (ballot, v)) value
 
 -- the ballot and the value that the node proposes, if anything
 abbrev pub next_proposal : NodeState → Option (ℕ × ℕ)
-next_proposal s = proposal_under s.ballot (may_propose s) (choice (highest_below s.count s.promises) s.kept.offered s.me)
+next_proposal s = proposal_under s.ballot (may_propose s) (choice (highest_below s.quorums.nodes s.promises) s.kept.offered s.me)
 
 -- the message that proposes them
 abbrev pub propose_message : Option (ℕ × ℕ) → Option Msg

@@ -1,5 +1,5 @@
 -- The steps of the protocol that each call of a node takes, the newest first.
-use Rattle.std.specs.Prelude.{◌≡◌, ℕ, if◌then◌else◌, Bool, true, false, ◌&&◌, List, [], ◌∷◌, Option, Some, None, is_none}
+use Rattle.std.specs.Prelude.{◌≡◌, ℕ, if◌then◌else◌, Bool, ◌&&◌, List, [], ◌∷◌, Option, Some, is_none}
 use Rattle.paxos_core_model.specs.KeptPart.{vote}
 use Rattle.paxos_core_model.specs.Quorum.{is_accept_quorum}
 use Rattle.paxos_core_model.specs.Step.{Label, Offers, Starts, Promises, Proposes, Accepts, Learns, Restarts}
@@ -36,7 +36,7 @@ taken_by_restart s = Restarts s.me ∷ []
 
 -- the node learns from this vote: it had learned nothing, and with the vote an accept quorum has voted under its ballot
 abbrev pub learns_from : NodeState → ℕ → Vote → Bool
-learns_from s a x = notes_vote s a x && (is_none s.learned && is_accept_quorum s.count (has_voted (votes_with s a x) x.ballot))
+learns_from s a x = notes_vote s a x && (is_none s.learned && is_accept_quorum s.quorums (has_voted (votes_with s a x) x.ballot))
 
 -- on a message: it promises, accepts, or learns; to note something is no step
 abbrev pub taken_on : NodeState → Msg → List Label

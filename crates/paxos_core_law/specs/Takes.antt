@@ -2,6 +2,7 @@
 -- belongs to the world after them, and its answer was sent in it.
 use Rattle.std.specs.Prelude.{◌≡◌, ℕ, List, [], ◌∷◌, Option, IfSome}
 use Rattle.paxos_core_model.specs.Ballot.{Owns}
+use Rattle.paxos_core_model.specs.Quorum.{Sizes}
 use Rattle.paxos_core_model.specs.Run.{IsRun, reached}
 use Rattle.paxos_core_model.specs.Step.{Label, Offers, Starts, Promises, Proposes, Accepts, Learns, Restarts}
 use Rattle.paxos_core_model.specs.World.{World, Has}
@@ -26,17 +27,17 @@ AreStepsOf n i [] = Unit {0}
 AreStepsOf n i (l ∷ ls) = IsStepOf n i l × AreStepsOf n i ls
 
 -- from world w the node takes these steps, is s after them, and gives this answer
-pub record Takes (n : ℕ) (w : World) (labels : List Label) (s : NodeState) (answer : Option Msg) : Type 0 where
-  pub run : IsRun n w labels
-  pub own : AreStepsOf n s.me labels
-  pub belongs : Belongs n (reached w labels) s
+pub record Takes (q : Sizes) (w : World) (labels : List Label) (s : NodeState) (answer : Option Msg) : Type 0 where
+  pub run : IsRun q w labels
+  pub own : AreStepsOf q.nodes s.me labels
+  pub belongs : Belongs q (reached w labels) s
   pub sent : IfSome answer (λ m. Has m (reached w labels).sent)
 
 -- a call that makes the node t of s takes these steps, in every world that can come about and to which s belongs
 abbrev pub TakesSteps : NodeState → NodeState → List Label → Option Msg → Type 0
-TakesSteps s t labels answer = (n : ℕ) (w : World) → IsReached n w → Belongs n w s → Takes n w labels t answer
+TakesSteps s t labels answer = (q : Sizes) (w : World) → IsReached q w → Belongs q w s → Takes q w labels t answer
 
 -- the same for a call that is handed a message, which was sent
 abbrev pub TakesStepsOn : NodeState → Msg → NodeState → List Label → Option Msg → Type 0
 TakesStepsOn s m t labels answer =
-    (n : ℕ) (w : World) → IsReached n w → Belongs n w s → Has m w.sent → Takes n w labels t answer
+    (q : Sizes) (w : World) → IsReached q w → Belongs q w s → Has m w.sent → Takes q w labels t answer

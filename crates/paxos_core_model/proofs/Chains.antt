@@ -3,6 +3,7 @@ use Rattle.std.proofs.Common.{◌≡◌, ℕ, zero, suc, ◌<◌, ◌≤◌, ◌
 use Rattle.std.proofs.lemmas.Bool.{and_parts}
 use Rattle.paxos_core_world.specs.Farm.{Farm, FarmLabel, Offering, Stepping, Offer, IsPass, IsInput, IsNoOffer, FarmAllowed, IsFarmRun, farm_after, farm_reached, farm_opening, empty_farm, put_room, put_offer, Follows}
 use Rattle.paxos_core_world.specs.KeptPart.{KeptPart, with_offer}
+use Rattle.paxos_core_world.specs.Quorum.{Sizes, AreQuorums}
 use Rattle.paxos_core_world.specs.Step.{Label, Offers, Allowed, after, HasOffered}
 use Rattle.paxos_core_world.specs.World.{World, Has, no_nodes}
 use Rattle.paxos_core_invariant.specs.Invariant.{Invariant}
@@ -35,35 +36,35 @@ offer_cases P offers f k i o g m j here there = cases (eqb g f && (eqb m k && eq
 
 -- ---- every room keeps its invariant
 
-abbrev pub HaveInvariant : ℕ → Farm → Type 0
-HaveInvariant n farm = (g m : ℕ) → IsPass m → Invariant n (farm.rooms g m)
+abbrev pub HaveInvariant : Sizes → Farm → Type 0
+HaveInvariant q farm = (g m : ℕ) → IsPass m → Invariant q (farm.rooms g m)
 
-room_keeps : (n : ℕ) (farm : Farm) (f k : ℕ) (l : Label) → ((g m : ℕ) → IsPass m → Invariant n (farm.rooms g m)) → IsPass k
-    → Allowed n (farm.rooms f k) l → (g m : ℕ) → IsPass m → Invariant n (put_room farm.rooms f k (after (farm.rooms f k) l) g m)
-room_keeps n farm f k l s pass ok g m other =
-    room_cases (Invariant n) farm.rooms f k (after (farm.rooms f k) l) g m (λ _ _. keeps n (farm.rooms f k) l (s f k pass) ok) (s g m other)
+room_keeps : (q : Sizes) (farm : Farm) (f k : ℕ) (l : Label) → ((g m : ℕ) → IsPass m → Invariant q (farm.rooms g m)) → IsPass k
+    → Allowed q (farm.rooms f k) l → (g m : ℕ) → IsPass m → Invariant q (put_room farm.rooms f k (after (farm.rooms f k) l) g m)
+room_keeps q farm f k l s pass ok g m other =
+    room_cases (Invariant q) farm.rooms f k (after (farm.rooms f k) l) g m (λ _ _. keeps q (farm.rooms f k) l (s f k pass) ok) (s g m other)
 
-pub farm_keeps : (n : ℕ) (rtl : ℕ → List ℕ) (farm : Farm) (l : FarmLabel) → HaveInvariant n farm → FarmAllowed n rtl farm l → HaveInvariant n (farm_after farm l)
-farm_keeps n rtl farm (Offering f k i offer) s ok = room_keeps n farm f k (Offers i) s ok.0 ok.1
-farm_keeps n rtl farm (Stepping f k step) s ok = room_keeps n farm f k step s ok.0 ok.2
+pub farm_keeps : (q : Sizes) (rtl : ℕ → List ℕ) (farm : Farm) (l : FarmLabel) → HaveInvariant q farm → FarmAllowed q rtl farm l → HaveInvariant q (farm_after farm l)
+farm_keeps q rtl farm (Offering f k i offer) s ok = room_keeps q farm f k (Offers i) s ok.0 ok.1
+farm_keeps q rtl farm (Stepping f k step) s ok = room_keeps q farm f k step s ok.0 ok.2
 
-pub farm_keeps_run : (n : ℕ) (rtl : ℕ → List ℕ) (farm : Farm) (ls : List FarmLabel) → HaveInvariant n farm → IsFarmRun n rtl farm ls → HaveInvariant n (farm_reached farm ls)
-farm_keeps_run n rtl farm [] s run = s
-farm_keeps_run n rtl farm (l ∷ ls) s run = farm_keeps n rtl (farm_reached farm ls) l (farm_keeps_run n rtl farm ls s run.0) run.1
+pub farm_keeps_run : (q : Sizes) (rtl : ℕ → List ℕ) (farm : Farm) (ls : List FarmLabel) → HaveInvariant q farm → IsFarmRun q rtl farm ls → HaveInvariant q (farm_reached farm ls)
+farm_keeps_run q rtl farm [] s run = s
+farm_keeps_run q rtl farm (l ∷ ls) s run = farm_keeps q rtl (farm_reached farm ls) l (farm_keeps_run q rtl farm ls s run.0) run.1
 
-pub farm_holds : (n : ℕ) (rtl : ℕ → List ℕ) (nodes : ℕ → ℕ → ℕ → KeptPart) (offers : ℕ → ℕ → ℕ → Offer) (steps : List FarmLabel)
-    → IsSettledFarmRun n rtl nodes offers steps → HaveInvariant n (farm_reached (farm_opening n nodes offers) steps)
-farm_holds n rtl nodes offers steps h =
-    farm_keeps_run n rtl (farm_opening n nodes offers) steps (λ g m pass. opens n (nodes g m) (h.settled g m pass)) h.run
+pub farm_holds : (q : Sizes) (rtl : ℕ → List ℕ) (nodes : ℕ → ℕ → ℕ → KeptPart) (offers : ℕ → ℕ → ℕ → Offer) (steps : List FarmLabel)
+    → IsSettledFarmRun q rtl nodes offers steps → HaveInvariant q (farm_reached (farm_opening q.nodes nodes offers) steps)
+farm_holds q rtl nodes offers steps h =
+    farm_keeps_run q rtl (farm_opening q.nodes nodes offers) steps (λ g m pass. opens q (nodes g m) h.sizes (h.settled g m pass)) h.run
 
 -- ---- one code
 
 fourth : IsPass 4
 fourth = (omega arith, omega arith)
 
-pub links_one : (n : ℕ) (farm : Farm) → HaveInvariant n farm → LinksOne farm
-links_one n farm s i j f left right h k =
-    let same = learns_one n (farm.rooms f 4) (s f 4 fourth) i j (h.values 4) (k.values 4) (h.learned 4 fourth) (k.learned 4 fourth) in
+pub links_one : (q : Sizes) (farm : Farm) → HaveInvariant q farm → LinksOne farm
+links_one q farm s i j f left right h k =
+    let same = learns_one q (farm.rooms f 4) (s f 4 fourth) i j (h.values 4) (k.values 4) (h.learned 4 fourth) (k.learned 4 fourth) in
     h.is_output ∙ (ap (λ (v : ℕ). (farm.offers f 4 v).output) same ∙ sym k.is_output)
 
 -- ---- offers that chain
@@ -72,18 +73,18 @@ links_one n farm s i j f left right h k =
 abbrev pub HaveInputs : (ℕ → List ℕ) → Farm → Type 0
 HaveInputs rtl farm = (g m j : ℕ) → IsTrue ((farm.rooms g m).nodes j).offered → IsInput rtl farm g m j (farm.offers g m j).input
 
-pub learned_offered : (n : ℕ) (w : World) → Invariant n w → (i v : ℕ) → Has (i, v) w.learned → HasOffered n w.nodes v
-learned_offered n w s i v h = let chosen = s.learned i v h in s.offered chosen.0 v (chosen_backed n w chosen.0 v chosen.1)
+pub learned_offered : (q : Sizes) (w : World) → Invariant q w → (i v : ℕ) → Has (i, v) w.learned → HasOffered q.nodes w.nodes v
+learned_offered q w s i v h = let chosen = s.learned i v h in s.offered chosen.0 v (chosen_backed q w s.sizes chosen.0 v chosen.1)
 
 -- an offer that was made stays
-pub offer_fixed : (n : ℕ) (rtl : ℕ → List ℕ) (farm : Farm) (l : FarmLabel) → FarmAllowed n rtl farm l → (g m j : ℕ)
+pub offer_fixed : (q : Sizes) (rtl : ℕ → List ℕ) (farm : Farm) (l : FarmLabel) → FarmAllowed q rtl farm l → (g m j : ℕ)
     → IsTrue ((farm.rooms g m).nodes j).offered → (farm_after farm l).offers g m j ≡ farm.offers g m j
-offer_fixed n rtl farm (Offering f k i offer) ok g m j made =
+offer_fixed q rtl farm (Offering f k i offer) ok g m j made =
     offer_cases (λ o. o ≡ farm.offers g m j) farm.offers f k i offer g m j
     (λ e r t. absurd (let free : ((farm.rooms f k).nodes i).offered ≡ false = ok.1.1 in
     let here : ((farm.rooms f k).nodes i).offered ≡ true = (let made_ : ((farm.rooms g m).nodes j).offered ≡ true = made in cc) in cc))
     refl
-offer_fixed n rtl farm (Stepping f k step) ok g m j made = refl
+offer_fixed q rtl farm (Stepping f k step) ok g m j made = refl
 
 pub farm_learned_stays : (farm : Farm) (l : FarmLabel) (g m i v : ℕ) → Has (i, v) (farm.rooms g m).learned → Has (i, v) ((farm_after farm l).rooms g m).learned
 farm_learned_stays farm (Offering f k i offer) g m j v h =
@@ -94,13 +95,13 @@ farm_learned_stays farm (Stepping f k step) g m j v h =
     (λ e r. learned_stays (farm.rooms f k) step j v
     (subst (λ (x : ℕ). Has (j, v) (farm.rooms x k).learned) e (subst (λ (x : ℕ). Has (j, v) (farm.rooms g x).learned) r h))) h
 
-input_stays : (n : ℕ) (rtl : ℕ → List ℕ) (farm : Farm) (l : FarmLabel) → HaveInvariant n farm → FarmAllowed n rtl farm l → (g m j : ℕ) (input : List ℕ)
+input_stays : (q : Sizes) (rtl : ℕ → List ℕ) (farm : Farm) (l : FarmLabel) → HaveInvariant q farm → FarmAllowed q rtl farm l → (g m j : ℕ) (input : List ℕ)
     → m ≤ 4 → IsInput rtl farm g m j input → IsInput rtl (farm_after farm l) g m j input
-input_stays n rtl farm l s ok g zero j input last h = h
-input_stays n rtl farm l s ok g (suc zero) j input last h = h
-input_stays n rtl farm l s ok g (suc (suc k)) j input last h =
-    let made = learned_offered n (farm.rooms g (suc k)) (s g (suc k) (omega arith, omega arith)) j h.0 h.1 in
-    (h.0, farm_learned_stays farm l g (suc k) j h.0 h.1, h.2 ∙ sym (ap (λ (o : Offer). o.output) (offer_fixed n rtl farm l ok g (suc k) h.0 made.1)))
+input_stays q rtl farm l s ok g zero j input last h = h
+input_stays q rtl farm l s ok g (suc zero) j input last h = h
+input_stays q rtl farm l s ok g (suc (suc k)) j input last h =
+    let made = learned_offered q (farm.rooms g (suc k)) (s g (suc k) (omega arith, omega arith)) j h.0 h.1 in
+    (h.0, farm_learned_stays farm l g (suc k) j h.0 h.1, h.2 ∙ sym (ap (λ (o : Offer). o.output) (offer_fixed q rtl farm l ok g (suc k) h.0 made.1)))
 
 -- whoever has offered after a step had offered before it, or the step is that offer
 abbrev pub OfferWas : Farm → FarmLabel → ℕ → ℕ → ℕ → Type 0
@@ -111,24 +112,24 @@ no_offer_was w step j none =
     node_cases w step j (λ k. IsTrue k.offered → IsTrue (w.nodes j).offered) (λ h. h)
     (λ e _. absurd (subst IsNoOffer e none)) (λ b _ h. h) (λ b _ h. h) (λ b v _ h. h)
 
-pub offer_was : (n : ℕ) (rtl : ℕ → List ℕ) (farm : Farm) (l : FarmLabel) → FarmAllowed n rtl farm l → (g m j : ℕ)
+pub offer_was : (q : Sizes) (rtl : ℕ → List ℕ) (farm : Farm) (l : FarmLabel) → FarmAllowed q rtl farm l → (g m j : ℕ)
     → IsTrue (((farm_after farm l).rooms g m).nodes j).offered → OfferWas farm l g m j
-offer_was n rtl farm (Offering f k i offer) ok g m j =
+offer_was q rtl farm (Offering f k i offer) ok g m j =
     room_cases (λ w. IsTrue (w.nodes j).offered → OfferWas farm (Offering f k i offer) g m j) farm.rooms f k (after (farm.rooms f k) (Offers i)) g m
     (λ e r. put_cases (λ p. IsTrue p.offered → OfferWas farm (Offering f k i offer) g m j) (farm.rooms f k).nodes i (with_offer ((farm.rooms f k).nodes i)) j
     (λ t _. inr (offer, (let one : f ≡ g = sym e in let two : k ≡ m = sym r in let three : i ≡ j = sym t in cc)))
     (λ _ h. inl (let before : ((farm.rooms f k).nodes j).offered ≡ true = h in cc)))
     (λ h. inl h)
-offer_was n rtl farm (Stepping f k step) ok g m j =
+offer_was q rtl farm (Stepping f k step) ok g m j =
     room_cases (λ w. IsTrue (w.nodes j).offered → OfferWas farm (Stepping f k step) g m j) farm.rooms f k (after (farm.rooms f k) step) g m
     (λ e r h. inl (let before : ((farm.rooms f k).nodes j).offered ≡ true = no_offer_was (farm.rooms f k) step j ok.1 h in cc))
     (λ h. inl h)
 
 -- the offer that a step makes has the input that its room asks for
-pub input_new : (n : ℕ) (rtl : ℕ → List ℕ) (farm : Farm) (l : FarmLabel) (g m j : ℕ) (o : Offer) → l ≡ Offering g m j o → FarmAllowed n rtl farm l
+pub input_new : (q : Sizes) (rtl : ℕ → List ℕ) (farm : Farm) (l : FarmLabel) (g m j : ℕ) (o : Offer) → l ≡ Offering g m j o → FarmAllowed q rtl farm l
     → (m ≤ 4) × IsInput rtl farm g m j o.input × ((farm_after farm l).offers g m j ≡ o)
-input_new n rtl farm l g m j o e ok =
-    let step : FarmAllowed n rtl farm (Offering g m j o) = subst (FarmAllowed n rtl farm) e ok in
+input_new q rtl farm l g m j o e ok =
+    let step : FarmAllowed q rtl farm (Offering g m j o) = subst (FarmAllowed q rtl farm) e ok in
     let there : (farm_after farm (Offering g m j o)).offers g m j ≡ o =
     put_here farm.offers g m j o in
     (step.0.1, step.2, subst (λ (x : FarmLabel). (farm_after farm x).offers g m j ≡ o) (sym e) there)
@@ -140,58 +141,58 @@ input_new n rtl farm l g m j o e ok =
 abbrev IsUnused : Farm → Type 0
 IsUnused farm = (g m j : ℕ) → IsTrue ((farm.rooms g m).nodes j).offered → m ≤ 4
 
-unused_stays : (n : ℕ) (rtl : ℕ → List ℕ) (farm : Farm) (l : FarmLabel) → IsUnused farm → FarmAllowed n rtl farm l → IsUnused (farm_after farm l)
-unused_stays n rtl farm l s ok g m j h = elim (offer_was n rtl farm l ok g m j h) [
+unused_stays : (q : Sizes) (rtl : ℕ → List ℕ) (farm : Farm) (l : FarmLabel) → IsUnused farm → FarmAllowed q rtl farm l → IsUnused (farm_after farm l)
+unused_stays q rtl farm l s ok g m j h = elim (offer_was q rtl farm l ok g m j h) [
   | inl before ↦ s g m j before
-  | inr new ↦ (input_new n rtl farm l g m j new.0 new.1 ok).0
+  | inr new ↦ (input_new q rtl farm l g m j new.0 new.1 ok).0
 ]
 
-inputs_stay : (n : ℕ) (rtl : ℕ → List ℕ) (farm : Farm) (l : FarmLabel) → HaveInvariant n farm → IsUnused farm → HaveInputs rtl farm → FarmAllowed n rtl farm l
+inputs_stay : (q : Sizes) (rtl : ℕ → List ℕ) (farm : Farm) (l : FarmLabel) → HaveInvariant q farm → IsUnused farm → HaveInputs rtl farm → FarmAllowed q rtl farm l
     → HaveInputs rtl (farm_after farm l)
-inputs_stay n rtl farm l s unused inputs ok g m j h = elim (offer_was n rtl farm l ok g m j h) [
-  | inl before ↦ subst (λ (o : Offer). IsInput rtl (farm_after farm l) g m j o.input) (sym (offer_fixed n rtl farm l ok g m j before))
-      (input_stays n rtl farm l s ok g m j (farm.offers g m j).input (unused g m j before) (inputs g m j before))
+inputs_stay q rtl farm l s unused inputs ok g m j h = elim (offer_was q rtl farm l ok g m j h) [
+  | inl before ↦ subst (λ (o : Offer). IsInput rtl (farm_after farm l) g m j o.input) (sym (offer_fixed q rtl farm l ok g m j before))
+      (input_stays q rtl farm l s ok g m j (farm.offers g m j).input (unused g m j before) (inputs g m j before))
   | inr new ↦ (
-      let made = input_new n rtl farm l g m j new.0 new.1 ok in
+      let made = input_new q rtl farm l g m j new.0 new.1 ok in
       subst (λ (o : Offer). IsInput rtl (farm_after farm l) g m j o.input) (sym made.2)
-      (input_stays n rtl farm l s ok g m j new.0.input made.0 made.1))
+      (input_stays q rtl farm l s ok g m j new.0.input made.0 made.1))
 ]
 
-empty_invariant : (n : ℕ) → HaveInvariant n (empty_farm n)
-empty_invariant n g m pass = opens n no_nodes (nothing_settled n)
+empty_invariant : (q : Sizes) → AreQuorums q → HaveInvariant q (empty_farm q.nodes)
+empty_invariant q are g m pass = opens q no_nodes are (nothing_settled q)
 
-inputs_along : (n : ℕ) (rtl : ℕ → List ℕ) (ls : List FarmLabel) → IsFarmRun n rtl (empty_farm n) ls
-    → HaveInvariant n (farm_reached (empty_farm n) ls) × IsUnused (farm_reached (empty_farm n) ls) × HaveInputs rtl (farm_reached (empty_farm n) ls)
-inputs_along n rtl [] run = (empty_invariant n, λ g m j h. absurd (let e : false ≡ true = h in cc), λ g m j h. absurd (let e : false ≡ true = h in cc))
-inputs_along n rtl (l ∷ ls) run =
-    let before = inputs_along n rtl ls run.0 in
-    let farm = farm_reached (empty_farm n) ls in
-    (farm_keeps n rtl farm l before.0 run.1, unused_stays n rtl farm l before.1 run.1, inputs_stay n rtl farm l before.0 before.1 before.2 run.1)
+inputs_along : (q : Sizes) (rtl : ℕ → List ℕ) (ls : List FarmLabel) → AreQuorums q → IsFarmRun q rtl (empty_farm q.nodes) ls
+    → HaveInvariant q (farm_reached (empty_farm q.nodes) ls) × IsUnused (farm_reached (empty_farm q.nodes) ls) × HaveInputs rtl (farm_reached (empty_farm q.nodes) ls)
+inputs_along q rtl [] are run = (empty_invariant q are, λ g m j h. absurd (let e : false ≡ true = h in cc), λ g m j h. absurd (let e : false ≡ true = h in cc))
+inputs_along q rtl (l ∷ ls) are run =
+    let before = inputs_along q rtl ls are run.0 in
+    let farm = farm_reached (empty_farm q.nodes) ls in
+    (farm_keeps q rtl farm l before.0 run.1, unused_stays q rtl farm l before.1 run.1, inputs_stay q rtl farm l before.0 before.1 before.2 run.1)
 
-chain_later : (n : ℕ) (rtl : ℕ → List ℕ) (farm : Farm) → HaveInvariant n farm → HaveInputs rtl farm → (f k i v : ℕ) → 1 ≤ k → k < 4
+chain_later : (q : Sizes) (rtl : ℕ → List ℕ) (farm : Farm) → HaveInvariant q farm → HaveInputs rtl farm → (f k i v : ℕ) → 1 ≤ k → k < 4
     → Has (i, v) (farm.rooms f (suc k)).learned → Follows farm f k v
-chain_later n rtl farm s inputs f zero i v first last h = absurd (omega arith)
-chain_later n rtl farm s inputs f (suc k) i v first last h =
-    let made = learned_offered n (farm.rooms f (suc (suc k))) (s f (suc (suc k)) (omega arith, omega arith)) i v h in
+chain_later q rtl farm s inputs f zero i v first last h = absurd (omega arith)
+chain_later q rtl farm s inputs f (suc k) i v first last h =
+    let made = learned_offered q (farm.rooms f (suc (suc k))) (s f (suc (suc k)) (omega arith, omega arith)) i v h in
     let input = inputs f (suc (suc k)) v made.1 in
     record {
       value = input.0;
       node = v;
       learned = input.1;
-      only = λ j u learned. learns_one n (farm.rooms f (suc k)) (s f (suc k) (omega arith, omega arith)) j v u input.0 learned input.1;
+      only = λ j u learned. learns_one q (farm.rooms f (suc k)) (s f (suc k) (omega arith, omega arith)) j v u input.0 learned input.1;
       input = input.2;
     }
 
 -- ---- the promises
 
 pub runs_link_one : RunsLinkOne
-runs_link_one n rtl nodes offers steps h = links_one n (farm_reached (farm_opening n nodes offers) steps) (farm_holds n rtl nodes offers steps h)
+runs_link_one q rtl nodes offers steps h = links_one q (farm_reached (farm_opening q.nodes nodes offers) steps) (farm_holds q rtl nodes offers steps h)
 
 pub runs_chain : RunsChain
-runs_chain n rtl steps run =
-    let all = inputs_along n rtl steps run in
-    let farm = farm_reached (empty_farm n) steps in
+runs_chain q rtl steps are run =
+    let all = inputs_along q rtl steps are run in
+    let farm = farm_reached (empty_farm q.nodes) steps in
     record {
-      first = λ f i v h. all.2 f 1 v (learned_offered n (farm.rooms f 1) (all.0 f 1 (omega arith, omega arith)) i v h).1;
-      later = chain_later n rtl farm all.0 all.2;
+      first = λ f i v h. all.2 f 1 v (learned_offered q (farm.rooms f 1) (all.0 f 1 (omega arith, omega arith)) i v h).1;
+      later = chain_later q rtl farm all.0 all.2;
     }

@@ -3,6 +3,7 @@ use Rattle.std.proofs.Common.{◌≡◌, ℕ, ◌<◌, ◌≤◌, ◌⊎◌, Lis
 use Rattle.paxos_core_world.specs.Ballot.{Owns}
 use Rattle.paxos_core_world.specs.KeptPart.{KeptPart, with_offer, with_start, with_promise, with_vote, vote}
 use Rattle.paxos_core_world.specs.Run.{reached, IsRun}
+use Rattle.paxos_core_world.specs.Quorum.{Sizes}
 use Rattle.paxos_core_world.specs.Step.{Label, Offers, Starts, Promises, Proposes, Accepts, Learns, Restarts, Allowed, after, HasOffered, IsSafeChoice}
 use Rattle.paxos_core_world.specs.World.{World, Has, put, opening}
 use Rattle.paxos_core_world.specs.declared.msg.Msg.{Msg}
@@ -24,28 +25,28 @@ pub record IsPartOf (part w : World) : Type 0 where
   pub proposals : (b v : ℕ) → Has b part.begun → Has (Propose b v) w.sent → Has (Propose b v) part.sent
 
 -- what a step needs in the part, it has in the whole
-choice_carries : (n : ℕ) (part w : World) → IsPartOf part w → (b v : ℕ) → IsSafeChoice n part b v → IsSafeChoice n w b v
-choice_carries n part w s b v h =
+choice_carries : (q : Sizes) (part w : World) → IsPartOf part w → (b v : ℕ) → IsSafeChoice q part b v → IsSafeChoice q w b v
+choice_carries q part w s b v h =
     record {
       members = h.members;
       reports = h.reports;
       quorum = h.quorum;
       promises = λ a below member. s.sent _ (h.promises a below member);
       choice = elim h.choice [
-        | inl free ↦ inl (free.0, subst (λ (nodes : ℕ → KeptPart). HasOffered n nodes v) s.nodes free.1)
+        | inl free ↦ inl (free.0, subst (λ (nodes : ℕ → KeptPart). HasOffered q.nodes nodes v) s.nodes free.1)
         | inr highest ↦ inr highest
       ];
     }
 
-pub allowed_carries : (n : ℕ) (part w : World) (l : Label) → IsPartOf part w → Allowed n part l → Allowed n w l
-allowed_carries n part w (Offers i) s ok = (ok.0, subst (λ (nodes : ℕ → KeptPart). (nodes i).offered ≡ false) s.nodes ok.1)
-allowed_carries n part w (Starts i b) s ok = (ok.0, ok.1, subst (λ (nodes : ℕ → KeptPart). (nodes i).started < b) s.nodes ok.2)
-allowed_carries n part w (Promises a b) s ok = (ok.0, s.sent _ ok.1, subst (λ (nodes : ℕ → KeptPart). (nodes a).promised < b) s.nodes ok.2)
-allowed_carries n part w (Proposes b v) s ok = (s.begun b ok.0, λ x h. ok.1 x (s.proposals b x ok.0 h), choice_carries n part w s b v ok.2)
-allowed_carries n part w (Accepts a b v) s ok = (ok.0, s.sent _ ok.1, subst (λ (nodes : ℕ → KeptPart). (nodes a).promised ≤ b) s.nodes ok.2)
-allowed_carries n part w (Learns i v) s ok =
+pub allowed_carries : (q : Sizes) (part w : World) (l : Label) → IsPartOf part w → Allowed q part l → Allowed q w l
+allowed_carries q part w (Offers i) s ok = (ok.0, subst (λ (nodes : ℕ → KeptPart). (nodes i).offered ≡ false) s.nodes ok.1)
+allowed_carries q part w (Starts i b) s ok = (ok.0, ok.1, subst (λ (nodes : ℕ → KeptPart). (nodes i).started < b) s.nodes ok.2)
+allowed_carries q part w (Promises a b) s ok = (ok.0, s.sent _ ok.1, subst (λ (nodes : ℕ → KeptPart). (nodes a).promised < b) s.nodes ok.2)
+allowed_carries q part w (Proposes b v) s ok = (s.begun b ok.0, λ x h. ok.1 x (s.proposals b x ok.0 h), choice_carries q part w s b v ok.2)
+allowed_carries q part w (Accepts a b v) s ok = (ok.0, s.sent _ ok.1, subst (λ (nodes : ℕ → KeptPart). (nodes a).promised ≤ b) s.nodes ok.2)
+allowed_carries q part w (Learns i v) s ok =
     (ok.0, (ok.1.0, record { members = ok.1.1.members; quorum = ok.1.1.quorum; votes = λ a below member. s.sent _ (ok.1.1.votes a below member) }))
-allowed_carries n part w (Restarts i) s ok = ok
+allowed_carries q part w (Restarts i) s ok = ok
 
 -- a step leaves the one a part of the other
 nodes_carry : (part w : World) (l : Label) → part.nodes ≡ w.nodes → (after part l).nodes ≡ (after w l).nodes
@@ -92,39 +93,39 @@ learned_carries part w (Learns j u) s i v h = other (s.learned i v) h
 learned_carries part w (Restarts j) s i v h = s.learned i v h
 
 -- nothing was proposed under a ballot before it is begun
-unproposed : (n : ℕ) (w : World) → Invariant n w → (i b v : ℕ) → (i < n) × Owns n i b × ((w.nodes i).started < b) → Has (Propose b v) w.sent → ⊥
-unproposed n w s i b v step h =
+unproposed : (q : Sizes) (w : World) → Invariant q w → (i b v : ℕ) → (i < q.nodes) × Owns q.nodes i b × ((w.nodes i).started < b) → Has (Propose b v) w.sent → ⊥
+unproposed q w s i b v step h =
     let low : b ≤ (w.nodes i).started = s.prepared i b step.0 (s.begun b (s.proposed b v h)) step.1 in absurd (omega arith)
 
-proposals_carry : (n : ℕ) (part w : World) (l : Label) → Invariant n w → IsPartOf part w → Allowed n part l → (b v : ℕ)
+proposals_carry : (q : Sizes) (part w : World) (l : Label) → Invariant q w → IsPartOf part w → Allowed q part l → (b v : ℕ)
     → Has b (after part l).begun → Has (Propose b v) (after w l).sent → Has (Propose b v) (after part l).sent
-proposals_carry n part w l inv s ok b v begun h = both (begun_was part l b begun) (proposal_was w l b v h)
+proposals_carry q part w l inv s ok b v begun h = both (begun_was part l b begun) (proposal_was w l b v h)
   where
     both : Has b part.begun ⊎ ((i : ℕ) × (l ≡ Starts i b)) → Has (Propose b v) w.sent ⊎ (l ≡ Proposes b v) → Has (Propose b v) (after part l).sent
     both (inl before) (inl old) = message_stays part l _ (s.proposals b v before old)
     both (inr new) (inl old) =
-        let step : Allowed n w (Starts new.0 b) = subst (Allowed n w) new.1 (allowed_carries n part w l s ok) in
-        absurd (unproposed n w inv new.0 b v step old)
+        let step : Allowed q w (Starts new.0 b) = subst (Allowed q w) new.1 (allowed_carries q part w l s ok) in
+        absurd (unproposed q w inv new.0 b v step old)
     both _ (inr e) = subst (λ (x : Label). Has (Propose b v) (after part x).sent) (sym e) (inl refl)
 
-pub part_carries : (n : ℕ) (part w : World) (l : Label) → Invariant n w → IsPartOf part w → Allowed n part l → IsPartOf (after part l) (after w l)
-part_carries n part w l inv s ok = record {
+pub part_carries : (q : Sizes) (part w : World) (l : Label) → Invariant q w → IsPartOf part w → Allowed q part l → IsPartOf (after part l) (after w l)
+part_carries q part w l inv s ok = record {
   nodes = nodes_carry part w l s.nodes;
   sent = sent_carries part w l s;
   begun = begun_carries part w l s;
   learned = learned_carries part w l s;
-  proposals = proposals_carry n part w l inv s ok;
+  proposals = proposals_carry q part w l inv s ok;
 }
 
 -- the opening of a world's kept parts is a part of it
-shown_sent : (n : ℕ) (w : World) → Invariant n w → (m : Msg) → (i : ℕ) × (i < n) × ShownBy i (w.nodes i) m → Has m w.sent
-shown_sent n w s m (i, below, inl start) = subst (λ (x : Msg). Has x w.sent) (sym start.0) (s.started i below start.1)
-shown_sent n w s m (i, below, inr voted) = subst (λ (x : Msg). Has x w.sent) (sym voted.2) (s.kept i voted.0 below voted.1)
+shown_sent : (q : Sizes) (w : World) → Invariant q w → (m : Msg) → (i : ℕ) × (i < q.nodes) × ShownBy i (w.nodes i) m → Has m w.sent
+shown_sent q w s m (i, below, inl start) = subst (λ (x : Msg). Has x w.sent) (sym start.0) (s.started i below start.1)
+shown_sent q w s m (i, below, inr voted) = subst (λ (x : Msg). Has x w.sent) (sym voted.2) (s.kept i voted.0 below voted.1)
 
-pub opening_part : (n : ℕ) (w : World) → Invariant n w → IsPartOf (opening n w.nodes) w
-opening_part n w s = record {
+pub opening_part : (q : Sizes) (w : World) → Invariant q w → IsPartOf (opening q.nodes w.nodes) w
+opening_part q w s = record {
   nodes = refl;
-  sent = λ m h. shown_sent n w s m (shown_was n w.nodes m h);
+  sent = λ m h. shown_sent q w s m (shown_was q.nodes w.nodes m h);
   begun = λ b h. absurd h;
   learned = λ i v h. absurd h;
   proposals = λ b v h. absurd h;
@@ -136,20 +137,20 @@ pub reached-append : (w : World) (later before : List Label) → reached w (late
 reached-append w [] before = refl
 reached-append w (l ∷ later) before = ap (λ (x : World). after x l) (reached-append w later before)
 
-pub run_append : (n : ℕ) (w : World) (later before : List Label) → IsRun n w before → IsRun n (reached w before) later → IsRun n w (later ++ before)
-run_append n w [] before run more = run
-run_append n w (l ∷ later) before run more =
-    (run_append n w later before run more.0, subst (λ (x : World). Allowed n x l) (sym (reached-append w later before)) more.1)
+pub run_append : (q : Sizes) (w : World) (later before : List Label) → IsRun q w before → IsRun q (reached w before) later → IsRun q w (later ++ before)
+run_append q w [] before run more = run
+run_append q w (l ∷ later) before run more =
+    (run_append q w later before run more.0, subst (λ (x : World). Allowed q x l) (sym (reached-append w later before)) more.1)
 
 -- the steps of a reopened room are steps of the room that was left
-goes_on : (n : ℕ) (w : World) (steps : List Label) → Invariant n w → IsRun n (opening n w.nodes) steps
-    → IsRun n w steps × IsPartOf (reached (opening n w.nodes) steps) (reached w steps)
-goes_on n w [] s run = (tt, opening_part n w s)
-goes_on n w (l ∷ steps) s run =
-    let before = goes_on n w steps s run.0 in
-    let part = reached (opening n w.nodes) steps in
-    let inv = keeps_run n w steps s before.0 in
-    ((before.0, allowed_carries n part (reached w steps) l before.1 run.1), part_carries n part (reached w steps) l inv before.1 run.1)
+goes_on : (q : Sizes) (w : World) (steps : List Label) → Invariant q w → IsRun q (opening q.nodes w.nodes) steps
+    → IsRun q w steps × IsPartOf (reached (opening q.nodes w.nodes) steps) (reached w steps)
+goes_on q w [] s run = (tt, opening_part q w s)
+goes_on q w (l ∷ steps) s run =
+    let before = goes_on q w steps s run.0 in
+    let part = reached (opening q.nodes w.nodes) steps in
+    let inv = keeps_run q w steps s before.0 in
+    ((before.0, allowed_carries q part (reached w steps) l before.1 run.1), part_carries q part (reached w steps) l inv before.1 run.1)
 
 learned_along : (w : World) (steps : List Label) (i v : ℕ) → Has (i, v) w.learned → Has (i, v) (reached w steps).learned
 learned_along w [] i v h = h
@@ -158,13 +159,13 @@ learned_along w (l ∷ steps) i v h = learned_stays (reached w steps) l i v (lea
 -- ---- the promises
 
 pub reopenings_go_on : ReopeningsGoOn
-reopenings_go_on n nodes before later h =
-    let w = reached (opening n nodes) before in
-    run_append n (opening n nodes) later before h.first.run (goes_on n w later (holds n nodes before h.first) h.again).0
+reopenings_go_on q nodes before later h =
+    let w = reached (opening q.nodes nodes) before in
+    run_append q (opening q.nodes nodes) later before h.first.run (goes_on q w later (holds q nodes before h.first) h.again).0
 
 pub reopenings_learn_as_before : ReopeningsLearnAsBefore
-reopenings_learn_as_before n nodes before later h i j v u left right =
-    let w = reached (opening n nodes) before in
-    let inv = holds n nodes before h.first in
-    let on = goes_on n w later inv h.again in
-    learns_one n (reached w later) (keeps_run n w later inv on.0) i j v u (learned_along w later i v left) (on.1.learned j u right)
+reopenings_learn_as_before q nodes before later h i j v u left right =
+    let w = reached (opening q.nodes nodes) before in
+    let inv = holds q nodes before h.first in
+    let on = goes_on q w later inv h.again in
+    learns_one q (reached w later) (keeps_run q w later inv on.0) i j v u (learned_along w later i v left) (on.1.learned j u right)

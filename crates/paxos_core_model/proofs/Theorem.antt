@@ -2,7 +2,7 @@
 use Rattle.std.proofs.Common.{◌≡◌, ℕ, ◌<◌, Bool, true, false, not, List, Option, Some, None, inl, inr, refl, sym, subst, arith, eqb, eqb-true, nat_lt, lt-ltb}
 use Rattle.std.proofs.lemmas.Bool.{cases_eq, cases_order, and_from, and_parts}
 use Rattle.paxos_core_world.specs.KeptPart.{KeptPart}
-use Rattle.paxos_core_world.specs.Quorum.{IsPromiseQuorum}
+use Rattle.paxos_core_world.specs.Quorum.{Sizes, AreQuorums, IsPromiseQuorum}
 use Rattle.paxos_core_world.specs.Run.{reached}
 use Rattle.paxos_core_world.specs.Settled.{Settled, BallotsSettled, PairSettled, has_passed, is_given}
 use Rattle.paxos_core_world.specs.Step.{Label, IsChosen}
@@ -17,53 +17,53 @@ use Rattle.paxos_core_world.proofs.Quorums.{member_of, promise_quorum_grows}
 use Rattle.paxos_core_model.specs.Agreement.{IsSettledRun, ChoosesOne, LearnsOne, NothingIsSettled, RunsChooseOne, RunsLearnOne, RunsStaySettled}
 
 -- every world of a run from settled kept parts has the invariant
-pub holds : (n : ℕ) (nodes : ℕ → KeptPart) (steps : List Label) → IsSettledRun n nodes steps → Invariant n (reached (opening n nodes) steps)
-holds n nodes steps h = keeps_run n (opening n nodes) steps (opens n nodes h.settled) h.run
+pub holds : (q : Sizes) (nodes : ℕ → KeptPart) (steps : List Label) → IsSettledRun q nodes steps → Invariant q (reached (opening q.nodes nodes) steps)
+holds q nodes steps h = keeps_run q (opening q.nodes nodes) steps (opens q nodes h.sizes h.settled) h.run
 
 -- ---- one value
 
-pub chosen_backed : (n : ℕ) (w : World) (b v : ℕ) → IsChosen n w b v → Backed w b v
-chosen_backed n w b v h =
-    let one = member_of n h.members h.quorum in inr (one.node, h.votes one.node one.below one.member)
+pub chosen_backed : (q : Sizes) (w : World) → AreQuorums q → (b v : ℕ) → IsChosen q w b v → Backed w b v
+chosen_backed q w are b v h =
+    let one = member_of q are h.members h.quorum in inr (one.node, h.votes one.node one.below one.member)
 
 -- a value that was passed over is not chosen
-not_passed : (n : ℕ) (w : World) (c u : ℕ) → IsChosen n w c u → IsPassed n w c u → ⊥
-not_passed n w c u chosen passed =
-    let both = meet n passed.members chosen.members passed.quorum chosen.quorum in
+not_passed : (q : Sizes) (w : World) → AreQuorums q → (c u : ℕ) → IsChosen q w c u → IsPassed q w c u → ⊥
+not_passed q w are c u chosen passed =
+    let both = meet q are passed.members chosen.members passed.quorum chosen.quorum in
     passed.silent both.node both.below both.left (chosen.votes both.node both.below both.right)
 
-not_above : (n : ℕ) (w : World) → Invariant n w → (b c v u : ℕ) → c < b → IsChosen n w b v → IsChosen n w c u → (u ≡ v → ⊥) → ⊥
-not_above n w s b c v u low h k other = not_passed n w c u k (s.safe b v c u (chosen_backed n w b v h) low other)
+not_above : (q : Sizes) (w : World) → Invariant q w → (b c v u : ℕ) → c < b → IsChosen q w b v → IsChosen q w c u → (u ≡ v → ⊥) → ⊥
+not_above q w s b c v u low h k other = not_passed q w s.sizes c u k (s.safe b v c u (chosen_backed q w s.sizes b v h) low other)
 
-same_above : (n : ℕ) (w : World) → Invariant n w → (b c v u : ℕ) → c < b → IsChosen n w b v → IsChosen n w c u → u ≡ v
-same_above n w s b c v u low h k = elim (cases_eq u v) [ inl same ↦ same | inr other ↦ absurd (not_above n w s b c v u low h k other) ]
+same_above : (q : Sizes) (w : World) → Invariant q w → (b c v u : ℕ) → c < b → IsChosen q w b v → IsChosen q w c u → u ≡ v
+same_above q w s b c v u low h k = elim (cases_eq u v) [ inl same ↦ same | inr other ↦ absurd (not_above q w s b c v u low h k other) ]
 
-same_ballot : (n : ℕ) (w : World) → Invariant n w → (b v u : ℕ) → IsChosen n w b v → IsChosen n w b u → v ≡ u
-same_ballot n w s b v u h k =
-    let left = member_of n h.members h.quorum in
-    let right = member_of n k.members k.quorum in
+same_ballot : (q : Sizes) (w : World) → Invariant q w → (b v u : ℕ) → IsChosen q w b v → IsChosen q w b u → v ≡ u
+same_ballot q w s b v u h k =
+    let left = member_of q s.sizes h.members h.quorum in
+    let right = member_of q s.sizes k.members k.quorum in
     s.one_vote left.node right.node b v u (h.votes left.node left.below left.member) (k.votes right.node right.below right.member)
 
-pub chooses_one : (n : ℕ) (w : World) → Invariant n w → ChoosesOne n w
-chooses_one n w s b c v u h k = elim (cases_order b c) [
-  | inl same ↦ same_ballot n w s b v u h (subst (λ (d : ℕ). IsChosen n w d u) (sym same) k)
+pub chooses_one : (q : Sizes) (w : World) → Invariant q w → ChoosesOne q w
+chooses_one q w s b c v u h k = elim (cases_order b c) [
+  | inl same ↦ same_ballot q w s b v u h (subst (λ (d : ℕ). IsChosen q w d u) (sym same) k)
   | inr apart ↦ elim apart [
-    | inl under ↦ same_above n w s c b u v under k h
-    | inr over ↦ sym (same_above n w s b c v u over h k)
+    | inl under ↦ same_above q w s c b u v under k h
+    | inr over ↦ sym (same_above q w s b c v u over h k)
   ]
 ]
 
-pub learns_one : (n : ℕ) (w : World) → Invariant n w → LearnsOne w
-learns_one n w s i j v u h k =
+pub learns_one : (q : Sizes) (w : World) → Invariant q w → LearnsOne w
+learns_one q w s i j v u h k =
     let left = s.learned i v h in
     let right = s.learned j u k in
-    chooses_one n w s left.0 right.0 v u left.1 right.1
+    chooses_one q w s left.0 right.0 v u left.1 right.1
 
 -- ---- what is left is settled
 
-settled_pair : (n : ℕ) (w : World) → Invariant n w → (i j : ℕ) (x y : Vote) → i < n → j < n
-    → (w.nodes i).accepted ≡ Some x → (w.nodes j).accepted ≡ Some y → PairSettled n w.nodes x y
-settled_pair n w s i j x y below member e f =
+settled_pair : (q : Sizes) (w : World) → Invariant q w → (i j : ℕ) (x y : Vote) → i < q.nodes → j < q.nodes
+    → (w.nodes i).accepted ≡ Some x → (w.nodes j).accepted ≡ Some y → PairSettled q w.nodes x y
+settled_pair q w s i j x y below member e f =
     record { same = same; lower = λ low other. passed (s.safe x.ballot x.value y.ballot y.value (inr (i, s.kept i x below e)) low other) }
   where
     same : x.ballot ≡ y.ballot → x.value ≡ y.value
@@ -71,11 +71,11 @@ settled_pair n w s i j x y below member e f =
         s.one_vote i j x.ballot x.value y.value (s.kept i x below e)
         (subst (λ (b : ℕ). Has (Accepted j b y.value) w.sent) (sym ballots) (s.kept j y member f))
 
-    silent : (a : ℕ) → a < n → ¬ Has (Accepted a y.ballot y.value) w.sent → (t : Bool) → is_given y (w.nodes a).accepted ≡ t → not t ≡ true
+    silent : (a : ℕ) → a < q.nodes → ¬ Has (Accepted a y.ballot y.value) w.sent → (t : Bool) → is_given y (w.nodes a).accepted ≡ t → not t ≡ true
     silent a node none false g = refl
     silent a node none true g = absurd (none (given_sent a node (w.nodes a).accepted refl g))
       where
-        given_sent : (a : ℕ) → a < n → (o : Option Vote) → (w.nodes a).accepted ≡ o → is_given y o ≡ true → Has (Accepted a y.ballot y.value) w.sent
+        given_sent : (a : ℕ) → a < q.nodes → (o : Option Vote) → (w.nodes a).accepted ≡ o → is_given y o ≡ true → Has (Accepted a y.ballot y.value) w.sent
         given_sent a node None is never = absurd (let e : false ≡ true = never in cc)
         given_sent a node (Some z) is g =
             let both = and_parts (eqb z.ballot y.ballot) (eqb z.value y.value) g in
@@ -84,37 +84,37 @@ settled_pair n w s i j x y below member e f =
             subst (λ (b : ℕ). Has (Accepted a b y.value) w.sent) ballot
             (subst (λ (u : ℕ). Has (Accepted a z.ballot u) w.sent) value (s.kept a z node is))
 
-    passed : IsPassed n w y.ballot y.value → IsPromiseQuorum n (λ a. has_passed y (w.nodes a))
+    passed : IsPassed q w y.ballot y.value → IsPromiseQuorum q (λ a. has_passed y (w.nodes a))
     passed p =
-        promise_quorum_grows n p.members (λ a. has_passed y (w.nodes a))
+        promise_quorum_grows q p.members (λ a. has_passed y (w.nodes a))
         (λ a node member. and_from (nat_lt y.ballot (w.nodes a).promised) (not (is_given y (w.nodes a).accepted))
         (lt-ltb y.ballot (w.nodes a).promised (p.above a node member))
         (silent a node (p.silent a node member) (is_given y (w.nodes a).accepted) refl))
         p.quorum
 
-settled_ballots : (n : ℕ) (w : World) → Invariant n w → (i : ℕ) → i < n → BallotsSettled n w.nodes i
-settled_ballots n w s i below =
+settled_ballots : (q : Sizes) (w : World) → Invariant q w → (i : ℕ) → i < q.nodes → BallotsSettled q.nodes w.nodes i
+settled_ballots q w s i below =
     record {
       own = s.own i below;
       promised = λ j member own. s.promised i j below member own;
       accepted = λ j x member e own. s.voted i j x.ballot x.value below (s.kept j x member e) own;
     }
 
-pub settles : (n : ℕ) (w : World) → Invariant n w → Settled n w.nodes
-settles n w s = record {
+pub settles : (q : Sizes) (w : World) → Invariant q w → Settled q w.nodes
+settles q w s = record {
   within = s.within;
-  ballots = settled_ballots n w s;
+  ballots = settled_ballots q w s;
   vote = λ i x below e. record {
     offered = s.offered x.ballot x.value (inr (i, s.kept i x below e));
     quorum = s.backed x.ballot x.value (inr (i, s.kept i x below e));
   };
-  pair = settled_pair n w s;
+  pair = settled_pair q w s;
 }
 
 -- ---- the promises
 
 pub nothing_settled : NothingIsSettled
-nothing_settled n = record {
+nothing_settled q = record {
   within = λ i below. tt;
   ballots = λ i below. record {
     own = inl refl;
@@ -126,10 +126,10 @@ nothing_settled n = record {
 }
 
 pub runs_choose_one : RunsChooseOne
-runs_choose_one n nodes steps h = chooses_one n (reached (opening n nodes) steps) (holds n nodes steps h)
+runs_choose_one q nodes steps h = chooses_one q (reached (opening q.nodes nodes) steps) (holds q nodes steps h)
 
 pub runs_learn_one : RunsLearnOne
-runs_learn_one n nodes steps h = learns_one n (reached (opening n nodes) steps) (holds n nodes steps h)
+runs_learn_one q nodes steps h = learns_one q (reached (opening q.nodes nodes) steps) (holds q nodes steps h)
 
 pub runs_stay_settled : RunsStaySettled
-runs_stay_settled n nodes steps h = settles n (reached (opening n nodes) steps) (holds n nodes steps h)
+runs_stay_settled q nodes steps h = settles q (reached (opening q.nodes nodes) steps) (holds q nodes steps h)

@@ -1,6 +1,7 @@
 -- The parts of the test of settled kept parts, one for each of its functions.
 use Rattle.std.specs.Prelude.{ℕ, ◌<◌, ◌≤◌, IfSome}
 use Rattle.paxos_core_world.specs.KeptPart.{KeptPart, IsWithinPromise}
+use Rattle.paxos_core_world.specs.Quorum.{Sizes}
 use Rattle.paxos_core_world.specs.Settled.{BallotsSettled, VoteSettled, PairSettled}
 use Rattle.paxos_core_world.specs.declared.vote.Vote.{Vote}
 use Rattle.paxos_core_world.specs.Ballot.{Owns}
@@ -11,12 +12,12 @@ pub record IsCovered (n i started : ℕ) (k : KeptPart) : Type 0 where
   pub accepted : IfSome k.accepted (λ x. Owns n i x.ballot → x.ballot ≤ started)
 
 -- the vote is settled, and so is it with every vote that is held
-pub record VoteStands (n : ℕ) (nodes : ℕ → KeptPart) (x : Vote) : Type 0 where
-  pub vote : VoteSettled n nodes x
-  pub pair : (j : ℕ) → j < n → IfSome (nodes j).accepted (PairSettled n nodes x)
+pub record VoteStands (q : Sizes) (nodes : ℕ → KeptPart) (x : Vote) : Type 0 where
+  pub vote : VoteSettled q nodes x
+  pub pair : (j : ℕ) → j < q.nodes → IfSome (nodes j).accepted (PairSettled q nodes x)
 
 -- the node's vote is within its promise and stands, and its ballots are settled
-pub record NodeSettled (n : ℕ) (nodes : ℕ → KeptPart) (i : ℕ) : Type 0 where
+pub record NodeSettled (q : Sizes) (nodes : ℕ → KeptPart) (i : ℕ) : Type 0 where
   pub within : IsWithinPromise (nodes i).promised (nodes i).accepted
-  pub vote : IfSome (nodes i).accepted (VoteStands n nodes)
-  pub ballots : BallotsSettled n nodes i
+  pub vote : IfSome (nodes i).accepted (VoteStands q nodes)
+  pub ballots : BallotsSettled q.nodes nodes i

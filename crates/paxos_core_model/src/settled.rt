@@ -7,16 +7,17 @@ ghost use Rattle.paxos_core_model.specs.Tests.{IsCovered, NodeSettled, VoteStand
 
 use paxos_core_world::ballot::owns;
 use paxos_core_world::kept::Kept;
-use paxos_core_world::quorum::is_promise_quorum;
+use paxos_core_world::quorum::{Quorums, is_promise_quorum};
 use paxos_core_world::vote::Vote;
 
-/// Whether a room of these nodes can be opened with these kept parts: true exactly where they are
+/// Whether a room can be opened with these kept parts and quorums: true exactly where they are
 /// settled. The parts stand in the order of their nodes.
-pub fn settled(parts: &[Kept]) -> bool
-    ensures { IsTrue result ↔ Settled (length parts.now) (nodes_of parts.now) }
+pub fn settled(parts: &[Kept], quorums: Quorums) -> bool
+    requires { length parts.now ≡ quorums.nodes }
+    ensures { IsTrue result ↔ Settled quorums (nodes_of parts.now) }
 {
     for node in 0..parts.len() {
-        if !node_settled(parts, node) {
+        if !node_settled(parts, quorums, node) {
             return false;
         }
     }
@@ -24,14 +25,15 @@ pub fn settled(parts: &[Kept]) -> bool
 }
 
 /// Whether the node's ballots are settled, and its vote, if it has one, stands.
-fn node_settled(parts: &[Kept], node: usize) -> bool
-    requires { node < length parts.now }
-    ensures { IsTrue result ↔ NodeSettled (length parts.now) (nodes_of parts.now) node }
+fn node_settled(parts: &[Kept], quorums: Quorums, node: usize) -> bool
+    requires size { length parts.now ≡ quorums.nodes }
+    requires below { node < length parts.now }
+    ensures { IsTrue result ↔ NodeSettled quorums (nodes_of parts.now) node }
 {
     let part = parts[node];
     let stands = match part.accepted() {
         None => true,
-        Some(vote) => vote_stands(parts, vote),
+        Some(vote) => vote_stands(parts, quorums, vote),
     };
     stands && ballots_settled(parts, node)
 }
@@ -78,19 +80,20 @@ fn is_started(n: usize, node: usize, started: u16, ballot: u16) -> bool
 
 /// Whether the vote's value has offered, a promise quorum has promised its ballot, and it goes with every
 /// other vote.
-fn vote_stands(parts: &[Kept], vote: Vote) -> bool
-    ensures { IsTrue result ↔ VoteStands (length parts.now) (nodes_of parts.now) vote }
+fn vote_stands(parts: &[Kept], quorums: Quorums, vote: Vote) -> bool
+    requires { length parts.now ≡ quorums.nodes }
+    ensures { IsTrue result ↔ VoteStands quorums (nodes_of parts.now) vote }
 {
     let value = usize::from(vote.value);
     if value >= parts.len() {
         return false;
     }
     let part = parts[value];
-    if !part.offered() || !is_promise_quorum(parts.len(), count_promised(parts, vote.ballot)) {
+    if !part.offered() || !is_promise_quorum(quorums, count_promised(parts, vote.ballot)) {
         return false;
     }
     for other in parts {
-        if !agrees(parts, vote, *other) {
+        if !agrees(parts, quorums, vote, *other) {
             return false;
         }
     }
@@ -98,24 +101,26 @@ fn vote_stands(parts: &[Kept], vote: Vote) -> bool
 }
 
 /// Whether the vote goes with that of the other part, if it has one.
-fn agrees(parts: &[Kept], vote: Vote, other: Kept) -> bool
-    ensures { IsTrue result ↔ IfSome other.accepted (PairSettled (length parts.now) (nodes_of parts.now) vote) }
+fn agrees(parts: &[Kept], quorums: Quorums, vote: Vote, other: Kept) -> bool
+    requires { length parts.now ≡ quorums.nodes }
+    ensures { IsTrue result ↔ IfSome other.accepted (PairSettled quorums (nodes_of parts.now) vote) }
 {
     match other.accepted() {
         None => true,
-        Some(lower) => pair_settled(parts, vote, lower),
+        Some(lower) => pair_settled(parts, quorums, vote, lower),
     }
 }
 
 /// Whether two votes of one ballot have one value, and the second, where it has a lower ballot and
 /// another value, can no more be chosen.
-fn pair_settled(parts: &[Kept], vote: Vote, lower: Vote) -> bool
-    ensures { IsTrue result ↔ PairSettled (length parts.now) (nodes_of parts.now) vote lower }
+fn pair_settled(parts: &[Kept], quorums: Quorums, vote: Vote, lower: Vote) -> bool
+    requires { length parts.now ≡ quorums.nodes }
+    ensures { IsTrue result ↔ PairSettled quorums (nodes_of parts.now) vote lower }
 {
     if lower.value == vote.value || lower.ballot > vote.ballot {
         return true;
     }
-    lower.ballot < vote.ballot && is_promise_quorum(parts.len(), count_passed(parts, lower))
+    lower.ballot < vote.ballot && is_promise_quorum(quorums, count_passed(parts, lower))
 }
 
 /// How many nodes have promised at least the ballot.

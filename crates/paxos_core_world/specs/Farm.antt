@@ -2,6 +2,7 @@
 -- An offer is the pair of its written texts, lists of bytes; functions are numbered from 0.
 use Rattle.std.specs.Prelude.{◌≡◌, ℕ, zero, suc, ◌<◌, ◌≤◌, ◌==◌, ◌&&◌, if◌then◌else◌, IsTrue, List, [], ◌∷◌}
 use Rattle.paxos_core_world.specs.KeptPart.{KeptPart}
+use Rattle.paxos_core_world.specs.Quorum.{Sizes}
 use Rattle.paxos_core_world.specs.Step.{Label, Offers, Starts, Promises, Proposes, Accepts, Learns, Restarts, Allowed, after}
 use Rattle.paxos_core_world.specs.World.{World, Has, opening, no_nodes}
 
@@ -42,11 +43,11 @@ IsInput rtl farm f (suc zero) i input = input ≡ rtl f
 IsInput rtl farm f (suc (suc k)) i input =
     (v : ℕ) × Has (i, v) (farm.rooms f (suc k)).learned × (input ≡ (farm.offers f (suc k) v).output)
 
--- what a step of the farm needs, among n nodes
-abbrev pub FarmAllowed : ℕ → (ℕ → List ℕ) → Farm → FarmLabel → Type 0
-FarmAllowed n rtl farm (Offering f k i offer) =
-    IsPass k × Allowed n (farm.rooms f k) (Offers i) × IsInput rtl farm f k i offer.input
-FarmAllowed n rtl farm (Stepping f k step) = IsPass k × IsNoOffer step × Allowed n (farm.rooms f k) step
+-- what a step of the farm needs, with quorums of these sizes
+abbrev pub FarmAllowed : Sizes → (ℕ → List ℕ) → Farm → FarmLabel → Type 0
+FarmAllowed q rtl farm (Offering f k i offer) =
+    IsPass k × Allowed q (farm.rooms f k) (Offers i) × IsInput rtl farm f k i offer.input
+FarmAllowed q rtl farm (Stepping f k step) = IsPass k × IsNoOffer step × Allowed q (farm.rooms f k) step
 
 -- the rooms with another world in one of them
 abbrev pub put_room : (ℕ → ℕ → World) → ℕ → ℕ → World → ℕ → ℕ → World
@@ -71,10 +72,10 @@ abbrev pub farm_reached : Farm → List FarmLabel → Farm
 farm_reached farm [] = farm
 farm_reached farm (l ∷ ls) = farm_after (farm_reached farm ls) l
 
--- these steps are a run of the farm
-abbrev pub IsFarmRun : ℕ → (ℕ → List ℕ) → Farm → List FarmLabel → Type 0
-IsFarmRun n rtl farm [] = Unit {0}
-IsFarmRun n rtl farm (l ∷ ls) = IsFarmRun n rtl farm ls × FarmAllowed n rtl (farm_reached farm ls) l
+-- these steps are a run of the farm, with quorums of these sizes
+abbrev pub IsFarmRun : Sizes → (ℕ → List ℕ) → Farm → List FarmLabel → Type 0
+IsFarmRun q rtl farm [] = Unit {0}
+IsFarmRun q rtl farm (l ∷ ls) = IsFarmRun q rtl farm ls × FarmAllowed q rtl (farm_reached farm ls) l
 
 -- the farm whose rooms open with these kept parts, by function, pass and node, and with these offers
 abbrev pub farm_opening : ℕ → (ℕ → ℕ → ℕ → KeptPart) → (ℕ → ℕ → ℕ → Offer) → Farm

@@ -2,7 +2,7 @@
 use Rattle.std.specs.Prelude.{◌≡◌, ◌≢◌, ℕ, ◌<◌, ◌≤◌, ◌⊎◌, Bool, false, ◌&&◌, not, ◌==◌, nat_lt, nat_le, Option, Some, None}
 use Rattle.paxos_core_world.specs.Ballot.{Owns}
 use Rattle.paxos_core_world.specs.KeptPart.{KeptPart, IsWithinPromise}
-use Rattle.paxos_core_world.specs.Quorum.{IsPromiseQuorum}
+use Rattle.paxos_core_world.specs.Quorum.{Sizes, IsPromiseQuorum}
 use Rattle.paxos_core_world.specs.Step.{HasOffered}
 use Rattle.paxos_core_world.specs.declared.vote.Vote.{Vote}
 
@@ -34,18 +34,18 @@ pub record BallotsSettled (n : ℕ) (nodes : ℕ → KeptPart) (i : ℕ) : Type 
   pub accepted : (j : ℕ) (x : Vote) → j < n → (nodes j).accepted ≡ Some x → IsStarted n i (nodes i) x.ballot
 
 -- a vote: its value is a node that has offered, and a promise quorum has promised at least its ballot
-pub record VoteSettled (n : ℕ) (nodes : ℕ → KeptPart) (x : Vote) : Type 0 where
-  pub offered : HasOffered n nodes x.value
-  pub quorum : IsPromiseQuorum n (λ a. has_promised x.ballot (nodes a))
+pub record VoteSettled (q : Sizes) (nodes : ℕ → KeptPart) (x : Vote) : Type 0 where
+  pub offered : HasOffered q.nodes nodes x.value
+  pub quorum : IsPromiseQuorum q (λ a. has_promised x.ballot (nodes a))
 
 -- two votes: those of one ballot have one value, and one of a lower ballot and another value can no more be chosen
-pub record PairSettled (n : ℕ) (nodes : ℕ → KeptPart) (x y : Vote) : Type 0 where
+pub record PairSettled (q : Sizes) (nodes : ℕ → KeptPart) (x y : Vote) : Type 0 where
   pub same : x.ballot ≡ y.ballot → x.value ≡ y.value
-  pub lower : y.ballot < x.ballot → y.value ≢ x.value → IsPromiseQuorum n (λ a. has_passed y (nodes a))
+  pub lower : y.ballot < x.ballot → y.value ≢ x.value → IsPromiseQuorum q (λ a. has_passed y (nodes a))
 
--- the kept parts of n nodes are settled, node by node
-pub record Settled (n : ℕ) (nodes : ℕ → KeptPart) : Type 0 where
-  pub within : (i : ℕ) → i < n → IsWithinPromise (nodes i).promised (nodes i).accepted
-  pub ballots : (i : ℕ) → i < n → BallotsSettled n nodes i
-  pub vote : (i : ℕ) (x : Vote) → i < n → (nodes i).accepted ≡ Some x → VoteSettled n nodes x
-  pub pair : (i j : ℕ) (x y : Vote) → i < n → j < n → (nodes i).accepted ≡ Some x → (nodes j).accepted ≡ Some y → PairSettled n nodes x y
+-- the kept parts of the nodes are settled, node by node, with quorums of these sizes
+pub record Settled (q : Sizes) (nodes : ℕ → KeptPart) : Type 0 where
+  pub within : (i : ℕ) → i < q.nodes → IsWithinPromise (nodes i).promised (nodes i).accepted
+  pub ballots : (i : ℕ) → i < q.nodes → BallotsSettled q.nodes nodes i
+  pub vote : (i : ℕ) (x : Vote) → i < q.nodes → (nodes i).accepted ≡ Some x → VoteSettled q nodes x
+  pub pair : (i j : ℕ) (x y : Vote) → i < q.nodes → j < q.nodes → (nodes i).accepted ≡ Some x → (nodes j).accepted ≡ Some y → PairSettled q nodes x y

@@ -3,7 +3,7 @@
 use Rattle.std.specs.Prelude.{◌≡◌, ℕ, ◌<◌, ◌≤◌, ◌⊎◌, Bool, false, IsTrue, ◌∷◌, Option, Some, None}
 use Rattle.paxos_core_world.specs.Ballot.{Owns}
 use Rattle.paxos_core_world.specs.KeptPart.{KeptPart, with_offer, with_start, with_promise, with_vote, vote}
-use Rattle.paxos_core_world.specs.Quorum.{IsPromiseQuorum, IsAcceptQuorum}
+use Rattle.paxos_core_world.specs.Quorum.{Sizes, IsPromiseQuorum, IsAcceptQuorum}
 use Rattle.paxos_core_world.specs.World.{World, Has, put}
 use Rattle.paxos_core_world.specs.declared.msg.Msg.TheVariants.{Prepare, Promise, Propose, Accepted}
 use Rattle.paxos_core_world.specs.declared.vote.Vote.{Vote}
@@ -37,28 +37,28 @@ pub record IsHighest (n : ℕ) (members : ℕ → Bool) (reports : ℕ → Optio
 
 -- what a proposal of v under b rests on: all of some promise quorum sent promises for b, and v is the value of the highest
 -- vote that they report or, if they report none, a node that has offered
-pub record IsSafeChoice (n : ℕ) (w : World) (b v : ℕ) : Type 0 where
+pub record IsSafeChoice (q : Sizes) (w : World) (b v : ℕ) : Type 0 where
   pub members : ℕ → Bool
   pub reports : ℕ → Option Vote
-  pub quorum : IsPromiseQuorum n members
-  pub promises : (a : ℕ) → a < n → IsTrue (members a) → Has (Promise a b (reports a)) w.sent
-  pub choice : (NamesNone n members reports × HasOffered n w.nodes v) ⊎ IsHighest n members reports v
+  pub quorum : IsPromiseQuorum q members
+  pub promises : (a : ℕ) → a < q.nodes → IsTrue (members a) → Has (Promise a b (reports a)) w.sent
+  pub choice : (NamesNone q.nodes members reports × HasOffered q.nodes w.nodes v) ⊎ IsHighest q.nodes members reports v
 
 -- all of some accept quorum voted for v under the one ballot b
-pub record IsChosen (n : ℕ) (w : World) (b v : ℕ) : Type 0 where
+pub record IsChosen (q : Sizes) (w : World) (b v : ℕ) : Type 0 where
   pub members : ℕ → Bool
-  pub quorum : IsAcceptQuorum n members
-  pub votes : (a : ℕ) → a < n → IsTrue (members a) → Has (Accepted a b v) w.sent
+  pub quorum : IsAcceptQuorum q members
+  pub votes : (a : ℕ) → a < q.nodes → IsTrue (members a) → Has (Accepted a b v) w.sent
 
--- what a step needs, among n nodes
-abbrev pub Allowed : ℕ → World → Label → Type 0
-Allowed n w (Offers i) = (i < n) × ((w.nodes i).offered ≡ false)
-Allowed n w (Starts i b) = (i < n) × Owns n i b × ((w.nodes i).started < b)
-Allowed n w (Promises a b) = (a < n) × Has (Prepare b) w.sent × ((w.nodes a).promised < b)
-Allowed n w (Proposes b v) = Has b w.begun × ((x : ℕ) → ¬ Has (Propose b x) w.sent) × IsSafeChoice n w b v
-Allowed n w (Accepts a b v) = (a < n) × Has (Propose b v) w.sent × ((w.nodes a).promised ≤ b)
-Allowed n w (Learns i v) = (i < n) × ((b : ℕ) × IsChosen n w b v)
-Allowed n w (Restarts i) = i < n
+-- what a step needs, with quorums of these sizes
+abbrev pub Allowed : Sizes → World → Label → Type 0
+Allowed q w (Offers i) = (i < q.nodes) × ((w.nodes i).offered ≡ false)
+Allowed q w (Starts i b) = (i < q.nodes) × Owns q.nodes i b × ((w.nodes i).started < b)
+Allowed q w (Promises a b) = (a < q.nodes) × Has (Prepare b) w.sent × ((w.nodes a).promised < b)
+Allowed q w (Proposes b v) = Has b w.begun × ((x : ℕ) → ¬ Has (Propose b x) w.sent) × IsSafeChoice q w b v
+Allowed q w (Accepts a b v) = (a < q.nodes) × Has (Propose b v) w.sent × ((w.nodes a).promised ≤ b)
+Allowed q w (Learns i v) = (i < q.nodes) × ((b : ℕ) × IsChosen q w b v)
+Allowed q w (Restarts i) = i < q.nodes
 
 -- what a step does: all that it does not name stays
 abbrev pub after : World → Label → World

@@ -3,7 +3,7 @@ use Rattle.std.proofs.Common.{◌≡◌, ℕ, ◌<◌, ◌≤◌, ◌⊎◌, ◌
 use Rattle.std.proofs.lemmas.Bool.{ltb-true, lt-ltb, eqb-true, eq-eqb, leb-true, le-leb, and_parts, and_from}
 use Rattle.std.specs.List.{list_any}
 use Rattle.paxos_core_world.specs.KeptPart.{vote}
-use Rattle.paxos_core_world.specs.Quorum.{is_promise_quorum, is_accept_quorum, IsPromiseQuorum}
+use Rattle.paxos_core_world.specs.Quorum.{Sizes, AreQuorums, is_promise_quorum, is_accept_quorum, IsPromiseQuorum}
 use Rattle.paxos_core_world.proofs.Quorums.{promise_quorum_grows, accept_quorum_grows, member_of}
 use Rattle.paxos_core_world.specs.Step.{NamesNone, IsHighest, IsSafeChoice, IsChosen, HasOffered}
 use Rattle.paxos_core_world.specs.World.{World, Has}
@@ -53,8 +53,8 @@ within_from c (Some x) h = le-leb x.ballot c (h x refl)
 
 -- ---- a value that is free to choose
 
-safe_from_free : (n : ℕ) (w : World) (b v : ℕ) → IsFree n w b v → IsSafeChoice n w b v
-safe_from_free n w b v h =
+safe_from_free : (z : Sizes) (w : World) (b v : ℕ) → IsFree z w b v → IsSafeChoice z w b v
+safe_from_free z w b v h =
     record {
       members = has_promised w.sent b None;
       reports = λ _. None;
@@ -67,7 +67,7 @@ safe_from_free n w b v h =
 
 -- ---- a value that is adopted
 
-module _ (n : ℕ) (w : World) (b v k : ℕ) (x : Vote) (below : k < n) (stands : Has (Promise k b (Some x)) w.sent) (value : x.value ≡ v) (quorum : IsPromiseQuorum n (has_promised w.sent b (Some x.ballot))) where
+module _ (z : Sizes) (w : World) (b v k : ℕ) (x : Vote) (below : k < z.nodes) (stands : Has (Promise k b (Some x)) w.sent) (value : x.value ≡ v) (quorum : IsPromiseQuorum z (has_promised w.sent b (Some x.ballot))) where
   -- what node a is taken to have reported, where it has promised
   abbrev Report : ℕ → Type 0
   Report a = (report : Option Vote) × (IsTrue (has_promised w.sent b (Some x.ballot) a) → Promised w.sent b (Some x.ballot) a report)
@@ -91,7 +91,7 @@ module _ (n : ℕ) (w : World) (b v k : ℕ) (x : Vote) (below : k < n) (stands 
   report_of_same : (report_of k).0 ≡ Some x
   report_of_same = report_by_same k (eqb k k) refl (eq-eqb k k refl)
 
-  safe_from_highest : IsSafeChoice n w b v
+  safe_from_highest : IsSafeChoice z w b v
   safe_from_highest =
       record {
         members = has_promised w.sent b (Some x.ballot);
@@ -108,57 +108,57 @@ module _ (n : ℕ) (w : World) (b v k : ℕ) (x : Vote) (below : k < n) (stands 
         });
       }
 
-highest_in : (n : ℕ) (w : World) (b v : ℕ) (m : Msg) → Has m w.sent → is_highest w.sent n b v m ≡ true → IsSafeChoice n w b v
-highest_in n w b v (Promise k c (Some x)) h e =
-    let all = and_parts (ltb k n) (eqb c b && (eqb x.value v && is_promise_quorum n (has_promised w.sent b (Some x.ballot)))) e in
-    let rest = and_parts (eqb c b) (eqb x.value v && is_promise_quorum n (has_promised w.sent b (Some x.ballot))) all.1 in
-    let last = and_parts (eqb x.value v) (is_promise_quorum n (has_promised w.sent b (Some x.ballot))) rest.1 in
+highest_in : (z : Sizes) (w : World) (b v : ℕ) (m : Msg) → Has m w.sent → is_highest w.sent z b v m ≡ true → IsSafeChoice z w b v
+highest_in z w b v (Promise k c (Some x)) h e =
+    let all = and_parts (ltb k z.nodes) (eqb c b && (eqb x.value v && is_promise_quorum z (has_promised w.sent b (Some x.ballot)))) e in
+    let rest = and_parts (eqb c b) (eqb x.value v && is_promise_quorum z (has_promised w.sent b (Some x.ballot))) all.1 in
+    let last = and_parts (eqb x.value v) (is_promise_quorum z (has_promised w.sent b (Some x.ballot))) rest.1 in
     let stands : Has (Promise k b (Some x)) w.sent = subst (λ d. Has (Promise k d (Some x)) w.sent) (eqb-true c b rest.0) h in
-    safe_from_highest n w b v k x (ltb-true k n all.0) stands (eqb-true x.value v last.0) last.1
-highest_in n w b v (Promise k c None) h e = absurd (cc)
-highest_in n w b v (Prepare c) h e = absurd (cc)
-highest_in n w b v (Propose c u) h e = absurd (cc)
-highest_in n w b v (Accepted k c u) h e = absurd (cc)
+    safe_from_highest z w b v k x (ltb-true k z.nodes all.0) stands (eqb-true x.value v last.0) last.1
+highest_in z w b v (Promise k c None) h e = absurd (cc)
+highest_in z w b v (Prepare c) h e = absurd (cc)
+highest_in z w b v (Propose c u) h e = absurd (cc)
+highest_in z w b v (Accepted k c u) h e = absurd (cc)
 
-safe_from_adopted : (n : ℕ) (w : World) (b v : ℕ) → list_any (is_highest w.sent n b v) w.sent ≡ true → IsSafeChoice n w b v
-safe_from_adopted n w b v h = let f = found (is_highest w.sent n b v) w.sent h in highest_in n w b v f.item f.stands f.passes
+safe_from_adopted : (z : Sizes) (w : World) (b v : ℕ) → list_any (is_highest w.sent z b v) w.sent ≡ true → IsSafeChoice z w b v
+safe_from_adopted z w b v h = let f = found (is_highest w.sent z b v) w.sent h in highest_in z w b v f.item f.stands f.passes
 
 -- ---- no other value is safe
 
-module _ (n : ℕ) (w : World) (b v : ℕ) (s : IsSafeChoice n w b v) where
-  free_from_safe : NamesNone n s.members s.reports → HasOffered n w.nodes v → IsFree n w b v
+module _ (z : Sizes) (w : World) (b v : ℕ) (s : IsSafeChoice z w b v) where
+  free_from_safe : NamesNone z.nodes s.members s.reports → HasOffered z.nodes w.nodes v → IsFree z w b v
   free_from_safe none offered =
       record {
         offered = offered;
-        quorum = promise_quorum_grows n s.members (has_promised w.sent b None)
+        quorum = promise_quorum_grows z s.members (has_promised w.sent b None)
             (λ a below member. promise_shown w.sent b None a (s.reports a) (s.promises a below member) (ap (is_within None) (none a below member))) s.quorum;
       }
 
-  adopted_from_safe : IsHighest n s.members s.reports v → list_any (is_highest w.sent n b v) w.sent ≡ true
+  adopted_from_safe : IsHighest z.nodes s.members s.reports v → list_any (is_highest w.sent z b v) w.sent ≡ true
   adopted_from_safe high =
       let stands : Has (Promise high.node b (Some (vote high.ballot v))) w.sent
       = subst (λ r. Has (Promise high.node b r) w.sent) high.report (s.promises high.node high.below high.member) in
-      let quorum : IsPromiseQuorum n (has_promised w.sent b (Some high.ballot))
-      = promise_quorum_grows n s.members (has_promised w.sent b (Some high.ballot))
+      let quorum : IsPromiseQuorum z (has_promised w.sent b (Some high.ballot))
+      = promise_quorum_grows z s.members (has_promised w.sent b (Some high.ballot))
       (λ a below member. promise_shown w.sent b (Some high.ballot) a (s.reports a) (s.promises a below member)
       (within_from high.ballot (s.reports a) (λ x is. high.highest a x below member is))) s.quorum in
-      any_has (is_highest w.sent n b v) (Promise high.node b (Some (vote high.ballot v))) w.sent stands
-      (and_from (ltb high.node n) (eqb b b && (eqb v v && is_promise_quorum n (has_promised w.sent b (Some high.ballot)))) (lt-ltb high.node n high.below)
-      (and_from (eqb b b) (eqb v v && is_promise_quorum n (has_promised w.sent b (Some high.ballot))) (eq-eqb b b refl)
-      (and_from (eqb v v) (is_promise_quorum n (has_promised w.sent b (Some high.ballot))) (eq-eqb v v refl) quorum)))
+      any_has (is_highest w.sent z b v) (Promise high.node b (Some (vote high.ballot v))) w.sent stands
+      (and_from (ltb high.node z.nodes) (eqb b b && (eqb v v && is_promise_quorum z (has_promised w.sent b (Some high.ballot)))) (lt-ltb high.node z.nodes high.below)
+      (and_from (eqb b b) (eqb v v && is_promise_quorum z (has_promised w.sent b (Some high.ballot))) (eq-eqb b b refl)
+      (and_from (eqb v v) (is_promise_quorum z (has_promised w.sent b (Some high.ballot))) (eq-eqb v v refl) quorum)))
 
-  safe_cases : IsFree n w b v ⊎ (list_any (is_highest w.sent n b v) w.sent ≡ true)
+  safe_cases : IsFree z w b v ⊎ (list_any (is_highest w.sent z b v) w.sent ≡ true)
   safe_cases = elim s.choice [ inl none ↦ inl (free_from_safe none.0 none.1) | inr high ↦ inr (adopted_from_safe high) ]
 
 -- a value is safe if it is adopted or free
-pub adopted_is_safe : (n : ℕ) (w : World) (b v : ℕ) (r : Bool) → r ≡ list_any (is_highest w.sent n b v) w.sent → r ≡ true → IsSafeChoice n w b v
-adopted_is_safe n w b v r is h = safe_from_adopted n w b v (sym is ∙ h)
+pub adopted_is_safe : (z : Sizes) (w : World) (b v : ℕ) (r : Bool) → r ≡ list_any (is_highest w.sent z b v) w.sent → r ≡ true → IsSafeChoice z w b v
+adopted_is_safe z w b v r is h = safe_from_adopted z w b v (sym is ∙ h)
 
 -- and only then
-pub free_is_safe : (n : ℕ) (w : World) (b v : ℕ) (r : Bool) → r ≡ list_any (is_highest w.sent n b v) w.sent → r ≡ false → IsFree n w b v ↔ IsSafeChoice n w b v
-free_is_safe n w b v r is h = (
-  λ free. safe_from_free n w b v free,
-  λ s. elim (safe_cases n w b v s) [ inl free ↦ free | inr adopted ↦ absurd (let e : r ≡ true = is ∙ adopted in cc) ],
+pub free_is_safe : (z : Sizes) (w : World) (b v : ℕ) (r : Bool) → r ≡ list_any (is_highest w.sent z b v) w.sent → r ≡ false → IsFree z w b v ↔ IsSafeChoice z w b v
+free_is_safe z w b v r is h = (
+  λ free. safe_from_free z w b v free,
+  λ s. elim (safe_cases z w b v s) [ inl free ↦ free | inr adopted ↦ absurd (let e : r ≡ true = is ∙ adopted in cc) ],
 )
 
 -- ---- votes
@@ -181,9 +181,9 @@ vote_in sent b v a (Prepare c) h e = absurd (cc)
 vote_in sent b v a (Promise k c r) h e = absurd (cc)
 vote_in sent b v a (Propose c u) h e = absurd (cc)
 
-tally_in : (n : ℕ) (w : World) (v : ℕ) (m : Msg) → Has m w.sent → is_tally w.sent n v m ≡ true → (b : ℕ) × IsChosen n w b v
-tally_in n w v (Accepted k b u) h e =
-    let all = and_parts (eqb u v) (is_accept_quorum n (has_voted w.sent b v)) e in (
+tally_in : (z : Sizes) (w : World) (v : ℕ) (m : Msg) → Has m w.sent → is_tally w.sent z v m ≡ true → (b : ℕ) × IsChosen z w b v
+tally_in z w v (Accepted k b u) h e =
+    let all = and_parts (eqb u v) (is_accept_quorum z (has_voted w.sent b v)) e in (
       b,
       record {
         members = has_voted w.sent b v;
@@ -191,20 +191,20 @@ tally_in n w v (Accepted k b u) h e =
         votes = λ a below member. let f = found (is_accepted a b v) w.sent member in vote_in w.sent b v a f.item f.stands f.passes;
       },
     )
-tally_in n w v (Prepare c) h e = absurd (cc)
-tally_in n w v (Promise k c r) h e = absurd (cc)
-tally_in n w v (Propose c u) h e = absurd (cc)
+tally_in z w v (Prepare c) h e = absurd (cc)
+tally_in z w v (Promise k c r) h e = absurd (cc)
+tally_in z w v (Propose c u) h e = absurd (cc)
 
-tally_from : (n : ℕ) (w : World) (b v : ℕ) → IsChosen n w b v → list_any (is_tally w.sent n v) w.sent ≡ true
-tally_from n w b v h =
-    let one = member_of n h.members h.quorum in
-    any_has (is_tally w.sent n v) (Accepted one.node b v) w.sent (h.votes one.node one.below one.member)
-    (and_from (eqb v v) (is_accept_quorum n (has_voted w.sent b v)) (eq-eqb v v refl)
-    (accept_quorum_grows n h.members (has_voted w.sent b v) (λ a below member. vote_shown w.sent b v a (h.votes a below member)) h.quorum))
+tally_from : (z : Sizes) (w : World) (b v : ℕ) → AreQuorums z → IsChosen z w b v → list_any (is_tally w.sent z v) w.sent ≡ true
+tally_from z w b v are h =
+    let one = member_of z are h.members h.quorum in
+    any_has (is_tally w.sent z v) (Accepted one.node b v) w.sent (h.votes one.node one.below one.member)
+    (and_from (eqb v v) (is_accept_quorum z (has_voted w.sent b v)) (eq-eqb v v refl)
+    (accept_quorum_grows z h.members (has_voted w.sent b v) (λ a below member. vote_shown w.sent b v a (h.votes a below member)) h.quorum))
 
 -- an accept quorum voted for v under one ballot
-pub chosen_tells : (n : ℕ) (w : World) (v : ℕ) (r : Bool) → r ≡ list_any (is_tally w.sent n v) w.sent → IsTrue r ↔ ((b : ℕ) × IsChosen n w b v)
-chosen_tells n w v r is = (
-  λ h. let f = found (is_tally w.sent n v) w.sent (sym is ∙ h) in tally_in n w v f.item f.stands f.passes,
-  λ h. is ∙ tally_from n w h.0 v h.1,
+pub chosen_tells : (z : Sizes) (w : World) (v : ℕ) (r : Bool) → AreQuorums z → r ≡ list_any (is_tally w.sent z v) w.sent → IsTrue r ↔ ((b : ℕ) × IsChosen z w b v)
+chosen_tells z w v r are is = (
+  λ h. let f = found (is_tally w.sent z v) w.sent (sym is ∙ h) in tally_in z w v f.item f.stands f.passes,
+  λ h. is ∙ tally_from z w h.0 v are h.1,
 )

@@ -1,7 +1,7 @@
 -- What is sought in the messages that were sent, one definition for each function that seeks it.
-use Rattle.std.specs.Prelude.{◌≡◌, ℕ, ◌==◌, nat_lt, nat_le, Bool, true, false, ◌&&◌, List, Option, Some, None}
+use Rattle.std.specs.Prelude.{ℕ, ◌==◌, nat_lt, nat_le, Bool, true, false, ◌&&◌, List, Option, Some, None}
 use Rattle.std.specs.List.{list_any}
-use Rattle.paxos_core_world.specs.Quorum.{is_promise_quorum, is_accept_quorum, IsPromiseQuorum}
+use Rattle.paxos_core_world.specs.Quorum.{Sizes, is_promise_quorum, is_accept_quorum, IsPromiseQuorum}
 use Rattle.paxos_core_world.specs.Step.{HasOffered}
 use Rattle.paxos_core_world.specs.World.{World}
 use Rattle.paxos_core_world.specs.declared.msg.Msg.{Msg}
@@ -48,17 +48,17 @@ abbrev pub has_voted : List Msg → ℕ → ℕ → ℕ → Bool
 has_voted sent b v a = list_any (is_accepted a b v) sent
 
 -- the message is a promise for ballot b that reports a vote for v, and a promise quorum's promises report none above it
-abbrev pub is_highest : List Msg → ℕ → ℕ → ℕ → Msg → Bool
-is_highest sent n b v (Promise k c (Some x)) =
-    nat_lt k n && ((c == b) && ((x.value == v) && is_promise_quorum n (has_promised sent b (Some x.ballot))))
-is_highest sent n b v other = false
+abbrev pub is_highest : List Msg → Sizes → ℕ → ℕ → Msg → Bool
+is_highest sent q b v (Promise k c (Some x)) =
+    nat_lt k q.nodes && ((c == b) && ((x.value == v) && is_promise_quorum q (has_promised sent b (Some x.ballot))))
+is_highest sent q b v other = false
 
 -- the message is a vote for v, and an accept quorum voted as it does
-abbrev pub is_tally : List Msg → ℕ → ℕ → Msg → Bool
-is_tally sent n v (Accepted k b u) = (u == v) && is_accept_quorum n (has_voted sent b v)
-is_tally sent n v other = false
+abbrev pub is_tally : List Msg → Sizes → ℕ → Msg → Bool
+is_tally sent q v (Accepted k b u) = (u == v) && is_accept_quorum q (has_voted sent b v)
+is_tally sent q v other = false
 
 -- a promise quorum's promises for ballot b report no vote, and v has offered
-pub record IsFree (n : ℕ) (w : World) (b v : ℕ) : Type 0 where
-  pub offered : HasOffered n w.nodes v
-  pub quorum : IsPromiseQuorum n (has_promised w.sent b None)
+pub record IsFree (q : Sizes) (w : World) (b v : ℕ) : Type 0 where
+  pub offered : HasOffered q.nodes w.nodes v
+  pub quorum : IsPromiseQuorum q (has_promised w.sent b None)

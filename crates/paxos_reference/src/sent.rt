@@ -6,7 +6,7 @@ ghost use Rattle.paxos_core_world.specs.declared.msg.Msg.TheVariants.{Prepare, P
 ghost use Rattle.paxos_reference.specs.Tests.{has_promised, has_voted, is_accepted, is_highest, is_prepare, is_promise, is_proposal, is_propose, is_tally, is_within};
 
 use paxos_core_world::msg::Msg;
-use paxos_core_world::quorum::{is_accept_quorum, is_promise_quorum};
+use paxos_core_world::quorum::{Quorums, is_accept_quorum, is_promise_quorum};
 use paxos_core_world::vote::Vote;
 
 /// Whether `Prepare(ballot)` was sent.
@@ -32,51 +32,52 @@ pub fn is_unproposed(sent: &[Msg], ballot: u16) -> bool
 }
 
 /// Whether a promise quorum's promises for the ballot report no vote above `most`, or none at all.
-pub fn is_promised(sent: &[Msg], count: usize, ballot: u16, most: Option<u16>) -> bool
-    ensures { result ≡ is_promise_quorum count (has_promised sent.now ballot most) }
+pub fn is_promised(sent: &[Msg], quorums: Quorums, ballot: u16, most: Option<u16>) -> bool
+    ensures { result ≡ is_promise_quorum quorums (has_promised sent.now ballot most) }
 {
-    is_promise_quorum(count, count_promised(sent, count, ballot, most))
+    let count = usize::from(quorums.nodes());
+    is_promise_quorum(quorums, count_promised(sent, count, ballot, most))
 }
 
 /// Whether the value is that of the highest vote that promises of some promise quorum for the ballot report.
-pub fn is_adopted(sent: &[Msg], count: usize, ballot: u16, value: u16) -> bool
-    ensures { result ≡ list_any (is_highest sent.now count ballot value) sent.now }
+pub fn is_adopted(sent: &[Msg], quorums: Quorums, ballot: u16, value: u16) -> bool
+    ensures { result ≡ list_any (is_highest sent.now quorums ballot value) sent.now }
 {
-    sent.iter()
-        .any(|message| is_highest(sent, count, *message, ballot, value))
+    sent.iter().any(|message| is_highest(sent, quorums, *message, ballot, value))
 }
 
 /// Whether an accept quorum voted for the value under one ballot.
-pub fn is_chosen(sent: &[Msg], count: usize, value: u16) -> bool
-    ensures { result ≡ list_any (is_tally sent.now count value) sent.now }
+pub fn is_chosen(sent: &[Msg], quorums: Quorums, value: u16) -> bool
+    ensures { result ≡ list_any (is_tally sent.now quorums value) sent.now }
 {
     sent.iter()
-        .any(|message| is_tally(sent, count, *message, value))
+        .any(|message| is_tally(sent, quorums, *message, value))
 }
 
 /// Whether the message is a promise whose reported vote is for the value, and is the highest that promises of some
 /// promise quorum report.
-fn is_highest(sent: &[Msg], count: usize, message: Msg, ballot: u16, value: u16) -> bool
-    ensures { result ≡ is_highest sent.now count ballot value message }
+fn is_highest(sent: &[Msg], quorums: Quorums, message: Msg, ballot: u16, value: u16) -> bool
+    ensures { result ≡ is_highest sent.now quorums ballot value message }
 {
     match message {
         Msg::Promise(from, promised, Some(vote)) => {
-            usize::from(from) < count
+            from < quorums.nodes()
                 && promised == ballot
                 && vote.value == value
-                && is_promised(sent, count, ballot, Some(vote.ballot))
+                && is_promised(sent, quorums, ballot, Some(vote.ballot))
         }
         _ => false,
     }
 }
 
 /// Whether the message is a vote for the value, and an accept quorum voted as it does.
-fn is_tally(sent: &[Msg], count: usize, message: Msg, value: u16) -> bool
-    ensures { result ≡ is_tally sent.now count value message }
+fn is_tally(sent: &[Msg], quorums: Quorums, message: Msg, value: u16) -> bool
+    ensures { result ≡ is_tally sent.now quorums value message }
 {
     match message {
         Msg::Accepted(_, ballot, voted) => {
-            voted == value && is_accept_quorum(count, count_voted(sent, count, ballot, value))
+            let count = usize::from(quorums.nodes());
+            voted == value && is_accept_quorum(quorums, count_voted(sent, count, ballot, value))
         }
         _ => false,
     }

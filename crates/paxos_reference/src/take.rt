@@ -1,4 +1,4 @@
-ghost use Rattle.std.specs.Prelude.{◌≡◌, OnErr, OnOk, length};
+ghost use Rattle.std.specs.Prelude.{◌≡◌, OnErr, OnOk};
 ghost use Rattle.paxos_core_world.specs.Step.{Accepts, Allowed, Learns, Offers, Promises, Proposes, Starts, after};
 ghost use Rattle.paxos_reference.specs.Listed.{label_of, world_of};
 
@@ -12,10 +12,10 @@ use std::alloc::AllocError;
 impl World {
     /// Takes the step, which is allowed in this world.
     pub fn take(&mut self, label: &Label) -> Result<(), AllocError>
-        requires { Allowed (length self.old.nodes.items) (world_of self.old) (label_of label.now) }
+        requires { Allowed self.old.quorums (world_of self.old) (label_of label.now) }
         ensures ok { OnOk result (world_of self.new ≡ after (world_of self.old) (label_of label.now)) }
         ensures err { OnErr result (world_of self.new ≡ world_of self.old) }
-        ensures count { length self.new.nodes.items ≡ length self.old.nodes.items }
+        ensures quorums { self.new.quorums ≡ self.old.quorums }
     {
         match *label {
             Label::Offers(node) => {
@@ -32,9 +32,9 @@ impl World {
     }
 
     fn offer(&mut self, node: u8)
-        requires { Allowed (length self.old.nodes.items) (world_of self.old) (Offers node) }
+        requires { Allowed self.old.quorums (world_of self.old) (Offers node) }
         ensures world { world_of self.new ≡ after (world_of self.old) (Offers node) }
-        ensures count { length self.new.nodes.items ≡ length self.old.nodes.items }
+        ensures quorums { self.new.quorums ≡ self.old.quorums }
     {
         let node = usize::from(node);
         let part = self.nodes[node];
@@ -42,10 +42,10 @@ impl World {
     }
 
     fn start(&mut self, node: u8, ballot: u16) -> Result<(), AllocError>
-        requires { Allowed (length self.old.nodes.items) (world_of self.old) (Starts node ballot) }
+        requires { Allowed self.old.quorums (world_of self.old) (Starts node ballot) }
         ensures ok { OnOk result (world_of self.new ≡ after (world_of self.old) (Starts node ballot)) }
         ensures err { OnErr result (world_of self.new ≡ world_of self.old) }
-        ensures count { length self.new.nodes.items ≡ length self.old.nodes.items }
+        ensures quorums { self.new.quorums ≡ self.old.quorums }
     {
         let node = usize::from(node);
         let part = self.nodes[node];
@@ -59,10 +59,10 @@ impl World {
     }
 
     fn promise(&mut self, node: u8, ballot: u16) -> Result<(), AllocError>
-        requires { Allowed (length self.old.nodes.items) (world_of self.old) (Promises node ballot) }
+        requires { Allowed self.old.quorums (world_of self.old) (Promises node ballot) }
         ensures ok { OnOk result (world_of self.new ≡ after (world_of self.old) (Promises node ballot)) }
         ensures err { OnErr result (world_of self.new ≡ world_of self.old) }
-        ensures count { length self.new.nodes.items ≡ length self.old.nodes.items }
+        ensures quorums { self.new.quorums ≡ self.old.quorums }
     {
         let place = usize::from(node);
         let part = self.nodes[place];
@@ -72,19 +72,19 @@ impl World {
     }
 
     fn propose(&mut self, ballot: u16, value: u16) -> Result<(), AllocError>
-        requires { Allowed (length self.old.nodes.items) (world_of self.old) (Proposes ballot value) }
+        requires { Allowed self.old.quorums (world_of self.old) (Proposes ballot value) }
         ensures ok { OnOk result (world_of self.new ≡ after (world_of self.old) (Proposes ballot value)) }
         ensures err { OnErr result (world_of self.new ≡ world_of self.old) }
-        ensures count { length self.new.nodes.items ≡ length self.old.nodes.items }
+        ensures quorums { self.new.quorums ≡ self.old.quorums }
     {
         push_front(&mut self.sent, Msg::Propose(ballot, value))
     }
 
     fn accept(&mut self, node: u8, vote: Vote) -> Result<(), AllocError>
-        requires { Allowed (length self.old.nodes.items) (world_of self.old) (Accepts node vote.ballot vote.value) }
+        requires { Allowed self.old.quorums (world_of self.old) (Accepts node vote.ballot vote.value) }
         ensures ok { OnOk result (world_of self.new ≡ after (world_of self.old) (Accepts node vote.ballot vote.value)) }
         ensures err { OnErr result (world_of self.new ≡ world_of self.old) }
-        ensures count { length self.new.nodes.items ≡ length self.old.nodes.items }
+        ensures quorums { self.new.quorums ≡ self.old.quorums }
     {
         let place = usize::from(node);
         let part = self.nodes[place];

@@ -17,5 +17,5 @@ pub invariant_of-self-else-quorum : goal.invariant_of-self-else-quorum
 invariant_of-self-else-quorum c = (
   c.self.invariant.0,
   c.self.invariant.1,
-  learns_no_more c.self.inside.count c.self.inside.votes c.self.inside.learned c.from-2.result c.args.vote c.self.invariant.2 (search rules),
+  learns_no_more c.self.inside.quorums c.self.inside.votes c.self.inside.learned c.from-2.result c.args.vote c.self.invariant.2 (search rules),
 )

@@ -8,6 +8,7 @@ pub invariant_of-result : goal.invariant_of-result
 invariant_of-result c =
     let parts = c.args.parts.now in
     record {
+      sized = search rules;
       begun_from_one = search rules;
       proposed_from_one = λ b v h. absurd (none_shown (length parts) (nodes_of parts) b v (subst (λ l. Has (Propose b v) l) c.in_ok-shown.ensures h));
     }

@@ -1,0 +1,5 @@
+pub mod OthersLemmas
+pub mod SameLemmas
+pub mod CrashLemmas
+pub mod JournalLemmas
+pub mod FarmLemmas
