@@ -9,47 +9,48 @@ use Rattle.durable_model.specs.Writes.{Torn, overwritten, overwritten_within, to
 use Rattle.durable_model.specs.Honest.{Only}
 use Rattle.acceptor_log_form.specs.declared.header.Header.{Header}
 use Rattle.acceptor_log_form.specs.declared.record.Record.{Record}
-use Rattle.acceptor_log_form.specs.Text.{header_text, block_text, blocks, journal_text, Fits, StandsFor}
-use Rattle.acceptor_log_form.specs.Lists.{Between}
+use Rattle.acceptor_log_form.specs.Text.{header_text, header_size, block_text, blocks, journal_text, Fits, StandsAs}
+use Rattle.acceptor_log_form.specs.Lists.{BetweenAs}
 use Rattle.acceptor_log_form.proofs.Blocks.{blocks-push_rest}
-use Rattle.acceptor_log_form.proofs.Texts.{before_gate, stands-pieces, pieces-stand, length-header_stands, length-header_text, text-stands}
+use Rattle.acceptor_log_form.proofs.Headers.{length-header_text}
+use Rattle.acceptor_log_form.proofs.Texts.{before_gate, stands-pieces, pieces-stand, length-head_stands, text-stands}
 use Rattle.acceptor_log.specs.Rest.{MayTear, IsBlock, with_record}
 
-module _ (h : Header) (rs : List Record) (bytes : List ℕ) (gate : ℕ) (stands : StandsFor h rs bytes) (at_gate : gate ≡ 38 + length (blocks rs)) where
+module _ (size : ℕ) (head : List ℕ) (rs : List Record) (bytes : List ℕ) (gate : ℕ) (stands : StandsAs size head rs bytes) (at_gate : gate ≡ size + length (blocks rs)) where
   abbrev Front : List ℕ
-  Front = before_gate h rs
+  Front = before_gate head rs
 
-  long : length (header_text h) ≡ 38
-  long = length-header_stands h rs bytes stands
+  long : length head ≡ size
+  long = length-head_stands size head rs bytes stands
 
-  size : length Front ≡ gate
-  size = omega (arith, length-append (header_text h) (blocks rs), long, at_gate)
+  front_size : length Front ≡ gate
+  front_size = omega (arith, length-append head (blocks rs), long, at_gate)
 
   whole : bytes ≡ Front ++ stands.records.gate ∷ stands.records.behind
-  whole = pieces-stand h rs bytes stands
+  whole = pieces-stand size head rs bytes stands
 
   -- the gate stands within the bytes
   pub gate-within : gate < length bytes
-  gate-within = omega (arith, size, ap length whole, length-append Front (stands.records.gate ∷ stands.records.behind))
+  gate-within = omega (arith, front_size, ap length whole, length-append Front (stands.records.gate ∷ stands.records.behind))
 
   through_gate : bytes ≡ (Front ++ stands.records.gate ∷ []) ++ stands.records.behind
   through_gate = whole ∙ sym (append_assoc Front (stands.records.gate ∷ []) stands.records.behind)
 
   size_through : length (Front ++ stands.records.gate ∷ []) ≡ gate + 1
-  size_through = omega (arith, size, length-append Front (stands.records.gate ∷ []))
+  size_through = omega (arith, front_size, length-append Front (stands.records.gate ∷ []))
 
   front_through : take (gate + 1) bytes ≡ Front ++ stands.records.gate ∷ []
   front_through = ap (take (gate + 1)) through_gate ∙ take_at (Front ++ stands.records.gate ∷ []) stands.records.behind (gate + 1) size_through
 
   -- what keeps the bytes up to the closed gate stands for the same records
-  pub stands-behind_gate : (c : List ℕ) → take (gate + 1) c ≡ take (gate + 1) bytes → StandsFor h rs c
+  pub stands-behind_gate : (c : List ℕ) → take (gate + 1) c ≡ take (gate + 1) bytes → StandsAs size head rs c
   stands-behind_gate c same =
       let front : take (gate + 1) c ≡ Front ++ stands.records.gate ∷ [] = same ∙ front_through in
-      stands-pieces h rs stands.records.gate (drop (gate + 1) c) c long stands.records.fits stands.records.closed
+      stands-pieces size head rs stands.records.gate (drop (gate + 1) c) c long stands.records.fits stands.records.closed
       (sym (take-append-drop (gate + 1) c) ∙ ap (λ (l : List ℕ). l ++ drop (gate + 1) c) front ∙ append_assoc Front (stands.records.gate ∷ []) (drop (gate + 1) c))
 
   -- while the block is written
-  pub stands-torn : (n : ℕ) (c : List ℕ) → Torn (gate + 1) n bytes c → StandsFor h rs c
+  pub stands-torn : (n : ℕ) (c : List ℕ) → Torn (gate + 1) n bytes c → StandsAs size head rs c
   stands-torn n c torn = stands-behind_gate c (torn_before (omega (arith, gate-within)) torn)
 
   module _ (r : Record) (block : List ℕ) (is_block : IsBlock r block) where
@@ -74,17 +75,17 @@ module _ (h : Header) (rs : List Record) (bytes : List ℕ) (gate : ℕ) (stands
         regrouped a g b d = simp append_assoc
 
     -- an open gate makes it one record more
-    stands-open : (c : List ℕ) → c ≡ Staged 1 → StandsFor h (rs ++ r ∷ []) c
+    stands-open : (c : List ℕ) → c ≡ Staged 1 → StandsAs size head (rs ++ r ∷ []) c
     stands-open c is =
-        stands-pieces h (rs ++ r ∷ []) 0 Rest c long fit_all (omega arith)
-        (is ∙ append_assoc (header_text h) (blocks rs) (1 ∷ (block_text r ++ 0 ∷ Rest))
-        ∙ ap (λ (l : List ℕ). header_text h ++ l) (sym (blocks-push_rest rs r (0 ∷ Rest)))
-        ∙ sym (append_assoc (header_text h) (blocks (rs ++ r ∷ [])) (0 ∷ Rest)))
+        stands-pieces size head (rs ++ r ∷ []) 0 Rest c long fit_all (omega arith)
+        (is ∙ append_assoc head (blocks rs) (1 ∷ (block_text r ++ 0 ∷ Rest))
+        ∙ ap (λ (l : List ℕ). head ++ l) (sym (blocks-push_rest rs r (0 ∷ Rest)))
+        ∙ sym (append_assoc head (blocks (rs ++ r ∷ [])) (0 ∷ Rest)))
 
-    stands-shut : (g : ℕ) (c : List ℕ) → g ≢ 1 → c ≡ Staged g → StandsFor h rs c
-    stands-shut g c shut is = stands-pieces h rs g (block_text r ++ 0 ∷ Rest) c long stands.records.fits shut is
+    stands-shut : (g : ℕ) (c : List ℕ) → g ≢ 1 → c ≡ Staged g → StandsAs size head rs c
+    stands-shut g c shut is = stands-pieces size head rs g (block_text r ++ 0 ∷ Rest) c long stands.records.fits shut is
 
-    pub before_or_after : (g : ℕ) (c : List ℕ) → c ≡ Staged g → Between h rs (rs ++ r ∷ []) c
+    pub before_or_after : (g : ℕ) (c : List ℕ) → c ≡ Staged g → BetweenAs size head rs (rs ++ r ∷ []) c
     before_or_after g c is =
         elim (cases_eq g 1) [
           | inl one ↦ record {
@@ -102,15 +103,15 @@ module _ (h : Header) (rs : List Record) (bytes : List ℕ) (gate : ℕ) (stands
         ]
 
     length-staged : (g : ℕ) → gate < length (Staged g)
-    length-staged g = omega (arith, size, length-append Front (g ∷ (block_text r ++ 0 ∷ Rest)))
+    length-staged g = omega (arith, front_size, length-append Front (g ∷ (block_text r ++ 0 ∷ Rest)))
 
     -- while the gate is opened
-    pub between-torn : (written c : List ℕ) → written ≡ overwritten bytes (gate + 1) block → Torn gate 1 written c → Between h rs (rs ++ r ∷ []) c
+    pub between-torn : (written c : List ℕ) → written ≡ overwritten bytes (gate + 1) block → Torn gate 1 written c → BetweenAs size head rs (rs ++ r ∷ []) c
     between-torn written c is torn =
         let g = stands.records.gate in
         let was : written ≡ Staged g = is ∙ staged in
         let longer : gate < length written = omega (arith, ap length was, length-staged g) in
-        let front : take gate c ≡ Front = torn_before (omega (arith, longer)) torn ∙ ap (take gate) was ∙ take_at Front (g ∷ (block_text r ++ 0 ∷ Rest)) gate size in
+        let front : take gate c ≡ Front = torn_before (omega (arith, longer)) torn ∙ ap (take gate) was ∙ take_at Front (g ∷ (block_text r ++ 0 ∷ Rest)) gate front_size in
         let behind : drop (gate + 1) c ≡ block_text r ++ 0 ∷ Rest =
         torn.after (omega arith) ∙ ap (drop (gate + 1)) (was ∙ sym (append_assoc Front (g ∷ []) (block_text r ++ 0 ∷ Rest)))
         ∙ drop_at (Front ++ g ∷ []) (block_text r ++ 0 ∷ Rest) (gate + 1) size_through in
@@ -124,7 +125,7 @@ module _ (h : Header) (rs : List Record) (bytes : List ℕ) (gate : ℕ) (stands
         let g = stands.records.gate in
         let was : written ≡ Staged g = is ∙ staged in
         let longer : gate < length written = omega (arith, ap length was, length-staged g) in
-        let front : take gate written ≡ Front = ap (take gate) was ∙ take_at Front (g ∷ (block_text r ++ 0 ∷ Rest)) gate size in
+        let front : take gate written ≡ Front = ap (take gate) was ∙ take_at Front (g ∷ (block_text r ++ 0 ∷ Rest)) gate front_size in
         let behind : drop (gate + 1) written ≡ block_text r ++ 0 ∷ Rest =
         ap (drop (gate + 1)) (was ∙ sym (append_assoc Front (g ∷ []) (block_text r ++ 0 ∷ Rest)))
         ∙ drop_at (Front ++ g ∷ []) (block_text r ++ 0 ∷ Rest) (gate + 1) size_through in
@@ -133,26 +134,26 @@ module _ (h : Header) (rs : List Record) (bytes : List ℕ) (gate : ℕ) (stands
         ∙ ap (λ (l : List ℕ). Front ++ (1 ∷ []) ++ l) behind
         ∙ append_assoc Front (1 ∷ []) (block_text r ++ 0 ∷ Rest)
 
-    pub stands-written : (written c : List ℕ) → written ≡ overwritten bytes (gate + 1) block → c ≡ overwritten written gate (1 ∷ []) → StandsFor h (rs ++ r ∷ []) c
+    pub stands-written : (written c : List ℕ) → written ≡ overwritten bytes (gate + 1) block → c ≡ overwritten written gate (1 ∷ []) → StandsAs size head (rs ++ r ∷ []) c
     stands-written written c is opened = stands-open c (opened_is written c is opened)
 
     -- where the next gate stands
-    pub next-gate : gate + length block ≡ 38 + length (blocks (rs ++ r ∷ []))
+    pub next-gate : gate + length block ≡ size + length (blocks (rs ++ r ∷ []))
     next-gate =
         let pushed = ap length (blocks-push_rest rs r []) in
         omega (arith, at_gate, ap length is_block.text, length-append (block_text r) (0 ∷ []), pushed, ap length (append-nil (blocks (rs ++ r ∷ []))), length-append (blocks rs) (1 ∷ (block_text r ++ [])), ap length (append-nil (block_text r)))
 
     -- a crash within the first write
-    pub between-first : (may_leave : List ℕ → Type 0) → Only bytes may_leave → (n : ℕ) (c : List ℕ) → MayTear may_leave (gate + 1) n c → Between h rs (rs ++ r ∷ []) c
+    pub between-first : (may_leave : List ℕ → Type 0) → Only bytes may_leave → (n : ℕ) (c : List ℕ) → MayTear may_leave (gate + 1) n c → BetweenAs size head rs (rs ++ r ∷ []) c
     between-first may_leave only n c left =
-        let kept : StandsFor h rs c = ⊎_elim
-        (λ was. subst (λ (l : List ℕ). StandsFor h rs l) (sym (only c was)) stands)
+        let kept : StandsAs size head rs c = ⊎_elim
+        (λ was. subst (λ (l : List ℕ). StandsAs size head rs l) (sym (only c was)) stands)
         (λ tears. stands-torn n c (subst (λ (l : List ℕ). Torn (gate + 1) n l c) (only tears.0 tears.1) tears.2))
         left in
         record { records = rs; stands = kept; all_of_low = ([], sym (append-nil rs)); none_else = (r ∷ [], refl) }
 
     -- a crash within the second
-    pub between-second : (written : List ℕ) (may_leave : List ℕ → Type 0) → written ≡ overwritten bytes (gate + 1) block → Only written may_leave → (c : List ℕ) → MayTear may_leave gate 1 c → Between h rs (rs ++ r ∷ []) c
+    pub between-second : (written : List ℕ) (may_leave : List ℕ → Type 0) → written ≡ overwritten bytes (gate + 1) block → Only written may_leave → (c : List ℕ) → MayTear may_leave gate 1 c → BetweenAs size head rs (rs ++ r ∷ []) c
     between-second written may_leave is only c left =
         ⊎_elim
         (λ was. before_or_after stands.records.gate c (only c was ∙ is ∙ staged))
@@ -160,12 +161,12 @@ module _ (h : Header) (rs : List Record) (bytes : List ℕ) (gate : ℕ) (stands
         left
 
 -- a journal of no records, over what was there
-pub stands-created : (h : Header) (old bytes new : List ℕ) → length (header_text h) ≡ 38 → bytes ≡ header_text h ++ 0 ∷ [] → new ≡ overwritten old 0 bytes → StandsFor h [] new
-stands-created h old bytes new long are is =
-    stands-pieces h [] 0 (drop (0 + length bytes) old) new long (All-nil Fits) (omega arith)
+pub stands-created : (size : ℕ) (head old bytes new : List ℕ) → length head ≡ size → bytes ≡ head ++ 0 ∷ [] → new ≡ overwritten old 0 bytes → StandsAs size head [] new
+stands-created size head old bytes new long are is =
+    stands-pieces size head [] 0 (drop (0 + length bytes) old) new long (All-nil Fits) (omega arith)
     (is ∙ overwritten_within old 0 bytes (omega arith) ∙ ap (λ (l : List ℕ). l ++ drop (0 + length bytes) old) are
-    ∙ append_assoc (header_text h) (0 ∷ []) (drop (0 + length bytes) old)
-    ∙ ap (λ (l : List ℕ). l ++ 0 ∷ drop (0 + length bytes) old) (sym (append-nil (header_text h))))
+    ∙ append_assoc head (0 ∷ []) (drop (0 + length bytes) old)
+    ∙ ap (λ (l : List ℕ). l ++ 0 ∷ drop (0 + length bytes) old) (sym (append-nil head)))
 
 -- on an empty disk
 pub text-created : (h : Header) → overwritten [] 0 (journal_text h []) ≡ journal_text h []
@@ -176,18 +177,18 @@ text-created h =
     ∙ append-nil text
 
 -- where nothing stands behind the closed gate, one record more makes the text of the list with it
-pub text-grown : (h : Header) (rs : List Record) (r : Record) → length h.digest ≡ 32 → All Fits rs → Fits r → with_record (journal_text h rs) (38 + length (blocks rs)) r ≡ journal_text h (rs ++ r ∷ [])
+pub text-grown : (h : Header) (rs : List Record) (r : Record) → length h.digest ≡ 32 → All Fits rs → Fits r → with_record (journal_text h rs) (header_size h + length (blocks rs)) r ≡ journal_text h (rs ++ r ∷ [])
 text-grown h rs r long fit fits =
     let text = journal_text h rs in
-    let gate = 38 + length (blocks rs) in
+    let gate = header_size h + length (blocks rs) in
     let block = block_text r ++ 0 ∷ [] in
     let is_block : IsBlock r block = record { fits = fits; text = refl } in
     let written = overwritten text (gate + 1) block in
-    let staged = opened_is h rs text gate (text-stands h rs long fit) refl r block is_block written (overwritten written gate (1 ∷ [])) refl refl in
+    let staged = opened_is (header_size h) (header_text h) rs text gate (text-stands h rs long fit) refl r block is_block written (overwritten written gate (1 ∷ [])) refl refl in
     let none : drop (gate + 1 + length block) text ≡ [] =
     drop_all (gate + 1 + length block) text (omega (arith, length-header_text h long, length-append (header_text h) (blocks rs ++ 0 ∷ []), length-append (blocks rs) (0 ∷ []))) in
     staged
-    ∙ ap (λ (l : List ℕ). before_gate h rs ++ 1 ∷ (block_text r ++ 0 ∷ l)) none
+    ∙ ap (λ (l : List ℕ). before_gate (header_text h) rs ++ 1 ∷ (block_text r ++ 0 ∷ l)) none
     ∙ append_assoc (header_text h) (blocks rs) (1 ∷ (block_text r ++ 0 ∷ []))
     ∙ ap (λ (l : List ℕ). header_text h ++ l) (sym (blocks-push_rest rs r (0 ∷ [])))
 

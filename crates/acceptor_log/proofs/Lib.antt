@@ -1,3 +1,4 @@
 pub mod Crash
+pub mod ReadBlocks
 pub mod Runs
 pub mod Ready

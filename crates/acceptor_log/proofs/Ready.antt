@@ -12,15 +12,15 @@ use Rattle.acceptor_log_form.proofs.Texts.{listed-stands}
 use Rattle.acceptor_log.specs.Rest.{Rests}
 
 -- the first so many of the records that bytes stand for
-abbrev pub first_of : ℕ → List ℕ → List Record
-first_of count bytes = take count (unwrap_or (listed bytes) [])
+abbrev pub first_of : Header → ℕ → List ℕ → List Record
+first_of h count bytes = take count (unwrap_or (listed h bytes) [])
 
-pub first_of-stands : (h : Header) (xs ys : List Record) (bytes : List ℕ) (count : ℕ) → StandsFor h ys bytes → Begins xs ys → count ≡ length xs → first_of count bytes ≡ xs
+pub first_of-stands : (h : Header) (xs ys : List Record) (bytes : List ℕ) (count : ℕ) → StandsFor h ys bytes → Begins xs ys → count ≡ length xs → first_of h count bytes ≡ xs
 first_of-stands h xs ys bytes count stands begins counted =
     ap (λ o. take count (unwrap_or o [])) (listed-stands h ys bytes stands) ∙ ap (take count) begins.1 ∙ take_at xs begins.0 count (sym counted)
 
 -- where the bytes are between xs and more, they are the first so many
-pub first_of-between : (h : Header) (xs more : List Record) (bytes : List ℕ) (count : ℕ) → Between h xs more bytes → count ≡ length xs → first_of count bytes ≡ xs
+pub first_of-between : (h : Header) (xs more : List Record) (bytes : List ℕ) (count : ℕ) → Between h xs more bytes → count ≡ length xs → first_of h count bytes ≡ xs
 first_of-between h xs more bytes count between counted = first_of-stands h xs between.records bytes count between.stands between.all_of_low counted
 
 module _ {D : Type 0} (is_honest : D → Type 0) (seen : D → List ℕ) (may_leave : D → List ℕ → Type 0) (h : Header) where
@@ -28,13 +28,13 @@ module _ {D : Type 0} (is_honest : D → Type 0) (seen : D → List ℕ) (may_le
   RestsOn rs gate disk = Rests is_honest seen may_leave h rs gate disk
 
   -- a disk that rests on so many records: they are what is acknowledged
-  pub first_of-rests : (rs : List Record) (gate count : ℕ) (disk : D) → RestsOn rs gate disk → count ≡ length rs → first_of count (seen disk) ≡ rs
+  pub first_of-rests : (rs : List Record) (gate count : ℕ) (disk : D) → RestsOn rs gate disk → count ≡ length rs → first_of h count (seen disk) ≡ rs
   first_of-rests rs gate count disk rests counted = first_of-stands h rs rs (seen disk) count rests.stands ([], sym (append-nil rs)) counted
 
-  pub rests-first_of : (rs : List Record) (gate count : ℕ) (disk : D) → RestsOn rs gate disk → count ≡ length rs → RestsOn (first_of count (seen disk)) gate disk
+  pub rests-first_of : (rs : List Record) (gate count : ℕ) (disk : D) → RestsOn rs gate disk → count ≡ length rs → RestsOn (first_of h count (seen disk)) gate disk
   rests-first_of rs gate count disk rests counted = subst (λ l. RestsOn l gate disk) (sym (first_of-rests rs gate count disk rests counted)) rests
 
-  pub counted-first_of : (rs : List Record) (gate count : ℕ) (disk : D) → RestsOn rs gate disk → count ≡ length rs → count ≡ length (first_of count (seen disk))
+  pub counted-first_of : (rs : List Record) (gate count : ℕ) (disk : D) → RestsOn rs gate disk → count ≡ length rs → count ≡ length (first_of h count (seen disk))
   counted-first_of rs gate count disk rests counted = counted ∙ ap length (sym (first_of-rests rs gate count disk rests counted))
 
   -- a call that changed nothing leaves it at rest

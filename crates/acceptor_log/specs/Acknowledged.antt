@@ -12,7 +12,7 @@ use Rattle.acceptor_log.specs.Rest.{Rests}
 -- The records that were listed when the journal was opened and those acknowledged since: no field, but the first of
 -- those that the bytes stand for which a read of the log's disk gives.
 abbrev pub acknowledged : {D : Type 0} → (D → List ℕ) → Log D → List Record
-acknowledged seen log = take log.count (unwrap_or (listed (seen log.disk)) [])
+acknowledged seen log = take log.count (unwrap_or (listed log.header (seen log.disk)) [])
 
 -- the log may go on: its disk rests on what it has acknowledged
 pub record IsReady {D : Type 0} (is_honest : D → Type 0) (seen : D → List ℕ) (may_leave : D → List ℕ → Type 0)

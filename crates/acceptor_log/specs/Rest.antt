@@ -4,7 +4,7 @@ use Rattle.durable_model.specs.Writes.{overwritten, Torn}
 use Rattle.durable_model.specs.Honest.{Only}
 use Rattle.acceptor_log_form.specs.declared.header.Header.{Header}
 use Rattle.acceptor_log_form.specs.declared.record.Record.{Record}
-use Rattle.acceptor_log_form.specs.Text.{block_text, blocks, Fits, StandsFor}
+use Rattle.acceptor_log_form.specs.Text.{header_size, block_text, blocks, Fits, StandsFor}
 
 -- what a crash leaves while so many bytes are written from `at` on: what it left before, torn there or not
 abbrev pub MayTear : (List ℕ → Type 0) → ℕ → ℕ → List ℕ → Type 0
@@ -16,7 +16,7 @@ pub record Rests {D : Type 0} (is_honest : D → Type 0) (seen : D → List ℕ)
     (h : Header) (rs : List Record) (gate : ℕ) (disk : D) : Type 0 where
   pub honest : is_honest disk
   pub stands : StandsFor h rs (seen disk)
-  pub at_gate : gate ≡ 38 + length (blocks rs)
+  pub at_gate : gate ≡ header_size h + length (blocks rs)
   pub durable : Only (seen disk) (may_leave disk)
 
 -- what is written for a record behind a gate: its block, and a next gate, closed

@@ -8,7 +8,7 @@ ghost use Rattle.durable_model.specs.RealFile.{seen_by_file, file_moment, file_l
 ghost use Rattle.acceptor_log_form.specs.declared.header.Header.{Header};
 ghost use Rattle.acceptor_log_form.specs.declared.record.Record.{Record};
 ghost use Rattle.acceptor_log_form.specs.Lists.{Between};
-ghost use Rattle.acceptor_log_form.specs.Text.{blocks, journal_text, Fits, StandsFor};
+ghost use Rattle.acceptor_log_form.specs.Text.{header_size, blocks, journal_text, Fits, StandsFor};
 ghost use Rattle.acceptor_log.specs.declared.log.Log.{Log};
 ghost use Rattle.acceptor_log.specs.Acknowledged.{acknowledged, IsSound};
 ghost use Rattle.acceptor_log.specs.Rest.{with_record};
@@ -42,5 +42,5 @@ pub fn behind_call<D: Disk>()
 pub fn text_grows()
     ensures made { (h : Header) → overwritten [] 0 (journal_text h []) ≡ journal_text h [] }
     ensures grown { (h : Header) (rs : List Record) (r : Record) → length h.digest ≡ 32 → All Fits rs → Fits r
-        → with_record (journal_text h rs) (38 + length (blocks rs)) r ≡ journal_text h (rs ++ r ∷ []) }
+        → with_record (journal_text h rs) (header_size h + length (blocks rs)) r ≡ journal_text h (rs ++ r ∷ []) }
 {}

@@ -10,7 +10,8 @@ ghost use Rattle.acceptor_log.specs.Rest.{IsBlock, with_record};
 
 use crate::device::put;
 use crate::opening::{lay, load};
-use acceptor_log_form::{Header, Listed, LogError, Record, record_bytes};
+use crate::reading::Listed;
+use acceptor_log_form::{Header, LogError, Record, record_bytes};
 use durable_model::{Disk, DiskError};
 use std::alloc::Global;
 
@@ -64,7 +65,7 @@ impl<D: Disk> Log<D> {
                 alloc,
                 disk,
                 header: *header,
-                gate: 38,
+                gate: header.size() as u64,
                 count: 0,
                 going: true,
             }),

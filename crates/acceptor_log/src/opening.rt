@@ -4,13 +4,14 @@ ghost use Rattle.std.specs.Prelude.{◌≡◌, ◌≢◌, ◌≤◌, ◌+◌, �
 ghost use Rattle.durable_model.specs.Honest.{Only, Unchanged, Risen};
 ghost use Rattle.durable_model.specs.Moments.{LeavesOnly};
 ghost use Rattle.durable_model.specs.Writes.{overwritten};
-ghost use Rattle.acceptor_log_form.specs.Text.{blocks, journal_text, StandsFor};
+ghost use Rattle.acceptor_log_form.specs.Text.{header_size, blocks, journal_text, StandsFor};
 ghost use Rattle.acceptor_log_form.specs.Fault.{HasFault};
 ghost use Rattle.acceptor_log.specs.Rest.{Rests};
 ghost use Rattle.acceptor_log.specs.Faults.{fault_of};
 
 use crate::device::write_durably;
-use acceptor_log_form::{Header, Listed, LogError, header_bytes, read};
+use crate::reading::{Listed, read};
+use acceptor_log_form::{Header, LogError, header_bytes};
 use durable_model::{Disk, DiskError};
 use std::alloc::Global;
 
@@ -18,7 +19,7 @@ use std::alloc::Global;
 pub fn lay<D: Disk>(alloc: Global, header: &Header, disk: &mut D) -> Result<(), LogError>
     ensures honest { D.is_honest disk.new ↔ D.is_honest disk.old }
     ensures rests { D.is_honest disk.old
-        → OnOk result (Rests D.is_honest D.seen D.may_leave header.now [] 38 disk.new) }
+        → OnOk result (Rests D.is_honest D.seen D.may_leave header.now [] (header_size header.now) disk.new) }
     ensures bytes { D.is_honest disk.old
         → OnOk result (D.seen disk.new ≡ overwritten (D.seen disk.old) 0 (journal_text header.now [])) }
     ensures unwritten { D.is_honest disk.old

@@ -1,5 +1,5 @@
 -- Blocks of records, one behind the other, and what they are read as.
-use Rattle.std.proofs.Common.{◌≡◌, ◌≢◌, ℕ, zero, suc, cond, List, [], ◌∷◌, ◌++◌, drop, Some, None, refl, sym, ap, ◌∙◌}
+use Rattle.std.proofs.Common.{◌≡◌, ◌≢◌, ℕ, zero, suc, cond, List, [], ◌∷◌, ◌++◌, drop, Some, refl, sym, ap, ◌∙◌}
 use Rattle.std.proofs.Common.{append_assoc, append-nil}
 use Rattle.std.specs.List.{AllByRecursion}
 use Rattle.std.specs.Prelude.{All}
@@ -34,10 +34,6 @@ records_behind-block r rest fits =
     records_behind-drop (block_size bytes) bytes ∙ ap (λ (l : List ℕ). records_behind 0 l) (drop_at (block_text r) rest (block_size bytes) (sym (block_size-text r rest fits))) in
     ap (λ o. in_front o (records_behind (block_size bytes) bytes)) (first_record-text r rest fits) ∙ ap (λ o. in_front (Some r) o) behind
 
--- behind an open gate there is no list where there is no record
-pub no_first_record : (bytes : List ℕ) → first_record bytes ≡ None → records_behind 0 (1 ∷ bytes) ≡ None
-no_first_record bytes none = ap (λ o. in_front o (records_behind (block_size bytes) bytes)) none
-
 -- a closed gate ends the list
 pub closed_gate : (gate : ℕ) (bytes : List ℕ) → gate ≢ 1 → records_behind 0 (gate ∷ bytes) ≡ Some []
 closed_gate gate bytes closed =
@@ -50,20 +46,9 @@ some_behind (r ∷ rs) ys rest fit is =
     ∙ records_behind-block r (blocks rs ++ rest) fit.0
     ∙ ap (λ o. in_front (Some r) o) (some_behind rs ys rest fit.1 is)
 
-none_behind : (rs : List Record) (rest : List ℕ) → AllByRecursion Fits rs → records_behind 0 rest ≡ None → records_behind 0 (blocks rs ++ rest) ≡ None
-none_behind [] rest fit none = none
-none_behind (r ∷ rs) rest fit none =
-    ap (λ (l : List ℕ). records_behind 0 (1 ∷ l)) (append_assoc (block_text r) (blocks rs) rest)
-    ∙ records_behind-block r (blocks rs ++ rest) fit.0
-    ∙ ap (λ o. in_front (Some r) o) (none_behind rs rest fit.1 none)
-
 -- blocks are their records, and then what stands behind them
 pub records_behind-blocks : (rs ys : List Record) (rest : List ℕ) → All Fits rs → records_behind 0 rest ≡ Some ys → records_behind 0 (blocks rs ++ rest) ≡ Some (rs ++ ys)
 records_behind-blocks rs ys rest fit is = some_behind rs ys rest (recursion_from_All Fits rs fit) is
-
--- where that is no list they are none either
-pub records_behind-blocks_none : (rs : List Record) (rest : List ℕ) → All Fits rs → records_behind 0 rest ≡ None → records_behind 0 (blocks rs ++ rest) ≡ None
-records_behind-blocks_none rs rest fit none = none_behind rs rest (recursion_from_All Fits rs fit) none
 
 -- what bytes stand for is what they are read as
 pub records_behind-stands : (rs : List Record) (bytes : List ℕ) → StandsBehind rs bytes → records_behind 0 bytes ≡ Some rs
@@ -71,26 +56,3 @@ records_behind-stands rs bytes stands =
     ap (λ (l : List ℕ). records_behind 0 l) stands.text
     ∙ records_behind-blocks rs [] (stands.gate ∷ stands.behind) stands.fits (closed_gate stands.gate stands.behind stands.closed)
     ∙ ap (λ (l : List Record). Some l) (append-nil rs)
-
--- the bytes behind whole records, at an open gate with no record behind it
-pub records_behind-cut : (bytes rest behind : List ℕ) (rs : List Record) → bytes ≡ blocks rs ++ rest → All Fits rs → rest ≡ 1 ∷ behind → first_record behind ≡ None → records_behind 0 bytes ≡ None
-records_behind-cut bytes rest behind rs read fit opened none =
-    ap (λ (l : List ℕ). records_behind 0 l) read
-    ∙ records_behind-blocks_none rs rest fit (ap (λ (l : List ℕ). records_behind 0 l) opened ∙ no_first_record behind none)
-
--- and with no gate
-pub records_behind-no_gate : (bytes rest : List ℕ) (rs : List Record) → bytes ≡ blocks rs ++ rest → All Fits rs → rest ≡ [] → records_behind 0 bytes ≡ None
-records_behind-no_gate bytes rest rs read fit nothing =
-    ap (λ (l : List ℕ). records_behind 0 l) read
-    ∙ records_behind-blocks_none rs rest fit (ap (λ (l : List ℕ). records_behind 0 l) nothing)
-
--- at a closed gate the bytes stand for the records
-pub stands_behind : (bytes rest : List ℕ) (rs : List Record) → bytes ≡ blocks rs ++ rest → All Fits rs → ((behind : List ℕ) → rest ≢ 1 ∷ behind) → rest ≢ [] → StandsBehind rs bytes
-stands_behind bytes [] rs read fit closed some = absurd (some refl)
-stands_behind bytes (gate ∷ behind) rs read fit closed some =
-    record { gate = gate; behind = behind; closed = λ is. closed behind (ap (λ x. x ∷ behind) is); fits = fit; text = read }
-
--- one more record was read
-pub one_more_read : (bytes rest behind after : List ℕ) (rs more : List Record) (r : Record) → bytes ≡ blocks rs ++ rest → rest ≡ 1 ∷ behind → behind ≡ block_text r ++ after → more ≡ rs ++ r ∷ [] → bytes ≡ blocks more ++ after
-one_more_read bytes rest behind after rs more r read opened text are =
-    read ∙ ap (λ (l : List ℕ). blocks rs ++ l) (opened ∙ ap (λ (l : List ℕ). 1 ∷ l) text) ∙ sym (blocks-push_rest rs r after) ∙ ap (λ l. blocks l ++ after) (sym are)

@@ -1,26 +1,14 @@
 -- A body is of one record, and a record has one body.
-use Rattle.std.proofs.Common.{◌≡◌, ℕ, zero, suc, ◌+◌, true, leb, ◌<◌, ◌^◌, cond, List, [], ◌∷◌, ◌++◌, length, get_or}
+use Rattle.std.proofs.Common.{◌≡◌, ℕ, ◌+◌, true, leb, cond, List, ◌++◌, length}
 use Rattle.std.proofs.Common.{take, Some, None, refl, sym, ap, ◌∙◌, arith}
-use Rattle.std.specs.Int.{w16, w32, from_be_bytes, to_be_bytes}
+use Rattle.std.specs.Int.{w32, from_be_bytes, to_be_bytes}
 use Rattle.std.proofs.lemmas.Bool.{le-leb}
 use Rattle.std.proofs.lemmas.List.{length-append, take_at}
-use Rattle.std.proofs.lemmas.Nat.{be_bytes_2, from_be_bytes-to_be_bytes_2, from_be_bytes-to_be_bytes_4}
+use Rattle.std.proofs.lemmas.Nat.{from_be_bytes-to_be_bytes_2, from_be_bytes-to_be_bytes_4}
 use Rattle.acceptor_log_form.specs.declared.record.Record.{Record}
 use Rattle.acceptor_log_form.specs.declared.record.Record.TheVariants.{Offered, Started, Proposed, Promised, Accepted}
 use Rattle.acceptor_log_form.specs.Text.{body_text, block_text, Fits, FitsWidths}
 use Rattle.acceptor_log_form.specs.Reading.{record_of, block_size, first_record}
-
--- two bytes are the text of the number that they are
-pub number-text : (a b : ℕ) → a < 256 → b < 256 → to_be_bytes w16 (from_be_bytes w16 (a ∷ b ∷ [])) ≡ a ∷ b ∷ []
-number-text a b below_a below_b = be_bytes_2 (a ∷ b ∷ []) _ refl are refl
-  where
-    are : (i : ℕ) → get_or (a ∷ b ∷ []) i 0 < 256
-    are zero = below_a
-    are (suc zero) = below_b
-    are (suc (suc i)) = omega arith
-
-pub number-width : (a b : ℕ) → a < 256 → b < 256 → from_be_bytes w16 (a ∷ b ∷ []) < 2 ^ 16
-number-width a b below_a below_b = omega (arith, below_a, below_b)
 
 pub record_of-text : (r : Record) → FitsWidths r → record_of (body_text r) ≡ Some r
 record_of-text (Offered room offer) fits = λ i. Some (Offered (from_be_bytes-to_be_bytes_2 room fits i) offer)

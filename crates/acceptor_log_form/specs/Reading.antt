@@ -3,8 +3,10 @@ use Rattle.std.specs.Prelude.{ℕ, zero, suc, ◌+◌, nat_le, ◌==◌, if◌th
 use Rattle.std.specs.Prelude.{Some, None}
 use Rattle.std.specs.Int.{w16, w32, from_be_bytes}
 use Rattle.std.specs.Option.{option_map}
+use Rattle.acceptor_log_form.specs.declared.header.Header.{Header}
 use Rattle.acceptor_log_form.specs.declared.record.Record.{Record}
 use Rattle.acceptor_log_form.specs.declared.record.Record.TheVariants.{Offered, Started, Proposed, Promised, Accepted}
+use Rattle.acceptor_log_form.specs.Text.{header_size}
 
 -- the ballot that these bytes are, all of them
 abbrev pub ballot_in : List ℕ → Option ℕ
@@ -55,6 +57,6 @@ records_behind (suc n) (b ∷ bytes) = records_behind n bytes
 records_behind zero (gate ∷ bytes) =
     if gate == 1 then in_front (first_record bytes) (records_behind (block_size bytes) bytes) else Some []
 
--- the records that the bytes of a journal stand for: its first gate stands behind the header's 38 bytes
-abbrev pub listed : List ℕ → Option (List Record)
-listed bytes = records_behind 38 bytes
+-- the records that the bytes of the journal with this header stand for: its first gate stands behind the header
+abbrev pub listed : Header → List ℕ → Option (List Record)
+listed h bytes = records_behind (header_size h) bytes

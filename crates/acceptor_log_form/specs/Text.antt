@@ -1,5 +1,6 @@
 -- The text of a journal: a header, for each record an open gate and a block, and a closed gate.
-use Rattle.std.specs.Prelude.{◌≡◌, ◌≢◌, ℕ, ◌<◌, ◌^◌, List, [], ◌∷◌, ◌++◌, length, take, drop, All}
+use Rattle.std.specs.Prelude.{◌≡◌, ◌≢◌, ℕ, ◌+◌, ◌*◌, ◌<◌, ◌^◌, List, [], ◌∷◌, ◌++◌, length, take, drop, All, Bool, ◌==◌, ◌&&◌}
+use Rattle.std.specs.Prelude.{if◌then◌else◌}
 use Rattle.std.specs.Int.{w16, w32, to_be_bytes}
 use Rattle.acceptor_log_form.specs.declared.header.Header.{Header}
 use Rattle.acceptor_log_form.specs.declared.record.Record.{Record}
@@ -13,9 +14,26 @@ room_of (Proposed room b v) = room
 room_of (Promised room b) = room
 room_of (Accepted room b v) = room
 
+-- These sizes of quorums of so many nodes belong to the first form of a header: the number of nodes is odd, and both sizes
+-- are half of it, rounded up. So it is where twice each size is one more than the number of nodes.
+unfoldable pub belong_to_first : ℕ → ℕ → ℕ → Bool
+belong_to_first nodes promise accept = 2 * promise == nodes + 1 && 2 * accept == nodes + 1
+
 -- the four bytes CFJ1, the number of nodes, the node, the digest
-abbrev pub header_text : Header → List ℕ
-header_text h = 0x43 ∷ 0x46 ∷ 0x4a ∷ 0x31 ∷ h.nodes ∷ h.node ∷ h.digest
+abbrev pub first_form : Header → List ℕ
+first_form h = 0x43 ∷ 0x46 ∷ 0x4a ∷ 0x31 ∷ h.nodes ∷ h.node ∷ h.digest
+
+-- the four bytes CFJF, the number of nodes, the size of a promise quorum, that of an accept quorum, the node, the digest
+abbrev pub second_form : Header → List ℕ
+second_form h = 0x43 ∷ 0x46 ∷ 0x4a ∷ 0x46 ∷ h.nodes ∷ h.promise ∷ h.accept ∷ h.node ∷ h.digest
+
+-- a header has the first form where its sizes belong to that, and else the second
+unfoldable pub header_text : Header → List ℕ
+header_text h = if belong_to_first h.nodes h.promise h.accept then first_form h else second_form h
+
+-- how many bytes that is, where the digest has 32
+unfoldable pub header_size : Header → ℕ
+header_size h = if belong_to_first h.nodes h.promise h.accept then 38 else 40
 
 -- a code, the room, and what the record says of it; numbers have their highest byte first
 abbrev pub body_text : Record → List ℕ
@@ -63,7 +81,11 @@ pub record StandsBehind (rs : List Record) (bytes : List ℕ) : Type 0 where
   pub fits : All Fits rs
   pub text : bytes ≡ blocks rs ++ gate ∷ behind
 
+-- Bytes stand for these records behind a header of so many bytes, which are these.
+pub record StandsAs (size : ℕ) (head : List ℕ) (rs : List Record) (bytes : List ℕ) : Type 0 where
+  pub header : take size bytes ≡ head
+  pub records : StandsBehind rs (drop size bytes)
+
 -- Bytes stand for these records as the journal with this header.
-pub record StandsFor (h : Header) (rs : List Record) (bytes : List ℕ) : Type 0 where
-  pub header : take 38 bytes ≡ header_text h
-  pub records : StandsBehind rs (drop 38 bytes)
+abbrev pub StandsFor : Header → List Record → List ℕ → Type 0
+StandsFor h = StandsAs (header_size h) (header_text h)

@@ -16,13 +16,14 @@ pub enum LogError {
     /// The device failed in this call.
     #[error("Device")]
     Device,
-    /// The bytes are too few for a journal, or begin with others than `CFJ1`.
+    /// The bytes are too few for a journal, or begin with others than `CFJ1` and `CFJF`, or with `CFJF` and sizes of
+    /// quorums that belong behind `CFJ1`.
     #[error("NotAJournal")]
     NotAJournal,
     /// Behind an open gate, a body that is cut or is no record, or no gate behind it.
     #[error("BadRecord")]
     BadRecord,
-    /// Another number of nodes, another node or another source's digest.
+    /// Another number of nodes, another size of a quorum, another node or another source's digest.
     #[error("OtherSource")]
     OtherSource,
     /// The device failed before; open the journal again.

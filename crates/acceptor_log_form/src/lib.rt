@@ -1,20 +1,22 @@
-//! What the bytes of a node's journal stand for: a header that names the node and its source, then records, each behind
-//! a gate that counts only where it is open, up to a closed gate. Reading and writing are exact, each list of records
-//! has one text, and what the records leave of each room, with the order that they keep there, is defined and tested.
+//! What the bytes of a node's journal stand for: a header that names the node, the sizes of quorums and the source, then
+//! records, each behind a gate that counts only where it is open, up to a closed gate. Writing is exact, each header and
+//! each list of records has one text, and what the records leave of each room, with the order that they keep there, is
+//! defined and tested.
 #![tactic(auto)]
 
 mod errors;
 mod header;
 mod laws;
-mod reading;
 mod record;
 mod rooms;
 mod writing;
 
 pub use errors::LogError;
-pub use header::Header;
-pub use laws::{no_fault, one_list, read_between, text_stands, with_or_without};
-pub use reading::{Listed, read};
+pub use header::{Header, belongs_to_first};
+pub use laws::{
+    even_nodes, no_fault, one_fault, one_header, one_list, other_header, read_between, text_stands,
+    with_or_without,
+};
 pub use record::Record;
 pub use rooms::kept_parts;
 pub use writing::{header_bytes, journal_bytes, record_bytes};

@@ -2,23 +2,50 @@
 
 ghost use Rattle.std.specs.Prelude.{◌≡◌, [], ◌∷◌, ◌++◌, length, All, IfOk, OnOk};
 ghost use Rattle.std.specs.Int.{w16, to_be_bytes};
-ghost use Rattle.acceptor_log_form.specs.Text.{header_text, body_text, block_text, journal_text, HasLength};
+ghost use Rattle.acceptor_log_form.specs.Text.{first_form, second_form, header_size, header_text};
+ghost use Rattle.acceptor_log_form.specs.Text.{body_text, block_text, journal_text, HasLength};
 
 use crate::header::Header;
 use crate::record::Record;
 use lang_base::NoMemory;
 use std::alloc::Global;
 
-/// The header's 38 bytes.
+/// The header's bytes, 38 in the first form and 40 in the second.
+#[tactic(auto, unfolding(crate::specs::Text::header_text, crate::specs::Text::header_size))]
 pub fn header_bytes(alloc: Global, header: &Header) -> Result<Vec<u8>, NoMemory>
     ensures text { IfOk result (λ bytes. bytes.items ≡ header_text header.now) }
+    ensures len { IfOk result (λ bytes. length bytes.items ≡ header_size header.now) }
+{
+    if header.has_first_form() {
+        first_bytes(alloc, header)
+    } else {
+        second_bytes(alloc, header)
+    }
+}
+
+fn first_bytes(alloc: Global, header: &Header) -> Result<Vec<u8>, NoMemory>
+    ensures text { IfOk result (λ bytes. bytes.items ≡ first_form header.now) }
     ensures len { IfOk result (λ bytes. length bytes.items ≡ 38) }
 {
-    let mut bytes = Vec::new(alloc);
-    bytes.extend_from_slice(b"CFJ1")?;
-    bytes.push(header.nodes)?;
-    bytes.push(header.node)?;
-    bytes.extend_from_slice(&header.digest)?;
+    joined(alloc, b"CFJ1", &[header.nodes, header.node], &header.digest)
+}
+
+fn second_bytes(alloc: Global, header: &Header) -> Result<Vec<u8>, NoMemory>
+    ensures text { IfOk result (λ bytes. bytes.items ≡ second_form header.now) }
+    ensures len { IfOk result (λ bytes. length bytes.items ≡ 40) }
+{
+    let (nodes, promise, accept) = (header.nodes, header.promise, header.accept);
+    let numbers = [nodes, promise, accept, header.node];
+    joined(alloc, b"CFJF", &numbers, &header.digest)
+}
+
+/// The magic, the numbers and the digest.
+fn joined(alloc: Global, magic: &[u8], numbers: &[u8], digest: &[u8]) -> Result<Vec<u8>, NoMemory>
+    ensures { IfOk result (λ bytes. bytes.items ≡ magic.now ++ (numbers.now ++ digest.now)) }
+{
+    let mut bytes = Vec::from_slice(alloc, magic)?;
+    bytes.extend_from_slice(numbers)?;
+    bytes.extend_from_slice(digest)?;
     Ok(bytes)
 }
 
@@ -51,22 +78,10 @@ fn write_body(entry: &Record, out: &mut Vec<u8>) -> Result<(), NoMemory>
             out.extend_from_slice(offer.as_slice())?;
             Ok(())
         }
-        Record::Started(room, ballot) => {
-            write_head(2, *room, out)?;
-            write_number(*ballot, out)
-        }
-        Record::Proposed(room, ballot, value) => {
-            write_head(3, *room, out)?;
-            write_vote(*ballot, *value, out)
-        }
-        Record::Promised(room, ballot) => {
-            write_head(4, *room, out)?;
-            write_number(*ballot, out)
-        }
-        Record::Accepted(room, ballot, value) => {
-            write_head(5, *room, out)?;
-            write_vote(*ballot, *value, out)
-        }
+        Record::Started(room, ballot) => write_ballot(2, *room, *ballot, out),
+        Record::Proposed(room, ballot, value) => write_vote(3, *room, *ballot, *value, out),
+        Record::Promised(room, ballot) => write_ballot(4, *room, *ballot, out),
+        Record::Accepted(room, ballot, value) => write_vote(5, *room, *ballot, *value, out),
     }
 }
 
@@ -77,18 +92,33 @@ fn write_head(code: u8, room: u16, out: &mut Vec<u8>) -> Result<(), NoMemory>
     write_number(room, out)
 }
 
+fn write_ballot(code: u8, room: u16, ballot: u16, out: &mut Vec<u8>) -> Result<(), NoMemory>
+    ensures { OnOk result (out.new.items
+        ≡ out.old.items ++ (code ∷ (to_be_bytes w16 room ++ to_be_bytes w16 ballot))) }
+{
+    write_head(code, room, out)?;
+    write_number(ballot, out)
+}
+
+fn write_vote(
+    code: u8,
+    room: u16,
+    ballot: u16,
+    value: u8,
+    out: &mut Vec<u8>,
+) -> Result<(), NoMemory>
+    ensures { OnOk result (out.new.items
+        ≡ out.old.items ++ (code ∷ (to_be_bytes w16 room ++ (to_be_bytes w16 ballot ++ value ∷ [])))) }
+{
+    write_ballot(code, room, ballot, out)?;
+    out.push(value)?;
+    Ok(())
+}
+
 fn write_number(number: u16, out: &mut Vec<u8>) -> Result<(), NoMemory>
     ensures { OnOk result (out.new.items ≡ out.old.items ++ to_be_bytes w16 number) }
 {
     out.extend_from_slice(&number.to_be_bytes())?;
-    Ok(())
-}
-
-fn write_vote(ballot: u16, value: u8, out: &mut Vec<u8>) -> Result<(), NoMemory>
-    ensures { OnOk result (out.new.items ≡ out.old.items ++ (to_be_bytes w16 ballot ++ value ∷ [])) }
-{
-    write_number(ballot, out)?;
-    out.push(value)?;
     Ok(())
 }
 

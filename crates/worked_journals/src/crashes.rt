@@ -10,6 +10,8 @@ use std::alloc::Global;
 
 const HEADER: Header = Header {
     nodes: 3,
+    promise: 2,
+    accept: 2,
     node: 0,
     digest: [7; 32],
 };

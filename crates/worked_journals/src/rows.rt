@@ -106,17 +106,40 @@ fn told(alloc: Global, entry: &Record) -> Option<String> {
     }
 }
 
+/// The header with this digest, of a node in a farm with quorums of these sizes.
+fn header_with(nodes: u8, promise: u8, accept: u8, node: u8, rest: &[u8]) -> Option<Header> {
+    let mut digest = [0u8; 32];
+    if rest.len() != digest.len() {
+        return None;
+    }
+    digest.copy_from_slice(rest);
+    Some(Header {
+        nodes,
+        promise,
+        accept,
+        node,
+        digest,
+    })
+}
+
+/// The header that these bytes are, in either form.
 fn header_of(bytes: &[u8]) -> Option<Header> {
     match bytes {
-        [b'C', b'F', b'J', b'1', nodes, node, rest @ ..] if rest.len() == 32 => {
-            let mut digest = [0u8; 32];
-            digest.copy_from_slice(rest);
-            Some(Header {
-                nodes: *nodes,
-                node: *node,
-                digest,
-            })
+        [b'C', b'F', b'J', b'1', nodes, node, rest @ ..] => {
+            let half = nodes / 2 + 1;
+            header_with(*nodes, half, half, *node, rest)
         }
+        [
+            b'C',
+            b'F',
+            b'J',
+            b'F',
+            nodes,
+            promise,
+            accept,
+            node,
+            rest @ ..,
+        ] => { header_with(*nodes, *promise, *accept, *node, rest) }
         _ => None,
     }
 }

@@ -53,7 +53,7 @@ returns-in-Err-NoMemory-clause-unwritten g c honest not_device =
 
 pub returns-in-Err-NoMemory-clause-err : goal.returns-in-Err-NoMemory-clause-err
 returns-in-Err-NoMemory-clause-err g c honest =
-    ap (first_of c.args.self.now.count) (returns-in-Err-NoMemory-clause-unwritten g c honest memory_is_no_device).0.same
+    ap (first_of c.args.self.now.header c.args.self.now.count) (returns-in-Err-NoMemory-clause-unwritten g c honest memory_is_no_device).0.same
 
 pub returns-in-Err-NoMemory-clause-sound : goal.returns-in-Err-NoMemory-clause-sound
 returns-in-Err-NoMemory-clause-sound g c honest going =
@@ -94,7 +94,7 @@ returns-in-Ok-put-clause-sound g c honest going =
     let counted : old.count + 1 ≡ length more = omega (arith, ready.counted, length_push (acknowledged disk.seen old) c.args.entry.now) in
     let here : gate ≡ old.gate + c.len.result = omega (arith, ap length c.as_slice.ensures.value, c.in-Ok.block.ok.0) in
     record {
-      rests = subst (λ at. Rests disk.is_honest disk.seen disk.may_leave old.header (first_of (old.count + 1) (disk.seen new)) at new) here
+      rests = subst (λ at. Rests disk.is_honest disk.seen disk.may_leave old.header (first_of old.header (old.count + 1) (disk.seen new)) at new) here
           (rests-first_of disk.is_honest disk.seen disk.may_leave old.header more gate (old.count + 1) new rests counted);
       counted = counted-first_of disk.is_honest disk.seen disk.may_leave old.header more gate (old.count + 1) new rests counted;
     }

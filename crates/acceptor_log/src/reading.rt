@@ -1,15 +1,14 @@
 //! Reading journals.
 
-ghost use Rattle.std.specs.Prelude.{◌≡◌, ◌≢◌, ◌+◌, ◌↔◌, ℕ, List, ◌∷◌, ◌++◌, None, length, take, drop, IsTrue, IfSome};
-ghost use Rattle.std.specs.Prelude.{IfNone, IfOk, OnOk, IfErr};
-ghost use Rattle.acceptor_log_form.specs.Text.{body_text, block_text, blocks, header_text, Fits, FitsWidths};
+ghost use Rattle.std.specs.Prelude.{◌≡◌, ◌≢◌, ◌+◌, ◌↔◌, ℕ, List, [], ◌∷◌, ◌++◌, None, length, take, drop};
+ghost use Rattle.std.specs.Prelude.{IsTrue, IsFalse, IfSome, OnSome, IfNone, IfOk, OnOk, IfErr};
+ghost use Rattle.acceptor_log_form.specs.Text.{first_form, second_form, header_text, header_size};
+ghost use Rattle.acceptor_log_form.specs.Text.{body_text, block_text, blocks, Fits, FitsWidths};
 ghost use Rattle.acceptor_log_form.specs.Text.{StandsBehind, StandsFor};
 ghost use Rattle.acceptor_log_form.specs.Reading.{record_of, first_record, records_behind};
-ghost use Rattle.acceptor_log_form.specs.Fault.{magic, IsInForm, HasFault};
+ghost use Rattle.acceptor_log_form.specs.Fault.{IsInForm, IsInNoForm, HasFault};
 
-use crate::errors::LogError;
-use crate::header::Header;
-use crate::record::Record;
+use acceptor_log_form::{Header, LogError, Record, belongs_to_first};
 use lang_base::Row;
 use std::alloc::Global;
 
@@ -24,50 +23,116 @@ pub struct Listed {
 /// told: the first one in the order of the bytes.
 pub fn read(alloc: Global, header: &Header, bytes: &[u8]) -> Result<Listed, LogError>
     ensures ok { IfOk result (λ found. StandsFor header.now found.records.items bytes.now) }
-    ensures gate { IfOk result (λ found. found.gate ≡ 38 + length (blocks found.records.items)) }
+    ensures gate { IfOk result (λ found. found.gate ≡ header_size header.now + length (blocks found.records.items)) }
     ensures refused { IfErr result (λ e. e ≢ LogError.NoMemory → HasFault header.now bytes.now e) }
 {
     let behind = behind_header(header, bytes)?;
     let mut found = read_records(alloc, behind)?;
-    found.gate += 38;
+    found.gate += header.size();
     Ok(found)
 }
 
-/// What stands behind the header's 38 bytes.
+/// What stands behind the header. The first bytes tell the form, whatever the header's own is.
 fn behind_header<'a>(header: &Header, bytes: &'a [u8]) -> Result<&'a [u8], LogError>
-    ensures header { OnOk result (IsInForm bytes.now × (take 38 bytes.now ≡ header_text header.now)) }
-    ensures behind { IfOk result (λ behind. behind.now ≡ drop 38 bytes.now) }
+    ensures form { OnOk result (IsInForm bytes.now) }
+    ensures header { OnOk result (take (header_size header.now) bytes.now ≡ header_text header.now) }
+    ensures behind { IfOk result (λ behind. behind.now ≡ drop (header_size header.now) bytes.now) }
     ensures refused { IfErr result (λ e. (e ≢ LogError.BadRecord) × HasFault header.now bytes.now e) }
 {
-    if bytes.len() < 39 {
+    if !is_in_form(bytes) {
         return Err(LogError::NotAJournal);
     }
-    if !begins_with_magic(bytes) {
-        return Err(LogError::NotAJournal);
-    }
-    let (head, behind) = bytes.split_at(38);
-    if !is_header(header, head) {
+    let Some(behind) = behind_text(header, bytes) else {
         return Err(LogError::OtherSource);
-    }
+    };
     Ok(behind)
 }
 
-fn begins_with_magic(bytes: &[u8]) -> bool
-    ensures { IsTrue result ↔ (take 4 bytes.now ≡ magic) }
+/// Whether the bytes are of one of the two forms, and have a gate.
+fn is_in_form(bytes: &[u8]) -> bool
+    ensures form { IsTrue result → IsInForm bytes.now }
+    ensures none { IsFalse result → IsInNoForm bytes.now }
+{
+    if begins_with(bytes, b'1') {
+        39 <= bytes.len()
+    } else if begins_with(bytes, b'F') {
+        41 <= bytes.len() && !belongs_to_first(bytes[4], bytes[5], bytes[6])
+    } else {
+        false
+    }
+}
+
+/// Whether the bytes begin with `CFJ` and this one.
+fn begins_with(bytes: &[u8], form: u8) -> bool
+    ensures { IsTrue result ↔ (take 4 bytes.now ≡ 0x43 ∷ 0x46 ∷ 0x4a ∷ form ∷ []) }
 {
     match bytes {
-        [a, b, c, d, _rest @ ..] => *a == b'C' && *b == b'F' && *c == b'J' && *d == b'1',
+        [a, b, c, d, _rest @ ..] => *a == b'C' && *b == b'F' && *c == b'J' && *d == form,
         _ => false,
     }
 }
 
+/// What stands behind the header, where the bytes begin with it.
+fn behind_text<'a>(header: &Header, bytes: &'a [u8]) -> Option<&'a [u8]>
+    ensures header { OnSome result (take (header_size header.now) bytes.now ≡ header_text header.now) }
+    ensures behind { IfSome result (λ behind. behind.now ≡ drop (header_size header.now) bytes.now) }
+    ensures other { IfNone result (take (header_size header.now) bytes.now ≢ header_text header.now) }
+{
+    let size = header.size();
+    if bytes.len() < size {
+        return None;
+    }
+    let (head, behind) = bytes.split_at(size);
+    if is_header(header, head) {
+        Some(behind)
+    } else {
+        None
+    }
+}
+
 /// Whether the bytes are the header's, all of them.
+#[tactic(auto, unfolding(acceptor_log_form::specs::Text::header_text))]
 fn is_header(header: &Header, bytes: &[u8]) -> bool
     ensures { IsTrue result ↔ (bytes.now ≡ header_text header.now) }
+{
+    if header.has_first_form() {
+        is_first_form(header, bytes)
+    } else {
+        is_second_form(header, bytes)
+    }
+}
+
+fn is_first_form(header: &Header, bytes: &[u8]) -> bool
+    ensures { IsTrue result ↔ (bytes.now ≡ first_form header.now) }
 {
     match bytes {
         [b'C', b'F', b'J', b'1', nodes, node, digest @ ..] => {
             *nodes == header.nodes && *node == header.node && is_digest(&header.digest, digest)
+        }
+        _ => false,
+    }
+}
+
+fn is_second_form(header: &Header, bytes: &[u8]) -> bool
+    ensures { IsTrue result ↔ (bytes.now ≡ second_form header.now) }
+{
+    match bytes {
+        [
+            b'C',
+            b'F',
+            b'J',
+            b'F',
+            nodes,
+            promise,
+            accept,
+            node,
+            digest @ ..,
+        ] => {
+            *nodes == header.nodes
+                && *promise == header.promise
+                && *accept == header.accept
+                && *node == header.node
+                && is_digest(&header.digest, digest)
         }
         _ => false,
     }
@@ -144,11 +209,19 @@ fn read_body(alloc: Global, body: &[u8]) -> Result<Record, LogError>
     };
     let room = u16::from_be_bytes([*high, *low]);
     match (*code, rest) {
-        (1, offer) => Ok(Record::Offered(room, Row::from_vec(Vec::from_slice(alloc, offer)?))),
+        (1, offer) => read_offer(alloc, room, offer),
         (2, [a, b]) => Ok(Record::Started(room, u16::from_be_bytes([*a, *b]))),
         (3, [a, b, value]) => Ok(Record::Proposed(room, u16::from_be_bytes([*a, *b]), *value)),
         (4, [a, b]) => Ok(Record::Promised(room, u16::from_be_bytes([*a, *b]))),
         (5, [a, b, value]) => Ok(Record::Accepted(room, u16::from_be_bytes([*a, *b]), *value)),
         _ => Err(LogError::BadRecord),
     }
+}
+
+fn read_offer(alloc: Global, room: u16, offer: &[u8]) -> Result<Record, LogError>
+    ensures offered { IfOk result (λ entry. entry ≡ Record.Offered room offer.now) }
+    ensures refused { IfErr result (λ e. e ≡ LogError.NoMemory) }
+{
+    let offer = Vec::from_slice(alloc, offer)?;
+    Ok(Record::Offered(room, Row::from_vec(offer)))
 }
