@@ -6,6 +6,7 @@ use Rattle.rooms_cells.specs.Seen.{SightOf, IsPut, IsPutAt, sight_at}
 use Rattle.rooms_seat.specs.Opening.{Opening}
 use Rattle.rooms_seat.specs.RoomAt.{RoomAt}
 use Rattle.paxos_core_world.specs.KeptPart.{KeptPart}
+use Rattle.paxos_core_world.specs.Quorum.{Sizes}
 use Rattle.rooms_seat.specs.SeatState.{opening_of}
 use Rattle.rooms_seat.specs.Dealing.{Dealing}
 use Rattle.rooms.specs.Opened.{offer_at, opened, opened_first, with_seen, AnyOffered, AreDealt, AreOpened}
@@ -55,13 +56,13 @@ seats_more {T} table cells o given node dealer x seats more seat dealt before sa
     (after ∙ (ap (λ (xs : List (SeatValue T)). xs ++ seat ∷ []) before ∙ ap (λ (s : SeatValue T). opened_first table cells o given node ++ s ∷ []) new))
 
 -- what is dealt out of a room that was opened from these kept parts
-pub opened_all : {A E T : Type 0} (items : A → List (SeatValue T)) (kept : List KeptPart) (offers : List (Option T)) (d : Dealing) (r : Result A E) → d.opening ≡ opening_of kept
-    → IfOk r (λ seats. AreDealt d.table d.opening offers (items seats)) → IfOk r (λ seats. AreOpened kept offers (items seats))
-opened_all items kept offers d (Err x) e h = tt
-opened_all items kept offers d (Ok seats) e h =
+pub opened_all : {A E T : Type 0} (items : A → List (SeatValue T)) (q : Sizes) (kept : List KeptPart) (offers : List (Option T)) (d : Dealing) (r : Result A E) → d.opening ≡ opening_of q kept
+    → IfOk r (λ seats. AreDealt d.table d.opening offers (items seats)) → IfOk r (λ seats. AreOpened q kept offers (items seats))
+opened_all items q kept offers d (Err x) e h = tt
+opened_all items q kept offers d (Ok seats) e h =
     record {
       table = d.table;
       cells = h.cells;
       size = h.size;
-      seats_are = h.seats_are ∙ ap (λ (o : Opening). opened_first d.table h.cells o offers o.count) e;
+      seats_are = h.seats_are ∙ ap (λ (o : Opening). opened_first d.table h.cells o offers o.quorums.nodes) e;
     }

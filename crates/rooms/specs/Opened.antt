@@ -1,6 +1,7 @@
 -- The seats of a room as it is opened from what its nodes have kept, their offers among it.
 use Rattle.std.specs.Prelude.{◌≡◌, ℕ, zero, suc, ◌<◌, List, [], ◌∷◌, ◌++◌, length, Option, Some, None, is_some, slice_index_or, slice_set}
 use Rattle.paxos_core_world.specs.KeptPart.{KeptPart}
+use Rattle.paxos_core_world.specs.Quorum.{Sizes}
 use Rattle.paxos_core_world.specs.World.{nodes_of}
 use Rattle.rooms_cells.specs.Seen.{SightOf, sight_at, unseen}
 use Rattle.rooms_seat.specs.Opening.{Opening}
@@ -39,11 +40,11 @@ opened_first table cells o offers (suc k) = opened_first table cells o offers k 
 pub record AreDealt {T : Type 0} (table : RoomAt) (o : Opening) (offers : List (Option T)) (seats : List (SeatValue T)) : Type 0 where
   pub cells : List ℕ
   pub size : length cells ≡ 7
-  pub seats_are : seats ≡ opened_first table cells o offers o.count
+  pub seats_are : seats ≡ opened_first table cells o offers o.quorums.nodes
 
--- they are the seats of all nodes of a room that is opened so
-pub record AreOpened {T : Type 0} (kept : List KeptPart) (offers : List (Option T)) (seats : List (SeatValue T)) : Type 0 where
+-- they are the seats of all nodes of a room that is opened so, with quorums of these sizes
+pub record AreOpened {T : Type 0} (q : Sizes) (kept : List KeptPart) (offers : List (Option T)) (seats : List (SeatValue T)) : Type 0 where
   pub table : RoomAt
   pub cells : List ℕ
   pub size : length cells ≡ 7
-  pub seats_are : seats ≡ opened_first table cells (opening_of kept) offers (length kept)
+  pub seats_are : seats ≡ opened_first table cells (opening_of q kept) offers q.nodes

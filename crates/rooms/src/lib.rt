@@ -12,6 +12,6 @@ pub use error::RoomError;
 pub use meeting::meet;
 pub use room::{Room, seats_of};
 pub use rooms_cells::Put;
-pub use rooms_seat::Meeting;
 pub use rooms_seat::act::Act;
+pub use rooms_seat::{Meeting, Quorums};
 pub use seat::Seat;

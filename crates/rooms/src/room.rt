@@ -1,6 +1,5 @@
 ghost use Rattle.std.specs.Prelude.{◌≡◌, ◌≢◌, ◌<◌, ◌+◌, ◌↔◌, length, IfOk, OnOk, Err, is_some, true};
 ghost use Rattle.std.specs.Arc.{arc_value};
-ghost use Rattle.paxos_core_law.specs.NodeState.{IsRoomSize};
 ghost use Rattle.paxos_core_world.specs.Settled.{Settled};
 ghost use Rattle.paxos_core_world.specs.World.{nodes_of};
 ghost use Rattle.rooms.specs.Opened.{opened, with_seen, AnyOffered, AreDealt, AreOffersOf, AreOpened};
@@ -11,7 +10,7 @@ use crate::seat::Seat;
 use lang_base::Pass;
 use offers::Offer;
 use rooms_cells::{Put, Shelf, Sights};
-use rooms_seat::{Dealer, Kept, settled};
+use rooms_seat::{Dealer, Kept, Quorums, settled};
 use std::alloc::Global;
 use std::sync::Arc;
 
@@ -19,24 +18,25 @@ use std::sync::Arc;
 pub struct Room;
 
 impl Room {
-    /// The seats of a room whose nodes have kept these parts and made these offers, in the order of the nodes. It is alone in its
-    /// table.
+    /// The seats of a room with these quorums whose nodes have kept these parts and made these offers, in the order of the nodes.
+    /// It is alone in its table.
     pub fn open<P: Pass>(
         alloc: Global,
         kept: &[Kept],
         offers: Vec<Option<Offer<P>>>,
+        quorums: Quorums,
     ) -> Result<Vec<Seat<P>>, RoomError>
-        requires size { IsRoomSize (length kept.now) }
+        requires size { length kept.now ≡ quorums.nodes }
         requires offers { AreOffersOf kept.now offers.items }
-        ensures ok { IfOk result (λ seats. AreOpened kept.now offers.items seats.items) }
-        ensures settled { OnOk result (Settled (length kept.now) (nodes_of kept.now)) }
-        ensures unsettled { (result ≡ Err error.Unsettled) ↔ (¬ Settled (length kept.now) (nodes_of kept.now)) }
+        ensures ok { IfOk result (λ seats. AreOpened quorums kept.now offers.items seats.items) }
+        ensures settled { OnOk result (Settled quorums (nodes_of kept.now)) }
+        ensures unsettled { (result ≡ Err error.Unsettled) ↔ (¬ Settled quorums (nodes_of kept.now)) }
         ensures refused { result ≡ Err error.CellRefused → AnyOffered offers.items }
     {
-        if !settled(kept) {
+        if !settled(kept, quorums) {
             return Err(RoomError::Unsettled);
         }
-        let Ok(dealer) = Dealer::open(alloc, kept) else {
+        let Ok(dealer) = Dealer::open(alloc, kept, quorums) else {
             return Err(RoomError::NoMemory);
         };
         seats_of(alloc, dealer, offers)
@@ -50,9 +50,8 @@ pub fn seats_of<P: Pass>(
     dealer: Dealer,
     offers: Vec<Option<Offer<P>>>,
 ) -> Result<Vec<Seat<P>>, RoomError>
-    requires size { IsRoomSize dealer.opening.count }
     requires next { dealer.next ≡ 0 }
-    requires offers { length offers.items ≡ dealer.opening.count }
+    requires offers { length offers.items ≡ dealer.opening.quorums.nodes }
     ensures ok { IfOk result (λ seats. AreDealt dealer.table dealer.opening offers.items seats.items) }
     ensures settled { result ≢ Err error.Unsettled }
     ensures refused { result ≡ Err error.CellRefused → AnyOffered offers.items }
@@ -83,8 +82,7 @@ fn next_seat<P: Pass>(
     shelf: &Arc<Shelf<Offer<P>>>,
     offer: Option<Offer<P>>,
 ) -> Result<Seat<P>, RoomError>
-    requires size { IsRoomSize dealer.old.opening.count }
-    requires next { dealer.old.next < dealer.old.opening.count }
+    requires { dealer.old.next < dealer.old.opening.quorums.nodes }
     ensures seat { IfOk result (λ seat.
         seat ≡ opened dealer.old.table (arc_value shelf.now) dealer.old.opening dealer.old.next offer) }
     ensures ok { OnOk result (dealer.new ≡ record dealer.old { next = dealer.old.next + 1 }) }
@@ -97,6 +95,7 @@ fn next_seat<P: Pass>(
     let Ok(shelf) = Arc::try_clone(shelf) else {
         return Err(RoomError::NoMemory);
     };
+    words.bounds();
     let mut sights = Sights::of(shelf);
     let place = usize::from(words.me());
     if let Some(offer) = offer {

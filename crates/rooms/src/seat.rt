@@ -1,8 +1,8 @@
 ghost use Rattle.std.specs.Prelude.{◌≡◌, ℕ, ◌<◌, ◌↔◌, true, Some, None, IsErr, IfOk, IfSome, MatchOption};
 ghost use Rattle.std.specs.Option.{option_map};
 ghost use Rattle.std.specs.Arc.{arc_value};
-ghost use Rattle.paxos_core_law.specs.NodeState.{IsRoomSize};
 ghost use Rattle.paxos_core_law.specs.declared.step.Step.TheVariants as step;
+ghost use Rattle.paxos_core_world.specs.Quorum.{AreQuorums};
 ghost use Rattle.paxos_core_world.specs.World.{Has};
 ghost use Rattle.paxos_core_world.specs.declared.vote.Vote.{Vote};
 ghost use Rattle.rooms_cells.specs.Seen.{Read};
@@ -63,7 +63,7 @@ impl<P: Pass> Seat<P> {
 
     /// The step that `start`, `promise(j)`, `propose` or `accept(j)` would take now: none where it would take none.
     pub fn intent(&self, act: Act) -> Option<Step>
-        requires { IsAmong self.now.words.node.count act }
+        requires { IsAmong self.now.words.node.quorums.nodes act }
         ensures { result ≡ would self.now.words act }
     {
         self.words.intent(act)
@@ -83,7 +83,7 @@ impl<P: Pass> Seat<P> {
 
     /// Loads the word of node `j`'s proposer.
     pub fn look_proposer(&mut self, j: u8) -> ProposerWord
-        requires { j < self.old.words.node.count }
+        requires { j < self.old.words.node.quorums.nodes }
         ensures looked { LookedAtProposer j result self.old.words self.new.words }
         ensures sights { self.new.sights ≡ self.old.sights }
         ensures room { IsOneRoom self.old self.new }
@@ -94,7 +94,7 @@ impl<P: Pass> Seat<P> {
     /// Loads the word of node `j`'s acceptor: notes the promise that it shows for the ballot under way, and its vote, and
     /// may learn.
     pub fn look_acceptor(&mut self, j: u8) -> AcceptorWord
-        requires { j < self.old.words.node.count }
+        requires { j < self.old.words.node.quorums.nodes }
         ensures looked { LookedAtAcceptor j result self.old.words self.new.words }
         ensures notes { NotesOf j self.old.words self.new.words }
         ensures sights { self.new.sights ≡ self.old.sights }
@@ -105,7 +105,7 @@ impl<P: Pass> Seat<P> {
 
     /// Promises the ballot last seen of node `j`, where it is above all that was promised: stores its acceptor's word.
     pub fn promise(&mut self, j: u8) -> Option<u16>
-        requires { j < self.old.words.node.count }
+        requires { j < self.old.words.node.quorums.nodes }
         ensures answer { option_map step.Promise result ≡ would self.old.words (act.Promise j) }
         ensures acted { Acted (act.Promise j) self.old.words self.new.words }
         ensures sights { self.new.sights ≡ self.old.sights }
@@ -128,7 +128,7 @@ impl<P: Pass> Seat<P> {
     /// Votes for what node `j` was last seen to have proposed, where its ballot is not below all that was promised and
     /// the vote was not given yet: stores its acceptor's word.
     pub fn accept(&mut self, j: u8) -> Option<Vote>
-        requires { j < self.old.words.node.count }
+        requires { j < self.old.words.node.quorums.nodes }
         ensures answer { option_map (λ (x : Vote). step.Accept x.ballot x.value) result ≡ would self.old.words (act.Accept j) }
         ensures acted { Acted (act.Accept j) self.old.words self.new.words }
         ensures sights { self.new.sights ≡ self.old.sights }
@@ -156,8 +156,8 @@ impl<P: Pass> Seat<P> {
 
     /// How many nodes the room has.
     pub fn count(&self) -> u8
-        ensures value { result ≡ self.now.words.node.count }
-        ensures size { IsRoomSize result }
+        ensures value { result ≡ self.now.words.node.quorums.nodes }
+        ensures sizes { AreQuorums self.now.words.node.quorums }
     {
         self.words.count()
     }
@@ -179,14 +179,14 @@ impl<P: Pass> Seat<P> {
     /// The number of its node.
     pub fn me(&self) -> u8
         ensures value { result ≡ self.now.words.node.me }
-        ensures below { result < self.now.words.node.count }
+        ensures below { result < self.now.words.node.quorums.nodes }
     {
         self.words.me()
     }
 
     /// Reads node `j`'s cell, which is no word. What was seen stays.
     pub fn see(&mut self, j: u8)
-        requires { j < self.old.words.node.count }
+        requires { j < self.old.words.node.quorums.nodes }
         ensures read { Read j self.old.sights self.new.sights }
         ensures words { self.new.words ≡ self.old.words }
         ensures room { IsOneRoom self.old self.new }
@@ -197,7 +197,7 @@ impl<P: Pass> Seat<P> {
 
     /// Node `j`'s offer, as the seat has seen it.
     pub fn fetch(&self, j: u8) -> Option<&Offer<P>>
-        requires { j < self.now.words.node.count }
+        requires { j < self.now.words.node.quorums.nodes }
         ensures { MatchOption result (offer_of self.now j ≡ None) (λ r. offer_of self.now j ≡ Some r.now) }
     {
         self.words.bounds();

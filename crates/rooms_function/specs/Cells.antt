@@ -14,7 +14,7 @@ use Rattle.rooms_function.specs.declared.seat.FunctionSeat.{FunctionSeat}
 
 -- how many nodes the room of a pass has
 abbrev pub count_in : ℕ → FunctionSeat → ℕ
-count_in pass s = (words_in pass s).node.count
+count_in pass s = (words_in pass s).node.quorums.nodes
 
 -- whether the node has offered in the room of this offer's pass
 abbrev pub has_offered : FunctionSeat → ChainOffer → Bool

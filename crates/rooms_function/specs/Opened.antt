@@ -1,7 +1,8 @@
 -- The seats of a function as its rooms open.
-use Rattle.std.specs.Prelude.{◌≡◌, ℕ, zero, suc, ◌+◌, ◌<◌, ◌≤◌, List, length, map}
+use Rattle.std.specs.Prelude.{◌≡◌, ◌≢◌, ℕ, zero, suc, ◌+◌, ◌<◌, ◌≤◌, ◌⊎◌, List, [], ◌∷◌, length, map}
 use Rattle.atomic_table.specs.Seated.{TableId}
 use Rattle.paxos_core_world.specs.KeptPart.{KeptPart}
+use Rattle.paxos_core_world.specs.Quorum.{Sizes}
 use Rattle.paxos_core_world.specs.Settled.{Settled}
 use Rattle.paxos_core_world.specs.World.{nodes_of}
 use Rattle.rooms_table.specs.RoomAt.{RoomAt}
@@ -10,7 +11,7 @@ use Rattle.rooms_seat.specs.Dealing.{room_opened}
 use Rattle.rooms_seat.specs.declared.opening.FourDealers.{FourDealers}
 use Rattle.rooms.specs.Opened.{AnyOffered, AreDealt}
 use Rattle.rooms.specs.declared.error.RoomError.{RoomError}
-use Rattle.rooms.specs.declared.error.RoomError.TheVariants.{CellRefused, Unsettled}
+use Rattle.rooms.specs.declared.error.RoomError.TheVariants.{CellRefused, NoMemory, Unsettled}
 use Rattle.rooms_function.specs.declared.opening.FunctionOffers.{FunctionOffers}
 use Rattle.rooms_function.specs.declared.seat.FunctionSeat.{FunctionSeat}
 
@@ -18,13 +19,28 @@ use Rattle.rooms_function.specs.declared.seat.FunctionSeat.{FunctionSeat}
 abbrev pub kept_in : ℕ → List (List KeptPart) → List KeptPart
 kept_in pass kept = map (λ parts. nodes_of parts pass) kept
 
--- that is settled
-abbrev pub IsSettledIn : List (List KeptPart) → ℕ → Type 0
-IsSettledIn kept pass = Settled (length (kept_in pass kept)) (nodes_of (kept_in pass kept))
+-- that is settled, with quorums of these sizes
+abbrev pub IsSettledIn : Sizes → List (List KeptPart) → ℕ → Type 0
+IsSettledIn q kept pass = Settled q (nodes_of (kept_in pass kept))
 
 -- so it is in each pass
-abbrev pub AreSettled : List (List KeptPart) → Type 0
-AreSettled kept = (pass : ℕ) → pass < 4 → IsSettledIn kept pass
+abbrev pub AreSettled : Sizes → List (List KeptPart) → Type 0
+AreSettled q kept = (pass : ℕ) → pass < 4 → IsSettledIn q kept pass
+
+-- this pass, from 1 to 4, is the lowest in which it is not
+pub record IsLowest (q : Sizes) (kept : List (List KeptPart)) (pass : ℕ) : Type 0 where
+  pub some : 0 < pass
+  pub most : pass ≤ 4
+  pub before : (other : ℕ) → other + 1 < pass → IsSettledIn q kept other
+  pub here : (other : ℕ) → other + 1 ≡ pass → ¬ IsSettledIn q kept other
+
+-- the parts of seven nodes, of those that there are not with nothing kept
+abbrev pub seven_parts : List KeptPart → List KeptPart
+seven_parts parts = nodes_of parts 0 ∷ nodes_of parts 1 ∷ nodes_of parts 2 ∷ nodes_of parts 3 ∷ nodes_of parts 4 ∷ nodes_of parts 5 ∷ nodes_of parts 6 ∷ []
+
+-- this pass is told with the reason, where no seat was dealt yet: what was kept is not settled, or there is no memory
+abbrev pub IsUndealt : Sizes → List (List KeptPart) → ℕ → RoomError → Type 0
+IsUndealt q kept pass error = ((error ≡ Unsettled) × IsLowest q kept pass) ⊎ ((error ≡ NoMemory) × ((pass ≡ 1) × AreSettled q kept))
 
 -- somebody has made an offer in this pass, the first being 1
 abbrev pub IsOfferedIn : FunctionOffers → ℕ → Type 0
@@ -34,13 +50,14 @@ IsOfferedIn offers (suc (suc (suc zero))) = AnyOffered offers.third.items
 IsOfferedIn offers (suc (suc (suc (suc zero)))) = AnyOffered offers.fourth.items
 IsOfferedIn offers other = ⊥
 
--- This pass, from 1 to 4, is told with the reason: what was kept in those in front of it is settled. In it, it is not, where that is
--- told, so that it is the lowest; and where a cell refused, somebody has offered there.
-pub record IsUnopened (kept : List (List KeptPart)) (offers : FunctionOffers) (pass : ℕ) (error : RoomError) : Type 0 where
+-- This pass, from 1 to 4, is told with the reason. What was kept is told as not settled wherever it is not so in each pass, and then
+-- of the lowest pass in which it is not; where a cell refused, somebody has offered in this pass.
+pub record IsUnopened (q : Sizes) (kept : List (List KeptPart)) (offers : FunctionOffers) (pass : ℕ) (error : RoomError) : Type 0 where
   pub some : 0 < pass
   pub most : pass ≤ 4
-  pub before : (other : ℕ) → other + 1 < pass → IsSettledIn kept other
-  pub here : error ≡ Unsettled → (other : ℕ) → other + 1 ≡ pass → ¬ IsSettledIn kept other
+  pub settled : error ≢ Unsettled → AreSettled q kept
+  pub before : (other : ℕ) → other + 1 < pass → IsSettledIn q kept other
+  pub here : error ≡ Unsettled → (other : ℕ) → other + 1 ≡ pass → ¬ IsSettledIn q kept other
   pub refused : error ≡ CellRefused → IsOfferedIn offers pass
 
 -- a room of a table of four
@@ -48,19 +65,19 @@ abbrev pub place : TableId → ℕ → RoomAt
 place table room = record { table = table; rooms = 4; room = room }
 
 -- they are the nodes' seats, and in each pass those of the room of that pass in one table
-pub record AreSeatsOf (kept : List (List KeptPart)) (offers : FunctionOffers) (seats : List FunctionSeat) : Type 0 where
+pub record AreSeatsOf (q : Sizes) (kept : List (List KeptPart)) (offers : FunctionOffers) (seats : List FunctionSeat) : Type 0 where
   pub table : TableId
-  pub first : AreDealt (place table 0) (opening_of (kept_in 0 kept)) offers.first.items (map (λ s. s.first) seats)
-  pub second : AreDealt (place table 1) (opening_of (kept_in 1 kept)) offers.second.items (map (λ s. s.second) seats)
-  pub third : AreDealt (place table 2) (opening_of (kept_in 2 kept)) offers.third.items (map (λ s. s.third) seats)
-  pub fourth : AreDealt (place table 3) (opening_of (kept_in 3 kept)) offers.fourth.items (map (λ s. s.fourth) seats)
+  pub first : AreDealt (place table 0) (opening_of q (kept_in 0 kept)) offers.first.items (map (λ s. s.first) seats)
+  pub second : AreDealt (place table 1) (opening_of q (kept_in 1 kept)) offers.second.items (map (λ s. s.second) seats)
+  pub third : AreDealt (place table 2) (opening_of q (kept_in 2 kept)) offers.third.items (map (λ s. s.third) seats)
+  pub fourth : AreDealt (place table 3) (opening_of q (kept_in 3 kept)) offers.fourth.items (map (λ s. s.fourth) seats)
 
 -- they deal the seats of rooms that were opened so, in one table
-pub record AreDealersOf (kept : List (List KeptPart)) (all : FourDealers) : Type 0 where
-  pub first : all.first ≡ room_opened all.first.table.table 4 0 (kept_in 0 kept)
-  pub second : all.second ≡ room_opened all.first.table.table 4 1 (kept_in 1 kept)
-  pub third : all.third ≡ room_opened all.first.table.table 4 2 (kept_in 2 kept)
-  pub fourth : all.fourth ≡ room_opened all.first.table.table 4 3 (kept_in 3 kept)
+pub record AreDealersOf (q : Sizes) (kept : List (List KeptPart)) (all : FourDealers) : Type 0 where
+  pub first : all.first ≡ room_opened all.first.table.table 4 0 q (kept_in 0 kept)
+  pub second : all.second ≡ room_opened all.first.table.table 4 1 q (kept_in 1 kept)
+  pub third : all.third ≡ room_opened all.first.table.table 4 2 q (kept_in 2 kept)
+  pub fourth : all.fourth ≡ room_opened all.first.table.table 4 3 q (kept_in 3 kept)
 
 -- none has dealt a seat, and each pass has so many nodes, and as many offers, made or not
 pub record AreFresh (all : FourDealers) (offers : FunctionOffers) : Type 0 where
@@ -68,13 +85,13 @@ pub record AreFresh (all : FourDealers) (offers : FunctionOffers) : Type 0 where
   pub next2 : all.second.next ≡ 0
   pub next3 : all.third.next ≡ 0
   pub next4 : all.fourth.next ≡ 0
-  pub count2 : all.second.opening.count ≡ all.first.opening.count
-  pub count3 : all.third.opening.count ≡ all.first.opening.count
-  pub count4 : all.fourth.opening.count ≡ all.first.opening.count
-  pub offers1 : length offers.first.items ≡ all.first.opening.count
-  pub offers2 : length offers.second.items ≡ all.second.opening.count
-  pub offers3 : length offers.third.items ≡ all.third.opening.count
-  pub offers4 : length offers.fourth.items ≡ all.fourth.opening.count
+  pub count2 : all.second.opening.quorums.nodes ≡ all.first.opening.quorums.nodes
+  pub count3 : all.third.opening.quorums.nodes ≡ all.first.opening.quorums.nodes
+  pub count4 : all.fourth.opening.quorums.nodes ≡ all.first.opening.quorums.nodes
+  pub offers1 : length offers.first.items ≡ all.first.opening.quorums.nodes
+  pub offers2 : length offers.second.items ≡ all.second.opening.quorums.nodes
+  pub offers3 : length offers.third.items ≡ all.third.opening.quorums.nodes
+  pub offers4 : length offers.fourth.items ≡ all.fourth.opening.quorums.nodes
 
 -- the nodes' seats, as they were dealt
 pub record AreDealtBy (all : FourDealers) (offers : FunctionOffers) (seats : List FunctionSeat) : Type 0 where

@@ -1,14 +1,14 @@
 //! The calls of a seat, each in the room of the pass that it names. Each is the call of that room's seat: it loads or stores words
 //! of that room alone.
 
-ghost use Rattle.std.specs.Prelude.{◌≡◌, ℕ, ◌<◌, ◌≤◌, ◌↔◌, Some, None, IsErr, IfOk};
+ghost use Rattle.std.specs.Prelude.{◌≡◌, ℕ, ◌<◌, ◌≤◌, ◌↔◌, Some, None, IsErr, IfOk, IfSome};
 ghost use Rattle.std.specs.Option.{option_map};
 ghost use Rattle.paxos_core_law.specs.declared.step.Step.TheVariants as step;
 ghost use Rattle.paxos_core_world.specs.declared.vote.Vote.{Vote};
 ghost use Rattle.rooms_state.specs.Did.{Forgotten, LookedAtAcceptor, LookedAtProposer};
 ghost use Rattle.rooms_state.specs.Would.{would, Acted, IsAmong};
 ghost use Rattle.rooms_state.specs.declared.act.Act.TheVariants as act;
-ghost use Rattle.rooms_function.specs.Pass.{words_in, IsOnlyIn};
+ghost use Rattle.rooms_function.specs.Pass.{words_in, HasLearned, IsOnlyIn};
 
 use crate::seat::FunctionSeat;
 use crate::words::{accept, forget, promise, propose, start};
@@ -22,7 +22,7 @@ impl FunctionSeat {
     pub fn intent(&self, pass: u8, act: Act) -> Option<Step>
         requires some { 0 < pass }
         requires most { pass ≤ 4 }
-        requires among { IsAmong (words_in pass self.now).node.count act }
+        requires among { IsAmong (words_in pass self.now).node.quorums.nodes act }
         ensures { result ≡ would (words_in pass self.now) act }
     {
         match pass {
@@ -54,7 +54,7 @@ impl FunctionSeat {
     pub fn look_proposer(&mut self, pass: u8, j: u8) -> ProposerWord
         requires some { 0 < pass }
         requires most { pass ≤ 4 }
-        requires number { j < (words_in pass self.old).node.count }
+        requires number { j < (words_in pass self.old).node.quorums.nodes }
         ensures looked { LookedAtProposer j result (words_in pass self.old) (words_in pass self.new) }
         ensures only { IsOnlyIn pass self.old self.new }
     {
@@ -71,7 +71,7 @@ impl FunctionSeat {
     pub fn look_acceptor(&mut self, pass: u8, j: u8) -> AcceptorWord
         requires some { 0 < pass }
         requires most { pass ≤ 4 }
-        requires number { j < (words_in pass self.old).node.count }
+        requires number { j < (words_in pass self.old).node.quorums.nodes }
         ensures looked { LookedAtAcceptor j result (words_in pass self.old) (words_in pass self.new) }
         ensures only { IsOnlyIn pass self.old self.new }
     {
@@ -87,7 +87,7 @@ impl FunctionSeat {
     pub fn promise(&mut self, pass: u8, j: u8) -> Option<u16>
         requires some { 0 < pass }
         requires most { pass ≤ 4 }
-        requires number { j < (words_in pass self.old).node.count }
+        requires number { j < (words_in pass self.old).node.quorums.nodes }
         ensures answer { option_map step.Promise result ≡ would (words_in pass self.old) (act.Promise j) }
         ensures acted { Acted (act.Promise j) (words_in pass self.old) (words_in pass self.new) }
         ensures only { IsOnlyIn pass self.old self.new }
@@ -123,7 +123,7 @@ impl FunctionSeat {
     pub fn accept(&mut self, pass: u8, j: u8) -> Option<Vote>
         requires some { 0 < pass }
         requires most { pass ≤ 4 }
-        requires number { j < (words_in pass self.old).node.count }
+        requires number { j < (words_in pass self.old).node.quorums.nodes }
         ensures answer { option_map (λ (x : Vote). step.Accept x.ballot x.value) result
             ≡ would (words_in pass self.old) (act.Accept j) }
         ensures acted { Acted (act.Accept j) (words_in pass self.old) (words_in pass self.new) }
@@ -157,7 +157,8 @@ impl FunctionSeat {
     pub fn learned(&self, pass: u8) -> Option<u8>
         requires some { 0 < pass }
         requires most { pass ≤ 4 }
-        ensures { result ≡ (words_in pass self.now).node.learned }
+        ensures value { result ≡ (words_in pass self.now).node.learned }
+        ensures there { IfSome result (λ v. HasLearned pass v self.now) }
     {
         match pass {
             1 => self.first.words.learned(),

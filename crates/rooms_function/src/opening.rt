@@ -1,7 +1,8 @@
-ghost use Rattle.std.specs.Prelude.{◌≡◌, ◌≢◌, ◌⊎◌, ℕ, ◌+◌, ◌<◌, ◌≤◌, length, map, IfOk, OnOk, IfErr};
-ghost use Rattle.paxos_core_law.specs.NodeState.{IsRoomSize};
+ghost use Rattle.std.specs.Prelude.{◌≡◌, ◌≢◌, ◌↔◌, ℕ, ◌+◌, ◌<◌, ◌≤◌, ◌∷◌, length, map, IfErr, IfOk, IfSome, IsNone, IsTrue, OnOk};
+ghost use Rattle.std.specs.Vec.Iter.{into_iter_items};
+ghost use Rattle.paxos_core_world.specs.World.{nodes_of};
 ghost use Rattle.rooms.specs.Opened.{AreOffersOf};
-ghost use Rattle.rooms_function.specs.Opened.{kept_in, AreDealersOf, AreDealtBy, AreFresh, AreSeatsOf, AreSettled, IsOfferedIn, IsSettledIn, IsUnopened};
+ghost use Rattle.rooms_function.specs.Opened.{kept_in, seven_parts, AreDealersOf, AreDealtBy, AreFresh, AreSeatsOf, AreSettled, IsLowest, IsOfferedIn, IsSettledIn, IsUndealt, IsUnopened};
 ghost use Rattle.rooms.specs.declared.error.RoomError.TheVariants as error;
 
 use crate::seat::FunctionSeat;
@@ -10,10 +11,11 @@ use constprop_check::ConstProp;
 use cse_check::Cse;
 use linearize_check::Linearize;
 use offers::Offer;
-use paxos_core::{Kept, settled};
+use paxos_core::{Kept, Quorums, settled};
 use rooms::{RoomError, Seat, seats_of};
 use rooms_seat::{FourDealers, open_four};
-use std::alloc::Global;
+use std::alloc::{AllocError, Global};
+use std::vec::IntoIter;
 
 /// Opens the rooms of functions. They are no value: they last as long as one of their seats does.
 pub struct FunctionRoom;
@@ -35,65 +37,130 @@ pub struct Unopened {
 }
 
 impl FunctionRoom {
-    /// The seats of the nodes of a function, which have kept these parts in the rooms of the four passes and made these offers.
+    /// The seats of the nodes of a function, which have kept these parts in the rooms of the four passes and made these offers. Each
+    /// room has these quorums.
     pub fn open(
         alloc: Global,
         kept: &[[Kept; 4]],
         offers: FunctionOffers,
+        quorums: Quorums,
     ) -> Result<Vec<FunctionSeat>, Unopened>
-        requires size { IsRoomSize (length kept.now) }
+        requires size { length kept.now ≡ quorums.nodes }
         requires first { AreOffersOf (kept_in 0 kept.now) offers.first.items }
         requires second { AreOffersOf (kept_in 1 kept.now) offers.second.items }
         requires third { AreOffersOf (kept_in 2 kept.now) offers.third.items }
         requires fourth { AreOffersOf (kept_in 3 kept.now) offers.fourth.items }
-        ensures ok { IfOk result (λ seats. AreSeatsOf kept.now offers seats.items) }
-        ensures settled { OnOk result (AreSettled kept.now) }
-        ensures told { IfErr result (λ e. IsUnopened kept.now offers e.pass e.error) }
+        ensures ok { IfOk result (λ seats. AreSeatsOf quorums kept.now offers seats.items) }
+        ensures settled { OnOk result (AreSettled quorums kept.now) }
+        ensures told { IfErr result (λ e. IsUnopened quorums kept.now offers e.pass e.error) }
     {
-        let dealers = match dealers_of(alloc, kept) {
-            Ok(dealers) => dealers,
-            Err(unopened) => return Err(unopened),
-        };
-        seats_of_all(alloc, dealers, offers)
+        match dealers_of(alloc, kept, quorums) {
+            Ok(dealers) => seats_of_all(alloc, dealers, offers),
+            Err(unopened) => Err(unopened),
+        }
     }
 }
 
 /// Deals the seats in the rooms of the four passes, where what was kept in each is settled.
-fn dealers_of(alloc: Global, kept: &[[Kept; 4]]) -> Result<FourDealers, Unopened>
-    requires { IsRoomSize (length kept.now) }
-    ensures ok { IfOk result (λ all. AreDealersOf kept.now all) }
-    ensures settled { OnOk result (AreSettled kept.now) }
-    ensures pass { IfErr result (λ e. (0 < e.pass) × (e.pass ≤ 4)) }
-    ensures before { IfErr result (λ e. (other : ℕ) → other + 1 < e.pass → IsSettledIn kept.now other) }
-    ensures here { IfErr result (λ e. e.error ≡ error.Unsettled → (other : ℕ) → other + 1 ≡ e.pass
-        → ¬ IsSettledIn kept.now other) }
-    ensures refused { IfErr result (λ e. e.error ≢ error.CellRefused) }
+fn dealers_of(alloc: Global, kept: &[[Kept; 4]], quorums: Quorums) -> Result<FourDealers, Unopened>
+    requires { length kept.now ≡ quorums.nodes }
+    ensures ok { IfOk result (λ all. AreDealersOf quorums kept.now all) }
+    ensures settled { OnOk result (AreSettled quorums kept.now) }
+    ensures told { IfErr result (λ e. IsUndealt quorums kept.now e.pass e.error) }
 {
-    let first = match settled_in(alloc, kept, 0) {
-        Ok(parts) => parts,
-        Err(unopened) => return Err(unopened),
-    };
-    let second = match settled_in(alloc, kept, 1) {
-        Ok(parts) => parts,
-        Err(unopened) => return Err(unopened),
-    };
-    let third = match settled_in(alloc, kept, 2) {
-        Ok(parts) => parts,
-        Err(unopened) => return Err(unopened),
-    };
-    let fourth = match settled_in(alloc, kept, 3) {
-        Ok(parts) => parts,
-        Err(unopened) => return Err(unopened),
-    };
-    match open_four(
-        alloc,
-        first.as_slice(),
-        second.as_slice(),
-        third.as_slice(),
-        fourth.as_slice(),
-    ) {
+    if let Some(pass) = unsettled_pass(kept, quorums) {
+        return Err(Unopened {
+            pass,
+            error: RoomError::Unsettled,
+        });
+    }
+    match four_dealers(alloc, kept, quorums) {
         Ok(dealers) => Ok(dealers),
         Err(_) => Err(no_memory()),
+    }
+}
+
+/// The lowest pass, from 1 to 4, in the room of which what was kept is not settled.
+fn unsettled_pass(kept: &[[Kept; 4]], quorums: Quorums) -> Option<u8>
+    requires { length kept.now ≡ quorums.nodes }
+    ensures some { IfSome result (λ pass. IsLowest quorums kept.now pass) }
+    ensures none { IsNone result → AreSettled quorums kept.now }
+{
+    for pass in 0..4 {
+        if !is_settled_in(kept, pass, quorums) {
+            return Some(pass + 1);
+        }
+    }
+    None
+}
+
+/// Whether what was kept in the room of a pass, the first pass's being 0, is settled.
+fn is_settled_in(kept: &[[Kept; 4]], pass: u8, quorums: Quorums) -> bool
+    requires size { length kept.now ≡ quorums.nodes }
+    requires pass { pass < 4 }
+    ensures { IsTrue result ↔ IsSettledIn quorums kept.now pass }
+{
+    let parts = parts_in(kept, usize::from(pass));
+    settled(&parts[..usize::from(quorums.nodes())], quorums)
+}
+
+/// The dealers of the rooms of the four passes in one table.
+fn four_dealers(
+    alloc: Global,
+    kept: &[[Kept; 4]],
+    quorums: Quorums,
+) -> Result<FourDealers, AllocError>
+    requires size { length kept.now ≡ quorums.nodes }
+    requires settled { AreSettled quorums kept.now }
+    ensures { IfOk result (λ all. AreDealersOf quorums kept.now all) }
+{
+    let nodes = usize::from(quorums.nodes());
+    let first = parts_in(kept, 0);
+    let second = parts_in(kept, 1);
+    let third = parts_in(kept, 2);
+    let fourth = parts_in(kept, 3);
+    open_four(
+        alloc,
+        &first[..nodes],
+        &second[..nodes],
+        &third[..nodes],
+        &fourth[..nodes],
+        quorums,
+    )
+}
+
+/// What each node has kept in the room of a pass, the first pass's being 0, in a row of seven.
+fn parts_in(kept: &[[Kept; 4]], pass: usize) -> [Kept; 7]
+    ensures { result ≡ seven_parts (kept_in pass kept.now) }
+{
+    [
+        part_of(kept, 0, pass),
+        part_of(kept, 1, pass),
+        part_of(kept, 2, pass),
+        part_of(kept, 3, pass),
+        part_of(kept, 4, pass),
+        part_of(kept, 5, pass),
+        part_of(kept, 6, pass),
+    ]
+}
+
+/// What the node of that number has kept in the room of a pass, the first pass's being 0.
+fn part_of(kept: &[[Kept; 4]], node: usize, pass: usize) -> Kept
+    ensures { result ≡ nodes_of (kept_in pass kept.now) node }
+{
+    match kept.get(node) {
+        Some(parts) => part_at(parts, pass),
+        None => Kept::nothing(),
+    }
+}
+
+/// What stands at that place.
+fn part_at(parts: &[Kept; 4], pass: usize) -> Kept
+    ensures { result ≡ nodes_of parts.now pass }
+{
+    match parts.get(pass) {
+        Some(part) => *part,
+        None => Kept::nothing(),
     }
 }
 
@@ -103,8 +170,7 @@ fn seats_of_all(
     dealers: FourDealers,
     offers: FunctionOffers,
 ) -> Result<Vec<FunctionSeat>, Unopened>
-    requires size { IsRoomSize dealers.first.opening.count }
-    requires fresh { AreFresh dealers offers }
+    requires { AreFresh dealers offers }
     ensures ok { IfOk result (λ seats. AreDealtBy dealers offers seats.items) }
     ensures pass { IfErr result (λ e. (0 < e.pass) × (e.pass ≤ 4)) }
     ensures settled { IfErr result (λ e. e.error ≢ error.Unsettled) }
@@ -141,24 +207,6 @@ fn seats_of_all(
     node_by_node(alloc, first, second, third, fourth)
 }
 
-/// What each node has kept in the room of a pass, the first pass's being 0.
-fn parts_in(alloc: Global, kept: &[[Kept; 4]], pass: usize) -> Result<Vec<Kept>, Unopened>
-    ensures ok { IfOk result (λ parts. parts.items ≡ kept_in pass kept.now) }
-    ensures err { IfErr result (λ e. (e.error ≡ error.NoMemory) × (e.pass ≡ 1)) }
-{
-    let mut parts = Vec::new(alloc);
-    for node in kept {
-        let part = match node.get(pass) {
-            Some(part) => *part,
-            None => Kept::nothing(),
-        };
-        if parts.push(part).is_err() {
-            return Err(no_memory());
-        }
-    }
-    Ok(parts)
-}
-
 /// There is no memory for a room.
 fn no_memory() -> Unopened
     ensures error { result.error ≡ error.NoMemory }
@@ -167,30 +215,6 @@ fn no_memory() -> Unopened
     Unopened {
         pass: 1,
         error: RoomError::NoMemory,
-    }
-}
-
-/// What the nodes have kept in the room of a pass, the first pass's being 0, where it is settled.
-fn settled_in(alloc: Global, kept: &[[Kept; 4]], pass: u8) -> Result<Vec<Kept>, Unopened>
-    requires size { IsRoomSize (length kept.now) }
-    requires pass { pass < 4 }
-    ensures ok { IfOk result (λ parts. parts.items ≡ kept_in pass kept.now) }
-    ensures settled { OnOk result (IsSettledIn kept.now pass) }
-    ensures pass { IfErr result (λ e. (e.pass ≡ 1) ⊎ (e.pass ≡ pass + 1)) }
-    ensures err { IfErr result (λ e. e.error ≡ error.Unsettled → (e.pass ≡ pass + 1) × (¬ IsSettledIn kept.now pass)) }
-    ensures refused { IfErr result (λ e. e.error ≢ error.CellRefused) }
-{
-    let parts = match parts_in(alloc, kept, usize::from(pass)) {
-        Ok(parts) => parts,
-        Err(unopened) => return Err(unopened),
-    };
-    if settled(parts.as_slice()) {
-        Ok(parts)
-    } else {
-        Err(Unopened {
-            pass: pass + 1,
-            error: RoomError::Unsettled,
-        })
     }
 }
 
@@ -216,26 +240,26 @@ fn node_by_node(
     let mut thirds = third.into_iter();
     let mut fourths = fourth.into_iter();
     for first in first {
-        // There is one of each, since there are as many.
-        let Some(second) = seconds.next() else {
-            return Err(no_memory());
-        };
-        let Some(third) = thirds.next() else {
-            return Err(no_memory());
-        };
-        let Some(fourth) = fourths.next() else {
-            return Err(no_memory());
-        };
         let node = FunctionSeat {
             first,
-            second,
-            third,
-            fourth,
+            second: next_of(&mut seconds),
+            third: next_of(&mut thirds),
+            fourth: next_of(&mut fourths),
         };
-        match nodes.push(node) {
-            Ok(()) => {}
-            Err(_) => return Err(no_memory()),
+        if nodes.push(node).is_err() {
+            return Err(no_memory());
         }
     }
     Ok(nodes)
+}
+
+/// The next of those that are left.
+fn next_of<T: Drop>(left: &mut IntoIter<T>) -> T
+    requires { 0 < length (into_iter_items left.old) }
+    ensures { into_iter_items left.old ≡ result ∷ into_iter_items left.new }
+{
+    let Some(next) = left.next() else {
+        unreachable!();
+    };
+    next
 }

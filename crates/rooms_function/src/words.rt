@@ -23,7 +23,7 @@ pub fn start(words: &mut WordSeat) -> Result<u16, CoreError>
 
 /// Promises the ballot last seen of node `j`.
 pub fn promise(words: &mut WordSeat, j: u8) -> Option<u16>
-    requires { j < words.old.node.count }
+    requires { j < words.old.node.quorums.nodes }
     ensures answer { option_map step.Promise result ≡ would words.old (act.Promise j) }
     ensures acted { Acted (act.Promise j) words.old words.new }
 {
@@ -40,7 +40,7 @@ pub fn propose(words: &mut WordSeat) -> Option<(u16, u16)>
 
 /// Votes for what node `j` was last seen to have proposed.
 pub fn accept(words: &mut WordSeat, j: u8) -> Option<Vote>
-    requires { j < words.old.node.count }
+    requires { j < words.old.node.quorums.nodes }
     ensures answer { option_map (λ (x : Vote). step.Accept x.ballot x.value) result ≡ would words.old (act.Accept j) }
     ensures acted { Acted (act.Accept j) words.old words.new }
 {

@@ -27,34 +27,34 @@ promised s j report = record s { promises = set s.promises j (Some report) }
 
 -- the votes of the ballot, once that vote is noted, are an accept quorum
 abbrev is_quorum : NodeState → ℕ → Vote → Bool
-is_quorum s j x = is_accept_quorum s.count (has_voted (set s.votes j (Some x)) x.ballot)
+is_quorum s j x = is_accept_quorum s.quorums (has_voted (set s.votes j (Some x)) x.ballot)
 
-same_promise : (s u : NodeState) (j p : ℕ) (report : Option Vote) → u.count ≡ s.count → u.ballot ≡ s.ballot → notes_promise u j p report ≡ notes_promise s j p report
-same_promise s u j p report ec eb = λ i. ltb 0 p && (ltb j (ec i) && (is_report (ec i) p report && is_under_way (eb i) p))
+same_promise : (s u : NodeState) (j p : ℕ) (report : Option Vote) → u.quorums ≡ s.quorums → u.ballot ≡ s.ballot → notes_promise u j p report ≡ notes_promise s j p report
+same_promise s u j p report eq eb = λ i. ltb 0 p && (ltb j (eq i).nodes && (is_report (eq i).nodes p report && is_under_way (eb i) p))
 
 -- a promise that is noted is noted still, where its place is as it was
-promise_still : (s u : NodeState) (j p : ℕ) (report : Option Vote) → u.count ≡ s.count → u.ballot ≡ s.ballot
+promise_still : (s u : NodeState) (j p : ℕ) (report : Option Vote) → u.quorums ≡ s.quorums → u.ballot ≡ s.ballot
     → (set s.promises j (Some report) ≡ s.promises → set u.promises j (Some report) ≡ u.promises)
     → after_promise s j p report ≡ s → after_promise u j p report ≡ u
-promise_still s u j p report ec eb place h = by_case (notes_promise s j p report) refl
+promise_still s u j p report eq eb place h = by_case (notes_promise s j p report) refl
   where
     by_case : (t : Bool) → notes_promise s j p report ≡ t → after_promise u j p report ≡ u
     by_case true e =
         let is : promised s j report ≡ s = sym (ap (λ (b : Bool). cond b (promised s j report) s) e) ∙ h in
         cond_both (notes_promise u j p report) (promised u j report) u (λ (t : NodeState). t ≡ u)
         (λ _. ap (λ ps. record u { promises = ps }) (place (ap (λ (t : NodeState). t.promises) is))) (λ _. refl)
-    by_case false e = ap (λ (b : Bool). cond b (promised u j report) u) (same_promise s u j p report ec eb ∙ e)
+    by_case false e = ap (λ (b : Bool). cond b (promised u j report) u) (same_promise s u j p report eq eb ∙ e)
 
 -- a vote that is noted is noted still, where its place is as it was, and it makes no quorum that is not learned
-vote_still : (s u : NodeState) (j : ℕ) (o : Option Vote) → u.count ≡ s.count → note_of u.votes j ≡ note_of s.votes j
+vote_still : (s u : NodeState) (j : ℕ) (o : Option Vote) → u.quorums ≡ s.quorums → note_of u.votes j ≡ note_of s.votes j
     → ((x : Vote) → set s.votes j (Some x) ≡ s.votes → set u.votes j (Some x) ≡ u.votes)
     → ((x : Vote) → set s.votes j (Some x) ≡ s.votes → learned_with s.learned (is_quorum s j x) x.value ≡ s.learned → learned_with u.learned (is_quorum u j x) x.value ≡ u.learned)
     → after_shown_vote s j o ≡ s → after_shown_vote u j o ≡ u
-vote_still s u j None ec en place learns h = refl
-vote_still s u j (Some x) ec en place learns h = by_case (notes_vote s j x) refl
+vote_still s u j None eq en place learns h = refl
+vote_still s u j (Some x) eq en place learns h = by_case (notes_vote s j x) refl
   where
     same : notes_vote u j x ≡ notes_vote s j x
-    same = λ i. ltb j (ec i) && (is_vote (ec i) x && is_at_most (en i) x.ballot)
+    same = λ i. ltb j (eq i).nodes && (is_vote (eq i).nodes x && is_at_most (en i) x.ballot)
 
     by_case : (t : Bool) → notes_vote s j x ≡ t → after_vote u j x ≡ u
     by_case true e =
@@ -69,7 +69,7 @@ vote_still s u j (Some x) ec en place learns h = by_case (notes_vote s j x) refl
 
 -- u has noted and learned what s has, for the same ballot
 pub record SameNotes (s u : NodeState) : Type 0 where
-  pub count : u.count ≡ s.count
+  pub quorums : u.quorums ≡ s.quorums
   pub ballot : u.ballot ≡ s.ballot
   pub promises : u.promises ≡ s.promises
   pub votes : u.votes ≡ s.votes
@@ -78,36 +78,36 @@ pub record SameNotes (s u : NodeState) : Type 0 where
 pub heard_still : (s u : NodeState) → SameNotes s u → (j : ℕ) (x : AcceptorWord) → IsHeard s j x → IsHeard u j x
 heard_still s u same j x h =
     record {
-      promise = promise_still s u j x.promised x.accepted same.count same.ballot
+      promise = promise_still s u j x.promised x.accepted same.quorums same.ballot
           (λ e. subst (λ (ps : List (Option (Option Vote))). set ps j (Some x.accepted) ≡ ps) (sym same.promises) e) h.promise;
-      vote = vote_still s u j x.accepted same.count (ap (λ (vs : List (Option Vote)). note_of vs j) same.votes)
+      vote = vote_still s u j x.accepted same.quorums (ap (λ (vs : List (Option Vote)). note_of vs j) same.votes)
           (λ y e. subst (λ (vs : List (Option Vote)). set vs j (Some y) ≡ vs) (sym same.votes) e)
-          (λ y _ e. (λ i. learned_with (same.learned i) (is_accept_quorum (same.count i) (has_voted (set (same.votes i) j (Some y)) y.ballot)) y.value) ∙ (e ∙ sym same.learned))
+          (λ y _ e. (λ i. learned_with (same.learned i) (is_accept_quorum (same.quorums i) (has_voted (set (same.votes i) j (Some y)) y.ballot)) y.value) ∙ (e ∙ sym same.learned))
           h.vote;
     }
 
 same_if : (t : Bool) (s u : NodeState) → SameNotes s u → SameNotes s (cond t u s)
 same_if true s u h = h
-same_if false s u h = record { count = refl; ballot = refl; promises = refl; votes = refl; learned = refl }
+same_if false s u h = record { quorums = refl; ballot = refl; promises = refl; votes = refl; learned = refl }
 
 -- to promise, to vote, to propose and to offer
 pub same_promised : (s u : NodeState) (b : ℕ) → u ≡ after_prepare s b → SameNotes s u
 same_promised s u b e =
-    subst (λ (t : NodeState). SameNotes s t) (sym e) (same_if (promises s b) s _ record { count = refl; ballot = refl; promises = refl; votes = refl; learned = refl })
+    subst (λ (t : NodeState). SameNotes s t) (sym e) (same_if (promises s b) s _ record { quorums = refl; ballot = refl; promises = refl; votes = refl; learned = refl })
 
 pub same_voted : (s u : NodeState) (x : Vote) → u ≡ after_propose s x → SameNotes s u
 same_voted s u x e =
-    subst (λ (t : NodeState). SameNotes s t) (sym e) (same_if (accepts s x) s _ record { count = refl; ballot = refl; promises = refl; votes = refl; learned = refl })
+    subst (λ (t : NodeState). SameNotes s t) (sym e) (same_if (accepts s x) s _ record { quorums = refl; ballot = refl; promises = refl; votes = refl; learned = refl })
 
 same_answer : (s : NodeState) (o : Option (ℕ × ℕ)) → SameNotes s (after_answer s (propose_message o))
-same_answer s None = record { count = refl; ballot = refl; promises = refl; votes = refl; learned = refl }
-same_answer s (Some p) = record { count = refl; ballot = refl; promises = refl; votes = refl; learned = refl }
+same_answer s None = record { quorums = refl; ballot = refl; promises = refl; votes = refl; learned = refl }
+same_answer s (Some p) = record { quorums = refl; ballot = refl; promises = refl; votes = refl; learned = refl }
 
 pub same_proposed : (s u : NodeState) → u ≡ after_proposal s → SameNotes s u
 same_proposed s u e = subst (λ (t : NodeState). SameNotes s t) (sym e) (same_answer s (next_proposal s))
 
 pub same_offered : (s : NodeState) → SameNotes s (offered s)
-same_offered s = record { count = refl; ballot = refl; promises = refl; votes = refl; learned = refl }
+same_offered s = record { quorums = refl; ballot = refl; promises = refl; votes = refl; learned = refl }
 
 -- ---- another node's word
 
@@ -135,12 +135,12 @@ learned_there None true v e h = absurd (let bad : Some v ≡ None = e in cc)
 learned_there None false v e h = absurd (cc)
 
 -- a quorum of one vote's ballot that stands once another is noted is learned then
-quorum_other : (s : NodeState) (k : ℕ) (x y : Vote) → (IsAcceptQuorum s.count (has_voted s.votes x.ballot) → IsSome s.learned)
-    → IsAcceptQuorum s.count (has_voted (set s.votes k (Some y)) x.ballot) → IsSome (voted s k y).learned
+quorum_other : (s : NodeState) (k : ℕ) (x y : Vote) → (IsAcceptQuorum s.quorums (has_voted s.votes x.ballot) → IsSome s.learned)
+    → IsAcceptQuorum s.quorums (has_voted (set s.votes k (Some y)) x.ballot) → IsSome (voted s k y).learned
 quorum_other s k x y before q = elim (cases_eq y.ballot x.ballot) [
-  | inl same ↦ some_now s.learned (is_quorum s k y) y.value (subst (λ (b : ℕ). IsAcceptQuorum s.count (has_voted (set s.votes k (Some y)) b)) (sym same) q)
+  | inl same ↦ some_now s.learned (is_quorum s k y) y.value (subst (λ (b : ℕ). IsAcceptQuorum s.quorums (has_voted (set s.votes k (Some y)) b)) (sym same) q)
   | inr other ↦ some_with s.learned (is_quorum s k y) y.value
-      (before (accept_quorum_grows s.count (has_voted (set s.votes k (Some y)) x.ballot) (has_voted s.votes x.ballot) (λ i _. voted_before s.votes k y x.ballot other i) q))
+      (before (accept_quorum_grows s.quorums (has_voted (set s.votes k (Some y)) x.ballot) (has_voted s.votes x.ballot) (λ i _. voted_before s.votes k y x.ballot other i) q))
 ]
 
 voted_other : (s : NodeState) (j k : ℕ) (o : Option Vote) (y : Vote) → j ≢ k → after_shown_vote s j o ≡ s → after_shown_vote (voted s k y) j o ≡ voted s k y
@@ -149,8 +149,8 @@ voted_other s j k o y d h =
     (λ x e. set_still s.votes j k (Some x) (Some y) d e)
     (λ x e l. learned_again (voted s k y).learned (is_quorum (voted s k y) j x) x.value (λ q.
     quorum_other s k x y
-    (λ r. learned_there s.learned (is_quorum s j x) x.value l (subst (λ (vs : List (Option Vote)). IsAcceptQuorum s.count (has_voted vs x.ballot)) (sym e) r))
-    (subst (λ (vs : List (Option Vote)). IsAcceptQuorum s.count (has_voted vs x.ballot)) (set_still s.votes j k (Some x) (Some y) d e) q)))
+    (λ r. learned_there s.learned (is_quorum s j x) x.value l (subst (λ (vs : List (Option Vote)). IsAcceptQuorum s.quorums (has_voted vs x.ballot)) (sym e) r))
+    (subst (λ (vs : List (Option Vote)). IsAcceptQuorum s.quorums (has_voted vs x.ballot)) (set_still s.votes j k (Some x) (Some y) d e) q)))
     h
 
 -- what is so of a node, and of it once a vote is noted, is so of it once a vote was shown
@@ -198,7 +198,7 @@ voted_twice s j x =
     let same : set (set s.votes j (Some x)) j (Some x) ≡ set s.votes j (Some x) = set-set s.votes j (Some x) (Some x) in
     λ i. record s {
       votes = same i;
-      learned = ((λ k. learned_with (learned_with s.learned (is_quorum s j x) x.value) (is_accept_quorum s.count (has_voted (same k) x.ballot)) x.value) ∙ learned_twice s.learned (is_quorum s j x) x.value) i;
+      learned = ((λ k. learned_with (learned_with s.learned (is_quorum s j x) x.value) (is_accept_quorum s.quorums (has_voted (same k) x.ballot)) x.value) ∙ learned_twice s.learned (is_quorum s j x) x.value) i;
     }
 
 shown_twice : (s : NodeState) (j : ℕ) (o : Option Vote) → after_shown_vote (after_shown_vote s j o) j o ≡ after_shown_vote s j o

@@ -1,4 +1,5 @@
 pub mod Hearing
+pub mod Looked
 pub mod Meetings
 pub mod Sweeps
 pub mod Openings

@@ -1,5 +1,6 @@
 -- One room, or four, that can be opened can be opened in a table.
-use Rattle.std.proofs.Common.{◌≡◌, ℕ, zero, suc, ◌<◌, [], ◌∷◌, length, refl, sym, ap, ◌∙◌, subst, inl, inr, arith}
+use Rattle.std.proofs.Common.{◌≡◌, ℕ, zero, suc, ◌<◌, ◌≤◌, [], ◌∷◌, length, refl, sym, ap, ◌∙◌, subst, arith}
+use Rattle.paxos_core_world.specs.Quorum.{AreQuorums, Sizes}
 use Rattle.paxos_core_world.specs.Settled.{Settled}
 use Rattle.paxos_core_world.specs.World.{nodes_of}
 use Rattle.rooms_rights.specs.Rights.{Held, MayDeal}
@@ -8,16 +9,12 @@ use Rattle.rooms_state.specs.Opening.{Opening}
 use Rattle.rooms_state.specs.View.{View}
 use Rattle.rooms_rights.specs.RoomAt.{HasWords}
 use Rattle.rooms_state.specs.SeatState.{CanOpen}
-use Rattle.rooms_rights.specs.NodeState.{IsRoomSize}
-use Rattle.rooms_state.proofs.Opened.{room_size}
 use Rattle.rooms_rights.specs.Family.{opening_in}
 use Rattle.rooms_rights.specs.Opened.{CanOpenAll}
 use Rattle.rooms_rights.specs.Openings.{Openings}
 
-pub some_node : {n : ℕ} → IsRoomSize n → 0 < n
-some_node {n} (inl e) = omega arith
-some_node {n} (inr (inl e)) = omega arith
-some_node {n} (inr (inr e)) = omega arith
+pub some_node : (q : Sizes) → AreQuorums q → 0 < q.nodes
+some_node q are = let least : 2 ≤ q.nodes = are.least in omega arith
 
 -- rooms that stand in the row of a table's rooms
 abbrev pub openings : ℕ → Opening → Opening → Opening → Opening → Openings
@@ -31,23 +28,27 @@ no_fifth n lt = absurd (omega arith)
 
 pub one_opens : (o : Opening) → CanOpen o → CanOpenAll (openings 1 o o o o)
 one_opens o can =
-    record { some = omega arith; few = omega arith; most = room_size o.count can.size; row = refl; rows = rows; same = same; settled = settled }
+    record { some = omega arith; few = omega arith; most = can.sizes.most; row = refl; rows = rows; same = same; sizes = sizes; settled = settled }
   where
     rows : (r : ℕ) → r < 1 → length (opening_in (openings 1 o o o o) r).kept ≡ 7
     rows zero lt = can.row
     rows (suc r) lt = none r lt
 
-    same : (r : ℕ) → r < 1 → (opening_in (openings 1 o o o o) r).count ≡ o.count
+    same : (r : ℕ) → r < 1 → (opening_in (openings 1 o o o o) r).quorums.nodes ≡ o.quorums.nodes
     same zero lt = refl
     same (suc r) lt = none r lt
 
-    settled : (r : ℕ) → r < 1 → Settled (opening_in (openings 1 o o o o) r).count (nodes_of (opening_in (openings 1 o o o o) r).kept)
+    sizes : (r : ℕ) → r < 1 → AreQuorums (opening_in (openings 1 o o o o) r).quorums
+    sizes zero lt = can.sizes
+    sizes (suc r) lt = none r lt
+
+    settled : (r : ℕ) → r < 1 → Settled (opening_in (openings 1 o o o o) r).quorums (nodes_of (opening_in (openings 1 o o o o) r).kept)
     settled zero lt = can.settled
     settled (suc r) lt = none r lt
 
-pub four_open : (a b c d : Opening) → CanOpen a → CanOpen b → CanOpen c → CanOpen d → b.count ≡ a.count → c.count ≡ a.count → d.count ≡ a.count → CanOpenAll (openings 4 a b c d)
+pub four_open : (a b c d : Opening) → CanOpen a → CanOpen b → CanOpen c → CanOpen d → b.quorums.nodes ≡ a.quorums.nodes → c.quorums.nodes ≡ a.quorums.nodes → d.quorums.nodes ≡ a.quorums.nodes → CanOpenAll (openings 4 a b c d)
 four_open a b c d ka kb kc kd eb ec ed =
-    record { some = omega arith; few = omega arith; most = room_size a.count ka.size; row = refl; rows = rows; same = same; settled = settled }
+    record { some = omega arith; few = omega arith; most = ka.sizes.most; row = refl; rows = rows; same = same; sizes = sizes; settled = settled }
   where
     rows : (r : ℕ) → r < 4 → length (opening_in (openings 4 a b c d) r).kept ≡ 7
     rows zero lt = ka.row
@@ -56,14 +57,21 @@ four_open a b c d ka kb kc kd eb ec ed =
     rows (suc (suc (suc zero))) lt = kd.row
     rows (suc (suc (suc (suc r)))) lt = no_fifth r lt
 
-    same : (r : ℕ) → r < 4 → (opening_in (openings 4 a b c d) r).count ≡ a.count
+    same : (r : ℕ) → r < 4 → (opening_in (openings 4 a b c d) r).quorums.nodes ≡ a.quorums.nodes
     same zero lt = refl
     same (suc zero) lt = eb
     same (suc (suc zero)) lt = ec
     same (suc (suc (suc zero))) lt = ed
     same (suc (suc (suc (suc r)))) lt = no_fifth r lt
 
-    settled : (r : ℕ) → r < 4 → Settled (opening_in (openings 4 a b c d) r).count (nodes_of (opening_in (openings 4 a b c d) r).kept)
+    sizes : (r : ℕ) → r < 4 → AreQuorums (opening_in (openings 4 a b c d) r).quorums
+    sizes zero lt = ka.sizes
+    sizes (suc zero) lt = kb.sizes
+    sizes (suc (suc zero)) lt = kc.sizes
+    sizes (suc (suc (suc zero))) lt = kd.sizes
+    sizes (suc (suc (suc (suc r)))) lt = no_fifth r lt
+
+    settled : (r : ℕ) → r < 4 → Settled (opening_in (openings 4 a b c d) r).quorums (nodes_of (opening_in (openings 4 a b c d) r).kept)
     settled zero lt = ka.settled
     settled (suc zero) lt = kb.settled
     settled (suc (suc zero)) lt = kc.settled
@@ -71,11 +79,11 @@ four_open a b c d ka kb kc kd eb ec ed =
     settled (suc (suc (suc (suc r)))) lt = no_fifth r lt
 
 -- the next node's part of the rights may be given away
-pub may_deal : (h : Held) (o : Opening) (k : ℕ) → HasWords h.at o.count → h.me.0 ≡ dealing o k → k < o.count → MayDeal h k
+pub may_deal : (h : Held) (o : Opening) (k : ℕ) → HasWords h.at o.quorums.nodes → h.me.0 ≡ dealing o k → k < o.quorums.nodes → MayDeal h k
 may_deal h o k words view lt =
     let same : h.me.0.opening ≡ o = ap (λ (v : View). v.opening) view in
     record {
-      words = subst (λ (p : Opening). HasWords h.at p.count) (sym same) words;
+      words = subst (λ (p : Opening). HasWords h.at p.quorums.nodes) (sym same) words;
       view = view ∙ ap (λ (p : Opening). dealing p k) (sym same);
-      next = subst (λ (p : Opening). k < p.count) (sym same) lt;
+      next = subst (λ (p : Opening). k < p.quorums.nodes) (sym same) lt;
     }

@@ -16,10 +16,9 @@ use Rattle.rooms_state.specs.Did.{LookedAtAcceptor, LookedAtProposer}
 use Rattle.rooms_state.specs.SeatState.{acceptor_of, SeatState, no_acceptor, no_proposer}
 use Rattle.rooms_state.specs.Sound.{IsSound}
 use Rattle.rooms_state.proofs.Moves.{acceptor_look, proposer_look}
-use Rattle.rooms_met.specs.Met.{LookedOn}
+use Rattle.rooms_met.specs.Met.{LookedAtBoth, LookedAtFirst}
 use Rattle.rooms_met.specs.Seen.{acceptor_shown, acceptors_shown, proposer_shown, proposers_shown, with_acceptor, heard_with, IsHeard, IsKept}
 use Rattle.rooms_met.proofs.Hearing.{heard_before, heard_now, heard_other, heard_still, hears_again, SameNotes}
-use Rattle.rooms_met.proofs.Meetings.{on_acceptor, on_proposer, on_through}
 
 -- ---- the rows of words
 
@@ -68,7 +67,7 @@ module _ (table : RoomAt) (p : Option ℕ) where
   after u w node ps xs = record { table = u; view = w; node = node; proposed = p; proposers = ps; acceptors = xs }
 
   -- the number found of a proposer is put down
-  pub proposer_found : (v : View) (node : NodeState) (s : List SeenWords) → IsSound (seat_of table v node p s) → (place j n : ℕ) → place ≡ j → place < node.count → (x : ProposerWord) → x.started ≡ started_in n → x.proposed ≡ proposed_in n
+  pub proposer_found : (v : View) (node : NodeState) (s : List SeenWords) → IsSound (seat_of table v node p s) → (place j n : ℕ) → place ≡ j → place < node.quorums.nodes → (x : ProposerWord) → x.started ≡ started_in n → x.proposed ≡ proposed_in n
       → (u : RoomAt) → u ≡ table → (w : View) → LooksAtProposer place n v w
       → IsSound (seat_of u w node p (with_proposer s place n)) × LookedAtProposer j x (seat_of table v node p s) (seat_of u w node p (with_proposer s place n))
   proposer_found v node s sound place j n at lt x es ep u eu w h =
@@ -78,7 +77,7 @@ module _ (table : RoomAt) (p : Option ℕ) where
       (proposer_look (seat_of table v node p s) sound place j n at lt x es ep u eu w h)
 
   -- the number found of an acceptor is put down, and the node hears it
-  pub acceptor_found : (v : View) (node : NodeState) (s : List SeenWords) → IsSound (seat_of table v node p s) → (place j n : ℕ) → place ≡ j → place < node.count → (x : AcceptorWord) → x.promised ≡ promised_in n → x.accepted ≡ accepted_in n
+  pub acceptor_found : (v : View) (node : NodeState) (s : List SeenWords) → IsSound (seat_of table v node p s) → (place j n : ℕ) → place ≡ j → place < node.quorums.nodes → (x : AcceptorWord) → x.promised ≡ promised_in n → x.accepted ≡ accepted_in n
       → (u : RoomAt) → u ≡ table → (w : View) → LooksAtAcceptor place n v w → (heard : NodeState) → heard ≡ after_hearing node j x.promised x.accepted
       → IsSound (seat_of u w heard p (with_acceptor s place n)) × LookedAtAcceptor j x (seat_of table v node p s) (seat_of u w heard p (with_acceptor s place n))
   acceptor_found v node s sound place j n at lt x es ep u eu w h heard eh =
@@ -88,7 +87,7 @@ module _ (table : RoomAt) (p : Option ℕ) where
       (acceptor_look (seat_of table v node p s) sound place j n at lt x es ep u eu w h heard eh)
 
   -- a look at a proposer leaves what was heard
-  pub proposer_kept : (heard : ℕ) (v : View) (node : NodeState) (s : List SeenWords) → IsKept heard (seat_of table v node p s) → (place j n : ℕ) → place ≡ j → place < node.count → (x : ProposerWord) → x.started ≡ started_in n → x.proposed ≡ proposed_in n
+  pub proposer_kept : (heard : ℕ) (v : View) (node : NodeState) (s : List SeenWords) → IsKept heard (seat_of table v node p s) → (place j n : ℕ) → place ≡ j → place < node.quorums.nodes → (x : ProposerWord) → x.started ≡ started_in n → x.proposed ≡ proposed_in n
       → (u : RoomAt) → u ≡ table → (w : View) → LooksAtProposer place n v w
       → IsKept heard (seat_of u w node p (with_proposer s place n)) × LookedAtProposer j x (seat_of table v node p s) (seat_of u w node p (with_proposer s place n))
   proposer_kept heard v node s kept place j n at lt x es ep u eu w h =
@@ -101,7 +100,7 @@ module _ (table : RoomAt) (p : Option ℕ) where
       )
 
   -- so does one at an acceptor whose word is heard, where the number is found again that was seen last
-  pub acceptor_again : (heard : ℕ) (v : View) (node : NodeState) (s : List SeenWords) → IsKept heard (seat_of table v node p s) → (place j n : ℕ) → place ≡ j → place < node.count → j < heard → (x : AcceptorWord) → x.promised ≡ promised_in n → x.accepted ≡ accepted_in n
+  pub acceptor_again : (heard : ℕ) (v : View) (node : NodeState) (s : List SeenWords) → IsKept heard (seat_of table v node p s) → (place j n : ℕ) → place ≡ j → place < node.quorums.nodes → j < heard → (x : AcceptorWord) → x.promised ≡ promised_in n → x.accepted ≡ accepted_in n
       → (u : RoomAt) → u ≡ table → (w : View) → LooksAtAcceptor place n v w → n ≡ (seen_of s place).acceptor
       → IsKept heard (seat_of u w node p s) × LookedAtAcceptor j x (seat_of table v node p s) (seat_of u w node p s)
   acceptor_again heard v node s kept place j n at lt low x es ep u eu w h again =
@@ -115,7 +114,7 @@ module _ (table : RoomAt) (p : Option ℕ) where
       )
 
   -- what was heard before is heard still once node j's word is, and that is heard
-  still_heard : (heard now : ℕ) (v : View) (node : NodeState) (s : List SeenWords) → IsKept heard (seat_of table v node p s) → (j n : ℕ) → j < node.count
+  still_heard : (heard now : ℕ) (v : View) (node : NodeState) (s : List SeenWords) → IsKept heard (seat_of table v node p s) → (j n : ℕ) → j < node.quorums.nodes
       → ((k : ℕ) → k < now → (k ≡ j) ⊎ (k < heard))
       → (k : ℕ) → k < now → IsHeard (after_hearing node j (promised_in n) (accepted_in n)) k (get_or (acceptors_shown (with_acceptor s j n)) k no_acceptor)
   still_heard heard now v node s kept j n lt which k low = by_case (ℕ_discrete k j) (which k low)
@@ -124,7 +123,7 @@ module _ (table : RoomAt) (p : Option ℕ) where
       hears = after_hearing node j (promised_in n) (accepted_in n)
 
       room : j < length (acceptors_shown s)
-      room = let row : length (acceptors_shown s) ≡ 7 = kept.sound.acceptor_row in let most : node.count ≤ 7 = kept.sound.most in omega arith
+      room = let row : length (acceptors_shown s) ≡ 7 = kept.sound.acceptor_row in let most : node.quorums.nodes ≤ 7 = kept.sound.most in omega arith
 
       now_there : get_or (acceptors_shown (with_acceptor s j n)) j no_acceptor ≡ record { promised = promised_in n; accepted = accepted_in n }
       now_there = ap (λ (xs : List AcceptorWord). get_or xs j no_acceptor) (acceptor_put s j n) ∙ get_or-set_same (acceptors_shown s) j _ no_acceptor room
@@ -141,14 +140,14 @@ module _ (table : RoomAt) (p : Option ℕ) where
           subst (λ (x : AcceptorWord). IsHeard hears k x) (sym (as_before d)) (heard_other node k j (get_or (acceptors_shown s) k no_acceptor) (promised_in n) (accepted_in n) d (kept.heard_so k before))
 
   -- a number is put down, and the node hears it
-  pub acceptor_noted : (heard now : ℕ) (v : View) (node : NodeState) (s : List SeenWords) → IsKept heard (seat_of table v node p s) → (place j n : ℕ) → place ≡ j → place < node.count → (x : AcceptorWord) → x.promised ≡ promised_in n → x.accepted ≡ accepted_in n
+  pub acceptor_noted : (heard now : ℕ) (v : View) (node : NodeState) (s : List SeenWords) → IsKept heard (seat_of table v node p s) → (place j n : ℕ) → place ≡ j → place < node.quorums.nodes → (x : AcceptorWord) → x.promised ≡ promised_in n → x.accepted ≡ accepted_in n
       → (u : RoomAt) → u ≡ table → (w : View) → LooksAtAcceptor place n v w → (hears : NodeState) → hears ≡ after_hearing node j (promised_in n) (accepted_in n) → (put : SeenWords) → put ≡ record (seen_of s place) { acceptor = n } → now ≡ heard_with heard j
       → IsKept now (seat_of u w hears p (set s place put)) × LookedAtAcceptor j x (seat_of table v node p s) (seat_of u w hears p (set s place put))
   acceptor_noted heard now v node s kept place j n at lt x es ep u eu w h hears eh put is en =
       let same : hears ≡ after_hearing node j x.promised x.accepted = eh ∙ (λ i. after_hearing node j (sym es i) (sym ep i)) in
       let found = acceptor_found v node s kept.sound place j n at lt x es ep u eu w h hears same in
       let which : (k : ℕ) → k < now → (k ≡ j) ⊎ (k < heard) = λ k low. heard_before heard j k (subst (λ (m : ℕ). k < m) en low) in
-      let low : j < node.count = subst (λ (i : ℕ). i < node.count) at lt in
+      let low : j < node.quorums.nodes = subst (λ (i : ℕ). i < node.quorums.nodes) at lt in
       let all : (k : ℕ) → k < now → IsHeard hears k (get_or (acceptors_shown (with_acceptor s place n)) k no_acceptor) = λ k l.
       subst (λ (i : ℕ). IsHeard hears k (get_or (acceptors_shown (with_acceptor s i n)) k no_acceptor)) (sym at)
       (subst (λ (z : NodeState). IsHeard z k (get_or (acceptors_shown (with_acceptor s j n)) k no_acceptor)) (sym eh) (still_heard heard now v node s kept j n low which k l)) in
@@ -156,19 +155,24 @@ module _ (table : RoomAt) (p : Option ℕ) where
       (record { sound = found.0; heard_so = all }, found.1)
 
   -- both words of a node were looked at
-  pub node_found : (v : View) (node : NodeState) (s : List SeenWords) → IsSound (seat_of table v node p s) → (j number : ℕ) → j < node.count → (w : View) (t : List SeenWords) → LookedAtNode j number v s w t
+  pub node_found : (v : View) (node : NodeState) (s : List SeenWords) → IsSound (seat_of table v node p s) → (j number : ℕ) → j < node.quorums.nodes → (w : View) (t : List SeenWords) → LookedAtNode j number v s w t
       → (heard : NodeState) → heard ≡ after_hearing node j (promised_in number) (accepted_in number) → (r : List SeenWords) → r ≡ with_acceptor t j number
-      → IsSound (seat_of table w heard p r) × LookedOn (seat_of table v node p s) (seat_of table w heard p r)
+      → IsSound (seat_of table w heard p r) × LookedAtBoth j (seat_of table v node p s) (seat_of table w heard p r)
   node_found v node s sound j number lt w t h heard eh r er =
       let first = proposer_found v node s sound j j h.found refl lt (record { started = started_in h.found; proposed = proposed_in h.found }) refl refl table refl h.between h.proposer in
       let sound' = subst (λ (xs : List SeenWords). IsSound (seat_of table h.between node p xs)) (sym h.put) first.0 in
       let second = acceptor_found h.between node t sound' j j number refl lt (record { promised = promised_in number; accepted = accepted_in number }) refl refl table refl w h.acceptor heard eh in
-      let on = on_proposer j _ (seat_of table v node p s) (seat_of table h.between node p t)
-      (subst (λ (xs : List SeenWords). LookedAtProposer j (record { started = started_in h.found; proposed = proposed_in h.found }) (seat_of table v node p s) (seat_of table h.between node p xs)) (sym h.put) first.1) in
-      subst (λ (xs : List SeenWords). IsSound (seat_of table w heard p xs) × LookedOn (seat_of table v node p s) (seat_of table w heard p xs)) (sym er) (
+      let on : LookedAtProposer j (record { started = started_in h.found; proposed = proposed_in h.found }) (seat_of table v node p s) (seat_of table h.between node p t) =
+      subst (λ (xs : List SeenWords). LookedAtProposer j (record { started = started_in h.found; proposed = proposed_in h.found }) (seat_of table v node p s) (seat_of table h.between node p xs)) (sym h.put) first.1 in
+      subst (λ (xs : List SeenWords). IsSound (seat_of table w heard p xs) × LookedAtBoth j (seat_of table v node p s) (seat_of table w heard p xs)) (sym er) (
         second.0,
-        on_through (seat_of table v node p s) (seat_of table h.between node p t) (seat_of table w heard p (with_acceptor t j number)) on
-            (on_acceptor j _ (seat_of table h.between node p t) (seat_of table w heard p (with_acceptor t j number)) second.1),
+        record {
+          proposer = record { started = started_in h.found; proposed = proposed_in h.found };
+          acceptor = record { promised = promised_in number; accepted = accepted_in number };
+          between = seat_of table h.between node p t;
+          first = on;
+          second = second.1;
+        },
       )
 
   -- ---- the looks of a sweep, which found nothing new
@@ -177,15 +181,7 @@ module _ (table : RoomAt) (p : Option ℕ) where
   pub record SweptOn (v : View) (node : NodeState) (s : List SeenWords) (j : ℕ) (w : View) (t : List SeenWords) : Type 0 where
     pub sound : IsSound (seat_of table w node p t)
     pub same : acceptors_shown t ≡ acceptors_shown s
-    pub start : j ≡ 0 → (w ≡ v) × (t ≡ s)
-    pub on : 0 < j → LookedOn (seat_of table v node p s) (seat_of table w node p t)
-
-  -- what is looked at next
-  on_more : (v : View) (node : NodeState) (s : List SeenWords) (j : ℕ) (u : View) (r : List SeenWords) → SweptOn v node s j u r → (z : SeatState) → LookedOn (seat_of table u node p r) z → LookedOn (seat_of table v node p s) z
-  on_more v node s zero u r h z k =
-      let e : seat_of table u node p r ≡ seat_of table v node p s = λ i. seat_of table ((h.start refl).0 i) node p ((h.start refl).1 i) in
-      subst (λ (x : SeatState). LookedOn x z) e k
-  on_more v node s (suc j) u r h z k = on_through (seat_of table v node p s) (seat_of table u node p r) z (h.on (omega arith)) k
+    pub looked : LookedAtFirst j (seat_of table v node p s) (seat_of table w node p t)
 
   -- the number that was seen last is put down again
   shown_again : (r t : List SeenWords) (j found : ℕ) → j < length r → t ≡ with_proposer r j found → t ≡ with_acceptor t j (seen_of r j).acceptor
@@ -197,43 +193,41 @@ module _ (table : RoomAt) (p : Option ℕ) where
   length_shown : (r : List SeenWords) → length (proposers_shown r) ≡ length r
   length_shown r = length-map r proposer_shown
 
-  pub swept_on : (heard : ℕ) (v : View) (node : NodeState) (s : List SeenWords) → IsKept heard (seat_of table v node p s) → node.count ≤ heard → (j : ℕ) → j ≤ node.count → (w : View) (t : List SeenWords) → Swept j v s w t → SweptOn v node s j w t
+  pub swept_on : (heard : ℕ) (v : View) (node : NodeState) (s : List SeenWords) → IsKept heard (seat_of table v node p s) → node.quorums.nodes ≤ heard → (j : ℕ) → j ≤ node.quorums.nodes → (w : View) (t : List SeenWords) → Swept j v s w t → SweptOn v node s j w t
   swept_on heard v node s kept all zero most w t h =
       record {
         sound = subst (λ (z : View). IsSound (seat_of table z node p t)) (sym h.0) (subst (λ (xs : List SeenWords). IsSound (seat_of table v node p xs)) (sym h.1) kept.sound);
         same = ap acceptors_shown h.1;
-        start = λ e. h;
-        on = λ lt. absurd (omega arith);
+        looked = λ i. seat_of table (h.0 i) node p (h.1 i);
       }
   swept_on heard v node s kept all (suc j) most w t (u, r, h, k) =
       let before = swept_on heard v node s kept all j (omega arith) u r h in
       let word : get_or (acceptors_shown s) j no_acceptor ≡ acceptor_shown (seen_of r j) = sym (ap (λ (xs : List AcceptorWord). get_or xs j no_acceptor) before.same) ∙ acceptor_at r j in
       let had : IsHeard node j (acceptor_shown (seen_of r j)) = subst (λ (y : AcceptorWord). IsHeard node j y) word (kept.heard_so j (omega arith)) in
       let row : length r ≡ 7 = sym (length_shown r) ∙ before.sound.proposer_row in
-      let few : node.count ≤ 7 = before.sound.most in
+      let few : node.quorums.nodes ≤ 7 = before.sound.most in
       let both = node_found u node r before.sound j (seen_of r j).acceptor (omega arith) w t k node (sym (hears_again node j (acceptor_shown (seen_of r j)) had)) t (shown_again r t j k.found (omega arith) k.put) in
       record {
         sound = both.0;
         same = ap acceptors_shown k.put ∙ (acceptors_stay r j k.found ∙ before.same);
-        start = λ e. absurd (omega arith);
-        on = λ lt. on_more v node s j u r before (seat_of table w node p t) both.1;
+        looked = (seat_of table u node p r, before.looked, both.1);
       }
 
   -- all nodes were looked at
-  pub all_swept : (heard : ℕ) (v : View) (node : NodeState) (s : List SeenWords) → IsKept heard (seat_of table v node p s) → node.count ≤ heard → (w : View) (t : List SeenWords) → Swept node.count v s w t
-      → IsKept heard (seat_of table w node p t) × (0 < node.count → LookedOn (seat_of table v node p s) (seat_of table w node p t))
+  pub all_swept : (heard : ℕ) (v : View) (node : NodeState) (s : List SeenWords) → IsKept heard (seat_of table v node p s) → node.quorums.nodes ≤ heard → (w : View) (t : List SeenWords) → Swept node.quorums.nodes v s w t
+      → IsKept heard (seat_of table w node p t) × LookedAtFirst node.quorums.nodes (seat_of table v node p s) (seat_of table w node p t)
   all_swept heard v node s kept all w t h =
-      let on = swept_on heard v node s kept all node.count (omega arith) w t h in (
+      let on = swept_on heard v node s kept all node.quorums.nodes (omega arith) w t h in (
         record { sound = on.sound; heard_so = λ j lt. subst (λ (xs : List AcceptorWord). IsHeard node j (get_or xs j no_acceptor)) (sym on.same) (kept.heard_so j lt) },
-        on.on,
+        on.looked,
       )
 
   -- it stopped at a node, and heard what was found
-  pub swept_until : (heard : ℕ) (v : View) (node : NodeState) (s : List SeenWords) → IsKept heard (seat_of table v node p s) → node.count ≤ heard → (j number : ℕ) (w : View) (t : List SeenWords) → StoppedAt j number node.count v s w t
+  pub swept_until : (heard : ℕ) (v : View) (node : NodeState) (s : List SeenWords) → IsKept heard (seat_of table v node p s) → node.quorums.nodes ≤ heard → (j number : ℕ) (w : View) (t : List SeenWords) → StoppedAt j number node.quorums.nodes v s w t
       → (hears : NodeState) → hears ≡ after_hearing node j (promised_in number) (accepted_in number) → (r : List SeenWords) → r ≡ with_acceptor t j number
-      → IsKept heard (seat_of table w hears p r) × LookedOn (seat_of table v node p s) (seat_of table w hears p r)
+      → IsKept heard (seat_of table w hears p r) × LookedAtFirst (suc j) (seat_of table v node p s) (seat_of table w hears p r)
   swept_until heard v node s kept all j number w t h hears eh r er =
-      let below : j < node.count = h.node in
+      let below : j < node.quorums.nodes = h.node in
       let before = swept_on heard v node s kept all j (omega arith) h.before h.seen h.swept in
       let last = node_found h.before node h.seen before.sound j number below w t h.looked hears eh r er in
       let kept' : IsKept heard (seat_of table h.before node p h.seen) =
@@ -244,7 +238,7 @@ module _ (table : RoomAt) (p : Option ℕ) where
       subst (λ (xs : List AcceptorWord). IsHeard hears k (get_or xs k no_acceptor)) (sym shown)
       (subst (λ (z : NodeState). IsHeard z k (get_or (acceptors_shown (with_acceptor h.seen j number)) k no_acceptor)) (sym eh)
       (still_heard heard heard h.before node h.seen kept' j number below (λ i il. inr il) k lt)) in
-      (record { sound = last.0; heard_so = each }, on_more v node s j h.before h.seen before (seat_of table w hears p r) last.1)
+      (record { sound = last.0; heard_so = each }, (seat_of table h.before node p h.seen, before.looked, last.1))
 
 -- a seat that has heard no word that it saw last
 pub none_heard : (s : SeatState) → IsSound s → IsKept 0 s

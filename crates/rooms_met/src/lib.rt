@@ -4,6 +4,6 @@
 #![tactic(auto)]
 
 pub use rooms_rights::{
-    CoreError, Kept, Msg, Node, Rights, SeenWords, Step, Vote, acceptor, open_four, open_one,
-    proposer, settled, view,
+    CoreError, Kept, Msg, Node, Quorums, Rights, SeenWords, Step, Vote, acceptor, open_four,
+    open_one, proposer, settled, view,
 };

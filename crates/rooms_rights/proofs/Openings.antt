@@ -58,10 +58,10 @@ module _ (o : Openings) (can : CanOpenAll o) (pair : ℕ) (lt : pair < count_of 
       fits None e = tt
       fits (Some x) e =
           let settled = can.settled (pair % o.rooms) room_is in
-          let below : pair / o.rooms < (opening_in o (pair % o.rooms)).count = subst (λ (n : ℕ). pair / o.rooms < n) (sym (can.same (pair % o.rooms) room_is)) node_is in
+          let below : pair / o.rooms < (opening_in o (pair % o.rooms)).quorums.nodes = subst (λ (n : ℕ). pair / o.rooms < n) (sym (can.same (pair % o.rooms) room_is)) node_is in
           let most : count_of o ≤ 7 = can.most in
-          let same : (opening_in o (pair % o.rooms)).count ≡ count_of o = can.same (pair % o.rooms) room_is in
-          let number : x.value < (opening_in o (pair % o.rooms)).count = (settled.vote (pair / o.rooms) x below e).offered.0 in
+          let same : (opening_in o (pair % o.rooms)).quorums.nodes ≡ count_of o = can.same (pair % o.rooms) room_is in
+          let number : x.value < (opening_in o (pair % o.rooms)).quorums.nodes = (settled.vote (pair / o.rooms) x below e).offered.0 in
           let within = subst (λ (a : Option Vote). IfSome a (λ y. (1 ≤ y.ballot) × (y.ballot ≤ (part_at o pair).promised))) e (settled.within (pair / o.rooms) below) in
           (within.0, omega arith)
 
@@ -77,16 +77,16 @@ some_words o can some pairs e words size =
 
 -- ---- one room
 
-pub has_words : (o : Openings) (can : CanOpenAll o) (at : RoomAt) (room : ℕ) → room < o.rooms → at.rooms ≡ o.rooms → at.table.words ≡ 2 * (count_of o * o.rooms) → HasWords at (opening_in o room).count
+pub has_words : (o : Openings) (can : CanOpenAll o) (at : RoomAt) (room : ℕ) → room < o.rooms → at.rooms ≡ o.rooms → at.table.words ≡ 2 * (count_of o * o.rooms) → HasWords at (opening_in o room).quorums.nodes
 has_words o can at room lt er ew =
     let few : o.rooms ≤ 4 = can.few in
-    let same : (opening_in o room).count ≡ count_of o = can.same room lt in
+    let same : (opening_in o room).quorums.nodes ≡ count_of o = can.same room lt in
     let most : count_of o ≤ 7 = can.most in
     record {
       some = subst (λ (n : ℕ). 0 < n) (sym er) can.some;
       few = subst (λ (n : ℕ). n ≤ 4) (sym er) few;
       most = subst (λ (n : ℕ). n ≤ 7) (sym same) most;
-      words = ew ∙ (ap (λ (n : ℕ). 2 * (n * o.rooms)) (sym same) ∙ ap (λ (n : ℕ). 2 * ((opening_in o room).count * n)) (sym er));
+      words = ew ∙ (ap (λ (n : ℕ). 2 * (n * o.rooms)) (sym same) ∙ ap (λ (n : ℕ). 2 * ((opening_in o room).quorums.nodes * n)) (sym er));
     }
 
 -- what the first token of so many rooms knows

@@ -42,7 +42,7 @@ module _ (board : TableId) (at : RoomAt) (id : ℕ) (me : Me (Unit {0}) Views) (
     may_in_table f number may o t same =
         subst (λ (u : TableId). (place < u.words) × Allows (FamilyRule o) u.slots id me place f (λ n. InRoom T (step u.slots place first second none) me (number n))) same (
           subst (λ (n : ℕ). place < n) (sym may.words.words)
-              (subst (λ (p : ℕ). p < 2 * ((view_in me.0 at.room).opening.count * at.rooms)) (sym stands) (place_below at.rooms at.room (view_in me.0 at.room).opening.count word rights.number may.below)),
+              (subst (λ (p : ℕ). p < 2 * ((view_in me.0 at.room).opening.quorums.nodes * at.rooms)) (sym stands) (place_below at.rooms at.room (view_in me.0 at.room).opening.quorums.nodes word rights.number may.below)),
           subst (λ (p : ℕ). Allows (FamilyRule o) at.table.slots id me p f (λ n. InRoom T (step at.table.slots p first second none) me (number n))) place_is
               (plays o at.table.slots id me at.room word f number first second none T is_room may.below may.seated may.allowed),
         )
@@ -74,8 +74,8 @@ module _ (board : TableId) (at : RoomAt) (id : ℕ) (me : Me (Unit {0}) Views) (
     deals_here o = deals_nodes {S = Unit {0}} o id me.0 some_room k (λ r lt. by r (subst (λ (n : ℕ). r < n) rights.rooms lt) (ℕ_discrete r at.room))
       where
         by : (r : ℕ) → r < at.rooms → Dec (r ≡ at.room)
-            → ((view_in me.0 r).live ≡ false) ⊎ ((view_in me.0 r ≡ dealing (view_in me.0 r).opening k) × (k < (view_in me.0 r).opening.count))
-        by r lt (yes e) = inr (subst (λ (i : ℕ). (view_in me.0 i ≡ dealing (view_in me.0 i).opening k) × (k < (view_in me.0 i).opening.count)) (sym e) (may.view, may.next))
+            → ((view_in me.0 r).live ≡ false) ⊎ ((view_in me.0 r ≡ dealing (view_in me.0 r).opening k) × (k < (view_in me.0 r).opening.quorums.nodes))
+        by r lt (yes e) = inr (subst (λ (i : ℕ). (view_in me.0 i ≡ dealing (view_in me.0 i).opening k) × (k < (view_in me.0 i).opening.quorums.nodes)) (sym e) (may.view, may.next))
         by r lt (no d) = inl (rights.quiet r lt d)
 
     live_here : (view_in me.0 at.room).live ≡ true
@@ -123,10 +123,10 @@ module _ (board : TableId) (at : RoomAt) (id : ℕ) (me : Me (Unit {0}) Views) (
 
     pub some_word : 0 < at.table.words
     some_word =
-        let count : k < (view_in me.0 at.room).opening.count = may.next in
+        let count : k < (view_in me.0 at.room).opening.quorums.nodes = may.next in
         subst (λ (n : ℕ). 0 < n) (sym may.words.words)
-        (above (place_of at.rooms at.room 0) (2 * ((view_in me.0 at.room).opening.count * at.rooms))
-        (place_below at.rooms at.room (view_in me.0 at.room).opening.count 0 rights.number (first_word (view_in me.0 at.room).opening.count k count)))
+        (above (place_of at.rooms at.room 0) (2 * ((view_in me.0 at.room).opening.quorums.nodes * at.rooms))
+        (place_below at.rooms at.room (view_in me.0 at.room).opening.quorums.nodes 0 rights.number (first_word (view_in me.0 at.room).opening.quorums.nodes k count)))
       where
         first_word : (n k : ℕ) → k < n → 0 < 2 * n
         first_word n k lt = omega arith

@@ -51,13 +51,13 @@ module _ (board : TableId) (h : Held) (count : ℕ) where
       record {
         rights = rights;
         seated = seated_after (seen_by me) steps t (seen_by after) a e may.seated;
-        words = subst (λ (x : TableId). HasWords (at x) (seen_by after).opening.count) (sym eu)
-            (subst (λ (o : Opening). HasWords (at table) o.count) (sym opening) may.words);
-        nodes = ap (λ (o : Opening). o.count) opening ∙ may.nodes;
+        words = subst (λ (x : TableId). HasWords (at x) (seen_by after).opening.quorums.nodes) (sym eu)
+            (subst (λ (o : Opening). HasWords (at table) o.quorums.nodes) (sym opening) may.words);
+        nodes = ap (λ (o : Opening). o.quorums.nodes) opening ∙ may.nodes;
       }
 
   module _ (table : TableId) (me : Me (Unit {0}) Views) (may : MayLook board h count table me) (j place : ℕ) (lt : j < count) (stands : place ≡ 2 * pair_of h.at.rooms h.at.room j) where
-    below : j < (seen_by me).opening.count
+    below : j < (seen_by me).opening.quorums.nodes
     below = subst (λ (n : ℕ). j < n) (sym may.nodes) lt
 
     first_place : place ≡ place_of h.at.rooms h.at.room (2 * j)
@@ -75,7 +75,7 @@ module _ (board : TableId) (h : Held) (count : ℕ) where
         record {
           seated = may.seated;
           words = may.words;
-          below = low_word j (seen_by me).opening.count below;
+          below = low_word j (seen_by me).opening.quorums.nodes below;
           allowed = λ p. looks_at_proposer {S = Unit {0}} p table.slots id (seen_by me, me.1) (2 * j) may.seated;
         } o t (may.rights.same ∙ same) in
         (may.rights.same ∙ same, both.0, both.1)
@@ -98,7 +98,7 @@ module _ (board : TableId) (h : Held) (count : ℕ) where
         record {
           seated = may.seated;
           words = may.words;
-          below = high_word j (seen_by me).opening.count below;
+          below = high_word j (seen_by me).opening.quorums.nodes below;
           allowed = λ p. looks_at_acceptor {S = Unit {0}} p table.slots id (seen_by me, me.1) j below may.seated;
         } o t (may.rights.same ∙ same) in
         (may.rights.same ∙ same, both.0, both.1)
@@ -186,8 +186,8 @@ module _ (board x : TableId) (same : x ≡ board) (g h : Held) (is : g ≡ h) (c
             may = record {
               rights = subst (λ (b : TableId). HasRights b g.at me.0) (sym same) rights;
               seated = subst (λ (v : View). IsSeated v) ev m.seated;
-              words = subst (λ (v : View). HasWords g.at v.opening.count) ev m.words;
-              nodes = ap (λ (v : View). v.opening.count) (sym ev) ∙ m.count;
+              words = subst (λ (v : View). HasWords g.at v.opening.quorums.nodes) ev m.words;
+              nodes = ap (λ (v : View). v.opening.quorums.nodes) (sym ev) ∙ m.count;
             };
             swept = (sym ev, refl);
             row = row;

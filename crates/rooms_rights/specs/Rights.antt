@@ -28,18 +28,18 @@ pub record HasRights (board : TableId) (at : RoomAt) (v : Views) : Type 0 where
 -- a node's seat may take a step on this word of the room, after which the word is f of what it was
 pub record MayStep (h : Held) (word : ℕ) (f : ℕ → ℕ) (then : ℕ → Me (Unit {0}) View → Type 0) : Type 0 where
   pub seated : IsSeated h.me.0
-  pub words : HasWords h.at h.me.0.opening.count
-  pub below : word < 2 * h.me.0.opening.count
+  pub words : HasWords h.at h.me.0.opening.quorums.nodes
+  pub below : word < 2 * h.me.0.opening.quorums.nodes
   pub allowed : (o : Opening) → Allows (RoomRule o) h.at.table.slots h.id h.me word f then
 
 -- the rights of all nodes of a room that has just been opened, in this table
 pub record IsOpened (o : Openings) (table : TableId) (room : ℕ) (h : Held) : Type 0 where
   pub at : h.at ≡ record { table = table; rooms = o.rooms; room = room }
   pub me : h.me ≡ (dealing (opening_in o room) 0, [])
-  pub words : HasWords h.at (opening_in o room).count
+  pub words : HasWords h.at (opening_in o room).quorums.nodes
 
 -- there are nodes left whose seats may be dealt out: from this one on
 pub record MayDeal (h : Held) (k : ℕ) : Type 0 where
-  pub words : HasWords h.at h.me.0.opening.count
+  pub words : HasWords h.at h.me.0.opening.quorums.nodes
   pub view : h.me.0 ≡ dealing h.me.0.opening k
-  pub next : k < h.me.0.opening.count
+  pub next : k < h.me.0.opening.quorums.nodes

@@ -18,8 +18,8 @@ use Rattle.rooms_rights.specs.declared.seen.SeenWords.{SeenWords}
 pub record MayLook (board : TableId) (h : Held) (count : ℕ) (table : TableId) (me : Me (Unit {0}) Views) : Type 0 where
   pub rights : HasRights board record { table = table; rooms = h.at.rooms; room = h.at.room } me.0
   pub seated : IsSeated (view_in me.0 h.at.room)
-  pub words : HasWords record { table = table; rooms = h.at.rooms; room = h.at.room } (view_in me.0 h.at.room).opening.count
-  pub nodes : (view_in me.0 h.at.room).opening.count ≡ count
+  pub words : HasWords record { table = table; rooms = h.at.rooms; room = h.at.room } (view_in me.0 h.at.room).opening.quorums.nodes
+  pub nodes : (view_in me.0 h.at.room).opening.quorums.nodes ≡ count
 
 -- it may look at the words at this place, a node's
 pub record CanLook (board table : TableId) (me : Me (Unit {0}) Views) (place : ℕ) : Type 0 where
@@ -39,9 +39,9 @@ pub record Found (slots place : ℕ) (v : Me (Unit {0}) Views) (proposer accepto
 -- it may sweep the words of so many nodes, the room's
 pub record MaySweep (h : Held) (n : ℕ) : Type 0 where
   pub seated : IsSeated h.me.0
-  pub words : HasWords h.at h.me.0.opening.count
-  pub count : h.me.0.opening.count ≡ n
-  pub least : 3 ≤ n
+  pub words : HasWords h.at h.me.0.opening.quorums.nodes
+  pub count : h.me.0.opening.quorums.nodes ≡ n
+  pub least : 2 ≤ n
 
 abbrev pub none_seen : SeenWords
 none_seen = record { proposer = 0; acceptor = 0 }

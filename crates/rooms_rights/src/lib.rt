@@ -8,6 +8,8 @@ mod seen;
 
 pub use opening::{FourRights, open_four, open_one};
 pub use rights::{Board, Rights};
-pub use rooms_rule::{CoreError, Kept, Msg, Node, Step, Vote, acceptor, proposer, settled};
+pub use rooms_rule::{
+    CoreError, Kept, Msg, Node, Quorums, Step, Vote, acceptor, proposer, settled,
+};
 pub use rooms_table::view;
 pub use seen::SeenWords;

@@ -1,4 +1,5 @@
 ghost use Rattle.std.specs.Prelude.{◌≡◌, ◌<◌, ◌≤◌, ◌*◌, IfOk, IfSome, None};
+ghost use Rattle.std.specs.Arc.{arc_value};
 ghost use Rattle.rooms_rule.specs.Words.{IsAcceptorWord, IsProposerWord, IsVoteInWord};
 ghost use Rattle.rooms_table.specs.Family.{count_of};
 ghost use Rattle.rooms_table.specs.Opened.{part_at, CanOpenAll, ShowFirst};
@@ -54,12 +55,10 @@ pub fn open_four(alloc: Global, openings: &Openings) -> Result<FourRights, Alloc
     let pairs = pairs_of(openings);
     let (table, mut token) = Board::of_words(alloc, &words[..2 * pairs], openings)?;
     let board = Arc::new(alloc, table)?;
-    let board0 = board.clone()?;
-    let board1 = board.clone()?;
-    let board2 = board.clone()?;
-    let token0 = board.shared.split_seat::<DealsRoom>(&mut token);
-    let token1 = board.shared.split_seat::<DealsRoom>(&mut token);
-    let token2 = board.shared.split_seat::<DealsRoom>(&mut token);
+    let (board0, board1, board2, board3) = four_shares(board)?;
+    let token0 = board3.shared.split_seat::<DealsRoom>(&mut token);
+    let token1 = board3.shared.split_seat::<DealsRoom>(&mut token);
+    let token2 = board3.shared.split_seat::<DealsRoom>(&mut token);
     Ok(FourRights {
         first: Rights {
             board: board0,
@@ -80,12 +79,27 @@ pub fn open_four(alloc: Global, openings: &Openings) -> Result<FourRights, Alloc
             room: 2,
         },
         fourth: Rights {
-            board,
+            board: board3,
             token,
             rooms: 4,
             room: 3,
         },
     })
+}
+
+/// Four shares of a board.
+fn four_shares(
+    board: Arc<Board>,
+) -> Result<(Arc<Board>, Arc<Board>, Arc<Board>, Arc<Board>), AllocError>
+    ensures first { IfOk result (λ all. arc_value all.0 ≡ arc_value board) }
+    ensures second { IfOk result (λ all. arc_value all.1 ≡ arc_value board) }
+    ensures third { IfOk result (λ all. arc_value all.2 ≡ arc_value board) }
+    ensures fourth { IfOk result (λ all. arc_value all.3 ≡ arc_value board) }
+{
+    let first = board.clone()?;
+    let second = board.clone()?;
+    let third = board.clone()?;
+    Ok((first, second, third, board))
 }
 
 /// How many pairs of words there are.
@@ -96,7 +110,7 @@ fn pairs_of(openings: &Openings) -> usize
     ensures most { result ≤ 28 }
 {
     let all = &openings.each[..];
-    usize::from(all[0].count) * usize::from(openings.rooms)
+    usize::from(all[0].quorums.nodes()) * usize::from(openings.rooms)
 }
 
 /// The words with which the rooms open.

@@ -89,13 +89,8 @@ impl Rights {
         if found != seen[1].acceptor {
             return Some((1, found));
         }
-        let place = place + stride;
-        let found = look(board, &mut self.token, place, &mut seen[2]);
-        if found != seen[2].acceptor {
-            return Some((2, found));
-        }
         let mut place = place;
-        for j in 3..count {
+        for j in 2..count {
             place += stride;
             let node = usize::from(j);
             let found = look(board, &mut self.token, place, &mut seen[node]);

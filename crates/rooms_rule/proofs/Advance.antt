@@ -42,21 +42,21 @@ module _ {S : Type 0} (s : State S View) (id : ℕ) (v : View) (rule : RoomRule 
   world = world_after v.opening rule.run
 
   -- its node belongs to the world, which is reached by a run
-  pub belongs_now : BelongsButOffer v.opening.count (world_after v.opening rule.run) v.node
+  pub belongs_now : BelongsButOffer v.opening.quorums (world_after v.opening rule.run) v.node
   belongs_now = (rule.views id v at).belongs (seated_mine v seated)
 
-  pub reached_now : IsReached v.opening.count (world_after v.opening rule.run)
+  pub reached_now : IsReached v.opening.quorums (world_after v.opening rule.run)
   reached_now = legal_reached v.opening rule.run rule.legal
 
-  module _ (steps : List Label) (t : NodeState) (m : Option Msg) (takes : TakesLate v.opening.count (world_after v.opening rule.run) steps t m) (me : t.me ≡ v.node.me) where
+  module _ (steps : List Label) (t : NodeState) (m : Option Msg) (takes : TakesLate v.opening.quorums (world_after v.opening rule.run) steps t m) (me : t.me ≡ v.node.me) where
     abbrev run' : List Event
     run' = events_of steps ++ rule.run
 
-    own : AreStepsOf v.opening.count v.node.me steps
-    own = subst (λ (i : ℕ). AreStepsOf v.opening.count i steps) me takes.own
+    own : AreStepsOf v.opening.quorums.nodes v.node.me steps
+    own = subst (λ (i : ℕ). AreStepsOf v.opening.quorums.nodes i steps) me takes.own
 
-    belongs : BelongsButOffer v.opening.count (world_after v.opening (events_of steps ++ rule.run)) t
-    belongs = subst (λ (x : World). BelongsButOffer v.opening.count x t) (sym (world_after-events v.opening steps rule.run)) takes.belongs
+    belongs : BelongsButOffer v.opening.quorums (world_after v.opening (events_of steps ++ rule.run)) t
+    belongs = subst (λ (x : World). BelongsButOffer v.opening.quorums x t) (sym (world_after-events v.opening steps rule.run)) takes.belongs
 
     legal : IsLegal v.opening (events_of steps ++ rule.run)
     legal = legal_more v.opening steps rule.run rule.legal takes.run
@@ -95,13 +95,13 @@ module _ {S : Type 0} (s : State S View) (id : ℕ) (v : View) (rule : RoomRule 
           later = events_of steps ++ h.later;
           seen = ap (λ (r : List Event). events_of steps ++ r) h.seen ∙ sym (append_assoc (events_of steps) h.later u.seen);
           quiet = λ i mine.
-              subst (λ (ls : List Label). AreStepsOfOthers v.opening.count i ls) (sym (labels_of-events steps h.later))
-              (others-append v.opening.count i steps (labels_of h.later) (others_of_own v.opening.count i v.node.me steps own (apart i mine)) (h.quiet i mine));
+              subst (λ (ls : List Label). AreStepsOfOthers v.opening.quorums.nodes i ls) (sym (labels_of-events steps h.later))
+              (others-append v.opening.quorums.nodes i steps (labels_of h.later) (others_of_own v.opening.quorums.nodes i v.node.me steps own (apart i mine)) (h.quiet i mine));
           told = begins_longer (events_of steps) rule.run u.told h.told;
           told_by = h.told_by;
           belongs = λ mine.
-              subst (λ (x : World). BelongsButOffer v.opening.count x u.node) (sym (world_after-events v.opening steps rule.run))
-              (others_leave v.opening.count (world_after v.opening rule.run) u.node steps (others_of_own v.opening.count u.node.me v.node.me steps own (apart u.node.me mine)) (h.belongs mine));
+              subst (λ (x : World). BelongsButOffer v.opening.quorums x u.node) (sym (world_after-events v.opening steps rule.run))
+              (others_leave v.opening.quorums (world_after v.opening rule.run) u.node steps (others_of_own v.opening.quorums.nodes u.node.me v.node.me steps own (apart u.node.me mine)) (h.belongs mine));
         }
 
     views_fit : (j : ℕ) (u : View) → get_elem? (set s.views id (view_with v (events_of steps ++ rule.run) t)) j ≡ some u → Fits v.opening (events_of steps ++ rule.run) u
@@ -128,7 +128,7 @@ module _ {S : Type 0} (s : State S View) (id : ℕ) (v : View) (rule : RoomRule 
         let b = before q w f in
         rule.apart p q i a.0 b.0 a.1 b.1 (a.2 i mu) (b.2 i mw)
 
-    pub keeps_rule : (words : List ℕ) → ShowsWorld v.opening.count (world_after v.opening (events_of steps ++ rule.run)) words
+    pub keeps_rule : (words : List ℕ) → ShowsWorld v.opening.quorums.nodes (world_after v.opening (events_of steps ++ rule.run)) words
         → RoomRule v.opening record { words = words; homes = s.homes; views = set s.views id (view_with v (events_of steps ++ rule.run) t) }
     keeps_rule words shows = record { run = events_of steps ++ rule.run; legal = legal; words = shows; views = views_fit; apart = apart_still }
 
@@ -138,9 +138,9 @@ pub record Steps {S : Type 0} (v : View) (s : State S View) (rule : RoomRule v.o
   pub steps : List Label
   pub node : NodeState
   pub answer : Option Msg
-  pub takes : TakesLate v.opening.count (world_after v.opening rule.run) steps node answer
+  pub takes : TakesLate v.opening.quorums (world_after v.opening rule.run) steps node answer
   pub me : node.me ≡ v.node.me
-  pub shows : ShowsWorld v.opening.count (reached (world_after v.opening rule.run) steps) words
+  pub shows : ShowsWorld v.opening.quorums.nodes (reached (world_after v.opening rule.run) steps) words
   pub told : Advances v steps node (view_with v (events_of steps ++ rule.run) node) → Told (view_with v (events_of steps ++ rule.run) node)
 
 pub allows : {S : Type 0} (o : Opening) (slots id : ℕ) (me : Me S View) (k : ℕ) (f : ℕ → ℕ) (then : ℕ → Me S View → Type 0) → IsSeated me.0
@@ -154,7 +154,7 @@ allows {S} o slots id me k f then seated step s rule len at bound =
       keeps,
       tt,
       keeps_rule s id me.0 here at seated todo.steps todo.node todo.answer todo.takes todo.me (set s.words k (f (get_or s.words k 0)))
-          (subst (λ (x : World). ShowsWorld me.0.opening.count x (set s.words k (f (get_or s.words k 0)))) (sym (world_after-events me.0.opening todo.steps here.run)) todo.shows),
+          (subst (λ (x : World). ShowsWorld me.0.opening.quorums.nodes x (set s.words k (f (get_or s.words k 0)))) (sym (world_after-events me.0.opening todo.steps here.run)) todo.shows),
       todo.told (advances s id me.0 here at seated todo.steps todo.node todo.answer todo.takes todo.me),
     )
   where

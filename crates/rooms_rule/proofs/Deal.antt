@@ -1,5 +1,5 @@
 -- The rule holds as a room opens, and while its seats are dealt out and tell each other what they have seen.
-use Rattle.std.proofs.Common.{◌≡◌, ◌≢◌, ℕ, zero, suc, ◌+◌, ◌*◌, ◌<◌, ◌≤◌, ◌⊎◌, true, List, [], ◌∷◌, ◌++◌, length, set, get_or, append-nil, Option, Some, None, refl, sym, ap, ◌∙◌, subst, inl, inr, arith}
+use Rattle.std.proofs.Common.{◌≡◌, ◌≢◌, ℕ, zero, suc, ◌+◌, ◌*◌, ◌<◌, ◌≤◌, ◌⊎◌, true, List, [], ◌∷◌, ◌++◌, length, set, append-nil, Option, Some, None, refl, sym, ap, ◌∙◌, subst, inl, inr, arith}
 use mathlib.Core.Option.{some, some-injective, some-ne-none}
 use lib.ListN.{get_elem?}
 use Rattle.atomic_table.specs.Table.{State, Splits, Joins}
@@ -7,6 +7,7 @@ use Rattle.atomic_table.specs.Table as table
 use Rattle.atomic_table.proofs.Lists.{at_set}
 use Rattle.paxos_core.specs.KeptPart.{KeptPart}
 use Rattle.paxos_core.specs.Run.{reached}
+use Rattle.paxos_core.specs.Quorum.{AreQuorums}
 use Rattle.paxos_core.specs.Settled.{Settled}
 use Rattle.paxos_core.specs.World.{World, nodes_of, shown, shown_start, shown_vote}
 use Rattle.paxos_core.specs.Msg.{Msg}
@@ -97,12 +98,12 @@ module _ {S : Type 0} (o : Opening) (id : ℕ) (v left right : View)
           ]
 
 -- a node belongs to its room as it opens, and as long as others alone take steps
-pub opens_with : (o : Opening) (i : ℕ) → Settled o.count (nodes_of o.kept) → i < o.count → BelongsButOffer o.count (world_after o []) (dealt_node o i)
-opens_with o i settled lt =
-    (offers_may_be_late.offer (node_with i o.count (nodes_of o.kept i)) o.count (world_after o []) (legal_reached o [] record { settled = settled; run = tt })
-    (inl (belongs_with o.count (world_after o []) i (nodes_of o.kept i) lt refl))).belongs
+pub opens_with : (o : Opening) (i : ℕ) → AreQuorums o.quorums → Settled o.quorums (nodes_of o.kept) → i < o.quorums.nodes → BelongsButOffer o.quorums (world_after o []) (dealt_node o i)
+opens_with o i sizes settled lt =
+    (offers_may_be_late.offer (node_with i o.quorums (nodes_of o.kept i)) o.quorums (world_after o []) (legal_reached o [] record { sizes = sizes; settled = settled; run = tt })
+    (inl (belongs_with o.quorums (world_after o []) i (nodes_of o.kept i) lt refl))).belongs
 
-dealt_fits : (o : Opening) (k e i end : ℕ) (run : List Event) → IsLegal o run → Fits o run (dealt_to o k e) → k ≤ i → end ≤ e → end ≤ o.count → Fits o run (dealt_to o i end)
+dealt_fits : (o : Opening) (k e i end : ℕ) (run : List Event) → IsLegal o run → Fits o run (dealt_to o k e) → k ≤ i → end ≤ e → end ≤ o.quorums.nodes → Fits o run (dealt_to o i end)
 dealt_fits o k e i end run legal h low high most =
     record {
       opening = λ _. refl;
@@ -114,15 +115,15 @@ dealt_fits o k e i end run legal h low high most =
       belongs = λ mine.
           let here : i < end = mine.1 in
           let world : world_after o run ≡ reached (world_after o []) (labels_of h.later) = ap (λ (r : List Event). world_after o r) h.seen ∙ world_after-append o h.later [] in
-          subst (λ (x : World). BelongsButOffer o.count x (dealt_node o i)) (sym world)
-          (others_leave o.count (world_after o []) (dealt_node o i) (labels_of h.later) (h.quiet i (wider i mine)) (opens_with o i legal.settled (omega arith)));
+          subst (λ (x : World). BelongsButOffer o.quorums x (dealt_node o i)) (sym world)
+          (others_leave o.quorums (world_after o []) (dealt_node o i) (labels_of h.later) (h.quiet i (wider i mine)) (opens_with o i legal.sizes legal.settled (omega arith)));
     }
   where
     wider : (j : ℕ) → IsMine (dealt_to o i end) j → IsMine (dealt_to o k e) j
     wider j m = let x : i ≤ j = m.0 in let y : j < end = m.1 in (omega arith, omega arith)
 
 -- the token for the nodes from k on gives node k's seat away
-pub deals : {S : Type 0} (o : Opening) (id : ℕ) (p : Opening) (k : ℕ) → k < p.count → Splits {S = S} (RoomRule o) id (dealing p k) (dealing p (k + 1)) (dealt p k)
+pub deals : {S : Type 0} (o : Opening) (id : ℕ) (p : Opening) (k : ℕ) → k < p.quorums.nodes → Splits {S = S} (RoomRule o) id (dealing p k) (dealing p (k + 1)) (dealt p k)
 deals {S} o id p k lt s rule at =
     let e : p ≡ o = (rule.views id (dealing p k) at).opening refl in
     subst (λ (x : Opening). RoomRule x record { words = s.words; homes = s.homes; views = set s.views id (dealing p (k + 1)) ++ dealt p k ∷ [] }) e
@@ -130,8 +131,8 @@ deals {S} o id p k lt s rule at =
     (λ i m. let x : k + 1 ≤ i = m.0 in (omega arith, m.1))
     (λ i m. let x : i < k + 1 = m.1 in (m.0, omega arith))
     (λ i m r. let x : k + 1 ≤ i = m.0 in let y : i < k + 1 = r.1 in omega arith)
-    (λ run legal h. dealt_fits p k p.count (k + 1) p.count run legal h (omega arith) (omega arith) (omega arith))
-    (λ run legal h. dealt_fits p k p.count k (k + 1) run legal h (omega arith) (omega arith) (omega arith))
+    (λ run legal h. dealt_fits p k p.quorums.nodes (k + 1) p.quorums.nodes run legal h (omega arith) (omega arith) (omega arith))
+    (λ run legal h. dealt_fits p k p.quorums.nodes k (k + 1) run legal h (omega arith) (omega arith) (omega arith))
     s (subst (λ (x : Opening). RoomRule x s) (sym e) rule) at)
 
 -- ---- telling
@@ -243,19 +244,19 @@ none_proposed b (suc n) nodes = shows_none b n (nodes n).started (nodes n).accep
 -- the word of a proposer as the room opens is that without a proposal
 pub opening_word : (o : Opening) (i number : ℕ) → IsProposerWord number (nodes_of o.kept i).started None → IsProposerOf (world_after o []) i number
 opening_word o i number h =
-    subst (λ (p : Option ℕ). IsProposerWord number (nodes_of o.kept i).started p) (sym (none_proposed (nodes_of o.kept i).started o.count (nodes_of o.kept))) h
+    subst (λ (p : Option ℕ). IsProposerWord number (nodes_of o.kept i).started p) (sym (none_proposed (nodes_of o.kept i).started o.quorums.nodes (nodes_of o.kept))) h
 
 -- nothing is proposed as the room opens
 pub none_proposed_yet : (o : Opening) (i : ℕ) → proposed_by (world_after o []) i ≡ None
-none_proposed_yet o i = none_proposed (nodes_of o.kept i).started o.count (nodes_of o.kept)
+none_proposed_yet o i = none_proposed (nodes_of o.kept i).started o.quorums.nodes (nodes_of o.kept)
 
 -- a room of settled kept parts opens with the words that show them
-pub opens : (o : Opening) (words : List ℕ) → Settled o.count (nodes_of o.kept) → length words ≡ 2 * o.count → ((i : ℕ) → i < o.count → ShowsKept (nodes_of o.kept i) i words)
+pub opens : (o : Opening) (words : List ℕ) → AreQuorums o.quorums → Settled o.quorums (nodes_of o.kept) → length words ≡ 2 * o.quorums.nodes → ((i : ℕ) → i < o.quorums.nodes → ShowsKept (nodes_of o.kept i) i words)
     → RoomRule o (table.opening {S = Unit {0}} words [] (dealing o 0))
-opens o words settled size kept =
+opens o words sizes settled size kept =
     record {
       run = [];
-      legal = record { settled = settled; run = tt };
+      legal = record { sizes = sizes; settled = settled; run = tt };
       words = record { size = size; proposers = λ i lt. opening_word o i _ (kept i lt).proposer; acceptors = λ i lt. (kept i lt).acceptor };
       views = λ j u e. at_first j u e (λ x. Fits o [] x) fits;
       apart = λ p q i u w e f mu mw. first_only p u e ∙ sym (first_only q w f);
@@ -270,7 +271,7 @@ opens o words settled size kept =
           quiet = λ i m. tt;
           told = ([], refl);
           told_by = λ _. refl;
-          belongs = λ m. let x : 0 < o.count = m.1 in opens_with o 0 settled x;
+          belongs = λ m. let x : 0 < o.quorums.nodes = m.1 in opens_with o 0 sizes settled x;
         }
 
     at_first : (j : ℕ) (u : View) → get_elem? (dealing o 0 ∷ []) j ≡ some u → (P : View → Type 0) → P (dealing o 0) → P u

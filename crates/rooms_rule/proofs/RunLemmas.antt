@@ -2,6 +2,7 @@
 use Rattle.std.proofs.Common.{◌≡◌, ◌≢◌, ℕ, ◌<◌, ◌⊎◌, List, [], ◌∷◌, ◌++◌, append_assoc, refl, sym, ap, ◌∙◌, subst, inl, inr}
 use Rattle.paxos_core.specs.Ballot.{Owns}
 use Rattle.paxos_core.specs.KeptPart.{KeptPart, without_offer}
+use Rattle.paxos_core.specs.Quorum.{Sizes}
 use Rattle.paxos_core.specs.Run.{IsRun, reached}
 use Rattle.paxos_core.specs.Settled.{Settled}
 use Rattle.paxos_core.specs.Step.{Label, Offers, Starts, Promises, Proposes, Accepts, Learns, Restarts, Allowed}
@@ -40,46 +41,48 @@ labels_of-append (x ∷ xs) ys = ap (λ ls. label_of x ∷ ls) (labels_of-append
 -- the world after more steps
 pub world_after-events : (o : Opening) (ls : List Label) (run : List Event) → world_after o (events_of ls ++ run) ≡ reached (world_after o run) ls
 world_after-events o ls run =
-    ap (λ (x : List Label). world_of o.count (nodes_of o.kept) x) (labels_of-events ls run) ∙ reached-append (opening o.count (nodes_of o.kept)) ls (labels_of run)
+    ap (λ (x : List Label). world_of o.quorums.nodes (nodes_of o.kept) x) (labels_of-events ls run) ∙ reached-append (opening o.quorums.nodes (nodes_of o.kept)) ls (labels_of run)
 
 pub world_after-append : (o : Opening) (later run : List Event) → world_after o (later ++ run) ≡ reached (world_after o run) (labels_of later)
 world_after-append o later run =
-    ap (λ (x : List Label). world_of o.count (nodes_of o.kept) x) (labels_of-append later run) ∙ reached-append (opening o.count (nodes_of o.kept)) (labels_of later) (labels_of run)
+    ap (λ (x : List Label). world_of o.quorums.nodes (nodes_of o.kept) x) (labels_of-append later run) ∙ reached-append (opening o.quorums.nodes (nodes_of o.kept)) (labels_of later) (labels_of run)
 
-pub legal_more : (o : Opening) (ls : List Label) (run : List Event) → IsLegal o run → IsRun o.count (world_after o run) ls → IsLegal o (events_of ls ++ run)
+pub legal_more : (o : Opening) (ls : List Label) (run : List Event) → IsLegal o run → IsRun o.quorums (world_after o run) ls → IsLegal o (events_of ls ++ run)
 legal_more o ls run h r =
     record {
+      sizes = h.sizes;
       settled = h.settled;
       run =
-          subst (λ (x : List Label). IsRun o.count (opening o.count (nodes_of o.kept)) x) (sym (labels_of-events ls run))
-          (run_append o.count (opening o.count (nodes_of o.kept)) ls (labels_of run) h.run r);
+          subst (λ (x : List Label). IsRun o.quorums (opening o.quorums.nodes (nodes_of o.kept)) x) (sym (labels_of-events ls run))
+          (run_append o.quorums (opening o.quorums.nodes (nodes_of o.kept)) ls (labels_of run) h.run r);
     }
 
-pub legal_reached : (o : Opening) (run : List Event) → IsLegal o run → IsReached o.count (world_after o run)
+pub legal_reached : (o : Opening) (run : List Event) → IsLegal o run → IsReached o.quorums (world_after o run)
 legal_reached o run h = record { nodes = nodes_of o.kept; steps = labels_of run; run = h; world = refl }
 
-run_tail : (n : ℕ) (w : World) (later before : List Label) → IsRun n w (later ++ before) → IsRun n w before
-run_tail n w [] before h = h
-run_tail n w (l ∷ later) before h = run_tail n w later before h.0
+run_tail : (q : Sizes) (w : World) (later before : List Label) → IsRun q w (later ++ before) → IsRun q w before
+run_tail q w [] before h = h
+run_tail q w (l ∷ later) before h = run_tail q w later before h.0
 
-run_head : (n : ℕ) (w : World) (later before : List Label) → IsRun n w (later ++ before) → IsRun n (reached w before) later
-run_head n w [] before h = tt
-run_head n w (l ∷ later) before h = (run_head n w later before h.0, subst (λ (x : World). Allowed n x l) (reached-append w later before) h.1)
+run_head : (q : Sizes) (w : World) (later before : List Label) → IsRun q w (later ++ before) → IsRun q (reached w before) later
+run_head q w [] before h = tt
+run_head q w (l ∷ later) before h = (run_head q w later before h.0, subst (λ (x : World). Allowed q x l) (reached-append w later before) h.1)
 
 -- a beginning of a run is one, and what comes behind it is a run from there
 pub legal_before : (o : Opening) (later run : List Event) → IsLegal o (later ++ run) → IsLegal o run
 legal_before o later run h =
     record {
+      sizes = h.sizes;
       settled = h.settled;
       run =
-          run_tail o.count (opening o.count (nodes_of o.kept)) (labels_of later) (labels_of run)
-          (subst (λ (x : List Label). IsRun o.count (opening o.count (nodes_of o.kept)) x) (labels_of-append later run) h.run);
+          run_tail o.quorums (opening o.quorums.nodes (nodes_of o.kept)) (labels_of later) (labels_of run)
+          (subst (λ (x : List Label). IsRun o.quorums (opening o.quorums.nodes (nodes_of o.kept)) x) (labels_of-append later run) h.run);
     }
 
-pub run_behind : (o : Opening) (later run : List Event) → IsLegal o (later ++ run) → IsRun o.count (world_after o run) (labels_of later)
+pub run_behind : (o : Opening) (later run : List Event) → IsLegal o (later ++ run) → IsRun o.quorums (world_after o run) (labels_of later)
 run_behind o later run h =
-    run_head o.count (opening o.count (nodes_of o.kept)) (labels_of later) (labels_of run)
-    (subst (λ (x : List Label). IsRun o.count (opening o.count (nodes_of o.kept)) x) (labels_of-append later run) h.run)
+    run_head o.quorums (opening o.quorums.nodes (nodes_of o.kept)) (labels_of later) (labels_of run)
+    (subst (λ (x : List Label). IsRun o.quorums (opening o.quorums.nodes (nodes_of o.kept)) x) (labels_of-append later run) h.run)
 
 pub begins_longer : (more run first : List Event) → BeginsWith run first → BeginsWith (more ++ run) first
 begins_longer more run first h = (more ++ h.0, ap (λ (x : List Event). more ++ x) h.1 ∙ sym (append_assoc more h.0 first))
@@ -97,36 +100,37 @@ pub others_of_own : (n i j : ℕ) (ls : List Label) → AreStepsOf n j ls → i 
 others_of_own n i j [] h d = tt
 others_of_own n i j (l ∷ ls) h d = ((j, h.0, d), others_of_own n i j ls h.1 d)
 
-pub others_leave : (n : ℕ) (w : World) (s : NodeState) (ls : List Label) → AreStepsOfOthers n s.me ls → BelongsButOffer n w s → BelongsButOffer n (reached w ls) s
-others_leave n w s [] o h = h
-others_leave n w s (l ∷ ls) o h =
+pub others_leave : (q : Sizes) (w : World) (s : NodeState) (ls : List Label) → AreStepsOfOthers q.nodes s.me ls → BelongsButOffer q w s → BelongsButOffer q (reached w ls) s
+others_leave q w s [] o h = h
+others_leave q w s (l ∷ ls) o h =
     let first = o.0 in
-    (others_leave_it n (reached w ls) l s first.0 first.1 first.2).1 (others_leave n w s ls o.1 h)
+    (others_leave_it q (reached w ls) l s first.0 first.1 first.2).1 (others_leave q w s ls o.1 h)
 
 -- ---- what is reached
 
-pub reached_more : (n : ℕ) (w : World) (ls : List Label) → IsReached n w → IsRun n w ls → IsReached n (reached w ls)
-reached_more n w ls r h =
+pub reached_more : (q : Sizes) (w : World) (ls : List Label) → IsReached q w → IsRun q w ls → IsReached q (reached w ls)
+reached_more q w ls r h =
     record {
       nodes = r.nodes;
       steps = ls ++ r.steps;
       run =
           record {
+            sizes = r.run.sizes;
             settled = r.run.settled;
-            run = run_append n (opening n r.nodes) ls r.steps r.run.run (subst (λ (x : World). IsRun n x ls) r.world h);
+            run = run_append q (opening q.nodes r.nodes) ls r.steps r.run.run (subst (λ (x : World). IsRun q x ls) r.world h);
           };
-      world = ap (λ (x : World). reached x ls) r.world ∙ sym (reached-append (opening n r.nodes) ls r.steps);
+      world = ap (λ (x : World). reached x ls) r.world ∙ sym (reached-append (opening q.nodes r.nodes) ls r.steps);
     }
 
 -- what a node has started is its own
-pub started_own : (n : ℕ) (w : World) (i : ℕ) → IsReached n w → i < n → ((w.nodes i).started ≡ 0) ⊎ Owns n i (w.nodes i).started
-started_own n w i r h =
-    let all : Settled n w.nodes = subst (λ (x : World). Settled n x.nodes) (sym r.world) (runs_stay_settled n r.nodes r.steps r.run) in
+pub started_own : (q : Sizes) (w : World) (i : ℕ) → IsReached q w → i < q.nodes → ((w.nodes i).started ≡ 0) ⊎ Owns q.nodes i (w.nodes i).started
+started_own q w i r h =
+    let all : Settled q w.nodes = subst (λ (x : World). Settled q x.nodes) (sym r.world) (runs_stay_settled q r.nodes r.steps r.run) in
     (all.ballots i h).own
 
 -- ---- what stands in the world of a node that belongs to it
 
 -- a part of what is kept, that is not the offer, is the node's
-pub kept_of : {A : Type 0} (n : ℕ) (w : World) (s : NodeState) (f : KeptPart → A) → ((k : KeptPart) → f (without_offer k) ≡ f k) → BelongsButOffer n w s → f (w.nodes s.me) ≡ f s.kept
-kept_of n w s f same (inl h) = ap f h.kept
-kept_of n w s f same (inr h) = ap f h.kept ∙ same s.kept
+pub kept_of : {A : Type 0} (q : Sizes) (w : World) (s : NodeState) (f : KeptPart → A) → ((k : KeptPart) → f (without_offer k) ≡ f k) → BelongsButOffer q w s → f (w.nodes s.me) ≡ f s.kept
+kept_of q w s f same (inl h) = ap f h.kept
+kept_of q w s f same (inr h) = ap f h.kept ∙ same s.kept

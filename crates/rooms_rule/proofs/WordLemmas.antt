@@ -4,6 +4,7 @@ use Rattle.std.proofs.lemmas.Bool.{eqb-true, ne_eqb, cond-false}
 use native.Mathlib.Decide.{ℕ_discrete}
 use Rattle.paxos_core.specs.Ballot.{Owns}
 use Rattle.paxos_core.specs.KeptPart.{KeptPart}
+use Rattle.paxos_core.specs.Quorum.{Sizes}
 use Rattle.paxos_core.specs.Run.{IsRun, reached}
 use Rattle.paxos_core.specs.Step.{Label, Offers, Starts, Promises, Proposes, Accepts, Learns, Restarts, after}
 use Rattle.paxos_core.specs.World.{World, put}
@@ -102,12 +103,12 @@ proposer_of_other n w l i j number own o d h =
     subst (λ (k : KeptPart). IsProposerWord number k.started (proposed_under k.started (after w l).sent)) (sym same)
     (subst (λ (p : Option ℕ). IsProposerWord number (w.nodes i).started p) (sym (proposed_after w l (w.nodes i).started quiet)) h)
 
-pub proposer_of_others : (n : ℕ) (w : World) (ls : List Label) (i number : ℕ) → IsReached n w → i < n → IsRun n w ls → AreStepsOfOthers n i ls → IsProposerOf w i number → IsProposerOf (reached w ls) i number
-proposer_of_others n w [] i number r lt run o h = h
-proposer_of_others n w (l ∷ ls) i number r lt run o h =
+pub proposer_of_others : (q : Sizes) (w : World) (ls : List Label) (i number : ℕ) → IsReached q w → i < q.nodes → IsRun q w ls → AreStepsOfOthers q.nodes i ls → IsProposerOf w i number → IsProposerOf (reached w ls) i number
+proposer_of_others q w [] i number r lt run o h = h
+proposer_of_others q w (l ∷ ls) i number r lt run o h =
     let first = o.0 in
-    proposer_of_other n (reached w ls) l i first.0 number (started_own n (reached w ls) i (reached_more n w ls r run.0) lt) first.1 first.2
-    (proposer_of_others n w ls i number r lt run.0 o.1 h)
+    proposer_of_other q.nodes (reached w ls) l i first.0 number (started_own q (reached w ls) i (reached_more q w ls r run.0) lt) first.1 first.2
+    (proposer_of_others q w ls i number r lt run.0 o.1 h)
 
 pub acceptor_of_others : (n : ℕ) (w : World) (ls : List Label) (i number : ℕ) → AreStepsOfOthers n i ls → IsAcceptorOf w i number → IsAcceptorOf (reached w ls) i number
 acceptor_of_others n w [] i number o h = h

@@ -1,6 +1,7 @@
 -- How the seats of a room are dealt out as it opens, and how one seat tells another what it has seen.
 use Rattle.std.specs.Prelude.{ℕ, ◌+◌, true, false, []}
 use Rattle.paxos_core.specs.KeptPart.{nothing_kept}
+use Rattle.paxos_core.specs.Quorum.{sizes, Sizes}
 use Rattle.paxos_core.specs.World.{nodes_of}
 use Rattle.paxos_core.specs.NodeState.{NodeState, node_with, offered}
 use Rattle.rooms_rule.specs.declared.view.Opening.{Opening}
@@ -8,7 +9,7 @@ use Rattle.rooms_rule.specs.declared.view.View.{View}
 
 -- node i as the room opens, held as if it had offered
 abbrev pub dealt_node : Opening → ℕ → NodeState
-dealt_node o i = offered (node_with i o.count (nodes_of o.kept i))
+dealt_node o i = offered (node_with i o.quorums (nodes_of o.kept i))
 
 -- the view of a token for the nodes from i up to `end`, as the room opens
 abbrev pub dealt_to : Opening → ℕ → ℕ → View
@@ -17,7 +18,7 @@ dealt_to o i end =
 
 -- the token for all nodes from i on
 abbrev pub dealing : Opening → ℕ → View
-dealing o i = dealt_to o i o.count
+dealing o i = dealt_to o i o.quorums.nodes
 
 -- the seat of node i
 abbrev pub dealt : Opening → ℕ → View
@@ -38,16 +39,20 @@ witness v = record v { first = 0; end = 0 }
 abbrev pub informed : View → View → View
 informed v w = record v { told = w.seen; told_by = w.opening }
 
+-- sizes of no node
+abbrev pub no_sizes : Sizes
+no_sizes = sizes 0 0 0
+
 -- who has told what it knew
 abbrev pub nobody : View
 nobody =
     record {
       live = false;
-      opening = record { count = 0; kept = [] };
+      opening = record { quorums = no_sizes; kept = [] };
       first = 0;
       end = 0;
       seen = [];
       told = [];
-      told_by = record { count = 0; kept = [] };
-      node = node_with 0 0 nothing_kept;
+      told_by = record { quorums = no_sizes; kept = [] };
+      node = node_with 0 no_sizes nothing_kept;
     }

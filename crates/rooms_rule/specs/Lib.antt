@@ -22,5 +22,6 @@ pub use Rattle.paxos_core.specs.Takes
 pub use Rattle.paxos_core.specs.Would
 pub use Rattle.paxos_core.specs.Act
 pub use Rattle.paxos_core.specs.KeptPart
+pub use Rattle.paxos_core.specs.Quorum
 pub use Rattle.paxos_core.specs.Settled
 pub use Rattle.paxos_core.specs.World

@@ -19,6 +19,6 @@ AreApart views =
 pub record RoomRule {S : Type 0} (o : Opening) (s : State S View) : Type 0 where
   pub run : List Event
   pub legal : IsLegal o run
-  pub words : ShowsWorld o.count (world_after o run) s.words
+  pub words : ShowsWorld o.quorums.nodes (world_after o run) s.words
   pub views : (seat : ℕ) (v : View) → get_elem? s.views seat ≡ some v → Fits o run v
   pub apart : AreApart s.views

@@ -22,13 +22,13 @@ use Rattle.rooms_rule.specs.WordsOf.{proposer_at, acceptor_at, IsProposerOf, IsA
 pub record Advances (v : View) (steps : List Label) (t : NodeState) (w : View) : Type 0 where
   pub between : List Event
   pub seen : w.seen ≡ events_of steps ++ (between ++ v.seen)
-  pub others : AreStepsOfOthers v.opening.count v.node.me (labels_of between)
-  pub own : AreStepsOf v.opening.count v.node.me steps
+  pub others : AreStepsOfOthers v.opening.quorums.nodes v.node.me (labels_of between)
+  pub own : AreStepsOf v.opening.quorums.nodes v.node.me steps
   pub legal : IsLegal v.opening w.seen
   pub told : BeginsWith w.seen v.told
   pub told_by : v.told_by ≡ v.opening
   pub stays : w ≡ record v { seen = w.seen; node = t }
-  pub belongs : BelongsButOffer v.opening.count (world_after v.opening w.seen) t
+  pub belongs : BelongsButOffer v.opening.quorums (world_after v.opening w.seen) t
 
 -- the steps of an act of the node: its own and, with a proposal of its own number, at most its offer before it
 abbrev pub AreTakenBy : NodeState → Act → List Label → Type 0
@@ -69,16 +69,16 @@ Forgot v w = Advances v (taken_by_restart v.node) (restarted v.node v.node.kept)
 -- the same, and the number found at this place is the word that stands there in the world then seen
 pub record ForgotAt (place number : ℕ) (v w : View) : Type 0 where
   pub forgot : Forgot v w
-  pub proposer : (j : ℕ) → place ≡ proposer_at j → j < v.opening.count → IsProposerOf (world_after v.opening w.seen) j number
-  pub acceptor : (j : ℕ) → place ≡ acceptor_at j → j < v.opening.count → IsAcceptorOf (world_after v.opening w.seen) j number
+  pub proposer : (j : ℕ) → place ≡ proposer_at j → j < v.opening.quorums.nodes → IsProposerOf (world_after v.opening w.seen) j number
+  pub acceptor : (j : ℕ) → place ≡ acceptor_at j → j < v.opening.quorums.nodes → IsAcceptorOf (world_after v.opening w.seen) j number
 
 module _ {S : Type 0} where
   -- what the plays tell: of the step, the seat before, the number found or stored, and the seat after
   abbrev pub ProposerLook : Step S → Me S View → ℕ → Me S View → Type 0
-  ProposerLook s v n w = (j : ℕ) → s.word ≡ proposer_at j → j < v.0.opening.count → LooksAtProposer j n v.0 w.0
+  ProposerLook s v n w = (j : ℕ) → s.word ≡ proposer_at j → j < v.0.opening.quorums.nodes → LooksAtProposer j n v.0 w.0
 
   abbrev pub AcceptorLook : Step S → Me S View → ℕ → Me S View → Type 0
-  AcceptorLook s v n w = (j : ℕ) → s.word ≡ acceptor_at j → j < v.0.opening.count → LooksAtAcceptor j n v.0 w.0
+  AcceptorLook s v n w = (j : ℕ) → s.word ≡ acceptor_at j → j < v.0.opening.quorums.nodes → LooksAtAcceptor j n v.0 w.0
 
   abbrev pub StartStore : Step S → Me S View → ℕ → Me S View → Type 0
   StartStore s v n w = StoresProposer act.Start n v.0 w.0

@@ -12,11 +12,11 @@ use Rattle.rooms_rule.specs.Events.{labels_of}
 
 -- the world to which a run leads from the room's opening
 abbrev pub world_after : Opening → List Event → World
-world_after o run = world_of o.count (nodes_of o.kept) (labels_of run)
+world_after o run = world_of o.quorums.nodes (nodes_of o.kept) (labels_of run)
 
 -- the run is one of the protocol, from settled kept parts
 abbrev pub IsLegal : Opening → List Event → Type 0
-IsLegal o run = IsSettledRun o.count (nodes_of o.kept) (labels_of run)
+IsLegal o run = IsSettledRun o.quorums (nodes_of o.kept) (labels_of run)
 
 -- the run begins with these steps, which stand last in it
 abbrev pub BeginsWith : List Event → List Event → Type 0
@@ -47,7 +47,7 @@ pub record Fits (o : Opening) (run : List Event) (v : View) : Type 0 where
   pub opening : v.live ≡ true → v.opening ≡ o
   pub later : List Event
   pub seen : run ≡ later ++ v.seen
-  pub quiet : (i : ℕ) → IsMine v i → AreStepsOfOthers o.count i (labels_of later)
+  pub quiet : (i : ℕ) → IsMine v i → AreStepsOfOthers o.quorums.nodes i (labels_of later)
   pub told : BeginsWith run v.told
   pub told_by : v.live ≡ true → v.told_by ≡ o
-  pub belongs : IsMine v v.node.me → BelongsButOffer o.count (world_after o run) v.node
+  pub belongs : IsMine v v.node.me → BelongsButOffer o.quorums (world_after o run) v.node

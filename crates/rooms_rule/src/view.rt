@@ -1,11 +1,11 @@
 use crate::event::Event;
-use paxos_core::{Kept, Node};
+use paxos_core::{Kept, Node, Quorums};
 use std::collections::LinkedList;
 
-/// How a room was opened: how many nodes it has, and what each of them had kept.
+/// How a room was opened: how many nodes it has and are its quorums, and what each of them had kept.
 #[derive(Clone, Copy)]
 pub struct Opening {
-    pub count: u8,
+    pub quorums: Quorums,
     pub kept: [Kept; 7],
 }
 

@@ -32,9 +32,9 @@ pub kept_fits : (o : Opening) → CanOpen o → (i : ℕ) (d : KeptPart) → i <
 kept_fits o can i d lt =
     subst (λ (k : KeptPart). IfSome k.accepted IsVoteInWord) (sym (kept_at o.kept i i d refl (subst (λ (n : ℕ). i < n) (sym can.row) lt))) (vote_fits o can i)
 
-pub is_opened : (table : RoomAt) (v : View) (o : Opening) (i : ℕ) (node fresh : NodeState) (k : KeptPart) (ps : List ProposerWord) (xs : List AcceptorWord) → v ≡ dealt o i → fresh ≡ new_node i o.count
+pub is_opened : (table : RoomAt) (v : View) (o : Opening) (i : ℕ) (node fresh : NodeState) (k : KeptPart) (ps : List ProposerWord) (xs : List AcceptorWord) → v ≡ dealt o i → fresh ≡ new_node i o.quorums
     → node ≡ restarted fresh k → k ≡ nodes_of o.kept i → ps ≡ map opened_proposer o.kept → xs ≡ map opened_acceptor o.kept
     → ◌≡◌ {A = SeatState} record { table = table; view = v; node = node; proposed = None; proposers = ps; acceptors = xs } (opened_seat table o i)
 is_opened table v o i node fresh k ps xs ev ef en ek ep ea =
-    let e : node ≡ node_with i o.count (nodes_of o.kept i) = en ∙ (ap (λ (s : NodeState). restarted s k) ef ∙ ap (λ (x : KeptPart). node_with i o.count x) ek) in
+    let e : node ≡ node_with i o.quorums (nodes_of o.kept i) = en ∙ (ap (λ (s : NodeState). restarted s k) ef ∙ ap (λ (x : KeptPart). node_with i o.quorums x) ek) in
     λ j. record { table = table; view = ev j; node = e j; proposed = None; proposers = ep j; acceptors = ea j }

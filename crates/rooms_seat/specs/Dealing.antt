@@ -2,6 +2,7 @@
 use Rattle.std.specs.Prelude.{◌≡◌, ℕ, List, length}
 use Rattle.atomic_table.specs.Seated.{TableId}
 use Rattle.paxos_core_world.specs.KeptPart.{KeptPart}
+use Rattle.paxos_core_world.specs.Quorum.{Sizes}
 use Rattle.rooms_state.specs.Deal.{dealing}
 use Rattle.rooms_state.specs.Opening.{Opening}
 use Rattle.rooms_state.specs.View.{View}
@@ -16,17 +17,18 @@ pub record Dealing : Type 0 where
 
 -- what is left is the right to step for the nodes that have no seat yet
 pub record IsDealing (v : View) (s : Dealing) : Type 0 where
-  pub words : HasWords s.table s.opening.count
+  pub words : HasWords s.table s.opening.quorums.nodes
   pub view : v ≡ dealing s.opening s.next
   pub can : CanOpen s.opening
 
--- a room of this table that has just been opened from these kept parts
-abbrev pub room_opened : TableId → ℕ → ℕ → List KeptPart → Dealing
-room_opened table rooms room kept =
-    record { table = record { table = table; rooms = rooms; room = room }; opening = opening_of kept; next = 0 }
+-- a room of this table that has just been opened with these quorums from these kept parts
+abbrev pub room_opened : TableId → ℕ → ℕ → Sizes → List KeptPart → Dealing
+room_opened table rooms room q kept =
+    record { table = record { table = table; rooms = rooms; room = room }; opening = opening_of q kept; next = 0 }
 
--- four rooms have as many nodes
-pub record AreAsMany (a b c d : List KeptPart) : Type 0 where
-  pub second : length b ≡ length a
-  pub third : length c ≡ length a
-  pub fourth : length d ≡ length a
+-- four rooms have so many nodes
+pub record AreAsMany (n : ℕ) (a b c d : List KeptPart) : Type 0 where
+  pub first : length a ≡ n
+  pub second : length b ≡ n
+  pub third : length c ≡ n
+  pub fourth : length d ≡ n

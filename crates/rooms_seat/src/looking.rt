@@ -1,5 +1,5 @@
-ghost use Rattle.std.specs.Prelude.{◌≡◌, ◌<◌, ◌≤◌, IfSome, IsNone};
-ghost use Rattle.rooms_met.specs.Met.{LookedBefore, LookedOn};
+ghost use Rattle.std.specs.Prelude.{◌≤◌, IfSome, IsNone};
+ghost use Rattle.rooms_met.specs.Met.{LookedAtAll, LookedBefore, LooksOnFrom};
 
 use crate::seat::{WordSeat, note};
 
@@ -7,7 +7,7 @@ impl WordSeat {
     /// Loads every word of the room once.
     #[inline(always)]
     pub(crate) fn look_at_all(&mut self)
-        ensures { LookedOn self.old self.new }
+        ensures { LookedAtAll self.old self.new }
     {
         if let Some(first) = self.sweep() {
             self.look_from(first);
@@ -18,7 +18,7 @@ impl WordSeat {
     /// is still to look, and none if it has looked at all.
     #[inline(always)]
     fn sweep(&mut self) -> Option<u8>
-        ensures all { IsNone result → LookedOn self.old self.new }
+        ensures all { IsNone result → LookedAtAll self.old self.new }
         ensures from { IfSome result (λ first. LookedBefore first self.old self.new) }
     {
         let count = self.node.count();
@@ -33,9 +33,8 @@ impl WordSeat {
     /// Loads the words of the nodes from that one on.
     #[inline(never)]
     fn look_from(&mut self, first: u8)
-        requires { first ≤ self.old.node.count }
-        ensures none { first ≡ self.old.node.count → self.new ≡ self.old }
-        ensures some { first < self.old.node.count → LookedOn self.old self.new }
+        requires { first ≤ self.old.node.quorums.nodes }
+        ensures { LooksOnFrom first self.old self.new }
     {
         for j in first..self.node.count() {
             let _proposer = self.look_proposer(j);

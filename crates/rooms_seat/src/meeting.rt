@@ -21,6 +21,9 @@ pub fn meet(first: &mut WordSeat, second: &mut WordSeat) -> Meeting
     ensures answer { result ≡ meeting_of first.new.node.learned second.new.node.learned }
     ensures same { (v u : ℕ) → first.new.node.learned ≡ Some v → second.new.node.learned ≡ Some u → v ≡ u }
 {
+    first.sound();
+    second.sound();
+    let _sizes = (first.count(), second.count());
     second.hear(first);
     second.look_at_all();
     first.hear(second);

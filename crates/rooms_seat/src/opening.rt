@@ -1,5 +1,5 @@
 ghost use Rattle.std.specs.Prelude.{◌≡◌, ◌<◌, ◌+◌, length, IfOk, IfSome, OnOk, OnErr};
-ghost use Rattle.rooms_met.specs.NodeState.{IsRoomSize};
+ghost use Rattle.paxos_core_world.specs.Quorum.{AreQuorums};
 ghost use Rattle.paxos_core_world.specs.Settled.{Settled};
 ghost use Rattle.paxos_core_world.specs.World.{nodes_of};
 ghost use Rattle.rooms_state.specs.Deal.{dealing};
@@ -11,7 +11,7 @@ ghost use Rattle.rooms_seat.specs.Dealing.{room_opened, AreAsMany};
 
 use crate::seat::WordSeat;
 use rooms_met::view::Openings;
-use rooms_met::{Kept, Rights, SeenWords, open_one};
+use rooms_met::{Kept, Quorums, Rights, SeenWords, open_one};
 use rooms_state::acceptor::AcceptorWord;
 use rooms_state::proposer::ProposerWord;
 use rooms_state::view::Opening;
@@ -48,13 +48,13 @@ pub struct FourDealers {
 impl Dealer {
     /// A room whose nodes have kept these parts, in their order, alone in its table: no seat is dealt yet. The words show the
     /// parts, and no proposal.
-    pub fn open(alloc: Global, kept: &[Kept]) -> Result<Dealer, AllocError>
-        requires size { IsRoomSize (length kept.now) }
-        requires settled { Settled (length kept.now) (nodes_of kept.now) }
-        ensures opening { IfOk result (λ dealer. dealer.opening ≡ opening_of kept.now) }
+    pub fn open(alloc: Global, kept: &[Kept], quorums: Quorums) -> Result<Dealer, AllocError>
+        requires size { length kept.now ≡ quorums.nodes }
+        requires settled { Settled quorums (nodes_of kept.now) }
+        ensures opening { IfOk result (λ dealer. dealer.opening ≡ opening_of quorums kept.now) }
         ensures next { IfOk result (λ dealer. dealer.next ≡ 0) }
     {
-        let opening = opening_of(kept);
+        let opening = opening_of(kept, quorums);
         let openings = Openings {
             rooms: 1,
             each: [opening, opening, opening, opening],
@@ -66,7 +66,7 @@ impl Dealer {
     /// Deals the seats of a room that was just opened so.
     fn of(rights: Rights, opening: &Opening) -> Dealer
         requires can { CanOpen opening.now }
-        requires words { HasWords rights.at opening.now.count }
+        requires words { HasWords rights.at opening.now.quorums.nodes }
         requires view { rights.me.0 ≡ dealing opening.now 0 }
         ensures { result ≡ record { table = rights.at; opening = opening.now; next = 0 } }
     {
@@ -79,7 +79,7 @@ impl Dealer {
 
     /// The next node's seat.
     pub fn deal(&mut self) -> Result<WordSeat, AllocError>
-        requires { self.old.next < self.old.opening.count }
+        requires { self.old.next < self.old.opening.quorums.nodes }
         ensures seat { IfOk result (λ seat. seat ≡ opened_seat self.old.table self.old.opening self.old.next) }
         ensures ok { OnOk result (self.new ≡ record self.old { next = self.old.next + 1 }) }
         ensures err { OnErr result (self.new ≡ self.old) }
@@ -98,22 +98,22 @@ pub fn open_four(
     second: &[Kept],
     third: &[Kept],
     fourth: &[Kept],
+    quorums: Quorums,
 ) -> Result<FourDealers, AllocError>
-    requires size { IsRoomSize (length first.now) }
-    requires count { AreAsMany first.now second.now third.now fourth.now }
-    requires first { Settled (length first.now) (nodes_of first.now) }
-    requires second { Settled (length second.now) (nodes_of second.now) }
-    requires third { Settled (length third.now) (nodes_of third.now) }
-    requires fourth { Settled (length fourth.now) (nodes_of fourth.now) }
-    ensures first { IfOk result (λ all. all.first ≡ room_opened all.first.table.table 4 0 first.now) }
-    ensures second { IfOk result (λ all. all.second ≡ room_opened all.first.table.table 4 1 second.now) }
-    ensures third { IfOk result (λ all. all.third ≡ room_opened all.first.table.table 4 2 third.now) }
-    ensures fourth { IfOk result (λ all. all.fourth ≡ room_opened all.first.table.table 4 3 fourth.now) }
+    requires count { AreAsMany quorums.nodes first.now second.now third.now fourth.now }
+    requires first { Settled quorums (nodes_of first.now) }
+    requires second { Settled quorums (nodes_of second.now) }
+    requires third { Settled quorums (nodes_of third.now) }
+    requires fourth { Settled quorums (nodes_of fourth.now) }
+    ensures first { IfOk result (λ all. all.first ≡ room_opened all.first.table.table 4 0 quorums first.now) }
+    ensures second { IfOk result (λ all. all.second ≡ room_opened all.first.table.table 4 1 quorums second.now) }
+    ensures third { IfOk result (λ all. all.third ≡ room_opened all.first.table.table 4 2 quorums third.now) }
+    ensures fourth { IfOk result (λ all. all.fourth ≡ room_opened all.first.table.table 4 3 quorums fourth.now) }
 {
-    let opening1 = opening_of(first);
-    let opening2 = opening_of(second);
-    let opening3 = opening_of(third);
-    let opening4 = opening_of(fourth);
+    let opening1 = opening_of(first, quorums);
+    let opening2 = opening_of(second, quorums);
+    let opening3 = opening_of(third, quorums);
+    let opening4 = opening_of(fourth, quorums);
     let openings = Openings {
         rooms: 4,
         each: [opening1, opening2, opening3, opening4],
@@ -128,23 +128,24 @@ pub fn open_four(
 }
 
 /// The opening of a room of these kept parts.
-fn opening_of(kept: &[Kept]) -> Opening
-    requires size { IsRoomSize (length kept.now) }
-    requires settled { Settled (length kept.now) (nodes_of kept.now) }
-    ensures same { result ≡ opening_of kept.now }
+fn opening_of(kept: &[Kept], quorums: Quorums) -> Opening
+    requires size { length kept.now ≡ quorums.nodes }
+    requires settled { Settled quorums (nodes_of kept.now) }
+    ensures same { result ≡ opening_of quorums kept.now }
     ensures can { CanOpen result }
+    ensures sizes { AreQuorums quorums }
 {
-    let opening = padded(kept);
+    let _nodes = quorums.nodes();
+    let opening = padded(kept, quorums);
     opening
 }
 
 /// The kept parts in a row of seven.
-fn padded(kept: &[Kept]) -> Opening
-    requires { IsRoomSize (length kept.now) }
-    ensures { result ≡ opening_of kept.now }
+fn padded(kept: &[Kept], quorums: Quorums) -> Opening
+    ensures { result ≡ opening_of quorums kept.now }
 {
     Opening {
-        count: kept.len() as u8,
+        quorums,
         kept: [
             kept_of(kept, 0),
             kept_of(kept, 1),

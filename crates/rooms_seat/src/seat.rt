@@ -3,14 +3,16 @@ ghost use Rattle.rooms_met.specs.Proposer.{next_ballot, next_proposal};
 ghost use Rattle.rooms_met.specs.Act.TheVariants as act;
 ghost use Rattle.rooms_state.specs.Did.{Did, Forgotten, LookedAtAcceptor, LookedAtProposer};
 ghost use Rattle.rooms_state.specs.Would.{would, IsAmong};
+ghost use Rattle.rooms_state.specs.declared.act.Act.TheVariants as asked;
 ghost use Rattle.rooms_met.specs.NodeState.{offered};
 ghost use Rattle.rooms_seat.specs.Meeting.{IsBounded, IsKnown};
 ghost use Rattle.rooms_state.specs.SeatState.{opened_seat, own_words, CanOpen, promise_of, proposer_of, seen_world, vote_by, vote_of};
 ghost use Rattle.rooms_met.specs.RoomAt.{HasWords};
-ghost use Rattle.rooms_met.specs.NodeState.{IsRoomSize};
+ghost use Rattle.paxos_core_world.specs.Quorum.{AreQuorums};
 ghost use Rattle.rooms_met.specs.Seen.{heard_with};
 ghost use Rattle.rooms_state.specs.Deal.{dealt, informed};
 ghost use Rattle.rooms_state.specs.Heard.{after_hearing};
+ghost use Rattle.rooms_state.specs.Sound.{IsSound};
 ghost use Rattle.rooms_state.specs.Words.{accepted_in, promised_in};
 ghost use Rattle.paxos_core_world.specs.World.{Has};
 
@@ -67,13 +69,13 @@ impl WordSeat {
     /// Node `me`'s seat of a room that opens so, from its rights there.
     pub(crate) fn new(rights: Rights, opening: &Opening, me: u8) -> Self
         requires opening { CanOpen opening.now }
-        requires number { me < opening.now.count }
-        requires words { HasWords rights.at opening.now.count }
+        requires number { me < opening.now.quorums.nodes }
+        requires words { HasWords rights.at opening.now.quorums.nodes }
         requires view { rights.me.0 ≡ dealt opening.now me }
         ensures { result ≡ opened_seat rights.at opening.now me }
     {
         let kept = opening.kept;
-        let node = Node::new(me, opening.count).restart(kept[usize::from(me)]);
+        let node = Node::new(me, opening.quorums).restart(kept[usize::from(me)]);
         WordSeat {
             rights,
             heard: 0,
@@ -93,7 +95,7 @@ impl WordSeat {
 
     /// Loads the word of node `j`'s proposer.
     pub fn look_proposer(&mut self, j: u8) -> ProposerWord
-        requires { j < self.old.node.count }
+        requires { j < self.old.node.quorums.nodes }
         ensures { LookedAtProposer j result self.old self.new }
     {
         let place = usize::from(j);
@@ -105,7 +107,7 @@ impl WordSeat {
     /// Loads the word of node `j`'s acceptor: notes the promise that it shows for the ballot under way, and its vote, and
     /// may learn.
     pub fn look_acceptor(&mut self, j: u8) -> AcceptorWord
-        requires { j < self.old.node.count }
+        requires { j < self.old.node.quorums.nodes }
         ensures { LookedAtAcceptor j result self.old self.new }
     {
         let place = usize::from(j);
@@ -144,7 +146,7 @@ impl WordSeat {
 
     /// Promises the ballot last seen of node `j`, where it is above all that was promised: stores its acceptor's word.
     pub fn promise(&mut self, j: u8) -> Option<u16>
-        requires { j < self.old.node.count }
+        requires { j < self.old.node.quorums.nodes }
         ensures answer { result ≡ promise_of self.old j }
         ensures some { IfSome result (λ b. Did (act.Promise b) self.old.proposed self.old self.new) }
         ensures none { IsNone result → self.new ≡ self.old }
@@ -187,7 +189,7 @@ impl WordSeat {
     /// Votes for what node `j` was last seen to have proposed, where its ballot is not below all that was promised and
     /// the vote was not given yet: stores its acceptor's word.
     pub fn accept(&mut self, j: u8) -> Option<Vote>
-        requires { j < self.old.node.count }
+        requires { j < self.old.node.quorums.nodes }
         ensures answer { result ≡ vote_of self.old j }
         ensures some { IfSome result (λ x. Did (act.Accept x.ballot x.value) self.old.proposed self.old self.new) }
         ensures none { IsNone result → self.new ≡ self.old }
@@ -207,24 +209,36 @@ impl WordSeat {
 
     /// The step that `start`, `promise(j)`, `propose` or `accept(j)` would take now: none where it would take none.
     pub fn intent(&self, act: Act) -> Option<Step>
-        requires { IsAmong self.now.node.count act }
+        requires { IsAmong self.now.node.quorums.nodes act }
         ensures { result ≡ would self.now act }
     {
         match act {
             Act::Start => Some(Step::Start(self.node.next_start()?)),
-            Act::Promise(j) => {
-                let seen = self.last_seen(j);
-                Some(Step::Promise(self.node.next_promise(seen.started)?))
-            }
+            Act::Promise(j) => self.intent_to_promise(j),
             Act::Propose => {
                 let (ballot, value) = self.node.proposal()?;
                 Some(Step::Propose(ballot, value))
             }
-            Act::Accept(j) => {
-                let vote = next_vote(&self.node, self.last_seen(j))?;
-                Some(Step::Accept(vote.ballot, vote.value))
-            }
+            Act::Accept(j) => self.intent_to_accept(j),
         }
+    }
+
+    /// The step that `promise(j)` would take now.
+    fn intent_to_promise(&self, j: u8) -> Option<Step>
+        requires { j < self.now.node.quorums.nodes }
+        ensures { result ≡ would self.now (asked.Promise j) }
+    {
+        let seen = self.last_seen(j);
+        Some(Step::Promise(self.node.next_promise(seen.started)?))
+    }
+
+    /// The step that `accept(j)` would take now.
+    fn intent_to_accept(&self, j: u8) -> Option<Step>
+        requires { j < self.now.node.quorums.nodes }
+        ensures { result ≡ would self.now (asked.Accept j) }
+    {
+        let vote = next_vote(&self.node, self.last_seen(j))?;
+        Some(Step::Accept(vote.ballot, vote.value))
     }
 
     /// Forgets all but what its node keeps and what was last seen of the words, as at a restart: loads its two own words,
@@ -253,7 +267,7 @@ impl WordSeat {
 
     /// The word of node `j`'s proposer as it was seen last.
     fn last_seen(&self, j: u8) -> ProposerWord
-        requires { j < self.now.node.count }
+        requires { j < self.now.node.quorums.nodes }
         ensures { result ≡ proposer_of self.now j }
     {
         ProposerWord::unpack(self.seen[usize::from(j)].proposer)
@@ -276,15 +290,15 @@ impl WordSeat {
     /// The number of its node.
     pub fn me(&self) -> u8
         ensures value { result ≡ self.now.node.me }
-        ensures below { result < self.now.node.count }
+        ensures below { result < self.now.node.quorums.nodes }
     {
         self.node.me()
     }
 
     /// How many nodes the room has.
     pub fn count(&self) -> u8
-        ensures value { result ≡ self.now.node.count }
-        ensures size { IsRoomSize result }
+        ensures value { result ≡ self.now.node.quorums.nodes }
+        ensures sizes { AreQuorums self.now.node.quorums }
     {
         self.node.count()
     }
@@ -302,6 +316,14 @@ impl WordSeat {
     {
         let _node = self.node.me();
         let _vote = self.node.kept().accepted();
+    }
+
+    /// All that the type keeps, for the proof of a meeting.
+    #[inline(always)]
+    pub(crate) fn sound(&self)
+        ensures { IsSound self.now }
+    {
+        let _node = self.node.me();
     }
 
     /// Takes in what another seat of the room has seen: the next look shows no less.

@@ -5,6 +5,7 @@ use mathlib.Core.Option.{none}
 use Rattle.rooms_table.specs.RoomAt.{RoomAt}
 use Rattle.atomic_table.specs.Table.{Me, step, Allows}
 use Rattle.paxos_core_world.specs.KeptPart.{KeptPart, with_promise, with_vote, vote}
+use Rattle.paxos_core_world.specs.Quorum.{Sizes}
 use Rattle.paxos_core_world.specs.Run.{reached}
 use Rattle.paxos_core_world.specs.Settled.{is_given}
 use Rattle.paxos_core_world.specs.Step.{Label, Promises, Accepts}
@@ -37,7 +38,7 @@ use Rattle.rooms_steps.proofs.RunLemmas.{legal_reached, reached_more, kept_of}
 use Rattle.rooms_steps.proofs.Stores.{keeps_if, stores_promise, stores_vote, stores_start, stores_proposal}
 use Rattle.rooms_state.specs.SeatState.{SeatState, no_proposer, seen_world, vote_by}
 use Rattle.rooms_state.specs.Sound.{IsSound}
-use Rattle.rooms_state.proofs.Moves.{number_below, own_stays, store_sound}
+use Rattle.rooms_state.proofs.Moves.{nodes_are, number_below, own_stays, store_sound}
 
 -- ---- what answers tell
 
@@ -67,33 +68,33 @@ vote_seen s b (Some v) x e =
 
 module _ (s : SeatState) (sound : IsSound s) where
   n : ℕ
-  n = s.view.opening.count
+  n = s.view.opening.quorums.nodes
 
-  r : IsReached s.view.opening.count (seen_world s)
+  r : IsReached s.view.opening.quorums (seen_world s)
   r = legal_reached s.view.opening s.view.seen sound.legal
 
   -- a vote that is kept is for a node of the room
   pub kept_value : (x : Vote) → s.node.kept.accepted ≡ Some x → x.value < 256
   kept_value x e =
-      let lt : s.view.node.me < s.view.opening.count = number_below s.view.opening.count (seen_world s) s.view.node sound.belongs in
+      let lt : s.view.node.me < s.view.opening.quorums.nodes = number_below s.view.opening.quorums (seen_world s) s.view.node sound.belongs in
       let at : ((seen_world s).nodes s.view.node.me).accepted ≡ Some x =
-      kept_of s.view.opening.count (seen_world s) s.view.node (λ (k : KeptPart). k.accepted) (λ k. refl) sound.belongs ∙ (ap (λ (t : NodeState). t.kept.accepted) sound.node ∙ e) in
-      let all = invariant_of s.view.opening.count (seen_world s) r in
-      let low : x.value < s.view.opening.count = (all.offered x.ballot x.value (inr (s.view.node.me, all.kept s.view.node.me x lt at))).0 in
-      let count : s.node.count ≡ s.view.opening.count = sound.count in
-      let most : s.node.count ≤ 7 = sound.most in
+      kept_of s.view.opening.quorums (seen_world s) s.view.node (λ (k : KeptPart). k.accepted) (λ k. refl) sound.belongs ∙ (ap (λ (t : NodeState). t.kept.accepted) sound.node ∙ e) in
+      let all = invariant_of s.view.opening.quorums (seen_world s) r in
+      let low : x.value < s.view.opening.quorums.nodes = (all.offered x.ballot x.value (inr (s.view.node.me, all.kept s.view.node.me x lt at))).0 in
+      let count : s.node.quorums.nodes ≡ s.view.opening.quorums.nodes = nodes_are s sound in
+      let most : s.node.quorums.nodes ≤ 7 = sound.most in
       omega arith
 
   pub given_value : (x : Vote) → accepts s.node x ≡ true → x.value < 256
   given_value x e =
-      let parts = and_parts (is_vote s.node.count x) _ e in
-      let low : x.value < s.node.count = ltb-true x.value s.node.count (and_parts (ltb 0 x.ballot) _ parts.0).1 in
-      let most : s.node.count ≤ 7 = sound.most in
+      let parts = and_parts (is_vote s.node.quorums.nodes x) _ e in
+      let low : x.value < s.node.quorums.nodes = ltb-true x.value s.node.quorums.nodes (and_parts (ltb 0 x.ballot) _ parts.0).1 in
+      let most : s.node.quorums.nodes ≤ 7 = sound.most in
       omega arith
 
   pub given_ballot : (x : Vote) → accepts s.node x ≡ true → 1 ≤ x.ballot
   given_ballot x e =
-      let parts = and_parts (is_vote s.node.count x) _ e in
+      let parts = and_parts (is_vote s.node.quorums.nodes x) _ e in
       let low : 0 < x.ballot = ltb-true 0 x.ballot (and_parts (ltb 0 x.ballot) _ parts.0).0 in
       omega arith
 
@@ -101,15 +102,15 @@ module _ (s : SeatState) (sound : IsSound s) where
   pub proposed_value : (b v : ℕ) → next_proposal s.node ≡ Some (b, v) → v < 255
   proposed_value b v e =
       let own : next_proposal s.view.node ≡ Some (b, v) = ap next_proposal sound.node ∙ proposal_offered s.node (b, v) e in
-      let done = offers_may_be_late.propose s.view.node s.view.opening.count (seen_world s) r sound.belongs in
+      let done = offers_may_be_late.propose s.view.node s.view.opening.quorums (seen_world s) r sound.belongs in
       let steps = taken_late_by_propose (seen_world s) s.view.node in
       let sent : Has (Propose b v) (reached (seen_world s) (taken_late_by_propose (seen_world s) s.view.node)).sent =
       subst (λ (m : Option (ℕ × ℕ)). IfSome (propose_message m) (λ m. Has m (reached (seen_world s) (taken_late_by_propose (seen_world s) s.view.node)).sent)) own done.sent in
-      let low : v < s.view.opening.count =
-      ((invariant_of s.view.opening.count (reached (seen_world s) (taken_late_by_propose (seen_world s) s.view.node))
-      (reached_more s.view.opening.count (seen_world s) (taken_late_by_propose (seen_world s) s.view.node) r done.run)).offered b v (inl sent)).0 in
-      let count : s.node.count ≡ s.view.opening.count = sound.count in
-      let most : s.node.count ≤ 7 = sound.most in
+      let low : v < s.view.opening.quorums.nodes =
+      ((invariant_of s.view.opening.quorums (reached (seen_world s) (taken_late_by_propose (seen_world s) s.view.node))
+      (reached_more s.view.opening.quorums (seen_world s) (taken_late_by_propose (seen_world s) s.view.node) r done.run)).offered b v (inl sent)).0 in
+      let count : s.node.quorums.nodes ≡ s.view.opening.quorums.nodes = nodes_are s sound in
+      let most : s.node.quorums.nodes ≤ 7 = sound.most in
       omega arith
 
 -- ---- what the stores ask
@@ -132,7 +133,7 @@ module _ {S : Type 0} (t : RoomAt) (o : Opening) (slots id : ℕ) (me : Me S Vie
       (stores_proposal o slots id me number s sound.node sound.seated b v e word)
 
   -- j was seen to have started the ballot
-  pub promise_allowed : (j b : ℕ) → j < s.count → Some b ≡ next_promise s (get_or xs j no_proposer).started → IsAcceptorWord number b s.kept.accepted
+  pub promise_allowed : (j b : ℕ) → j < s.quorums.nodes → Some b ≡ next_promise s (get_or xs j no_proposer).started → IsAcceptorWord number b s.kept.accepted
       → Allows (RoomRule o) slots id me (2 * place + 1) (λ _. number) (λ _. PromiseStore (step slots (2 * place + 1) number 0 none) me number)
   promise_allowed j b lt e word =
       let c : ℕ = (get_or xs j no_proposer).started in
@@ -141,19 +142,19 @@ module _ {S : Type 0} (t : RoomAt) (o : Opening) (slots id : ℕ) (me : Me S Vie
       let low : s.kept.promised < b = ltb-true s.kept.promised b may in
       let sent : Has (Prepare b) (world_after me.0.opening me.0.seen).sent =
       subst (λ (d : ℕ). Has (Prepare d) (world_after me.0.opening me.0.seen).sent) (sym told.1)
-      ((sound.proposers j (subst (λ (m : ℕ). j < m) sound.count lt)).prepare (subst (λ (d : ℕ). 1 ≤ d) told.1 (omega arith))) in
+      ((sound.proposers j (subst (λ (m : ℕ). j < m) (ap (λ (q : Sizes). q.nodes) sound.quorums) lt)).prepare (subst (λ (d : ℕ). 1 ≤ d) told.1 (omega arith))) in
       let kept : (after_prepare s b).kept ≡ with_promise b s.kept = ap (λ (q : Bool). (cond q (record s { kept = with_promise b s.kept }) s).kept) may in
       subst (λ (i : ℕ). Allows (RoomRule o) slots id me (2 * i + 1) (λ _. number) (λ _. PromiseStore (step slots (2 * i + 1) number 0 none) me number)) here
       (stores_promise o slots id me number s sound.node sound.seated b may sent (subst (λ (k : KeptPart). IsAcceptorWord number k.promised k.accepted) (sym kept) word))
 
   -- j was seen to have proposed the value
-  pub vote_allowed : (j : ℕ) (x : Vote) → j < s.count → Some x ≡ vote_by s (get_or xs j no_proposer).started (get_or xs j no_proposer).proposed → IsAcceptorWord number x.ballot (Some x)
+  pub vote_allowed : (j : ℕ) (x : Vote) → j < s.quorums.nodes → Some x ≡ vote_by s (get_or xs j no_proposer).started (get_or xs j no_proposer).proposed → IsAcceptorWord number x.ballot (Some x)
       → Allows (RoomRule o) slots id me (2 * place + 1) (λ _. number) (λ _. AcceptStore (step slots (2 * place + 1) number 0 none) me number)
   vote_allowed j x lt e word =
       let told = vote_seen s (get_or xs j no_proposer).started (get_or xs j no_proposer).proposed x e in
       let sent : Has (Propose x.ballot x.value) (world_after me.0.opening me.0.seen).sent =
       subst (λ (d : ℕ). Has (Propose d x.value) (world_after me.0.opening me.0.seen).sent) (sym told.2)
-      ((sound.proposers j (subst (λ (m : ℕ). j < m) sound.count lt)).propose x.value told.1) in
+      ((sound.proposers j (subst (λ (m : ℕ). j < m) (ap (λ (q : Sizes). q.nodes) sound.quorums) lt)).propose x.value told.1) in
       let kept : (after_propose s x).kept ≡ with_vote x s.kept = ap (λ (q : Bool). (cond q (record s { kept = with_vote x s.kept }) s).kept) told.0 in
       subst (λ (i : ℕ). Allows (RoomRule o) slots id me (2 * i + 1) (λ _. number) (λ _. AcceptStore (step slots (2 * i + 1) number 0 none) me number)) here
       (stores_vote o slots id me number s sound.node sound.seated x told.0 sent (subst (λ (k : KeptPart). IsAcceptorWord number k.promised k.accepted) (sym kept) word))
@@ -201,7 +202,7 @@ module _ (old : SeatState) (sound : IsSound old) (w : View) (number : ℕ) (t : 
   kept_own : (a : Act) (m : Msg) (h : StoresAcceptor a number old.view w) → ((steps : List Label) → AreTakenBy old.view.node a steps → (x : World) (i k : ℕ) → IsProposerOf x i k → IsProposerOf (reached x steps) i k)
       → IsProposerOf (world_after old.view.opening w.seen) old.view.node.me sound.own_word
   kept_own a m h quiet =
-      own_stays old.view h.took.steps (after_act old.view.node a) w h.took.advances sound.legal sound.own_word (number_below old.view.opening.count (seen_world old) old.view.node sound.belongs)
+      own_stays old.view h.took.steps (after_act old.view.node a) w h.took.advances sound.legal sound.own_word (number_below old.view.opening.quorums (seen_world old) old.view.node sound.belongs)
       (quiet h.took.steps h.took.taken) (subst (λ (i : ℕ). IsProposerOf (seen_world old) i sound.own_word) (sym mine) sound.own)
 
   pub promise_sound : (b : ℕ) → StoresAcceptor (act.Promise b) number old.view w → node ≡ after_message old.node (Prepare b) → IsSound (record old { table = t; view = w; node = node })

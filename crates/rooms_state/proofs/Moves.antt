@@ -3,6 +3,7 @@ use Rattle.std.proofs.Common.{◌≡◌, ℕ, ◌+◌, ◌*◌, ◌<◌, ◌≤�
 use native.Mathlib.Decide.{ℕ_discrete}
 use Rattle.paxos_core_world.specs.Ballot.{Owns}
 use Rattle.paxos_core_world.specs.KeptPart.{KeptPart, with_offer, without_offer}
+use Rattle.paxos_core_world.specs.Quorum.{Sizes}
 use Rattle.paxos_core_world.specs.Run.{IsRun, reached}
 use Rattle.paxos_core_world.specs.Step.{Label}
 use Rattle.paxos_core_world.specs.World.{World}
@@ -37,13 +38,17 @@ use Rattle.rooms_state.specs.Did.{LookedAtAcceptor, LookedAtProposer, Forgotten}
 use Rattle.rooms_state.specs.SeatState.{SeatState, no_proposer, no_acceptor, proposer_of, acceptor_of, own_words, seen_world}
 use Rattle.rooms_state.specs.Sound.{IsSound}
 
-pub number_below : (n : ℕ) (w : World) (s : NodeState) → BelongsButOffer n w s → s.me < n
-number_below n w s (inl h) = h.number
-number_below n w s (inr h) = h.number
+pub number_below : (q : Sizes) (w : World) (s : NodeState) → BelongsButOffer q w s → s.me < q.nodes
+number_below q w s (inl h) = h.number
+number_below q w s (inr h) = h.number
 
-count_is : (n : ℕ) (w : World) (s : NodeState) → BelongsButOffer n w s → s.count ≡ n
-count_is n w s (inl h) = h.count
-count_is n w s (inr h) = h.count
+quorums_are : (q : Sizes) (w : World) (s : NodeState) → BelongsButOffer q w s → s.quorums ≡ q
+quorums_are q w s (inl h) = h.quorums
+quorums_are q w s (inr h) = h.quorums
+
+-- the room has as many nodes as the seat's node knows of
+pub nodes_are : (s : SeatState) → IsSound s → s.node.quorums.nodes ≡ s.view.opening.quorums.nodes
+nodes_are s sound = ap (λ (q : Sizes). q.nodes) sound.quorums
 
 -- the worlds before and after
 module _ (v : View) (steps : List Label) (t : NodeState) (w : View) (a : Advances v steps t w) (before : IsLegal v.opening v.seen) where
@@ -56,7 +61,7 @@ module _ (v : View) (steps : List Label) (t : NodeState) (w : View) (a : Advance
   legal_is : IsLegal v.opening ((events_of steps ++ a.between) ++ v.seen)
   legal_is = subst (λ (r : List Event). IsLegal v.opening r) seen_is a.legal
 
-  run_is : IsRun v.opening.count (world_after v.opening v.seen) (labels_of (events_of steps ++ a.between))
+  run_is : IsRun v.opening.quorums (world_after v.opening v.seen) (labels_of (events_of steps ++ a.between))
   run_is = run_behind v.opening (events_of steps ++ a.between) v.seen legal_is
 
   world_is : world_after v.opening w.seen ≡ reached (world_after v.opening v.seen) (labels_of (events_of steps ++ a.between))
@@ -66,24 +71,24 @@ module _ (v : View) (steps : List Label) (t : NodeState) (w : View) (a : Advance
   pub proposer_stays_seen : (j : ℕ) (x : ProposerWord) → ProposerSeen (world_after v.opening v.seen) j x → ProposerSeen (world_after v.opening w.seen) j x
   proposer_stays_seen j x h =
       subst (λ (z : World). ProposerSeen z j x) (sym world_is)
-      (proposer_seen_later v.opening.count (world_after v.opening v.seen) (labels_of (events_of steps ++ a.between)) j x run_is h)
+      (proposer_seen_later v.opening.quorums (world_after v.opening v.seen) (labels_of (events_of steps ++ a.between)) j x run_is h)
 
-  pub acceptor_stays_seen : (j : ℕ) (x : AcceptorWord) → j < v.opening.count → AcceptorSeen (world_after v.opening v.seen) j x → AcceptorSeen (world_after v.opening w.seen) j x
+  pub acceptor_stays_seen : (j : ℕ) (x : AcceptorWord) → j < v.opening.quorums.nodes → AcceptorSeen (world_after v.opening v.seen) j x → AcceptorSeen (world_after v.opening w.seen) j x
   acceptor_stays_seen j x lt h =
       subst (λ (z : World). AcceptorSeen z j x) (sym world_is)
-      (acceptor_seen_later v.opening.count (world_after v.opening v.seen) (labels_of (events_of steps ++ a.between)) j x (legal_reached v.opening v.seen before) lt run_is h)
+      (acceptor_seen_later v.opening.quorums (world_after v.opening v.seen) (labels_of (events_of steps ++ a.between)) j x (legal_reached v.opening v.seen before) lt run_is h)
 
-  pub reached_after : IsReached v.opening.count (world_after v.opening w.seen)
+  pub reached_after : IsReached v.opening.quorums (world_after v.opening w.seen)
   reached_after = legal_reached v.opening w.seen a.legal
 
   -- the own proposer's word stays, unless the steps change it
-  pub own_stays : (number : ℕ) → v.node.me < v.opening.count → ((x : World) (i k : ℕ) → IsProposerOf x i k → IsProposerOf (reached x steps) i k) → IsProposerOf (world_after v.opening v.seen) v.node.me number → IsProposerOf (world_after v.opening w.seen) v.node.me number
+  pub own_stays : (number : ℕ) → v.node.me < v.opening.quorums.nodes → ((x : World) (i k : ℕ) → IsProposerOf x i k → IsProposerOf (reached x steps) i k) → IsProposerOf (world_after v.opening v.seen) v.node.me number → IsProposerOf (world_after v.opening w.seen) v.node.me number
   own_stays number lt quiet h =
       let legal : IsLegal v.opening (events_of steps ++ (a.between ++ v.seen)) = subst (λ (r : List Event). IsLegal v.opening r) a.seen a.legal in
       let run = run_behind v.opening a.between v.seen (legal_before v.opening (events_of steps) (a.between ++ v.seen) legal) in
       let there : IsProposerOf (world_after v.opening (a.between ++ v.seen)) v.node.me number =
       subst (λ (z : World). IsProposerOf z v.node.me number) (sym (world_after-append v.opening a.between v.seen))
-      (proposer_of_others v.opening.count (world_after v.opening v.seen) (labels_of a.between) v.node.me number (legal_reached v.opening v.seen before) lt run a.others h) in
+      (proposer_of_others v.opening.quorums (world_after v.opening v.seen) (labels_of a.between) v.node.me number (legal_reached v.opening v.seen before) lt run a.others h) in
       subst (λ (z : World). IsProposerOf z v.node.me number) (sym (ap (λ (r : List Event). world_after v.opening r) a.seen ∙ world_after-events v.opening steps (a.between ++ v.seen)))
       (quiet (world_after v.opening (a.between ++ v.seen)) v.node.me number there)
 
@@ -119,12 +124,12 @@ acceptors_with w n xs j x lt h all i il = at (ℕ_discrete i j)
 abbrev pub after_proposer_look : SeatState → View → ℕ → ProposerWord → SeatState
 after_proposer_look s w j x = record s { view = w; proposers = set s.proposers j x }
 
-module _ (old : SeatState) (sound : IsSound old) (j number : ℕ) (lt : j < old.node.count) (x : ProposerWord) (es : x.started ≡ started_in number) (ep : x.proposed ≡ proposed_in number) where
-  low : j < old.view.opening.count
-  low = subst (λ (n : ℕ). j < n) sound.count lt
+module _ (old : SeatState) (sound : IsSound old) (j number : ℕ) (lt : j < old.node.quorums.nodes) (x : ProposerWord) (es : x.started ≡ started_in number) (ep : x.proposed ≡ proposed_in number) where
+  low : j < old.view.opening.quorums.nodes
+  low = subst (λ (n : ℕ). j < n) (nodes_are old sound) lt
 
   room : j < length old.proposers
-  room = let a : length old.proposers ≡ 7 = sound.proposer_row in let b : old.node.count ≤ 7 = sound.most in omega arith
+  room = let a : length old.proposers ≡ 7 = sound.proposer_row in let b : old.node.quorums.nodes ≤ 7 = sound.most in omega arith
 
   me_is : old.view.node.me ≡ old.node.me
   me_is = ap (λ (s : NodeState). s.me) sound.node
@@ -136,7 +141,7 @@ module _ (old : SeatState) (sound : IsSound old) (j number : ℕ) (lt : j < old.
     own_word_stays : IsProposerOf (world_after old.view.opening run) old.view.node.me sound.own_word
     own_word_stays =
         own_stays old.view [] old.view.node (view_with old.view run old.view.node) h.advances sound.legal sound.own_word
-        (number_below old.view.opening.count (seen_world old) old.view.node sound.belongs) (λ z i k g. g)
+        (number_below old.view.opening.quorums (seen_world old) old.view.node sound.belongs) (λ z i k g. g)
         (subst (λ (i : ℕ). IsProposerOf (seen_world old) i sound.own_word) (sym me_is) sound.own)
 
     started_is : x.started ≡ ((world_after old.view.opening run).nodes j).started
@@ -146,13 +151,13 @@ module _ (old : SeatState) (sound : IsSound old) (j number : ℕ) (lt : j < old.
     proposed_is = ep ∙ h.shows.tells_proposed
 
     sight : ProposerSeen (world_after old.view.opening run) j x
-    sight = proposer_seen old.view.opening.count (world_after old.view.opening run) j x (reached_after old.view [] old.view.node (view_with old.view run old.view.node) h.advances sound.legal) low started_is proposed_is
+    sight = proposer_seen old.view.opening.quorums (world_after old.view.opening run) j x (reached_after old.view [] old.view.node (view_with old.view run old.view.node) h.advances sound.legal) low started_is proposed_is
 
     pub proposer_look_sound : IsSound (after_proposer_look old (view_with old.view run old.view.node) j x)
     proposer_look_sound =
         record {
           words = sound.words;
-          count = sound.count;
+          quorums = sound.quorums;
           most = sound.most;
           proposer_row = length-set old.proposers j x ∙ sound.proposer_row;
           acceptor_row = sound.acceptor_row;
@@ -163,12 +168,12 @@ module _ (old : SeatState) (sound : IsSound old) (j number : ℕ) (lt : j < old.
           own_word = sound.own_word;
           own = subst (λ (i : ℕ). IsProposerOf (world_after old.view.opening run) i sound.own_word) me_is own_word_stays;
           proposed = sound.proposed;
-          proposers = proposers_with (world_after old.view.opening run) old.view.opening.count old.proposers j x room sight
+          proposers = proposers_with (world_after old.view.opening run) old.view.opening.quorums.nodes old.proposers j x room sight
               (λ i il. proposer_stays_seen old.view [] old.view.node (view_with old.view run old.view.node) h.advances sound.legal i _ (sound.proposers i il));
           acceptors = λ i il. acceptor_stays_seen old.view [] old.view.node (view_with old.view run old.view.node) h.advances sound.legal i _ il (sound.acceptors i il);
-          owned = owned_with old.view.opening.count old.proposers j x room
-              (subst (λ (b : ℕ). (b ≡ 0) ⊎ Owns old.view.opening.count j b) (sym started_is)
-              (started_own old.view.opening.count (world_after old.view.opening run) j (reached_after old.view [] old.view.node (view_with old.view run old.view.node) h.advances sound.legal) low))
+          owned = owned_with old.view.opening.quorums.nodes old.proposers j x room
+              (subst (λ (b : ℕ). (b ≡ 0) ⊎ Owns old.view.opening.quorums.nodes j b) (sym started_is)
+              (started_own old.view.opening.quorums (world_after old.view.opening run) j (reached_after old.view [] old.view.node (view_with old.view run old.view.node) h.advances sound.legal) low))
               sound.owned;
         }
 
@@ -186,14 +191,14 @@ module _ (old : SeatState) (sound : IsSound old) (j number : ℕ) (lt : j < old.
           own = λ e.
               let mine : j ≡ old.view.node.me = e ∙ sym me_is in (
                 started_is ∙ (ap (λ (i : ℕ). ((world_after old.view.opening run).nodes i).started) mine
-                    ∙ (kept_of old.view.opening.count (world_after old.view.opening run) old.view.node (λ (k : KeptPart). k.started) (λ k. refl) h.advances.belongs
+                    ∙ (kept_of old.view.opening.quorums (world_after old.view.opening run) old.view.node (λ (k : KeptPart). k.started) (λ k. refl) h.advances.belongs
                     ∙ ap (λ (s : NodeState). s.kept.started) sound.node)),
                 proposed_is ∙ (ap (λ (i : ℕ). proposed_by (world_after old.view.opening run) i) mine ∙ (sym own_word_stays.tells_proposed ∙ sound.proposed)),
               );
         }
 
 -- the same at whatever view the look left, and where the node's place and the seat's table are told otherwise
-pub proposer_look : (old : SeatState) → IsSound old → (place j number : ℕ) → place ≡ j → place < old.node.count → (x : ProposerWord) → x.started ≡ started_in number → x.proposed ≡ proposed_in number
+pub proposer_look : (old : SeatState) → IsSound old → (place j number : ℕ) → place ≡ j → place < old.node.quorums.nodes → (x : ProposerWord) → x.started ≡ started_in number → x.proposed ≡ proposed_in number
     → (t : RoomAt) → t ≡ old.table → (w : View) → LooksAtProposer place number old.view w
     → IsSound (record old { table = t; view = w; proposers = set old.proposers place x }) × LookedAtProposer j x old (record old { table = t; view = w; proposers = set old.proposers place x })
 proposer_look old sound place j number at lt x es ep t et w h =
@@ -216,19 +221,19 @@ module _ (old : SeatState) (sound : IsSound old) (steps : List Label) (t : NodeS
   node_me : node.me ≡ old.view.node.me
   node_me = ap (λ (s : NodeState). s.me) (sym tie) ∙ me
 
-  node_count : node.count ≡ old.view.opening.count
-  node_count = ap (λ (s : NodeState). s.count) (sym tie) ∙ count_is old.view.opening.count (world_after old.view.opening run) t a.belongs
+  node_quorums : node.quorums ≡ old.view.opening.quorums
+  node_quorums = ap (λ (s : NodeState). s.quorums) (sym tie) ∙ quorums_are old.view.opening.quorums (world_after old.view.opening run) t a.belongs
 
-  pub step_sound : (xs : List AcceptorWord) → length xs ≡ 7 → ((i : ℕ) → i < old.view.opening.count → AcceptorSeen (world_after old.view.opening run) i (get_or xs i no_acceptor))
+  pub step_sound : (xs : List AcceptorWord) → length xs ≡ 7 → ((i : ℕ) → i < old.view.opening.quorums.nodes → AcceptorSeen (world_after old.view.opening run) i (get_or xs i no_acceptor))
       → IsSound (record old { view = view_with old.view run t; node = node; proposed = p; acceptors = xs })
   step_sound xs len seen =
-      let most : old.node.count ≤ 7 = sound.most in
-      let same : node.count ≡ old.node.count = node_count ∙ sym sound.count in
+      let most : old.node.quorums.nodes ≤ 7 = sound.most in
+      let same : node.quorums.nodes ≡ old.node.quorums.nodes = ap (λ (q : Sizes). q.nodes) node_quorums ∙ sym (nodes_are old sound) in
       let last : old.view.end ≡ old.view.node.me + 1 = sound.seated.last in
       let moved : t.me ≡ old.view.node.me = me in
       record {
         words = sound.words;
-        count = node_count;
+        quorums = node_quorums;
         most = omega arith;
         proposer_row = sound.proposer_row;
         acceptor_row = len;
@@ -261,7 +266,7 @@ kept_shown s j (Some y) f = kept_if f (notes_vote s j y) s _ refl
 pub kept_hearing : {A : Type 0} (s : NodeState) (j p : ℕ) (y : Option Vote) (f : KeptPart → A) → f (after_hearing s j p y).kept ≡ f s.kept
 kept_hearing s j p y f = kept_shown (after_promise s j p y) j y f ∙ kept_if f (notes_promise s j p y) s _ refl
 
-pub acceptor_look : (old : SeatState) → IsSound old → (place j number : ℕ) → place ≡ j → place < old.node.count → (x : AcceptorWord) → x.promised ≡ promised_in number → x.accepted ≡ accepted_in number
+pub acceptor_look : (old : SeatState) → IsSound old → (place j number : ℕ) → place ≡ j → place < old.node.quorums.nodes → (x : AcceptorWord) → x.promised ≡ promised_in number → x.accepted ≡ accepted_in number
     → (t : RoomAt) → t ≡ old.table → (w : View) → LooksAtAcceptor place number old.view w → (node : NodeState) → node ≡ after_hearing old.node j x.promised x.accepted
     → IsSound (record old { table = t; view = w; node = node; acceptors = set old.acceptors place x }) × LookedAtAcceptor j x old (record old { table = t; view = w; node = node; acceptors = set old.acceptors place x })
 acceptor_look old sound place j number at lt x ep ea t et w h node en =
@@ -271,7 +276,7 @@ acceptor_look old sound place j number at lt x ep ea t et w h node en =
     (sound_after, looked)))
   where
     n : ℕ
-    n = old.view.opening.count
+    n = old.view.opening.quorums.nodes
 
     after : NodeState
     after = after_hearing old.view.node j x.promised x.accepted
@@ -289,8 +294,8 @@ acceptor_look old sound place j number at lt x ep ea t et w h node en =
     here : Advances old.view (taken_by_hearing old.view.node j x.promised x.accepted) (after_hearing old.view.node j x.promised x.accepted) (view_with old.view w.seen (after_hearing old.view.node j x.promised x.accepted))
     here = subst (λ (z : View). Advances old.view (taken_by_hearing old.view.node j x.promised x.accepted) (after_hearing old.view.node j x.promised x.accepted) z) e adv
 
-    low : j < old.view.opening.count
-    low = subst (λ (i : ℕ). i < old.view.opening.count) at (subst (λ (m : ℕ). place < m) sound.count lt)
+    low : j < old.view.opening.quorums.nodes
+    low = subst (λ (i : ℕ). i < old.view.opening.quorums.nodes) at (subst (λ (m : ℕ). place < m) (nodes_are old sound) lt)
 
     me_is : old.view.node.me ≡ old.node.me
     me_is = ap (λ (s : NodeState). s.me) sound.node
@@ -303,7 +308,7 @@ acceptor_look old sound place j number at lt x ep ea t et w h node en =
 
     own : IsProposerOf (world_after old.view.opening w.seen) old.view.node.me sound.own_word
     own =
-        own_stays old.view _ _ _ here sound.legal sound.own_word (number_below old.view.opening.count (seen_world old) old.view.node sound.belongs) quiet
+        own_stays old.view _ _ _ here sound.legal sound.own_word (number_below old.view.opening.quorums (seen_world old) old.view.node sound.belongs) quiet
         (subst (λ (i : ℕ). IsProposerOf (seen_world old) i sound.own_word) (sym me_is) sound.own)
 
     shows : IsAcceptorOf (world_after old.view.opening w.seen) j number
@@ -316,25 +321,25 @@ acceptor_look old sound place j number at lt x ep ea t et w h node en =
     accepted_is = ea ∙ shows.tells_accepted
 
     sight : AcceptorSeen (world_after old.view.opening w.seen) j x
-    sight = acceptor_seen old.view.opening.count (world_after old.view.opening w.seen) j x (reached_after old.view _ _ _ here sound.legal) low promised_is accepted_is
+    sight = acceptor_seen old.view.opening.quorums (world_after old.view.opening w.seen) j x (reached_after old.view _ _ _ here sound.legal) low promised_is accepted_is
 
     room : place < length old.acceptors
-    room = let a : length old.acceptors ≡ 7 = sound.acceptor_row in let b : old.node.count ≤ 7 = sound.most in omega arith
+    room = let a : length old.acceptors ≡ 7 = sound.acceptor_row in let b : old.node.quorums.nodes ≤ 7 = sound.most in omega arith
 
-    kept_seen : (i : ℕ) → i < old.view.opening.count → AcceptorSeen (world_after old.view.opening w.seen) i (get_or old.acceptors i no_acceptor)
+    kept_seen : (i : ℕ) → i < old.view.opening.quorums.nodes → AcceptorSeen (world_after old.view.opening w.seen) i (get_or old.acceptors i no_acceptor)
     kept_seen i il = acceptor_stays_seen old.view _ _ _ here sound.legal i _ il (sound.acceptors i il)
 
     sound_after : IsSound (record old { view = view_with old.view w.seen (after_hearing old.view.node j x.promised x.accepted); node = after_hearing old.node j x.promised x.accepted; acceptors = set old.acceptors place x })
     sound_after =
         step_sound old sound (taken_by_hearing old.view.node j x.promised x.accepted) (after_hearing old.view.node j x.promised x.accepted) w.seen here (me_hearing old.view.node j x.promised x.accepted)
         (after_hearing old.node j x.promised x.accepted) tie sound.own_word own old.proposed sound.proposed (set old.acceptors place x) (length-set old.acceptors place x ∙ sound.acceptor_row)
-        (acceptors_with (world_after old.view.opening w.seen) old.view.opening.count old.acceptors place x room (subst (λ (i : ℕ). AcceptorSeen (world_after old.view.opening w.seen) i x) (sym at) sight) kept_seen)
+        (acceptors_with (world_after old.view.opening w.seen) old.view.opening.quorums.nodes old.acceptors place x room (subst (λ (i : ℕ). AcceptorSeen (world_after old.view.opening w.seen) i x) (sym at) sight) kept_seen)
 
     kept_is : {A : Type 0} (f : KeptPart → A) → ((k : KeptPart) → f (without_offer k) ≡ f k) → ((k : KeptPart) → f (with_offer k) ≡ f k) → j ≡ old.node.me
         → f ((world_after old.view.opening w.seen).nodes j) ≡ f (after_hearing old.node j x.promised x.accepted).kept
     kept_is f g o mine =
         ap (λ (i : ℕ). f ((world_after old.view.opening w.seen).nodes i)) (mine ∙ (sym me_is ∙ sym (me_hearing old.view.node j x.promised x.accepted)))
-        ∙ (kept_of old.view.opening.count (world_after old.view.opening w.seen) (after_hearing old.view.node j x.promised x.accepted) f g here.belongs
+        ∙ (kept_of old.view.opening.quorums (world_after old.view.opening w.seen) (after_hearing old.view.node j x.promised x.accepted) f g here.belongs
         ∙ (ap (λ (s : NodeState). f s.kept) tie ∙ o (after_hearing old.node j x.promised x.accepted).kept))
 
     looked : LookedAtAcceptor j x old (record old { view = view_with old.view w.seen (after_hearing old.view.node j x.promised x.accepted); node = after_hearing old.node j x.promised x.accepted; acceptors = set old.acceptors place x })
@@ -368,7 +373,7 @@ forgot_sound old sound t et w h =
     (store_sound old sound (taken_by_restart old.view.node) (restarted old.view.node old.view.node.kept) w.seen adv refl (restarted old.node old.node.kept)
     (ap (λ (s : NodeState). restarted s s.kept) sound.node) sound.own_word
     (own_stays old.view (taken_by_restart old.view.node) (restarted old.view.node old.view.node.kept) (view_with old.view w.seen (restarted old.view.node old.view.node.kept)) adv sound.legal sound.own_word
-    (number_below old.view.opening.count (seen_world old) old.view.node sound.belongs) (λ z i k g. g)
+    (number_below old.view.opening.quorums (seen_world old) old.view.node sound.belongs) (λ z i k g. g)
     (subst (λ (i : ℕ). IsProposerOf (seen_world old) i sound.own_word) (sym mine) sound.own))
     old.proposed sound.proposed))
 
@@ -389,7 +394,7 @@ own_proposer s h number p =
     let mine : s.view.node.me ≡ s.node.me = ap (λ (t : NodeState). t.me) h.node in (
       p.tells_started
           ∙ (ap (λ (i : ℕ). ((seen_world s).nodes i).started) (sym mine)
-          ∙ (kept_of s.view.opening.count (seen_world s) s.view.node (λ (k : KeptPart). k.started) (λ k. refl) h.belongs ∙ ap (λ (t : NodeState). t.kept.started) h.node)),
+          ∙ (kept_of s.view.opening.quorums (seen_world s) s.view.node (λ (k : KeptPart). k.started) (λ k. refl) h.belongs ∙ ap (λ (t : NodeState). t.kept.started) h.node)),
       p.tells_proposed ∙ (sym h.own.tells_proposed ∙ h.proposed),
     )
 
@@ -398,26 +403,26 @@ own_acceptor s h number p =
     let mine : s.view.node.me ≡ s.node.me = ap (λ (t : NodeState). t.me) h.node in (
       p.tells_promised
           ∙ (ap (λ (i : ℕ). ((seen_world s).nodes i).promised) (sym mine)
-          ∙ (kept_of s.view.opening.count (seen_world s) s.view.node (λ (k : KeptPart). k.promised) (λ k. refl) h.belongs ∙ ap (λ (t : NodeState). t.kept.promised) h.node)),
+          ∙ (kept_of s.view.opening.quorums (seen_world s) s.view.node (λ (k : KeptPart). k.promised) (λ k. refl) h.belongs ∙ ap (λ (t : NodeState). t.kept.promised) h.node)),
       p.tells_accepted
           ∙ (ap (λ (i : ℕ). ((seen_world s).nodes i).accepted) (sym mine)
-          ∙ (kept_of s.view.opening.count (seen_world s) s.view.node (λ (k : KeptPart). k.accepted) (λ k. refl) h.belongs ∙ ap (λ (t : NodeState). t.kept.accepted) h.node)),
+          ∙ (kept_of s.view.opening.quorums (seen_world s) s.view.node (λ (k : KeptPart). k.accepted) (λ k. refl) h.belongs ∙ ap (λ (t : NodeState). t.kept.accepted) h.node)),
     )
 
 -- the two loads of a seat that forgets find its own words
-pub found_own : (old : SeatState) → IsSound old → (t u : RoomAt) → t ≡ old.table → u ≡ t → (mid w : View) (place : ℕ) → place ≡ old.node.me → place < old.node.count → (m n : ℕ)
+pub found_own : (old : SeatState) → IsSound old → (t u : RoomAt) → t ≡ old.table → u ≡ t → (mid w : View) (place : ℕ) → place ≡ old.node.me → place < old.node.quorums.nodes → (m n : ℕ)
     → ForgotAt (2 * place) m old.view mid → ForgotAt (2 * place + 1) n mid w → (x : ProposerWord) (y : AcceptorWord)
     → x.started ≡ started_in m → x.proposed ≡ proposed_in m → y.promised ≡ promised_in n → y.accepted ≡ accepted_in n → (x, y) ≡ own_words old
 found_own old sound t u et eu mid w place at lt m n h k x y es ep em ea =
     let first = forgot_sound old sound t et mid h.forgot in
     let second = forgot_sound (record old { table = t; view = mid; node = restarted old.node old.node.kept }) first u eu w k.forgot in
-    let low : place < old.view.opening.count = subst (λ (c : ℕ). place < c) sound.count lt in
+    let low : place < old.view.opening.quorums.nodes = subst (λ (c : ℕ). place < c) (nodes_are old sound) lt in
     let opening : mid.opening ≡ old.view.opening = ap (λ (v : View). v.opening) h.forgot.stays in
     let last : w.opening ≡ mid.opening = ap (λ (v : View). v.opening) k.forgot.stays in
     let p = own_proposer (record old { table = t; view = mid; node = restarted old.node old.node.kept }) first m
     (subst (λ (o : Opening). IsProposerOf (world_after o mid.seen) old.node.me m) (sym opening) (subst (λ (i : ℕ). IsProposerOf (world_after old.view.opening mid.seen) i m) at (h.proposer place refl low))) in
     let a = own_acceptor (record old { table = u; view = w; node = restarted old.node old.node.kept }) second n
-    (subst (λ (o : Opening). IsAcceptorOf (world_after o w.seen) old.node.me n) (sym last) (subst (λ (i : ℕ). IsAcceptorOf (world_after mid.opening w.seen) i n) at (k.acceptor place refl (subst (λ (o : Opening). place < o.count) (sym opening) low)))) in
+    (subst (λ (o : Opening). IsAcceptorOf (world_after o w.seen) old.node.me n) (sym last) (subst (λ (i : ℕ). IsAcceptorOf (world_after mid.opening w.seen) i n) at (k.acceptor place refl (subst (λ (o : Opening). place < o.quorums.nodes) (sym opening) low)))) in
     λ i. (record { started = (es ∙ p.0) i; proposed = (ep ∙ p.1) i }, record { promised = (em ∙ a.0) i; accepted = (ea ∙ a.1) i })
 
 -- after the node's offer
@@ -425,7 +430,7 @@ pub offer_sound : (old : SeatState) → IsSound old → IsSound (record old { no
 offer_sound old sound =
     record {
       words = sound.words;
-      count = sound.count;
+      quorums = sound.quorums;
       most = sound.most;
       proposer_row = sound.proposer_row;
       acceptor_row = sound.acceptor_row;

@@ -4,10 +4,10 @@ use Rattle.std.proofs.lemmas.Bool.{cases_lt}
 use Rattle.rooms_table.specs.RoomAt.{HasWords, RoomAt}
 use Rattle.paxos_core_world.specs.Ballot.{Owns}
 use Rattle.paxos_core_world.specs.KeptPart.{KeptPart, nothing_kept}
+use Rattle.paxos_core_world.specs.Quorum.{AreQuorums, Sizes}
 use Rattle.paxos_core_world.specs.Settled.{Settled}
 use Rattle.paxos_core_world.specs.World.{nodes_of}
 use Rattle.paxos_core_world.specs.declared.vote.Vote.{Vote}
-use Rattle.paxos_core_law.specs.NodeState.{IsRoomSize}
 use Rattle.rooms_steps.specs.AcceptorWord.{AcceptorWord}
 use Rattle.rooms_steps.specs.ProposerWord.{ProposerWord}
 use Rattle.rooms_steps.specs.Opening.{Opening}
@@ -19,11 +19,6 @@ use Rattle.rooms_steps.proofs.Stays.{proposer_seen, acceptor_seen}
 use Rattle.rooms_state.specs.SeatState.{CanOpen, opening_of, opened_proposer, opened_acceptor, opened_seat, no_proposer, no_acceptor}
 use Rattle.rooms_state.specs.Sound.{IsSound}
 
-pub room_size : (n : ℕ) → IsRoomSize n → n ≤ 7
-room_size n (inl e) = omega arith
-room_size n (inr (inl e)) = omega arith
-room_size n (inr (inr e)) = omega arith
-
 -- ---- the kept parts
 
 beyond : {A : Type 0} (xs : List A) (j : ℕ) (d : A) → length xs ≤ j → get_or xs j d ≡ d
@@ -31,28 +26,31 @@ beyond [] j d h = refl
 beyond (x ∷ xs) zero d h = absurd (omega arith)
 beyond (x ∷ xs) (suc j) d h = beyond xs j d (omega arith)
 
-same_node : (kept : List KeptPart) → length kept ≤ 7 → (i : ℕ) → nodes_of (opening_of kept).kept i ≡ nodes_of kept i
-same_node kept most zero = refl
-same_node kept most (suc zero) = refl
-same_node kept most (suc (suc zero)) = refl
-same_node kept most (suc (suc (suc zero))) = refl
-same_node kept most (suc (suc (suc (suc zero)))) = refl
-same_node kept most (suc (suc (suc (suc (suc zero))))) = refl
-same_node kept most (suc (suc (suc (suc (suc (suc zero)))))) = refl
-same_node kept most (suc (suc (suc (suc (suc (suc (suc i))))))) = sym (beyond kept (suc (suc (suc (suc (suc (suc (suc i))))))) nothing_kept (omega arith))
+same_node : (q : Sizes) (kept : List KeptPart) → length kept ≤ 7 → (i : ℕ) → nodes_of (opening_of q kept).kept i ≡ nodes_of kept i
+same_node q kept most zero = refl
+same_node q kept most (suc zero) = refl
+same_node q kept most (suc (suc zero)) = refl
+same_node q kept most (suc (suc (suc zero))) = refl
+same_node q kept most (suc (suc (suc (suc zero)))) = refl
+same_node q kept most (suc (suc (suc (suc (suc zero))))) = refl
+same_node q kept most (suc (suc (suc (suc (suc (suc zero)))))) = refl
+same_node q kept most (suc (suc (suc (suc (suc (suc (suc i))))))) = sym (beyond kept (suc (suc (suc (suc (suc (suc (suc i))))))) nothing_kept (omega arith))
 
 -- the room that is opened has the nodes whose parts were given
-pub same_nodes : (kept : List KeptPart) → IsRoomSize (length kept) → nodes_of (opening_of kept).kept ≡ nodes_of kept
-same_nodes kept size = λ k i. same_node kept (room_size (length kept) size) i k
+pub same_nodes : (q : Sizes) (kept : List KeptPart) → length kept ≤ 7 → nodes_of (opening_of q kept).kept ≡ nodes_of kept
+same_nodes q kept most = λ k i. same_node q kept most i k
 
-pub can_open : (kept : List KeptPart) → IsRoomSize (length kept) → Settled (length kept) (nodes_of kept) → CanOpen (opening_of kept)
-can_open kept size settled =
+pub can_open : (q : Sizes) (kept : List KeptPart) → AreQuorums q → length kept ≡ q.nodes → Settled q (nodes_of kept) → CanOpen (opening_of q kept)
+can_open q kept sizes size settled =
     record {
-      size = size;
-      settled = subst (λ (nodes : ℕ → KeptPart). Settled (length kept) nodes) (sym (same_nodes kept size)) settled;
+      sizes = sizes;
+      settled = subst (λ (nodes : ℕ → KeptPart). Settled q nodes) (sym (same_nodes q kept most)) settled;
       row = refl;
-      beyond = λ i h. same_node kept (room_size (length kept) size) i ∙ beyond kept i nothing_kept h;
+      beyond = λ i h. same_node q kept most i ∙ beyond kept i nothing_kept (subst (λ (n : ℕ). n ≤ i) (sym size) h);
     }
+  where
+    most : length kept ≤ 7
+    most = subst (λ (n : ℕ). n ≤ 7) (sym size) sizes.most
 
 -- what is seen of node j, in the row of all
 at_map : {A B : Type 0} (f : A → B) (xs : List A) (j : ℕ) (d : A) (e : B) → j < length xs → get_or (map f xs) j e ≡ f (get_or xs j d)
@@ -94,54 +92,54 @@ low_ballot : (n i b : ℕ) → (b ≡ 0) ⊎ Owns n i b → b ≤ 65535
 low_ballot n i b (inl e) = omega arith
 low_ballot n i b (inr own) = own.last
 
-pub opened_sound : (t : RoomAt) (o : Opening) (i : ℕ) → HasWords t o.count → CanOpen o → i < o.count → IsSound (opened_seat t o i)
+pub opened_sound : (t : RoomAt) (o : Opening) (i : ℕ) → HasWords t o.quorums.nodes → CanOpen o → i < o.quorums.nodes → IsSound (opened_seat t o i)
 opened_sound t o i words can lt =
     record {
       words = words;
-      count = refl;
-      most = room_size o.count can.size;
+      quorums = refl;
+      most = can.sizes.most;
       proposer_row = length-map opened_proposer o.kept ∙ can.row;
       acceptor_row = length-map opened_acceptor o.kept ∙ can.row;
       seated = record { live = refl; first = refl; last = refl };
       node = refl;
       legal = legal;
-      belongs = opens_with o i can.settled lt;
+      belongs = opens_with o i can.sizes can.settled lt;
       own_word = (nodes_of o.kept i).started;
-      own = opening_word o i (nodes_of o.kept i).started (bare_word (nodes_of o.kept i).started (low_ballot o.count i (nodes_of o.kept i).started (can.settled.ballots i lt).own));
-      proposed = (bare_word (nodes_of o.kept i).started (low_ballot o.count i (nodes_of o.kept i).started (can.settled.ballots i lt).own)).tells_proposed;
+      own = opening_word o i (nodes_of o.kept i).started (bare_word (nodes_of o.kept i).started (low_ballot o.quorums.nodes i (nodes_of o.kept i).started (can.settled.ballots i lt).own));
+      proposed = (bare_word (nodes_of o.kept i).started (low_ballot o.quorums.nodes i (nodes_of o.kept i).started (can.settled.ballots i lt).own)).tells_proposed;
       proposers = λ j jl.
-          proposer_seen o.count (world_after o []) j (get_or (map opened_proposer o.kept) j no_proposer) (legal_reached o [] legal) jl
+          proposer_seen o.quorums (world_after o []) j (get_or (map opened_proposer o.kept) j no_proposer) (legal_reached o [] legal) jl
           (ap (λ (x : ProposerWord). x.started) (proposer_at_j j jl)) (ap (λ (x : ProposerWord). x.proposed) (proposer_at_j j jl) ∙ sym (none_proposed_yet o j));
       acceptors = λ j jl.
-          acceptor_seen o.count (world_after o []) j (get_or (map opened_acceptor o.kept) j no_acceptor) (legal_reached o [] legal) jl
+          acceptor_seen o.quorums (world_after o []) j (get_or (map opened_acceptor o.kept) j no_acceptor) (legal_reached o [] legal) jl
           (ap (λ (x : AcceptorWord). x.promised) (acceptor_at_j j jl)) (ap (λ (x : AcceptorWord). x.accepted) (acceptor_at_j j jl));
-      owned = λ j jl. subst (λ (x : ProposerWord). (x.started ≡ 0) ⊎ Owns o.count j x.started) (sym (proposer_at_j j jl)) (can.settled.ballots j jl).own;
+      owned = λ j jl. subst (λ (x : ProposerWord). (x.started ≡ 0) ⊎ Owns o.quorums.nodes j x.started) (sym (proposer_at_j j jl)) (can.settled.ballots j jl).own;
     }
   where
     legal : IsLegal o []
-    legal = record { settled = can.settled; run = tt }
+    legal = record { sizes = can.sizes; settled = can.settled; run = tt }
 
-    below : (j : ℕ) → j < o.count → j < length o.kept
-    below j jl = let most : o.count ≤ 7 = room_size o.count can.size in let row : length o.kept ≡ 7 = can.row in omega arith
+    below : (j : ℕ) → j < o.quorums.nodes → j < length o.kept
+    below j jl = let most : o.quorums.nodes ≤ 7 = can.sizes.most in let row : length o.kept ≡ 7 = can.row in omega arith
 
-    proposer_at_j : (j : ℕ) → j < o.count → get_or (map opened_proposer o.kept) j no_proposer ≡ opened_proposer (nodes_of o.kept j)
+    proposer_at_j : (j : ℕ) → j < o.quorums.nodes → get_or (map opened_proposer o.kept) j no_proposer ≡ opened_proposer (nodes_of o.kept j)
     proposer_at_j j jl = at_map opened_proposer o.kept j nothing_kept no_proposer (below j jl)
 
-    acceptor_at_j : (j : ℕ) → j < o.count → get_or (map opened_acceptor o.kept) j no_acceptor ≡ opened_acceptor (nodes_of o.kept j)
+    acceptor_at_j : (j : ℕ) → j < o.quorums.nodes → get_or (map opened_acceptor o.kept) j no_acceptor ≡ opened_acceptor (nodes_of o.kept j)
     acceptor_at_j j jl = at_map opened_acceptor o.kept j nothing_kept no_acceptor (below j jl)
 
 -- ---- the words
 
 -- a vote of kept parts with which a room opens fits a word
 pub vote_fits : (o : Opening) → CanOpen o → (i : ℕ) → IfSome (nodes_of o.kept i).accepted IsVoteInWord
-vote_fits o can i = elim (cases_lt i o.count) [
+vote_fits o can i = elim (cases_lt i o.quorums.nodes) [
   | inl lt ↦ fits lt (nodes_of o.kept i).accepted refl
   | inr ge ↦ subst (λ (k : KeptPart). IfSome k.accepted IsVoteInWord) (sym (can.beyond i ge)) tt
 ]
   where
-    fits : i < o.count → (a : Option Vote) → (nodes_of o.kept i).accepted ≡ a → IfSome a IsVoteInWord
+    fits : i < o.quorums.nodes → (a : Option Vote) → (nodes_of o.kept i).accepted ≡ a → IfSome a IsVoteInWord
     fits lt None e = tt
     fits lt (Some x) e =
-        let most : o.count ≤ 7 = room_size o.count can.size in
-        let number : x.value < o.count = (can.settled.vote i x lt e).offered.0 in
+        let most : o.quorums.nodes ≤ 7 = can.sizes.most in
+        let number : x.value < o.quorums.nodes = (can.settled.vote i x lt e).offered.0 in
         let within = subst (λ (a : Option Vote). IfSome a (λ y. (1 ≤ y.ballot) × (y.ballot ≤ (nodes_of o.kept i).promised))) e (can.settled.within i lt) in (within.0, omega arith)

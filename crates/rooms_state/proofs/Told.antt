@@ -1,8 +1,9 @@
 -- What a seat tells is what it does, and what a look at an acceptor leaves.
-use Rattle.std.proofs.Common.{◌≡◌, ℕ, zero, suc, max, ◌+◌, ◌<◌, ◌≤◌, ◌↔◌, Bool, true, false, cond, leb, ltb, List, get_or, replicate, get_or-set_other, Option, Some, None, Ok, Err, is_some, IfSome, IfOk, OnErr, IsErr, IsNone, Result, option_map, zero-add, refl, sym, ap, ◌∙◌, subst, arith}
-use Rattle.std.proofs.lemmas.Bool.{le-leb, leb-true, ltb-true}
+use Rattle.std.proofs.Common.{◌≡◌, ℕ, zero, suc, max, ◌+◌, ◌<◌, ◌≤◌, ◌↔◌, Bool, true, false, cond, leb, List, get_or, replicate, get_or-set_other, Option, Some, None, Ok, Err, is_some, IfSome, IfOk, OnErr, IsErr, IsNone, Result, option_map, zero-add, refl, sym, ap, ◌∙◌, subst, arith}
+use Rattle.std.proofs.lemmas.Bool.{le-leb, leb-true}
 use Rattle.paxos_core_world.specs.KeptPart.{vote}
-use Rattle.paxos_core_world.specs.Quorum.{count_below, promise_quorum}
+use Rattle.paxos_core_world.specs.Quorum.{count_below, promise_quorum, AreQuorums, Sizes}
+use Rattle.paxos_core_world.proofs.Quorums.{some_promise}
 use Rattle.paxos_core_world.specs.declared.vote.Vote.{Vote}
 use Rattle.paxos_core_law.specs.Acceptor.{promises, accepts}
 use Rattle.paxos_core_law.specs.Learner.{learned_with, notes_promise, notes_vote, after_promise}
@@ -50,11 +51,11 @@ me_act s (core_act.Promise b) = field_if (λ (t : NodeState). t.me) (promises s 
 me_act s core_act.Propose = field_answer (λ (t : NodeState). t.me) s (next_proposal s) refl
 me_act s (core_act.Accept b v) = field_if (λ (t : NodeState). t.me) (accepts s (vote b v)) s _ refl
 
-count_act : (s : NodeState) (a : CoreAct) → (after_act s a).count ≡ s.count
-count_act s core_act.Start = field_if (λ (t : NodeState). t.count) (leb (next_ballot s) 65535) s (started s) refl
-count_act s (core_act.Promise b) = field_if (λ (t : NodeState). t.count) (promises s b) s _ refl
-count_act s core_act.Propose = field_answer (λ (t : NodeState). t.count) s (next_proposal s) refl
-count_act s (core_act.Accept b v) = field_if (λ (t : NodeState). t.count) (accepts s (vote b v)) s _ refl
+quorums_act : (s : NodeState) (a : CoreAct) → (after_act s a).quorums ≡ s.quorums
+quorums_act s core_act.Start = field_if (λ (t : NodeState). t.quorums) (leb (next_ballot s) 65535) s (started s) refl
+quorums_act s (core_act.Promise b) = field_if (λ (t : NodeState). t.quorums) (promises s b) s _ refl
+quorums_act s core_act.Propose = field_answer (λ (t : NodeState). t.quorums) s (next_proposal s) refl
+quorums_act s (core_act.Accept b v) = field_if (λ (t : NodeState). t.quorums) (accepts s (vote b v)) s _ refl
 
 -- ---- what the seat did is what it told
 
@@ -73,7 +74,7 @@ did_acted a s old new e told did way more =
           ∙ ((told_is_done old.node (act_of s)).kept ∙ ap (λ (o : Option Step). kept_by o old.node.kept) (told ∙ sym e));
       table = ap (λ (x : SeatState). x.table) did.after;
       me = ap (λ (t : NodeState). t.me) node ∙ me_act old.node (act_of s);
-      count = ap (λ (t : NodeState). t.count) node ∙ count_act old.node (act_of s);
+      quorums = ap (λ (t : NodeState). t.quorums) node ∙ quorums_act old.node (act_of s);
       learned = ap (λ (t : NodeState). t.learned) node ∙ learned_act old.node (act_of s);
       proposers = ap (λ (x : SeatState). x.proposers) did.after;
       acceptors = ap (λ (x : SeatState). x.acceptors) did.after;
@@ -96,7 +97,7 @@ none_acted a old new e same =
       kept = ap (λ (o : Option Step). kept_by o old.node.kept) (sym e);
       table = refl;
       me = refl;
-      count = refl;
+      quorums = refl;
       learned = refl;
       proposers = refl;
       acceptors = refl;
@@ -141,29 +142,28 @@ none_promised zero = refl
 none_promised (suc n) = ap (λ (o : Option (Option Vote)). cond (is_some o) 1 0 + count_below n (has_promised nothing_noted)) (get_or-none 7 n)
     ∙ (zero-add (count_below n (has_promised nothing_noted)) ∙ none_promised n)
 
-none_below : (n : ℕ) (t : Bool) → ltb n 0 ≡ t → ltb n 0 ≡ false
-none_below n true e = let low : n < 0 = ltb-true n 0 e in absurd (omega arith)
-none_below n false e = e
-
 -- nobody is no promise quorum
-nobody_promises : (n : ℕ) → promise_quorum n 0 ≡ false
-unfolding promise_quorum
-nobody_promises n = none_below n (ltb n 0) refl
+nobody_promises : (q : Sizes) → AreQuorums q → promise_quorum q 0 ≡ false
+nobody_promises q are = by_case (promise_quorum q 0) refl
+  where
+    by_case : (t : Bool) → promise_quorum q 0 ≡ t → promise_quorum q 0 ≡ false
+    by_case true e = let some : 0 < 0 = some_promise q are 0 e in absurd (omega arith)
+    by_case false e = e
 
 nothing_under : (o : Option ℕ) (c : Option ℕ) → proposal_under o false c ≡ None
 nothing_under None c = refl
 nothing_under (Some b) c = refl
 
-started_proposes_none : (s : NodeState) → next_proposal (started s) ≡ None
-started_proposes_none s =
-    ap (λ (t : Bool). proposal_under (Some (next_ballot s)) t (choice (highest_below s.count nothing_noted) s.kept.offered s.me))
-    (ap (λ (c : ℕ). promise_quorum s.count c) (none_promised s.count) ∙ nobody_promises s.count)
+started_proposes_none : (s : NodeState) → AreQuorums s.quorums → next_proposal (started s) ≡ None
+started_proposes_none s are =
+    ap (λ (t : Bool). proposal_under (Some (next_ballot s)) t (choice (highest_below s.quorums.nodes nothing_noted) s.kept.offered s.me))
+    (ap (λ (c : ℕ). promise_quorum s.quorums c) (none_promised s.quorums.nodes) ∙ nobody_promises s.quorums are)
 
 below_max : (a b : ℕ) → b ≤ max a b
 below_max a b = omega arith
 
-pub acted_start : {E : Type 0} (old new : SeatState) (r : Result ℕ E) → old.node.me < old.node.count → IfOk r (λ b. (b ≡ next_ballot old.node) × Did core_act.Start None old new) → (IsErr r ↔ (65535 < next_ballot old.node)) → OnErr r (new ≡ old) → Acted act.Start old new
-acted_start old new (Err x) lt did spent same =
+pub acted_start : {E : Type 0} (old new : SeatState) (r : Result ℕ E) → AreQuorums old.node.quorums → old.node.me < old.node.quorums.nodes → IfOk r (λ b. (b ≡ next_ballot old.node) × Did core_act.Start None old new) → (IsErr r ↔ (65535 < next_ballot old.node)) → OnErr r (new ≡ old) → Acted act.Start old new
+acted_start old new (Err x) are lt did spent same =
     let over : 65535 < next_ballot old.node = spent.0 refl in
     none_acted act.Start old new (ap (λ (t : Bool). option_map step.Start (cond t (Some (next_ballot old.node)) None)) (leb_over (next_ballot old.node) over)) same
   where
@@ -173,7 +173,7 @@ acted_start old new (Err x) lt did spent same =
         by_cases : (t : Bool) → leb b 65535 ≡ t → leb b 65535 ≡ false
         by_cases true e = let low : b ≤ 65535 = leb-true b 65535 e in absurd (omega arith)
         by_cases false e = e
-acted_start old new (Ok b) lt did spent same =
+acted_start old new (Ok b) are lt did spent same =
     let no : 65535 < next_ballot old.node → ⊥ = λ h. let bad : false ≡ true = spent.1 h in cc in
     let low : next_ballot old.node ≤ 65535 = omega arith in
     let left : leb (next_ballot old.node) 65535 ≡ true = le-leb (next_ballot old.node) 65535 low in
@@ -181,7 +181,7 @@ acted_start old new (Ok b) lt did spent same =
     ap (λ (t : Bool). option_map step.Start (cond t (Some (next_ballot old.node)) None)) left ∙ ap (λ (c : ℕ). Some (step.Start c)) (sym did.0) in
     let node : new.node ≡ started old.node =
     ap (λ (x : SeatState). x.node) did.1.after ∙ ap (λ (t : Bool). cond t (started old.node) old.node) left in
-    let above : floor_of old.node < next_ballot old.node = (least_above_is old.node.me old.node.count (floor_of old.node) lt).above in
+    let above : floor_of old.node < next_ballot old.node = (least_above_is old.node.me old.node.quorums.nodes (floor_of old.node) lt).above in
     let top : old.node.kept.promised ≤ floor_of old.node = below_max old.node.kept.started old.node.kept.promised in
     let bound : old.node.kept.promised < b = subst (λ (c : ℕ). old.node.kept.promised < c) (sym did.0) (omega arith) in
     did_acted act.Start (step.Start b) old new told told did.1 (
@@ -189,7 +189,7 @@ acted_start old new (Ok b) lt did spent same =
       subst (λ (t : NodeState). t.kept.promised < b) (sym node) bound,
     )
     (λ some. ap (λ (t : NodeState). option_map (λ (p : ℕ × ℕ). step.Propose p.0 p.1) (next_proposal t)) node
-    ∙ ap (λ (o : Option (ℕ × ℕ)). option_map (λ (p : ℕ × ℕ). step.Propose p.0 p.1) o) (started_proposes_none old.node))
+    ∙ ap (λ (o : Option (ℕ × ℕ)). option_map (λ (p : ℕ × ℕ). step.Propose p.0 p.1) o) (started_proposes_none old.node are))
 
 -- ---- a look at an acceptor
 
@@ -221,7 +221,7 @@ notes_of j x old new h =
     record {
       table = ap (λ (s : SeatState). s.table) h.after;
       me = ap (λ (t : NodeState). t.me) node ∙ me_hearing old.node j x.promised x.accepted;
-      count = ap (λ (t : NodeState). t.count) node ∙ field_hearing (λ t. t.count) old.node j x.promised x.accepted (λ t vs l. refl) (λ t ps. refl);
+      quorums = ap (λ (t : NodeState). t.quorums) node ∙ field_hearing (λ t. t.quorums) old.node j x.promised x.accepted (λ t vs l. refl) (λ t ps. refl);
       kept = ap (λ (t : NodeState). t.kept) node ∙ kept_hearing old.node j x.promised x.accepted (λ k. k);
       ballot = ap (λ (t : NodeState). t.ballot) node ∙ field_hearing (λ t. t.ballot) old.node j x.promised x.accepted (λ t vs l. refl) (λ t ps. refl);
       proposers = ap (λ (s : SeatState). s.proposers) h.after;

@@ -40,7 +40,7 @@ pub record Did (a : Act) (p : Option ℕ) (old new : SeatState) : Type 0 where
 pub record NotesOf (j : ℕ) (old new : SeatState) : Type 0 where
   pub table : new.table ≡ old.table
   pub me : new.node.me ≡ old.node.me
-  pub count : new.node.count ≡ old.node.count
+  pub quorums : new.node.quorums ≡ old.node.quorums
   pub kept : new.node.kept ≡ old.node.kept
   pub ballot : new.node.ballot ≡ old.node.ballot
   pub proposers : new.proposers ≡ old.proposers

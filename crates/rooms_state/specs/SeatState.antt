@@ -1,10 +1,11 @@
 -- A seat at one moment: what it knows of its room, its node, and what it has last seen of the words.
 use Rattle.std.specs.Prelude.{◌≡◌, ℕ, ◌≤◌, List, [], ◌∷◌, length, map, if◌then◌else◌, Option, Some, None, slice_index_or}
 use Rattle.paxos_core_world.specs.KeptPart.{nothing_kept, vote, KeptPart}
+use Rattle.paxos_core_world.specs.Quorum.{AreQuorums, Sizes}
 use Rattle.paxos_core_world.specs.Settled.{Settled, is_given}
 use Rattle.paxos_core_world.specs.World.{World, nodes_of}
 use Rattle.paxos_core_world.specs.declared.vote.Vote.{Vote}
-use Rattle.paxos_core_law.specs.NodeState.{NodeState, IsRoomSize, node_with}
+use Rattle.paxos_core_law.specs.NodeState.{NodeState, node_with}
 use Rattle.paxos_core_law.specs.Would.{next_promise, next_vote}
 use Rattle.rooms_steps.specs.AcceptorWord.{AcceptorWord}
 use Rattle.rooms_steps.specs.ProposerWord.{ProposerWord}
@@ -31,20 +32,20 @@ no_proposer = record { started = 0; proposed = None }
 abbrev pub no_acceptor : AcceptorWord
 no_acceptor = record { promised = 0; accepted = None }
 
--- a room opened from these kept parts; beyond its nodes nothing is kept
-abbrev pub opening_of : List KeptPart → Opening
-opening_of kept =
+-- a room with quorums of these sizes, opened from these kept parts; beyond its nodes nothing is kept
+abbrev pub opening_of : Sizes → List KeptPart → Opening
+opening_of q kept =
     record {
-      count = length kept;
+      quorums = q;
       kept = nodes_of kept 0 ∷ nodes_of kept 1 ∷ nodes_of kept 2 ∷ nodes_of kept 3 ∷ nodes_of kept 4 ∷ nodes_of kept 5 ∷ nodes_of kept 6 ∷ [];
     }
 
--- a room is opened from kept parts of 3, 5 or 7 nodes that are settled, and beyond its nodes nothing is kept
+-- a room is opened with quorums that meet from kept parts that are settled, and beyond its nodes nothing is kept
 pub record CanOpen (o : Opening) : Type 0 where
-  pub size : IsRoomSize o.count
-  pub settled : Settled o.count (nodes_of o.kept)
+  pub sizes : AreQuorums o.quorums
+  pub settled : Settled o.quorums (nodes_of o.kept)
   pub row : length o.kept ≡ 7
-  pub beyond : (i : ℕ) → o.count ≤ i → nodes_of o.kept i ≡ nothing_kept
+  pub beyond : (i : ℕ) → o.quorums.nodes ≤ i → nodes_of o.kept i ≡ nothing_kept
 
 -- the words of a node as its room opens
 abbrev pub opened_proposer : KeptPart → ProposerWord
@@ -59,7 +60,7 @@ opened_seat table o i =
     record {
       table = table;
       view = dealt o i;
-      node = node_with i o.count (nodes_of o.kept i);
+      node = node_with i o.quorums (nodes_of o.kept i);
       proposed = None;
       proposers = map opened_proposer o.kept;
       acceptors = map opened_acceptor o.kept;

@@ -59,7 +59,7 @@ pub record Acted (a : Act) (old new : SeatState) : Type 0 where
   pub kept : new.node.kept ≡ kept_by (would old a) old.node.kept
   pub table : new.table ≡ old.table
   pub me : new.node.me ≡ old.node.me
-  pub count : new.node.count ≡ old.node.count
+  pub quorums : new.node.quorums ≡ old.node.quorums
   pub learned : new.node.learned ≡ old.node.learned
   pub proposers : new.proposers ≡ old.proposers
   pub acceptors : new.acceptors ≡ old.acceptors

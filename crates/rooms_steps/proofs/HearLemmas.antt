@@ -2,6 +2,7 @@
 use Rattle.std.proofs.Common.{◌≡◌, ℕ, ◌<◌, Bool, true, false, cond, ◌&&◌, Option, Some, None, refl, sym, ap, ◌∙◌, subst, inl, inr, arith}
 use Rattle.std.proofs.lemmas.Bool.{and_parts, ltb-true, eqb-true}
 use Rattle.paxos_core_world.specs.KeptPart.{vote}
+use Rattle.paxos_core_world.specs.Quorum.{Sizes}
 use Rattle.paxos_core_world.specs.World.{World, Has}
 use Rattle.paxos_core_world.specs.declared.msg.Msg.TheVariants.{Promise, Accepted}
 use Rattle.paxos_core_world.specs.declared.vote.Vote.{Vote}
@@ -15,8 +16,8 @@ use Rattle.rooms_rule.specs.LateOffer.{BelongsButOffer, TakesLate}
 use Rattle.rooms_rule.proofs.LateLemmas.{offers_may_be_late}
 use Rattle.rooms_rule.specs.Heard.{after_shown_vote, taken_on_vote, after_hearing, taken_by_hearing}
 
-pub invariant_of : (n : ℕ) (w : World) → IsReached n w → Invariant n w
-invariant_of n w r = subst (λ (x : World). Invariant n x) (sym r.world) (holds n r.nodes r.steps r.run)
+pub invariant_of : (q : Sizes) (w : World) → IsReached q w → Invariant q w
+invariant_of q w r = subst (λ (x : World). Invariant q x) (sym r.world) (holds q r.nodes r.steps r.run)
 
 under_way : (o : Option ℕ) (b : ℕ) → is_under_way o b ≡ true → o ≡ Some b
 under_way None b e = absurd (cc)
@@ -40,31 +41,31 @@ not_own_ballot n b (Some x) v e h =
     ballot_of : (x y : Vote) → ◌≡◌ {A = Option Vote} (Some x) (Some y) → x.ballot ≡ y.ballot
     ballot_of x y e = cc
 
-begun_of : (n : ℕ) (w : World) (s : NodeState) (b : ℕ) → BelongsButOffer n w s → s.ballot ≡ Some b → Has b w.begun
-begun_of n w s b (inl h) e = (h.ballot b e).begun
-begun_of n w s b (inr h) e = (h.ballot b e).begun
+begun_of : (q : Sizes) (w : World) (s : NodeState) (b : ℕ) → BelongsButOffer q w s → s.ballot ≡ Some b → Has b w.begun
+begun_of q w s b (inl h) e = (h.ballot b e).begun
+begun_of q w s b (inr h) e = (h.ballot b e).begun
 
-belongs_unless : (n : ℕ) (w : World) (t : Bool) (u s : NodeState) → t ≡ false → BelongsButOffer n w s → BelongsButOffer n w (cond t u s)
-belongs_unless n w true u s e h = absurd (cc)
-belongs_unless n w false u s e h = h
+belongs_unless : (q : Sizes) (w : World) (t : Bool) (u s : NodeState) → t ≡ false → BelongsButOffer q w s → BelongsButOffer q w (cond t u s)
+belongs_unless q w true u s e h = absurd (cc)
+belongs_unless q w false u s e h = h
 
-module _ (n : ℕ) (w : World) (r : IsReached n w) (j : ℕ) (lt : j < n) where
-  promise_by : (s : NodeState) → BelongsButOffer n w s → (t : Bool) → notes_promise s j (w.nodes j).promised (w.nodes j).accepted ≡ t → BelongsButOffer n w (after_promise s j (w.nodes j).promised (w.nodes j).accepted)
-  promise_by s h false e = belongs_unless n w (notes_promise s j (w.nodes j).promised (w.nodes j).accepted) _ s e h
+module _ (q : Sizes) (w : World) (r : IsReached q w) (j : ℕ) (lt : j < q.nodes) where
+  promise_by : (s : NodeState) → BelongsButOffer q w s → (t : Bool) → notes_promise s j (w.nodes j).promised (w.nodes j).accepted ≡ t → BelongsButOffer q w (after_promise s j (w.nodes j).promised (w.nodes j).accepted)
+  promise_by s h false e = belongs_unless q w (notes_promise s j (w.nodes j).promised (w.nodes j).accepted) _ s e h
   promise_by s h true e =
-      let parts = noted_parts _ _ (is_report s.count (w.nodes j).promised (w.nodes j).accepted) (is_under_way s.ballot (w.nodes j).promised) e in
-      let begun = begun_of n w s (w.nodes j).promised h (under_way s.ballot (w.nodes j).promised parts.1) in
-      elim ((invariant_of n w r).answered j lt begun) [
-        | inl sent ↦ (offers_may_be_late.message s (Promise j (w.nodes j).promised (w.nodes j).accepted) n w r h sent).belongs
-        | inr own ↦ absurd (not_own_ballot s.count (w.nodes j).promised (w.nodes j).accepted own.0 own.1 parts.0)
+      let parts = noted_parts _ _ (is_report s.quorums.nodes (w.nodes j).promised (w.nodes j).accepted) (is_under_way s.ballot (w.nodes j).promised) e in
+      let begun = begun_of q w s (w.nodes j).promised h (under_way s.ballot (w.nodes j).promised parts.1) in
+      elim ((invariant_of q w r).answered j lt begun) [
+        | inl sent ↦ (offers_may_be_late.message s (Promise j (w.nodes j).promised (w.nodes j).accepted) q w r h sent).belongs
+        | inr own ↦ absurd (not_own_ballot s.quorums.nodes (w.nodes j).promised (w.nodes j).accepted own.0 own.1 parts.0)
       ]
 
-  vote_by : (s : NodeState) → BelongsButOffer n w s → (x : Option Vote) → (w.nodes j).accepted ≡ x → TakesLate n w (taken_on_vote s j x) (after_shown_vote s j x) None
+  vote_by : (s : NodeState) → BelongsButOffer q w s → (x : Option Vote) → (w.nodes j).accepted ≡ x → TakesLate q w (taken_on_vote s j x) (after_shown_vote s j x) None
   vote_by s h None e = record { run = tt; own = tt; belongs = h; sent = tt }
-  vote_by s h (Some x) e = offers_may_be_late.message s (Accepted j x.ballot x.value) n w r h ((invariant_of n w r).kept j x lt e)
+  vote_by s h (Some x) e = offers_may_be_late.message s (Accepted j x.ballot x.value) q w r h ((invariant_of q w r).kept j x lt e)
 
   -- a look at node j's acceptor, in the world in which its word is found
-  pub hearing_takes : (s : NodeState) → BelongsButOffer n w s → TakesLate n w (taken_by_hearing s j (w.nodes j).promised (w.nodes j).accepted) (after_hearing s j (w.nodes j).promised (w.nodes j).accepted) None
+  pub hearing_takes : (s : NodeState) → BelongsButOffer q w s → TakesLate q w (taken_by_hearing s j (w.nodes j).promised (w.nodes j).accepted) (after_hearing s j (w.nodes j).promised (w.nodes j).accepted) None
   hearing_takes s h =
       vote_by (after_promise s j (w.nodes j).promised (w.nodes j).accepted)
       (promise_by s h (notes_promise s j (w.nodes j).promised (w.nodes j).accepted) refl) (w.nodes j).accepted refl

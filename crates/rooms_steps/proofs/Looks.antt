@@ -37,9 +37,9 @@ forgets {S} o slots id me k seated =
       steps = taken_by_restart me.0.node;
       node = restarted me.0.node me.0.node.kept;
       answer = None;
-      takes = offers_may_be_late.forget me.0.node me.0.opening.count (world_after me.0.opening rule.run) (reached_now s id me.0 rule at seated) (belongs_now s id me.0 rule at seated);
+      takes = offers_may_be_late.forget me.0.node me.0.opening.quorums (world_after me.0.opening rule.run) (reached_now s id me.0 rule at seated) (belongs_now s id me.0 rule at seated);
       me = refl;
-      shows = subst (λ (ws : List ℕ). ShowsWorld me.0.opening.count (world_after me.0.opening rule.run) ws) (sym (set-get_or s.words k 0)) rule.words;
+      shows = subst (λ (ws : List ℕ). ShowsWorld me.0.opening.quorums.nodes (world_after me.0.opening rule.run) ws) (sym (set-get_or s.words k 0)) rule.words;
       told = λ a. record {
         forgot = a;
         proposer = λ j e lt. subst (λ (p : ℕ). IsProposerOf (world_after me.0.opening rule.run) j (get_or s.words p 0)) (sym e) (rule.words.proposers j lt);
@@ -59,7 +59,7 @@ looks_at_proposer {S} o slots id me k seated =
       answer = None;
       takes = record { run = tt; own = tt; belongs = belongs_now s id me.0 rule at seated; sent = tt };
       me = refl;
-      shows = subst (λ (ws : List ℕ). ShowsWorld me.0.opening.count (world_after me.0.opening rule.run) ws) (sym (set-get_or s.words k 0)) rule.words;
+      shows = subst (λ (ws : List ℕ). ShowsWorld me.0.opening.quorums.nodes (world_after me.0.opening rule.run) ws) (sym (set-get_or s.words k 0)) rule.words;
       told = λ a i e lt. record {
         advances = a;
         shows = subst (λ (p : ℕ). IsProposerOf (world_after me.0.opening rule.run) i (get_or s.words p 0)) (sym e) (rule.words.proposers i lt);
@@ -80,7 +80,7 @@ pub vote_quiet : (s : NodeState) (j : ℕ) (x : Option Vote) → IsQuiet (taken_
 vote_quiet s j None w = ((λ j m h. h), (λ j m h. h))
 vote_quiet s j (Some x) w = quiet_if (learns_from s j x) s.me x.value w
 
-module _ {S : Type 0} (o : Opening) (slots id : ℕ) (me : Me S View) (j : ℕ) (lt : j < me.0.opening.count) (seated : IsSeated me.0) where
+module _ {S : Type 0} (o : Opening) (slots id : ℕ) (me : Me S View) (j : ℕ) (lt : j < me.0.opening.quorums.nodes) (seated : IsSeated me.0) where
   pub looks_at_acceptor : Allows (RoomRule o) slots id me (acceptor_at j) (λ n. n) (AcceptorLook (step slots (acceptor_at j) 0 0 none) me)
   looks_at_acceptor =
       allows o slots id me (acceptor_at j) (λ n. n) (AcceptorLook (step slots (acceptor_at j) 0 0 none) me) seated
@@ -97,8 +97,8 @@ module _ {S : Type 0} (o : Opening) (slots id : ℕ) (me : Me S View) (j : ℕ) 
         takes = takes;
         me = me_hearing me.0.node j (promised_in n) (accepted_in n);
         shows =
-            subst (λ (ws : List ℕ). ShowsWorld me.0.opening.count (reached w (taken_by_hearing me.0.node j (promised_in n) (accepted_in n))) ws) (sym (set-get_or s.words (acceptor_at j) 0))
-            (shows_read me.0.opening.count w (reached w (taken_by_hearing me.0.node j (promised_in n) (accepted_in n))) s.words 0 rule.words quiet.0 quiet.1);
+            subst (λ (ws : List ℕ). ShowsWorld me.0.opening.quorums.nodes (reached w (taken_by_hearing me.0.node j (promised_in n) (accepted_in n))) ws) (sym (set-get_or s.words (acceptor_at j) 0))
+            (shows_read me.0.opening.quorums.nodes w (reached w (taken_by_hearing me.0.node j (promised_in n) (accepted_in n))) s.words 0 rule.words quiet.0 quiet.1);
         told = λ a i e il.
             let same : j ≡ i = omega arith in
             subst (λ (k : ℕ). LooksAtAcceptor k n me.0 (view_with me.0 (events_of (taken_by_hearing me.0.node j (promised_in n) (accepted_in n)) ++ rule.run) (after_hearing me.0.node j (promised_in n) (accepted_in n)))) same
@@ -111,9 +111,9 @@ module _ {S : Type 0} (o : Opening) (slots id : ℕ) (me : Me S View) (j : ℕ) 
       })
     where
       heard : (s : State S View) (rule : RoomRule me.0.opening s) → get_elem? s.views id ≡ some me.0 → (n : ℕ) → IsAcceptorOf (world_after me.0.opening rule.run) j n
-          → TakesLate me.0.opening.count (world_after me.0.opening rule.run) (taken_by_hearing me.0.node j (promised_in n) (accepted_in n)) (after_hearing me.0.node j (promised_in n) (accepted_in n)) None
+          → TakesLate me.0.opening.quorums (world_after me.0.opening rule.run) (taken_by_hearing me.0.node j (promised_in n) (accepted_in n)) (after_hearing me.0.node j (promised_in n) (accepted_in n)) None
       heard s rule at n word =
           let w : World = world_after me.0.opening rule.run in
-          subst (λ (p : ℕ). TakesLate me.0.opening.count w (taken_by_hearing me.0.node j p (accepted_in n)) (after_hearing me.0.node j p (accepted_in n)) None) (sym word.tells_promised)
-          (subst (λ (x : Option Vote). TakesLate me.0.opening.count w (taken_by_hearing me.0.node j (w.nodes j).promised x) (after_hearing me.0.node j (w.nodes j).promised x) None) (sym word.tells_accepted)
-          (hearing_takes me.0.opening.count w (reached_now s id me.0 rule at seated) j lt me.0.node (belongs_now s id me.0 rule at seated)))
+          subst (λ (p : ℕ). TakesLate me.0.opening.quorums w (taken_by_hearing me.0.node j p (accepted_in n)) (after_hearing me.0.node j p (accepted_in n)) None) (sym word.tells_promised)
+          (subst (λ (x : Option Vote). TakesLate me.0.opening.quorums w (taken_by_hearing me.0.node j (w.nodes j).promised x) (after_hearing me.0.node j (w.nodes j).promised x) None) (sym word.tells_accepted)
+          (hearing_takes me.0.opening.quorums w (reached_now s id me.0 rule at seated) j lt me.0.node (belongs_now s id me.0 rule at seated)))

@@ -39,7 +39,7 @@ with_own (Some b) false None false me p e = absurd (cc)
 
 -- what the node proposes, it proposes
 pub proposal_offered : (s : NodeState) (p : ℕ × ℕ) → next_proposal s ≡ Some p → next_proposal (offered s) ≡ Some p
-proposal_offered s p e = with_own s.ballot (may_propose s) (highest_below s.count s.promises) s.kept.offered s.me p e
+proposal_offered s p e = with_own s.ballot (may_propose s) (highest_below s.quorums.nodes s.promises) s.kept.offered s.me p e
 
 pub proposed_offered : (s : NodeState) (p : ℕ × ℕ) → next_proposal s ≡ Some p → after_proposal (offered s) ≡ offered (after_proposal s)
 proposed_offered s p e =

@@ -3,6 +3,7 @@ use Rattle.std.proofs.Common.{◌≡◌, ℕ, ◌<◌, ◌≤◌, ◌⊎◌, Boo
 use Rattle.std.proofs.lemmas.Bool.{eqb-true}
 use native.Mathlib.Decide.{dec_le}
 use Rattle.paxos_core_world.specs.KeptPart.{KeptPart, with_start, with_promise, with_vote, vote}
+use Rattle.paxos_core_world.specs.Quorum.{Sizes}
 use Rattle.paxos_core_world.specs.Run.{IsRun, reached}
 use Rattle.paxos_core_world.specs.Step.{Label, Offers, Starts, Promises, Proposes, Accepts, Learns, Restarts, Allowed, after}
 use Rattle.paxos_core_world.specs.World.{World, Has, put}
@@ -43,7 +44,7 @@ votes_through x y z h k v e =
 acceptors_through : (a b c : ℕ) (x y z : Option Vote) → AcceptorNotBelow b y a x → AcceptorNotBelow c z b y → AcceptorNotBelow c z a x
 acceptors_through a b c x y z h k = let l : a ≤ b = h.0 in let m : b ≤ c = k.0 in (omega arith, votes_through x y z h.1 k.1)
 
-module _ (n : ℕ) (w : World) (r : IsReached n w) (i : ℕ) (lt : i < n) where
+module _ (q : Sizes) (w : World) (r : IsReached q w) (i : ℕ) (lt : i < q.nodes) where
   promised_by : (a b : ℕ) (t : Bool) → eqb i a ≡ t → (w.nodes a).promised < b
       → AcceptorNotBelow (cond t (with_promise b (w.nodes a)) (w.nodes i)).promised (cond t (with_promise b (w.nodes a)) (w.nodes i)).accepted (w.nodes i).promised (w.nodes i).accepted
   promised_by a b true e l =
@@ -54,7 +55,7 @@ module _ (n : ℕ) (w : World) (r : IsReached n w) (i : ℕ) (lt : i < n) where
   promised_by a b false e l = (le_refl (w.nodes i).promised, votes_stay (w.nodes i).accepted)
 
   -- a vote of i's under b, after which its vote is (b, v)
-  voted_by : (a b v : ℕ) → Allowed n w (Accepts a b v) → (t : Bool) → eqb i a ≡ t
+  voted_by : (a b v : ℕ) → Allowed q w (Accepts a b v) → (t : Bool) → eqb i a ≡ t
       → AcceptorNotBelow (cond t (with_vote (vote b v) (w.nodes a)) (w.nodes i)).promised (cond t (with_vote (vote b v) (w.nodes a)) (w.nodes i)).accepted (w.nodes i).promised (w.nodes i).accepted
   voted_by a b v al false e = (le_refl (w.nodes i).promised, votes_stay (w.nodes i).accepted)
   voted_by a b v al true e =
@@ -66,14 +67,14 @@ module _ (n : ℕ) (w : World) (r : IsReached n w) (i : ℕ) (lt : i < n) where
       )
     where
       within : (x : Vote) → (w.nodes i).accepted ≡ Some x → x.ballot ≤ (w.nodes i).promised
-      within x h = (subst (λ (o : Option Vote). IfSome o (λ y. (1 ≤ y.ballot) × (y.ballot ≤ (w.nodes i).promised))) h ((invariant_of n w r).within i lt)).1
+      within x h = (subst (λ (o : Option Vote). IfSome o (λ y. (1 ≤ y.ballot) × (y.ballot ≤ (w.nodes i).promised))) h ((invariant_of q w r).within i lt)).1
 
       one : (x : Vote) → (w.nodes i).accepted ≡ Some x → x.ballot ≡ b → x ≡ vote b v
-      one x h q =
-          let next : IsReached n (after w (Accepts a b v)) = reached_more n w (Accepts a b v ∷ []) r (tt, al) in
-          let old : Has (Accepted i x.ballot x.value) (after w (Accepts a b v)).sent = inr ((invariant_of n w r).kept i x lt h) in
-          let value : x.value ≡ v = (invariant_of n (after w (Accepts a b v)) next).one_vote i a b x.value v (subst (λ (c : ℕ). Has (Accepted i c x.value) (after w (Accepts a b v)).sent) q old) (inl refl) in
-          λ k. vote (q k) (value k)
+      one x h at =
+          let next : IsReached q (after w (Accepts a b v)) = reached_more q w (Accepts a b v ∷ []) r (tt, al) in
+          let old : Has (Accepted i x.ballot x.value) (after w (Accepts a b v)).sent = inr ((invariant_of q w r).kept i x lt h) in
+          let value : x.value ≡ v = (invariant_of q (after w (Accepts a b v)) next).one_vote i a b x.value v (subst (λ (c : ℕ). Has (Accepted i c x.value) (after w (Accepts a b v)).sent) at old) (inl refl) in
+          λ k. vote (at k) (value k)
 
       below_or_not : (c d : ℕ) → Dec (d ≤ c) → (c < d) ⊎ (d ≤ c)
       below_or_not c d (yes h) = inr h
@@ -83,7 +84,7 @@ module _ (n : ℕ) (w : World) (r : IsReached n w) (i : ℕ) (lt : i < n) where
       compare x h bound (inl l) = inl l
       compare x h bound (inr g) = let p : x.ballot ≤ (w.nodes i).promised = within x h in inr (one x h (omega arith))
 
-  acceptor_rises : (l : Label) → Allowed n w l → AcceptorNotBelow ((after w l).nodes i).promised ((after w l).nodes i).accepted (w.nodes i).promised (w.nodes i).accepted
+  acceptor_rises : (l : Label) → Allowed q w l → AcceptorNotBelow ((after w l).nodes i).promised ((after w l).nodes i).accepted (w.nodes i).promised (w.nodes i).accepted
   acceptor_rises (Offers a) al = stays_same _ _ _ _ (put_field (λ (k : KeptPart). k.promised) w.nodes a i _ refl) (put_field (λ (k : KeptPart). k.accepted) w.nodes a i _ refl)
   acceptor_rises (Starts a b) al = stays_same _ _ _ _ (put_field (λ (k : KeptPart). k.promised) w.nodes a i _ refl) (put_field (λ (k : KeptPart). k.accepted) w.nodes a i _ refl)
   acceptor_rises (Promises a b) al = promised_by a b (eqb i a) refl al.2
@@ -92,10 +93,10 @@ module _ (n : ℕ) (w : World) (r : IsReached n w) (i : ℕ) (lt : i < n) where
   acceptor_rises (Learns a v) al = (le_refl (w.nodes i).promised, votes_stay (w.nodes i).accepted)
   acceptor_rises (Restarts a) al = (le_refl (w.nodes i).promised, votes_stay (w.nodes i).accepted)
 
-pub acceptor_stays : (n : ℕ) (w : World) (ls : List Label) (i : ℕ) → IsReached n w → i < n → IsRun n w ls → AcceptorNotBelow ((reached w ls).nodes i).promised ((reached w ls).nodes i).accepted (w.nodes i).promised (w.nodes i).accepted
-acceptor_stays n w [] i r lt run = (le_refl (w.nodes i).promised, votes_stay (w.nodes i).accepted)
-acceptor_stays n w (l ∷ ls) i r lt run =
-    acceptors_through _ _ _ _ _ _ (acceptor_stays n w ls i r lt run.0) (acceptor_rises n (reached w ls) (reached_more n w ls r run.0) i lt l run.1)
+pub acceptor_stays : (q : Sizes) (w : World) (ls : List Label) (i : ℕ) → IsReached q w → i < q.nodes → IsRun q w ls → AcceptorNotBelow ((reached w ls).nodes i).promised ((reached w ls).nodes i).accepted (w.nodes i).promised (w.nodes i).accepted
+acceptor_stays q w [] i r lt run = (le_refl (w.nodes i).promised, votes_stay (w.nodes i).accepted)
+acceptor_stays q w (l ∷ ls) i r lt run =
+    acceptors_through _ _ _ _ _ _ (acceptor_stays q w ls i r lt run.0) (acceptor_rises q (reached w ls) (reached_more q w ls r run.0) i lt l run.1)
 
 -- ---- proposers
 
@@ -122,7 +123,7 @@ proposers_through a b c x y z (inl h) (inr k) = let e : b ≡ c = k.0 in inl (om
 proposers_through a b c x y z (inr h) (inl k) = let e : a ≡ b = h.0 in inl (omega arith)
 proposers_through a b c x y z (inr h) (inr k) = inr (h.0 ∙ k.0, λ v q. k.1 v (h.1 v q))
 
-module _ (n : ℕ) (w : World) (i : ℕ) where
+module _ (q : Sizes) (w : World) (i : ℕ) where
   put_stands : (a : ℕ) (k : KeptPart) → k.started ≡ (w.nodes a).started → ProposerNotBelow (put w.nodes a k i).started (proposed_under (put w.nodes a k i).started w.sent) (w.nodes i).started (proposed_by w i)
   put_stands a k e =
       let same : (put w.nodes a k i).started ≡ (w.nodes i).started = put_field (λ (x : KeptPart). x.started) w.nodes a i k e in
@@ -137,7 +138,7 @@ module _ (n : ℕ) (w : World) (i : ℕ) where
   proposed_by_step b v fresh true e u h = absurd (fresh u (subst (λ (c : ℕ). Has (Propose c u) w.sent) (sym (eqb-true b (w.nodes i).started e)) (sent_under (w.nodes i).started u w.sent h)))
   proposed_by_step b v fresh false e u h = h
 
-  proposer_rises : (l : Label) → Allowed n w l → ProposerNotBelow ((after w l).nodes i).started (proposed_by (after w l) i) (w.nodes i).started (proposed_by w i)
+  proposer_rises : (l : Label) → Allowed q w l → ProposerNotBelow ((after w l).nodes i).started (proposed_by (after w l) i) (w.nodes i).started (proposed_by w i)
   proposer_rises (Offers a) al = put_stands a _ refl
   proposer_rises (Starts a b) al = started_by a b (eqb i a) refl al.2
   proposer_rises (Promises a b) al = put_stands a _ refl
@@ -146,39 +147,39 @@ module _ (n : ℕ) (w : World) (i : ℕ) where
   proposer_rises (Learns a v) al = inr (refl, λ u h. h)
   proposer_rises (Restarts a) al = inr (refl, λ u h. h)
 
-pub proposer_stays : (n : ℕ) (w : World) (ls : List Label) (i : ℕ) → IsRun n w ls → ProposerNotBelow ((reached w ls).nodes i).started (proposed_by (reached w ls) i) (w.nodes i).started (proposed_by w i)
-proposer_stays n w [] i run = inr (refl, λ v h. h)
-proposer_stays n w (l ∷ ls) i run = proposers_through _ _ _ _ _ _ (proposer_stays n w ls i run.0) (proposer_rises n (reached w ls) i l run.1)
+pub proposer_stays : (q : Sizes) (w : World) (ls : List Label) (i : ℕ) → IsRun q w ls → ProposerNotBelow ((reached w ls).nodes i).started (proposed_by (reached w ls) i) (w.nodes i).started (proposed_by w i)
+proposer_stays q w [] i run = inr (refl, λ v h. h)
+proposer_stays q w (l ∷ ls) i run = proposers_through _ _ _ _ _ _ (proposer_stays q w ls i run.0) (proposer_rises q (reached w ls) i l run.1)
 
 -- ---- sights
 
-pub proposer_seen_later : (n : ℕ) (w : World) (ls : List Label) (j : ℕ) (x : ProposerWord) → IsRun n w ls → ProposerSeen w j x → ProposerSeen (reached w ls) j x
-proposer_seen_later n w ls j x run h =
+pub proposer_seen_later : (q : Sizes) (w : World) (ls : List Label) (j : ℕ) (x : ProposerWord) → IsRun q w ls → ProposerSeen w j x → ProposerSeen (reached w ls) j x
+proposer_seen_later q w ls j x run h =
     record {
-      below = proposers_through _ _ _ _ _ _ h.below (proposer_stays n w ls j run);
+      below = proposers_through _ _ _ _ _ _ h.below (proposer_stays q w ls j run);
       prepare = λ l. (grows_by w ls).sent _ (h.prepare l);
       propose = λ v e. (grows_by w ls).sent _ (h.propose v e);
     }
 
-pub acceptor_seen_later : (n : ℕ) (w : World) (ls : List Label) (j : ℕ) (x : AcceptorWord) → IsReached n w → j < n → IsRun n w ls → AcceptorSeen w j x → AcceptorSeen (reached w ls) j x
-acceptor_seen_later n w ls j x r lt run h =
+pub acceptor_seen_later : (q : Sizes) (w : World) (ls : List Label) (j : ℕ) (x : AcceptorWord) → IsReached q w → j < q.nodes → IsRun q w ls → AcceptorSeen w j x → AcceptorSeen (reached w ls) j x
+acceptor_seen_later q w ls j x r lt run h =
     record {
-      below = acceptors_through _ _ _ _ _ _ h.below (acceptor_stays n w ls j r lt run);
+      below = acceptors_through _ _ _ _ _ _ h.below (acceptor_stays q w ls j r lt run);
       vote = λ y e. (grows_by w ls).sent _ (h.vote y e);
     }
 
 -- what stands there is seen
-pub proposer_seen : (n : ℕ) (w : World) (j : ℕ) (x : ProposerWord) → IsReached n w → j < n → x.started ≡ (w.nodes j).started → x.proposed ≡ proposed_by w j → ProposerSeen w j x
-proposer_seen n w j x r lt e f =
+pub proposer_seen : (q : Sizes) (w : World) (j : ℕ) (x : ProposerWord) → IsReached q w → j < q.nodes → x.started ≡ (w.nodes j).started → x.proposed ≡ proposed_by w j → ProposerSeen w j x
+proposer_seen q w j x r lt e f =
     record {
       below = stands _ _ _ _ e (sym f);
-      prepare = λ l. subst (λ (c : ℕ). Has (Prepare c) w.sent) (sym e) ((invariant_of n w r).started j lt (subst (λ (c : ℕ). 1 ≤ c) e l));
+      prepare = λ l. subst (λ (c : ℕ). Has (Prepare c) w.sent) (sym e) ((invariant_of q w r).started j lt (subst (λ (c : ℕ). 1 ≤ c) e l));
       propose = λ v h. subst (λ (c : ℕ). Has (Propose c v) w.sent) (sym e) (sent_under (w.nodes j).started v w.sent (sym f ∙ h));
     }
 
-pub acceptor_seen : (n : ℕ) (w : World) (j : ℕ) (x : AcceptorWord) → IsReached n w → j < n → x.promised ≡ (w.nodes j).promised → x.accepted ≡ (w.nodes j).accepted → AcceptorSeen w j x
-acceptor_seen n w j x r lt e f =
+pub acceptor_seen : (q : Sizes) (w : World) (j : ℕ) (x : AcceptorWord) → IsReached q w → j < q.nodes → x.promised ≡ (w.nodes j).promised → x.accepted ≡ (w.nodes j).accepted → AcceptorSeen w j x
+acceptor_seen q w j x r lt e f =
     record {
       below = stays_same _ _ _ _ (sym e) (sym f);
-      vote = λ y h. (invariant_of n w r).kept j y lt (sym f ∙ h);
+      vote = λ y h. (invariant_of q w r).kept j y lt (sym f ∙ h);
     }

@@ -4,6 +4,7 @@ use Rattle.std.proofs.lemmas.Bool.{le-leb, eqb-true, eq-eqb, cond-true}
 use mathlib.Core.Option.{none}
 use Rattle.atomic_table.specs.Table.{Me, step, Allows}
 use Rattle.paxos_core_world.specs.KeptPart.{KeptPart, with_promise, with_vote}
+use Rattle.paxos_core_world.specs.Quorum.{Sizes}
 use Rattle.paxos_core_world.specs.Run.{reached}
 use Rattle.paxos_core_world.specs.Step.{Label, Offers, Starts, Promises, Proposes, Accepts}
 use Rattle.paxos_core_world.specs.World.{World, Has}
@@ -39,9 +40,9 @@ use Rattle.rooms_steps.proofs.OfferLemmas.{message_offered, proposal_offered}
 use Rattle.rooms_rule.proofs.RunLemmas.{world_after-events, world_after-append, others_of_own, kept_of}
 use Rattle.rooms_rule.proofs.WordLemmas.{KeepsProposers, proposer_kept, acceptor_kept, proposer_of_others, acceptor_of_others, shows_acceptor, shows_proposer}
 
-below_count : (n : ℕ) (w : World) (s : NodeState) → BelongsButOffer n w s → s.me < n
-below_count n w s (inl h) = h.number
-below_count n w s (inr h) = h.number
+below_count : (q : Sizes) (w : World) (s : NodeState) → BelongsButOffer q w s → s.me < q.nodes
+below_count q w s (inl h) = h.number
+below_count q w s (inr h) = h.number
 
 -- what was sent in the world that was seen was sent in the world that stands
 pub sent_later : (o : Opening) (run later seen : List Event) (m : Msg) → run ≡ later ++ seen → Has m (world_after o seen).sent → Has m (world_after o run).sent
@@ -76,15 +77,16 @@ module _ {S : Type 0} (o : Opening) (slots id : ℕ) (me : Me S View) (number : 
     stores_acceptor =
         allows o slots id me (acceptor_at me.0.node.me) (λ _. number) (λ _ w. then w.0) seated
         (λ s rule at.
-        let n = me.0.opening.count in
+        let q = me.0.opening.quorums in
+        let n = q.nodes in
         let w : World = world_after me.0.opening rule.run in
         let t : NodeState = after_message me.0.node m in
         let steps : List Label = taken_on me.0.node m in
         let fits = rule.views id me.0 at in
         let belongs = belongs_now s id me.0 rule at seated in
-        let takes : TakesLate n w (taken_on me.0.node m) (after_message me.0.node m) (reply me.0.node m) =
-        offers_may_be_late.message me.0.node m n w (reached_now s id me.0 rule at seated) belongs (sent_later me.0.opening rule.run fits.later me.0.seen m fits.seen sent) in
-        let here : IsAcceptorOf (reached w (taken_on me.0.node m)) me.0.node.me number = here_is n (reached w (taken_on me.0.node m)) takes.belongs in
+        let takes : TakesLate q w (taken_on me.0.node m) (after_message me.0.node m) (reply me.0.node m) =
+        offers_may_be_late.message me.0.node m q w (reached_now s id me.0 rule at seated) belongs (sent_later me.0.opening rule.run fits.later me.0.seen m fits.seen sent) in
+        let here : IsAcceptorOf (reached w (taken_on me.0.node m)) me.0.node.me number = here_is q (reached w (taken_on me.0.node m)) takes.belongs in
         record {
           steps = taken_on me.0.node m;
           node = after_message me.0.node m;
@@ -92,7 +94,7 @@ module _ {S : Type 0} (o : Opening) (slots id : ℕ) (me : Me S View) (number : 
           takes = takes;
           me = same_me;
           shows =
-              shows_acceptor n w (reached w (taken_on me.0.node m)) s.words me.0.node.me number (below_count n w me.0.node belongs) rule.words
+              shows_acceptor n w (reached w (taken_on me.0.node m)) s.words me.0.node.me number (below_count q w me.0.node belongs) rule.words
               (quiet w)
               (λ i k d h. acceptor_of_others n w (taken_on me.0.node m) i k (others_of_own n i me.0.node.me (taken_on me.0.node m) (subst (λ (x : ℕ). AreStepsOf n x (taken_on me.0.node m)) same_me takes.own) d) h)
               here;
@@ -110,11 +112,11 @@ module _ {S : Type 0} (o : Opening) (slots id : ℕ) (me : Me S View) (number : 
               };
         })
       where
-        here_is : (n : ℕ) (x : World) → BelongsButOffer n x (after_message me.0.node m) → IsAcceptorOf x me.0.node.me number
-        here_is n x h =
+        here_is : (q : Sizes) (x : World) → BelongsButOffer q x (after_message me.0.node m) → IsAcceptorOf x me.0.node.me number
+        here_is q x h =
             subst (λ (i : ℕ). IsAcceptorWord number (x.nodes i).promised (x.nodes i).accepted) same_me
-            (subst (λ (p : ℕ). IsAcceptorWord number p (x.nodes (after_message me.0.node m).me).accepted) (sym (kept_of n x (after_message me.0.node m) (λ (k : KeptPart). k.promised) (λ k. refl) h))
-            (subst (λ (y : Option Vote). IsAcceptorWord number (after_message me.0.node m).kept.promised y) (sym (kept_of n x (after_message me.0.node m) (λ (k : KeptPart). k.accepted) (λ k. refl) h)) word))
+            (subst (λ (p : ℕ). IsAcceptorWord number p (x.nodes (after_message me.0.node m).me).accepted) (sym (kept_of q x (after_message me.0.node m) (λ (k : KeptPart). k.promised) (λ k. refl) h))
+            (subst (λ (y : Option Vote). IsAcceptorWord number (after_message me.0.node m).kept.promised y) (sym (kept_of q x (after_message me.0.node m) (λ (k : KeptPart). k.accepted) (λ k. refl) h)) word))
 
 accepted_of : (number p : ℕ) (x : Option Vote) (y : Vote) → IsAcceptorWord number p x → x ≡ Some y → accepted_in number ≡ Some y
 accepted_of number p x y h e = h.tells_accepted ∙ e
@@ -171,34 +173,35 @@ none_under b (Propose c v ∷ ms) h = other (eqb c b) refl (none_under b ms (λ 
     other false e k = k
 
 -- a node with a ballot under way under which it has proposed nothing
-unproposed_here : (n : ℕ) (w : World) (s : NodeState) (b : ℕ) → Belongs n w s → s.ballot ≡ Some b → s.proposed ≡ false → (s.kept.started ≡ b) × (proposed_under b w.sent ≡ None)
-unproposed_here n w s b h e f = (h.started b e, none_under b w.sent ((h.ballot b e).unproposed f))
+unproposed_here : (q : Sizes) (w : World) (s : NodeState) (b : ℕ) → Belongs q w s → s.ballot ≡ Some b → s.proposed ≡ false → (s.kept.started ≡ b) × (proposed_under b w.sent ≡ None)
+unproposed_here q w s b h e f = (h.started b e, none_under b w.sent ((h.ballot b e).unproposed f))
 
-fresh_here : (n : ℕ) (w : World) (s : NodeState) (b : ℕ) → BelongsButOffer n w s → s.ballot ≡ Some b → s.proposed ≡ false → (s.kept.started ≡ b) × (proposed_under b w.sent ≡ None)
-fresh_here n w s b (inl h) e f = unproposed_here n w s b h e f
-fresh_here n w s b (inr h) e f = unproposed_here n w (unoffered s) b h e f
+fresh_here : (q : Sizes) (w : World) (s : NodeState) (b : ℕ) → BelongsButOffer q w s → s.ballot ≡ Some b → s.proposed ≡ false → (s.kept.started ≡ b) × (proposed_under b w.sent ≡ None)
+fresh_here q w s b (inl h) e f = unproposed_here q w s b h e f
+fresh_here q w s b (inr h) e f = unproposed_here q w (unoffered s) b h e f
 
-started_here : (n : ℕ) (w : World) (s : NodeState) (b : ℕ) → BelongsButOffer n w s → s.ballot ≡ Some b → s.kept.started ≡ b
-started_here n w s b (inl h) e = h.started b e
-started_here n w s b (inr h) e = h.started b e
+started_here : (q : Sizes) (w : World) (s : NodeState) (b : ℕ) → BelongsButOffer q w s → s.ballot ≡ Some b → s.kept.started ≡ b
+started_here q w s b (inl h) e = h.started b e
+started_here q w s b (inr h) e = h.started b e
 
 -- steps of the node are taken that neither promise nor accept, and its proposer's word is stored
 module _ {S : Type 0} (o : Opening) (slots id : ℕ) (me : Me S View) (number : ℕ) (a : Act) (answer : Option Msg) (seated : IsSeated me.0)
     (t : NodeState) (same_me : t.me ≡ me.0.node.me) (same_after : t ≡ after_act me.0.node a)
     (steps : World → List Label) (taken : (w : World) → AreTakenBy me.0.node a (steps w))
     (quiet : (w : World) (i k : ℕ) → IsAcceptorOf w i k → IsAcceptorOf (reached w (steps w)) i k)
-    (takes : (w : World) → IsReached me.0.opening.count w → BelongsButOffer me.0.opening.count w me.0.node → TakesLate me.0.opening.count w (steps w) t answer)
-    (here : (w : World) → BelongsButOffer me.0.opening.count w me.0.node → BelongsButOffer me.0.opening.count (reached w (steps w)) t → IsProposerOf (reached w (steps w)) me.0.node.me number)
+    (takes : (w : World) → IsReached me.0.opening.quorums w → BelongsButOffer me.0.opening.quorums w me.0.node → TakesLate me.0.opening.quorums w (steps w) t answer)
+    (here : (w : World) → BelongsButOffer me.0.opening.quorums w me.0.node → BelongsButOffer me.0.opening.quorums (reached w (steps w)) t → IsProposerOf (reached w (steps w)) me.0.node.me number)
   where
     stores_proposer : Allows (RoomRule o) slots id me (proposer_at me.0.node.me) (λ _. number) (λ _ w. StoresProposer a number me.0 w.0)
     stores_proposer =
         allows o slots id me (proposer_at me.0.node.me) (λ _. number) (λ _ w. StoresProposer a number me.0 w.0) seated
         (λ s rule at.
-        let n = me.0.opening.count in
+        let q = me.0.opening.quorums in
+        let n = q.nodes in
         let w : World = world_after me.0.opening rule.run in
         let belongs = belongs_now s id me.0 rule at seated in
         let r = reached_now s id me.0 rule at seated in
-        let done : TakesLate n w (steps w) t answer = takes w r belongs in
+        let done : TakesLate q w (steps w) t answer = takes w r belongs in
         let word : IsProposerOf (reached w (steps w)) me.0.node.me number = here w belongs done.belongs in
         record {
           steps = steps w;
@@ -207,8 +210,8 @@ module _ {S : Type 0} (o : Opening) (slots id : ℕ) (me : Me S View) (number : 
           takes = done;
           me = same_me;
           shows =
-              shows_proposer n w (reached w (steps w)) s.words me.0.node.me number (below_count n w me.0.node belongs) rule.words
-              (λ i k il d h. proposer_of_others n w (steps w) i k r il done.run (others_of_own n i me.0.node.me (steps w) (subst (λ (x : ℕ). AreStepsOf n x (steps w)) same_me done.own) d) h)
+              shows_proposer n w (reached w (steps w)) s.words me.0.node.me number (below_count q w me.0.node belongs) rule.words
+              (λ i k il d h. proposer_of_others q w (steps w) i k r il done.run (others_of_own n i me.0.node.me (steps w) (subst (λ (x : ℕ). AreStepsOf n x (steps w)) same_me done.own) d) h)
               (quiet w) word;
           told = λ adv.
               record {
@@ -231,7 +234,7 @@ module _ {S : Type 0} (o : Opening) (slots id : ℕ) (me : Me S View) (number : 
       (sym (cond-true (leb (next_ballot me.0.node) 65535) (started me.0.node) me.0.node left)) (λ w. taken_by_start me.0.node)
       (λ w. inl (sym (cond-true (leb (next_ballot me.0.node) 65535) (taken_by_start me.0.node) [] left)))
       (λ w i k h. acceptor_kept w (Starts me.0.node.me (next_ballot me.0.node)) i k tt h)
-      (λ w r h. offers_may_be_late.start me.0.node low me.0.opening.count w r h)
+      (λ w r h. offers_may_be_late.start me.0.node low me.0.opening.quorums w r h)
       (λ w before h. is_here (reached w (taken_by_start me.0.node)) h)
     where
       same : next_ballot me.0.node ≡ next_ballot s
@@ -243,10 +246,10 @@ module _ {S : Type 0} (o : Opening) (slots id : ℕ) (me : Me S View) (number : 
       left : leb (next_ballot me.0.node) 65535 ≡ true
       left = le-leb (next_ballot me.0.node) 65535 low
 
-      is_here : (x : World) → BelongsButOffer me.0.opening.count x (started me.0.node) → IsProposerOf x me.0.node.me number
+      is_here : (x : World) → BelongsButOffer me.0.opening.quorums x (started me.0.node) → IsProposerOf x me.0.node.me number
       is_here x h =
-          let fresh = fresh_here me.0.opening.count x (started me.0.node) (next_ballot me.0.node) h refl refl in
-          let at : (x.nodes me.0.node.me).started ≡ next_ballot me.0.node = kept_of me.0.opening.count x (started me.0.node) (λ (k : KeptPart). k.started) (λ k. refl) h in
+          let fresh = fresh_here me.0.opening.quorums x (started me.0.node) (next_ballot me.0.node) h refl refl in
+          let at : (x.nodes me.0.node.me).started ≡ next_ballot me.0.node = kept_of me.0.opening.quorums x (started me.0.node) (λ (k : KeptPart). k.started) (λ k. refl) h in
           subst (λ (b : ℕ). IsProposerWord number b (proposed_under b x.sent)) (sym at)
           (subst (λ (p : Option ℕ). IsProposerWord number (next_ballot me.0.node) p) (sym fresh.1)
           (subst (λ (b : ℕ). IsProposerWord number b None) (sym same) word))
@@ -257,8 +260,8 @@ module _ {S : Type 0} (o : Opening) (slots id : ℕ) (me : Me S View) (number : 
   stores_proposal b v is word =
       stores_proposer o slots id me number act.Propose (proposal me.0.node) seated (after_proposal me.0.node) same_me refl (λ w. taken_late_by_propose w me.0.node)
       (λ w. taken_if (owes_offer w me.0.node)) (λ w i k h. quiet_if (owes_offer w me.0.node) w i k h)
-      (λ w r h. offers_may_be_late.propose me.0.node me.0.opening.count w r h)
-      (λ w before h. is_here (owes_offer w me.0.node) w before (subst (λ (x : NodeState). BelongsButOffer me.0.opening.count (reached w (taken_late_by_propose w me.0.node)) x) refl h))
+      (λ w r h. offers_may_be_late.propose me.0.node me.0.opening.quorums w r h)
+      (λ w before h. is_here (owes_offer w me.0.node) w before (subst (λ (x : NodeState). BelongsButOffer me.0.opening.quorums (reached w (taken_late_by_propose w me.0.node)) x) refl h))
     where
       own : next_proposal me.0.node ≡ Some (b, v)
       own = ap next_proposal tie ∙ proposal_offered s (b, v) is
@@ -281,15 +284,15 @@ module _ {S : Type 0} (o : Opening) (slots id : ℕ) (me : Me S View) (number : 
       under true w = subst (λ (ls : List Label). proposed_under b (reached w (ls ++ Offers me.0.node.me ∷ [])).sent ≡ Some v) (sym labels) (cond-true (eqb b b) (Some v) (proposed_under b w.sent) (eq-eqb b b refl))
       under false w = subst (λ (ls : List Label). proposed_under b (reached w ls).sent ≡ Some v) (sym labels) (cond-true (eqb b b) (Some v) (proposed_under b w.sent) (eq-eqb b b refl))
 
-      is_here : (t : Bool) (w : World) → BelongsButOffer me.0.opening.count w me.0.node
-          → BelongsButOffer me.0.opening.count (reached w (cond t (taken_by_propose me.0.node ++ Offers me.0.node.me ∷ []) (taken_by_propose me.0.node))) (after_proposal me.0.node)
+      is_here : (t : Bool) (w : World) → BelongsButOffer me.0.opening.quorums w me.0.node
+          → BelongsButOffer me.0.opening.quorums (reached w (cond t (taken_by_propose me.0.node ++ Offers me.0.node.me ∷ []) (taken_by_propose me.0.node))) (after_proposal me.0.node)
           → IsProposerOf (reached w (cond t (taken_by_propose me.0.node ++ Offers me.0.node.me ∷ []) (taken_by_propose me.0.node))) me.0.node.me number
       is_here t w before h =
           let x : World = reached w (cond t (taken_by_propose me.0.node ++ Offers me.0.node.me ∷ []) (taken_by_propose me.0.node)) in
           let at : (x.nodes (after_proposal me.0.node).me).started ≡ (after_proposal me.0.node).kept.started =
-          kept_of me.0.opening.count x (after_proposal me.0.node) (λ (k : KeptPart). k.started) (λ k. refl) h in
+          kept_of me.0.opening.quorums x (after_proposal me.0.node) (λ (k : KeptPart). k.started) (λ k. refl) h in
           let kept : (after_proposal me.0.node).kept.started ≡ me.0.node.kept.started = ap (λ (z : Option (ℕ × ℕ)). (after_answer me.0.node (propose_message z)).kept.started) own in
-          let ballot : me.0.node.kept.started ≡ b = started_here me.0.opening.count w me.0.node b before (ballot_of me.0.node.ballot (may_propose me.0.node) (choice (highest_below me.0.node.count me.0.node.promises) me.0.node.kept.offered me.0.node.me) own) in
+          let ballot : me.0.node.kept.started ≡ b = started_here me.0.opening.quorums w me.0.node b before (ballot_of me.0.node.ballot (may_propose me.0.node) (choice (highest_below me.0.node.quorums.nodes me.0.node.promises) me.0.node.kept.offered me.0.node.me) own) in
           subst (λ (i : ℕ). IsProposerOf x i number) same_me
           (subst (λ (c : ℕ). IsProposerWord number c (proposed_under c x.sent)) (sym (at ∙ (kept ∙ ballot)))
           (subst (λ (p : Option ℕ). IsProposerWord number b p) (sym (under t w))

@@ -18,7 +18,7 @@ use Rattle.rooms_table.proofs.Tables.{at_tabulated, get_or-map, length-map, leng
 -- a token gives the seat of the first node away, in each room in which it has rights for nodes from k on
 module _ {S : Type 0} (o : Openings) (id : ℕ) (v : Views) (pos : 0 < rooms_in v) (k : ℕ)
     (dealt_so : (room : ℕ) → room < rooms_in v
-    → ((view_in v room).live ≡ false) ⊎ ((view_in v room ≡ dealing (view_in v room).opening k) × (k < (view_in v room).opening.count))) where
+    → ((view_in v room).live ≡ false) ⊎ ((view_in v room ≡ dealing (view_in v room).opening k) × (k < (view_in v room).opening.quorums.nodes))) where
   pub deals_nodes : Splits {S = S} (FamilyRule o) id v (other_nodes v) (first_node v)
   deals_nodes =
       splits {S = S} o id v (other_nodes v) (first_node v) pos (length-map rest_of v.rooms) (length-map seat_of v.rooms)

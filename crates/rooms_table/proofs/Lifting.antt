@@ -26,7 +26,7 @@ rule_of o s t ew ev h =
     record {
       run = h.run;
       legal = h.legal;
-      words = subst (λ (ws : List ℕ). ShowsWorld o.count (world_after o h.run) ws) (sym ew) h.words;
+      words = subst (λ (ws : List ℕ). ShowsWorld o.quorums.nodes (world_after o h.run) ws) (sym ew) h.words;
       views = λ j v e. h.views j v (subst (λ (vs : List View). get_elem? vs j ≡ some v) ev e);
       apart = subst (λ (vs : List View). AreApart vs) (sym ev) h.apart;
     }
@@ -47,7 +47,7 @@ module _ (rooms room count : ℕ) (words : List ℕ) (k x : ℕ) (lt : room < ro
       (λ j jl. get_or-set_other words (place_of rooms room k) (place_of rooms other j) x 0 (λ e. away (same_place rooms other j room k ol lt e).0))
 
 module _ {S : Type 0} (o : Openings) (slots id : ℕ) (me : Me S Views) (room k : ℕ) (f : ℕ → ℕ)
-    (lt : room < rooms_in me.0) (low : k < 2 * (view_in me.0 room).opening.count) (seated : IsSeated (view_in me.0 room))
+    (lt : room < rooms_in me.0) (low : k < 2 * (view_in me.0 room).opening.quorums.nodes) (seated : IsSeated (view_in me.0 room))
     (then : ℕ → Me S View → Type 0) (after : ℕ → Me S Views → Type 0)
     (told : (n : ℕ) (w : View) (c : List (ℕ × S)) → then n (w, c) → after n (views_with me.0 room w, c))
     (allowed : (p : Opening) → Allows (RoomRule p) slots id (view_in me.0 room, me.1) k f then)
@@ -61,10 +61,10 @@ module _ {S : Type 0} (o : Openings) (slots id : ℕ) (me : Me S Views) (room k 
   seen : (other : ℕ) → get_elem? (map (λ v. view_in v other) s.views) id ≡ some (view_in me.0 other)
   seen other = at_map (λ v. view_in v other) s.views id me.0 at
 
-  count_is : (view_in me.0 room).opening.count ≡ (opening_in o room).count
-  count_is = ap (λ (p : Opening). p.count) (((rule.each room is_room).views id (view_in me.0 room) (seen room)).opening seated.live)
+  count_is : (view_in me.0 room).opening.quorums.nodes ≡ (opening_in o room).quorums.nodes
+  count_is = ap (λ (p : Opening). p.quorums.nodes) (((rule.each room is_room).views id (view_in me.0 room) (seen room)).opening seated.live)
 
-  low_here : k < 2 * (opening_in o room).count
+  low_here : k < 2 * (opening_in o room).quorums.nodes
   low_here = subst (λ (n : ℕ). k < 2 * n) count_is low
 
   there : place_of o.rooms room k < length s.words
@@ -72,8 +72,8 @@ module _ {S : Type 0} (o : Openings) (slots id : ℕ) (me : Me S Views) (room k 
       subst (λ (n : ℕ). place_of o.rooms room k < n) (sym rule.size)
       (place_below o.rooms room (count_of o) k is_room (subst (λ (n : ℕ). k < 2 * n) (rule.same room is_room) low_here))
 
-  found : get_or (words_in o.rooms room (opening_in o room).count s.words) k 0 ≡ get_or s.words (place_of o.rooms room k) 0
-  found = at_tabulated (2 * (opening_in o room).count) (λ j. get_or s.words (place_of o.rooms room j) 0) k 0 low_here
+  found : get_or (words_in o.rooms room (opening_in o room).quorums.nodes s.words) k 0 ≡ get_or s.words (place_of o.rooms room k) 0
+  found = at_tabulated (2 * (opening_in o room).quorums.nodes) (λ j. get_or s.words (place_of o.rooms room j) 0) k 0 low_here
 
   module _ (w : View) (a : Act S) (x : ℕ)
       (next : RoomRule (opening_in o room) (stepped (room_in o room s) k x id me.1 w a)) where
@@ -83,14 +83,14 @@ module _ {S : Type 0} (o : Openings) (slots id : ℕ) (me : Me S Views) (room k 
     in_room : RoomRule (opening_in o room) (room_in o room (stepped s (place_of o.rooms room k) x id me.1 (views_with me.0 room w) a))
     in_room =
         rule_of (opening_in o room) (stepped (room_in o room s) k x id me.1 w a) (room_in o room (stepped s (place_of o.rooms room k) x id me.1 (views_with me.0 room w) a))
-        (stored o.rooms room (opening_in o room).count s.words k x is_room low_here there)
+        (stored o.rooms room (opening_in o room).quorums.nodes s.words k x is_room low_here there)
         (map-set (λ v. view_in v room) s.views id (views_with me.0 room w)
         ∙ ap (λ (v : View). set (map (λ v. view_in v room) s.views) id v) (get_or-set_same me.0.rooms room w nobody lt)) next
 
     elsewhere : (other : ℕ) → other < o.rooms → other ≢ room → RoomRule (opening_in o other) (room_in o other (stepped s (place_of o.rooms room k) x id me.1 (views_with me.0 room w) a))
     elsewhere other ol away =
         rule_of (opening_in o other) (room_in o other s) (room_in o other (stepped s (place_of o.rooms room k) x id me.1 (views_with me.0 room w) a))
-        (stored_elsewhere o.rooms room (opening_in o room).count s.words k x is_room low_here there other (opening_in o other).count ol away)
+        (stored_elsewhere o.rooms room (opening_in o room).quorums.nodes s.words k x is_room low_here there other (opening_in o other).quorums.nodes ol away)
         (map-set (λ v. view_in v other) s.views id (views_with me.0 room w)
         ∙ (ap (λ (v : View). set (map (λ v. view_in v other) s.views) id v) (get_or-set_other me.0.rooms room other w nobody away)
         ∙ set_again (map (λ v. view_in v other) s.views) id (view_in me.0 other) (seen other))) (rule.each other ol)
@@ -119,7 +119,7 @@ module _ {S : Type 0} (o : Openings) (slots id : ℕ) (me : Me S Views) (room k 
       → (w : Views) × (a : Act S) × Valid s.homes me.1 a × FamilyRule o (stepped s (place_of o.rooms room k) (f (get_or s.words (place_of o.rooms room k) 0)) id me.1 w a)
       × after (get_or s.words (place_of o.rooms room k) 0) (w, carried_after me.1 a)
   steps_on bound =
-      let n1 : ℕ = get_or (words_in o.rooms room (opening_in o room).count s.words) k 0 in
+      let n1 : ℕ = get_or (words_in o.rooms room (opening_in o room).quorums.nodes s.words) k 0 in
       let n : ℕ = get_or s.words (place_of o.rooms room k) 0 in
       let one = allowed (opening_in o room) (room_in o room s) (rule.each room is_room) len (seen room) (subst (λ (m : ℕ). m < 18446744073709551616) (sym found) bound) in (
         views_with me.0 room one.0,
@@ -142,7 +142,7 @@ module _ {S : Type 0} (o : Openings) (slots id : ℕ) (me : Me S Views) (room k 
 -- what a step in a room is allowed to tell, it is allowed to tell in the table
 pub plays : {S : Type 0} (o : Openings) (slots id : ℕ) (me : Me S Views) (room k : ℕ) (f number : ℕ → ℕ) (first second : ℕ) (said : Option S)
     (T : Step S → Me S View → ℕ → Me S View → Type 0)
-    → room < rooms_in me.0 → k < 2 * (view_in me.0 room).opening.count → IsSeated (view_in me.0 room)
+    → room < rooms_in me.0 → k < 2 * (view_in me.0 room).opening.quorums.nodes → IsSeated (view_in me.0 room)
     → ((p : Opening) → Allows (RoomRule p) slots id (view_in me.0 room, me.1) k f (λ n. T (step slots k first second said) (view_in me.0 room, me.1) (number n)))
     → Allows (FamilyRule o) slots id me (place_of (rooms_in me.0) room k) f (λ n. InRoom T (step slots (place_of (rooms_in me.0) room k) first second said) me (number n))
 plays {S} o slots id me room k f number first second said T lt low seated allowed s rule len at bound =

@@ -85,14 +85,14 @@ module _ (o : Openings) (words : List ℕ) (can : CanOpenAll o) (h : ShowFirst o
   taken = take (2 * (count_of o * o.rooms)) words
 
   -- the word at a place of the room
-  word_is : (k place : ℕ) → k < 2 * (opening_in o room).count → place_of o.rooms room k ≡ place → place < 2 * (count_of o * o.rooms)
-      → get_or (words_in o.rooms room (opening_in o room).count (take (2 * (count_of o * o.rooms)) words)) k 0 ≡ get_or words place 0
+  word_is : (k place : ℕ) → k < 2 * (opening_in o room).quorums.nodes → place_of o.rooms room k ≡ place → place < 2 * (count_of o * o.rooms)
+      → get_or (words_in o.rooms room (opening_in o room).quorums.nodes (take (2 * (count_of o * o.rooms)) words)) k 0 ≡ get_or words place 0
   word_is k place kl ep pl =
-      at_tabulated (2 * (opening_in o room).count) (λ j. get_or (take (2 * (count_of o * o.rooms)) words) (place_of o.rooms room j) 0) k 0 kl
+      at_tabulated (2 * (opening_in o room).quorums.nodes) (λ j. get_or (take (2 * (count_of o * o.rooms)) words) (place_of o.rooms room j) 0) k 0 kl
       ∙ (ap (λ (p : ℕ). get_or (take (2 * (count_of o * o.rooms)) words) p 0) ep ∙ at_take (2 * (count_of o * o.rooms)) place words pl)
 
-  shown : (i : ℕ) → i < (opening_in o room).count
-      → ShowsKept (nodes_of (opening_in o room).kept i) i (words_in o.rooms room (opening_in o room).count (take (2 * (count_of o * o.rooms)) words))
+  shown : (i : ℕ) → i < (opening_in o room).quorums.nodes
+      → ShowsKept (nodes_of (opening_in o room).kept i) i (words_in o.rooms room (opening_in o room).quorums.nodes (take (2 * (count_of o * o.rooms)) words))
   shown i il =
       let below : pair_of o.rooms room i < count_of o * o.rooms = pair_below o.rooms room i (count_of o) lt (subst (λ (n : ℕ). i < n) (can.same room lt) il) in
       let old : ShowsKept (nodes_of (opening_in o room).kept i) (pair_of o.rooms room i) words =
@@ -100,10 +100,10 @@ module _ (o : Openings) (words : List ℕ) (can : CanOpenAll o) (h : ShowFirst o
       record {
         proposer =
             subst (λ (n : ℕ). IsProposerWord n (nodes_of (opening_in o room).kept i).started None)
-            (sym (word_is (2 * i) (2 * pair_of o.rooms room i) (twice i (opening_in o room).count il) (proposer_place o.rooms room i) (twice (pair_of o.rooms room i) (count_of o * o.rooms) below))) old.proposer;
+            (sym (word_is (2 * i) (2 * pair_of o.rooms room i) (twice i (opening_in o room).quorums.nodes il) (proposer_place o.rooms room i) (twice (pair_of o.rooms room i) (count_of o * o.rooms) below))) old.proposer;
         acceptor =
             subst (λ (n : ℕ). IsAcceptorWord n (nodes_of (opening_in o room).kept i).promised (nodes_of (opening_in o room).kept i).accepted)
-            (sym (word_is (2 * i + 1) (2 * pair_of o.rooms room i + 1) (twice_more i (opening_in o room).count il) (acceptor_place o.rooms room i) (twice_more (pair_of o.rooms room i) (count_of o * o.rooms) below))) old.acceptor;
+            (sym (word_is (2 * i + 1) (2 * pair_of o.rooms room i + 1) (twice_more i (opening_in o room).quorums.nodes il) (acceptor_place o.rooms room i) (twice_more (pair_of o.rooms room i) (count_of o * o.rooms) below))) old.acceptor;
       }
     where
       twice : (x y : ℕ) → x < y → 2 * x < 2 * y
@@ -114,10 +114,10 @@ module _ (o : Openings) (words : List ℕ) (can : CanOpenAll o) (h : ShowFirst o
 
   room_opens : RoomRule (opening_in o room) (room_in o room (table.opening {S = Unit {0}} (take (2 * (count_of o * o.rooms)) words) [] (dealing_all o)))
   room_opens =
-      rule_of (opening_in o room) (table.opening {S = Unit {0}} (words_in o.rooms room (opening_in o room).count (take (2 * (count_of o * o.rooms)) words)) [] (dealing (opening_in o room) 0)) _ refl
+      rule_of (opening_in o room) (table.opening {S = Unit {0}} (words_in o.rooms room (opening_in o room).quorums.nodes (take (2 * (count_of o * o.rooms)) words)) [] (dealing (opening_in o room) 0)) _ refl
       (ap (λ (v : View). v ∷ []) (at_tabulated o.rooms (λ room. dealing (opening_in o room) 0) room nobody lt))
-      (opens (opening_in o room) (words_in o.rooms room (opening_in o room).count (take (2 * (count_of o * o.rooms)) words)) (can.settled room lt)
-      (length-tabulated (2 * (opening_in o room).count) (λ j. get_or (take (2 * (count_of o * o.rooms)) words) (place_of o.rooms room j) 0)) shown)
+      (opens (opening_in o room) (words_in o.rooms room (opening_in o room).quorums.nodes (take (2 * (count_of o * o.rooms)) words)) (can.sizes room lt) (can.settled room lt)
+      (length-tabulated (2 * (opening_in o room).quorums.nodes) (λ j. get_or (take (2 * (count_of o * o.rooms)) words) (place_of o.rooms room j) 0)) shown)
 
 pub opens_so : (o : Openings) (m : ℕ) (words : List ℕ) → m ≡ count_of o * o.rooms → CanOpenAll o → ShowFirst o (count_of o * o.rooms) words
     → FamilyRule o (table.opening {S = Unit {0}} (take (2 * m) words) [] (dealing_all o))

@@ -3,7 +3,7 @@ use Rattle.std.specs.Prelude.{◌≡◌, ℕ, zero, suc, ◌*◌, ◌<◌, List,
 use mathlib.Core.Option.{some}
 use lib.ListN.{get_elem?}
 use Rattle.atomic_table.specs.Table.{State}
-use Rattle.rooms_rule.specs.Deal.{nobody}
+use Rattle.rooms_rule.specs.Deal.{no_sizes, nobody}
 use Rattle.rooms_rule.specs.Rule.{RoomRule}
 use Rattle.rooms_rule.specs.declared.view.Opening.{Opening}
 use Rattle.rooms_rule.specs.declared.view.View.{View}
@@ -25,7 +25,7 @@ abbrev pub view_in : Views → ℕ → View
 view_in v room = slice_index_or v.rooms room nobody
 
 abbrev pub no_opening : Opening
-no_opening = record { count = 0; kept = [] }
+no_opening = record { quorums = no_sizes; kept = [] }
 
 -- how this room was opened
 abbrev pub opening_in : Openings → ℕ → Opening
@@ -33,7 +33,7 @@ opening_in o room = slice_index_or o.each room no_opening
 
 -- how many nodes each room has
 abbrev pub count_of : Openings → ℕ
-count_of o = (opening_in o 0).count
+count_of o = (opening_in o 0).quorums.nodes
 
 -- the words of a room of so many nodes, which is one of so many rooms
 abbrev pub words_in : ℕ → ℕ → ℕ → List ℕ → List ℕ
@@ -43,7 +43,7 @@ words_in rooms room count words = tabulated (2 * count) (λ k. slice_index words
 abbrev pub room_in : {S : Type 0} → Openings → ℕ → State S Views → State S View
 room_in o room s =
     record {
-      words = words_in o.rooms room (opening_in o room).count s.words;
+      words = words_in o.rooms room (opening_in o room).quorums.nodes s.words;
       homes = s.homes;
       views = map (λ v. view_in v room) s.views;
     }
@@ -51,6 +51,6 @@ room_in o room s =
 -- each room has its words in the table, and keeps the rule of a room; who knows of any room knows of each
 pub record FamilyRule {S : Type 0} (o : Openings) (s : State S Views) : Type 0 where
   pub size : length s.words ≡ 2 * (count_of o * o.rooms)
-  pub same : (room : ℕ) → room < o.rooms → (opening_in o room).count ≡ count_of o
+  pub same : (room : ℕ) → room < o.rooms → (opening_in o room).quorums.nodes ≡ count_of o
   pub sized : (seat : ℕ) (v : Views) → get_elem? s.views seat ≡ some v → 0 < rooms_in v → rooms_in v ≡ o.rooms
   pub each : (room : ℕ) → room < o.rooms → RoomRule (opening_in o room) (room_in o room s)

@@ -1,6 +1,7 @@
 -- The words with which a family of rooms opens.
 use Rattle.std.specs.Prelude.{◌≡◌, ℕ, ◌/◌, ◌%◌, ◌<◌, ◌≤◌, List, length}
 use Rattle.rooms_rule.specs.KeptPart.{KeptPart}
+use Rattle.rooms_rule.specs.Quorum.{AreQuorums}
 use Rattle.rooms_rule.specs.Settled.{Settled}
 use Rattle.rooms_rule.specs.World.{nodes_of}
 use Rattle.rooms_rule.specs.WordsOf.{ShowsKept}
@@ -16,12 +17,13 @@ pub record ShowFirst (o : Openings) (pairs : ℕ) (words : List ℕ) : Type 0 wh
   pub size : length words ≡ 56
   pub shown : (pair : ℕ) → pair < pairs → ShowsKept (part_at o pair) pair words
 
--- there are one to four rooms, of at most seven nodes each, and each is opened from kept parts that are settled
+-- there are one to four rooms, of as many nodes each, and each is opened with quorums that meet from kept parts that are settled
 pub record CanOpenAll (o : Openings) : Type 0 where
   pub some : 0 < o.rooms
   pub few : o.rooms ≤ 4
   pub most : count_of o ≤ 7
   pub row : length o.each ≡ 4
   pub rows : (room : ℕ) → room < o.rooms → length (opening_in o room).kept ≡ 7
-  pub same : (room : ℕ) → room < o.rooms → (opening_in o room).count ≡ count_of o
-  pub settled : (room : ℕ) → room < o.rooms → Settled (opening_in o room).count (nodes_of (opening_in o room).kept)
+  pub same : (room : ℕ) → room < o.rooms → (opening_in o room).quorums.nodes ≡ count_of o
+  pub sizes : (room : ℕ) → room < o.rooms → AreQuorums (opening_in o room).quorums
+  pub settled : (room : ℕ) → room < o.rooms → Settled (opening_in o room).quorums (nodes_of (opening_in o room).kept)

@@ -2,38 +2,48 @@
 
 ghost use Rattle.std.specs.Prelude.{◌≡◌, ◌<◌, ◌+◌, [], ◌∷◌, None, IfSome, IsTrue};
 
-use paxos_core::{Kept, settled};
+use paxos_core::{Kept, Quorums, settled};
 use rooms_function::{FunctionOffers, FunctionRoom, FunctionSeat};
 use rooms_seat::{Dealer, WordSeat};
 use std::alloc::Global;
 
-/// The seats of a room of three or five nodes, which have kept these parts.
-pub fn seats_of(alloc: Global, kept: &[Kept]) -> Vec<WordSeat> {
+/// The seats of a room with these quorums whose nodes have kept these parts.
+pub fn seats_of(alloc: Global, kept: &[Kept], quorums: Quorums) -> Vec<WordSeat> {
     let mut seats = Vec::new(alloc);
-    if (kept.len() == 3 || kept.len() == 5) && settled(kept) {
-        if let Ok(mut dealer) = Dealer::open(alloc, kept) {
-            deal_all(&mut dealer, kept.len() == 5, &mut seats);
+    let nodes = quorums.nodes();
+    if kept.len() == usize::from(nodes) && settled(kept, quorums) {
+        if let Ok(mut dealer) = Dealer::open(alloc, kept, quorums) {
+            deal_all(&mut dealer, nodes, &mut seats);
         }
     }
     seats
 }
 
-/// Deals the seats of three nodes, or of five.
-fn deal_all(dealer: &mut Dealer, is_five: bool, seats: &mut Vec<WordSeat>)
+/// The seats of a room of so many nodes with majorities, which have kept these parts.
+pub fn majority_seats(alloc: Global, kept: &[Kept], nodes: u8) -> Vec<WordSeat> {
+    match Quorums::majorities(nodes) {
+        Some(quorums) => seats_of(alloc, kept, quorums),
+        None => Vec::new(alloc),
+    }
+}
+
+/// Deals the seats of so many nodes.
+fn deal_all(dealer: &mut Dealer, nodes: u8, seats: &mut Vec<WordSeat>)
     requires next { dealer.old.next ≡ 0 }
-    requires three { 2 < dealer.old.opening.count }
-    requires five { IsTrue is_five → dealer.old.opening.count ≡ 5 }
+    requires nodes { dealer.old.opening.quorums.nodes ≡ nodes }
 {
-    if deal(dealer, seats) && deal(dealer, seats) && deal(dealer, seats) && is_five {
-        let _is_last = deal(dealer, seats) && deal(dealer, seats);
+    for _node in 0..nodes {
+        if !deal(dealer, seats) {
+            return;
+        }
     }
 }
 
 /// Deals the next node's seat.
 fn deal(dealer: &mut Dealer, seats: &mut Vec<WordSeat>) -> bool
-    requires { dealer.old.next < dealer.old.opening.count }
+    requires { dealer.old.next < dealer.old.opening.quorums.nodes }
     ensures next { IsTrue result → dealer.new.next ≡ dealer.old.next + 1 }
-    ensures count { IsTrue result → dealer.new.opening.count ≡ dealer.old.opening.count }
+    ensures quorums { IsTrue result → dealer.new.opening.quorums ≡ dealer.old.opening.quorums }
 {
     match dealer.deal() {
         Ok(seat) => seats.push(seat).is_ok(),
@@ -94,7 +104,10 @@ pub fn function_seats(alloc: Global) -> Vec<FunctionSeat> {
         third,
         fourth,
     };
-    match FunctionRoom::open(alloc, &[fresh, fresh, fresh], offers) {
+    let Some(quorums) = Quorums::majorities(3) else {
+        return Vec::new(alloc);
+    };
+    match FunctionRoom::open(alloc, &[fresh, fresh, fresh], offers, quorums) {
         Ok(seats) => seats,
         Err(_) => Vec::new(alloc),
     }

@@ -3,7 +3,7 @@
 
 use crate::opened::seats_of;
 use crate::turns::{Turn, is_as_in};
-use paxos_core::Kept;
+use paxos_core::{Kept, Quorums};
 use paxos_reference::world::World;
 use rand_core::utils::NextWord;
 use rand_pcg::Pcg32;
@@ -65,15 +65,15 @@ fn all_agree(seats: &mut [WordSeat], world: &mut World, words: &mut Pcg32, parts
     true
 }
 
-/// Plays one schedule of so many nodes and parts, if seats and reference agree in all. Whether a value was learned.
-fn play(alloc: Global, count: usize, stream: u64, parts: u16) -> Option<bool> {
+/// Plays one schedule of so many parts, if seats and reference agree in all. Whether a value was learned.
+fn play(alloc: Global, quorums: Quorums, stream: u64, parts: u16) -> Option<bool> {
     let kept = [Kept::nothing(); 7];
-    if count > 7 {
+    let count = usize::from(quorums.nodes());
+    let Some(kept) = kept.get(..count) else {
         return None;
-    }
-    let kept = &kept[..count];
-    let mut seats = seats_of(alloc, kept);
-    let Ok(mut world) = World::opening(alloc, kept) else {
+    };
+    let mut seats = seats_of(alloc, kept, quorums);
+    let Ok(mut world) = World::opening(alloc, kept, quorums) else {
         return None;
     };
     let mut words = Pcg32::new(1, stream);
@@ -84,11 +84,14 @@ fn play(alloc: Global, count: usize, stream: u64, parts: u16) -> Option<bool> {
     }
 }
 
-/// In how many of the schedules a value is learned; 0 where seats and reference differ in any.
-fn learned_in(alloc: Global, count: usize, streams: u16, parts: u16) -> u16 {
+/// In how many of the schedules a value is learned; 0 where seats and reference differ in any, or the quorums need not meet.
+fn learned_in(alloc: Global, quorums: Option<Quorums>, streams: u16, parts: u16) -> u16 {
+    let Some(quorums) = quorums else {
+        return 0;
+    };
     let mut learned = 0u16;
     for stream in 0..streams {
-        match play(alloc, count, u64::from(stream), parts) {
+        match play(alloc, quorums, u64::from(stream), parts) {
             Some(is_learned) => learned = learned.saturating_add(u16::from(is_learned)),
             None => return 0,
         }
@@ -98,6 +101,12 @@ fn learned_in(alloc: Global, count: usize, streams: u16, parts: u16) -> u16 {
 
 #[test]
 fn schedules_agree_with_the_reference(rt: HostRuntime) {
-    let three = learned_in(rt.alloc(), 3, 6, 300);
-    assert!(rt; three > 3 && learned_in(rt.alloc(), 5, 4, 800) > 0);
+    let three = learned_in(rt.alloc(), Quorums::majorities(3), 6, 300);
+    assert!(rt; three > 3 && learned_in(rt.alloc(), Quorums::majorities(5), 4, 800) > 0);
+}
+
+#[test]
+fn schedules_with_two_sizes_agree_with_the_reference(rt: HostRuntime) {
+    let few_votes = learned_in(rt.alloc(), Quorums::of(4, 3, 2), 4, 600);
+    assert!(rt; few_votes > 0 && learned_in(rt.alloc(), Quorums::of(4, 2, 3), 4, 600) > 0);
 }

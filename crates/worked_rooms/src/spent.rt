@@ -1,6 +1,6 @@
 //! Ballots are spent: the last one of a node is its highest below 65,536.
 
-use crate::opened::seats_of;
+use crate::opened::majority_seats;
 use paxos_core::Kept;
 use rooms_seat::WordSeat;
 
@@ -41,6 +41,6 @@ fn are_started(seats: &mut [WordSeat]) -> bool {
 #[test]
 fn last_ballots_are_started_once(rt: HostRuntime) {
     let kept = [kept_at(65_532), kept_at(65_533), kept_at(65_531)];
-    let mut seats = seats_of(rt.alloc(), &kept);
+    let mut seats = majority_seats(rt.alloc(), &kept, 3);
     assert!(rt; are_started(&mut seats));
 }

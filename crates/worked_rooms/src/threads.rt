@@ -4,7 +4,7 @@
 ghost use Rattle.std.specs.Prelude.{◌<◌, ◌≤◌, IsTrue};
 ghost use Rattle.rooms_function.specs.Pass.{words_in};
 
-use crate::opened::{function_seats, seats_of};
+use crate::opened::{function_seats, majority_seats};
 use paxos_core::Kept;
 use rooms_function::FunctionSeat;
 use rooms_seat::WordSeat;
@@ -74,7 +74,7 @@ impl Looks for FunctionSeat {
 
 /// Whether the room of a pass has a third node.
 fn has_three(seat: &FunctionSeat, pass: u8) -> bool
-    ensures { IsTrue result → 2 < (words_in pass seat.now).node.count }
+    ensures { IsTrue result → 2 < (words_in pass seat.now).node.quorums.nodes }
 {
     let count = match pass {
         1 => seat.first.words.count(),
@@ -141,7 +141,7 @@ fn see_each_other<R: Threads, S: Looks + Send>(rt: &R, seats: &mut [S]) -> bool 
 #[test]
 fn two_threads_see_each_other(rt: HostRuntime) {
     let nothing = Kept::nothing();
-    let mut seats = seats_of(rt.alloc(), &[nothing, nothing, nothing]);
+    let mut seats = majority_seats(rt.alloc(), &[nothing, nothing, nothing], 3);
     assert!(rt; see_each_other(&rt, &mut seats));
 }
 

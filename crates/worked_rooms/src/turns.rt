@@ -102,7 +102,7 @@ fn offers(seat: &mut WordSeat, world: &mut World) -> bool {
 
 /// Asks the seat for the step: what it took is what it told.
 fn acts(seat: &mut WordSeat, world: &mut World, act: Act) -> bool
-    requires { IsAmong seat.old.node.count act }
+    requires { IsAmong seat.old.node.quorums.nodes act }
 {
     let me = seat.me();
     let told = seat.intent(act);
@@ -118,7 +118,7 @@ fn acts(seat: &mut WordSeat, world: &mut World, act: Act) -> bool
 
 /// The step that the seat takes.
 fn took(seat: &mut WordSeat, act: Act) -> Option<Step>
-    requires { IsAmong seat.old.node.count act }
+    requires { IsAmong seat.old.node.quorums.nodes act }
 {
     match act {
         Act::Start => match seat.start() {
@@ -152,7 +152,7 @@ fn label_of(me: u8, step: Step) -> Label {
 
 /// Looks at node `j`'s proposer.
 fn looks_at_proposer(seat: &mut WordSeat, world: &World, j: u8) -> bool
-    requires { j < seat.old.node.count }
+    requires { j < seat.old.node.quorums.nodes }
 {
     let Some(kept) = world.nodes.get(usize::from(j)) else {
         return false;
@@ -166,7 +166,7 @@ fn looks_at_proposer(seat: &mut WordSeat, world: &World, j: u8) -> bool
 
 /// Looks at node `j`'s acceptor, by which the seat may learn.
 fn looks_at_acceptor(seat: &mut WordSeat, world: &mut World, j: u8) -> bool
-    requires { j < seat.old.node.count }
+    requires { j < seat.old.node.quorums.nodes }
 {
     let Some(kept) = world.nodes.get(usize::from(j)) else {
         return false;

@@ -1,6 +1,5 @@
 use Rattle.std.proofs.Common.{◌≡◌, ℕ, ◌+◌, ◌<◌, true, not, List, length, length-set, is_ok, sym, ap, ◌∙◌, subst, arith}
 use Rattle.std.specs.Arc.{arc_value}
-use Rattle.paxos_core_law.specs.NodeState.{IsRoomSize}
 use Rattle.rooms_seat.specs.Dealing.{Dealing}
 use Rattle.rooms.specs.declared.error.RoomError.TheVariants as error
 use Rattle.rooms.specs.Opened.{opened_first}
@@ -13,10 +12,7 @@ next_seat-requires-after_bounds g c κs within =
       omega arith,
       (
         omega arith,
-        (
-          subst (λ (x : Dealing). IsRoomSize x.opening.count) (sym c.loop-node.invariant.dealer) c.requires.size,
-          subst (λ (x : Dealing). x.next < x.opening.count) (sym c.loop-node.invariant.dealer) (subst (λ (n : ℕ). c.loop-node.node < n) c.requires.offers low),
-        ),
+        subst (λ (x : Dealing). x.next < x.opening.quorums.nodes) (sym c.loop-node.invariant.dealer) (subst (λ (n : ℕ). c.loop-node.node < n) c.requires.offers low),
       ),
     )
 

@@ -20,7 +20,7 @@ pub node_by_node-requires : goal.node_by_node-requires
 node_by_node-requires c =
     let one = dealt_many c.args.dealers.first.table c.args.dealers.first.opening c.args.offers.first.items c.in-Ok.seats.items c.in-Ok.ensures.ok in
     record {
-      second = dealt_many c.args.dealers.second.table c.args.dealers.second.opening c.args.offers.second.items c.in-Ok-seats_of.seats.items c.in-Ok-seats_of.ensures.ok ∙ (c.requires.fresh.count2 ∙ sym one);
-      third = dealt_many c.args.dealers.third.table c.args.dealers.third.opening c.args.offers.third.items c.in-Ok-seats_of-2.seats.items c.in-Ok-seats_of-2.ensures.ok ∙ (c.requires.fresh.count3 ∙ sym one);
-      fourth = dealt_many c.args.dealers.fourth.table c.args.dealers.fourth.opening c.args.offers.fourth.items c.in-Ok-seats_of-3.seats.items c.in-Ok-seats_of-3.ensures.ok ∙ (c.requires.fresh.count4 ∙ sym one);
+      second = dealt_many c.args.dealers.second.table c.args.dealers.second.opening c.args.offers.second.items c.in-Ok-seats_of.seats.items c.in-Ok-seats_of.ensures.ok ∙ (c.requires.count2 ∙ sym one);
+      third = dealt_many c.args.dealers.third.table c.args.dealers.third.opening c.args.offers.third.items c.in-Ok-seats_of-2.seats.items c.in-Ok-seats_of-2.ensures.ok ∙ (c.requires.count3 ∙ sym one);
+      fourth = dealt_many c.args.dealers.fourth.table c.args.dealers.fourth.opening c.args.offers.fourth.items c.in-Ok-seats_of-3.seats.items c.in-Ok-seats_of-3.ensures.ok ∙ (c.requires.count4 ∙ sym one);
     }

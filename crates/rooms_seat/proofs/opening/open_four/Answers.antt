@@ -9,12 +9,12 @@ open_four-requires c =
     let second = c.opening_of-opening2.ensures in
     let third = c.opening_of-opening3.ensures in
     let fourth = c.opening_of-opening4.ensures in
-    let one = ap (λ (o : Opening). o.count) first.same in
+    let one = ap (λ (o : Opening). o.quorums.nodes) first.same in
     record {
       can = four_open c.opening_of-opening1.result c.opening_of-opening2.result c.opening_of-opening3.result c.opening_of-opening4.result first.can second.can third.can fourth.can
-          (ap (λ (o : Opening). o.count) second.same ∙ (c.requires.count.second ∙ sym one))
-          (ap (λ (o : Opening). o.count) third.same ∙ (c.requires.count.third ∙ sym one))
-          (ap (λ (o : Opening). o.count) fourth.same ∙ (c.requires.count.fourth ∙ sym one));
+          (ap (λ (o : Opening). o.quorums.nodes) second.same ∙ sym one)
+          (ap (λ (o : Opening). o.quorums.nodes) third.same ∙ sym one)
+          (ap (λ (o : Opening). o.quorums.nodes) fourth.same ∙ sym one);
       rooms = refl;
-      some = subst (λ (o : Opening). 0 < o.count) (sym first.same) (some_node c.requires.size);
+      some = subst (λ (o : Opening). 0 < o.quorums.nodes) (sym first.same) (some_node c.args.quorums first.sizes);
     }

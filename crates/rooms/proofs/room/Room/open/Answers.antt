@@ -3,7 +3,7 @@ use Rattle.rooms.proofs.room.Room.open.Goals as goal
 
 pub returns-clause-ok : goal.returns-clause-ok
 returns-clause-ok g c =
-    opened_all (λ v. v.items) c.args.kept.now c.args.offers.items c.in-Ok.dealer c.seats_of.result c.in-Ok.ensures.opening c.seats_of.ensures.ok
+    opened_all (λ v. v.items) c.args.quorums c.args.kept.now c.args.offers.items c.in-Ok.dealer c.seats_of.result c.in-Ok.ensures.opening c.seats_of.ensures.ok
 
 pub returns-clause-unsettled : goal.returns-clause-unsettled
 returns-clause-unsettled g c = (λ bad. absurd (c.seats_of.ensures.settled bad), λ no. absurd (no (c.settled.ensures.0 c.if-not-settled.false)))

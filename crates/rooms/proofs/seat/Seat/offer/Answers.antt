@@ -1,4 +1,4 @@
-use Rattle.std.proofs.Common.{◌≡◌, ℕ, ◌<◌, ◌≤◌, true, false, ◌∙◌, ap, sym, arith}
+use Rattle.std.proofs.Common.{◌≡◌, ◌<◌, ◌≤◌, true, false, ◌∙◌, ap, sym, arith}
 use Rattle.std.specs.Arc.{arc_value}
 use Rattle.paxos_core_world.specs.KeptPart.{KeptPart}
 use Rattle.rooms_seat.specs.SeatState.{SeatState}
@@ -9,8 +9,8 @@ pub returns-in-Yes : goal.returns-in-Yes
 returns-in-Yes g c =
     let unoffered : c.self.inside.words.node.kept.offered ≡ false = sym (c.offered.ensures ∙ ap (λ (k : KeptPart). k.offered) c.kept.ensures) ∙ c.if-offered.false in
     let at : c.from-me.result ≡ c.self.inside.words.node.me = c.from-me.ensures ∙ c.me.ensures.value in
-    let number : c.me.result < c.self.inside.words.node.count = c.me.ensures.below in
-    let most : c.self.inside.words.node.count ≤ 7 = c.bounds.ensures.most in
+    let number : c.me.result < c.self.inside.words.node.quorums.nodes = c.me.ensures.below in
+    let most : c.self.inside.words.node.quorums.nodes ≤ 7 = c.bounds.ensures.most in
     let same : c.from-me.result ≡ c.me.result = c.from-me.ensures in
     rw (← c.self.view_is)
     record {

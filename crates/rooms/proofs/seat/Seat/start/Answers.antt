@@ -11,4 +11,4 @@ returns-clause-spent g c = rw (← c.self.view_is) (spent_told _ c.self.inside.w
 pub returns-clause-acted : goal.returns-clause-acted
 returns-clause-acted g c =
     rw (← c.self.view_is)
-    (acted_start c.self.inside.words c.start.new.self c.start.result c.bounds.ensures.number c.start.ensures.ok c.start.ensures.spent c.start.ensures.err)
+    (acted_start c.self.inside.words c.start.new.self c.start.result c.bounds.ensures.sizes c.bounds.ensures.number c.start.ensures.ok c.start.ensures.spent c.start.ensures.err)

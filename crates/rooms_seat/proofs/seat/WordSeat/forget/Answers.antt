@@ -9,7 +9,7 @@ pub load-proposer-requires : goal.load-proposer-requires
 load-proposer-requires c =
     let sound = c.self.invariant.sound in
     let at : c.from-place.result ≡ c.self.inside.node.me = c.from-place.ensures ∙ c.me.ensures.value in
-    let mine : c.from-place.result < c.self.inside.node.count = rw at (subst (λ (i : ℕ). i < c.self.inside.node.count) c.me.ensures.value c.me.ensures.below) in
+    let mine : c.from-place.result < c.self.inside.node.quorums.nodes = rw at (subst (λ (i : ℕ). i < c.self.inside.node.quorums.nodes) c.me.ensures.value c.me.ensures.below) in
     record {
       seated = sound.seated;
       words = sound.words;
@@ -22,7 +22,7 @@ load-acceptor-requires c =
     let found = c.load-proposer.ensures in
     let sound = forgot_sound _ c.self.invariant.sound c.load-proposer.new.self.at found.at c.load-proposer.new.self.me.0 found.told.forgot in
     let at : c.from-place.result ≡ c.self.inside.node.me = c.from-place.ensures ∙ c.me.ensures.value in
-    let mine : c.from-place.result < c.self.inside.node.count = rw at (subst (λ (i : ℕ). i < c.self.inside.node.count) c.me.ensures.value c.me.ensures.below) in
+    let mine : c.from-place.result < c.self.inside.node.quorums.nodes = rw at (subst (λ (i : ℕ). i < c.self.inside.node.quorums.nodes) c.me.ensures.value c.me.ensures.below) in
     record {
       seated = sound.seated;
       words = sound.words;
@@ -51,7 +51,7 @@ returns-clause-found c =
     let first = c.load-proposer.ensures in
     let second = c.load-acceptor.ensures in
     let at : c.from-place.result ≡ c.self.inside.node.me = c.from-place.ensures ∙ c.me.ensures.value in
-    let mine : c.from-place.result < c.self.inside.node.count = rw at (subst (λ (i : ℕ). i < c.self.inside.node.count) c.me.ensures.value c.me.ensures.below) in
+    let mine : c.from-place.result < c.self.inside.node.quorums.nodes = rw at (subst (λ (i : ℕ). i < c.self.inside.node.quorums.nodes) c.me.ensures.value c.me.ensures.below) in
     rw (← c.self.view_is)
     (found_own _ c.self.invariant.sound c.load-proposer.new.self.at c.load-acceptor.new.self.at first.at second.at c.load-proposer.new.self.me.0 c.load-acceptor.new.self.me.0 c.from-place.result at mine
     c.load-proposer.result c.load-acceptor.result first.told second.told c.unpack.result c.unpack-2.result c.unpack.ensures.started c.unpack.ensures.proposed c.unpack-2.ensures.promised c.unpack-2.ensures.accepted)

@@ -1,4 +1,5 @@
-use Rattle.std.proofs.Common.{ℕ, ◌<◌, sym, subst, refl}
+use Rattle.std.proofs.Common.{ℕ, ◌<◌, sym, ap, subst, refl}
+use Rattle.paxos_core_world.specs.Quorum.{Sizes}
 use Rattle.rooms_state.proofs.Looks.{looks_at_acceptor}
 use Rattle.rooms_state.specs.SeatState.{SeatState}
 use Rattle.rooms_met.proofs.Sweeps.{acceptor_again, acceptor_noted}
@@ -8,51 +9,51 @@ use Rattle.rooms_seat.proofs.seat.WordSeat.look_acceptor.Goals as goal
 pub load-found-requires : goal.load-found-requires
 load-found-requires c =
     let sound = c.self.invariant.sound in
-    let low : c.from-place.result < c.self.inside.node.count =
-    rw c.from-place.ensures (subst (λ (s : SeatState). c.args.j < s.node.count) (sym c.self.view_is) c.requires) in
+    let low : c.from-place.result < c.self.inside.node.quorums.nodes =
+    rw c.from-place.ensures (subst (λ (s : SeatState). c.args.j < s.node.quorums.nodes) (sym c.self.view_is) c.requires) in
     record {
       seated = sound.seated;
       words = sound.words;
       below = (word_below _ sound c.from-place.result low).1;
-      allowed = λ o. looks_at_acceptor o _ _ c.self.inside.rights.me c.from-place.result (subst (λ (n : ℕ). c.from-place.result < n) sound.count low) sound.seated;
+      allowed = λ o. looks_at_acceptor o _ _ c.self.inside.rights.me c.from-place.result (subst (λ (n : ℕ). c.from-place.result < n) (ap (λ (q : Sizes). q.nodes) sound.quorums) low) sound.seated;
     }
 
 pub invariant_of-self : goal.invariant_of-self
 invariant_of-self c =
     let kept = c.self.invariant in
-    let low : c.from-place.result < c.self.inside.node.count =
-    rw c.from-place.ensures (subst (λ (s : SeatState). c.args.j < s.node.count) (sym c.self.view_is) c.requires) in
+    let low : c.from-place.result < c.self.inside.node.quorums.nodes =
+    rw c.from-place.ensures (subst (λ (s : SeatState). c.args.j < s.node.quorums.nodes) (sym c.self.view_is) c.requires) in
     let found = c.load-found.ensures in
     (acceptor_again c.self.inside.rights.at c.self.inside.proposed c.self.inside.heard c.self.inside.rights.me.0 c.self.inside.node c.self.inside.seen kept c.from-place.result c.args.j c.load-found.result c.from-place.ensures low c.if-j-self.true
-    c.unpack-word.result c.unpack-word.ensures.promised c.unpack-word.ensures.accepted c.load-found.new.self.at found.at c.load-found.new.self.me.0 (found.told c.from-place.result refl (subst (λ (n : ℕ). c.from-place.result < n) kept.sound.count low)) c.if-found-self.true).0
+    c.unpack-word.result c.unpack-word.ensures.promised c.unpack-word.ensures.accepted c.load-found.new.self.at found.at c.load-found.new.self.me.0 (found.told c.from-place.result refl (subst (λ (n : ℕ). c.from-place.result < n) (ap (λ (q : Sizes). q.nodes) kept.sound.quorums) low)) c.if-found-self.true).0
 
 pub returns-then-found-self : goal.returns-then-found-self
 returns-then-found-self c =
     let kept = c.self.invariant in
-    let low : c.from-place.result < c.self.inside.node.count =
-    rw c.from-place.ensures (subst (λ (s : SeatState). c.args.j < s.node.count) (sym c.self.view_is) c.requires) in
+    let low : c.from-place.result < c.self.inside.node.quorums.nodes =
+    rw c.from-place.ensures (subst (λ (s : SeatState). c.args.j < s.node.quorums.nodes) (sym c.self.view_is) c.requires) in
     let found = c.load-found.ensures in
     rw (← c.self.view_is)
     (acceptor_again c.self.inside.rights.at c.self.inside.proposed c.self.inside.heard c.self.inside.rights.me.0 c.self.inside.node c.self.inside.seen kept c.from-place.result c.args.j c.load-found.result c.from-place.ensures low c.if-j-self.true
-    c.unpack-word.result c.unpack-word.ensures.promised c.unpack-word.ensures.accepted c.load-found.new.self.at found.at c.load-found.new.self.me.0 (found.told c.from-place.result refl (subst (λ (n : ℕ). c.from-place.result < n) kept.sound.count low)) c.if-found-self.true).1
+    c.unpack-word.result c.unpack-word.ensures.promised c.unpack-word.ensures.accepted c.load-found.new.self.at found.at c.load-found.new.self.me.0 (found.told c.from-place.result refl (subst (λ (n : ℕ). c.from-place.result < n) (ap (λ (q : Sizes). q.nodes) kept.sound.quorums) low)) c.if-found-self.true).1
 
 pub invariant_of-self-2 : goal.invariant_of-self-2
 invariant_of-self-2 c =
     let kept = c.self.invariant in
-    let low : c.from-place.result < c.self.inside.node.count =
-    rw c.from-place.ensures (subst (λ (s : SeatState). c.args.j < s.node.count) (sym c.self.view_is) c.requires) in
+    let low : c.from-place.result < c.self.inside.node.quorums.nodes =
+    rw c.from-place.ensures (subst (λ (s : SeatState). c.args.j < s.node.quorums.nodes) (sym c.self.view_is) c.requires) in
     let found = c.load-found.ensures in
     (acceptor_noted c.self.inside.rights.at c.self.inside.proposed c.self.inside.heard c.heard_with-self-inside.result c.self.inside.rights.me.0 c.self.inside.node c.self.inside.seen kept c.from-place.result c.args.j c.load-found.result c.from-place.ensures low
-    c.unpack-word.result c.unpack-word.ensures.promised c.unpack-word.ensures.accepted c.load-found.new.self.at found.at c.load-found.new.self.me.0 (found.told c.from-place.result refl (subst (λ (n : ℕ). c.from-place.result < n) kept.sound.count low))
+    c.unpack-word.result c.unpack-word.ensures.promised c.unpack-word.ensures.accepted c.load-found.new.self.at found.at c.load-found.new.self.me.0 (found.told c.from-place.result refl (subst (λ (n : ℕ). c.from-place.result < n) (ap (λ (q : Sizes). q.nodes) kept.sound.quorums) low))
     c.note.new.node c.note.ensures.node c.note.new.seen c.note.ensures.seen c.heard_with-self-inside.ensures).0
 
 pub returns : goal.returns
 returns c =
     let kept = c.self.invariant in
-    let low : c.from-place.result < c.self.inside.node.count =
-    rw c.from-place.ensures (subst (λ (s : SeatState). c.args.j < s.node.count) (sym c.self.view_is) c.requires) in
+    let low : c.from-place.result < c.self.inside.node.quorums.nodes =
+    rw c.from-place.ensures (subst (λ (s : SeatState). c.args.j < s.node.quorums.nodes) (sym c.self.view_is) c.requires) in
     let found = c.load-found.ensures in
     rw (← c.self.view_is)
     (acceptor_noted c.self.inside.rights.at c.self.inside.proposed c.self.inside.heard c.heard_with-self-inside.result c.self.inside.rights.me.0 c.self.inside.node c.self.inside.seen kept c.from-place.result c.args.j c.load-found.result c.from-place.ensures low
-    c.unpack-word.result c.unpack-word.ensures.promised c.unpack-word.ensures.accepted c.load-found.new.self.at found.at c.load-found.new.self.me.0 (found.told c.from-place.result refl (subst (λ (n : ℕ). c.from-place.result < n) kept.sound.count low))
+    c.unpack-word.result c.unpack-word.ensures.promised c.unpack-word.ensures.accepted c.load-found.new.self.at found.at c.load-found.new.self.me.0 (found.told c.from-place.result refl (subst (λ (n : ℕ). c.from-place.result < n) (ap (λ (q : Sizes). q.nodes) kept.sound.quorums) low))
     c.note.new.node c.note.ensures.node c.note.new.seen c.note.ensures.seen c.heard_with-self-inside.ensures).1

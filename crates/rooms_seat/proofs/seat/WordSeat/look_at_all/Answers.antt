@@ -1,5 +1,10 @@
-use Rattle.rooms_met.proofs.Meetings.{on_all}
+use Rattle.std.proofs.Common.{ℕ, ap, subst}
+use Rattle.paxos_core_world.specs.Quorum.{Sizes}
+use Rattle.rooms_met.specs.Met.{LookedAtFirst}
 use Rattle.rooms_seat.proofs.seat.WordSeat.look_at_all.Goals as goal
 
 pub returns-in-Some : goal.returns-in-Some
-returns-in-Some c = on_all c.in-Some.first c.args.self.now c.sweep.new.self c.look_from.new.self c.in-Some.ensures.from c.look_from.ensures.none c.look_from.ensures.some
+returns-in-Some c =
+    let before = c.in-Some.ensures.from in
+    subst (λ (n : ℕ). LookedAtFirst n c.args.self.now c.look_from.new.self) (ap (λ (q : Sizes). q.nodes) before.same)
+    (c.look_from.ensures c.args.self.now before.looked)

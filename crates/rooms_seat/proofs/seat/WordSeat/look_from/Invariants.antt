@@ -1,11 +1,11 @@
-use Rattle.std.proofs.Common.{◌≡◌, ◌<◌}
-use Rattle.rooms_met.specs.Met.{LookedOn}
+use Rattle.std.proofs.Common.{◌≡◌}
+use Rattle.rooms_met.specs.Met.{LookedAtFirst}
+use Rattle.rooms_state.specs.SeatState.{SeatState}
 use Rattle.rooms_seat.proofs.seat.WordSeat.look_from.Given as goal
 
 abbrev pub invariant-loop-j : goal.invariant-loop-j
 invariant-loop-j l =
     record {
-      start : l.j ≡ l.first → l.self ≡ l.initial.self;
-      on : l.first < l.j → LookedOn l.initial.self l.self;
-      count : l.self.node.count ≡ l.initial.self.node.count;
+      on : (start : SeatState) → LookedAtFirst l.first start l.initial.self → LookedAtFirst l.j start l.self;
+      same : l.self.node.quorums ≡ l.initial.self.node.quorums;
     }

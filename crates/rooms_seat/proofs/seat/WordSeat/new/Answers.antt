@@ -3,7 +3,7 @@ use Rattle.paxos_core_world.specs.KeptPart.{KeptPart, nothing_kept}
 use Rattle.rooms_state.specs.SeatState.{SeatState, opened_acceptor, opened_proposer}
 use Rattle.rooms_met.specs.Seen.{acceptor_shown, proposer_shown, IsKept}
 use Rattle.rooms_met.proofs.Sweeps.{none_heard}
-use Rattle.rooms_state.proofs.Opened.{opened_sound, room_size, seven}
+use Rattle.rooms_state.proofs.Opened.{opened_sound, seven}
 use Rattle.rooms_seat.proofs.Starting.{image_at, is_opened, kept_at, kept_fits}
 use Rattle.rooms_seat.proofs.seat.WordSeat.new.Goals as goal
 
@@ -11,8 +11,8 @@ pub returns : goal.returns
 returns c =
     let kept : List KeptPart = c.args.opening.now.kept in
     let size : length kept ≡ 7 = c.requires.opening.row in
-    let most : c.args.opening.now.count ≤ 7 = room_size c.args.opening.now.count c.requires.opening.size in
-    let number : c.args.me < c.args.opening.now.count = c.requires.number in
+    let most : c.args.opening.now.quorums.nodes ≤ 7 = c.requires.opening.sizes.most in
+    let number : c.args.me < c.args.opening.now.quorums.nodes = c.requires.number in
     let proposers : _ ≡ map opened_proposer kept =
     (λ j. (image_at opened_proposer kept 0 c.index-kept-0.result nothing_kept (proposer_shown c.opened_words.result) (omega arith) c.opened_words.ensures.proposer) j
     ∷ (image_at opened_proposer kept 1 c.index-kept-1.result nothing_kept (proposer_shown c.opened_words-2.result) (omega arith) c.opened_words-2.ensures.proposer) j

@@ -29,11 +29,11 @@ pack-requires c =
 pub store-requires : goal.store-requires
 store-requires c =
     let sound = c.self.invariant.sound in
-    let low : c.args.j < c.self.inside.node.count = subst (λ (s : SeatState). c.args.j < s.node.count) (sym c.self.view_is) c.requires in
+    let low : c.args.j < c.self.inside.node.quorums.nodes = subst (λ (s : SeatState). c.args.j < s.node.quorums.nodes) (sym c.self.view_is) c.requires in
     let seen = c.last_seen.ensures ∙ sym (ap (λ (s : SeatState). proposer_of s c.args.j) c.self.view_is) in
     let told = rw seen at c.in_ok-ballot.ensures in
     let at : c.from-place.result ≡ c.self.inside.node.me = c.from-place.ensures ∙ c.me.ensures.value in
-    let mine : c.from-place.result < c.self.inside.node.count = rw at (subst (λ (i : ℕ). i < c.self.inside.node.count) c.me.ensures.value c.me.ensures.below) in
+    let mine : c.from-place.result < c.self.inside.node.quorums.nodes = rw at (subst (λ (i : ℕ). i < c.self.inside.node.quorums.nodes) c.me.ensures.value c.me.ensures.below) in
     let is : c.accepted.result ≡ c.self.inside.node.kept.accepted = c.accepted.ensures.value ∙ ap (λ (k : KeptPart). k.accepted) c.kept.ensures in
     record {
       seated = sound.seated;

@@ -18,7 +18,7 @@ pub store-requires : goal.store-requires
 store-requires c =
     let sound = c.self.invariant.sound in
     let at : c.from-place.result ≡ c.self.inside.node.me = c.from-place.ensures ∙ c.me.ensures.value in
-    let mine : c.from-place.result < c.self.inside.node.count = rw at (subst (λ (i : ℕ). i < c.self.inside.node.count) c.me.ensures.value c.me.ensures.below) in
+    let mine : c.from-place.result < c.self.inside.node.quorums.nodes = rw at (subst (λ (i : ℕ). i < c.self.inside.node.quorums.nodes) c.me.ensures.value c.me.ensures.below) in
     let is : c.started.result ≡ c.self.inside.node.kept.started = c.started.ensures ∙ ap (λ (k : KeptPart). k.started) c.kept.ensures in
     record {
       seated = sound.seated;

@@ -12,7 +12,7 @@ pub store-requires : goal.store-requires
 store-requires c =
     let sound = c.self.invariant.sound in
     let at : c.from-place.result ≡ c.self.inside.node.me = c.from-place.ensures ∙ c.me.ensures.value in
-    let mine : c.from-place.result < c.self.inside.node.count = rw at (subst (λ (i : ℕ). i < c.self.inside.node.count) c.me.ensures.value c.me.ensures.below) in
+    let mine : c.from-place.result < c.self.inside.node.quorums.nodes = rw at (subst (λ (i : ℕ). i < c.self.inside.node.quorums.nodes) c.me.ensures.value c.me.ensures.below) in
     let spent : 65535 < next_ballot c.self.inside.node → ⊥ = λ h. let bad : false ≡ true = c.in-Ok.ensures.spent.1 h in cc in
     let is : c.started-started.result ≡ next_ballot c.self.inside.node =
     c.started-started.ensures ∙ (ap (λ (k : KeptPart). k.started) c.kept.ensures ∙ ap (λ (s : NodeState). s.kept.started) c.in-Ok.ensures.ok.1) in

@@ -1,9 +1,8 @@
-use Rattle.std.proofs.Common.{◌≡◌, ℕ, ◌<◌, ◌≤◌, set, sym, ap, ◌∙◌, subst, arith}
-use Rattle.rooms_met.specs.Met.{LookedOn}
+use Rattle.std.proofs.Common.{◌≡◌, ℕ, suc, ◌+◌, ◌<◌, ◌≤◌, set, sym, ap, ◌∙◌, subst, arith}
+use Rattle.rooms_met.specs.Met.{LookedAtFirst}
 use Rattle.rooms_met.specs.Seen.{with_acceptor, IsKept}
-use Rattle.rooms_met.proofs.Openings.{some_node}
+use Rattle.rooms_met.proofs.Looked.{same_quorums}
 use Rattle.rooms_met.proofs.Sweeps.{all_swept, seat_of, swept_until}
-use Rattle.rooms_met.specs.NodeState.{IsRoomSize}
 use Rattle.rooms_met.specs.RoomAt.{RoomAt}
 use Rattle.rooms_met.specs.Sweep.{StoppedAt, Swept}
 use Rattle.rooms_met.specs.SeenWords.{SeenWords}
@@ -12,7 +11,7 @@ use Rattle.rooms_seat.proofs.seat.WordSeat.sweep.Goals as goal
 pub invariant_of-self : goal.invariant_of-self
 invariant_of-self c =
     let heard : c.count-count.result ≤ c.self.inside.heard = c.if-self-count.false in
-    let whole : c.self.inside.node.count ≤ c.self.inside.heard = subst (λ (n : ℕ). n ≤ c.self.inside.heard) c.count-count.ensures.value heard in
+    let whole : c.self.inside.node.quorums.nodes ≤ c.self.inside.heard = subst (λ (n : ℕ). n ≤ c.self.inside.heard) c.count-count.ensures.value heard in
     let told = subst (λ (n : ℕ). Swept n c.self.inside.rights.me.0 c.self.inside.seen c.sweep.new.self.me.0 c.sweep.new.seen) c.count-count.ensures.value c.in_err-j.ensures.told in
     let all = all_swept c.self.inside.rights.at c.self.inside.proposed c.self.inside.heard c.self.inside.rights.me.0 c.self.inside.node c.self.inside.seen c.self.invariant whole c.sweep.new.self.me.0 c.sweep.new.seen told in
     subst (λ (u : RoomAt). IsKept c.self.inside.heard (seat_of u c.sweep.new.self.me.0 c.self.inside.node c.self.inside.proposed c.sweep.new.seen)) (sym c.sweep.ensures.at) all.0
@@ -20,17 +19,16 @@ invariant_of-self c =
 pub returns-in_err-j-clause-all : goal.returns-in_err-j-clause-all
 returns-in_err-j-clause-all c = λ _.
     let heard : c.count-count.result ≤ c.self.inside.heard = c.if-self-count.false in
-    let whole : c.self.inside.node.count ≤ c.self.inside.heard = subst (λ (n : ℕ). n ≤ c.self.inside.heard) c.count-count.ensures.value heard in
+    let whole : c.self.inside.node.quorums.nodes ≤ c.self.inside.heard = subst (λ (n : ℕ). n ≤ c.self.inside.heard) c.count-count.ensures.value heard in
     let told = subst (λ (n : ℕ). Swept n c.self.inside.rights.me.0 c.self.inside.seen c.sweep.new.self.me.0 c.sweep.new.seen) c.count-count.ensures.value c.in_err-j.ensures.told in
     let all = all_swept c.self.inside.rights.at c.self.inside.proposed c.self.inside.heard c.self.inside.rights.me.0 c.self.inside.node c.self.inside.seen c.self.invariant whole c.sweep.new.self.me.0 c.sweep.new.seen told in
-    let some : 0 < c.self.inside.node.count = some_node (subst (λ (n : ℕ). IsRoomSize n) c.count-count.ensures.value c.count-count.ensures.size) in
     rw (← c.self.view_is)
-    (subst (λ (u : RoomAt). LookedOn (seat_of c.self.inside.rights.at c.self.inside.rights.me.0 c.self.inside.node c.self.inside.proposed c.self.inside.seen) (seat_of u c.sweep.new.self.me.0 c.self.inside.node c.self.inside.proposed c.sweep.new.seen)) (sym c.sweep.ensures.at) (all.1 some))
+    (subst (λ (u : RoomAt). LookedAtFirst c.self.inside.node.quorums.nodes (seat_of c.self.inside.rights.at c.self.inside.rights.me.0 c.self.inside.node c.self.inside.proposed c.self.inside.seen) (seat_of u c.sweep.new.self.me.0 c.self.inside.node c.self.inside.proposed c.sweep.new.seen)) (sym c.sweep.ensures.at) all.1)
 
 pub invariant_of-self-2 : goal.invariant_of-self-2
 invariant_of-self-2 c =
     let heard : c.count-count.result ≤ c.self.inside.heard = c.if-self-count.false in
-    let whole : c.self.inside.node.count ≤ c.self.inside.heard = subst (λ (n : ℕ). n ≤ c.self.inside.heard) c.count-count.ensures.value heard in
+    let whole : c.self.inside.node.quorums.nodes ≤ c.self.inside.heard = subst (λ (n : ℕ). n ≤ c.self.inside.heard) c.count-count.ensures.value heard in
     let told = subst (λ (n : ℕ). StoppedAt c.in_ok-j.j c.in_ok-j.found n c.self.inside.rights.me.0 c.self.inside.seen c.sweep.new.self.me.0 c.sweep.new.seen) c.count-count.ensures.value c.in_ok-j.ensures.told in
     let put = ap (λ (y : SeenWords). set c.sweep.new.seen c.from.result y) c.note.ensures.seen ∙ ap (λ (i : ℕ). with_acceptor c.sweep.new.seen i c.in_ok-j.found) c.from.ensures in
     let until = swept_until c.self.inside.rights.at c.self.inside.proposed c.self.inside.heard c.self.inside.rights.me.0 c.self.inside.node c.self.inside.seen c.self.invariant whole c.in_ok-j.j c.in_ok-j.found c.sweep.new.self.me.0 c.sweep.new.seen told c.note.new.node c.note.ensures.node (set c.sweep.new.seen c.from.result c.note.new.seen) put in
@@ -39,16 +37,16 @@ invariant_of-self-2 c =
 pub returns-clause-from : goal.returns-clause-from
 returns-clause-from c =
     let heard : c.count-count.result ≤ c.self.inside.heard = c.if-self-count.false in
-    let whole : c.self.inside.node.count ≤ c.self.inside.heard = subst (λ (n : ℕ). n ≤ c.self.inside.heard) c.count-count.ensures.value heard in
+    let whole : c.self.inside.node.quorums.nodes ≤ c.self.inside.heard = subst (λ (n : ℕ). n ≤ c.self.inside.heard) c.count-count.ensures.value heard in
     let told = subst (λ (n : ℕ). StoppedAt c.in_ok-j.j c.in_ok-j.found n c.self.inside.rights.me.0 c.self.inside.seen c.sweep.new.self.me.0 c.sweep.new.seen) c.count-count.ensures.value c.in_ok-j.ensures.told in
     let put = ap (λ (y : SeenWords). set c.sweep.new.seen c.from.result y) c.note.ensures.seen ∙ ap (λ (i : ℕ). with_acceptor c.sweep.new.seen i c.in_ok-j.found) c.from.ensures in
     let until = swept_until c.self.inside.rights.at c.self.inside.proposed c.self.inside.heard c.self.inside.rights.me.0 c.self.inside.node c.self.inside.seen c.self.invariant whole c.in_ok-j.j c.in_ok-j.found c.sweep.new.self.me.0 c.sweep.new.seen told c.note.new.node c.note.ensures.node (set c.sweep.new.seen c.from.result c.note.new.seen) put in
-    let on = subst (λ (u : RoomAt). LookedOn (seat_of c.self.inside.rights.at c.self.inside.rights.me.0 c.self.inside.node c.self.inside.proposed c.self.inside.seen) (seat_of u c.sweep.new.self.me.0 c.note.new.node c.self.inside.proposed (set c.sweep.new.seen c.from.result c.note.new.seen))) (sym c.sweep.ensures.at) until.1 in
-    let count : c.note.new.node.count ≡ c.self.inside.node.count = on.count in
-    let below : c.in_ok-j.j < c.self.inside.node.count = told.node in
-    record {
-      nodes = omega arith;
+    let e : suc c.in_ok-j.j ≡ c.in_ok-j.j + 1 = omega arith in
+    let on = subst (λ (n : ℕ). LookedAtFirst n (seat_of c.self.inside.rights.at c.self.inside.rights.me.0 c.self.inside.node c.self.inside.proposed c.self.inside.seen) (seat_of c.sweep.new.self.at c.sweep.new.self.me.0 c.note.new.node c.self.inside.proposed (set c.sweep.new.seen c.from.result c.note.new.seen))) e
+    (subst (λ (u : RoomAt). LookedAtFirst (suc c.in_ok-j.j) (seat_of c.self.inside.rights.at c.self.inside.rights.me.0 c.self.inside.node c.self.inside.proposed c.self.inside.seen) (seat_of u c.sweep.new.self.me.0 c.note.new.node c.self.inside.proposed (set c.sweep.new.seen c.from.result c.note.new.seen))) (sym c.sweep.ensures.at) until.1) in
+    let below : c.in_ok-j.j < c.self.inside.node.quorums.nodes = told.node in
+    rw (← c.self.view_is) record {
       within = omega arith;
-      none = λ e. absurd (omega arith);
-      some = λ lt. rw (← c.self.view_is) on;
+      same = same_quorums _ _ _ on;
+      looked = on;
     }
