@@ -1,6 +1,7 @@
 pub mod Numbers
 pub mod Prepared
 pub mod Refused
+pub use Rattle.paxos_core_world.specs.Quorum
 pub use Rattle.farm_nodes_opened.specs.declared.fault.OpenFault
 pub use Rattle.farm_nodes_opened.specs.Back
 pub use Rattle.farm_nodes_opened.specs.Opened

@@ -2,6 +2,7 @@
 use Rattle.std.specs.Prelude.{◌≡◌, ◌⊎◌, ℕ, List, length}
 use Rattle.std.specs.Arc.{arc_value}
 use Rattle.durable_model.specs.declared.disk.Disk as disks
+use Rattle.paxos_core_world.specs.Quorum.{Sizes}
 use Rattle.acceptor_log_form.specs.declared.errors.LogError.{LogError}
 use Rattle.acceptor_log_form.specs.declared.errors.LogError.TheVariants.{BadRecord}
 use Rattle.farm_nodes_source.specs.declared.source.Source.{Source}
@@ -13,22 +14,22 @@ use Rattle.farm_nodes_opened.specs.declared.fault.OpenFault.{OpenFault}
 use Rattle.farm_nodes_opened.specs.declared.fault.OpenFault.TheVariants.{Journal, Refused, Room}
 use Rattle.farm_nodes.specs.Prepared.{IsSourceOf}
 
--- what is compiled is this; the first fault of what stands on the disks
-pub record AreRefusedOver {D : Type 0} (disk : disks.Ghosts D) (source : Source) (given back : List D) (fault : OpenFault) : Type 0 where
+-- what is compiled is this, with quorums of these sizes; the first fault of what stands on the disks
+pub record AreRefusedOver {D : Type 0} (disk : disks.Ghosts D) (q : Sizes) (source : Source) (given back : List D) (fault : OpenFault) : Type 0 where
   -- all disks come back
-  pub returned : AreMade (IsBack disk (length given) source.digest) given (length given) back
+  pub returned : AreMade (IsBack disk q source.digest) given (length given) back
   -- a journal is refused, or its records are
-  pub journal : (node : ℕ) (told : LogError) → fault ≡ Journal node told → IsRefusedJournal disk (length given) source.digest given node told
-      ⊎ ((told ≡ BadRecord) × OfJournals disk (length given) source.digest given
+  pub journal : (node : ℕ) (told : LogError) → fault ≡ Journal node told → IsRefusedJournal disk q source.digest given node told
+      ⊎ ((told ≡ BadRecord) × OfJournals disk q source.digest given
       (λ journals. HasBadRecord (length (arc_value source.translated).functions) journals node))
   -- an offer is refused by its pass
-  pub refused : (node : ℕ) → fault ≡ Refused node → OfJournals disk (length given) source.digest given
+  pub refused : (node : ℕ) → fault ≡ Refused node → OfJournals disk q source.digest given
       (λ journals. HasRefusedOffer (length (arc_value source.translated).functions) journals node)
   -- a room is not opened
-  pub unopened : (room : ℕ) (told : RoomFault) → fault ≡ Room room told → OfJournals disk (length given) source.digest given
-      (λ journals. IsUnopened (length (arc_value source.translated).functions) journals room told)
+  pub unopened : (room : ℕ) (told : RoomFault) → fault ≡ Room room told → OfJournals disk q source.digest given
+      (λ journals. IsUnopened (length (arc_value source.translated).functions) journals q room told)
 
-pub record AreRefused {D : Type 0} (disk : disks.Ghosts D) (text : List ℕ) (given back : List D) (fault : OpenFault) : Type 0 where
+pub record AreRefused {D : Type 0} (disk : disks.Ghosts D) (q : Sizes) (text : List ℕ) (given back : List D) (fault : OpenFault) : Type 0 where
   pub source : Source
   pub is : IsSourceOf text source
-  pub over : AreRefusedOver disk source given back fault
+  pub over : AreRefusedOver disk q source given back fault

@@ -1,7 +1,6 @@
 ghost use Rattle.std.specs.Prelude.{◌≡◌, ◌≤◌, None, All, length, map, IfOk, IfErr};
 ghost use Rattle.std.specs.Arc.{arc_value};
 ghost use Rattle.std.specs.List.{AllByRecursion};
-ghost use Rattle.paxos_core_law.specs.NodeState.{IsRoomSize};
 ghost use Rattle.farm_nodes_compiling.specs.Fours.{fours_of};
 ghost use Rattle.farm_nodes_opened.specs.Held.{IsSoundNode};
 ghost use Rattle.farm_nodes_opened.specs.Waiting.{IsWaiting};
@@ -18,6 +17,7 @@ use crate::error::FarmError;
 use durable_model::Disk;
 use farm_nodes_opened::{FarmNode, OpenFault, open_nodes};
 use farm_nodes_source::{Source, prepare};
+use paxos_core::Quorums;
 use rooms_hall::{Hall, Naming};
 use std::alloc::Global;
 use std::sync::Wait;
@@ -31,7 +31,7 @@ pub struct Farm<D, O, H: Naming> {
 }
 
 impl<D: Disk + Drop, O: Drop, H: Naming> Farm<D, O, H> {
-    /// The farm of a C text, with a node for each disk: each has the journal on its disk, which is created where the disk is empty, the
+    /// The farm of a C text with these quorums, and a node for each disk: each has the journal on its disk, which is created where the disk is empty, the
     /// seats that come from what stands there, its optimisers, and the generator of the seed and its number. The text comes first, then the
     /// journals in the order of the nodes (401 to 404), then what stands in them (403), then that the passes accept each offer, which as
     /// many threads as there are nodes check again (301), then the rooms in order (510, 511). The first fault is told, and all disks come
@@ -44,8 +44,9 @@ impl<D: Disk + Drop, O: Drop, H: Naming> Farm<D, O, H> {
         disks: Vec<D>,
         oracles: Vec<O>,
         seed: u64,
+        quorums: Quorums,
     ) -> Result<Farm<D, O, H>, (Vec<D>, FarmError)>
-        requires size { IsRoomSize (length disks.items) }
+        requires size { length disks.items ≡ quorums.nodes }
         requires oracles { length oracles.items ≡ length disks.items }
 
         // It compiles the program of the text. Each node has its share of the translation, its optimisers and its generator.
@@ -57,13 +58,13 @@ impl<D: Disk + Drop, O: Drop, H: Naming> Farm<D, O, H> {
             map (λ n. n.words) farm.nodes.items ≡ generators seed (length disks.items)) }
 
         // Each has the journal on its disk, and may be asked; none is stopped. The rooms open from what the journals have acknowledged.
-        ensures journals { IfOk result (λ farm. AreMade (IsJournalOn D.Disk (length disks.items) farm.source.digest)
+        ensures journals { IfOk result (λ farm. AreMade (IsJournalOn D.Disk quorums farm.source.digest)
             disks.items (length disks.items) (map (λ n. n.log) farm.nodes.items)) }
         ensures going { IfOk result (λ farm. All (λ n. n.halted ≡ None) farm.nodes.items) }
         ensures fit { IfOk result (λ farm. AllByRecursion (λ n.
             IsSoundNode D.is_honest D.seen D.may_leave n.log (fours_of n.seats.items) n.halted
             × IsWaiting n.seats.items n.halted) farm.nodes.items) }
-        ensures rooms { IfOk result (λ farm. AreOpenFrom D.is_honest D.seen
+        ensures rooms { IfOk result (λ farm. AreOpenFrom D.is_honest D.seen quorums
             (length (arc_value farm.source.translated).functions)
             (map (λ n. n.log) farm.nodes.items) (map (λ n. n.seats.items) farm.nodes.items)) }
 
@@ -73,13 +74,13 @@ impl<D: Disk + Drop, O: Drop, H: Naming> Farm<D, O, H> {
 
         // What is refused of the disks is refused over the source of the text, and all of them come back.
         ensures refused { IfErr result (λ it. (fault : OpenFault) → it.1 ≡ FarmError.Disks fault →
-            AreRefused D.Disk text.now disks.items it.0.items fault) }
+            AreRefused D.Disk quorums text.now disks.items it.0.items fault) }
     {
         let source = match prepare(alloc, text) {
             Ok(source) => source,
             Err(fault) => return Err((disks, FarmError::Source(fault))),
         };
-        match Farm::over(rt, alloc, hall, source, disks, oracles, seed) {
+        match Farm::over(rt, alloc, hall, source, disks, oracles, seed, quorums) {
             Ok(farm) => Ok(farm),
             Err((disks, fault)) => Err((disks, FarmError::Disks(fault))),
         }
@@ -94,8 +95,9 @@ impl<D: Disk + Drop, O: Drop, H: Naming> Farm<D, O, H> {
         disks: Vec<D>,
         oracles: Vec<O>,
         seed: u64,
+        quorums: Quorums,
     ) -> Result<Farm<D, O, H>, (Vec<D>, OpenFault)>
-        requires size { IsRoomSize (length disks.items) }
+        requires size { length disks.items ≡ quorums.nodes }
         requires oracles { length oracles.items ≡ length disks.items }
         requires functions { length (arc_value source.translated).functions ≤ 64 }
 
@@ -108,20 +110,20 @@ impl<D: Disk + Drop, O: Drop, H: Naming> Farm<D, O, H> {
             map (λ n. n.words) farm.nodes.items ≡ generators seed (length disks.items)) }
 
         // Each has the journal on its disk, and may be asked; none is stopped. The rooms open from what the journals have acknowledged.
-        ensures journals { IfOk result (λ farm. AreMade (IsJournalOn D.Disk (length disks.items) farm.source.digest)
+        ensures journals { IfOk result (λ farm. AreMade (IsJournalOn D.Disk quorums farm.source.digest)
             disks.items (length disks.items) (map (λ n. n.log) farm.nodes.items)) }
         ensures going { IfOk result (λ farm. All (λ n. n.halted ≡ None) farm.nodes.items) }
         ensures fit { IfOk result (λ farm. AllByRecursion (λ n.
             IsSoundNode D.is_honest D.seen D.may_leave n.log (fours_of n.seats.items) n.halted
             × IsWaiting n.seats.items n.halted) farm.nodes.items) }
-        ensures rooms { IfOk result (λ farm. AreOpenFrom D.is_honest D.seen
+        ensures rooms { IfOk result (λ farm. AreOpenFrom D.is_honest D.seen quorums
             (length (arc_value farm.source.translated).functions)
             (map (λ n. n.log) farm.nodes.items) (map (λ n. n.seats.items) farm.nodes.items)) }
 
         // What is told is the first fault of the disks, and all of them come back.
-        ensures refused { IfErr result (λ it. AreRefusedOver D.Disk source disks.items it.0.items it.1) }
+        ensures refused { IfErr result (λ it. AreRefusedOver D.Disk quorums source disks.items it.0.items it.1) }
     {
-        let workers = disks.len();
+        let workers = usize::from(quorums.nodes());
         let opened = open_nodes(
             rt,
             alloc,
@@ -132,6 +134,7 @@ impl<D: Disk + Drop, O: Drop, H: Naming> Farm<D, O, H> {
             oracles,
             seed,
             workers,
+            quorums,
         );
         match opened {
             Ok(nodes) => Ok(Farm { source, nodes }),

@@ -15,4 +15,5 @@ pub use farm_nodes_opened::{FarmNode, Halted, OpenFault, RoomFault, Turn};
 pub use farm_nodes_returning::{RestartFault, own_disk, restart};
 pub use farm_nodes_source::{Source, SourceFault, prepare};
 pub use farm_nodes_threads::{RunError, run_threads};
+pub use paxos_core::Quorums;
 pub use rooms_hall::{Hall, Naming, Opened};

@@ -3,6 +3,7 @@ use Rattle.std.proofs.Common.{◌≡◌, ◌≢◌, ◌⊎◌, inl, inr, ℕ, �
 use Rattle.std.proofs.lemmas.Bool.{and_parts, ltb-true, ltb-false, le-ltb, leb-true, leb-false, lt-leb, le-leb, eq-eqb, eqb-true}
 use Rattle.paxos_core_world.specs.Ballot.{Owns}
 use Rattle.paxos_core_world.specs.KeptPart.{KeptPart, vote, with_vote, with_promise, IsWithinPromise}
+use Rattle.paxos_core_world.specs.Quorum.{Sizes}
 use Rattle.paxos_core_world.specs.Settled.{is_given}
 use Rattle.paxos_core_world.specs.declared.vote.Vote.{Vote}
 use Rattle.paxos_core_law.specs.Acceptor.{is_vote, promises, accepts, after_propose}
@@ -31,7 +32,7 @@ map_none f (Some x) e = absurd (cc)
 
 -- a vote that is not given now: it was given, it is none, or its ballot is below the promised one
 abbrev pub IsPast : NodeState → ℕ → ℕ → Type 0
-IsPast s b v = (s.kept.accepted ≡ Some (vote b v)) ⊎ (is_vote s.count (vote b v) ≡ false) ⊎ (b < s.kept.promised)
+IsPast s b v = (s.kept.accepted ≡ Some (vote b v)) ⊎ (is_vote s.quorums.nodes (vote b v) ≡ false) ⊎ (b < s.kept.promised)
 
 abbrev pub VotePast : NodeState → ℕ → Option ℕ → Type 0
 VotePast s b p = (v : ℕ) → p ≡ Some v → IsPast s b v
@@ -56,7 +57,7 @@ past_is : (s : NodeState) (b v : ℕ) (t u : Bool) → is_given (vote b v) s.kep
     → ◌≡◌ {A = Option Vote} (cond t None (cond u (Some (vote b v)) None)) None → IsPast s b v
 past_is s b v true u e f none = inl (given_is b v s.kept.accepted e)
 past_is s b v false true e f none = absurd (cc)
-past_is s b v false false e f none = inr (refused_is s.count s.kept.promised b v (is_vote s.count (vote b v)) refl f)
+past_is s b v false false e f none = inr (refused_is s.quorums.nodes s.kept.promised b v (is_vote s.quorums.nodes (vote b v)) refl f)
 
 told_past : (s : NodeState) (b : ℕ) (p : Option ℕ) → vote_by s b p ≡ None → VotePast s b p
 told_past s b None e v is = absurd (cc)
@@ -80,7 +81,7 @@ past_none s b v past =
       | inl e ↦ ap (λ (t : Bool). cond t None (next_vote s (vote b v))) (ap (λ (o : Option Vote). is_given (vote b v) o) e ∙ is_given_self b v)
       | inr e ↦ elim e [
         | inl f ↦ none_of s b v (is_given (vote b v) s.kept.accepted) refl (ap (λ (t : Bool). t && leb s.kept.promised b) f)
-        | inr f ↦ none_of s b v (is_given (vote b v) s.kept.accepted) refl (ap (λ (t : Bool). is_vote s.count (vote b v) && t) (lt-leb s.kept.promised b f) ∙ and_false (is_vote s.count (vote b v)))
+        | inr f ↦ none_of s b v (is_given (vote b v) s.kept.accepted) refl (ap (λ (t : Bool). is_vote s.quorums.nodes (vote b v) && t) (lt-leb s.kept.promised b f) ∙ and_false (is_vote s.quorums.nodes (vote b v)))
       ]
     ]
 
@@ -114,13 +115,13 @@ pub quiet_left : (j : ℕ) (s : SeatState) → IsQuiet j s → IsLeft j s
 quiet_left j s quiet = record { vote = vote_left j s quiet.accept; ballot = ballot_left j s quiet.promise }
 
 -- it speaks of what is kept, of the number of nodes and of what was seen of j
-pub quiet_same : (j : ℕ) (s t : SeatState) → t.node.kept ≡ s.node.kept → t.node.count ≡ s.node.count → proposer_of t j ≡ proposer_of s j → IsQuiet j s → IsQuiet j t
+pub quiet_same : (j : ℕ) (s t : SeatState) → t.node.kept ≡ s.node.kept → t.node.quorums.nodes ≡ s.node.quorums.nodes → proposer_of t j ≡ proposer_of s j → IsQuiet j s → IsQuiet j t
 quiet_same j s t kept count word quiet =
     let left = quiet_left j s quiet in
     left_quiet j t
     record {
       vote = subst (λ (w : ProposerWord). VotePast t.node w.started w.proposed) (sym word)
-          (subst (λ (k : KeptPart). (v : ℕ) → (proposer_of s j).proposed ≡ Some v → (k.accepted ≡ Some (vote (proposer_of s j).started v)) ⊎ (is_vote t.node.count (vote (proposer_of s j).started v) ≡ false) ⊎ ((proposer_of s j).started < k.promised)) (sym kept)
+          (subst (λ (k : KeptPart). (v : ℕ) → (proposer_of s j).proposed ≡ Some v → (k.accepted ≡ Some (vote (proposer_of s j).started v)) ⊎ (is_vote t.node.quorums.nodes (vote (proposer_of s j).started v) ≡ false) ⊎ ((proposer_of s j).started < k.promised)) (sym kept)
           (subst (λ (n : ℕ). (v : ℕ) → (proposer_of s j).proposed ≡ Some v → (s.node.kept.accepted ≡ Some (vote (proposer_of s j).started v)) ⊎ (is_vote n (vote (proposer_of s j).started v) ≡ false) ⊎ ((proposer_of s j).started < s.node.kept.promised)) (sym count) left.vote));
       ballot = subst (λ (w : ProposerWord). w.started ≤ t.node.kept.promised) (sym word)
           (subst (λ (k : KeptPart). (proposer_of s j).started ≤ k.promised) (sym kept) left.ballot);
@@ -161,7 +162,7 @@ voted_if j s t (Some x) acted e =
       kept = acted.kept ∙ ap (λ (o : Option Step). kept_by o s.node.kept) told;
       ballot = seen.2;
       value = seen.1;
-      above = leb-true s.node.kept.promised x.ballot (and_parts (is_vote s.node.count x) (leb s.node.kept.promised x.ballot) seen.0).1;
+      above = leb-true s.node.kept.promised x.ballot (and_parts (is_vote s.node.quorums.nodes x) (leb s.node.kept.promised x.ballot) seen.0).1;
       way = ap (λ (u : SeatState). u.node.ballot) did.after ∙ ballot_if (accepts s.node x) s.node (record s.node { kept = with_vote x s.node.kept }) refl;
     }
 
@@ -217,7 +218,7 @@ promised_quiet j s t acted none done =
           (elim (past v here) [
             | inl e ↦ inl (ap (λ (k : KeptPart). k.accepted) done.kept ∙ e)
             | inr e ↦ elim e [
-              | inl f ↦ inr (inl (ap (λ (n : ℕ). is_vote n (vote (proposer_of s j).started v)) acted.count ∙ f))
+              | inl f ↦ inr (inl (ap (λ (q : Sizes). is_vote q.nodes (vote (proposer_of s j).started v)) acted.quorums ∙ f))
               | inr f ↦ absurd (omega (arith, f, done.above))
             ]
           ]);
@@ -243,7 +244,7 @@ quiet_promised i j s t acted done quiet =
           (elim (left.vote v here) [
             | inl e ↦ inl (ap (λ (k : KeptPart). k.accepted) done.kept ∙ e)
             | inr e ↦ elim e [
-              | inl f ↦ inr (inl (ap (λ (n : ℕ). is_vote n (vote (proposer_of s i).started v)) acted.count ∙ f))
+              | inl f ↦ inr (inl (ap (λ (q : Sizes). is_vote q.nodes (vote (proposer_of s i).started v)) acted.quorums ∙ f))
               | inr f ↦ inr (inr (subst (λ (k : KeptPart). (proposer_of s i).started < k.promised) (sym done.kept) (omega (arith, f, done.above))))
             ]
           ]);
@@ -265,7 +266,7 @@ voted_low : (k : KeptPart) (x : Vote) → IsWithinPromise k.promised k.accepted 
 voted_low k x within e = (subst (λ (o : Option Vote). IfSome o (λ y. (1 ≤ y.ballot) × (y.ballot ≤ k.promised))) e within).0
 
 -- and over a vote for another node's proposal
-pub quiet_voted : (i j : ℕ) (s t : SeatState) → IsBounded s → i ≢ j → i < s.node.count → j < s.node.count → Acted (act.Accept j) s t → HasVoted j s t → IsQuiet i s → IsQuiet i t
+pub quiet_voted : (i j : ℕ) (s t : SeatState) → IsBounded s → i ≢ j → i < s.node.quorums.nodes → j < s.node.quorums.nodes → Acted (act.Accept j) s t → HasVoted j s t → IsQuiet i s → IsQuiet i t
 quiet_voted i j s t bounds other in_i in_j acted done quiet =
     let left = quiet_left i s quiet in
     let word : proposer_of t i ≡ proposer_of s i = word_same i s t acted.proposers in
@@ -281,11 +282,11 @@ quiet_voted i j s t bounds other in_i in_j acted done quiet =
                 let low : 1 ≤ (proposer_of s i).started = voted_low s.node.kept (vote (proposer_of s i).started v) bounds.within e in
                 let differ : (proposer_of s i).started ≢ done.given.ballot =
                 (λ (same : (proposer_of s i).started ≡ done.given.ballot).
-                apart s.node.count i j (proposer_of s i).started other low (bounds.owned i in_i)
-                (subst (λ (c : ℕ). (c ≡ 0) ⊎ Owns s.node.count j c) (sym (same ∙ done.ballot)) (bounds.owned j in_j))) in
+                apart s.node.quorums.nodes i j (proposer_of s i).started other low (bounds.owned i in_i)
+                (subst (λ (c : ℕ). (c ≡ 0) ⊎ Owns s.node.quorums.nodes j c) (sym (same ∙ done.ballot)) (bounds.owned j in_j))) in
                 inr (inr (omega (arith, promised, left.ballot, done.above, differ)))
             | inr e ↦ elim e [
-              | inl f ↦ inr (inl (ap (λ (n : ℕ). is_vote n (vote (proposer_of s i).started v)) acted.count ∙ f))
+              | inl f ↦ inr (inl (ap (λ (q : Sizes). is_vote q.nodes (vote (proposer_of s i).started v)) acted.quorums ∙ f))
               | inr f ↦ inr (inr (omega (arith, promised, f, done.above)))
             ]
           ]);
@@ -295,13 +296,13 @@ quiet_voted i j s t bounds other in_i in_j acted done quiet =
 -- ---- what hearing leaves
 
 pub heard_same : (s : SeatState) → HasHeard s s
-heard_same s = record { table = refl; me = refl; count = refl; offered = refl; started = refl; ballot = refl; promised = omega arith; learned = λ v e. e }
+heard_same s = record { table = refl; me = refl; quorums = refl; offered = refl; started = refl; ballot = refl; promised = omega arith; learned = λ v e. e }
 
 pub heard_through : (a b c : SeatState) → HasHeard a b → HasHeard b c → HasHeard a c
 heard_through a b c h k = record {
   table = k.table ∙ h.table;
   me = k.me ∙ h.me;
-  count = k.count ∙ h.count;
+  quorums = k.quorums ∙ h.quorums;
   offered = k.offered ∙ h.offered;
   started = k.started ∙ h.started;
   ballot = k.ballot ∙ h.ballot;
@@ -316,7 +317,7 @@ heard_voted j s t acted =
       | inr done ↦ record {
         table = acted.table;
         me = acted.me;
-        count = acted.count;
+        quorums = acted.quorums;
         offered = ap (λ (k : KeptPart). k.offered) done.kept;
         started = ap (λ (k : KeptPart). k.started) done.kept;
         ballot = done.way;
@@ -332,7 +333,7 @@ heard_promised j s t acted =
       | inr done ↦ record {
         table = acted.table;
         me = acted.me;
-        count = acted.count;
+        quorums = acted.quorums;
         offered = ap (λ (k : KeptPart). k.offered) done.kept;
         started = ap (λ (k : KeptPart). k.started) done.kept;
         ballot = done.way;
@@ -342,11 +343,11 @@ heard_promised j s t acted =
     ]
 
 pub heard_proposer : (j : ℕ) (x : ProposerWord) (s t : SeatState) → LookedAtProposer j x s t → HasHeard s t
-heard_proposer j x s t look = subst (λ (u : SeatState). HasHeard s u) (sym look.after) (record { table = refl; me = refl; count = refl; offered = refl; started = refl; ballot = refl; promised = omega arith; learned = λ v e. e })
+heard_proposer j x s t look = subst (λ (u : SeatState). HasHeard s u) (sym look.after) (record { table = refl; me = refl; quorums = refl; offered = refl; started = refl; ballot = refl; promised = omega arith; learned = λ v e. e })
 
 pub quiet_proposer : (i j : ℕ) (x : ProposerWord) (s t : SeatState) → i ≢ j → LookedAtProposer j x s t → IsQuiet i s → IsQuiet i t
 quiet_proposer i j x s t other look quiet =
-    quiet_same i s t (ap (λ (u : SeatState). u.node.kept) look.after) (ap (λ (u : SeatState). u.node.count) look.after)
+    quiet_same i s t (ap (λ (u : SeatState). u.node.kept) look.after) (ap (λ (u : SeatState). u.node.quorums.nodes) look.after)
     (ap (λ (u : SeatState). proposer_of u i) look.after ∙ get_or-set_other s.proposers j i x no_proposer other) quiet
 
 pub heard_acceptor : (j : ℕ) (x : AcceptorWord) (s t : SeatState) → LookedAtAcceptor j x s t → HasHeard s t
@@ -355,7 +356,7 @@ heard_acceptor j x s t look =
     record {
       table = notes.table;
       me = notes.me;
-      count = notes.count;
+      quorums = notes.quorums;
       offered = ap (λ (k : KeptPart). k.offered) notes.kept;
       started = ap (λ (k : KeptPart). k.started) notes.kept;
       ballot = notes.ballot;
@@ -366,4 +367,4 @@ heard_acceptor j x s t look =
 pub quiet_acceptor : (i j : ℕ) (x : AcceptorWord) (s t : SeatState) → LookedAtAcceptor j x s t → IsQuiet i s → IsQuiet i t
 quiet_acceptor i j x s t look quiet =
     let notes = notes_of j x s t look in
-    quiet_same i s t notes.kept notes.count (word_same i s t notes.proposers) quiet
+    quiet_same i s t notes.kept (ap (λ (q : Sizes). q.nodes) notes.quorums) (word_same i s t notes.proposers) quiet

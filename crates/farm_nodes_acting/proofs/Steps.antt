@@ -15,9 +15,8 @@ use Rattle.acceptor_log_form.specs.declared.errors.LogError.{LogError}
 use Rattle.acceptor_log_form.specs.declared.errors.LogError.TheVariants.{NoMemory, Device, NotAJournal, BadRecord, OtherSource, Stopped, Full}
 use Rattle.acceptor_log_form.specs.declared.record.Record.{Record}
 use Rattle.acceptor_log_form.specs.Leaves.{kept_by}
-use Rattle.acceptor_log_form.specs.Text.{blocks, body_text}
 use Rattle.acceptor_log.specs.declared.log.Log.{Log}
-use Rattle.acceptor_log.specs.Acknowledged.{acknowledged, file_with, IsReady, IsNoFault}
+use Rattle.acceptor_log.specs.Acknowledged.{IsNoFault}
 use Rattle.rooms_seat.specs.Act.{Act}
 use Rattle.rooms_seat.specs.Act.TheVariants as act
 use Rattle.rooms_seat.specs.Did.{Did}
@@ -27,7 +26,7 @@ use Rattle.rooms_seat.proofs.Acts.{vote_seen}
 use Rattle.rooms_seat.specs.Meeting.{IsBounded}
 use Rattle.farm_nodes_acting.specs.Cause.{IsFull, HasCause}
 use Rattle.farm_nodes_acting.specs.Noted.{record_of, records_of, IsByte}
-use Rattle.farm_nodes_acting.proofs.Records.{kept_step}
+use Rattle.farm_nodes_order.proofs.Records.{kept_step}
 
 -- ---- no step
 
@@ -49,7 +48,7 @@ none_acted a s e =
       kept = ap (λ (o : Option Step). core.kept_by o s.node.kept) (sym e);
       table = refl;
       me = refl;
-      count = refl;
+      quorums = refl;
       learned = refl;
       proposers = refl;
       acceptors = refl;
@@ -71,9 +70,9 @@ told_byte s (act.Accept j) x bounds e =
     byte_map (λ (y : Vote). step.Accept y.ballot y.value) (vote_of s j) x
     (λ y is.
     let seen = vote_seen s.node (proposer_of s j).started (proposer_of s j).proposed y (sym is) in
-    let parts = and_parts (is_vote s.node.count y) _ seen.0 in
-    let low : y.value < s.node.count = ltb-true y.value s.node.count (and_parts (ltb 0 y.ballot) _ parts.0).1 in
-    let most : s.node.count ≤ 7 = bounds.most in
+    let parts = and_parts (is_vote s.node.quorums.nodes y) _ seen.0 in
+    let low : y.value < s.node.quorums.nodes = ltb-true y.value s.node.quorums.nodes (and_parts (ltb 0 y.ballot) _ parts.0).1 in
+    let most : s.node.quorums.nodes ≤ 7 = bounds.most in
     omega arith)
     e
 
@@ -104,8 +103,3 @@ cause_of is_honest faults old new pending BadRecord going fault device full = fa
 cause_of is_honest faults old new pending OtherSource going fault device full = fault.2 refl
 cause_of is_honest faults old new pending Stopped going fault device full = going refl
 cause_of is_honest faults old new pending Full going fault device full = full refl
-
--- the closed gate stands where it stood, if the same is acknowledged
-pub same_gate : {D : Type 0} (is_honest : D → Type 0) (seen : D → List ℕ) (may_leave : D → List ℕ → Type 0) (old new : Log D) → IsReady is_honest seen may_leave old → IsReady is_honest seen may_leave new → acknowledged seen new ≡ acknowledged seen old → new.gate ≡ old.gate
-same_gate is_honest seen may_leave old new was is same =
-    is.rests.at_gate ∙ (ap (λ (rs : List Record). 38 + length (blocks rs)) same ∙ sym was.rests.at_gate)

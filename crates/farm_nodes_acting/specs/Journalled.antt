@@ -13,7 +13,7 @@ pub record HasGrown {D : Type 0} (is_honest : D → Type 0) (seen : D → List �
     (moment : D → ℕ) (left_since : D → ℕ → List ℕ → Type 0) (old new : Log D) (room : ℕ) (s t : SeatState)
     (answer : Bool) : Type 0 where
   pub ready : IsReady is_honest seen may_leave new
-  pub advances : Advances seen may_leave moment left_since old new room s.node.kept t.node.kept (acknowledged seen new) []
+  pub advances : Advances seen may_leave moment left_since old new room s t (acknowledged seen new) []
   pub moved : answer ≡ nat_lt (length (acknowledged seen old)) (length (acknowledged seen new))
 
 -- Where the node was stopped, the pending record is that of what it has not done.
@@ -23,4 +23,4 @@ Journalled is_honest seen may_leave moment left_since old new room s t (Ok moved
     HasGrown is_honest seen may_leave moment left_since old new room s t moved
 Journalled is_honest seen may_leave moment left_since old new room s t (Err stop) =
     (upto : List Record)
-    × Advances seen may_leave moment left_since old new room s.node.kept t.node.kept upto (pending_of room t stop.pending)
+    × Advances seen may_leave moment left_since old new room s t upto (pending_of room t stop.pending)

@@ -6,3 +6,4 @@ pub mod Cause
 pub mod Quiet
 pub use Rattle.rooms_seat.specs.SeatState
 pub use Rattle.rooms_seat.specs.Would
+pub use Rattle.farm_nodes_order.specs.Ordered

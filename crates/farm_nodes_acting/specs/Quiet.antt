@@ -13,7 +13,7 @@ pub record IsQuiet (j : ℕ) (s : SeatState) : Type 0 where
 pub record HasHeard (old new : SeatState) : Type 0 where
   pub table : new.table ≡ old.table
   pub me : new.node.me ≡ old.node.me
-  pub count : new.node.count ≡ old.node.count
+  pub quorums : new.node.quorums ≡ old.node.quorums
   pub offered : new.node.kept.offered ≡ old.node.kept.offered
   pub started : new.node.kept.started ≡ old.node.kept.started
   pub ballot : new.node.ballot ≡ old.node.ballot

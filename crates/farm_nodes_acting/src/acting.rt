@@ -24,7 +24,7 @@ pub fn act<D: Disk>(
     act: Act,
 ) -> Result<bool, Stop>
     requires sound { IsSound D.is_honest D.seen D.may_leave log.old }
-    requires among { IsAmong seat.old.node.count act }
+    requires among { IsAmong seat.old.node.quorums.nodes act }
     ensures served { IsServed D.is_honest D.seen D.may_leave D.faults log.old log.new }
     ensures ok { IfOk result (λ moved. (moved ≡ is_some (would seat.old act)) × Acted act seat.old seat.new) }
     ensures going { IfOk result (λ moved. log.new.going ≡ log.old.going) }
@@ -32,7 +32,7 @@ pub fn act<D: Disk>(
     // It has not moved where its record may be missing.
     ensures err { OnErr result (seat.new ≡ seat.old) }
     ensures pending { IfErr result (λ stop. (stop.pending ≡ Waiting.Act act) × (would seat.old act ≢ None)) }
-    ensures acting { IfErr result (λ stop. IsActAmong seat.new.node.count stop.pending) }
+    ensures acting { IfErr result (λ stop. IsActAmong seat.new.node.quorums.nodes stop.pending) }
 
     ensures journal { D.is_honest log.old.disk → log.old.going ≡ true → Journalled
         D.is_honest D.seen D.may_leave D.moment D.left_since log.old log.new room seat.old seat.new result }
@@ -70,7 +70,7 @@ fn record_of(room: u16, step: Step) -> Record
 
 /// Does what it is asked.
 fn take(seat: &mut WordSeat, act: Act)
-    requires { IsAmong seat.old.node.count act }
+    requires { IsAmong seat.old.node.quorums.nodes act }
     ensures { Acted act seat.old seat.new }
 {
     match act {

@@ -21,10 +21,10 @@ pub fn hear_all<D: Disk>(log: &mut Log<D>, seat: &mut WordSeat, room: u16) -> Re
     ensures served { IsServed D.is_honest D.seen D.may_leave D.faults log.old log.new }
     ensures going { IfOk result (λ moved. log.new.going ≡ log.old.going) }
     ensures heard { HasHeard seat.old seat.new }
-    ensures quiet { OnOk result ((j : ℕ) → j < seat.new.node.count → IsQuiet j seat.new) }
+    ensures quiet { OnOk result ((j : ℕ) → j < seat.new.node.quorums.nodes → IsQuiet j seat.new) }
 
     // Where it is stopped, it was about to act, and was asked of a node of the room.
-    ensures acting { IfErr result (λ stop. IsActAmong seat.new.node.count stop.pending) }
+    ensures acting { IfErr result (λ stop. IsActAmong seat.new.node.quorums.nodes stop.pending) }
     ensures journal { D.is_honest log.old.disk → log.old.going ≡ true → Journalled
         D.is_honest D.seen D.may_leave D.moment D.left_since log.old log.new room seat.old seat.new result }
     ensures cause { log.old.going ≡ true → IfErr result (λ stop. HasCause D.is_honest D.faults
@@ -44,7 +44,7 @@ pub fn hear_all<D: Disk>(log: &mut Log<D>, seat: &mut WordSeat, room: u16) -> Re
 /// acceptor. Answers whether it took a step.
 pub fn hear<D: Disk>(log: &mut Log<D>, seat: &mut WordSeat, room: u16, j: u8) -> Result<bool, Stop>
     requires sound { IsSound D.is_honest D.seen D.may_leave log.old }
-    requires below { j < seat.old.node.count }
+    requires below { j < seat.old.node.quorums.nodes }
     ensures served { IsServed D.is_honest D.seen D.may_leave D.faults log.old log.new }
     ensures going { IfOk result (λ moved. log.new.going ≡ log.old.going) }
     ensures heard { HasHeard seat.old seat.new }
@@ -53,7 +53,7 @@ pub fn hear<D: Disk>(log: &mut Log<D>, seat: &mut WordSeat, room: u16, j: u8) ->
     // What was quiet stays so.
     ensures others { OnOk result ((i : ℕ) → i < j → IsQuiet i seat.old → IsQuiet i seat.new) }
 
-    ensures acting { IfErr result (λ stop. IsActAmong seat.new.node.count stop.pending) }
+    ensures acting { IfErr result (λ stop. IsActAmong seat.new.node.quorums.nodes stop.pending) }
     ensures journal { D.is_honest log.old.disk → log.old.going ≡ true → Journalled
         D.is_honest D.seen D.may_leave D.moment D.left_since log.old log.new room seat.old seat.new result }
     ensures cause { log.old.going ≡ true → IfErr result (λ stop. HasCause D.is_honest D.faults
@@ -72,13 +72,13 @@ pub fn hear<D: Disk>(log: &mut Log<D>, seat: &mut WordSeat, room: u16, j: u8) ->
 /// started.
 fn answer<D: Disk>(log: &mut Log<D>, seat: &mut WordSeat, room: u16, j: u8) -> Result<bool, Stop>
     requires sound { IsSound D.is_honest D.seen D.may_leave log.old }
-    requires below { j < seat.old.node.count }
+    requires below { j < seat.old.node.quorums.nodes }
     ensures served { IsServed D.is_honest D.seen D.may_leave D.faults log.old log.new }
     ensures going { IfOk result (λ moved. log.new.going ≡ log.old.going) }
     ensures heard { HasHeard seat.old seat.new }
     ensures quiet { OnOk result (IsQuiet j seat.new) }
     ensures others { OnOk result ((i : ℕ) → i < j → IsQuiet i seat.old → IsQuiet i seat.new) }
-    ensures acting { IfErr result (λ stop. IsActAmong seat.new.node.count stop.pending) }
+    ensures acting { IfErr result (λ stop. IsActAmong seat.new.node.quorums.nodes stop.pending) }
     ensures journal { D.is_honest log.old.disk → log.old.going ≡ true → Journalled
         D.is_honest D.seen D.may_leave D.moment D.left_since log.old log.new room seat.old seat.new result }
     ensures cause { log.old.going ≡ true → IfErr result (λ stop. HasCause D.is_honest D.faults

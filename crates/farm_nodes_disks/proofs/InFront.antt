@@ -1,5 +1,5 @@
 -- A read of a disk in front of a call.
-use Rattle.std.proofs.Common.{◌≡◌, ◌≤◌, ◌↔◌, ℕ, List, Bool, true, false, sym, ap, subst, ◌∙◌, arith}
+use Rattle.std.proofs.Common.{◌≡◌, ◌↔◌, ℕ, List, Bool, true, false, subst, ◌∙◌}
 use Rattle.std.specs.Prelude.{MatchBool}
 use Rattle.durable_model.specs.Honest.{Elapses, NothingNew, Unchanged}
 use Rattle.durable_model.specs.Moments.{LeavesOnly, started, goes_on, composed}

@@ -2,9 +2,8 @@
 use Rattle.std.proofs.Common.{◌≡◌, ℕ, ◌<◌, List, length, map, Option, sym, ap, subst, ◌∙◌}
 use Rattle.std.specs.Global.{Vec}
 use Rattle.std.proofs.lemmas.List.{length-map}
-use Rattle.paxos_core_law.specs.NodeState.{IsRoomSize}
 use Rattle.paxos_core_world.specs.KeptPart.{KeptPart}
-use Rattle.paxos_core_world.specs.World.{nodes_of}
+use Rattle.paxos_core_world.specs.Quorum.{AreQuorums, Sizes}
 use Rattle.rooms_hall.specs.declared.hall.Naming as naming
 use Rattle.rooms_table.specs.RoomAt.{RoomAt}
 use Rattle.rooms_state.specs.SeatState.{opening_of}
@@ -17,66 +16,65 @@ use Rattle.farm_nodes_opening.specs.Seats.{Seats}
 use Rattle.farm_nodes_opening.specs.Numbers.{room_at}
 use Rattle.farm_nodes_opening.specs.Which.TheVariants.{First, Second, Third, Fourth}
 use Rattle.farm_nodes_lists.specs.Rows.{offers_of, rows_of}
-use Rattle.farm_nodes_opening.specs.Kept.{four_kept, kept_of, parts_of, AreSettled}
+use Rattle.farm_nodes_opening.specs.Kept.{kept_of, parts_of, AreSettled}
 use Rattle.farm_nodes_opening.specs.Numbered.{AreOfOneFunction, HaveOneClaim, IsOpenedRoom}
 use Rattle.farm_nodes_opening.proofs.OneRoom.{as_given, as_many, map-map, one_function, one_room, opened_pairs, some_seat}
 use Rattle.farm_nodes_functions.specs.Function.{Offered, AreHere, IsOpenFunction}
 use Rattle.farm_nodes_functions.proofs.Outcomes.{kept_first, kept_second, kept_third, kept_fourth}
 
-pub as_opened : {T : Type 0} (table : RoomAt) (kept : List KeptPart) (offers : List (Option T)) (seats : List (SeatValue T)) → AreDealt table (opening_of kept) offers seats → AreOpened kept offers seats
-as_opened table kept offers seats d = record { table = table; cells = d.cells; size = d.size; seats_are = d.seats_are }
+pub as_opened : {T : Type 0} (table : RoomAt) (q : Sizes) (kept : List KeptPart) (offers : List (Option T)) (seats : List (SeatValue T)) → AreDealt table (opening_of q kept) offers seats → AreOpened q kept offers seats
+as_opened table q kept offers seats d = record { table = table; cells = d.cells; size = d.size; seats_are = d.seats_are }
 
-module _ (kept : List (List KeptPart)) (offers : FunctionOffers) (seats : List FunctionSeat) (are : AreSeatsOf kept offers seats) where
-  first_opened : AreOpened (kept_in 0 kept) offers.first.items (map (λ s. s.first) seats)
-  first_opened = as_opened _ (kept_in 0 kept) offers.first.items (map (λ s. s.first) seats) are.first
+module _ (q : Sizes) (kept : List (List KeptPart)) (offers : FunctionOffers) (seats : List FunctionSeat) (are : AreSeatsOf q kept offers seats) where
+  first_opened : AreOpened q (kept_in 0 kept) offers.first.items (map (λ s. s.first) seats)
+  first_opened = as_opened _ q (kept_in 0 kept) offers.first.items (map (λ s. s.first) seats) are.first
 
-  second_opened : AreOpened (kept_in 1 kept) offers.second.items (map (λ s. s.second) seats)
-  second_opened = as_opened _ (kept_in 1 kept) offers.second.items (map (λ s. s.second) seats) are.second
+  second_opened : AreOpened q (kept_in 1 kept) offers.second.items (map (λ s. s.second) seats)
+  second_opened = as_opened _ q (kept_in 1 kept) offers.second.items (map (λ s. s.second) seats) are.second
 
-  third_opened : AreOpened (kept_in 2 kept) offers.third.items (map (λ s. s.third) seats)
-  third_opened = as_opened _ (kept_in 2 kept) offers.third.items (map (λ s. s.third) seats) are.third
+  third_opened : AreOpened q (kept_in 2 kept) offers.third.items (map (λ s. s.third) seats)
+  third_opened = as_opened _ q (kept_in 2 kept) offers.third.items (map (λ s. s.third) seats) are.third
 
-  fourth_opened : AreOpened (kept_in 3 kept) offers.fourth.items (map (λ s. s.fourth) seats)
-  fourth_opened = as_opened _ (kept_in 3 kept) offers.fourth.items (map (λ s. s.fourth) seats) are.fourth
+  fourth_opened : AreOpened q (kept_in 3 kept) offers.fourth.items (map (λ s. s.fourth) seats)
+  fourth_opened = as_opened _ q (kept_in 3 kept) offers.fourth.items (map (λ s. s.fourth) seats) are.fourth
 
   -- they are all of one function
   pub all_one : AreOfOneFunction seats
   all_one =
       one_function _ _ _ _ _ _ _ _ seats
-      (one_room (kept_in 0 kept) offers.first.items (map (λ s. s.first) seats) first_opened)
-      (one_room (kept_in 1 kept) offers.second.items (map (λ s. s.second) seats) second_opened)
-      (one_room (kept_in 2 kept) offers.third.items (map (λ s. s.third) seats) third_opened)
-      (one_room (kept_in 3 kept) offers.fourth.items (map (λ s. s.fourth) seats) fourth_opened)
+      (one_room q (kept_in 0 kept) offers.first.items (map (λ s. s.first) seats) first_opened)
+      (one_room q (kept_in 1 kept) offers.second.items (map (λ s. s.second) seats) second_opened)
+      (one_room q (kept_in 2 kept) offers.third.items (map (λ s. s.third) seats) third_opened)
+      (one_room q (kept_in 3 kept) offers.fourth.items (map (λ s. s.fourth) seats) fourth_opened)
 
   -- as many as the nodes
-  pub all_count : length seats ≡ length kept
-  all_count =
-      sym (length-map seats (λ s. s.first)) ∙ (as_many (kept_in 0 kept) offers.first.items (map (λ s. s.first) seats) first_opened ∙ length-map kept (λ parts. nodes_of parts 0))
+  pub all_count : length seats ≡ q.nodes
+  all_count = sym (length-map seats (λ s. s.first)) ∙ as_many q (kept_in 0 kept) offers.first.items (map (λ s. s.first) seats) first_opened
 
-  pub some_of_all : IsRoomSize (length kept) → 0 < length seats
-  some_of_all size =
+  pub some_of_all : AreQuorums q → 0 < length seats
+  some_of_all sizes =
       subst (λ (n : ℕ). 0 < n) (length-map seats (λ s. s.first))
-      (some_seat (kept_in 0 kept) offers.first.items (map (λ s. s.first) seats) first_opened (subst IsRoomSize (sym (length-map kept (λ parts. nodes_of parts 0))) size))
+      (some_seat q (kept_in 0 kept) offers.first.items (map (λ s. s.first) seats) first_opened sizes)
 
 -- with the number of the function
 module _ {H : Type 0} {h : naming.Ghosts H} where
-  numbered_room : {T : Type 0} (table : RoomAt) (kept given : List KeptPart) (offers here : List (Option T)) (seat : FunctionSeat → SeatValue T) (nodes : List (Seats H h)) (seats : List FunctionSeat)
-      → given ≡ kept → here ≡ offers → map (λ n. n.seat) nodes ≡ seats → HaveOneClaim (map (λ n. n.claim) nodes) → AreDealt table (opening_of given) here (map seat seats)
-      → IsOpenedRoom kept offers (map (λ n. (seat n.seat, n.claim)) nodes)
-  numbered_room table kept given offers here seat nodes seats eg eh en one d =
-      as_given kept given offers here (map (λ n. (seat n.seat, n.claim)) nodes) eg eh
-      (opened_pairs given here (λ (n : Seats H h). seat n.seat) (λ (n : Seats H h). n.claim) nodes (map seat seats)
-      (sym (map-map seat (λ (n : Seats H h). n.seat) nodes) ∙ ap (λ ss. map seat ss) en) one (as_opened table given here (map seat seats) d))
+  numbered_room : {T : Type 0} (table : RoomAt) (q : Sizes) (kept given : List KeptPart) (offers here : List (Option T)) (seat : FunctionSeat → SeatValue T) (nodes : List (Seats H h)) (seats : List FunctionSeat)
+      → given ≡ kept → here ≡ offers → map (λ n. n.seat) nodes ≡ seats → HaveOneClaim (map (λ n. n.claim) nodes) → AreDealt table (opening_of q given) here (map seat seats)
+      → IsOpenedRoom q kept offers (map (λ n. (seat n.seat, n.claim)) nodes)
+  numbered_room table q kept given offers here seat nodes seats eg eh en one d =
+      as_given q kept given offers here (map (λ n. (seat n.seat, n.claim)) nodes) eg eh
+      (opened_pairs q given here (λ (n : Seats H h). seat n.seat) (λ (n : Seats H h). n.claim) nodes (map seat seats)
+      (sym (map-map seat (λ (n : Seats H h). n.seat) nodes) ∙ ap (λ ss. map seat ss) en) one (as_opened table q given here (map seat seats) d))
 
-  pub open_function_is : (kept : List (Vec KeptPart)) (f : ℕ) (offers : Offered) (parts : List (List KeptPart)) (here : FunctionOffers) (seats : List FunctionSeat) (nodes : List (Seats H h))
-      → parts ≡ parts_of kept f → AreHere f offers here → AreSeatsOf parts here seats → map (λ n. n.seat) nodes ≡ seats → HaveOneClaim (map (λ n. n.claim) nodes) → AreSettled kept f
-      → IsOpenFunction kept f offers nodes
-  open_function_is kept f offers parts here seats nodes ep are is en one settled =
+  pub open_function_is : (q : Sizes) (kept : List (Vec KeptPart)) (f : ℕ) (offers : Offered) (parts : List (List KeptPart)) (here : FunctionOffers) (seats : List FunctionSeat) (nodes : List (Seats H h))
+      → parts ≡ parts_of kept f → AreHere f offers here → AreSeatsOf q parts here seats → map (λ n. n.seat) nodes ≡ seats → HaveOneClaim (map (λ n. n.claim) nodes) → AreSettled q kept f
+      → length kept ≡ q.nodes → IsOpenFunction q kept f offers nodes
+  open_function_is q kept f offers parts here seats nodes ep are is en one settled size =
       record {
-        first = numbered_room _ (kept_of kept (room_at f First)) (kept_in 0 parts) (offers_of (rows_of offers.first.items) f) here.first.items (λ s. s.first) nodes seats (ap (λ ps. kept_in 0 ps) ep ∙ kept_first kept f) are.first en one is.first;
-        second = numbered_room _ (kept_of kept (room_at f Second)) (kept_in 1 parts) (offers_of (rows_of offers.second.items) f) here.second.items (λ s. s.second) nodes seats (ap (λ ps. kept_in 1 ps) ep ∙ kept_second kept f) are.second en one is.second;
-        third = numbered_room _ (kept_of kept (room_at f Third)) (kept_in 2 parts) (offers_of (rows_of offers.third.items) f) here.third.items (λ s. s.third) nodes seats (ap (λ ps. kept_in 2 ps) ep ∙ kept_third kept f) are.third en one is.third;
-        fourth = numbered_room _ (kept_of kept (room_at f Fourth)) (kept_in 3 parts) (offers_of (rows_of offers.fourth.items) f) here.fourth.items (λ s. s.fourth) nodes seats (ap (λ ps. kept_in 3 ps) ep ∙ kept_fourth kept f) are.fourth en one is.fourth;
-        count = sym (length-map nodes (λ n. n.seat)) ∙ (ap length en ∙ (all_count parts here seats is ∙ (ap length ep ∙ length-map kept (λ (node : Vec KeptPart). four_kept node.items f))));
+        first = numbered_room _ q (kept_of kept (room_at f First)) (kept_in 0 parts) (offers_of (rows_of offers.first.items) f) here.first.items (λ s. s.first) nodes seats (ap (λ ps. kept_in 0 ps) ep ∙ kept_first kept f) are.first en one is.first;
+        second = numbered_room _ q (kept_of kept (room_at f Second)) (kept_in 1 parts) (offers_of (rows_of offers.second.items) f) here.second.items (λ s. s.second) nodes seats (ap (λ ps. kept_in 1 ps) ep ∙ kept_second kept f) are.second en one is.second;
+        third = numbered_room _ q (kept_of kept (room_at f Third)) (kept_in 2 parts) (offers_of (rows_of offers.third.items) f) here.third.items (λ s. s.third) nodes seats (ap (λ ps. kept_in 2 ps) ep ∙ kept_third kept f) are.third en one is.third;
+        fourth = numbered_room _ q (kept_of kept (room_at f Fourth)) (kept_in 3 parts) (offers_of (rows_of offers.fourth.items) f) here.fourth.items (λ s. s.fourth) nodes seats (ap (λ ps. kept_in 3 ps) ep ∙ kept_fourth kept f) are.fourth en one is.fourth;
+        count = sym (length-map nodes (λ n. n.seat)) ∙ (ap length en ∙ (all_count q parts here seats is ∙ sym size));
         settled = settled;
       }

@@ -1,7 +1,8 @@
 -- Rooms of a function, one behind the other: which are settled where one is told.
-use Rattle.std.proofs.Common.{◌≡◌, ◌⊎◌, inl, inr, ℕ, zero, suc, ◌+◌, ◌*◌, ◌<◌, ◌≤◌, List, length, refl, sym, ap, subst, ◌∙◌, arith}
+use Rattle.std.proofs.Common.{◌≡◌, ◌⊎◌, inl, inr, ℕ, zero, suc, ◌+◌, ◌*◌, ◌<◌, ◌≤◌, List, refl, sym, ap, subst, ◌∙◌, arith}
 use Rattle.std.specs.Global.{Vec}
 use Rattle.paxos_core_world.specs.KeptPart.{KeptPart}
+use Rattle.paxos_core_world.specs.Quorum.{Sizes}
 use Rattle.paxos_core_world.specs.Settled.{Settled}
 use Rattle.paxos_core_world.specs.World.{nodes_of}
 use Rattle.rooms.specs.Opened.{AreOffersOf}
@@ -26,26 +27,26 @@ of_function f Second room is = omega (arith, is)
 of_function f Third room is = omega (arith, is)
 of_function f Fourth room is = omega (arith, is)
 
-module _ (nodes : List (Vec KeptPart)) (f : ℕ) (room : ℕ) where
-  none_before : room ≡ room_at f First → AreSettledBefore nodes f room
+module _ (q : Sizes) (nodes : List (Vec KeptPart)) (f : ℕ) (room : ℕ) where
+  none_before : room ≡ room_at f First → AreSettledBefore q nodes f room
   none_before is First lt = absurd (omega (arith, is, lt))
   none_before is Second lt = absurd (omega (arith, is, lt))
   none_before is Third lt = absurd (omega (arith, is, lt))
   none_before is Fourth lt = absurd (omega (arith, is, lt))
 
-  one_before : IsSettledIn nodes (room_at f First) → room ≡ room_at f Second → AreSettledBefore nodes f room
+  one_before : IsSettledIn q nodes (room_at f First) → room ≡ room_at f Second → AreSettledBefore q nodes f room
   one_before a is First lt = a
   one_before a is Second lt = absurd (omega (arith, is, lt))
   one_before a is Third lt = absurd (omega (arith, is, lt))
   one_before a is Fourth lt = absurd (omega (arith, is, lt))
 
-  two_before : IsSettledIn nodes (room_at f First) → IsSettledIn nodes (room_at f Second) → room ≡ room_at f Third → AreSettledBefore nodes f room
+  two_before : IsSettledIn q nodes (room_at f First) → IsSettledIn q nodes (room_at f Second) → room ≡ room_at f Third → AreSettledBefore q nodes f room
   two_before a b is First lt = a
   two_before a b is Second lt = b
   two_before a b is Third lt = absurd (omega (arith, is, lt))
   two_before a b is Fourth lt = absurd (omega (arith, is, lt))
 
-  three_before : IsSettledIn nodes (room_at f First) → IsSettledIn nodes (room_at f Second) → IsSettledIn nodes (room_at f Third) → room ≡ room_at f Fourth → AreSettledBefore nodes f room
+  three_before : IsSettledIn q nodes (room_at f First) → IsSettledIn q nodes (room_at f Second) → IsSettledIn q nodes (room_at f Third) → room ≡ room_at f Fourth → AreSettledBefore q nodes f room
   three_before a b c is First lt = a
   three_before a b c is Second lt = b
   three_before a b c is Third lt = c
@@ -59,37 +60,37 @@ not_refused : (fault : RoomFault) → (fault ≡ NoMemory) ⊎ (fault ≡ Spent)
 not_refused fault (inl a) e = cc
 not_refused fault (inr a) e = cc
 
-module _ (nodes : List (Vec KeptPart)) (f : ℕ) where
-  pub all_settled : IsSettledIn nodes (room_at f First) → IsSettledIn nodes (room_at f Second) → IsSettledIn nodes (room_at f Third) → IsSettledIn nodes (room_at f Fourth) → AreSettled nodes f
+module _ (q : Sizes) (nodes : List (Vec KeptPart)) (f : ℕ) where
+  pub all_settled : IsSettledIn q nodes (room_at f First) → IsSettledIn q nodes (room_at f Second) → IsSettledIn q nodes (room_at f Third) → IsSettledIn q nodes (room_at f Fourth) → AreSettled q nodes f
   all_settled a b c d First = a
   all_settled a b c d Second = b
   all_settled a b c d Third = c
   all_settled a b c d Fourth = d
 
   -- the room of a pass is told
-  told : (pass : Which) (room : ℕ) (fault : RoomFault) → AreSettledBefore nodes f room → room ≡ room_at f pass → (fault ≡ Unsettled → ¬ IsSettledIn nodes (room_at f pass)) → (fault ≡ CellRefused → IsOfferedIn nodes (room_at f pass)) → IsTold nodes f room fault
+  told : (pass : Which) (room : ℕ) (fault : RoomFault) → AreSettledBefore q nodes f room → room ≡ room_at f pass → (fault ≡ Unsettled → ¬ IsSettledIn q nodes (room_at f pass)) → (fault ≡ CellRefused → IsOfferedIn nodes (room_at f pass)) → IsTold q nodes f room fault
   told pass room fault before is unsettled refused = record {
     of_function = of_function f pass room is;
     before = before;
-    unsettled = λ e s. unsettled e (subst (λ (k : ℕ). IsSettledIn nodes k) is s);
+    unsettled = λ e s. unsettled e (subst (λ (k : ℕ). IsSettledIn q nodes k) is s);
     refused = λ e. subst (λ (k : ℕ). IsOfferedIn nodes k) (sym is) (refused e);
   }
 
   module _ (room : ℕ) (fault : RoomFault) where
-    pub told_first : room ≡ room_at f First → (fault ≡ Unsettled → ¬ IsSettledIn nodes (room_at f First)) → (fault ≡ CellRefused → IsOfferedIn nodes (room_at f First)) → IsTold nodes f room fault
-    told_first is = told First room fault (none_before nodes f room is) is
+    pub told_first : room ≡ room_at f First → (fault ≡ Unsettled → ¬ IsSettledIn q nodes (room_at f First)) → (fault ≡ CellRefused → IsOfferedIn nodes (room_at f First)) → IsTold q nodes f room fault
+    told_first is = told First room fault (none_before q nodes f room is) is
 
-    pub told_second : IsSettledIn nodes (room_at f First) → room ≡ room_at f Second → (fault ≡ Unsettled → ¬ IsSettledIn nodes (room_at f Second)) → (fault ≡ CellRefused → IsOfferedIn nodes (room_at f Second)) → IsTold nodes f room fault
-    told_second a is = told Second room fault (one_before nodes f room a is) is
+    pub told_second : IsSettledIn q nodes (room_at f First) → room ≡ room_at f Second → (fault ≡ Unsettled → ¬ IsSettledIn q nodes (room_at f Second)) → (fault ≡ CellRefused → IsOfferedIn nodes (room_at f Second)) → IsTold q nodes f room fault
+    told_second a is = told Second room fault (one_before q nodes f room a is) is
 
-    pub told_third : IsSettledIn nodes (room_at f First) → IsSettledIn nodes (room_at f Second) → room ≡ room_at f Third → (fault ≡ Unsettled → ¬ IsSettledIn nodes (room_at f Third)) → (fault ≡ CellRefused → IsOfferedIn nodes (room_at f Third)) → IsTold nodes f room fault
-    told_third a b is = told Third room fault (two_before nodes f room a b is) is
+    pub told_third : IsSettledIn q nodes (room_at f First) → IsSettledIn q nodes (room_at f Second) → room ≡ room_at f Third → (fault ≡ Unsettled → ¬ IsSettledIn q nodes (room_at f Third)) → (fault ≡ CellRefused → IsOfferedIn nodes (room_at f Third)) → IsTold q nodes f room fault
+    told_third a b is = told Third room fault (two_before q nodes f room a b is) is
 
-    pub told_fourth : IsSettledIn nodes (room_at f First) → IsSettledIn nodes (room_at f Second) → IsSettledIn nodes (room_at f Third) → room ≡ room_at f Fourth → (fault ≡ Unsettled → ¬ IsSettledIn nodes (room_at f Fourth)) → (fault ≡ CellRefused → IsOfferedIn nodes (room_at f Fourth)) → IsTold nodes f room fault
-    told_fourth a b c is = told Fourth room fault (three_before nodes f room a b c is) is
+    pub told_fourth : IsSettledIn q nodes (room_at f First) → IsSettledIn q nodes (room_at f Second) → IsSettledIn q nodes (room_at f Third) → room ≡ room_at f Fourth → (fault ≡ Unsettled → ¬ IsSettledIn q nodes (room_at f Fourth)) → (fault ≡ CellRefused → IsOfferedIn nodes (room_at f Fourth)) → IsTold q nodes f room fault
+    told_fourth a b c is = told Fourth room fault (three_before q nodes f room a b c is) is
 
     -- or there is no memory or no number for them, before a room is told
-    pub told_none : room ≡ 4 * f → (fault ≡ NoMemory) ⊎ (fault ≡ Spent) → IsTold nodes f room fault
+    pub told_none : room ≡ 4 * f → (fault ≡ NoMemory) ⊎ (fault ≡ Spent) → IsTold q nodes f room fault
     told_none is none = told_first (omega (arith, is)) (λ e. absurd (not_unsettled fault none e)) (λ e. absurd (not_refused fault none e))
 
 -- ---- of the passes by number
@@ -110,18 +111,18 @@ module _ (nodes : List (Vec KeptPart)) (f : ℕ) where
   pub kept_fourth : kept_in 3 (parts_of nodes f) ≡ kept_of nodes (room_at f Fourth)
   kept_fourth = map-map (λ (parts : List KeptPart). nodes_of parts 3) (λ (node : Vec KeptPart). four_kept node.items f) nodes
 
-  settled_in : (p : ℕ) (room : ℕ) → kept_in p (parts_of nodes f) ≡ kept_of nodes room → by_pass.IsSettledIn (parts_of nodes f) p → IsSettledIn nodes room
-  settled_in p room e s = subst (λ (k : List KeptPart). Settled (length k) (nodes_of k)) e s
+  settled_in : (q : Sizes) (p : ℕ) (room : ℕ) → kept_in p (parts_of nodes f) ≡ kept_of nodes room → by_pass.IsSettledIn q (parts_of nodes f) p → IsSettledIn q nodes room
+  settled_in q p room e s = subst (λ (k : List KeptPart). Settled q (nodes_of k)) e s
 
-  settled_back : (p : ℕ) (room : ℕ) → kept_in p (parts_of nodes f) ≡ kept_of nodes room → IsSettledIn nodes room → by_pass.IsSettledIn (parts_of nodes f) p
-  settled_back p room e s = subst (λ (k : List KeptPart). Settled (length k) (nodes_of k)) (sym e) s
+  settled_back : (q : Sizes) (p : ℕ) (room : ℕ) → kept_in p (parts_of nodes f) ≡ kept_of nodes room → IsSettledIn q nodes room → by_pass.IsSettledIn q (parts_of nodes f) p
+  settled_back q p room e s = subst (λ (k : List KeptPart). Settled q (nodes_of k)) (sym e) s
 
-  pub settled_all : by_pass.AreSettled (parts_of nodes f) → AreSettled nodes f
-  settled_all s =
-      all_settled nodes f (settled_in 0 (room_at f First) kept_first (s 0 (omega arith))) (settled_in 1 (room_at f Second) kept_second (s 1 (omega arith)))
-      (settled_in 2 (room_at f Third) kept_third (s 2 (omega arith))) (settled_in 3 (room_at f Fourth) kept_fourth (s 3 (omega arith)))
+  pub settled_all : (q : Sizes) → by_pass.AreSettled q (parts_of nodes f) → AreSettled q nodes f
+  settled_all q s =
+      all_settled q nodes f (settled_in q 0 (room_at f First) kept_first (s 0 (omega arith))) (settled_in q 1 (room_at f Second) kept_second (s 1 (omega arith)))
+      (settled_in q 2 (room_at f Third) kept_third (s 2 (omega arith))) (settled_in q 3 (room_at f Fourth) kept_fourth (s 3 (omega arith)))
 
-  module _ (here : FunctionOffers) (room : ℕ) (fault : RoomFault) (why : RoomError) (are : fault ≡ fault_of why)
+  module _ (q : Sizes) (here : FunctionOffers) (room : ℕ) (fault : RoomFault) (why : RoomError) (are : fault ≡ fault_of why)
       (o1 : AreOffersOf (kept_of nodes (room_at f First)) here.first.items) (o2 : AreOffersOf (kept_of nodes (room_at f Second)) here.second.items)
       (o3 : AreOffersOf (kept_of nodes (room_at f Third)) here.third.items) (o4 : AreOffersOf (kept_of nodes (room_at f Fourth)) here.fourth.items) where
     unsettled_is : (why : RoomError) → fault_of why ≡ Unsettled → why ≡ error.Unsettled
@@ -134,24 +135,24 @@ module _ (nodes : List (Vec KeptPart)) (f : ℕ) where
     refused_is error.Unsettled e = absurd (cc)
     refused_is error.CellRefused e = refl
 
-    pub told_pass : (pass : ℕ) → by_pass.IsUnopened (parts_of nodes f) here pass why → room + 1 ≡ 4 * f + pass → IsTold nodes f room fault
+    pub told_pass : (pass : ℕ) → by_pass.IsUnopened q (parts_of nodes f) here pass why → room + 1 ≡ 4 * f + pass → IsTold q nodes f room fault
     told_pass zero is at = absurd (let some : 0 < 0 = is.some in omega arith)
     told_pass (suc zero) is at =
-        told_first nodes f room fault (omega (arith, at))
-        (λ e s. is.here (unsettled_is why (sym are ∙ e)) 0 refl (settled_back 0 (room_at f First) kept_first s))
+        told_first q nodes f room fault (omega (arith, at))
+        (λ e s. is.here (unsettled_is why (sym are ∙ e)) 0 refl (settled_back q 0 (room_at f First) kept_first s))
         (λ e. who_offered (kept_of nodes (room_at f First)) here.first.items o1 (is.refused (refused_is why (sym are ∙ e))))
     told_pass (suc (suc zero)) is at =
-        told_second nodes f room fault (settled_in 0 (room_at f First) kept_first (is.before 0 (omega arith))) (omega (arith, at))
-        (λ e s. is.here (unsettled_is why (sym are ∙ e)) 1 refl (settled_back 1 (room_at f Second) kept_second s))
+        told_second q nodes f room fault (settled_in q 0 (room_at f First) kept_first (is.before 0 (omega arith))) (omega (arith, at))
+        (λ e s. is.here (unsettled_is why (sym are ∙ e)) 1 refl (settled_back q 1 (room_at f Second) kept_second s))
         (λ e. who_offered (kept_of nodes (room_at f Second)) here.second.items o2 (is.refused (refused_is why (sym are ∙ e))))
     told_pass (suc (suc (suc zero))) is at =
-        told_third nodes f room fault (settled_in 0 (room_at f First) kept_first (is.before 0 (omega arith)))
-        (settled_in 1 (room_at f Second) kept_second (is.before 1 (omega arith))) (omega (arith, at))
-        (λ e s. is.here (unsettled_is why (sym are ∙ e)) 2 refl (settled_back 2 (room_at f Third) kept_third s))
+        told_third q nodes f room fault (settled_in q 0 (room_at f First) kept_first (is.before 0 (omega arith)))
+        (settled_in q 1 (room_at f Second) kept_second (is.before 1 (omega arith))) (omega (arith, at))
+        (λ e s. is.here (unsettled_is why (sym are ∙ e)) 2 refl (settled_back q 2 (room_at f Third) kept_third s))
         (λ e. who_offered (kept_of nodes (room_at f Third)) here.third.items o3 (is.refused (refused_is why (sym are ∙ e))))
     told_pass (suc (suc (suc (suc zero)))) is at =
-        told_fourth nodes f room fault (settled_in 0 (room_at f First) kept_first (is.before 0 (omega arith)))
-        (settled_in 1 (room_at f Second) kept_second (is.before 1 (omega arith))) (settled_in 2 (room_at f Third) kept_third (is.before 2 (omega arith))) (omega (arith, at))
-        (λ e s. is.here (unsettled_is why (sym are ∙ e)) 3 refl (settled_back 3 (room_at f Fourth) kept_fourth s))
+        told_fourth q nodes f room fault (settled_in q 0 (room_at f First) kept_first (is.before 0 (omega arith)))
+        (settled_in q 1 (room_at f Second) kept_second (is.before 1 (omega arith))) (settled_in q 2 (room_at f Third) kept_third (is.before 2 (omega arith))) (omega (arith, at))
+        (λ e s. is.here (unsettled_is why (sym are ∙ e)) 3 refl (settled_back q 3 (room_at f Fourth) kept_fourth s))
         (λ e. who_offered (kept_of nodes (room_at f Fourth)) here.fourth.items o4 (is.refused (refused_is why (sym are ∙ e))))
     told_pass (suc (suc (suc (suc (suc n))))) is at = absurd (let most : suc (suc (suc (suc (suc n)))) ≤ 4 = is.most in omega arith)

@@ -3,6 +3,7 @@ use Rattle.std.proofs.Common.{◌≡◌, ◌≢◌, ◌⊎◌, inl, inr, ℕ, ze
 use Rattle.std.specs.Global.{Vec}
 use Rattle.std.proofs.lemmas.Bool.{cases_eq}
 use Rattle.paxos_core_world.specs.KeptPart.{KeptPart}
+use Rattle.paxos_core_world.specs.Quorum.{Sizes}
 use Rattle.rooms_hall.specs.Claimed.{Claimed}
 use Rattle.rooms_hall.specs.declared.hall.Naming as naming
 use Rattle.rooms.specs.Opened.{AreOffersOf}
@@ -51,19 +52,19 @@ offers_here kept pass functions n given left are low left_are =
     subst (λ os. AreOffersOf (kept_of kept (room_at n pass)) os) (sym (left_are n (omega arith))) (are n low)
 
 -- the rooms of a pass are open up to one function more
-module _ {T N : Type 0} (kept : List (Vec KeptPart)) (pass : Which) (given : List (List (Option T))) (show : N → SeatValue T × Claimed) where
+module _ {T N : Type 0} (q : Sizes) (kept : List (Vec KeptPart)) (pass : Which) (given : List (List (Option T))) (show : N → SeatValue T × Claimed) where
   opened_next : (n : ℕ) (left : List (List (Option T))) (rows more : List (List N)) (seats : List N) → length seats ≡ length rows → All (λ row. length row ≡ n) rows → more ≡ grown rows seats → AreLeft n given left
-      → IsOpenedRoom (kept_of kept (room_at n pass)) (offers_of left n) (map show seats) → AreOpenedIn kept pass n given show rows → AreOpenedIn kept pass (n + 1) given show more
+      → IsOpenedRoom q (kept_of kept (room_at n pass)) (offers_of left n) (map show seats) → AreOpenedIn q kept pass n given show rows → AreOpenedIn q kept pass (n + 1) given show more
   opened_next n left rows more seats same long is left_are now before f low = on (cases_eq f n)
     where
       Opened : List N → Type 0
-      Opened xs = IsOpenedRoom (kept_of kept (room_at f pass)) (offers_of given f) (map show xs)
+      Opened xs = IsOpenedRoom q (kept_of kept (room_at f pass)) (offers_of given f) (map show xs)
 
-      on : (f ≡ n) ⊎ (f ≢ n) → IsOpenedRoom (kept_of kept (room_at f pass)) (offers_of given f) (map show (column more f))
+      on : (f ≡ n) ⊎ (f ≢ n) → IsOpenedRoom q (kept_of kept (room_at f pass)) (offers_of given f) (map show (column more f))
       on (inl e) =
-          let of_here : IsOpenedRoom (kept_of kept (room_at n pass)) (offers_of given n) (map show seats) =
-          subst (λ os. IsOpenedRoom (kept_of kept (room_at n pass)) os (map show seats)) (left_are n (omega arith)) now in
-          let of_f : Opened seats = subst (λ k. IsOpenedRoom (kept_of kept (room_at k pass)) (offers_of given k) (map show seats)) (sym e) of_here in
+          let of_here : IsOpenedRoom q (kept_of kept (room_at n pass)) (offers_of given n) (map show seats) =
+          subst (λ os. IsOpenedRoom q (kept_of kept (room_at n pass)) os (map show seats)) (left_are n (omega arith)) now in
+          let of_f : Opened seats = subst (λ k. IsOpenedRoom q (kept_of kept (room_at k pass)) (offers_of given k) (map show seats)) (sym e) of_here in
           let there : column more f ≡ seats = ap (λ k. column more k) e ∙ ap (λ m. column m n) is ∙ column_last n rows seats same long in
           subst Opened (sym there) of_f
       on (inr ne) =
@@ -71,15 +72,15 @@ module _ {T N : Type 0} (kept : List (Vec KeptPart)) (pass : Which) (given : Lis
           subst Opened (sym (ap (λ m. column m f) is ∙ column_front n rows seats f front long)) (before f front)
 
 -- rooms of the functions so far
-module _ (kept : List (Vec KeptPart)) where
+module _ (q : Sizes) (kept : List (Vec KeptPart)) where
   abbrev pub AreSettledSoFar : ℕ → Type 0
-  AreSettledSoFar n = (f : ℕ) → f < n → AreSettled kept f
+  AreSettledSoFar n = (f : ℕ) → f < n → AreSettled q kept f
 
-  pub settled_next : (n : ℕ) → AreSettledSoFar n → AreSettled kept n → AreSettledSoFar (n + 1)
+  pub settled_next : (n : ℕ) → AreSettledSoFar n → AreSettled q kept n → AreSettledSoFar (n + 1)
   settled_next n before now f low = on (cases_eq f n)
     where
-      on : (f ≡ n) ⊎ (f ≢ n) → AreSettled kept f
-      on (inl e) = subst (λ k. AreSettled kept k) (sym e) now
+      on : (f ≡ n) ⊎ (f ≢ n) → AreSettled q kept f
+      on (inl e) = subst (λ k. AreSettled q kept k) (sym e) now
       on (inr ne) = before f (omega (arith, low, ne))
 
   -- the pass of a room has a place, by which the room is that of its function
@@ -90,45 +91,45 @@ module _ (kept : List (Vec KeptPart)) where
   of_place m (suc (suc (suc zero))) is low = (Fourth, omega (arith, is))
   of_place m (suc (suc (suc (suc k)))) is low = absurd (omega (arith, low))
 
-  pub before_room : (n room : ℕ) → AreSettledSoFar n → function_of room ≡ n → AreSettledBefore kept n room → IsSettledBefore kept room
+  pub before_room : (n room : ℕ) → AreSettledSoFar n → function_of room ≡ n → AreSettledBefore q kept n room → IsSettledBefore q kept room
   before_room n room so_far is here m low = on (cases_eq (m / 4) n)
     where
       found : (pass : Which) × (m ≡ room_at (m / 4) pass)
       found = of_place m (m % 4) refl (omega arith)
 
-      on : (m / 4 ≡ n) ⊎ (m / 4 ≢ n) → IsSettledIn kept m
+      on : (m / 4 ≡ n) ⊎ (m / 4 ≢ n) → IsSettledIn q kept m
       on (inl e) =
           let at : m ≡ room_at n found.0 = found.1 ∙ ap (λ k. room_at k found.0) e in
-          subst (λ k. IsSettledIn kept k) (sym at) (here found.0 (omega (arith, low, at)))
+          subst (λ k. IsSettledIn q kept k) (sym at) (here found.0 (omega (arith, low, at)))
       on (inr ne) =
           let front : m / 4 < n = omega (arith, low, ne, is) in
-          subst (λ k. IsSettledIn kept k) (sym found.1) (so_far (m / 4) front found.0)
+          subst (λ k. IsSettledIn q kept k) (sym found.1) (so_far (m / 4) front found.0)
 
   -- a room that a run has left is settled
-  pub settled_again : (functions room : ℕ) → function_of room < functions → AreLeftIn kept functions → IsSettledIn kept room
+  pub settled_again : (functions room : ℕ) → function_of room < functions → AreLeftIn q kept functions → IsSettledIn q kept room
   settled_again functions room low left =
       let found : (pass : Which) × (room ≡ room_at (room / 4) pass) = of_place room (room % 4) refl (omega arith) in
-      subst (λ k. IsSettledIn kept k) (sym found.1) (left_settled (kept_of kept (room_at (room / 4) found.0)) (left (room / 4) found.0 low))
+      subst (λ k. IsSettledIn q kept k) (sym found.1) (left_settled q (kept_of kept (room_at (room / 4) found.0)) (left (room / 4) found.0 low))
 
   -- the first room of a function
-  pub before_first : (n room : ℕ) → AreSettledSoFar n → room ≡ 4 * n → IsSettledBefore kept room
+  pub before_first : (n room : ℕ) → AreSettledSoFar n → room ≡ 4 * n → IsSettledBefore q kept room
   before_first n room so_far is m low =
       let found : (pass : Which) × (m ≡ room_at (m / 4) pass) = of_place m (m % 4) refl (omega arith) in
       let front : m / 4 < n = omega (arith, low, is) in
-      subst (λ k. IsSettledIn kept k) (sym found.1) (so_far (m / 4) front found.0)
+      subst (λ k. IsSettledIn q kept k) (sym found.1) (so_far (m / 4) front found.0)
 
 -- the rooms of the functions so far are open
 module _ {H : Type 0} {h : naming.Ghosts H} where
-  pub record AreOpen (kept : List (Vec KeptPart)) (n : ℕ) (given : Offered) (rows : List (List (Seats H h))) : Type 0 where
+  pub record AreOpen (q : Sizes) (kept : List (Vec KeptPart)) (n : ℕ) (given : Offered) (rows : List (List (Seats H h))) : Type 0 where
     pub long : All (λ row. length row ≡ n) rows
-    pub first : AreOpenedIn kept First n (rows_of given.first.items) (λ (s : Seats H h). (s.seat.first, s.claim)) rows
-    pub second : AreOpenedIn kept Second n (rows_of given.second.items) (λ (s : Seats H h). (s.seat.second, s.claim)) rows
-    pub third : AreOpenedIn kept Third n (rows_of given.third.items) (λ (s : Seats H h). (s.seat.third, s.claim)) rows
-    pub fourth : AreOpenedIn kept Fourth n (rows_of given.fourth.items) (λ (s : Seats H h). (s.seat.fourth, s.claim)) rows
-    pub settled : AreSettledSoFar kept n
+    pub first : AreOpenedIn q kept First n (rows_of given.first.items) (λ (s : Seats H h). (s.seat.first, s.claim)) rows
+    pub second : AreOpenedIn q kept Second n (rows_of given.second.items) (λ (s : Seats H h). (s.seat.second, s.claim)) rows
+    pub third : AreOpenedIn q kept Third n (rows_of given.third.items) (λ (s : Seats H h). (s.seat.third, s.claim)) rows
+    pub fourth : AreOpenedIn q kept Fourth n (rows_of given.fourth.items) (λ (s : Seats H h). (s.seat.fourth, s.claim)) rows
+    pub settled : AreSettledSoFar q kept n
 
-  pub none_open : (kept : List (Vec KeptPart)) (given : Offered) (rows : List (List (Seats H h))) → All (λ row. length row ≡ 0) rows → AreOpen kept 0 given rows
-  none_open kept given rows none = record {
+  pub none_open : (q : Sizes) (kept : List (Vec KeptPart)) (given : Offered) (rows : List (List (Seats H h))) → All (λ row. length row ≡ 0) rows → AreOpen q kept 0 given rows
+  none_open q kept given rows none = record {
     long = none;
     first = λ f low. absurd (omega (arith, low));
     second = λ f low. absurd (omega (arith, low));
@@ -137,22 +138,22 @@ module _ {H : Type 0} {h : naming.Ghosts H} where
     settled = λ f low. absurd (omega (arith, low));
   }
 
-  pub open_next : (kept : List (Vec KeptPart)) (n : ℕ) (given left : Offered) (rows more : List (List (Seats H h))) (seats : List (Seats H h)) → length rows ≡ length kept → more ≡ grown rows seats → AllLeft n given left → IsOpenFunction kept n left seats → AreOpen kept n given rows → AreOpen kept (n + 1) given more
-  open_next kept n given left rows more seats count is left_are now before =
+  pub open_next : (q : Sizes) (kept : List (Vec KeptPart)) (n : ℕ) (given left : Offered) (rows more : List (List (Seats H h))) (seats : List (Seats H h)) → length rows ≡ length kept → more ≡ grown rows seats → AllLeft n given left → IsOpenFunction q kept n left seats → AreOpen q kept n given rows → AreOpen q kept (n + 1) given more
+  open_next q kept n given left rows more seats count is left_are now before =
       let same : length seats ≡ length rows = now.count ∙ sym count in
       record {
         long = subst (λ (m : List (List (Seats H h))). All (λ row. length row ≡ n + 1) m) (sym is) (grown_long n rows seats same before.long);
         first =
-            opened_next kept First (rows_of given.first.items) (λ (s : Seats H h). (s.seat.first, s.claim)) n (rows_of left.first.items) rows more seats
+            opened_next q kept First (rows_of given.first.items) (λ (s : Seats H h). (s.seat.first, s.claim)) n (rows_of left.first.items) rows more seats
             same before.long is left_are.first now.first before.first;
         second =
-            opened_next kept Second (rows_of given.second.items) (λ (s : Seats H h). (s.seat.second, s.claim)) n (rows_of left.second.items) rows more seats
+            opened_next q kept Second (rows_of given.second.items) (λ (s : Seats H h). (s.seat.second, s.claim)) n (rows_of left.second.items) rows more seats
             same before.long is left_are.second now.second before.second;
         third =
-            opened_next kept Third (rows_of given.third.items) (λ (s : Seats H h). (s.seat.third, s.claim)) n (rows_of left.third.items) rows more seats
+            opened_next q kept Third (rows_of given.third.items) (λ (s : Seats H h). (s.seat.third, s.claim)) n (rows_of left.third.items) rows more seats
             same before.long is left_are.third now.third before.third;
         fourth =
-            opened_next kept Fourth (rows_of given.fourth.items) (λ (s : Seats H h). (s.seat.fourth, s.claim)) n (rows_of left.fourth.items) rows more seats
+            opened_next q kept Fourth (rows_of given.fourth.items) (λ (s : Seats H h). (s.seat.fourth, s.claim)) n (rows_of left.fourth.items) rows more seats
             same before.long is left_are.fourth now.fourth before.fourth;
-        settled = settled_next kept n before.settled now.settled;
+        settled = settled_next q kept n before.settled now.settled;
       }

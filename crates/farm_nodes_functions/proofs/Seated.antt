@@ -3,11 +3,11 @@ use Rattle.std.proofs.Common.{◌≡◌, ◌≢◌, ℕ, zero, suc, ◌<◌, Lis
 use Rattle.std.specs.Global.{Vec}
 use Rattle.std.specs.Prelude.{slice_get}
 use Rattle.std.specs.List.{cons_option}
-use Rattle.std.proofs.lemmas.List.{length-map}
 use Rattle.std.proofs.lemmas.List.Elements.{All-get_or, All-head, All-tail}
 use Rattle.std.proofs.lemmas.Option.{get_or_from_slice_get, none-some, same_Some, slice_get-get_or, slice_get-map, slice_get_within}
-use Rattle.paxos_core_law.specs.NodeState.{IsRoomSize, node_with}
+use Rattle.paxos_core_law.specs.NodeState.{node_with}
 use Rattle.paxos_core_world.specs.KeptPart.{KeptPart, nothing_kept}
+use Rattle.paxos_core_world.specs.Quorum.{AreQuorums, Sizes}
 use Rattle.paxos_core_world.specs.World.{nodes_of}
 use Rattle.rooms_hall.specs.Claimed.{Claimed}
 use Rattle.rooms.specs.Opened.{offer_at}
@@ -37,8 +37,8 @@ kept_at kept m i k at =
     let of_node : Vec KeptPart → KeptPart = λ node. nodes_of node.items m in
     get_or_from_slice_get (kept_of kept m) i (of_node k) nothing_kept (slice_get-map of_node kept i ∙ ap (option_map of_node) at)
 
-module _ {T N : Type 0} (kept : List (Vec KeptPart)) (pass : Which) (functions : ℕ) (offers : List (List (Option T))) (show : N → SeatValue T × Claimed) (rows : List (List N))
-    (size : IsRoomSize (length kept)) (long : All (λ row. length row ≡ functions) rows) (opened : AreOpenedIn kept pass functions offers show rows)
+module _ {T N : Type 0} (q : Sizes) (kept : List (Vec KeptPart)) (pass : Which) (functions : ℕ) (offers : List (List (Option T))) (show : N → SeatValue T × Claimed) (rows : List (List N))
+    (sizes : AreQuorums q) (long : All (λ row. length row ≡ functions) rows) (opened : AreOpenedIn q kept pass functions offers show rows)
     (i f : ℕ) (row : List N) (x : N) (at : slice_get rows i ≡ Some row) (is : slice_get row f ≡ Some x) where
   low : f < functions
   low =
@@ -52,19 +52,15 @@ module _ {T N : Type 0} (kept : List (Vec KeptPart)) (pass : Which) (functions :
   here : slice_get (map show (column rows f)) i ≡ Some (show x)
   here = slice_get-map show (column rows f) i ∙ ap (option_map show) (column_at functions f rows i row x low long at is)
 
-  sized : IsRoomSize (length (kept_of kept room))
-  sized = subst IsRoomSize (sym (length-map kept (λ (node : Vec KeptPart). nodes_of node.items room))) size
-
   -- it is the node's, knows what the node has kept of the room, and has learned nothing
-  pub seat_opens : (k : Vec KeptPart) → slice_get kept i ≡ Some k → (show x).0.words.node ≡ node_with i (length kept) (nodes_of k.items room)
+  pub seat_opens : (k : Vec KeptPart) → slice_get kept i ≡ Some k → (show x).0.words.node ≡ node_with i q (nodes_of k.items room)
   seat_opens k its =
-      node_opens (kept_of kept room) (offers_of offers f) (map show (column rows f)) sized (opened f low) i (show x) here
-      ∙ ap (λ (n : ℕ). node_with i n (nodes_of (kept_of kept room) i)) (length-map kept (λ (node : Vec KeptPart). nodes_of node.items room))
-      ∙ ap (node_with i (length kept)) (kept_at kept room i k its)
+      node_opens q (kept_of kept room) (offers_of offers f) (map show (column rows f)) sizes (opened f low) i (show x) here
+      ∙ ap (node_with i q) (kept_at kept room i k its)
 
   -- it has seen the node's offer, if that has made one, and no other
   pub seat_offers : offer_of (show x).0 i ≡ offer_at (offers_of offers f) i
-  seat_offers = own_offer (kept_of kept room) (offers_of offers f) (map show (column rows f)) sized (opened f low) i (show x) here
+  seat_offers = own_offer q (kept_of kept room) (offers_of offers f) (map show (column rows f)) sizes (opened f low) i (show x) here
 
   pub seat_alone : (j : ℕ) → j ≢ i → offer_of (show x).0 j ≡ None
-  seat_alone = no_other_offer (kept_of kept room) (offers_of offers f) (map show (column rows f)) sized (opened f low) i (show x) here
+  seat_alone = no_other_offer q (kept_of kept room) (offers_of offers f) (map show (column rows f)) sizes (opened f low) i (show x) here

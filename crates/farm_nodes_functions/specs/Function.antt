@@ -2,6 +2,7 @@
 use Rattle.std.specs.Prelude.{◌≡◌, ℕ, List, Option, length, map}
 use Rattle.std.specs.Global.{Vec}
 use Rattle.paxos_core_world.specs.KeptPart.{KeptPart}
+use Rattle.paxos_core_world.specs.Quorum.{Sizes}
 use Rattle.rooms_hall.specs.declared.hall.Naming as naming
 use Rattle.farm_nodes_opening.specs.Numbers.{function_of, room_at}
 use Rattle.farm_nodes_opening.specs.Offers.{Constants, Expressions, Allocation, Order}
@@ -28,21 +29,21 @@ pub record AreTaken (function : ℕ) (before after : Offered) : Type 0 where
   pub third : AreForOthers function (rows_of before.third.items) (rows_of after.third.items)
   pub fourth : AreForOthers function (rows_of before.fourth.items) (rows_of after.fourth.items)
 
--- in each room the nodes' seats are those of the room as it opens from what was kept of it and offered there
-pub record IsOpenFunction {H : Type 0} {h : naming.Ghosts H} (kept : List (Vec KeptPart)) (f : ℕ) (offers : Offered) (nodes : List (Seats H h)) : Type 0 where
-  pub first : IsOpenedRoom (kept_of kept (room_at f First)) (offers_of (rows_of offers.first.items) f) (map (λ n. (n.seat.first, n.claim)) nodes)
-  pub second : IsOpenedRoom (kept_of kept (room_at f Second)) (offers_of (rows_of offers.second.items) f) (map (λ n. (n.seat.second, n.claim)) nodes)
-  pub third : IsOpenedRoom (kept_of kept (room_at f Third)) (offers_of (rows_of offers.third.items) f) (map (λ n. (n.seat.third, n.claim)) nodes)
-  pub fourth : IsOpenedRoom (kept_of kept (room_at f Fourth)) (offers_of (rows_of offers.fourth.items) f) (map (λ n. (n.seat.fourth, n.claim)) nodes)
+-- in each room the nodes' seats are those of the room as it opens, with quorums of these sizes, from what was kept of it and offered there
+pub record IsOpenFunction {H : Type 0} {h : naming.Ghosts H} (q : Sizes) (kept : List (Vec KeptPart)) (f : ℕ) (offers : Offered) (nodes : List (Seats H h)) : Type 0 where
+  pub first : IsOpenedRoom q (kept_of kept (room_at f First)) (offers_of (rows_of offers.first.items) f) (map (λ n. (n.seat.first, n.claim)) nodes)
+  pub second : IsOpenedRoom q (kept_of kept (room_at f Second)) (offers_of (rows_of offers.second.items) f) (map (λ n. (n.seat.second, n.claim)) nodes)
+  pub third : IsOpenedRoom q (kept_of kept (room_at f Third)) (offers_of (rows_of offers.third.items) f) (map (λ n. (n.seat.third, n.claim)) nodes)
+  pub fourth : IsOpenedRoom q (kept_of kept (room_at f Fourth)) (offers_of (rows_of offers.fourth.items) f) (map (λ n. (n.seat.fourth, n.claim)) nodes)
   pub count : length nodes ≡ length kept
-  pub settled : AreSettled kept f
+  pub settled : AreSettled q kept f
 
 -- The room is one of the function's, and what was kept of those in front of it is settled. Of this one it is not, where it is said so;
 -- and where a cell refused, somebody has offered there.
-pub record IsTold (nodes : List (Vec KeptPart)) (function room : ℕ) (fault : RoomFault) : Type 0 where
+pub record IsTold (q : Sizes) (nodes : List (Vec KeptPart)) (function room : ℕ) (fault : RoomFault) : Type 0 where
   pub of_function : function_of room ≡ function
-  pub before : AreSettledBefore nodes function room
-  pub unsettled : fault ≡ Unsettled → ¬ IsSettledIn nodes room
+  pub before : AreSettledBefore q nodes function room
+  pub unsettled : fault ≡ Unsettled → ¬ IsSettledIn q nodes room
   pub refused : fault ≡ CellRefused → IsOfferedIn nodes room
 
 -- why a room is not opened, in the words of the farm

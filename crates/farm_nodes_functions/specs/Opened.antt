@@ -2,6 +2,7 @@
 use Rattle.std.specs.Prelude.{ℕ, ◌<◌, List, Option, map}
 use Rattle.std.specs.Global.{Vec}
 use Rattle.paxos_core_world.specs.KeptPart.{KeptPart}
+use Rattle.paxos_core_world.specs.Quorum.{Sizes}
 use Rattle.rooms_hall.specs.Claimed.{Claimed}
 use Rattle.rooms.specs.Opened.{AreOffersOf}
 use Rattle.rooms.specs.SeatValue.{SeatValue}
@@ -16,10 +17,10 @@ abbrev pub AreOfferedIn : {T : Type 0} → List (Vec KeptPart) → Which → ℕ
 AreOfferedIn kept pass functions offers = (f : ℕ) → f < functions → AreOffersOf (kept_of kept (room_at f pass)) (offers_of offers f)
 
 -- what the nodes have for each function shows the seats of the room of its pass, as it opens
-abbrev pub AreOpenedIn : {T N : Type 0} → List (Vec KeptPart) → Which → ℕ → List (List (Option T)) → (N → SeatValue T × Claimed) → List (List N) → Type 0
-AreOpenedIn kept pass functions offers show nodes =
-    (f : ℕ) → f < functions → IsOpenedRoom (kept_of kept (room_at f pass)) (offers_of offers f) (map show (column nodes f))
+abbrev pub AreOpenedIn : {T N : Type 0} → Sizes → List (Vec KeptPart) → Which → ℕ → List (List (Option T)) → (N → SeatValue T × Claimed) → List (List N) → Type 0
+AreOpenedIn q kept pass functions offers show nodes =
+    (f : ℕ) → f < functions → IsOpenedRoom q (kept_of kept (room_at f pass)) (offers_of offers f) (map show (column nodes f))
 
 -- what was kept of each room in front of this one is settled
-abbrev pub IsSettledBefore : List (Vec KeptPart) → ℕ → Type 0
-IsSettledBefore kept room = (m : ℕ) → m < room → IsSettledIn kept m
+abbrev pub IsSettledBefore : Sizes → List (Vec KeptPart) → ℕ → Type 0
+IsSettledBefore q kept room = (m : ℕ) → m < room → IsSettledIn q kept m

@@ -1,5 +1,4 @@
 ghost use Rattle.std.specs.Prelude.{◌≡◌, ◌+◌, ◌*◌, ◌<◌, ◌≤◌, length, IfOk, OnOk, IfErr};
-ghost use Rattle.paxos_core_law.specs.NodeState.{IsRoomSize};
 ghost use Rattle.rooms.specs.Opened.{AreOffersOf};
 ghost use Rattle.farm_nodes_opening.specs.Numbers.{room_at};
 ghost use Rattle.farm_nodes_opening.specs.Which.TheVariants as which;
@@ -14,7 +13,7 @@ use farm_nodes_opening::{Passes, RoomFault, Seats, Unopened, numbered, parts_of}
 use lang_base::NoMemory;
 use linearize_check::Linearize;
 use offers::Offer;
-use paxos_core::Kept;
+use paxos_core::{Kept, Quorums};
 use rooms::RoomError;
 use rooms_function::{Alloc, FunctionOffers, FunctionRoom};
 use rooms_hall::{Hall, Naming};
@@ -29,16 +28,18 @@ pub type Offered = Passes<
 >;
 
 /// The seats of the nodes in the four rooms of a function, in the order of the nodes, from what each has kept of each room and the offers
-/// of the nodes there, which are taken out. Where the rooms are not opened one is told, the first in the order of the passes.
+/// of the nodes there, which are taken out. Each room has these quorums. Where the rooms are not opened one is told, the first in the
+/// order of the passes.
 pub(crate) fn open_function<H: Naming>(
     alloc: Global,
     hall: &Hall<H>,
     kept: &[Vec<Kept>],
     function: u16,
     offers: &mut Offered,
+    quorums: Quorums,
 ) -> Result<Vec<Seats<H>>, Unopened>
     requires number { function < 16384 }
-    requires size { IsRoomSize (length kept.now) }
+    requires size { length kept.now ≡ quorums.nodes }
     requires offers1 { AreOffersOf (kept_of kept.now (room_at function which.First))
         (offers_of (rows_of offers.old.first.items) function) }
     requires offers2 { AreOffersOf (kept_of kept.now (room_at function which.Second))
@@ -47,10 +48,11 @@ pub(crate) fn open_function<H: Naming>(
         (offers_of (rows_of offers.old.third.items) function) }
     requires offers4 { AreOffersOf (kept_of kept.now (room_at function which.Fourth))
         (offers_of (rows_of offers.old.fourth.items) function) }
-    ensures opened { IfOk result (λ nodes. IsOpenFunction kept.now function offers.old nodes.items) }
+    ensures opened { IfOk result (λ nodes. IsOpenFunction quorums kept.now function offers.old nodes.items) }
     ensures others { OnOk result (AreTaken function offers.old offers.new) }
-    ensures told { IfErr result (λ e. IsTold kept.now function e.room e.fault) }
+    ensures told { IfErr result (λ e. IsTold quorums kept.now function e.room e.fault) }
 {
+    let _nodes = quorums.nodes();
     let parts = match parts_of(alloc, kept, function) {
         Ok(parts) => parts,
         Err(NoMemory) => return Err(Unopened::no_memory(4 * function)),
@@ -59,7 +61,7 @@ pub(crate) fn open_function<H: Naming>(
         Ok(here) => here,
         Err(NoMemory) => return Err(Unopened::no_memory(4 * function)),
     };
-    let seats = match FunctionRoom::open(alloc, parts.as_slice(), here) {
+    let seats = match FunctionRoom::open(alloc, parts.as_slice(), here, quorums) {
         Ok(seats) => seats,
         Err(unopened) => return Err(told(function, unopened)),
     };

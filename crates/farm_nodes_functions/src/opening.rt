@@ -1,5 +1,4 @@
 ghost use Rattle.std.specs.Prelude.{◌≡◌, ◌≢◌, ℕ, ◌<◌, ◌≤◌, ◌*◌, All, length, IfOk, OnOk, IfErr};
-ghost use Rattle.paxos_core_law.specs.NodeState.{IsRoomSize};
 ghost use Rattle.farm_nodes_opening.specs.Which.TheVariants as which;
 ghost use Rattle.farm_nodes_opening.specs.Kept.{AreSettled, IsOfferedIn, IsSettledIn};
 ghost use Rattle.farm_nodes_opening.specs.Left.{AreLeftIn};
@@ -11,21 +10,23 @@ use crate::function::{Offered, open_function};
 use farm_nodes_lists::{add_each, none_yet};
 use farm_nodes_opening::{Seats, Unopened};
 use lang_base::NoMemory;
-use paxos_core::Kept;
+use paxos_core::{Kept, Quorums};
 use rooms_hall::{Hall, Naming};
 use std::alloc::Global;
 
 /// The seats of the nodes in the rooms of all functions, node by node, each node's in the order of the functions, from what each has kept
-/// of each room and the offers of each for each function. Where a room is not opened it is told, the first in order.
+/// of each room and the offers of each for each function. All rooms have these quorums. Where a room is not opened it is told, the first
+/// in order.
 pub fn open_functions<H: Naming>(
     alloc: Global,
     hall: &Hall<H>,
     kept: &[Vec<Kept>],
     functions: u16,
     offers: Offered,
+    quorums: Quorums,
 ) -> Result<Vec<Vec<Seats<H>>>, Unopened>
     requires number { functions ≤ 16384 }
-    requires size { IsRoomSize (length kept.now) }
+    requires size { length kept.now ≡ quorums.nodes }
     requires offers1 { AreOfferedIn kept.now which.First functions (rows_of offers.first.items) }
     requires offers2 { AreOfferedIn kept.now which.Second functions (rows_of offers.second.items) }
     requires offers3 { AreOfferedIn kept.now which.Third functions (rows_of offers.third.items) }
@@ -36,24 +37,24 @@ pub fn open_functions<H: Naming>(
     ensures functions { IfOk result (λ nodes. All (λ row. length row ≡ functions) (rows_of nodes.items)) }
 
     // In each room they are those of the room as it opens from what was kept of it and offered there.
-    ensures first { IfOk result (λ nodes. AreOpenedIn kept.now which.First functions (rows_of offers.first.items)
+    ensures first { IfOk result (λ nodes. AreOpenedIn quorums kept.now which.First functions (rows_of offers.first.items)
         (λ n. (n.seat.first, n.claim)) (rows_of nodes.items)) }
-    ensures second { IfOk result (λ nodes. AreOpenedIn kept.now which.Second functions (rows_of offers.second.items)
+    ensures second { IfOk result (λ nodes. AreOpenedIn quorums kept.now which.Second functions (rows_of offers.second.items)
         (λ n. (n.seat.second, n.claim)) (rows_of nodes.items)) }
-    ensures third { IfOk result (λ nodes. AreOpenedIn kept.now which.Third functions (rows_of offers.third.items)
+    ensures third { IfOk result (λ nodes. AreOpenedIn quorums kept.now which.Third functions (rows_of offers.third.items)
         (λ n. (n.seat.third, n.claim)) (rows_of nodes.items)) }
-    ensures fourth { IfOk result (λ nodes. AreOpenedIn kept.now which.Fourth functions (rows_of offers.fourth.items)
+    ensures fourth { IfOk result (λ nodes. AreOpenedIn quorums kept.now which.Fourth functions (rows_of offers.fourth.items)
         (λ n. (n.seat.fourth, n.claim)) (rows_of nodes.items)) }
-    ensures settled { OnOk result ((f : ℕ) → f < functions → AreSettled kept.now f) }
+    ensures settled { OnOk result ((f : ℕ) → f < functions → AreSettled quorums kept.now f) }
 
     // What was kept of the rooms in front of the one that is told is settled, and of that one it is not where it is said so.
     ensures room { IfErr result (λ e. e.fault ≢ fault.NoMemory → e.room < 4 * functions) }
-    ensures before { IfErr result (λ e. IsSettledBefore kept.now e.room) }
-    ensures unsettled { IfErr result (λ e. e.fault ≡ fault.Unsettled → ¬ IsSettledIn kept.now e.room) }
+    ensures before { IfErr result (λ e. IsSettledBefore quorums kept.now e.room) }
+    ensures unsettled { IfErr result (λ e. e.fault ≡ fault.Unsettled → ¬ IsSettledIn quorums kept.now e.room) }
     ensures refused { IfErr result (λ e. e.fault ≡ fault.CellRefused → IsOfferedIn kept.now e.room) }
 
     // What runs of the rooms have left, as a crash of all nodes may, is never refused so.
-    ensures left { AreLeftIn kept.now functions → IfErr result (λ e. e.fault ≢ fault.Unsettled) }
+    ensures left { AreLeftIn quorums kept.now functions → IfErr result (λ e. e.fault ≢ fault.Unsettled) }
 {
     let mut nodes = match none_yet(alloc, kept.len()) {
         Ok(nodes) => nodes,
@@ -61,7 +62,7 @@ pub fn open_functions<H: Naming>(
     };
     let mut left = offers;
     for function in 0..functions {
-        let seats = match open_function(alloc, hall, kept, function, &mut left) {
+        let seats = match open_function(alloc, hall, kept, function, &mut left, quorums) {
             Ok(seats) => seats,
             Err(unopened) => return Err(unopened),
         };

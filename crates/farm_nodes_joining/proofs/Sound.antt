@@ -1,8 +1,9 @@
 -- A node that was not asked yet is sound.
-use Rattle.std.proofs.Common.{◌≡◌, ◌++◌, ℕ, suc, List, [], ◌∷◌, map, slice_get, All, Option, Some, None, refl, sym, subst}
+use Rattle.std.proofs.Common.{◌≡◌, ◌++◌, ℕ, suc, ◌*◌, length, List, [], ◌∷◌, map, slice_get, All, Option, Some, None, refl, sym, subst}
 use Rattle.std.proofs.lemmas.List.{append-nil}
 use Rattle.std.proofs.lemmas.List.Elements.{All-nil, All-cons, All-head, All-tail}
 use Rattle.acceptor_log_form.specs.declared.record.Record.{Record}
+use Rattle.acceptor_log_form.specs.Order.{AreInOrder}
 use Rattle.acceptor_log_form.specs.Text.{StandsFor}
 use Rattle.acceptor_log.specs.declared.log.Log.{Log}
 use Rattle.acceptor_log.specs.Acknowledged.{acknowledged, IsReady}
@@ -21,6 +22,8 @@ module _ {D X1 X2 X3 X4 : Type 0} (is_honest : D → Type 0) (seen : D → List 
       record {
         leave = held.leave honest;
         named = held.named honest;
+        in_order = subst (λ (l : List Record). AreInOrder log.header.nodes log.header.node (4 * length seats) l) (sym whole) (held.in_order honest);
+        unproposed = held.unproposed honest;
         left = λ c left. record {
           records = rs;
           stands = subst (λ (bytes : List ℕ). StandsFor log.header rs bytes) (sym (ready.rests.durable c left)) ready.rests.stands;
@@ -33,6 +36,7 @@ module _ {D X1 X2 X3 X4 : Type 0} (is_honest : D → Type 0) (seen : D → List 
   sound_of = record {
     journal = held.sound;
     going = λ none. held.going;
+    own = held.own;
     upto = λ honest. (acknowledged seen log, journal_of honest, λ none. refl);
   }
 

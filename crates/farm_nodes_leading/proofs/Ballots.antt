@@ -2,6 +2,7 @@
 use Rattle.std.proofs.Common.{◌≡◌, ◌≢◌, ◌⊎◌, inl, inr, ℕ, ◌<◌, ◌≤◌, Bool, true, false, ◌&&◌, Option, Some, None, IsSomeAnd, is_none, option_map, refl, sym, ap, ◌∙◌, subst, arith}
 use Rattle.std.proofs.lemmas.Bool.{ltb-false}
 use Rattle.paxos_core_world.specs.KeptPart.{KeptPart, vote, with_start}
+use Rattle.paxos_core_world.specs.Quorum.{Sizes}
 use Rattle.paxos_core_world.specs.declared.msg.Msg.{Msg}
 use Rattle.paxos_core_law.specs.Acceptor.{is_vote}
 use Rattle.paxos_core_law.specs.NodeState.{NodeState}
@@ -102,19 +103,19 @@ start_keeps None k l e = same_start l k e
 start_keeps (Some b) k l e = e ∙ ap (λ (c : ℕ). with_start c k) (sym (ap (λ (m : KeptPart). m.started) e))
 
 pub leaves_same : (s t : SeatState) → t ≡ s → LeavesAll s t
-leaves_same s t e = subst (λ (u : SeatState). LeavesAll s u) (sym e) (record { table = refl; me = refl; count = refl; learned = refl; proposers = refl; kept = refl })
+leaves_same s t e = subst (λ (u : SeatState). LeavesAll s u) (sym e) (record { table = refl; me = refl; quorums = refl; learned = refl; proposers = refl; kept = refl })
 
 pub leaves_proposing : (s t : SeatState) → Acted act.Propose s t → LeavesAll s t
-leaves_proposing s t acted = record { table = acted.table; me = acted.me; count = acted.count; learned = acted.learned; proposers = acted.proposers; kept = same_start t.node.kept s.node.kept (kept_proposing s t acted) }
+leaves_proposing s t acted = record { table = acted.table; me = acted.me; quorums = acted.quorums; learned = acted.learned; proposers = acted.proposers; kept = same_start t.node.kept s.node.kept (kept_proposing s t acted) }
 
 pub leaves_starting : (s t : SeatState) → Acted act.Start s t → LeavesAll s t
-leaves_starting s t acted = record { table = acted.table; me = acted.me; count = acted.count; learned = acted.learned; proposers = acted.proposers; kept = start_keeps (next_start s.node) s.node.kept t.node.kept acted.kept }
+leaves_starting s t acted = record { table = acted.table; me = acted.me; quorums = acted.quorums; learned = acted.learned; proposers = acted.proposers; kept = start_keeps (next_start s.node) s.node.kept t.node.kept acted.kept }
 
 pub leaves_through : (a b c : SeatState) → LeavesAll a b → LeavesAll b c → LeavesAll a c
 leaves_through a b c first second = record {
   table = second.table ∙ first.table;
   me = second.me ∙ first.me;
-  count = second.count ∙ first.count;
+  quorums = second.quorums ∙ first.quorums;
   learned = second.learned ∙ first.learned;
   proposers = second.proposers ∙ first.proposers;
   kept = second.kept ∙ ap (λ (k : KeptPart). with_start c.node.kept.started k) first.kept;
@@ -136,7 +137,7 @@ quiet_led j s t leaves quiet =
           (elim (left.vote v here) [
             | inl e ↦ inl (accepted ∙ e)
             | inr e ↦ elim e [
-              | inl f ↦ inr (inl (ap (λ (n : ℕ). is_vote n (vote (proposer_of s j).started v)) leaves.count ∙ f))
+              | inl f ↦ inr (inl (ap (λ (q : Sizes). is_vote q.nodes (vote (proposer_of s j).started v)) leaves.quorums ∙ f))
               | inr f ↦ inr (inr (subst (λ (k : ℕ). (proposer_of s j).started < k) (sym promised) f))
             ]
           ]);

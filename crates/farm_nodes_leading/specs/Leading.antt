@@ -23,7 +23,7 @@ HasLed s = (s.node.learned ≢ None) ⊎ (would s act.Start ≡ None) ⊎ IsSome
 pub record LeavesAll (old new : SeatState) : Type 0 where
   pub table : new.table ≡ old.table
   pub me : new.node.me ≡ old.node.me
-  pub count : new.node.count ≡ old.node.count
+  pub quorums : new.node.quorums ≡ old.node.quorums
   pub learned : new.node.learned ≡ old.node.learned
   pub proposers : new.proposers ≡ old.proposers
   pub kept : new.node.kept ≡ with_start new.node.kept.started old.node.kept
@@ -32,6 +32,6 @@ pub record LeavesAll (old new : SeatState) : Type 0 where
 pub record Remains (old new : SeatState) : Type 0 where
   pub table : new.table ≡ old.table
   pub me : new.node.me ≡ old.node.me
-  pub count : new.node.count ≡ old.node.count
+  pub quorums : new.node.quorums ≡ old.node.quorums
   pub offered : new.node.kept.offered ≡ old.node.kept.offered
   pub learned : (v : ℕ) → old.node.learned ≡ Some v → new.node.learned ≡ Some v

@@ -42,7 +42,7 @@ pub fn lead<D: Disk>(
     ensures started { seat.new.node.kept.started ≢ seat.old.node.kept.started
         → (may_start seat.old.node ≡ true) × ((pcg32 words.old).0 % 4 ≡ 0) }
 
-    ensures acting { IfErr result (λ stop. IsActAmong seat.new.node.count stop.pending) }
+    ensures acting { IfErr result (λ stop. IsActAmong seat.new.node.quorums.nodes stop.pending) }
     ensures journal { D.is_honest log.old.disk → log.old.going ≡ true → Journalled
         D.is_honest D.seen D.may_leave D.moment D.left_since log.old log.new room seat.old seat.new result }
     ensures cause { log.old.going ≡ true → IfErr result (λ stop. HasCause D.is_honest D.faults

@@ -30,11 +30,11 @@ pub fn take_part<D: Disk>(
     ensures remains { Remains seat.old seat.new }
 
     // Nothing is left to accept, to promise or to propose, and it has led if it was to.
-    ensures quiet { OnOk result ((j : ℕ) → j < seat.new.node.count → IsQuiet j seat.new) }
+    ensures quiet { OnOk result ((j : ℕ) → j < seat.new.node.quorums.nodes → IsQuiet j seat.new) }
     ensures proposed { OnOk result (would seat.new asked.Propose ≡ None) }
     ensures led { OnOk result (seat.old.node.kept.offered ≡ true → (pcg32 words.old).0 % 4 ≡ 0 → HasLed seat.new) }
 
-    ensures acting { IfErr result (λ stop. IsActAmong seat.new.node.count stop.pending) }
+    ensures acting { IfErr result (λ stop. IsActAmong seat.new.node.quorums.nodes stop.pending) }
     ensures journal { D.is_honest log.old.disk → log.old.going ≡ true → Journalled
         D.is_honest D.seen D.may_leave D.moment D.left_since log.old log.new room seat.old seat.new result }
     ensures cause { log.old.going ≡ true → IfErr result (λ stop. HasCause D.is_honest D.faults

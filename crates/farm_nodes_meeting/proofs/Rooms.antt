@@ -21,8 +21,11 @@ remains_same s t e = record {
   opening = ap (λ (x : SeatState). x.view.opening) e;
   table = ap (λ (x : SeatState). x.table) e;
   me = ap (λ (x : SeatState). x.node.me) e;
-  count = ap (λ (x : SeatState). x.node.count) e;
+  quorums = ap (λ (x : SeatState). x.node.quorums) e;
   kept = ap (λ (x : SeatState). x.node.kept) e;
+  ballot = ap (λ (x : SeatState). x.node.ballot) e;
+  under_it = ap (λ (x : SeatState). x.node.proposed) e;
+  proposed = ap (λ (x : SeatState). x.proposed) e;
   learned = λ v is. ap (λ (x : SeatState). x.node.learned) e ∙ is;
 }
 

@@ -17,7 +17,7 @@ held_back false p x e = absurd (cc e)
 
 pub learned_at : {T : Type 0} (s : SeatValue T) (l : Option ℕ) (x : T) → offer_learned s l ≡ Some x → IsLearned s l x
 learned_at s None x e = absurd (cc e)
-learned_at s (Some v) x e = record { value = v; learned = refl; seen = held_back (nat_lt v s.words.node.count) (offer_of s v) x e }
+learned_at s (Some v) x e = record { value = v; learned = refl; seen = held_back (nat_lt v s.words.node.quorums.nodes) (offer_of s v) x e }
 
 -- what both have, if all that both have are one
 pub one_option : {T : Type 0} (p q : Option T) → IsSome p → IsSome q → ((x y : T) → p ≡ Some x → q ≡ Some y → x ≡ y) → p ≡ q
@@ -33,8 +33,8 @@ seen_as (Some x) o found = sym found
 below : (v n : ℕ) → v < n → nat_lt v n ≡ true
 below v n lower = grind (arith, nat_tests)
 
-pub fetched : {T : Type 0} (s : SeatValue T) (v : ℕ) (r : Option (Bor T)) → s.words.node.learned ≡ Some v → v < s.words.node.count
+pub fetched : {T : Type 0} (s : SeatValue T) (v : ℕ) (r : Option (Bor T)) → s.words.node.learned ≡ Some v → v < s.words.node.quorums.nodes
     → MatchOption r (offer_of s v ≡ None) (λ x. offer_of s v ≡ Some x.now) → option_copied r ≡ learned_offer s
 fetched s v r e lower found =
-    let held : learned_offer s ≡ offer_of s v = ap (λ (l : Option ℕ). offer_learned s l) e ∙ ap (λ b. cond b (offer_of s v) None) (below v s.words.node.count lower) in
+    let held : learned_offer s ≡ offer_of s v = ap (λ (l : Option ℕ). offer_learned s l) e ∙ ap (λ b. cond b (offer_of s v) None) (below v s.words.node.quorums.nodes lower) in
     seen_as r (offer_of s v) found ∙ sym held

@@ -1,20 +1,21 @@
 -- What stands behind a turn in one room: the journal stands for what the node keeps.
 use Rattle.std.proofs.Common.{◌≡◌, ◌≢◌, ℕ, ◌*◌, ◌<◌, ◌≤◌, Bool, true, false, eqb, List, ◌++◌, length, slice_get, Option, Some, None, refl, sym, ap, ◌∙◌, subst, arith}
 use Rattle.std.proofs.lemmas.Bool.{eqb-true, eq-eqb}
-use Rattle.paxos_core_world.specs.KeptPart.{KeptPart}
 use Rattle.durable_model.specs.Moments.{LeavesOnly}
 use Rattle.acceptor_log_form.specs.declared.header.Header.{Header}
 use Rattle.acceptor_log_form.specs.declared.record.Record.{Record}
 use Rattle.acceptor_log_form.specs.Leaves.{kept_in}
 use Rattle.acceptor_log_form.specs.Lists.{Between}
+use Rattle.acceptor_log_form.specs.Order.{AreInOrder}
 use Rattle.acceptor_log.specs.declared.log.Log.{Log}
 use Rattle.acceptor_log.specs.Acknowledged.{acknowledged}
+use Rattle.farm_nodes_acting.specs.SeatState.{SeatState}
 use Rattle.farm_nodes_turn.specs.Advances.{Advances, AreOf}
 use Rattle.farm_nodes_turn.specs.Numbers.{function_of, pass_of}
 use Rattle.farm_nodes_node.specs.declared.halted.Halted.{Halted}
 use Rattle.farm_nodes_turn.specs.Fours.{Four, words_of}
 use Rattle.farm_nodes_turn.specs.Leaves.{Leave}
-use Rattle.farm_nodes_node.specs.Held.{pending_in}
+use Rattle.farm_nodes_node.specs.Held.{pending_in, AreUnproposed}
 use Rattle.farm_nodes_turn.specs.Turned.{OthersStay}
 use Rattle.farm_nodes_node.specs.Stood.{TurnsInto}
 use Rattle.farm_nodes_turn.proofs.Places.{same_room, words_other}
@@ -22,52 +23,62 @@ use Rattle.farm_nodes_turn.proofs.Places.{same_room, words_other}
 apart : (m n : ℕ) → eqb m n ≡ false → m ≢ n
 apart m n e same = let bad : true ≡ false = sym (eq-eqb m n same) ∙ e in absurd (cc)
 
--- a turn in the room, between two lists of seats and two lists of records
-module _ {T1 T2 T3 T4 : Type 0} (room : ℕ) (old new : List (Four T1 T2 T3 T4)) (s t : Four T1 T2 T3 T4) (before upto : List Record)
+-- a turn in the room, between two lists of seats
+module _ {T1 T2 T3 T4 : Type 0} (room : ℕ) (old new : List (Four T1 T2 T3 T4)) (s t : Four T1 T2 T3 T4)
     (was : slice_get old (function_of room) ≡ Some s) (is : slice_get new (function_of room) ≡ Some t)
-    (others : (f : ℕ) → f ≢ function_of room → slice_get new f ≡ slice_get old f) (stay : OthersStay (pass_of room) s t)
-    (own : kept_in before room ≡ (words_of s (pass_of room)).node.kept → kept_in upto room ≡ (words_of t (pass_of room)).node.kept)
-    (rest : (m : ℕ) → m ≢ room → kept_in upto m ≡ kept_in before m) (stood : Leave old before) where
+    (others : (f : ℕ) → f ≢ function_of room → slice_get new f ≡ slice_get old f) (stay : OthersStay (pass_of room) s t) where
   there : (m : ℕ) (u : Four T1 T2 T3 T4) → function_of m ≡ function_of room → slice_get new (function_of m) ≡ Some u → t ≡ u
   there m u f e = let both : Some t ≡ Some u = sym is ∙ (ap (λ (k : ℕ). slice_get new k) (sym f) ∙ e) in cc
 
-  kept_at : (m : ℕ) (u : Four T1 T2 T3 T4) → slice_get new (function_of m) ≡ Some u → (b d : Bool) → eqb m room ≡ b → eqb (function_of m) (function_of room) ≡ d
-      → kept_in upto m ≡ (words_of u (pass_of m)).node.kept
-  kept_at m u e true d p q =
-      let same : m ≡ room = eqb-true m room p in
-      let now : t ≡ u = there m u (ap (λ (k : ℕ). function_of k) same) e in
-      subst (λ (k : ℕ). kept_in upto k ≡ (words_of u (pass_of k)).node.kept) (sym same)
-      (own (stood.rooms room s was) ∙ ap (λ (v : Four T1 T2 T3 T4). (words_of v (pass_of room)).node.kept) now)
-  kept_at m u e false true p q =
-      let f : function_of m ≡ function_of room = eqb-true (function_of m) (function_of room) q in
-      let now : t ≡ u = there m u f e in
-      let differs : pass_of m ≡ pass_of room → ⊥ = (λ (same : pass_of m ≡ pass_of room). apart m room p (same_room m room f same)) in
-      rest m (apart m room p)
-      ∙ (stood.rooms m s (ap (λ (k : ℕ). slice_get old k) f ∙ was)
-      ∙ (ap (λ w. w.node.kept) (sym (words_other (pass_of room) (pass_of m) s t differs stay))
-      ∙ ap (λ (v : Four T1 T2 T3 T4). (words_of v (pass_of m)).node.kept) now))
-  kept_at m u e false false p q =
-      rest m (apart m room p) ∙ stood.rooms m u (sym (others (function_of m) (apart (function_of m) (function_of room) q)) ∙ e)
+  -- what is so of each room's words before is so after, where it is so of the room's own and stays so of others
+  module _ (Old New : ℕ → SeatState → Type 0) (own : Old room (words_of s (pass_of room)) → New room (words_of t (pass_of room)))
+      (rest : (m : ℕ) (w : SeatState) → m ≢ room → Old m w → New m w)
+      (each : (m : ℕ) (u : Four T1 T2 T3 T4) → slice_get old (function_of m) ≡ Some u → Old m (words_of u (pass_of m))) where
+    turned_at : (m : ℕ) (u : Four T1 T2 T3 T4) → slice_get new (function_of m) ≡ Some u → (b d : Bool) → eqb m room ≡ b → eqb (function_of m) (function_of room) ≡ d
+        → New m (words_of u (pass_of m))
+    turned_at m u e true d p q =
+        let same : m ≡ room = eqb-true m room p in
+        let now : t ≡ u = there m u (ap (λ (k : ℕ). function_of k) same) e in
+        subst (λ (k : ℕ). New k (words_of u (pass_of k))) (sym same)
+        (subst (λ (v : Four T1 T2 T3 T4). New room (words_of v (pass_of room))) now (own (each room s was)))
+    turned_at m u e false true p q =
+        let f : function_of m ≡ function_of room = eqb-true (function_of m) (function_of room) q in
+        let now : t ≡ u = there m u f e in
+        let differs : pass_of m ≡ pass_of room → ⊥ = (λ (same : pass_of m ≡ pass_of room). apart m room p (same_room m room f same)) in
+        subst (λ (v : Four T1 T2 T3 T4). New m (words_of v (pass_of m))) now
+        (subst (λ (w : SeatState). New m w) (sym (words_other (pass_of room) (pass_of m) s t differs stay))
+        (rest m (words_of s (pass_of m)) (apart m room p) (each m s (ap (λ (k : ℕ). slice_get old k) f ∙ was))))
+    turned_at m u e false false p q =
+        rest m (words_of u (pass_of m)) (apart m room p) (each m u (sym (others (function_of m) (apart (function_of m) (function_of room) q)) ∙ e))
 
-  pub stands_turned : function_of room < length old → length new ≡ length old → Leave new upto
-  stands_turned low same = record {
-    rooms = λ m u e. kept_at m u e (eqb m room) (eqb (function_of m) (function_of room)) refl refl;
+    pub turned_rooms : (m : ℕ) (u : Four T1 T2 T3 T4) → slice_get new (function_of m) ≡ Some u → New m (words_of u (pass_of m))
+    turned_rooms m u e = turned_at m u e (eqb m room) (eqb (function_of m) (function_of room)) refl refl
+
+  -- the records leave what the seats keep
+  pub stands_turned : (before upto : List Record)
+      → (kept_in before room ≡ (words_of s (pass_of room)).node.kept → kept_in upto room ≡ (words_of t (pass_of room)).node.kept)
+      → ((m : ℕ) → m ≢ room → kept_in upto m ≡ kept_in before m) → Leave old before → function_of room < length old → length new ≡ length old → Leave new upto
+  stands_turned before upto own rest stood low same = record {
+    rooms = turned_rooms (λ m w. kept_in before m ≡ w.node.kept) (λ m w. kept_in upto m ≡ w.node.kept) own (λ m w other e. rest m other ∙ e) stood.rooms;
     no_others = λ m above.
         let other : m ≢ room = (λ (e : m ≡ room). let high : length new ≤ function_of room = subst (λ (k : ℕ). length new ≤ function_of k) e above in omega arith) in
         rest m other ∙ stood.no_others m (omega arith);
   }
 
 module _ {D T1 T2 T3 T4 : Type 0} (seen : D → List ℕ) (may_leave : D → List ℕ → Type 0) (moment : D → ℕ) (left_since : D → ℕ → List ℕ → Type 0) where
-  pub turns_into : (old new : Log D) (seats : List (Four T1 T2 T3 T4)) (halted : Option Halted) (room : ℕ) (k l : KeptPart) (upto pending : List Record)
-      → new.header ≡ old.header → Advances seen may_leave moment left_since old new room k l upto pending
-      → pending ≡ pending_in seats halted → Leave seats upto → AreOf (4 * length seats) upto → (halted ≡ None → upto ≡ acknowledged seen new)
+  pub turns_into : (old new : Log D) (seats : List (Four T1 T2 T3 T4)) (halted : Option Halted) (room : ℕ) (s t : SeatState) (upto pending : List Record)
+      → new.header ≡ old.header → Advances seen may_leave moment left_since old new room s t upto pending
+      → pending ≡ pending_in seats halted → Leave seats upto → AreOf (4 * length seats) upto
+      → AreInOrder new.header.nodes new.header.node (4 * length seats) (upto ++ pending_in seats halted) → AreUnproposed seats upto → (halted ≡ None → upto ≡ acknowledged seen new)
       → TurnsInto seen may_leave moment left_since old new seats halted
-  turns_into old new seats halted room k l upto pending header advances same stands named all = record {
+  turns_into old new seats halted room s t upto pending header advances same stands named in_order unproposed all = record {
     upto = upto;
     longer = advances.longer;
     stands = record {
       leave = stands;
       named = named;
+      in_order = in_order;
+      unproposed = unproposed;
       left = λ c left.
           subst (λ (h : Header). Between h upto (upto ++ pending_in seats halted) c) (sym header)
           (subst (λ (p : List Record). Between old.header upto (upto ++ p) c) same (advances.left c left));

@@ -1,9 +1,14 @@
 -- A whole turn of a node that was not stopped, by what the turn in its room told.
-use Rattle.std.proofs.Common.{◌≡◌, ◌≢◌, ℕ, ◌*◌, ◌<◌, Bool, true, false, ltb, List, [], length, map, slice_get, Option, Some, None, is_some, IfSome, Result, Ok, Err, IfOk, refl, sym, ap, ◌∙◌, subst, arith}
-use Rattle.paxos_core_world.specs.KeptPart.{KeptPart}
+use Rattle.std.proofs.Common.{◌≡◌, ◌≢◌, ℕ, ◌*◌, ◌<◌, Bool, true, false, ltb, List, [], ◌++◌, append-nil, length, map, slice_get, Option, Some, None, is_some, IfSome, Result, Ok, Err, IfOk, refl, sym, ap, ◌∙◌, subst, arith}
+use Rattle.paxos_core_world.specs.Quorum.{Sizes}
+use Rattle.acceptor_log_form.specs.declared.header.Header.{Header}
 use Rattle.acceptor_log_form.specs.declared.record.Record.{Record}
+use Rattle.acceptor_log_form.specs.Leaves.{proposed_in}
+use Rattle.acceptor_log_form.specs.Order.{AreInOrder}
 use Rattle.acceptor_log.specs.declared.log.Log.{Log}
 use Rattle.acceptor_log.specs.Acknowledged.{acknowledged}
+use Rattle.farm_nodes_order.specs.Ordered.{AreOrdered, IsOfOneNode, IsUnproposed}
+use Rattle.farm_nodes_acting.specs.SeatState.{SeatState}
 use Rattle.farm_nodes_turn.specs.Advances.{Advances, AreOf}
 use Rattle.farm_nodes_turn.specs.Served.{IsServed}
 use Rattle.farm_nodes_turn.specs.Fault.{Fault}
@@ -14,15 +19,17 @@ use Rattle.farm_nodes_turn.specs.Progress.{Progress}
 use Rattle.farm_nodes_turn.specs.Progress.TheVariants.{Learned, Moved, Idle}
 use Rattle.farm_nodes_turn.specs.Played.{progress_of}
 use Rattle.farm_nodes_node.specs.declared.halted.Halted.{Halted}
+use Rattle.farm_nodes_turn.specs.Which.{Which}
+use Rattle.farm_nodes_turn.specs.Which.TheVariants.{First, Second, Third, Fourth}
 use Rattle.farm_nodes_turn.specs.Fours.{Four, words_of}
-use Rattle.farm_nodes_turn.specs.Turned.{OthersStay}
+use Rattle.farm_nodes_turn.specs.Turned.{OthersStay, StaysIn}
 use Rattle.farm_nodes_node.specs.Told.{failure_of, turn_of}
 use Rattle.farm_nodes_turn.specs.Leaves.{Leave, left_in}
-use Rattle.farm_nodes_node.specs.Held.{IsSoundNode}
+use Rattle.farm_nodes_node.specs.Held.{pending_in, AreSeatsOf, AreUnproposed, IsSoundNode}
 use Rattle.farm_nodes_turn.specs.Turns.{PlayedIn}
 use Rattle.farm_nodes_node.specs.Stood.{TurnsInto}
 use Rattle.farm_nodes_turn.proofs.Places.{found, map_at, map_length, map_same}
-use Rattle.farm_nodes_node.proofs.Standings.{stands_turned, turns_into}
+use Rattle.farm_nodes_node.proofs.Standings.{stands_turned, turned_rooms, turns_into}
 
 -- what stops a node behind this turn
 abbrev pub halted_by : ℕ → Result Progress Halt → Option Halted
@@ -47,23 +54,30 @@ pub no_cause : (o : Option Fault) (P : Fault → Type 0) → o ≡ None → IfSo
 no_cause None P e = tt
 no_cause (Some fault) P e = absurd (cc)
 
+pub stays_node : {T1 T2 T3 T4 : Type 0} (p : Which) (s t : Four T1 T2 T3 T4) → StaysIn p s t → IsOfOneNode (words_of s p) (words_of t p)
+stays_node First s t stays = record { me = stays.me; quorums = stays.quorums }
+stays_node Second s t stays = record { me = stays.me; quorums = stays.quorums }
+stays_node Third s t stays = record { me = stays.me; quorums = stays.quorums }
+stays_node Fourth s t stays = record { me = stays.me; quorums = stays.quorums }
+
 module _ {D X T1 T2 T3 T4 : Type 0} (is_honest : D → Type 0) (seen : D → List ℕ) (may_leave : D → List ℕ → Type 0) (moment : D → ℕ)
     (left_since : D → ℕ → List ℕ → Type 0) (faults : D → ℕ) (f : X → Four T1 T2 T3 T4) (old new : Log D) (room : ℕ) (xs ys : List X) (was : Option Halted)
     (served : IsServed is_honest seen may_leave faults old new) (sound : IsSoundNode is_honest seen may_leave old (map f xs) was)
     (low : function_of room < length xs) (none : was ≡ None) (count : length ys ≡ length xs)
     (others : (g : ℕ) → g ≢ function_of room → slice_get ys g ≡ slice_get xs g)
-    (stay : (x y : X) → slice_get xs (function_of room) ≡ Some x → slice_get ys (function_of room) ≡ Some y → OthersStay (pass_of room) (f x) (f y)) where
+    (stay : (x y : X) → slice_get xs (function_of room) ≡ Some x → slice_get ys (function_of room) ≡ Some y → OthersStay (pass_of room) (f x) (f y))
+    (numbers : (x y : X) → slice_get xs (function_of room) ≡ Some x → slice_get ys (function_of room) ≡ Some y → IsOfOneNode (words_of (f x) (pass_of room)) (words_of (f y) (pass_of room))) where
   stood : is_honest old.disk → Leave (map f xs) (acknowledged seen old)
   stood honest = let u = sound.upto honest in subst (λ (rs : List Record). Leave (map f xs) rs) (u.2 none) u.1.leave
 
   stands_now : (x y : X) → slice_get xs (function_of room) ≡ Some x → slice_get ys (function_of room) ≡ Some y → (upto pending : List Record)
-      → Advances seen may_leave moment left_since old new room (words_of (f x) (pass_of room)).node.kept (words_of (f y) (pass_of room)).node.kept upto pending
+      → Advances seen may_leave moment left_since old new room (words_of (f x) (pass_of room)) (words_of (f y) (pass_of room)) upto pending
       → is_honest old.disk → Leave (map f ys) upto
   stands_now x y p q upto pending advances honest =
       let first : length (map f xs) ≡ length xs = map_length f xs in
-      stands_turned room (map f xs) (map f ys) (f x) (f y) (acknowledged seen old) upto
+      stands_turned room (map f xs) (map f ys) (f x) (f y)
       (map_at f xs (function_of room) x p) (map_at f ys (function_of room) y q)
-      (λ g other. map_same f ys xs g (others g other)) (stay x y p q) advances.kept advances.others (stood honest)
+      (λ g other. map_same f ys xs g (others g other)) (stay x y p q) (acknowledged seen old) upto advances.kept advances.others (stood honest)
       (subst (λ (n : ℕ). function_of room < n) (sym first) low) (map_length f ys ∙ (count ∙ sym first))
 
   stood_named : is_honest old.disk → AreOf (4 * length xs) (acknowledged seen old)
@@ -72,11 +86,77 @@ module _ {D X T1 T2 T3 T4 : Type 0} (is_honest : D → Type 0) (seen : D → Lis
       subst (λ (rs : List Record). AreOf (4 * length xs) rs) (u.2 none)
       (subst (λ (n : ℕ). AreOf (4 * n) u.0) (map_length f xs) u.1.named)
 
-  named_now : (k l : KeptPart) (upto pending : List Record) → Advances seen may_leave moment left_since old new room k l upto pending
+  named_now : (s t : SeatState) (upto pending : List Record) → Advances seen may_leave moment left_since old new room s t upto pending
       → is_honest old.disk → AreOf (4 * length (map f ys)) upto
-  named_now k l upto pending advances honest =
+  named_now s t upto pending advances honest =
       let below : room < 4 * length xs = omega arith in
       subst (λ (n : ℕ). AreOf (4 * n) upto) (sym (map_length f ys ∙ count)) (advances.named (4 * length xs) below (stood_named honest))
+
+  -- each seat is the node's
+  seats_now : AreSeatsOf new.header (map f ys)
+  seats_now =
+      let x = found xs (function_of room) low in
+      let y = found ys (function_of room) (subst (λ (n : ℕ). function_of room < n) (sym count) low) in
+      let one = numbers x.0 y.0 x.1 y.1 in
+      let of : AreSeatsOf old.header (map f ys) = record {
+        me = turned_rooms room (map f xs) (map f ys) (f x.0) (f y.0) (map_at f xs (function_of room) x.0 x.1) (map_at f ys (function_of room) y.0 y.1)
+            (λ g other. map_same f ys xs g (others g other)) (stay x.0 y.0 x.1 y.1)
+            (λ m w. w.node.me ≡ old.header.node) (λ m w. w.node.me ≡ old.header.node) (λ e. one.me ∙ e) (λ m w other e. e) sound.own.me;
+        count = turned_rooms room (map f xs) (map f ys) (f x.0) (f y.0) (map_at f xs (function_of room) x.0 x.1) (map_at f ys (function_of room) y.0 y.1)
+            (λ g other. map_same f ys xs g (others g other)) (stay x.0 y.0 x.1 y.1)
+            (λ m w. w.node.quorums.nodes ≡ old.header.nodes) (λ m w. w.node.quorums.nodes ≡ old.header.nodes)
+            (λ e. ap (λ (q : Sizes). q.nodes) one.quorums ∙ e) (λ m w other e. e) sound.own.count;
+      } in
+      subst (λ (h : Header). AreSeatsOf h (map f ys)) (sym served.header) of
+
+  -- the room's records before are in order
+  ordered : is_honest old.disk → (x : X) → slice_get xs (function_of room) ≡ Some x → AreOrdered (4 * length xs) room (words_of (f x) (pass_of room)) (acknowledged seen old)
+  ordered honest x p =
+      let u = sound.upto honest in
+      let at = map_at f xs (function_of room) x p in
+      let nothing : u.0 ++ pending_in (map f xs) was ≡ acknowledged seen old =
+      ap (λ (h : Option Halted). u.0 ++ pending_in (map f xs) h) none ∙ (append-nil u.0 ∙ u.2 none) in
+      record {
+        in_order = subst (λ (n : ℕ). AreInOrder n (words_of (f x) (pass_of room)).node.me (4 * length xs) (acknowledged seen old)) (sym (sound.own.count room (f x) at))
+            (subst (λ (i : ℕ). AreInOrder old.header.nodes i (4 * length xs) (acknowledged seen old)) (sym (sound.own.me room (f x) at))
+            (subst (λ (rs : List Record). AreInOrder old.header.nodes old.header.node (4 * length xs) rs) nothing
+            (subst (λ (n : ℕ). AreInOrder old.header.nodes old.header.node (4 * n) (u.0 ++ pending_in (map f xs) was)) (map_length f xs) u.1.in_order)));
+        kept = (stood honest).rooms room (f x) at;
+        unproposed = subst (λ (rs : List Record). IsUnproposed (proposed_in rs room) (words_of (f x) (pass_of room))) (u.2 none) (u.1.unproposed room (f x) at);
+      }
+
+  module _ (honest : is_honest old.disk) (x y : X) (p : slice_get xs (function_of room) ≡ Some x) (q : slice_get ys (function_of room) ≡ Some y) (halted : Option Halted) (upto pending : List Record)
+      (advances : Advances seen may_leave moment left_since old new room (words_of (f x) (pass_of room)) (words_of (f y) (pass_of room)) upto pending)
+      (same : pending ≡ pending_in (map f ys) halted) where
+    low_room : room < 4 * length xs
+    low_room = omega arith
+
+    order_now : AreInOrder new.header.nodes new.header.node (4 * length (map f ys)) (upto ++ pending_in (map f ys) halted)
+    order_now =
+        let at = map_at f xs (function_of room) x p in
+        let rs : List Record = upto ++ pending_in (map f ys) halted in
+        let order : AreInOrder (words_of (f x) (pass_of room)).node.quorums.nodes (words_of (f x) (pass_of room)).node.me (4 * length xs) (upto ++ pending_in (map f ys) halted) =
+        subst (λ (l : List Record). AreInOrder (words_of (f x) (pass_of room)).node.quorums.nodes (words_of (f x) (pass_of room)).node.me (4 * length xs) (upto ++ l)) same
+        (advances.order (4 * length xs) low_room (ordered honest x p)).1 in
+        subst (λ (h : Header). AreInOrder h.nodes h.node (4 * length (map f ys)) (upto ++ pending_in (map f ys) halted)) (sym served.header)
+        (subst (λ (n : ℕ). AreInOrder old.header.nodes old.header.node (4 * n) (upto ++ pending_in (map f ys) halted)) (sym (map_length f ys ∙ count))
+        (subst (λ (i : ℕ). AreInOrder old.header.nodes i (4 * length xs) (upto ++ pending_in (map f ys) halted)) (sound.own.me room (f x) at)
+        (subst (λ (n : ℕ). AreInOrder n (words_of (f x) (pass_of room)).node.me (4 * length xs) (upto ++ pending_in (map f ys) halted)) (sound.own.count room (f x) at) order)))
+
+    unproposed_now : AreUnproposed (map f ys) upto
+    unproposed_now =
+        turned_rooms room (map f xs) (map f ys) (f x) (f y) (map_at f xs (function_of room) x p) (map_at f ys (function_of room) y q)
+        (λ g other. map_same f ys xs g (others g other)) (stay x y p q)
+        (λ m w. IsUnproposed (proposed_in (acknowledged seen old) m) w) (λ m w. IsUnproposed (proposed_in upto m) w)
+        (λ fresh. (advances.order (4 * length xs) low_room (ordered honest x p)).0.unproposed)
+        (λ m w other fresh. subst (λ (l : ℕ). IsUnproposed l w) (sym (advances.proposals m other)) fresh)
+        (λ m u e. let before = sound.upto honest in subst (λ (rs : List Record). IsUnproposed (proposed_in rs m) (words_of u (pass_of m))) (before.2 none) (before.1.unproposed m u e))
+
+    turned : (halted ≡ None → upto ≡ acknowledged seen new) → TurnsInto seen may_leave moment left_since old new (map f ys) halted
+    turned all =
+        turns_into seen may_leave moment left_since old new (map f ys) halted room (words_of (f x) (pass_of room)) (words_of (f y) (pass_of room)) upto pending
+        served.header advances same (stands_now x y p q upto pending advances honest)
+        (named_now (words_of (f x) (pass_of room)) (words_of (f y) (pass_of room)) upto pending advances honest) order_now unproposed_now all
 
   pub into : (result : Result Progress Halt)
       → (is_honest old.disk → old.going ≡ true → (x y : X) → slice_get xs (function_of room) ≡ Some x → slice_get ys (function_of room) ≡ Some y
@@ -86,20 +166,13 @@ module _ {D X T1 T2 T3 T4 : Type 0} (is_honest : D → Type 0) (seen : D → Lis
       let x = found xs (function_of room) low in
       let y = found ys (function_of room) (subst (λ (n : ℕ). function_of room < n) (sym count) low) in
       let played = journal honest (sound.going none) x.0 y.0 x.1 y.1 in
-      turns_into seen may_leave moment left_since old new (map f ys) None room
-      (words_of (f x.0) (pass_of room)).node.kept (words_of (f y.0) (pass_of room)).node.kept (acknowledged seen new) []
-      served.header played.1.advances refl (stands_now x.0 y.0 x.1 y.1 (acknowledged seen new) [] played.1.advances honest)
-      (named_now (words_of (f x.0) (pass_of room)).node.kept (words_of (f y.0) (pass_of room)).node.kept (acknowledged seen new) [] played.1.advances honest) (λ e. refl)
+      turned honest x.0 y.0 x.1 y.1 None (acknowledged seen new) [] played.1.advances refl (λ e. refl)
   into (Err halt) journal honest =
       let x = found xs (function_of room) low in
       let y = found ys (function_of room) (subst (λ (n : ℕ). function_of room < n) (sym count) low) in
       let left = journal honest (sound.going none) x.0 y.0 x.1 y.1 in
-      let pending = left_over room (words_of (f y.0) (pass_of room)) halt.pending in
-      turns_into seen may_leave moment left_since old new (map f ys) (Some (record { room = room; halt = halt })) room
-      (words_of (f x.0) (pass_of room)).node.kept (words_of (f y.0) (pass_of room)).node.kept left.0 pending
-      served.header left.1 (sym (ap (λ (o : Option (Four T1 T2 T3 T4)). left_in o room halt.pending) (map_at f ys (function_of room) y.0 y.1)))
-      (stands_now x.0 y.0 x.1 y.1 left.0 pending left.1 honest)
-      (named_now (words_of (f x.0) (pass_of room)).node.kept (words_of (f y.0) (pass_of room)).node.kept left.0 pending left.1 honest)
+      turned honest x.0 y.0 x.1 y.1 (Some (record { room = room; halt = halt })) left.0 (left_over room (words_of (f y.0) (pass_of room)) halt.pending) left.1
+      (sym (ap (λ (o : Option (Four T1 T2 T3 T4)). left_in o room halt.pending) (map_at f ys (function_of room) y.0 y.1)))
       (λ e. absurd (cc))
 
   pub sound_now : (result : Result Progress Halt)
@@ -110,11 +183,13 @@ module _ {D X T1 T2 T3 T4 : Type 0} (is_honest : D → Type 0) (seen : D → Lis
   sound_now (Ok progress) journal went = record {
     journal = served.sound;
     going = λ e. went ∙ sound.going none;
+    own = seats_now;
     upto = λ honest. let i = into (Ok progress) journal (served.honest.0 honest) in (i.upto, i.stands, i.all);
   }
   sound_now (Err halt) journal went = record {
     journal = served.sound;
     going = λ e. absurd (cc);
+    own = seats_now;
     upto = λ honest. let i = into (Err halt) journal (served.honest.0 honest) in (i.upto, i.stands, i.all);
   }
 

@@ -1,6 +1,9 @@
 -- What a node holds, and that its journal stands for what its seats keep.
-use Rattle.std.specs.Prelude.{◌≡◌, ℕ, ◌*◌, true, List, [], ◌++◌, length, Option, Some, None, option_map}
+use Rattle.std.specs.Prelude.{◌≡◌, ℕ, ◌*◌, true, List, [], ◌++◌, length, Option, Some, None, option_map, slice_get}
+use Rattle.acceptor_log_form.specs.declared.header.Header.{Header}
 use Rattle.acceptor_log_form.specs.declared.record.Record.{Record}
+use Rattle.acceptor_log_form.specs.Leaves.{proposed_in}
+use Rattle.acceptor_log_form.specs.Order.{AreInOrder}
 use Rattle.acceptor_log_form.specs.Lists.{Between}
 use Rattle.acceptor_log.specs.declared.log.Log.{Log}
 use Rattle.acceptor_log.specs.Acknowledged.{acknowledged}
@@ -8,7 +11,9 @@ use Rattle.acceptor_log.specs.Acknowledged as journal
 use Rattle.farm_nodes_turn.specs.Advances.{AreOf}
 use Rattle.farm_nodes_turn.specs.Fault.{Fault}
 use Rattle.farm_nodes_node.specs.declared.halted.Halted.{Halted}
-use Rattle.farm_nodes_turn.specs.Fours.{Four}
+use Rattle.farm_nodes_order.specs.Ordered.{IsUnproposed}
+use Rattle.farm_nodes_turn.specs.Fours.{Four, words_of}
+use Rattle.farm_nodes_turn.specs.Numbers.{function_of, pass_of}
 use Rattle.farm_nodes_turn.specs.Leaves.{Leave, pending_at}
 
 -- the fault that stopped the node
@@ -21,18 +26,31 @@ module _ {T1 T2 T3 T4 : Type 0} where
   pending_in seats None = []
   pending_in seats (Some h) = pending_at seats h.room h.halt.pending
 
-  -- The journal stands for what the node keeps, with the pending record or without, and names no room but the seats'.
+  -- each seat is that of the header's node, among as many nodes
+  pub record AreSeatsOf (h : Header) (seats : List (Four T1 T2 T3 T4)) : Type 0 where
+    pub me : (m : ℕ) (s : Four T1 T2 T3 T4) → slice_get seats (function_of m) ≡ Some s → (words_of s (pass_of m)).node.me ≡ h.node
+    pub count : (m : ℕ) (s : Four T1 T2 T3 T4) → slice_get seats (function_of m) ≡ Some s → (words_of s (pass_of m)).node.quorums.nodes ≡ h.nodes
+
+  -- what a seat may still propose does not stand in its room as proposed last
+  abbrev pub AreUnproposed : List (Four T1 T2 T3 T4) → List Record → Type 0
+  AreUnproposed seats rs = (m : ℕ) (s : Four T1 T2 T3 T4) → slice_get seats (function_of m) ≡ Some s → IsUnproposed (proposed_in rs m) (words_of s (pass_of m))
+
+  -- The journal stands for what the node keeps, with the pending record or without, and names no room but the seats'. Its records
+  -- are in order, the pending one behind them too, and no seat proposes anything again.
   pub record IsJournalOf {D : Type 0} (may_leave : D → List ℕ → Type 0) (log : Log D) (seats : List (Four T1 T2 T3 T4))
       (halted : Option Halted) (upto : List Record) : Type 0 where
     pub leave : Leave seats upto
     pub named : AreOf (4 * length seats) upto
+    pub in_order : AreInOrder log.header.nodes log.header.node (4 * length seats) (upto ++ pending_in seats halted)
+    pub unproposed : AreUnproposed seats upto
     pub left : (c : List ℕ) → may_leave log.disk c → Between log.header upto (upto ++ pending_in seats halted) c
 
-  -- A node that may be asked: its journal may be used and stands for what it keeps; where it is not stopped, the journal goes on,
+  -- A node that may be asked: its journal may be used and stands for what it keeps, its seats are its own; where it is not stopped, the journal goes on,
   -- and has acknowledged just that.
   pub record IsSoundNode {D : Type 0} (is_honest : D → Type 0) (seen : D → List ℕ) (may_leave : D → List ℕ → Type 0)
       (log : Log D) (seats : List (Four T1 T2 T3 T4)) (halted : Option Halted) : Type 0 where
     pub journal : journal.IsSound is_honest seen may_leave log
     pub going : halted ≡ None → log.going ≡ true
+    pub own : AreSeatsOf log.header seats
     pub upto : is_honest log.disk → (upto : List Record)
         × IsJournalOf may_leave log seats halted upto × (halted ≡ None → upto ≡ acknowledged seen log)

@@ -1,10 +1,15 @@
 -- What a node's journal stands for is not changed by a meeting.
-use Rattle.std.proofs.Common.{◌≡◌, ℕ, ◌*◌, ◌<◌, ◌≤◌, List, map, length, slice_get, Option, Some, None, sym, ap, ◌∙◌, subst, arith, inl, inr}
+use Rattle.std.proofs.Common.{◌≡◌, ℕ, ◌*◌, ◌<◌, ◌≤◌, List, [], ◌++◌, map, length, slice_get, Option, Some, None, sym, ap, ◌∙◌, subst, arith, inl, inr}
 use Rattle.std.proofs.lemmas.Bool.{cases_eq}
 use Rattle.std.proofs.lemmas.Option.{slice_get_within}
+use Rattle.paxos_core_world.specs.Quorum.{Sizes}
+use Rattle.acceptor_log_form.specs.Order.{AreInOrder}
+use Rattle.acceptor_log_form.specs.declared.header.Header.{Header}
 use Rattle.acceptor_log_form.specs.declared.record.Record.{Record}
 use Rattle.acceptor_log.specs.declared.log.Log.{Log}
 use Rattle.rooms_seat.specs.Meeting.{Remains}
+use Rattle.rooms_seat.specs.SeatState.{SeatState}
+use Rattle.farm_nodes_order.proofs.Orders.{IsSameNode}
 use Rattle.farm_nodes_acting.specs.Advances.{AreOf}
 use Rattle.farm_nodes_meeting.specs.Numbers.{function_of, pass_of}
 use Rattle.farm_nodes_meeting.specs.Fours.{Four, words_of}
@@ -13,12 +18,24 @@ use Rattle.farm_nodes_meeting.specs.Which.{Which}
 use Rattle.farm_nodes_meeting.specs.Which.TheVariants.{First, Second, Third, Fourth}
 use Rattle.farm_nodes_node.proofs.Places.{found, mapped, map_at, map_length}
 use Rattle.farm_nodes_node.specs.declared.halted.Halted.{Halted}
-use Rattle.farm_nodes_node.specs.Held.{IsSoundNode}
+use Rattle.farm_nodes_node.specs.Held.{AreSeatsOf, AreUnproposed, IsSoundNode}
 use Rattle.farm_nodes_meeting.specs.Held.{Held}
 use Rattle.farm_nodes_meeting.specs.Lists.{HaveMetAll}
 
 one_item : {S : Type 0} (o : Option S) (x y : S) → o ≡ Some x → o ≡ Some y → x ≡ y
 one_item o x y e e' = cc
+
+same_as : (s t : SeatState) → t ≡ s → IsSameNode s t
+same_as s t e = record {
+  me = ap (λ (u : SeatState). u.node.me) e;
+  quorums = ap (λ (u : SeatState). u.node.quorums) e;
+  kept = ap (λ (u : SeatState). u.node.kept) e;
+  ballot = ap (λ (u : SeatState). u.node.ballot) e;
+  proposed = ap (λ (u : SeatState). u.node.proposed) e;
+}
+
+of_remains : (s t : SeatState) → Remains s t → IsSameNode s t
+of_remains s t r = record { me = r.me; quorums = r.quorums; kept = r.kept; ballot = r.ballot; proposed = r.under_it }
 
 -- what a seat's node keeps
 module _ {T1 T2 T3 T4 : Type 0} where
@@ -32,16 +49,16 @@ module _ {T1 T2 T3 T4 : Type 0} where
     number = h.first.claim;
   }
 
-  -- their nodes keep what they kept
+  -- their nodes keep what they kept, and have the ballot under way that they had
   abbrev KeptIn : Held T1 T2 T3 T4 → Held T1 T2 T3 T4 → Which → Type 0
-  KeptIn h h' p = (words_of (four_in h') p).node.kept ≡ (words_of (four_in h) p).node.kept
+  KeptIn h h' p = IsSameNode (words_of (four_in h) p) (words_of (four_in h') p)
 
   kept_in_four : (h h' : Held T1 T2 T3 T4) → Remains h.first.seat.words h'.first.seat.words → Remains h.second.seat.words h'.second.seat.words
       → Remains h.third.seat.words h'.third.seat.words → Remains h.fourth.seat.words h'.fourth.seat.words → (p : Which) → KeptIn h h' p
-  kept_in_four h h' first second third fourth First = first.kept
-  kept_in_four h h' first second third fourth Second = second.kept
-  kept_in_four h h' first second third fourth Third = third.kept
-  kept_in_four h h' first second third fourth Fourth = fourth.kept
+  kept_in_four h h' first second third fourth First = of_remains h.first.seat.words h'.first.seat.words first
+  kept_in_four h h' first second third fourth Second = of_remains h.second.seat.words h'.second.seat.words second
+  kept_in_four h h' first second third fourth Third = of_remains h.third.seat.words h'.third.seat.words third
+  kept_in_four h h' first second third fourth Fourth = of_remains h.fourth.seat.words h'.fourth.seat.words fourth
 
 module _ {S T1 T2 T3 T4 : Type 0} (view : S → Held T1 T2 T3 T4) where
   -- as many, and each keeps what it kept
@@ -54,7 +71,7 @@ module _ {S T1 T2 T3 T4 : Type 0} (view : S → Held T1 T2 T3 T4) where
     long = ap (λ (l : List S). length l) same;
     each = λ k a a' ea ea' p.
         let is : a ≡ a' = one_item (slice_get xs k) a a' ea (sym (ap (λ (l : List S). slice_get l k) same) ∙ ea') in
-        ap (λ (x : S). (words_of (four_in (view x)) p).node.kept) (sym is);
+        same_as (words_of (four_in (view a)) p) (words_of (four_in (view a')) p) (ap (λ (x : S). words_of (four_in (view x)) p) (sym is));
   }
 
   -- what has met under other names
@@ -104,28 +121,49 @@ module _ {S T1 T2 T3 T4 : Type 0} (view : S → Held T1 T2 T3 T4) where
   as_many : (xs xs' : List S) → HaveKept xs xs' → length (fours xs') ≡ length (fours xs)
   as_many xs xs' kept = map_length (λ (s : S). four_in (view s)) xs' ∙ (kept.long ∙ sym (map_length (λ (s : S). four_in (view s)) xs))
 
+  -- the seat that was where one is
+  at_kept : (xs xs' : List S) → HaveKept xs xs' → (m : ℕ) (t : Four T1 T2 T3 T4) → slice_get (fours xs') (function_of m) ≡ Some t
+      → (s : Four T1 T2 T3 T4) × (slice_get (fours xs) (function_of m) ≡ Some s) × IsSameNode (words_of s (pass_of m)) (words_of t (pass_of m))
+  at_kept xs xs' kept m t e =
+      let new = mapped (λ (s : S). four_in (view s)) xs' (function_of m) t e in
+      let within : function_of m < length xs' = slice_get_within xs' (function_of m) new.0 new.1 in
+      let old = found xs (function_of m) (subst (λ (n : ℕ). function_of m < n) kept.long within) in (
+        four_in (view old.0),
+        map_at (λ (s : S). four_in (view s)) xs (function_of m) old.0 old.1,
+        subst (λ (u : Four T1 T2 T3 T4). IsSameNode (words_of (four_in (view old.0)) (pass_of m)) (words_of u (pass_of m))) new.2
+            (kept.each (function_of m) old.0 new.0 old.1 new.1 (pass_of m)),
+      )
+
   leave_kept : (xs xs' : List S) (rs : List Record) → HaveKept xs xs' → Leave (fours xs) rs → Leave (fours xs') rs
   leave_kept xs xs' rs kept leave = record {
-    rooms = λ m t e.
-        let new = mapped (λ (s : S). four_in (view s)) xs' (function_of m) t e in
-        let within : function_of m < length xs' = slice_get_within xs' (function_of m) new.0 new.1 in
-        let old = found xs (function_of m) (subst (λ (n : ℕ). function_of m < n) kept.long within) in
-        leave.rooms m (four_in (view old.0)) (map_at (λ (s : S). four_in (view s)) xs (function_of m) old.0 old.1)
-        ∙ (sym (kept.each (function_of m) old.0 new.0 old.1 new.1 (pass_of m)) ∙ ap (λ (u : Four T1 T2 T3 T4). (words_of u (pass_of m)).node.kept) new.2);
+    rooms = λ m t e. let old = at_kept xs xs' kept m t e in leave.rooms m old.0 old.1 ∙ sym old.2.kept;
     no_others = λ m above. leave.no_others m (subst (λ (n : ℕ). n ≤ function_of m) (as_many xs xs' kept) above);
   }
+
+  seats_kept : (h : Header) (xs xs' : List S) → HaveKept xs xs' → AreSeatsOf h (fours xs) → AreSeatsOf h (fours xs')
+  seats_kept h xs xs' kept own = record {
+    me = λ m t e. let old = at_kept xs xs' kept m t e in old.2.me ∙ own.me m old.0 old.1;
+    count = λ m t e. let old = at_kept xs xs' kept m t e in ap (λ (q : Sizes). q.nodes) old.2.quorums ∙ own.count m old.0 old.1;
+  }
+
+  unproposed_kept : (xs xs' : List S) (rs : List Record) → HaveKept xs xs' → AreUnproposed (fours xs) rs → AreUnproposed (fours xs') rs
+  unproposed_kept xs xs' rs kept fresh m t e b is none =
+      let old = at_kept xs xs' kept m t e in fresh m old.0 old.1 b (sym old.2.ballot ∙ is) (sym old.2.proposed ∙ none)
 
   sound_going : {D : Type 0} (is_honest : D → Type 0) (seen : D → List ℕ) (may_leave : D → List ℕ → Type 0) (log : Log D) (xs xs' : List S)
       → HaveKept xs xs' → IsSoundNode is_honest seen may_leave log (fours xs) None → IsSoundNode is_honest seen may_leave log (fours xs') None
   sound_going is_honest seen may_leave log xs xs' kept sound = record {
     journal = sound.journal;
     going = sound.going;
+    own = seats_kept log.header xs xs' kept sound.own;
     upto = λ honest.
         let u = sound.upto honest in (
           u.0,
           record {
             leave = leave_kept xs xs' u.0 kept u.1.leave;
             named = subst (λ (n : ℕ). AreOf (4 * n) u.0) (sym (as_many xs xs' kept)) u.1.named;
+            in_order = subst (λ (n : ℕ). AreInOrder log.header.nodes log.header.node (4 * n) (u.0 ++ [])) (sym (as_many xs xs' kept)) u.1.in_order;
+            unproposed = unproposed_kept xs xs' u.0 kept u.1.unproposed;
             left = u.1.left;
           },
           u.2,

@@ -42,7 +42,7 @@ left_over room s (Some p) = pending_of room s p
 abbrev pub HasLeft : {D : Type 0} → (D → List ℕ) → (D → List ℕ → Type 0) → (D → ℕ) → (D → ℕ → List ℕ → Type 0)
     → Log D → Log D → ℕ → SeatState → SeatState → List Record → Type 0
 HasLeft seen may_leave moment left_since old new room s t pending =
-    (upto : List Record) × Advances seen may_leave moment left_since old new room s.node.kept t.node.kept upto pending
+    (upto : List Record) × Advances seen may_leave moment left_since old new room s t upto pending
 
 -- What a call leaves of the journal, by its result.
 abbrev pub Recorded : {D : Type 0} → (D → Type 0) → (D → List ℕ) → (D → List ℕ → Type 0) → (D → ℕ)

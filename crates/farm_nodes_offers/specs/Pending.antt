@@ -21,7 +21,7 @@ pub record IsTextOf {P A B C I O : Type 0} (from : language.Ghosts A I) (to : la
 
 -- what it asks, it asks of a node of the room
 abbrev pub IsAsked : SeatState → Pending → Type 0
-IsAsked s (Act a) = IsAmong s.node.count a
+IsAsked s (Act a) = IsAmong s.node.quorums.nodes a
 IsAsked s (Offer r) = Unit {0}
 
 module _ {T : Type 0} (IsText : List ℕ → T → Type 0) (room : ℕ) where
@@ -32,7 +32,7 @@ module _ {T : Type 0} (IsText : List ℕ → T → Type 0) (room : ℕ) where
 
   -- it may be pending with this seat
   abbrev pub IsPendingOn : SeatValue T → Pending → Type 0
-  IsPendingOn s (Act a) = IsAmong s.words.node.count a
+  IsPendingOn s (Act a) = IsAmong s.words.node.quorums.nodes a
   IsPendingOn s (Offer r) = IsOfferLeft s r
 
   -- the same, where something is

@@ -2,6 +2,7 @@
 use Rattle.std.proofs.Common.{◌≡◌, ℕ, List, map, sym, ap, subst, ◌∙◌}
 use Rattle.std.specs.Global.{Vec}
 use Rattle.acceptor_log_form.specs.declared.record.Record.{Record}
+use Rattle.paxos_core_world.specs.Quorum.{Sizes}
 use Rattle.rooms_hall.specs.declared.hall.Naming as naming
 use Rattle.farm_nodes_records.specs.Seats.{Seats}
 use Rattle.farm_nodes_lists.specs.Rows.{rows_of}
@@ -19,14 +20,14 @@ module _ {J : Type 0} (f g : ℕ) (js ks : List (J × Vec Record)) (same : f ≡
   refused_of node told =
       subst (λ (n : ℕ). HasRefusedOffer n ks node) same (subst (λ (l : List (J × Vec Record)). HasRefusedOffer f l node) are told)
 
-  pub unopened_of : (room : ℕ) (fault : RoomFault) → IsUnopened f js room fault → IsUnopened g ks room fault
-  unopened_of room fault told =
-      subst (λ (n : ℕ). IsUnopened n ks room fault) same (subst (λ (l : List (J × Vec Record)). IsUnopened f l room fault) are told)
+  pub unopened_of : (q : Sizes) (room : ℕ) (fault : RoomFault) → IsUnopened f js q room fault → IsUnopened g ks q room fault
+  unopened_of q room fault told =
+      subst (λ (n : ℕ). IsUnopened n ks q room fault) same (subst (λ (l : List (J × Vec Record)). IsUnopened f l q room fault) are told)
 
-  pub seated_of : {H : Type 0} {h : naming.Ghosts H} (rows more : List (List (Seats H h))) → rows ≡ more → AreSeated f js rows → AreSeated g ks more
-  seated_of {H} {h} rows more rows_are told =
-      subst (λ (r : List (List (Seats H h))). AreSeated g ks r) rows_are
-      (subst (λ (n : ℕ). AreSeated n ks rows) same (subst (λ (l : List (J × Vec Record)). AreSeated f l rows) are told))
+  pub seated_of : {H : Type 0} {h : naming.Ghosts H} (q : Sizes) (rows more : List (List (Seats H h))) → rows ≡ more → AreSeated q f js rows → AreSeated q g ks more
+  seated_of {H} {h} q rows more rows_are told =
+      subst (λ (r : List (List (Seats H h))). AreSeated q g ks r) rows_are
+      (subst (λ (n : ℕ). AreSeated q n ks rows) same (subst (λ (l : List (J × Vec Record)). AreSeated q f l rows) are told))
 
 -- what stands in the lists of the nodes
 pub rows_from : {N X : Type 0} (list : N → Vec X) (nodes : List N) (lists : List (Vec X)) → map list nodes ≡ lists → rows_of lists ≡ map (λ n. (list n).items) nodes

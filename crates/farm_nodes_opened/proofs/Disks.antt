@@ -5,6 +5,7 @@ use Rattle.std.specs.Global.{Vec}
 use Rattle.std.proofs.lemmas.List.{length-append, length-drop, length-map}
 use Rattle.std.proofs.lemmas.Option.{slice_get_within}
 use Rattle.durable_model.specs.declared.disk.Disk as disks
+use Rattle.paxos_core_world.specs.Quorum.{Sizes}
 use Rattle.acceptor_log_form.specs.declared.errors.LogError.{LogError}
 use Rattle.acceptor_log_form.specs.declared.errors.LogError.TheVariants.{NoMemory}
 use Rattle.acceptor_log_form.specs.declared.record.Record.{Record}
@@ -38,22 +39,22 @@ at_one x z zero got = (refl, let same : Some x ≡ Some z = got in cc)
 at_one x z (suc zero) got = absurd (cc)
 at_one x z (suc (suc k)) got = absurd (cc)
 
-module _ {D : Type 0} (disk : disks.Ghosts D) (digest : List ℕ) (given : List D) where
+module _ {D : Type 0} (disk : disks.Ghosts D) (q : Sizes) (digest : List ℕ) (given : List D) where
   abbrev Back : ℕ → D → D → Type 0
-  Back i d b = IsBack disk (length given) digest i d b
+  Back i d b = IsBack disk q digest i d b
 
   -- where none was opened
   pub back_same : AreMade Back given (length given) given
   back_same = record { count = refl; each = λ i d b got there. let both : Some b ≡ Some d = sym there ∙ got in inl cc }
 
-  module _ (journals : List (Log D × Vec Record)) (so_far : ℕ) (opened : AreOpened disk (length given) digest given so_far journals) where
+  module _ (journals : List (Log D × Vec Record)) (so_far : ℕ) (opened : AreOpened disk q digest given so_far journals) where
     of_journal : (i : ℕ) (d b : D) → slice_get given i ≡ Some d → slice_get (map (λ (j : Log D × Vec Record). j.0.disk) journals) i ≡ Some b → Back i d b
     of_journal i d b got there =
         let found : (j : Log D × Vec Record) × (slice_get journals i ≡ Some j) × (j.0.disk ≡ b) = map_at (λ (j : Log D × Vec Record). j.0.disk) journals i b there in
         inr (inl (found.0.0, (found.0.1.items, opened.each i found.0 d found.1 got), found.2))
 
   -- where all journals were opened
-  pub back_opened : (journals : List (Log D × Vec Record)) (backs : List D) → AreOpened disk (length given) digest given (length given) journals → backs ≡ map (λ (j : Log D × Vec Record). j.0.disk) journals
+  pub back_opened : (journals : List (Log D × Vec Record)) (backs : List D) → AreOpened disk q digest given (length given) journals → backs ≡ map (λ (j : Log D × Vec Record). j.0.disk) journals
       → AreMade Back given (length given) backs
   back_opened journals backs opened is = record {
     count = ap length is ∙ length-map journals _ ∙ opened.size;
@@ -62,7 +63,7 @@ module _ {D : Type 0} (disk : disks.Ghosts D) (digest : List ℕ) (given : List 
 
   module _ (node : ℕ) (fault : LogError) (opened : List (Log D × Vec Record)) (behind : List D) where
     -- how many there are
-    pub all_of_them : (back : Option D) → IsRefusedAt disk (length given) digest given node fault opened back behind → length opened + length (option_to_list back) + length behind ≡ length given
+    pub all_of_them : (back : Option D) → IsRefusedAt disk q digest given node fault opened back behind → length opened + length (option_to_list back) + length behind ≡ length given
     all_of_them None refused =
         let none = refused.none refl in
         omega (arith, refused.front.size, none.1, ap length none.2)
@@ -71,7 +72,7 @@ module _ {D : Type 0} (disk : disks.Ghosts D) (digest : List ℕ) (given : List 
         omega (arith, refused.front.size, slice_get_within given node some.0 some.1, ap length some.3, length-drop (node + 1) given)
 
     -- where the journal of a node was refused
-    back_refused : (back : Option D) (backs : List D) → IsRefusedAt disk (length given) digest given node fault opened back behind
+    back_refused : (back : Option D) (backs : List D) → IsRefusedAt disk q digest given node fault opened back behind
         → backs ≡ (map (λ (j : Log D × Vec Record). j.0.disk) opened ++ option_to_list back) ++ behind → (i : ℕ) (d b : D) → slice_get given i ≡ Some d → slice_get backs i ≡ Some b → Back i d b
     back_refused None backs refused is i d b got there = on (at_append (map (λ (j : Log D × Vec Record). j.0.disk) opened ++ []) behind i b (ap (λ l. slice_get l i) (sym is) ∙ there))
       where
@@ -93,7 +94,7 @@ module _ {D : Type 0} (disk : disks.Ghosts D) (digest : List ℕ) (given : List 
             inl cc
     back_refused (Some x) backs refused is i d b got there = on (at_append front behind i b (ap (λ l. slice_get l i) (sym is) ∙ there))
       where
-        some : (d : D) × (slice_get given node ≡ Some d) × IsRefused disk (header_of (length given) digest node) d x fault × (behind ≡ drop (node + 1) given)
+        some : (d : D) × (slice_get given node ≡ Some d) × IsRefused disk (header_of q digest node) d x fault × (behind ≡ drop (node + 1) given)
         some = refused.some x refl
 
         opened_disks : List D
@@ -112,9 +113,9 @@ module _ {D : Type 0} (disk : disks.Ghosts D) (digest : List ℕ) (given : List 
             let place : i ≡ node = omega (arith, w.1, last.0, in_front) in
             let both : Some d ≡ Some some.0 = sym got ∙ ap (λ k. slice_get given k) place ∙ some.1 in
             let disk_is : some.0 ≡ d = cc in
-            let of_d : IsRefused disk (header_of (length given) digest node) d x fault = subst (λ (e : D). IsRefused disk (header_of (length given) digest node) e x fault) disk_is some.2 in
-            let of_b : IsRefused disk (header_of (length given) digest node) d b fault = subst (λ (e : D). IsRefused disk (header_of (length given) digest node) d e fault) last.1 of_d in
-            inr (inr (fault, subst (λ (k : ℕ). IsRefused disk (header_of (length given) digest k) d b fault) (sym place) of_b))
+            let of_d : IsRefused disk (header_of q digest node) d x fault = subst (λ (e : D). IsRefused disk (header_of q digest node) e x fault) disk_is some.2 in
+            let of_b : IsRefused disk (header_of q digest node) d b fault = subst (λ (e : D). IsRefused disk (header_of q digest node) d e fault) last.1 of_d in
+            inr (inr (fault, subst (λ (k : ℕ). IsRefused disk (header_of q digest k) d b fault) (sym place) of_b))
 
         on : (slice_get front i ≡ Some b) ⊎ ((k : ℕ) × (i ≡ length front + k) × (slice_get behind k ≡ Some b)) → Back i d b
         on (inl here) = on_front (at_append opened_disks (x ∷ []) i b here)
@@ -126,7 +127,7 @@ module _ {D : Type 0} (disk : disks.Ghosts D) (digest : List ℕ) (given : List 
             let both : Some b ≡ Some d = sym same ∙ got in
             inl cc
 
-    pub back_at_fault : (back : Option D) (backs : List D) → IsRefusedAt disk (length given) digest given node fault opened back behind
+    pub back_at_fault : (back : Option D) (backs : List D) → IsRefusedAt disk q digest given node fault opened back behind
         → backs ≡ (map (λ (j : Log D × Vec Record). j.0.disk) opened ++ option_to_list back) ++ behind → AreMade Back given (length given) backs
     back_at_fault back backs refused is = record {
       count =

@@ -15,6 +15,7 @@ use Rattle.cse_check.specs.contracts.pass.CsePass.TheImpl as expressions
 use Rattle.alloc_check.specs.contracts.pass.AllocPass.TheImpl as allocation
 use Rattle.linearize_check.specs.contracts.pass.LinearizePass.TheImpl as order
 use Rattle.paxos_core_world.specs.KeptPart.{KeptPart}
+use Rattle.paxos_core_world.specs.Quorum.{Sizes}
 use Rattle.acceptor_log_form.specs.declared.record.Record.{Record}
 use Rattle.acceptor_log.specs.Acknowledged.{acknowledged}
 use Rattle.acceptor_log.specs.declared.log.Log.{Log}
@@ -34,28 +35,28 @@ use Rattle.farm_nodes_opened.specs.Opened.{AreOpenFrom, AreOpenIn}
 use Rattle.farm_nodes_opened.specs.Seated.{AreSeated, AreSeatedIn, first_seat, second_seat, third_seat, fourth_seat}
 use Rattle.farm_nodes_opened.proofs.Lists.{found_at, map_at}
 
-module _ {D : Type 0} (disk : disks.Ghosts D) (digest : List ℕ) (given : List D) (journals : List (Log D × Vec Record)) (logs : List (Log D))
-    (opened : AreOpened disk (length given) digest given (length given) journals) (logs_are : logs ≡ map (λ (j : Log D × Vec Record). j.0) journals) where
+module _ {D : Type 0} (disk : disks.Ghosts D) (q : Sizes) (digest : List ℕ) (given : List D) (journals : List (Log D × Vec Record)) (logs : List (Log D))
+    (opened : AreOpened disk q digest given (length given) journals) (logs_are : logs ≡ map (λ (j : Log D × Vec Record). j.0) journals) where
   log_at : (i : ℕ) (log : Log D) → slice_get logs i ≡ Some log → (j : Log D × Vec Record) × (slice_get journals i ≡ Some j) × (j.0 ≡ log)
   log_at i log at = map_at (λ (j : Log D × Vec Record). j.0) journals i log (ap (λ l. slice_get l i) (sym logs_are) ∙ at)
 
   as_many : length logs ≡ length journals
   as_many = ap length logs_are ∙ length-map journals _
 
-  on_disks : (i : ℕ) (d : D) (log : Log D) → slice_get given i ≡ Some d → slice_get logs i ≡ Some log → IsJournalOn disk (length given) digest i d log
+  on_disks : (i : ℕ) (d : D) (log : Log D) → slice_get given i ≡ Some d → slice_get logs i ≡ Some log → IsJournalOn disk q digest i d log
   on_disks i d log at there =
       let j : (j : Log D × Vec Record) × (slice_get journals i ≡ Some j) × (j.0 ≡ log) = log_at i log there in
-      (j.0.1.items, subst (λ (l : Log D). IsOpened disk (header_of (length given) digest i) d l j.0.1.items) j.2 (opened.each i j.0 d j.1 at))
+      (j.0.1.items, subst (λ (l : Log D). IsOpened disk (header_of q digest i) d l j.0.1.items) j.2 (opened.each i j.0 d j.1 at))
 
   -- each is the journal on its disk
-  pub journals_on : AreMade (IsJournalOn disk (length given) digest) given (length given) logs
+  pub journals_on : AreMade (IsJournalOn disk q digest) given (length given) logs
   journals_on = record { count = as_many ∙ opened.size; each = on_disks }
 
   -- its records are what it has acknowledged
   records_are : (i : ℕ) (j : Log D × Vec Record) → slice_get journals i ≡ Some j → disk.is_honest j.0.disk → acknowledged disk.seen j.0 ≡ j.1.items
   records_are i j at honest =
       let d : (d : D) × (slice_get given i ≡ Some d) = found_at given i (omega (arith, slice_get_within journals i j at, opened.size)) in
-      let is : IsOpened disk (header_of (length given) digest i) d.0 j.0 j.1.items = opened.each i j d.0 at d.1 in
+      let is : IsOpened disk (header_of q digest i) d.0 j.0 j.1.items = opened.each i j d.0 at d.1 in
       is.acknowledged_are (is.honest.0 honest)
 
   -- what is so of its records is so of what it has acknowledged
@@ -66,26 +67,26 @@ module _ {D : Type 0} (disk : disks.Ghosts D) (digest : List ℕ) (given : List 
 
   -- in the rooms of a pass
   module _ {P A B C I O N : Type 0} (from : language.Ghosts A I) (to : language.Ghosts B O) (by : pass.Ghosts P A B C I O) (which : Which) (functions : ℕ) (kept : List (Vec KeptPart))
-      (show : N → SeatValue (Parts I O C) × Claimed) (rows : List (List N)) (seated : AreSeatedIn from to by which functions journals kept show rows) where
+      (show : N → SeatValue (Parts I O C) × Claimed) (rows : List (List N)) (seated : AreSeatedIn from to by which q functions journals kept show rows) where
     offers_at : (i : ℕ) (log : Log D) (o : Vec (Option (Parts I O C))) → slice_get logs i ≡ Some log → slice_get seated.offers i ≡ Some o → disk.is_honest log.disk → AreOffers from to by which functions (acknowledged disk.seen log) o.items
     offers_at i log o at there =
         let j : (j : Log D × Vec Record) × (slice_get journals i ≡ Some j) × (j.0 ≡ log) = log_at i log at in
         told (λ (n : ℕ) (rs : List Record). AreOffers from to by which functions rs o.items) i log j.0 j.1 j.2 (seated.are_offers.each i j.0 o j.1 there)
 
-    open_in : AreOpenIn disk.is_honest disk.seen functions logs from to by which kept show rows
+    open_in : AreOpenIn disk.is_honest disk.seen q functions logs from to by which kept show rows
     open_in = record {
       offers = seated.offers;
       are_offers = record { count = seated.are_offers.count ∙ sym as_many; each = offers_at };
       opened = seated.opened;
     }
 
-  module _ {H : Type 0} {h : naming.Ghosts H} (functions : ℕ) (rows : List (List (Seats H h))) (seated : AreSeated functions journals rows) where
+  module _ {H : Type 0} {h : naming.Ghosts H} (functions : ℕ) (rows : List (List (Seats H h))) (seated : AreSeated q functions journals rows) where
     kept_at : (i : ℕ) (log : Log D) (k : Vec KeptPart) → slice_get logs i ≡ Some log → slice_get seated.kept i ≡ Some k → disk.is_honest log.disk → AreKept functions (length logs) i (acknowledged disk.seen log) k.items
     kept_at i log k at there =
         let j : (j : Log D × Vec Record) × (slice_get journals i ≡ Some j) × (j.0 ≡ log) = log_at i log at in
         told (λ (n : ℕ) (rs : List Record). AreKept functions n i rs k.items) i log j.0 j.1 j.2 (seated.are_kept.each i j.0 k j.1 there)
 
-    pub open_from : AreOpenFrom disk.is_honest disk.seen functions logs rows
+    pub open_from : AreOpenFrom disk.is_honest disk.seen q functions logs rows
     open_from = record {
       kept = seated.kept;
       are_kept = record { count = seated.are_kept.count ∙ sym as_many; each = kept_at };

@@ -1,13 +1,16 @@
--- The seats that open from what a node's records leave keep just that.
-use Rattle.std.proofs.Common.{◌≡◌, ℕ, zero, suc, ◌+◌, ◌*◌, ◌/◌, ◌%◌, ◌<◌, ◌≤◌, List, length, All, Option, Some, refl, sym, ap, subst, ◌∙◌, arith}
+-- The seats that open from what a node's records leave keep just that, and have no ballot under way.
+use Rattle.std.proofs.Common.{◌≡◌, ℕ, zero, suc, ◌+◌, ◌*◌, ◌/◌, ◌%◌, ◌<◌, ◌≤◌, List, length, All, Option, Some, None, refl, sym, ap, subst, ◌∙◌, arith}
 use Rattle.std.specs.Prelude.{slice_get}
 use Rattle.std.specs.Global.{Vec}
 use Rattle.std.proofs.lemmas.List.{length-map}
 use Rattle.std.proofs.lemmas.Option.{slice_get_within, get_or_from_slice_get}
 use Rattle.durable_model.specs.declared.disk.Disk as disks
-use Rattle.paxos_core_law.specs.NodeState.{IsRoomSize}
 use Rattle.paxos_core_world.specs.KeptPart.{KeptPart, nothing_kept}
+use Rattle.paxos_core_law.specs.NodeState.{node_with}
+use Rattle.paxos_core_world.specs.Quorum.{AreQuorums, Sizes}
 use Rattle.acceptor_log_form.specs.Leaves.{kept_by, kept_in}
+use Rattle.acceptor_log_form.specs.Order.{AreInOrder}
+use Rattle.acceptor_log_form.specs.declared.header.Header.{Header}
 use Rattle.acceptor_log_form.specs.declared.record.Record.{Record}
 use Rattle.acceptor_log.specs.Acknowledged.{acknowledged}
 use Rattle.acceptor_log.specs.declared.log.Log.{Log}
@@ -15,6 +18,7 @@ use Rattle.rooms.specs.SeatValue.{SeatValue}
 use Rattle.rooms_hall.specs.Claimed.{Claimed}
 use Rattle.rooms_hall.specs.declared.hall.Naming as naming
 use Rattle.farm_nodes_acting.specs.Advances.{AreOf}
+use Rattle.farm_nodes_acting.proofs.Rooms.{none_of_others, of_rooms}
 use Rattle.farm_nodes_records.specs.Fours.{Four, four_of, fours_of, words_of}
 use Rattle.farm_nodes_records.specs.Leaves.{Leave}
 use Rattle.farm_nodes_records.specs.Numbers.{function_of, pass_at, pass_of, place_of, room_at}
@@ -27,11 +31,11 @@ use Rattle.farm_nodes_functions.specs.Opened.{AreOpenedIn}
 use Rattle.farm_nodes_functions.proofs.Seated.{seat_opens}
 use Rattle.farm_nodes_disks.specs.Journals.{AreOpened, IsOpened, header_of}
 use Rattle.farm_nodes_stored.specs.Read.{AreKept}
+use Rattle.farm_nodes_node.specs.Held.{AreSeatsOf, AreUnproposed}
 use Rattle.farm_nodes_joining.specs.Joined.{AreHeld, IsHeld}
 use Rattle.farm_nodes_opened.specs.Seated.{AreSeated, first_seat, second_seat, third_seat, fourth_seat}
 use Rattle.farm_nodes_opened.proofs.Lists.{all_at, at_map, found_at, map_at}
 use Rattle.farm_nodes_opened.proofs.Offered.{room_low}
-use Rattle.farm_nodes_opened.proofs.Records.{none_of_others, of_rooms}
 
 place_is : (r : ℕ) → r < 4 → place_of (pass_at r) ≡ r
 place_is zero low = refl
@@ -46,31 +50,28 @@ room_is m =
     ap (λ p. 4 * (m / 4) + p) (place_is (m % 4) (omega arith)) ∙ whole
 
 -- in the rooms of a pass
-module _ {T N : Type 0} (kept : List (Vec KeptPart)) (which : Which) (functions : ℕ) (offers : List (List (Option T))) (show : N → SeatValue T × Claimed) (rows : List (List N))
-    (size : IsRoomSize (length kept)) (long : All (λ row. length row ≡ functions) rows) (opened : AreOpenedIn kept which functions offers show rows) where
-  seat_keeps : (count i f : ℕ) (row : List N) (x : N) (k : Vec KeptPart) (rs : List Record) → slice_get rows i ≡ Some row → slice_get row f ≡ Some x → slice_get kept i ≡ Some k → AreKept functions count i rs k.items → f < functions
-      → (show x).0.words.node.kept ≡ kept_in rs (room_at f which)
-  seat_keeps count i f row x k rs at is its part below =
-      ap (λ n. n.kept) (seat_opens kept which functions offers show rows size long opened i f row x at is k its)
-      ∙ get_or_from_slice_get k.items (room_at f which) (kept_in rs (room_at f which)) nothing_kept (part.each (room_at f which) (room_low functions f which below))
+module _ {T N : Type 0} (q : Sizes) (kept : List (Vec KeptPart)) (which : Which) (functions : ℕ) (offers : List (List (Option T))) (show : N → SeatValue T × Claimed) (rows : List (List N))
+    (sizes : AreQuorums q) (long : All (λ row. length row ≡ functions) rows) (opened : AreOpenedIn q kept which functions offers show rows) where
+  seat_is : (count i f : ℕ) (row : List N) (x : N) (k : Vec KeptPart) (rs : List Record) → slice_get rows i ≡ Some row → slice_get row f ≡ Some x → slice_get kept i ≡ Some k → AreKept functions count i rs k.items → f < functions
+      → (show x).0.words.node ≡ node_with i q (kept_in rs (room_at f which))
+  seat_is count i f row x k rs at is its part below =
+      seat_opens q kept which functions offers show rows sizes long opened i f row x at is k its
+      ∙ ap (node_with i q) (get_or_from_slice_get k.items (room_at f which) (kept_in rs (room_at f which)) nothing_kept (part.each (room_at f which) (room_low functions f which below)))
 
-module _ {J H : Type 0} {h : naming.Ghosts H} (functions : ℕ) (journals : List (J × Vec Record)) (rows : List (List (Seats H h))) (size : IsRoomSize (length journals)) (seated : AreSeated functions journals rows) where
-  kept_size : IsRoomSize (length seated.kept)
-  kept_size = subst IsRoomSize (sym seated.are_kept.count) size
-
+module _ {J H : Type 0} {h : naming.Ghosts H} (q : Sizes) (functions : ℕ) (journals : List (J × Vec Record)) (rows : List (List (Seats H h))) (sizes : AreQuorums q) (seated : AreSeated q functions journals rows) where
   module _ (i : ℕ) (row : List (Seats H h)) (k : Vec KeptPart) (j : J × Vec Record) (at : slice_get rows i ≡ Some row) (k_at : slice_get seated.kept i ≡ Some k) (j_at : slice_get journals i ≡ Some j) where
     part : AreKept functions (length journals) i j.1.items k.items
     part = seated.are_kept.each i j k j_at k_at
 
-    keeps : (pass : Which) (f : ℕ) (s : Seats H h) → f < functions → slice_get row f ≡ Some s → (words_of (four_of s) pass).node.kept ≡ kept_in j.1.items (room_at f pass)
+    keeps : (pass : Which) (f : ℕ) (s : Seats H h) → f < functions → slice_get row f ≡ Some s → (words_of (four_of s) pass).node ≡ node_with i q (kept_in j.1.items (room_at f pass))
     keeps First f s below here =
-        seat_keeps seated.kept First functions (rows_of seated.first.offers) (λ (x : Seats H h). first_seat x) rows kept_size seated.long seated.first.opened (length journals) i f row s k j.1.items at here k_at part below
+        seat_is q seated.kept First functions (rows_of seated.first.offers) (λ (x : Seats H h). first_seat x) rows sizes seated.long seated.first.opened (length journals) i f row s k j.1.items at here k_at part below
     keeps Second f s below here =
-        seat_keeps seated.kept Second functions (rows_of seated.second.offers) (λ (x : Seats H h). second_seat x) rows kept_size seated.long seated.second.opened (length journals) i f row s k j.1.items at here k_at part below
+        seat_is q seated.kept Second functions (rows_of seated.second.offers) (λ (x : Seats H h). second_seat x) rows sizes seated.long seated.second.opened (length journals) i f row s k j.1.items at here k_at part below
     keeps Third f s below here =
-        seat_keeps seated.kept Third functions (rows_of seated.third.offers) (λ (x : Seats H h). third_seat x) rows kept_size seated.long seated.third.opened (length journals) i f row s k j.1.items at here k_at part below
+        seat_is q seated.kept Third functions (rows_of seated.third.offers) (λ (x : Seats H h). third_seat x) rows sizes seated.long seated.third.opened (length journals) i f row s k j.1.items at here k_at part below
     keeps Fourth f s below here =
-        seat_keeps seated.kept Fourth functions (rows_of seated.fourth.offers) (λ (x : Seats H h). fourth_seat x) rows kept_size seated.long seated.fourth.opened (length journals) i f row s k j.1.items at here k_at part below
+        seat_is q seated.kept Fourth functions (rows_of seated.fourth.offers) (λ (x : Seats H h). fourth_seat x) rows sizes seated.long seated.fourth.opened (length journals) i f row s k j.1.items at here k_at part below
 
     row_size : length row ≡ functions
     row_size = all_at (λ (r : List (Seats H h)). length r ≡ functions) rows i row seated.long at
@@ -78,16 +79,26 @@ module _ {J H : Type 0} {h : naming.Ghosts H} (functions : ℕ) (journals : List
     fours_size : length (fours_of row) ≡ functions
     fours_size = length-map row four_of ∙ row_size
 
-    rooms : (m : ℕ) (s : Four Constants Expressions Allocation Order) → slice_get (fours_of row) (function_of m) ≡ Some s → kept_in j.1.items m ≡ (words_of s (pass_of m)).node.kept
-    rooms m s got =
+    node_is : (m : ℕ) (s : Four Constants Expressions Allocation Order) → slice_get (fours_of row) (function_of m) ≡ Some s → (words_of s (pass_of m)).node ≡ node_with i q (kept_in j.1.items m)
+    node_is m s got =
         let found : (x : Seats H h) × (slice_get row (function_of m) ≡ Some x) × (four_of x ≡ s) = map_at four_of row (function_of m) s got in
         let low : function_of m < functions = omega (arith, slice_get_within row (function_of m) found.0 found.1, row_size) in
-        ap (λ room. kept_in j.1.items room) (sym (room_is m)) ∙ sym (keeps (pass_of m) (function_of m) found.0 low found.1)
-        ∙ ap (λ (q : Four Constants Expressions Allocation Order). (words_of q (pass_of m)).node.kept) found.2
+        ap (λ (four : Four Constants Expressions Allocation Order). (words_of four (pass_of m)).node) (sym found.2) ∙ keeps (pass_of m) (function_of m) found.0 low found.1
+        ∙ ap (λ room. node_with i q (kept_in j.1.items room)) (room_is m)
+
+    -- each seat is the node's, and proposes nothing
+    seats_of : (digest : List ℕ) → AreSeatsOf (header_of q digest i) (fours_of row)
+    seats_of digest = record { me = λ m s got. ap (λ n. n.me) (node_is m s got); count = λ m s got. ap (λ n. n.quorums.nodes) (node_is m s got) }
+
+    unproposed_of : AreUnproposed (fours_of row) j.1.items
+    unproposed_of m s got b is none = let bad : Some b ≡ None = sym is ∙ ap (λ n. n.ballot) (node_is m s got) in absurd (cc)
+
+    in_order_of : (nodes : ℕ) → length journals ≡ nodes → AreInOrder nodes i (4 * length (fours_of row)) j.1.items
+    in_order_of nodes same = subst (λ (n : ℕ). AreInOrder n i (4 * length (fours_of row)) j.1.items) same (subst (λ (n : ℕ). AreInOrder (length journals) i (4 * n) j.1.items) (sym fours_size) part.in_order)
 
     leave_of : Leave (fours_of row) j.1.items
     leave_of = record {
-      rooms = rooms;
+      rooms = λ m s got. ap (λ n. n.kept) (sym (node_is m s got));
       no_others = λ m over.
           let beyond : 4 * functions ≤ m = omega (arith, over, fours_size) in
           none_of_others kept_by (4 * functions) m j.1.items nothing_kept (of_rooms (length journals) i (4 * functions) j.1.items part.in_order) beyond;
@@ -98,21 +109,26 @@ module _ {J H : Type 0} {h : naming.Ghosts H} (functions : ℕ) (journals : List
         subst (λ (n : ℕ). AreOf (4 * n) j.1.items) (sym fours_size) (of_rooms (length journals) i (4 * functions) j.1.items part.in_order)
 
 -- so it is of all nodes
-module _ {D H : Type 0} {h : naming.Ghosts H} (disk : disks.Ghosts D) (digest : List ℕ) (given : List D) (functions : ℕ) (journals : List (Log D × Vec Record)) (seats : List (Vec (Seats H h)))
-    (opened : AreOpened disk (length given) digest given (length given) journals) (size : IsRoomSize (length journals)) (seated : AreSeated functions journals (rows_of seats)) where
+module _ {D H : Type 0} {h : naming.Ghosts H} (disk : disks.Ghosts D) (q : Sizes) (digest : List ℕ) (given : List D) (functions : ℕ) (journals : List (Log D × Vec Record)) (seats : List (Vec (Seats H h)))
+    (opened : AreOpened disk q digest given (length given) journals) (sizes : AreQuorums q) (seated : AreSeated q functions journals (rows_of seats)) (nodes : length given ≡ q.nodes) where
   held_at : (i : ℕ) (j : Log D × Vec Record) (s : Vec (Seats H h)) → slice_get journals i ≡ Some j → slice_get seats i ≡ Some s → IsHeld disk.is_honest disk.seen disk.may_leave j.0 (fours_of s.items)
   held_at i j s at here =
       let within : i < length journals = slice_get_within journals i j at in
       let d : (d : D) × (slice_get given i ≡ Some d) = found_at given i (omega (arith, within, opened.size)) in
       let k : (k : Vec KeptPart) × (slice_get seated.kept i ≡ Some k) = found_at seated.kept i (omega (arith, within, seated.are_kept.count)) in
-      let is : IsOpened disk (header_of (length given) digest i) d.0 j.0 j.1.items = opened.each i j d.0 at d.1 in
+      let is : IsOpened disk (header_of q digest i) d.0 j.0 j.1.items = opened.each i j d.0 at d.1 in
       let row_at : slice_get (rows_of seats) i ≡ Some s.items = at_map (λ (v : Vec (Seats H h)). v.items) seats i s here in
       let same : (honest : disk.is_honest j.0.disk) → acknowledged disk.seen j.0 ≡ j.1.items = λ honest. is.acknowledged_are (is.honest.0 honest) in
       record {
         sound = is.sound;
         going = is.going;
-        leave = λ honest. subst (λ (rs : List Record). Leave (fours_of s.items) rs) (sym (same honest)) (leave_of functions journals (rows_of seats) size seated i s.items k.0 j row_at k.1 at);
-        named = λ honest. subst (λ (rs : List Record). AreOf (4 * length (fours_of s.items)) rs) (sym (same honest)) (named_of functions journals (rows_of seats) size seated i s.items k.0 j row_at k.1 at);
+        own = subst (λ (g : Header). AreSeatsOf g (fours_of s.items)) (sym is.header_is) (seats_of q functions journals (rows_of seats) sizes seated i s.items k.0 j row_at k.1 at digest);
+        leave = λ honest. subst (λ (rs : List Record). Leave (fours_of s.items) rs) (sym (same honest)) (leave_of q functions journals (rows_of seats) sizes seated i s.items k.0 j row_at k.1 at);
+        in_order = λ honest.
+            subst (λ (g : Header). AreInOrder g.nodes g.node (4 * length (fours_of s.items)) (acknowledged disk.seen j.0)) (sym is.header_is)
+            (subst (λ (rs : List Record). AreInOrder q.nodes i (4 * length (fours_of s.items)) rs) (sym (same honest)) (in_order_of q functions journals (rows_of seats) sizes seated i s.items k.0 j row_at k.1 at q.nodes (opened.size ∙ nodes)));
+        unproposed = λ honest. subst (λ (rs : List Record). AreUnproposed (fours_of s.items) rs) (sym (same honest)) (unproposed_of q functions journals (rows_of seats) sizes seated i s.items k.0 j row_at k.1 at);
+        named = λ honest. subst (λ (rs : List Record). AreOf (4 * length (fours_of s.items)) rs) (sym (same honest)) (named_of q functions journals (rows_of seats) sizes seated i s.items k.0 j row_at k.1 at);
       }
 
   pub held : AreHeld disk.is_honest disk.seen disk.may_leave (λ (j : Log D × Vec Record). j.0) (λ (s : Vec (Seats H h)). fours_of s.items) journals seats

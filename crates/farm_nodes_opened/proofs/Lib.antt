@@ -1,5 +1,4 @@
 pub mod Lists
-pub mod Records
 pub mod Held
 pub mod Offered
 pub mod Disks

@@ -2,6 +2,7 @@
 use Rattle.std.proofs.Common.{◌≡◌, ◌≢◌, ℕ, List, Option, Some, None, refl, subst}
 use Rattle.std.specs.Global.{Vec}
 use Rattle.durable_model.specs.declared.disk.Disk as disks
+use Rattle.paxos_core_world.specs.Quorum.{Sizes}
 use Rattle.acceptor_log_form.specs.declared.errors.LogError.{LogError}
 use Rattle.acceptor_log_form.specs.declared.errors.LogError.TheVariants as log
 use Rattle.acceptor_log_form.specs.declared.record.Record.{Record}
@@ -85,15 +86,15 @@ room_no_refusal number room.CellRefused i told = absurd (cc)
 room_no_refusal number room.Spent i told = absurd (cc)
 
 -- the journal that is told is refused, and those in front of it are open
-module _ {D : Type 0} (disk : disks.Ghosts D) (count : ℕ) (digest : List ℕ) (given : List D) (node : ℕ) (fault : LogError) (opened : List (Log D × Vec Record)) (behind : List D) where
-  here : (back : Option D) → IsRefusedAt disk count digest given node fault opened back behind → fault ≢ log.NoMemory → IsRefusedJournal disk count digest given node fault
+module _ {D : Type 0} (disk : disks.Ghosts D) (q : Sizes) (digest : List ℕ) (given : List D) (node : ℕ) (fault : LogError) (opened : List (Log D × Vec Record)) (behind : List D) where
+  here : (back : Option D) → IsRefusedAt disk q digest given node fault opened back behind → fault ≢ log.NoMemory → IsRefusedJournal disk q digest given node fault
   here None refused memory = absurd (memory (refused.none refl).0)
   here (Some b) refused memory =
       let some = refused.some b refl in
       record { journals = opened; front = refused.front; on = some.0; back = b; stands = some.1; refused = some.2 }
 
-  pub refused_journal : (back : Option D) → IsRefusedAt disk count digest given node fault opened back behind → (i : ℕ) (e : LogError) → fault_of_journal node fault ≡ Journal i e → IsRefusedJournal disk count digest given i e
+  pub refused_journal : (back : Option D) → IsRefusedAt disk q digest given node fault opened back behind → (i : ℕ) (e : LogError) → fault_of_journal node fault ≡ Journal i e → IsRefusedJournal disk q digest given i e
   refused_journal back refused i e told =
       let is : IsJournals node fault i e = journals_fault node fault i e told in
-      let at : IsRefusedJournal disk count digest given node fault = here back refused is.no_memory in
-      subst (λ (x : LogError). IsRefusedJournal disk count digest given i x) is.fault_is (subst (λ (n : ℕ). IsRefusedJournal disk count digest given n fault) is.node_is at)
+      let at : IsRefusedJournal disk q digest given node fault = here back refused is.no_memory in
+      subst (λ (x : LogError). IsRefusedJournal disk q digest given i x) is.fault_is (subst (λ (n : ℕ). IsRefusedJournal disk q digest given n fault) is.node_is at)

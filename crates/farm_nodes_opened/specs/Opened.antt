@@ -11,6 +11,7 @@ use Rattle.cse_check.specs.contracts.pass.CsePass.TheImpl as expressions
 use Rattle.alloc_check.specs.contracts.pass.AllocPass.TheImpl as allocation
 use Rattle.linearize_check.specs.contracts.pass.LinearizePass.TheImpl as order
 use Rattle.paxos_core_world.specs.KeptPart.{KeptPart}
+use Rattle.paxos_core_world.specs.Quorum.{Sizes}
 use Rattle.acceptor_log.specs.Acknowledged.{acknowledged}
 use Rattle.acceptor_log.specs.declared.log.Log.{Log}
 use Rattle.offers.specs.declared.parts.Parts.{Parts}
@@ -28,7 +29,7 @@ use Rattle.farm_nodes_stored.specs.Read.{AreKept}
 use Rattle.farm_nodes_stored.specs.Checked.{AreOffers}
 use Rattle.farm_nodes_opened.specs.Seated.{first_seat, second_seat, third_seat, fourth_seat}
 
-module _ {D : Type 0} (is_honest : D → Type 0) (seen : D → List ℕ) (functions : ℕ) (logs : List (Log D)) where
+module _ {D : Type 0} (is_honest : D → Type 0) (seen : D → List ℕ) (q : Sizes) (functions : ℕ) (logs : List (Log D)) where
   module _ {P A B C I O N : Type 0} (from : language.Ghosts A I) (to : language.Ghosts B O) (by : pass.Ghosts P A B C I O) (which : Which) where
     -- The rooms of a pass of all functions are opened from what the nodes have kept of each, and from the offers among the records that
     -- the journals have acknowledged, each of which was checked again.
@@ -36,15 +37,15 @@ module _ {D : Type 0} (is_honest : D → Type 0) (seen : D → List ℕ) (functi
       pub offers : List (Vec (Option (Parts I O C)))
       pub are_offers : AreMade (λ i log o. is_honest log.disk → AreOffers from to by which functions (acknowledged seen log) o.items)
           logs (length logs) offers
-      pub opened : AreOpenedIn kept which functions (rows_of offers) show rows
+      pub opened : AreOpenedIn q kept which functions (rows_of offers) show rows
 
-  -- What the nodes have kept is what the records leave that their journals have acknowledged. It is settled in each room, and so the rooms
-  -- of all passes are opened.
+  -- What the nodes have kept is what the records leave that their journals have acknowledged. It is settled in each room, with quorums of
+  -- these sizes, and so the rooms of all passes are opened.
   pub record AreOpenFrom {H : Type 0} {h : naming.Ghosts H} (rows : List (List (Seats H h))) : Type 0 where
     pub kept : List (Vec KeptPart)
     pub are_kept : AreMade (λ i log k. is_honest log.disk → AreKept functions (length logs) i (acknowledged seen log) k.items)
         logs (length logs) kept
-    pub settled : (f : ℕ) → f < functions → AreSettled kept f
+    pub settled : (f : ℕ) → f < functions → AreSettled q kept f
     pub first : AreOpenIn rtl_language.ghosts rtl_language.ghosts constants.ghosts First kept first_seat rows
     pub second : AreOpenIn rtl_language.ghosts rtl_language.ghosts expressions.ghosts Second kept second_seat rows
     pub third : AreOpenIn rtl_language.ghosts ltl_language.ghosts allocation.ghosts Third kept third_seat rows

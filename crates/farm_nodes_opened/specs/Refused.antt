@@ -3,6 +3,7 @@ use Rattle.std.specs.Prelude.{◌≡◌, ◌≢◌, ℕ, ◌<◌, ◌*◌, List,
 use Rattle.std.specs.Global.{Vec}
 use Rattle.durable_model.specs.declared.disk.Disk as disks
 use Rattle.paxos_core_world.specs.KeptPart.{KeptPart}
+use Rattle.paxos_core_world.specs.Quorum.{Sizes}
 use Rattle.acceptor_log_form.specs.declared.errors.LogError.{LogError}
 use Rattle.acceptor_log_form.specs.declared.record.Record.{Record}
 use Rattle.acceptor_log.specs.declared.log.Log.{Log}
@@ -16,19 +17,19 @@ use Rattle.farm_nodes_functions.specs.RoomFault.{RoomFault}
 use Rattle.farm_nodes_functions.specs.RoomFault.TheVariants.{CellRefused, Unsettled}
 use Rattle.farm_nodes_functions.specs.Opened.{IsSettledBefore}
 
-module _ {D : Type 0} (disk : disks.Ghosts D) (count : ℕ) (digest : List ℕ) (given : List D) where
+module _ {D : Type 0} (disk : disks.Ghosts D) (q : Sizes) (digest : List ℕ) (given : List D) where
   -- The journal of this node is refused, and those in front of it were opened.
   pub record IsRefusedJournal (node : ℕ) (fault : LogError) : Type 0 where
     pub journals : List (Log D × Vec Record)
-    pub front : AreOpened disk count digest given node journals
+    pub front : AreOpened disk q digest given node journals
     pub on : D
     pub back : D
     pub stands : slice_get given node ≡ Some on
-    pub refused : IsRefused disk (header_of count digest node) on back fault
+    pub refused : IsRefused disk (header_of q digest node) on back fault
 
   -- all journals were opened, and so it is of them
   abbrev pub OfJournals : (List (Log D × Vec Record) → Type 0) → Type 0
-  OfJournals Holds = (journals : List (Log D × Vec Record)) × AreOpened disk count digest given count journals × Holds journals
+  OfJournals Holds = (journals : List (Log D × Vec Record)) × AreOpened disk q digest given (length given) journals × Holds journals
 
 module _ {J : Type 0} (functions : ℕ) (journals : List (J × Vec Record)) where
   -- This node's records are out of order, or one is no offer; what stands in those of the nodes in front of it was read.
@@ -44,12 +45,12 @@ module _ {J : Type 0} (functions : ℕ) (journals : List (J × Vec Record)) wher
 
   -- This room is not opened. The offers of all nodes were accepted, and what they have kept of the rooms in front of it is settled.
   -- Of itself it is not, which no farm leaves; or an offer that was made there is not taken by its cell.
-  pub record IsUnopened (room : ℕ) (fault : RoomFault) : Type 0 where
+  pub record IsUnopened (q : Sizes) (room : ℕ) (fault : RoomFault) : Type 0 where
     pub kept : List (Vec KeptPart)
     pub are_kept : AreMade (IsKeptPart functions (length journals)) journals (length journals) kept
     pub accepted : WereAccepted journals (length journals)
     pub within : room < 4 * functions
-    pub before : IsSettledBefore kept room
-    pub unsettled : fault ≡ Unsettled → IsSettledIn kept room → ⊥
-    pub left : AreLeftIn kept functions → fault ≢ Unsettled
+    pub before : IsSettledBefore q kept room
+    pub unsettled : fault ≡ Unsettled → IsSettledIn q kept room → ⊥
+    pub left : AreLeftIn q kept functions → fault ≢ Unsettled
     pub refused : fault ≡ CellRefused → IsOfferedIn kept room

@@ -11,6 +11,7 @@ use Rattle.cse_check.specs.contracts.pass.CsePass.TheImpl as expressions
 use Rattle.alloc_check.specs.contracts.pass.AllocPass.TheImpl as allocation
 use Rattle.linearize_check.specs.contracts.pass.LinearizePass.TheImpl as order
 use Rattle.paxos_core_world.specs.KeptPart.{KeptPart}
+use Rattle.paxos_core_world.specs.Quorum.{Sizes}
 use Rattle.acceptor_log_form.specs.declared.record.Record.{Record}
 use Rattle.offers.specs.declared.parts.Parts.{Parts}
 use Rattle.rooms.specs.SeatValue.{SeatValue}
@@ -29,11 +30,11 @@ use Rattle.farm_nodes_stored.specs.Checked.{IsOffersPart}
 
 module _ {J P A B C I O N : Type 0} (from : language.Ghosts A I) (to : language.Ghosts B O) (by : pass.Ghosts P A B C I O) (which : Which) where
   -- those in the rooms of a pass of all functions, from the kept parts and the offers among the records, each of which was checked again
-  pub record AreSeatedIn (functions : ℕ) (journals : List (J × Vec Record)) (kept : List (Vec KeptPart))
+  pub record AreSeatedIn (q : Sizes) (functions : ℕ) (journals : List (J × Vec Record)) (kept : List (Vec KeptPart))
       (show : N → SeatValue (Parts I O C) × Claimed) (rows : List (List N)) : Type 0 where
     pub offers : List (Vec (Option (Parts I O C)))
     pub are_offers : AreMade (IsOffersPart from to by which functions) journals (length journals) offers
-    pub opened : AreOpenedIn kept which functions (rows_of offers) show rows
+    pub opened : AreOpenedIn q kept which functions (rows_of offers) show rows
 
 module _ {H : Type 0} {h : naming.Ghosts H} where
   -- the seats of each pass, with the numbers of their rooms
@@ -50,15 +51,15 @@ module _ {H : Type 0} {h : naming.Ghosts H} where
   fourth_seat s = (s.seat.fourth, s.claim)
 
   -- so it is of all passes
-  pub record AreSeated {J : Type 0} (functions : ℕ) (journals : List (J × Vec Record)) (rows : List (List (Seats H h))) : Type 0 where
+  pub record AreSeated {J : Type 0} (q : Sizes) (functions : ℕ) (journals : List (J × Vec Record)) (rows : List (List (Seats H h))) : Type 0 where
     pub count : length rows ≡ length journals
     pub long : All (λ row. length row ≡ functions) rows
     pub kept : List (Vec KeptPart)
     pub are_kept : AreMade (IsKeptPart functions (length journals)) journals (length journals) kept
-    pub settled : (f : ℕ) → f < functions → AreSettled kept f
-    pub first : AreSeatedIn rtl_language.ghosts rtl_language.ghosts constants.ghosts First functions journals kept first_seat rows
-    pub second : AreSeatedIn rtl_language.ghosts rtl_language.ghosts expressions.ghosts Second functions journals kept
+    pub settled : (f : ℕ) → f < functions → AreSettled q kept f
+    pub first : AreSeatedIn rtl_language.ghosts rtl_language.ghosts constants.ghosts First q functions journals kept first_seat rows
+    pub second : AreSeatedIn rtl_language.ghosts rtl_language.ghosts expressions.ghosts Second q functions journals kept
         second_seat rows
-    pub third : AreSeatedIn rtl_language.ghosts ltl_language.ghosts allocation.ghosts Third functions journals kept third_seat rows
-    pub fourth : AreSeatedIn ltl_language.ghosts linear_language.ghosts order.ghosts Fourth functions journals kept
+    pub third : AreSeatedIn rtl_language.ghosts ltl_language.ghosts allocation.ghosts Third q functions journals kept third_seat rows
+    pub fourth : AreSeatedIn ltl_language.ghosts linear_language.ghosts order.ghosts Fourth q functions journals kept
         fourth_seat rows

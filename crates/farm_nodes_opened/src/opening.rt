@@ -1,6 +1,5 @@
 ghost use Rattle.std.specs.Prelude.{◌≡◌, ◌<◌, ◌⊎◌, ℕ, None, All, length, map, IfOk, IfErr};
 ghost use Rattle.std.specs.Arc.{arc_value};
-ghost use Rattle.paxos_core_law.specs.NodeState.{IsRoomSize};
 ghost use Rattle.acceptor_log_form.specs.declared.errors.LogError.{LogError};
 ghost use Rattle.farm_nodes_records.specs.Fours.{fours_of};
 ghost use Rattle.farm_nodes_functions.specs.RoomFault.{RoomFault};
@@ -19,6 +18,7 @@ use durable_model::Disk;
 use farm_nodes_disks::open_journals;
 use farm_nodes_joining::{FarmNode, join_nodes};
 use lang_base::Program;
+use paxos_core::Quorums;
 use rooms_hall::{Hall, Naming};
 use rtl_language::Function;
 use std::alloc::Global;
@@ -26,7 +26,7 @@ use std::sync::{Arc, Wait};
 use std::thread::Threads;
 
 /// The nodes of a farm from their disks, in order, each with the journal on its disk, the seats that come from what stands there, its
-/// optimisers, and the generator of the seed and its number. Journals come first, in the order of the nodes (401 to 404 with the node);
+/// optimisers, and the generator of the seed and its number; all rooms have these quorums. Journals come first, in the order of the nodes (401 to 404 with the node);
 /// then, node by node, that its records are in order and name rooms of the program, and that their offers are offers (403 with the node);
 /// then, once all were read, that the passes accept them (301 with the node); then the rooms in order (510, 511 with the room). The first
 /// fault is told, and all disks come back.
@@ -40,19 +40,20 @@ pub fn open_nodes<D, O, H, R>(
     oracles: Vec<O>,
     seed: u64,
     workers: usize,
+    quorums: Quorums,
 ) -> Result<Vec<FarmNode<D, O, H>>, (Vec<D>, OpenFault)>
 where
     D: Disk + Drop,
     O: Drop,
     H: Naming,
     R: Threads + Wait + Sync,
-    requires size { IsRoomSize (length disks.items) }
+    requires size { length disks.items ≡ quorums.nodes }
     requires oracles { length oracles.items ≡ length disks.items }
     requires functions { length (arc_value program.now).functions < 16384 }
     requires workers { 0 < workers }
 
     // Each node has the journal on its disk, its optimisers and its generator; it may be asked, and is not stopped.
-    ensures journals { IfOk result (λ nodes. AreMade (IsJournalOn D.Disk (length disks.items) digest.now)
+    ensures journals { IfOk result (λ nodes. AreMade (IsJournalOn D.Disk quorums digest.now)
         disks.items (length disks.items) (map (λ n. n.log) nodes.items)) }
     ensures oracles { IfOk result (λ nodes. map (λ n. n.oracles) nodes.items ≡ oracles.items) }
     ensures program { IfOk result (λ nodes. All (λ n. arc_value n.program ≡ arc_value program.now) nodes.items) }
@@ -63,28 +64,29 @@ where
     ensures waiting { IfOk result (λ nodes. All (λ n. IsWaiting n.seats.items n.halted) nodes.items) }
 
     // The rooms open from what the journals have acknowledged.
-    ensures rooms { IfOk result (λ nodes. AreOpenFrom D.is_honest D.seen (length (arc_value program.now).functions)
+    ensures rooms { IfOk result (λ nodes. AreOpenFrom D.is_honest D.seen quorums (length (arc_value program.now).functions)
         (map (λ n. n.log) nodes.items) (map (λ n. n.seats.items) nodes.items)) }
 
     // All disks come back, and what is told is the first fault.
-    ensures back { IfErr result (λ it. AreMade (IsBack D.Disk (length disks.items) digest.now)
+    ensures back { IfErr result (λ it. AreMade (IsBack D.Disk quorums digest.now)
         disks.items (length disks.items) it.0.items) }
     ensures journal { IfErr result (λ it. (node : ℕ) (fault : LogError) → it.1 ≡ OpenFault.Journal node fault →
-        IsRefusedJournal D.Disk (length disks.items) digest.now disks.items node fault
-        ⊎ ((fault ≡ LogError.BadRecord) × OfJournals D.Disk (length disks.items) digest.now disks.items
+        IsRefusedJournal D.Disk quorums digest.now disks.items node fault
+        ⊎ ((fault ≡ LogError.BadRecord) × OfJournals D.Disk quorums digest.now disks.items
         (λ journals. HasBadRecord (length (arc_value program.now).functions) journals node))) }
     ensures refused { IfErr result (λ it. (node : ℕ) → it.1 ≡ OpenFault.Refused node →
-        OfJournals D.Disk (length disks.items) digest.now disks.items
+        OfJournals D.Disk quorums digest.now disks.items
         (λ journals. HasRefusedOffer (length (arc_value program.now).functions) journals node)) }
     ensures unopened { IfErr result (λ it. (room : ℕ) (fault : RoomFault) → it.1 ≡ OpenFault.Room room fault →
-        OfJournals D.Disk (length disks.items) digest.now disks.items
-        (λ journals. IsUnopened (length (arc_value program.now).functions) journals room fault)) }
+        OfJournals D.Disk quorums digest.now disks.items
+        (λ journals. IsUnopened (length (arc_value program.now).functions) journals quorums room fault)) }
 {
+    let _nodes = quorums.nodes();
     let functions = program.functions.len() as u16;
     let Ok(back) = Vec::with_capacity(alloc, disks.len()) else {
         return Err((disks, OpenFault::NoMemory));
     };
-    let journals = match open_journals(alloc, disks, digest) {
+    let journals = match open_journals(alloc, disks, digest, quorums) {
         Ok(journals) => journals,
         Err(refused) => {
             let fault = OpenFault::of_journal(refused.node, refused.fault);
@@ -92,7 +94,9 @@ where
         }
     };
     let before = journals.as_slice();
-    let seats = match seats_of::<D, H, R>(rt, alloc, hall, digest, functions, workers, before) {
+    let seats = match seats_of::<D, H, R>(
+        rt, alloc, hall, digest, functions, workers, before, quorums,
+    ) {
         Ok(seats) => seats,
         Err(fault) => return Err((with_disks(back, journals), fault)),
     };

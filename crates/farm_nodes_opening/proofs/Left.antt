@@ -2,6 +2,7 @@
 use Rattle.std.proofs.Common.{◌≡◌, ◌⊎◌, ℕ, zero, suc, ◌<◌, List, [], ◌∷◌, length, Option, Some, None, is_some, IsTrue, sym, ap, subst, ◌∙◌, arith}
 use Rattle.paxos_core_world.specs.Ballot.{Owns}
 use Rattle.paxos_core_world.specs.KeptPart.{KeptPart, IsWithinPromise}
+use Rattle.paxos_core_world.specs.Quorum.{Sizes}
 use Rattle.paxos_core_world.specs.Settled.{Settled, BallotsSettled, IsStarted, PairSettled, VoteSettled, has_passed, has_promised}
 use Rattle.paxos_core_world.specs.Step.{HasOffered}
 use Rattle.paxos_core_world.specs.World.{World, nodes_of}
@@ -12,7 +13,10 @@ use Rattle.rooms.specs.Opened.{offer_at, AnyOffered, AreOffersOf}
 use Rattle.farm_nodes_opening.specs.Left.{AreLeft}
 
 -- kept parts that are the same, node by node
-module _ (n : ℕ) (a b : ℕ → KeptPart) (same : (i : ℕ) → i < n → a i ≡ b i) where
+module _ (q : Sizes) (a b : ℕ → KeptPart) (same : (i : ℕ) → i < q.nodes → a i ≡ b i) where
+  abbrev n : ℕ
+  n = q.nodes
+
   held : (i : ℕ) (x : Vote) → i < n → (b i).accepted ≡ Some x → (a i).accepted ≡ Some x
   held i x low e = ap (λ (k : KeptPart). k.accepted) (same i low) ∙ e
 
@@ -25,23 +29,23 @@ module _ (n : ℕ) (a b : ℕ → KeptPart) (same : (i : ℕ) → i < n → a i 
     accepted = λ j x within e. subst (λ (k : KeptPart). IsStarted n i k x.ballot) (same i low) (s.accepted j x within (held j x within e));
   }
 
-  vote_as : (x : Vote) → VoteSettled n a x → VoteSettled n b x
+  vote_as : (x : Vote) → VoteSettled q a x → VoteSettled q b x
   vote_as x s = record {
     offered = (s.offered.0, subst (λ (k : KeptPart). IsTrue k.offered) (same x.value s.offered.0) s.offered.1);
     quorum =
-        promise_quorum_grows n (λ j. has_promised x.ballot (a j)) (λ j. has_promised x.ballot (b j))
+        promise_quorum_grows q (λ j. has_promised x.ballot (a j)) (λ j. has_promised x.ballot (b j))
         (λ j within yes. subst (λ (k : KeptPart). IsTrue (has_promised x.ballot k)) (same j within) yes) s.quorum;
   }
 
-  pair_as : (x y : Vote) → PairSettled n a x y → PairSettled n b x y
+  pair_as : (x y : Vote) → PairSettled q a x y → PairSettled q b x y
   pair_as x y s = record {
     same = s.same;
     lower = λ below other.
-        promise_quorum_grows n (λ j. has_passed y (a j)) (λ j. has_passed y (b j))
+        promise_quorum_grows q (λ j. has_passed y (a j)) (λ j. has_passed y (b j))
         (λ j within yes. subst (λ (k : KeptPart). IsTrue (has_passed y k)) (same j within) yes) (s.lower below other);
   }
 
-  pub settled_as : Settled n a → Settled n b
+  pub settled_as : Settled q a → Settled q b
   settled_as s = record {
     within = λ i low. subst (λ (k : KeptPart). IsWithinPromise k.promised k.accepted) (same i low) (s.within i low);
     ballots = λ i low. ballots_as i low (s.ballots i low);
@@ -50,12 +54,12 @@ module _ (n : ℕ) (a b : ℕ → KeptPart) (same : (i : ℕ) → i < n → a i 
   }
 
 -- what a run leaves is settled
-pub left_settled : (parts : List KeptPart) → AreLeft parts → Settled (length parts) (nodes_of parts)
-left_settled parts left =
+pub left_settled : (q : Sizes) (parts : List KeptPart) → AreLeft q parts → Settled q (nodes_of parts)
+left_settled q parts left =
     let r = left.reached in
-    let there : Settled (length parts) left.world.nodes =
-    subst (λ (w : World). Settled (length parts) w.nodes) (sym r.world) (runs_stay_settled (length parts) r.nodes r.steps r.run) in
-    settled_as (length parts) left.world.nodes (nodes_of parts) left.same there
+    let there : Settled q left.world.nodes =
+    subst (λ (w : World). Settled q w.nodes) (sym r.world) (runs_stay_settled q r.nodes r.steps r.run) in
+    settled_as q left.world.nodes (nodes_of parts) left.same there
 
 none_offered : {T : Type 0} (x : T) → None ≡ Some x → ⊥
 none_offered x e = cc

@@ -1,10 +1,10 @@
 -- The seats of a room as it opens are of one room, and as many as its nodes.
-use Rattle.std.proofs.Common.{◌≡◌, inl, inr, ℕ, zero, suc, ◌<◌, List, [], ◌∷◌, length, map, set, get_or, All, Option, Some, None, refl, sym, ap, subst, ◌∙◌, arith}
+use Rattle.std.proofs.Common.{◌≡◌, ℕ, zero, suc, ◌<◌, List, [], ◌∷◌, length, map, set, get_or, All, Option, Some, None, refl, sym, ap, subst, ◌∙◌, arith}
 use Rattle.std.proofs.lemmas.List.{length_push}
 use Rattle.std.proofs.lemmas.List.Elements.{All-cons, All-get_or, All-head, All-nil, All-push, All-same, All-tail, All-weaker}
 use Rattle.rooms_table.specs.RoomAt.{RoomAt}
-use Rattle.paxos_core_law.specs.NodeState.{IsRoomSize}
 use Rattle.paxos_core_world.specs.KeptPart.{KeptPart}
+use Rattle.paxos_core_world.specs.Quorum.{AreQuorums, Sizes}
 use Rattle.rooms_cells.specs.Seen.{SightOf, names_of, nothing_seen, sight_at, unseen}
 use Rattle.rooms_hall.specs.Claimed.{Claimed}
 use Rattle.rooms_hall.specs.RoomId.{RoomId}
@@ -57,19 +57,17 @@ module _ {T : Type 0} (table : RoomAt) (cells : List ℕ) (o : Opening) where
     so_many (suc k) =
         length_push (opened_first table cells o offers k) (opened table cells o k (offer_at offers k)) ∙ omega (arith, so_many k)
 
-module _ {T : Type 0} (kept : List KeptPart) (offers : List (Option T)) (seats : List (SeatValue T)) (are : AreOpened kept offers seats) where
+module _ {T : Type 0} (q : Sizes) (kept : List KeptPart) (offers : List (Option T)) (seats : List (SeatValue T)) (are : AreOpened q kept offers seats) where
   pub one_room : All (here_is are.table are.cells) seats
   one_room =
-      All-same (IsHere {T = T} are.table are.cells (opening_of kept)) seats (opened_first are.table are.cells (opening_of kept) offers (length kept)) are.seats_are
-      (all_here {T = T} are.table are.cells (opening_of kept) offers (length kept))
+      All-same (IsHere {T = T} are.table are.cells (opening_of q kept)) seats (opened_first are.table are.cells (opening_of q kept) offers q.nodes) are.seats_are
+      (all_here {T = T} are.table are.cells (opening_of q kept) offers q.nodes)
 
-  pub as_many : length seats ≡ length kept
-  as_many = ap length are.seats_are ∙ so_many {T = T} are.table are.cells (opening_of kept) offers (length kept)
+  pub as_many : length seats ≡ q.nodes
+  as_many = ap length are.seats_are ∙ so_many {T = T} are.table are.cells (opening_of q kept) offers q.nodes
 
-  pub some_seat : IsRoomSize (length kept) → 0 < length seats
-  some_seat (inl three) = omega (arith, three, as_many)
-  some_seat (inr (inl five)) = omega (arith, five, as_many)
-  some_seat (inr (inr seven)) = omega (arith, seven, as_many)
+  pub some_seat : AreQuorums q → 0 < length seats
+  some_seat sizes = omega (arith, sizes.least, as_many)
 
 -- a claim of the rooms of one of them is one of each one's rooms
 pub claimed_by_all : (seats : List FunctionSeat) (one : FunctionSeat) (claimed : RoomId) → AreOfOneFunction seats → 0 < length seats → one ≡ get_or seats 0 one → claimed ≡ function_of one → All (λ s. function_of s ≡ claimed) seats
@@ -101,8 +99,8 @@ module _ (p1 p2 p3 p4 : RoomAt) (c1 c2 c3 c4 : List ℕ) where
   one_function seats a b c d = record { rooms = rooms; each = all_rooms seats a b c d }
 
 -- seats and claims side by side
-pub opened_pairs : {T N : Type 0} (kept : List KeptPart) (offers : List (Option T)) (seat : N → SeatValue T) (claim : N → Claimed) (found : List N) (seats : List (SeatValue T)) → map seat found ≡ seats → HaveOneClaim (map claim found) → AreOpened kept offers seats → IsOpenedRoom kept offers (map (λ n. (seat n, claim n)) found)
-opened_pairs {T} {N} kept offers seat claim found seats are one opened =
+pub opened_pairs : {T N : Type 0} (q : Sizes) (kept : List KeptPart) (offers : List (Option T)) (seat : N → SeatValue T) (claim : N → Claimed) (found : List N) (seats : List (SeatValue T)) → map seat found ≡ seats → HaveOneClaim (map claim found) → AreOpened q kept offers seats → IsOpenedRoom q kept offers (map (λ n. (seat n, claim n)) found)
+opened_pairs {T} {N} q kept offers seat claim found seats are one opened =
     let pair : N → SeatValue T × Claimed = λ n. (seat n, claim n) in
     let firsts : map (λ (p : SeatValue T × Claimed). p.0) (map pair found) ≡ map seat found = map-map (λ (p : SeatValue T × Claimed). p.0) pair found in
     let seconds : map (λ (p : SeatValue T × Claimed). p.1) (map pair found) ≡ map claim found = map-map (λ (p : SeatValue T × Claimed). p.1) pair found in
@@ -112,15 +110,15 @@ opened_pairs {T} {N} kept offers seat claim found seats are one opened =
     }
 
 -- the same of the nodes that hold them
-pub opened_through : {T N F : Type 0} (kept : List KeptPart) (offers : List (Option T)) (show : N → SeatValue T × Claimed) (part : F → N) (nodes : List F) (seats : List N) → map part nodes ≡ seats → IsOpenedRoom kept offers (map show seats) → IsOpenedRoom kept offers (map (λ n. show (part n)) nodes)
-opened_through {T} {N} {F} kept offers show part nodes seats are is =
+pub opened_through : {T N F : Type 0} (q : Sizes) (kept : List KeptPart) (offers : List (Option T)) (show : N → SeatValue T × Claimed) (part : F → N) (nodes : List F) (seats : List N) → map part nodes ≡ seats → IsOpenedRoom q kept offers (map show seats) → IsOpenedRoom q kept offers (map (λ n. show (part n)) nodes)
+opened_through {T} {N} {F} q kept offers show part nodes seats are is =
     let same : map (λ n. show (part n)) nodes ≡ map show seats = sym (map-map show part nodes) ∙ ap (map show) are in
-    subst (λ (ps : List (SeatValue T × Claimed)). IsOpenedRoom kept offers ps) (sym same) is
+    subst (λ (ps : List (SeatValue T × Claimed)). IsOpenedRoom q kept offers ps) (sym same) is
 
 -- of kept parts and offers that are the same
-pub as_given : {T : Type 0} (kept parts : List KeptPart) (offers here : List (Option T)) (seats : List (SeatValue T × Claimed)) → parts ≡ kept → here ≡ offers → IsOpenedRoom parts here seats → IsOpenedRoom kept offers seats
-as_given {T} kept parts offers here seats same given is =
-    subst (λ (os : List (Option T)). IsOpenedRoom kept os seats) given (subst (λ (k : List KeptPart). IsOpenedRoom k here seats) same is)
+pub as_given : {T : Type 0} (q : Sizes) (kept parts : List KeptPart) (offers here : List (Option T)) (seats : List (SeatValue T × Claimed)) → parts ≡ kept → here ≡ offers → IsOpenedRoom q parts here seats → IsOpenedRoom q kept offers seats
+as_given {T} q kept parts offers here seats same given is =
+    subst (λ (os : List (Option T)). IsOpenedRoom q kept os seats) given (subst (λ (k : List KeptPart). IsOpenedRoom q k here seats) same is)
 
 pub offers_as_given : {T : Type 0} (kept parts : List KeptPart) (offers here : List (Option T)) → parts ≡ kept → here ≡ offers → AreOffersOf kept offers → AreOffersOf parts here
 offers_as_given {T} kept parts offers here same given are =

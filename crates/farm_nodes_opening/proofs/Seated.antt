@@ -1,11 +1,12 @@
 -- What each seat of a room holds as it opens.
-use Rattle.std.proofs.Common.{◌≡◌, ◌≢◌, ◌⊎◌, inl, inr, ℕ, zero, suc, ◌<◌, List, [], ◌∷◌, ◌++◌, length, map, get_or-set_same, get_or-set_other, Option, Some, None, option_map, refl, sym, ap, subst, ◌∙◌, arith}
+use Rattle.std.proofs.Common.{◌≡◌, ◌≢◌, ◌⊎◌, inl, inr, ℕ, zero, suc, ◌<◌, ◌≤◌, List, [], ◌∷◌, ◌++◌, length, map, get_or-set_same, get_or-set_other, Option, Some, None, option_map, refl, sym, ap, subst, ◌∙◌, arith}
 use Rattle.std.specs.Prelude.{slice_get}
 use Rattle.std.proofs.lemmas.Bool.{cases_eq}
 use Rattle.std.proofs.lemmas.List.{length-map}
 use Rattle.std.proofs.lemmas.Option.{same_Some, slice_get-map, slice_get_within}
-use Rattle.paxos_core_law.specs.NodeState.{IsRoomSize, node_with}
+use Rattle.paxos_core_law.specs.NodeState.{node_with}
 use Rattle.paxos_core_world.specs.KeptPart.{KeptPart}
+use Rattle.paxos_core_world.specs.Quorum.{AreQuorums, Sizes}
 use Rattle.paxos_core_world.specs.World.{nodes_of}
 use Rattle.rooms_table.specs.RoomAt.{RoomAt}
 use Rattle.rooms_cells.specs.Seen.{SightOf, nothing_seen, sight_at, unseen, value_at}
@@ -28,20 +29,15 @@ unseen_count T [] = refl
 unseen_count T (n ∷ ns) = ap suc (unseen_count T ns)
 
 -- a room has at most seven nodes
-row_at : (kept : List KeptPart) (i : ℕ) → i < 7 → nodes_of (opening_of kept).kept i ≡ nodes_of kept i
-row_at kept zero low = refl
-row_at kept (suc zero) low = refl
-row_at kept (suc (suc zero)) low = refl
-row_at kept (suc (suc (suc zero))) low = refl
-row_at kept (suc (suc (suc (suc zero)))) low = refl
-row_at kept (suc (suc (suc (suc (suc zero))))) low = refl
-row_at kept (suc (suc (suc (suc (suc (suc zero)))))) low = refl
-row_at kept (suc (suc (suc (suc (suc (suc (suc i))))))) low = absurd (omega (arith, low))
-
-at_most_seven : (n : ℕ) → IsRoomSize n → n < 8
-at_most_seven n (inl e) = omega (arith, e)
-at_most_seven n (inr (inl e)) = omega (arith, e)
-at_most_seven n (inr (inr e)) = omega (arith, e)
+row_at : (q : Sizes) (kept : List KeptPart) (i : ℕ) → i < 7 → nodes_of (opening_of q kept).kept i ≡ nodes_of kept i
+row_at q kept zero low = refl
+row_at q kept (suc zero) low = refl
+row_at q kept (suc (suc zero)) low = refl
+row_at q kept (suc (suc (suc zero))) low = refl
+row_at q kept (suc (suc (suc (suc zero)))) low = refl
+row_at q kept (suc (suc (suc (suc (suc zero))))) low = refl
+row_at q kept (suc (suc (suc (suc (suc (suc zero)))))) low = refl
+row_at q kept (suc (suc (suc (suc (suc (suc (suc i))))))) low = absurd (omega (arith, low))
 
 module _ {T : Type 0} (table : RoomAt) (cells : List ℕ) (o : Opening) (offers : List (Option T)) where
   abbrev seat : ℕ → SeatValue T
@@ -75,34 +71,34 @@ module _ {T : Type 0} (cells : List ℕ) (i : ℕ) where
       let is : SightOf T = record (sight_at (unseen {T = T} cells) i) { value = Some x } in
       ap (λ (s : SightOf T). s.value) (get_or-set_other (unseen {T = T} cells) i j is nothing_seen other) ∙ nothing_at {T = T} cells j
 
-module _ {T : Type 0} (kept : List KeptPart) (offers : List (Option T)) (seats : List (SeatValue T × Claimed)) (size : IsRoomSize (length kept)) (is : IsOpenedRoom kept offers seats)
+module _ {T : Type 0} (q : Sizes) (kept : List KeptPart) (offers : List (Option T)) (seats : List (SeatValue T × Claimed)) (sizes : AreQuorums q) (is : IsOpenedRoom q kept offers seats)
     (i : ℕ) (x : SeatValue T × Claimed) (at : slice_get seats i ≡ Some x) where
   abbrev o : Opening
-  o = opening_of kept
+  o = opening_of q kept
 
-  low : i < length kept
+  low : i < q.nodes
   low =
       let within : i < length seats = slice_get_within seats i x at in
       let one : length (map (λ (p : SeatValue T × Claimed). p.0) seats) ≡ length seats = length-map seats (λ p. p.0) in
-      omega (arith, within, one, ap length is.opened.seats_are, so_many {T = T} is.opened.table is.opened.cells o offers (length kept))
+      omega (arith, within, one, ap length is.opened.seats_are, so_many {T = T} is.opened.table is.opened.cells o offers q.nodes)
 
   seat_is : x.0 ≡ opened is.opened.table is.opened.cells o i (offer_at offers i)
   seat_is =
       let there : slice_get (map (λ (p : SeatValue T × Claimed). p.0) seats) i ≡ Some x.0 =
       slice_get-map (λ (p : SeatValue T × Claimed). p.0) seats i ∙ ap (option_map (λ (p : SeatValue T × Claimed). p.0)) at in
       same_Some x.0 (opened is.opened.table is.opened.cells o i (offer_at offers i))
-      (sym there ∙ ap (λ (xs : List (SeatValue T)). slice_get xs i) is.opened.seats_are ∙ at_first {T = T} is.opened.table is.opened.cells o offers (length kept) i low)
+      (sym there ∙ ap (λ (xs : List (SeatValue T)). slice_get xs i) is.opened.seats_are ∙ at_first {T = T} is.opened.table is.opened.cells o offers q.nodes i low)
 
   -- it is the node's, knows what the node has kept, and has learned nothing
-  pub node_opens : x.0.words.node ≡ node_with i (length kept) (nodes_of kept i)
+  pub node_opens : x.0.words.node ≡ node_with i q (nodes_of kept i)
   node_opens =
-      let few : length kept < 8 = at_most_seven (length kept) size in
-      ap (λ (s : SeatValue T). s.words.node) seat_is ∙ ap (node_with i (length kept)) (row_at kept i (omega (arith, low, few)))
+      let few : q.nodes ≤ 7 = sizes.most in
+      ap (λ (s : SeatValue T). s.words.node) seat_is ∙ ap (node_with i q) (row_at q kept i (omega (arith, low, few)))
 
   -- it has seen the node's offer, if that has made one, and no other
   pub own_offer : offer_of x.0 i ≡ offer_at offers i
   own_offer =
-      let few : length kept < 8 = at_most_seven (length kept) size in
+      let few : q.nodes ≤ 7 = sizes.most in
       ap (λ (s : SeatValue T). offer_of s i) seat_is
       ∙ own_seen {T = T} is.opened.cells i (offer_at offers i) (omega (arith, low, few, is.opened.size))
 

@@ -2,6 +2,7 @@
 use Rattle.std.specs.Prelude.{ℕ, ◌+◌, ◌*◌, ◌<◌, List, [], ◌∷◌, length, map}
 use Rattle.std.specs.Global.{Vec}
 use Rattle.paxos_core_world.specs.KeptPart.{KeptPart}
+use Rattle.paxos_core_world.specs.Quorum.{Sizes}
 use Rattle.paxos_core_world.specs.Settled.{Settled}
 use Rattle.paxos_core_world.specs.Step.{HasOffered}
 use Rattle.paxos_core_world.specs.World.{nodes_of}
@@ -20,17 +21,17 @@ four_kept node f = nodes_of node (4 * f) ∷ nodes_of node (4 * f + 1) ∷ nodes
 abbrev pub parts_of : List (Vec KeptPart) → ℕ → List (List KeptPart)
 parts_of nodes f = map (λ node. four_kept node.items f) nodes
 
--- what the nodes have kept of a room is settled
-abbrev pub IsSettledIn : List (Vec KeptPart) → ℕ → Type 0
-IsSettledIn nodes room = Settled (length (kept_of nodes room)) (nodes_of (kept_of nodes room))
+-- what the nodes have kept of a room is settled, with quorums of these sizes
+abbrev pub IsSettledIn : Sizes → List (Vec KeptPart) → ℕ → Type 0
+IsSettledIn q nodes room = Settled q (nodes_of (kept_of nodes room))
 
 -- so it is in each room of a function
-abbrev pub AreSettled : List (Vec KeptPart) → ℕ → Type 0
-AreSettled nodes function = (pass : Which) → IsSettledIn nodes (room_at function pass)
+abbrev pub AreSettled : Sizes → List (Vec KeptPart) → ℕ → Type 0
+AreSettled q nodes function = (pass : Which) → IsSettledIn q nodes (room_at function pass)
 
 -- and in each that stands in front of this one
-abbrev pub AreSettledBefore : List (Vec KeptPart) → ℕ → ℕ → Type 0
-AreSettledBefore nodes function room = (pass : Which) → room_at function pass < room → IsSettledIn nodes (room_at function pass)
+abbrev pub AreSettledBefore : Sizes → List (Vec KeptPart) → ℕ → ℕ → Type 0
+AreSettledBefore q nodes function room = (pass : Which) → room_at function pass < room → IsSettledIn q nodes (room_at function pass)
 
 -- somebody has kept that it offered in a room
 abbrev pub IsOfferedIn : List (Vec KeptPart) → ℕ → Type 0

@@ -1,6 +1,7 @@
 -- Seats of one function, each with its claim.
 use Rattle.std.specs.Prelude.{◌≡◌, List, Option, All, map}
 use Rattle.paxos_core_world.specs.KeptPart.{KeptPart}
+use Rattle.paxos_core_world.specs.Quorum.{Sizes}
 use Rattle.rooms_hall.specs.Claimed.{Claimed}
 use Rattle.rooms_hall.specs.RoomId.{RoomId}
 use Rattle.rooms.specs.Opened.{AreOpened}
@@ -18,8 +19,8 @@ pub record HaveOneClaim (claims : List Claimed) : Type 0 where
   pub claim : Claimed
   pub each : All (λ c. c ≡ claim) claims
 
--- They are the seats of the nodes of a room as it opens from these kept parts and offers, in the order of the nodes, and all of them
--- have the claim of one number.
-pub record IsOpenedRoom {T : Type 0} (kept : List KeptPart) (offers : List (Option T)) (seats : List (SeatValue T × Claimed)) : Type 0 where
-  pub opened : AreOpened kept offers (map (λ p. p.0) seats)
+-- They are the seats of the nodes of a room as it opens with quorums of these sizes, from these kept parts and offers, in the order of
+-- the nodes, and all of them have the claim of one number.
+pub record IsOpenedRoom {T : Type 0} (q : Sizes) (kept : List KeptPart) (offers : List (Option T)) (seats : List (SeatValue T × Claimed)) : Type 0 where
+  pub opened : AreOpened q kept offers (map (λ p. p.0) seats)
   pub one : HaveOneClaim (map (λ p. p.1) seats)

@@ -40,7 +40,7 @@ pub held_same : {T : Type 0} (s t : SeatValue T) → t ≡ s → HeldOffer s t
 held_same s t e = record {
   room = one_room s t e;
   me = ap (λ u. u.words.node.me) e;
-  count = ap (λ u. u.words.node.count) e;
+  quorums = ap (λ u. u.words.node.quorums) e;
   learned = ap (λ u. u.words.node.learned) e;
   offered = λ o. ap (λ u. u.words.node.kept.offered) e ∙ o;
   seen = seen_same s t e;
@@ -59,7 +59,7 @@ pub held_offered : {T : Type 0} (x : T) (s t : SeatValue T) → HasOffered x s t
 held_offered x s t has room = record {
   room = room;
   me = ap (λ (u : SeatState). u.node.me) has.words;
-  count = ap (λ (u : SeatState). u.node.count) has.words;
+  quorums = ap (λ (u : SeatState). u.node.quorums) has.words;
   learned = ap (λ (u : SeatState). u.node.learned) has.words;
   offered = λ o. ap (λ (u : SeatState). u.node.kept.offered) has.words;
   seen = λ j y is. own_or x s t j y (eqb j s.words.node.me) refl has is;
@@ -73,7 +73,7 @@ pub stays_on : {T : Type 0} (s m t : SeatValue T) → HeldOffer s m → Remains 
 stays_on {T} s m t held remains sights = record {
   room = record { table = held.room.table ∙ sym remains.table; cells = held.room.cells ∙ ap (λ (ss : List (SightOf T)). names_of ss) (sym sights) };
   me = remains.me ∙ held.me;
-  count = remains.count ∙ held.count;
+  quorums = remains.quorums ∙ held.quorums;
   learned = λ v e. remains.learned v (held.learned ∙ e);
   offered = λ o. remains.offered ∙ held.offered o;
   seen = λ j x is. ap (λ (ss : List (SightOf T)). value_at ss j) sights ∙ held.seen j x is;
@@ -86,14 +86,14 @@ stays_taking {T} s m w v ss is held remains =
     (subst (λ (u : SeatValue T). HeldOffer s u) (sym is) held) remains refl
 
 pub stays_held : {T : Type 0} (s t : SeatValue T) → HeldOffer s t → Stays s t
-stays_held s t held = record { room = held.room; me = held.me; count = held.count; learned = λ v e. held.learned ∙ e; offered = held.offered; seen = held.seen }
+stays_held s t held = record { room = held.room; me = held.me; quorums = held.quorums; learned = λ v e. held.learned ∙ e; offered = held.offered; seen = held.seen }
 
 -- and looking at a cell the words
 pub stays_seeing : {T : Type 0} (s m t : SeatValue T) → Stays s m → t.words ≡ m.words → IsOneRoom m t → SeesOn m t → Stays s t
 stays_seeing s m t stays words room seen = record {
   room = room_through s m t stays.room room;
   me = ap (λ (u : SeatState). u.node.me) words ∙ stays.me;
-  count = ap (λ (u : SeatState). u.node.count) words ∙ stays.count;
+  quorums = ap (λ (u : SeatState). u.node.quorums) words ∙ stays.quorums;
   learned = λ v e. ap (λ (u : SeatState). u.node.learned) words ∙ stays.learned v e;
   offered = λ o. ap (λ (u : SeatState). u.node.kept.offered) words ∙ stays.offered o;
   seen = λ j x is. seen j x (stays.seen j x is);
@@ -215,7 +215,7 @@ module _ {T : Type 0} (IsText : List ℕ → T → Type 0) (room : ℕ) where
   left_offering text x s t (Err halt) is first same told = left_offer text x s t halt.pending is first same told
 
   -- an act
-  pub left_acting : (s : SeatValue T) (p : Pending) → IsActAmong s.words.node.count p → MayPendOn IsText room s (Some p)
+  pub left_acting : (s : SeatValue T) (p : Pending) → IsActAmong s.words.node.quorums.nodes p → MayPendOn IsText room s (Some p)
   left_acting s (Act a) is = is
   left_acting s (Offer r) is = absurd is
 

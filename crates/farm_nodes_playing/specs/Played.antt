@@ -49,7 +49,7 @@ SeesOn {T} old new = (j : ℕ) (x : T) → offer_of old j ≡ Some x → offer_o
 pub record HeldOffer {T : Type 0} (old new : SeatValue T) : Type 0 where
   pub room : IsOneRoom old new
   pub me : new.words.node.me ≡ old.words.node.me
-  pub count : new.words.node.count ≡ old.words.node.count
+  pub quorums : new.words.node.quorums ≡ old.words.node.quorums
   pub learned : new.words.node.learned ≡ old.words.node.learned
   pub offered : old.words.node.kept.offered ≡ true → new.words.node.kept.offered ≡ true
   pub seen : SeesOn old new
@@ -58,7 +58,7 @@ pub record HeldOffer {T : Type 0} (old new : SeatValue T) : Type 0 where
 pub record Stays {T : Type 0} (old new : SeatValue T) : Type 0 where
   pub room : IsOneRoom old new
   pub me : new.words.node.me ≡ old.words.node.me
-  pub count : new.words.node.count ≡ old.words.node.count
+  pub quorums : new.words.node.quorums ≡ old.words.node.quorums
   pub learned : (v : ℕ) → old.words.node.learned ≡ Some v → new.words.node.learned ≡ Some v
   pub offered : old.words.node.kept.offered ≡ true → new.words.node.kept.offered ≡ true
   pub seen : SeesOn old new
@@ -82,4 +82,4 @@ pub record IsLearnedOutput {I O C : Type 0} (s : SeatValue (Parts I O C)) (made 
 
 -- no offer of a node of the room is learned and seen
 abbrev pub HasLearnedNone : {T : Type 0} → SeatValue T → Type 0
-HasLearnedNone {T} s = (v : ℕ) (x : T) → s.words.node.learned ≡ Some v → v < s.words.node.count → offer_of s v ≡ Some x → ⊥
+HasLearnedNone {T} s = (v : ℕ) (x : T) → s.words.node.learned ≡ Some v → v < s.words.node.quorums.nodes → offer_of s v ≡ Some x → ⊥

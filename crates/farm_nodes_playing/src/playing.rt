@@ -44,7 +44,7 @@ pub fn play<D: Disk, P: Pass, O: Oracle<P = P>>(
     // What stands after it: it has offered if it knows the input; nothing is left to accept, to promise or to propose;
     // and where it had offered before, it has led if its generator's next word said so.
     ensures offered { OnOk result (IsSome input.entry → seat.new.words.node.kept.offered ≡ true) }
-    ensures quiet { OnOk result ((j : ℕ) → j < seat.new.words.node.count → IsQuiet j seat.new.words) }
+    ensures quiet { OnOk result ((j : ℕ) → j < seat.new.words.node.quorums.nodes → IsQuiet j seat.new.words) }
     ensures proposed { OnOk result (would seat.new.words asked.Propose ≡ None) }
     ensures led { OnOk result (seat.old.words.node.kept.offered ≡ true → (pcg32 words.old).0 % 4 ≡ 0
         → HasLed seat.new.words) }
@@ -85,7 +85,7 @@ fn take_steps<D: Disk, P: Pass, O: Oracle<P = P>>(
     ensures stays { Stays seat.old seat.new }
     ensures made { IsMadeOn (option_copied input.entry) seat.old seat.new }
     ensures offered { OnOk result (IsSome input.entry → seat.new.words.node.kept.offered ≡ true) }
-    ensures quiet { OnOk result ((j : ℕ) → j < seat.new.words.node.count → IsQuiet j seat.new.words) }
+    ensures quiet { OnOk result ((j : ℕ) → j < seat.new.words.node.quorums.nodes → IsQuiet j seat.new.words) }
     ensures proposed { OnOk result (would seat.new.words asked.Propose ≡ None) }
     ensures led { OnOk result (seat.old.words.node.kept.offered ≡ true → (pcg32 words.old).0 % 4 ≡ 0
         → HasLed seat.new.words) }

@@ -37,7 +37,7 @@ module _ {X1 X2 X3 X4 : Type 0} (IsText1 : List ℕ → X1 → Type 0) (IsText2 
   taken_record Third p old new last took e = took_record IsText3 room p old.third new.third last took.0 e
   taken_record Fourth p old new last took e = took_record IsText4 room p old.fourth new.fourth last took.0 e
 
-  others_words : (w v : Which) (p : Pending) (old new : Four X1 X2 X3 X4) → Taken w p old new → v ≢ w → words_of new v ≡ words_of old v
+  pub others_words : (w v : Which) (p : Pending) (old new : Four X1 X2 X3 X4) → Taken w p old new → v ≢ w → words_of new v ≡ words_of old v
   others_words First First p old new took other = absurd (other refl)
   others_words First Second p old new took other = ap (λ (s : Four X1 X2 X3 X4). s.second.words) took.1
   others_words First Third p old new took other = ap (λ (s : Four X1 X2 X3 X4). s.third.words) took.1

@@ -1,3 +1,4 @@
 pub mod Afterwards
+pub mod Resting
 pub mod Refusing
 pub use Rattle.farm_nodes_restart_records.proofs.Own

@@ -1,5 +1,5 @@
 -- A node's seats come back over its records.
-use Rattle.std.specs.Prelude.{◌≡◌, ◌⊎◌, ℕ, List, Option, Some, None}
+use Rattle.std.specs.Prelude.{◌≡◌, ◌⊎◌, ℕ, List, length, Option, Some, None, slice_get}
 use Rattle.acceptor_log_form.specs.declared.errors.LogError.{LogError}
 use Rattle.acceptor_log_form.specs.declared.errors.LogError.TheVariants as log
 use Rattle.acceptor_log_form.specs.declared.header.Header.{Header}
@@ -9,7 +9,9 @@ use Rattle.acceptor_log_form.specs.Order.{AreInOrder}
 use Rattle.acceptor_log_form.specs.Text.{StandsFor}
 use Rattle.farm_nodes_acting.specs.declared.stop.Pending.{Pending}
 use Rattle.farm_nodes_acting.specs.declared.stop.Pending.TheVariants.{Act, Offer}
-use Rattle.farm_nodes_restart_records.specs.Fours.{Four}
+use Rattle.rooms_state.specs.SeatState.{SeatState}
+use Rattle.farm_nodes_order.specs.Ordered.{IsOfOneNode}
+use Rattle.farm_nodes_restart_records.specs.Fours.{Four, words_of}
 use Rattle.farm_nodes_restart_records.specs.Leaves.{Leave}
 use Rattle.farm_nodes_restart_records.specs.Numbers.{function_of, pass_of}
 use Rattle.farm_nodes_restart_records.specs.Which.{Which}
@@ -27,6 +29,17 @@ pub record HaveForgotten {X1 X2 X3 X4 : Type 0} (old new : Four X1 X2 X3 X4) : T
   pub third : HasForgotten old.third new.third
   pub fourth : HasForgotten old.fourth new.fourth
   pub number : new.number ≡ old.number
+
+-- the seat is its node's as it was, and has no ballot under way
+pub record IsAtRest (old new : SeatState) : Type 0 where
+  pub node : IsOfOneNode old new
+  pub ballot : new.node.ballot ≡ None
+
+-- so are all
+pub record AreAtRest {X1 X2 X3 X4 : Type 0} (old new : List (Four X1 X2 X3 X4)) : Type 0 where
+  pub count : length new ≡ length old
+  pub each : (m : ℕ) (s t : Four X1 X2 X3 X4) → slice_get old (function_of m) ≡ Some s → slice_get new (function_of m) ≡ Some t
+      → IsAtRest (words_of s (pass_of m)) (words_of t (pass_of m))
 
 -- Each pass has its own offers, and texts of them.
 module _ {X1 X2 X3 X4 : Type 0} (IsText1 : List ℕ → X1 → Type 0) (IsText2 : List ℕ → X2 → Type 0)

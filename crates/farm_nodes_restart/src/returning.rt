@@ -11,7 +11,7 @@ ghost use Rattle.farm_nodes_restart_records.specs.Fours.{fours_of};
 ghost use Rattle.farm_nodes_restart_records.specs.Pending.{HavePending};
 ghost use Rattle.farm_nodes_restart_seat.specs.Taken.{IsTakeFault};
 ghost use Rattle.farm_nodes_restart_seat.specs.Places.{AllChanged, ChangedAt};
-ghost use Rattle.farm_nodes_restart.specs.Returned.{HasCause, HaveForgotten, HoldsBack, IsPendingFault};
+ghost use Rattle.farm_nodes_restart.specs.Returned.{AreAtRest, HasCause, HaveForgotten, HoldsBack, IsPendingFault};
 ghost use Rattle.farm_nodes_restart.specs.Seats.{AreTaken, HaveComeBack, HaveStepped};
 
 use crate::fours::{forget_in, take_in};
@@ -49,6 +49,8 @@ pub fn come_back<D: Disk, H: Naming>(
         (4 * length seats.old.items) (acknowledged D.seen log)) }
     ensures seats { D.is_honest disk → IfOk result (λ log.
         HaveComeBack room pending.now (acknowledged D.seen log) seats.old.items seats.new.items) }
+
+    ensures rest { OnOk result (AreAtRest (fours_of seats.old.items) (fours_of seats.new.items)) }
 
     // The disk is as it was, and a crash meanwhile leaves what it might have left before.
     ensures unchanged { D.is_honest disk → MatchResult result

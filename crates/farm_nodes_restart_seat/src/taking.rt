@@ -33,7 +33,7 @@ pub fn is_pending<P: Pass>(seat: &Seat<P>, room: u16, pending: &Pending, entry: 
 
 /// Whether the record is that of the step that the seat would take.
 fn is_told<P: Pass>(seat: &Seat<P>, room: u16, act: Act, entry: &Record) -> bool
-    requires { IsAmong seat.now.words.node.count act }
+    requires { IsAmong seat.now.words.node.quorums.nodes act }
     ensures { IsTrue result ↔ (records_of room (would seat.now.words act) ≡ entry.now ∷ []) }
 {
     let Some(step) = seat.intent(act) else {
@@ -81,7 +81,7 @@ pub fn take<P: Pass>(
 
 /// Does what it is asked.
 fn do_act<P: Pass>(seat: &mut Seat<P>, act: Act)
-    requires { IsAmong seat.old.words.node.count act }
+    requires { IsAmong seat.old.words.node.quorums.nodes act }
     ensures acted { Acted act seat.old.words seat.new.words }
     ensures sights { seat.new.sights ≡ seat.old.sights }
     ensures room { IsOneRoom seat.old seat.new }

@@ -1,10 +1,12 @@
 -- What a crash leaves of a node's own disk, and that it is never told as other records.
-use Rattle.std.proofs.Common.{◌≡◌, ℕ, List, [], ◌++◌, Option, Some, None, refl, sym, ◌∙◌, subst, inl, inr}
+use Rattle.std.proofs.Common.{◌≡◌, ℕ, ◌*◌, List, [], ◌++◌, length, Option, Some, None, refl, sym, ◌∙◌, subst, inl, inr}
 use Rattle.std.specs.Prelude.{slice_get}
 use Rattle.acceptor_log_form.specs.declared.header.Header.{Header}
 use Rattle.acceptor_log_form.specs.declared.record.Record.{Record}
 use Rattle.acceptor_log_form.specs.Lists.{Between}
+use Rattle.acceptor_log_form.specs.Order.{AreInOrder}
 use Rattle.acceptor_log_form.specs.Text.{StandsFor}
+use Rattle.acceptor_log_form.proofs.Between.{between-lists, between-no_fault}
 use Rattle.acceptor_log.specs.declared.log.Log.{Log}
 use Rattle.farm_nodes_acting.specs.declared.stop.Pending.{Pending}
 use Rattle.farm_nodes_node.specs.Numbers.{function_of}
@@ -13,10 +15,12 @@ use Rattle.farm_nodes_node.specs.Leaves.{left_in, pending_at}
 use Rattle.farm_nodes_node.specs.declared.halted.Halted.{Halted}
 use Rattle.farm_nodes_node.specs.Held.{pending_in, IsSoundNode}
 use Rattle.farm_nodes_restart_seat.specs.declared.fault.RestartFault.{RestartFault}
-use Rattle.farm_nodes_restart_seat.specs.declared.fault.RestartFault.TheVariants.{OtherRecords}
+use Rattle.farm_nodes_restart_seat.specs.declared.fault.RestartFault.TheVariants.{NoMemory, Journal, OtherRecords, CellRefused}
 use Rattle.farm_nodes_restart.specs.Found.{AreOther}
 use Rattle.farm_nodes_restart.specs.Returned.{HasCause, HoldsBack}
 use Rattle.farm_nodes_restart.proofs.Own.{own}
+use Rattle.farm_nodes_restart_records.proofs.Leaving.{front_in_order}
+use Rattle.farm_nodes_returning.specs.Own.{IsOwnFault}
 use Rattle.farm_nodes_returning.specs.Stopped.{left_by, room_in}
 
 module _ {T1 T2 T3 T4 : Type 0} where
@@ -46,3 +50,27 @@ module _ {T1 T2 T3 T4 : Type 0} where
     not_others fault (inr (inr (inl journal))) never is = let bad = sym journal.1 ∙ is in absurd (cc)
     not_others fault (inr (inr (inr held))) never is =
         never held.0 held.1 (subst (λ (f : RestartFault). HoldsBack h rooms seats room p held.0 f) is held.2).1
+
+  module _ {D : Type 0} (is_honest : D → Type 0) (seen : D → List ℕ) (may_leave : D → List ℕ → Type 0) (log : Log D) (seats : List (Four T1 T2 T3 T4))
+      (halted : Option Halted) (bytes : List ℕ) (sound : IsSoundNode is_honest seen may_leave log seats halted) (honest : is_honest log.disk) (left : may_leave log.disk bytes) where
+    -- its records are in order
+    pub own_in_order : (rs : List Record) → StandsFor log.header rs bytes → AreInOrder log.header.nodes log.header.node (4 * length seats) rs
+    own_in_order rs stands =
+        let u = sound.upto honest in
+        let begins = between-lists log.header u.0 (u.0 ++ pending_in seats halted) rs bytes (u.1.left bytes left) stands in
+        front_in_order log.header.nodes log.header.node (4 * length seats) rs begins.1.0 (u.0 ++ pending_in seats halted) begins.1.1 u.1.in_order
+
+    held_back : (rs : List Record) (fault : RestartFault) → StandsFor log.header rs bytes → HoldsBack log.header (4 * length seats) seats (room_in halted) (left_by halted) rs fault → IsOwnFault fault
+    held_back rs NoMemory stands held = tt
+    held_back rs (Journal e) stands held = absurd (held.1 (own_in_order rs stands))
+    held_back rs OtherRecords stands held = absurd (never_others is_honest seen may_leave log seats halted bytes rs sound honest left stands held.1)
+    held_back rs CellRefused stands held = tt
+
+    -- and no fault is told of it but a failure
+    pub own_fault : (fault : RestartFault) → HasCause log.header (4 * length seats) seats (room_in halted) (left_by halted) bytes fault → IsOwnFault fault
+    own_fault fault (inl memory) = subst IsOwnFault (sym memory) tt
+    own_fault fault (inr (inl device)) = subst IsOwnFault (sym device) tt
+    own_fault fault (inr (inr (inl journal))) =
+        let u = sound.upto honest in
+        absurd (between-no_fault log.header u.0 (u.0 ++ pending_in seats halted) bytes journal.0 (u.1.left bytes left) journal.2)
+    own_fault fault (inr (inr (inr held))) = held_back held.0 fault held.1 held.2

@@ -11,6 +11,7 @@ ghost use Rattle.farm_nodes_node.specs.Held.{IsSoundNode};
 ghost use Rattle.farm_nodes_node.specs.Waiting.{IsWaiting};
 ghost use Rattle.farm_nodes_restart.specs.Returned.{HasCause};
 ghost use Rattle.farm_nodes_restart.specs.Seats.{HaveComeBack};
+ghost use Rattle.farm_nodes_returning.specs.Own.{IsOwnFault};
 ghost use Rattle.farm_nodes_returning.specs.Stopped.{left_by, room_in, stopped_by};
 
 use crate::stopping::{told, unfinished};
@@ -73,11 +74,13 @@ pub fn restart<D: Disk, O, H: Naming>(
         × (fours_of refused.0.seats.items ≡ fours_of node.seats.items)) }
     ensures stopped { IfErr result (λ refused. refused.0.halted ≡ Some (stopped_by refused.2 node.halted)) }
 
-    // It does not give up by itself; what a crash left of its own disk holds no other records.
+    // It does not give up by itself; what a crash left of its own disk is its journal, in order, and holds no other records.
     ensures refused { D.is_honest disk → IfErr result (λ refused. HasCause node.log.header (4 * length node.seats.items)
         (fours_of node.seats.items) (room_in node.halted) (left_by node.halted) (D.seen disk) refused.2) }
     ensures own { D.is_honest disk → D.is_honest node.log.disk → D.may_leave node.log.disk (D.seen disk)
         → IfErr result (λ refused. refused.2 ≢ RestartFault.OtherRecords) }
+    ensures own_journal { D.is_honest disk → D.is_honest node.log.disk → D.may_leave node.log.disk (D.seen disk)
+        → IfErr result (λ refused. IsOwnFault refused.2) }
     ensures failed { IfErr result (λ refused. refused.2 ≡ RestartFault.Journal LogError.Device
         → Risen (D.faults disk) (D.faults refused.1)) }
     ensures later { MatchResult result (λ back. D.faults disk ≤ D.faults back.0.log.disk)

@@ -7,7 +7,7 @@ use crate::turns::TakesTurns;
 const ALL_ROOMS_EVERY: u32 = 8;
 
 /// In one of so many rounds a node takes a turn in a room that it does not lead, and each node in another round: so one that leads
-/// reaches a majority before others start ballots. It has no factor in common with the rounds over all rooms.
+/// reaches its quorums before others start ballots. It has no factor in common with the rounds over all rooms.
 const FOLLOWS_EVERY: u32 = 5;
 
 /// How far a node is in its rooms, which it goes over in their order, round and round. No contract speaks of it but that the room is

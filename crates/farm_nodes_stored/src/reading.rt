@@ -56,8 +56,11 @@ pub(crate) fn read_nodes<J>(
     let mut kept = Vec::new(alloc);
     let mut stored = Vec::new(alloc);
     for node in 0..count {
+        // The order of its records does not ask for the sizes of the quorums.
         let header = Header {
             nodes: count,
+            promise: count,
+            accept: count,
             node,
             digest: *digest,
         };

@@ -34,7 +34,7 @@ stays_so : {T : Type 0} (s : SeatValue T) → Stays s s
 stays_so s = record {
   room = record { table = refl; cells = refl };
   me = refl;
-  count = refl;
+  quorums = refl;
   learned = λ v e. e;
   offered = λ e. e;
   seen = λ j x e. e;
@@ -47,7 +47,7 @@ stays_through : {T : Type 0} (s t u : SeatValue T) → Stays s t → Stays t u �
 stays_through s t u a b = record {
   room = record { table = a.room.table ∙ b.room.table; cells = a.room.cells ∙ b.room.cells };
   me = b.me ∙ a.me;
-  count = b.count ∙ a.count;
+  quorums = b.quorums ∙ a.quorums;
   learned = λ v e. b.learned v (a.learned v e);
   offered = λ e. b.offered (a.offered e);
   seen = λ j x e. b.seen j x (a.seen j x e);

@@ -22,7 +22,7 @@ pub record HasLearned {T : Type 0} (s : SeatValue T) : Type 0 where
   pub value : ℕ
   pub offer : T
   pub learned : s.words.node.learned ≡ Some value
-  pub among : value < s.words.node.count
+  pub among : value < s.words.node.quorums.nodes
   pub seen : offer_of s value ≡ Some offer
 
 -- where the node made its offer, that goes on from the output that it had learned in the room before
@@ -84,7 +84,7 @@ module _ {T1 T2 T3 T4 : Type 0} where
   -- or to propose; and where it had offered before, it has led if the generator's next word was 0 modulo 4.
   pub record StandsAfter (pass : Which) (word : ℕ) (old new : Four T1 T2 T3 T4) : Type 0 where
     pub offered : HasInput pass old → (words_of new pass).node.kept.offered ≡ true
-    pub quiet : (j : ℕ) → j < (words_of new pass).node.count → IsQuiet j (words_of new pass)
+    pub quiet : (j : ℕ) → j < (words_of new pass).node.quorums.nodes → IsQuiet j (words_of new pass)
     pub proposed : would (words_of new pass) asked.Propose ≡ None
     pub led : (words_of old pass).node.kept.offered ≡ true → word % 4 ≡ 0 → HasLed (words_of new pass)
 

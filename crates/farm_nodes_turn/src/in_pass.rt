@@ -50,7 +50,7 @@ pub fn play_in<D: Disk, O: Oracles, H: Naming>(
 
     ensures offered { OnOk result (HasInput pass (four_of seats.old)
         → (words_of (four_of seats.new) pass).node.kept.offered ≡ true) }
-    ensures quiet { OnOk result ((j : ℕ) → j < (words_of (four_of seats.new) pass).node.count
+    ensures quiet { OnOk result ((j : ℕ) → j < (words_of (four_of seats.new) pass).node.quorums.nodes
         → IsQuiet j (words_of (four_of seats.new) pass)) }
     ensures proposed { OnOk result (would (words_of (four_of seats.new) pass) asked.Propose ≡ None) }
     ensures led { OnOk result ((words_of (four_of seats.old) pass).node.kept.offered ≡ true
@@ -122,7 +122,7 @@ fn play_first<D: Disk, P: Pass, O: Oracle<P = P>>(
     ensures stays { Stays seat.old seat.new }
     ensures made { IsMadeOn (Some function.now) seat.old seat.new }
     ensures offered { OnOk result (seat.new.words.node.kept.offered ≡ true) }
-    ensures quiet { OnOk result ((j : ℕ) → j < seat.new.words.node.count
+    ensures quiet { OnOk result ((j : ℕ) → j < seat.new.words.node.quorums.nodes
         → IsQuiet j seat.new.words) }
     ensures proposed { OnOk result (would seat.new.words asked.Propose ≡ None) }
     ensures led { OnOk result (seat.old.words.node.kept.offered ≡ true → (pcg32 words.old).0 % 4 ≡ 0
@@ -155,7 +155,7 @@ fn play_behind<D: Disk, B: Pass, P: Pass<In = B::Out>, O: Oracle<P = P>>(
     ensures stays { Stays seat.old seat.new }
     ensures made { IsMadeFrom before.now seat.old seat.new }
     ensures offered { OnOk result (HasLearned before.now → seat.new.words.node.kept.offered ≡ true) }
-    ensures quiet { OnOk result ((j : ℕ) → j < seat.new.words.node.count
+    ensures quiet { OnOk result ((j : ℕ) → j < seat.new.words.node.quorums.nodes
         → IsQuiet j seat.new.words) }
     ensures proposed { OnOk result (would seat.new.words asked.Propose ≡ None) }
     ensures led { OnOk result (seat.old.words.node.kept.offered ≡ true → (pcg32 words.old).0 % 4 ≡ 0

@@ -4,6 +4,7 @@ use Rattle.std.specs.List.{AllByRecursion, AllZip}
 use Rattle.durable_model.specs.declared.disk.Disk as disks
 use Rattle.acceptor_log_form.specs.declared.header.Header.{Header}
 use Rattle.acceptor_log.specs.declared.log.Log.{Log}
+use Rattle.paxos_core_world.specs.Quorum.{majority_sizes, Sizes}
 use Rattle.farm_nodes_disks.specs.Journals.{header_of}
 use Rattle.farm_nodes_stored.specs.Nodes.{AreMade}
 use Rattle.farm_nodes.specs.Back.{IsJournalOn}
@@ -16,11 +17,11 @@ third_of (a ∷ b ∷ []) h = absurd (omega (arith, h))
 third_of (a ∷ b ∷ x ∷ rest) h = (x, refl)
 
 -- where it opens
-pub third_opened : {D : Type 0} (disk : disks.Ghosts D) (digest : List ℕ) (given : List D) (logs : List (Log D)) → length given ≡ 3
-    → AreMade (IsJournalOn disk (length given) digest) given (length given) logs → IsThird digest logs
-third_opened disk digest given logs three made = λ log e.
+pub third_opened : {D : Type 0} (disk : disks.Ghosts D) (q : Sizes) (digest : List ℕ) (given : List D) (logs : List (Log D)) → length given ≡ 3 → q ≡ majority_sizes 3
+    → AreMade (IsJournalOn disk q digest) given (length given) logs → IsThird digest logs
+third_opened disk q digest given logs three are made = λ log e.
     let it = third_of given three in
-    (made.each 2 it.0 log it.1 e).1.header_is ∙ ap (λ (count : ℕ). header_of count digest 2) three
+    (made.each 2 it.0 log it.1 e).1.header_is ∙ ap (λ (p : Sizes). header_of p digest 2) are
 
 -- behind turns, each of which leaves a node its header
 module _ {N D : Type 0} (log : N → Log D) (R : N → N → Type 0) (keeps : (n m : N) → R n m → (log m).header ≡ (log n).header) where
@@ -45,12 +46,12 @@ module _ {N D : Type 0} (log : N → Log D) where
   last_is (a ∷ b ∷ c ∷ rest) node h = absurd (omega (arith, h, length-append rest (node ∷ [])))
 
   pub third_last : (digest : List ℕ) (all rest : List N) (node : N) → all ≡ rest ++ node ∷ [] → length all ≡ 3
-      → IsThird digest (map log all) → (log node).header ≡ header_of 3 digest 2
+      → IsThird digest (map log all) → (log node).header ≡ header_of (majority_sizes 3) digest 2
   third_last digest all rest node same three third =
       third (log node) (ap (λ (l : List N). slice_get (map log l) 2) same ∙ last_is rest node (ap length (sym same) ∙ three))
 
 -- such a header is of a farm with nodes
-pub has_nodes : (h : Header) (digest : List ℕ) → h ≡ header_of 3 digest 2 → 0 < h.nodes
+pub has_nodes : (h : Header) (digest : List ℕ) → h ≡ header_of (majority_sizes 3) digest 2 → 0 < h.nodes
 has_nodes h digest is = subst (λ (g : Header). 0 < g.nodes) (sym is) (omega arith)
 
 -- what holds of all

@@ -2,6 +2,7 @@
 use Rattle.std.specs.Prelude.{◌≡◌, ℕ, List, Option, Some, slice_get}
 use Rattle.durable_model.specs.declared.disk.Disk as disks
 use Rattle.acceptor_log.specs.declared.log.Log.{Log}
+use Rattle.paxos_core_world.specs.Quorum.{majority_sizes}
 use Rattle.farm_nodes_disks.specs.Journals.{header_of}
 use Rattle.farm_nodes_node.specs.Held.{IsSoundNode}
 use Rattle.farm_nodes_node.specs.Waiting.{IsWaiting}
@@ -19,4 +20,4 @@ module _ {D : Type 0} where
 
   -- the third journal is that of the third node over this source
   abbrev pub IsThird : List ℕ → List (Log D) → Type 0
-  IsThird digest logs = (log : Log D) → slice_get logs 2 ≡ Some log → log.header ≡ header_of 3 digest 2
+  IsThird digest logs = (log : Log D) → slice_get logs 2 ≡ Some log → log.header ≡ header_of (majority_sizes 3) digest 2

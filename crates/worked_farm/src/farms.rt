@@ -1,7 +1,6 @@
 //! Farms, from their text to their answer.
 
 ghost use Rattle.std.specs.Prelude.{◌≡◌, ◌<◌};
-ghost use Rattle.paxos_core_law.specs.NodeState.{IsRoomSize};
 
 use crate::failing::failing_told;
 use crate::fixed::fixed_told;
@@ -21,8 +20,7 @@ use std::thread::Threads;
 
 /// The answer, in a hall of its own.
 pub(crate) fn told<R: Threads + Wait + Sync>(threads: &R, alloc: Global, row: Row) -> Option<String>
-    requires size { IsRoomSize row.nodes }
-    requires workers { 0 < row.workers }
+    requires { 0 < row.workers }
 {
     let Ok(opened) = Opened::new(alloc) else {
         return None;
@@ -38,7 +36,6 @@ fn told_in<H: Naming + Send, R: Threads + Wait + Sync>(
     row: Row,
 ) -> Option<String>
     requires hall { opened ≡ H.hall }
-    requires size { IsRoomSize row.nodes }
     requires workers { 0 < row.workers }
 {
     let hall = opened.named::<H>();
@@ -59,16 +56,17 @@ fn farm_told<H: Naming + Send, R: Threads + Wait + Sync>(
     hall: &Hall<H>,
     row: &Row,
 ) -> Option<String>
-    requires size { IsRoomSize row.now.nodes }
-    requires workers { 0 < row.now.workers }
+    requires { 0 < row.now.workers }
 {
-    let Some(disks) = disks_of(alloc, row.nodes) else {
+    let count = usize::from(row.quorums.nodes());
+    let Some(disks) = disks_of(alloc, count) else {
         return None;
     };
-    let Ok(oracles) = optimisers_of(alloc, row.nodes) else {
+    let Ok(oracles) = optimisers_of(alloc, count) else {
         return None;
     };
-    let Ok(farm) = Farm::open(threads, alloc, hall, &row.text, disks, oracles, row.seed) else {
+    let (text, seed, quorums) = (&row.text, row.seed, row.quorums);
+    let Ok(farm) = Farm::open(threads, alloc, hall, text, disks, oracles, seed, quorums) else {
         return None;
     };
     let Farm { source, nodes } = farm;

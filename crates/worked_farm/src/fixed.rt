@@ -122,6 +122,8 @@ fn all_offers<H: Naming>(
         };
         let header = Header {
             nodes: 3,
+            promise: 2,
+            accept: 2,
             node: number,
             digest,
         };

@@ -3,7 +3,7 @@
 //!
 //! | Question | Answer |
 //! |---|---|
-//! | `NODES WORKERS SEED TEXT` | what a farm of so many nodes, whose turns so many threads take, links for the C text, where all nodes met and link one program: its output in hex, `-` for none, and its closing line |
+//! | `SIZES WORKERS SEED TEXT` | what a farm with these quorums (`NODES` for majorities, or `NODES,PROMISE,ACCEPT`), whose turns so many threads take, links for the C text, where all nodes met and link one program: its output in hex, `-` for none, and its closing line |
 //! | `fixed TEXT` | `one`, where the offers of the first function's last room in the journals are all the one that every node's optimiser makes, which has none for the other passes |
 //! | `together TEXT` | `met`, where a turn of node 0 was held until one of node 1 had ended |
 //! | `failing CRASHES TEXT` | `linked`, where all nodes link one program although the calls of a node's disk failed, one in each farm, the node stopped, and was restarted over what a crash left: so many crashes of each failure, drawn by sixteen generators in turn |

@@ -1,8 +1,8 @@
 //! What a row asks for.
 
 ghost use Rattle.std.specs.Prelude.{◌<◌, IfSome};
-ghost use Rattle.paxos_core_law.specs.NodeState.{IsRoomSize};
 
+use farm_nodes::Quorums;
 use std::alloc::Global;
 
 /// What is done with a farm.
@@ -26,7 +26,7 @@ pub(crate) enum Trial {
 #[derive(Drop)]
 pub(crate) struct Row {
     pub trial: Trial,
-    pub nodes: usize,
+    pub quorums: Quorums,
     pub workers: usize,
     pub seed: u64,
     /// How many crashes are tried of each failure.
@@ -34,15 +34,15 @@ pub(crate) struct Row {
     pub text: Vec<u8>,
 }
 
-/// How many nodes: 3, 5 or 7.
-fn size_of(word: &str) -> Option<usize>
-    ensures { IfSome result IsRoomSize }
-{
-    match word {
-        "3" => Some(3),
-        "5" => Some(5),
-        "7" => Some(7),
-        _ => None,
+/// The quorums: `N` for majorities, or `N,Q1,Q2`.
+fn quorums_of(word: &str) -> Option<Quorums> {
+    match word.split_once(',') {
+        None => Quorums::majorities(word.parse().ok()?),
+        Some((nodes, sizes)) => {
+            let (promise, accept) = sizes.split_once(',')?;
+            let promise = promise.parse().ok()?;
+            Quorums::of(nodes.parse().ok()?, promise, accept.parse().ok()?)
+        }
     }
 }
 
@@ -70,31 +70,26 @@ fn trial_of(word: &str) -> Option<Trial> {
 
 /// A farm of three nodes of this text, with so many crashes.
 fn three_of(alloc: Global, trial: Trial, crashes: u64, text: &str) -> Option<Row>
-    ensures size { IfSome result (λ row. IsRoomSize row.nodes) }
-    ensures workers { IfSome result (λ row. 0 < row.workers) }
+    ensures { IfSome result (λ row. 0 < row.workers) }
 {
-    let Ok(text) = text.as_bytes().to_vec(alloc) else {
-        return None;
-    };
     Some(Row {
         trial,
-        nodes: 3,
+        quorums: Quorums::majorities(3)?,
         workers: 3,
         seed: 1,
         crashes,
-        text,
+        text: text.as_bytes().to_vec(alloc).ok()?,
     })
 }
 
 /// The farm of a question that asks for a run, if it is one.
 fn run_of(alloc: Global, words: &str) -> Option<Row>
-    ensures size { IfSome result (λ row. IsRoomSize row.nodes) }
-    ensures workers { IfSome result (λ row. 0 < row.workers) }
+    ensures { IfSome result (λ row. 0 < row.workers) }
 {
-    let (nodes, rest) = words.split_once(' ')?;
+    let (sizes, rest) = words.split_once(' ')?;
     let (workers, rest) = rest.split_once(' ')?;
     let (seed, text) = rest.split_once(' ')?;
-    let Some(nodes) = size_of(nodes) else {
+    let Some(quorums) = quorums_of(sizes) else {
         return None;
     };
     let Some(workers) = workers_of(workers) else {
@@ -102,7 +97,7 @@ fn run_of(alloc: Global, words: &str) -> Option<Row>
     };
     Some(Row {
         trial: Trial::Run,
-        nodes,
+        quorums,
         workers,
         seed: seed.parse().ok()?,
         crashes: 0,
@@ -112,8 +107,7 @@ fn run_of(alloc: Global, words: &str) -> Option<Row>
 
 /// The farm of a question, if it is one.
 pub(crate) fn row_of(alloc: Global, words: &str) -> Option<Row>
-    ensures size { IfSome result (λ row. IsRoomSize row.nodes) }
-    ensures workers { IfSome result (λ row. 0 < row.workers) }
+    ensures { IfSome result (λ row. 0 < row.workers) }
 {
     let Some((word, text)) = words.split_once(' ') else {
         return None;

@@ -4,6 +4,7 @@ ghost use Rattle.std.specs.Prelude.{◌≡◌, ◌<◌, ℕ, List, length, map, 
 ghost use Rattle.std.specs.List.{AllByRecursion};
 ghost use Rattle.c_checker_rules.specs.Checked.{program_tree};
 ghost use Rattle.cminor_program_ranges.specs.Names.{HaveNames};
+ghost use Rattle.paxos_core_world.specs.Quorum.{majority_sizes};
 ghost use Rattle.farm_nodes_disks.specs.Journals.{header_of};
 ghost use Rattle.worked_farm.specs.Nodes.{IsFit, IsThird};
 
@@ -24,7 +25,7 @@ pub(crate) const TURNS: u64 = 10_000;
 /// A node of more functions is none of these farms'.
 const MOST_FUNCTIONS: usize = 64;
 
-/// A farm of three nodes on these disks.
+/// A farm of three nodes on these disks, with majorities.
 pub(crate) fn open_three<D: Disk + Drop, O: Drop, H: Naming, R: Threads + Wait + Sync>(
     threads: &R,
     alloc: Global,
@@ -41,7 +42,10 @@ pub(crate) fn open_three<D: Disk + Drop, O: Drop, H: Naming, R: Threads + Wait +
         AllByRecursion (λ n. IsFit D.Disk n.log n.seats.items n.halted) farm.nodes.items) }
     ensures third { IfOk result (λ farm. IsThird farm.source.digest (map (λ n. n.log) farm.nodes.items)) }
 {
-    match Farm::open(threads, alloc, hall, text, disks, oracles, seed) {
+    let Some(quorums) = farm_nodes::Quorums::majorities(3) else {
+        unreachable!();
+    };
+    match Farm::open(threads, alloc, hall, text, disks, oracles, seed, quorums) {
         Ok(farm) => Ok(farm),
         Err(refused) => Err(refused),
     }
@@ -76,7 +80,7 @@ pub(crate) fn parted<D: Disk + Drop, O: Drop, H: Naming>(
         AllByRecursion (λ n. IsFit D.Disk n.log n.seats.items n.halted) two.0.items) }
     ensures last { IfSome result (λ two. IsFit D.Disk two.1.log two.1.seats.items two.1.halted) }
     ensures third { (digest : List ℕ) → IsThird digest (map (λ n. n.log) nodes.items)
-        → IfSome result (λ two. two.1.log.header ≡ header_of 3 digest 2) }
+        → IfSome result (λ two. two.1.log.header ≡ header_of (majority_sizes 3) digest 2) }
 {
     let mut nodes = nodes;
     if nodes.len() != 3 {

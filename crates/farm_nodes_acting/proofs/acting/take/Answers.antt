@@ -1,4 +1,4 @@
-use Rattle.std.proofs.Common.{◌≡◌, sym, subst}
+use Rattle.std.proofs.Common.{sym, subst}
 use Rattle.rooms_seat.specs.Act.{Act}
 use Rattle.rooms_seat.specs.Would.{Acted}
 use Rattle.rooms_seat.proofs.Told.{acted_start, acted_promise, acted_propose, acted_accept}
@@ -8,7 +8,7 @@ pub returns-in-Start : goal.returns-in-Start
 returns-in-Start c =
     let done = c.start-ballot.ensures in
     subst (λ (a : Act). Acted a c.args.seat.now c.start-ballot.new.self) (sym c.in-Start.is)
-    (acted_start c.args.seat.now c.start-ballot.new.self c.start-ballot.result c.bounds.ensures.number done.ok done.spent done.err)
+    (acted_start c.args.seat.now c.start-ballot.new.self c.start-ballot.result c.bounds.ensures.sizes c.bounds.ensures.number done.ok done.spent done.err)
 
 pub returns-in-Promise : goal.returns-in-Promise
 returns-in-Promise c =

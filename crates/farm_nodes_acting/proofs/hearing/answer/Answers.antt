@@ -10,7 +10,7 @@ returns-then-moved-clause-others g c i lt quiet =
     let s = c.args.seat.now in
     let t = c.act.new.seat in
     let acted = c.in-Ok.ensures.ok.1 in
-    let low : c.args.j < c.args.seat.now.node.count = c.requires.below in
+    let low : c.args.j < c.args.seat.now.node.quorums.nodes = c.requires.below in
     let other : i ≢ c.args.j = (λ (e : i ≡ c.args.j). omega arith) in
     elim (voted_or c.args.j s t acted) [
       | inl none ↦ subst (λ (u : SeatState). IsQuiet i u) (sym (acted.idle none)) quiet

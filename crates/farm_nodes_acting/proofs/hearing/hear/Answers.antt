@@ -1,8 +1,9 @@
 use Rattle.std.proofs.Common.{◌≡◌, ◌≢◌, ℕ, sym, ap, arith}
 use Rattle.rooms_seat.specs.SeatState.{SeatState}
-use Rattle.rooms_seat.proofs.Told.{notes_of}
 use Rattle.farm_nodes_acting.proofs.Answering.{heard_through, heard_proposer, heard_acceptor, quiet_proposer, quiet_acceptor}
-use Rattle.farm_nodes_acting.proofs.Results.{grown_at}
+use Rattle.farm_nodes_order.proofs.Looked.{looked_proposer, looked_acceptor}
+use Rattle.farm_nodes_order.proofs.Orders.{same_turned}
+use Rattle.farm_nodes_acting.proofs.Results.{grown_at, stopped_at}
 use Rattle.farm_nodes_acting.proofs.hearing.hear.Goals as goal
 
 pub returns-clause-heard : goal.returns-clause-heard
@@ -32,6 +33,15 @@ returns-clause-journal g c honest going =
     let s2 = c.answer.new.seat in
     let t = c.look_acceptor-acceptor.new.self in
     grown_at disk.is_honest disk.seen disk.may_leave disk.moment disk.left_since c.args.log.now c.answer.new.log c.args.room s1 s2 s t c.in-Ok.moved
-    (ap (λ (u : SeatState). u.node.kept) (sym c.look_proposer-proposer.ensures.after))
-    (notes_of c.args.j c.look_acceptor-acceptor.result s2 t c.look_acceptor-acceptor.ensures).kept
+    (same_turned s s1 (looked_proposer c.args.j c.look_proposer-proposer.result s s1 c.look_proposer-proposer.ensures))
+    (looked_acceptor c.args.j c.look_acceptor-acceptor.result s2 t c.look_acceptor-acceptor.ensures)
     (c.in-Ok.ensures.journal honest going)
+
+pub returns-in-Err-clause-journal : goal.returns-in-Err-clause-journal
+returns-in-Err-clause-journal g c honest going =
+    let disk = g.D.Disk in
+    let s = c.args.seat.now in
+    let s1 = c.look_proposer-proposer.new.self in
+    stopped_at disk.is_honest disk.seen disk.may_leave disk.moment disk.left_since c.args.log.now c.answer.new.log c.args.room s1 s c.answer.new.seat c.in-Err.stop
+    (same_turned s s1 (looked_proposer c.args.j c.look_proposer-proposer.result s s1 c.look_proposer-proposer.ensures))
+    (c.in-Err.ensures.journal honest going)

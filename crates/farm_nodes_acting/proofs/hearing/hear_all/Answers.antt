@@ -1,8 +1,8 @@
 use Rattle.std.proofs.Common.{◌≡◌, ℕ, ◌+◌, ◌<◌, ◌≤◌, inl, inr, Bool, true, false, ◌||◌, refl, sym, ap, ◌∙◌, subst, arith}
 use Rattle.std.proofs.lemmas.Bool.{cases_lt}
 use Rattle.farm_nodes_acting.specs.Quiet.{IsQuiet}
-use Rattle.farm_nodes_acting.proofs.Answering.{heard_through}
-use Rattle.farm_nodes_acting.proofs.Results.{Grown, grown_on, stops_after}
+use Rattle.farm_nodes_acting.proofs.Answering.{heard_same, heard_through}
+use Rattle.farm_nodes_acting.proofs.Results.{Grown, grown_on, idle, stops_after}
 use Rattle.farm_nodes_acting.proofs.hearing.hear_all.Goals as goal
 use Rattle.farm_nodes_acting.proofs.hearing.hear_all.Goals.{then-moved, else-moved}
 
@@ -13,6 +13,21 @@ returns-in-Err-clause-journal g c honest going =
     stops_after disk.is_honest disk.seen disk.may_leave disk.moment disk.left_since c.args.log.now c.loop-j.log c.hear.new.log c.args.room c.args.seat.now c.loop-j.seat c.hear.new.seat c.loop-j.moved c.in-Err.stop
     inv.served.header (inv.journal honest going)
     (c.in-Err.ensures.journal (inv.served.honest.1 honest) (inv.going ∙ going))
+
+pub loop-j-init : goal.loop-j-init
+loop-j-init g c =
+    let disk = g.D.Disk in
+    let log = c.args.log.now in
+    record {
+      served = record { sound = c.requires; honest = (λ h. h, λ h. h); header = refl; later = omega arith };
+      going = refl;
+      heard = heard_same c.args.seat.now;
+      nodes = c.count-j-end.ensures.value;
+      quiet = λ i lt. absurd (omega (arith, lt));
+      journal = λ honest going.
+          idle disk.is_honest disk.seen disk.may_leave disk.moment disk.left_since log c.args.room c.args.seat.now (c.requires honest going)
+          (λ b left. g.met.D.Disk.only_now log.disk b honest left);
+    }
 
 pub loop-j-preserved : goal.loop-j-preserved
 loop-j-preserved g c =

@@ -1,7 +1,6 @@
 -- What is read first changes nothing, so what the journal's call says of the disk holds of the disk as it was given.
-use Rattle.std.proofs.Common.{◌≡◌, ◌≢◌, ◌≤◌, ℕ, List, [], true, false, Err, refl, sym, ap, subst, ◌∙◌, arith}
-use Rattle.std.specs.Prelude.{MatchBool}
-use Rattle.durable_model.specs.Honest.{Risen, Unchanged, risen_within}
+use Rattle.std.proofs.Common.{ℕ, List, [], Err, sym, ap, subst, ◌∙◌, arith}
+use Rattle.durable_model.specs.Honest.{risen_within}
 use Rattle.durable_model.specs.Writes.{overwritten}
 use Rattle.acceptor_log_form.specs.Text.{journal_text, StandsFor}
 use Rattle.acceptor_log_form.specs.Fault.{HasFault}

@@ -1,5 +1,5 @@
-use Rattle.std.proofs.Common.{◌≡◌, ◌≤◌, drop, length}
-use Rattle.std.specs.Vec.Iter.{into_iter_items, into_iter_len}
+use Rattle.std.proofs.Common.{◌≡◌, ◌≤◌, drop}
+use Rattle.std.specs.Vec.Iter.{into_iter_items}
 use Rattle.std.specs.Prelude.{vec_capacity}
 use Rattle.farm_nodes_disks.specs.Journals.{AreOpened}
 use Rattle.farm_nodes_disks.proofs.opening.open_journals.Given as goal
@@ -7,7 +7,7 @@ use Rattle.farm_nodes_disks.proofs.opening.open_journals.Given as goal
 -- the journals of the nodes so far are open, and the other disks are as they were
 abbrev pub invariant-loop-node : goal.invariant-loop-node
 invariant-loop-node g l = record {
-  opened : AreOpened g.D.Disk (length l.fn.disks.items) l.digest l.fn.disks.items l.node l.opened.items;
+  opened : AreOpened g.D.Disk l.quorums l.digest l.fn.disks.items l.node l.opened.items;
   behind : into_iter_items l.behind ≡ drop l.node l.fn.disks.items;
   room : l.count ≤ vec_capacity l.opened;
 }

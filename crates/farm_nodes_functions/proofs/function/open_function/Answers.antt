@@ -1,8 +1,7 @@
 -- The rooms of a function open from what the nodes have kept of them.
-use Rattle.std.proofs.Common.{List, length, refl, sym, ap, subst, ◌∙◌}
+use Rattle.std.proofs.Common.{List, length, refl, ap, subst, ◌∙◌}
 use Rattle.std.specs.Global.{Vec}
 use Rattle.std.proofs.lemmas.List.{length-map}
-use Rattle.paxos_core_law.specs.NodeState.{IsRoomSize}
 use Rattle.paxos_core_world.specs.KeptPart.{KeptPart}
 use Rattle.rooms_function.specs.Opened.{kept_in}
 use Rattle.rooms_function.specs.Opened as by_pass
@@ -24,7 +23,7 @@ open-requires g c =
     let are = c.in-Ok-offers_for.ensures.here in
     let is = c.as_slice.ensures.value ∙ c.in-Ok.ensures in
     record {
-      size = subst IsRoomSize (sym (ap length is ∙ length-map nodes (λ (node : Vec KeptPart). four_kept node.items f))) c.requires.size;
+      size = ap length is ∙ length-map nodes (λ (node : Vec KeptPart). four_kept node.items f) ∙ c.requires.size;
       first = offers_as_given (kept_of nodes (room_at f First)) _ (offers_of (rows_of offers.first.items) f) here.first.items (ap (λ (ps : List (List KeptPart)). kept_in 0 ps) is ∙ kept_first nodes f) are.first c.requires.offers1;
       second = offers_as_given (kept_of nodes (room_at f Second)) _ (offers_of (rows_of offers.second.items) f) here.second.items (ap (λ (ps : List (List KeptPart)). kept_in 1 ps) is ∙ kept_second nodes f) are.second c.requires.offers2;
       third = offers_as_given (kept_of nodes (room_at f Third)) _ (offers_of (rows_of offers.third.items) f) here.third.items (ap (λ (ps : List (List KeptPart)). kept_in 2 ps) is ∙ kept_third nodes f) are.third c.requires.offers3;
@@ -33,20 +32,18 @@ open-requires g c =
 
 pub numbered-requires : goal.numbered-requires
 numbered-requires g c =
-    let nodes = c.args.kept.now in
-    let is = c.as_slice.ensures.value ∙ c.in-Ok.ensures in
     record {
-      some = some_of_all c.as_slice.result.now c.in-Ok-offers_for.here c.in-Ok-open.seats.items c.in-Ok-open.ensures.ok
-          (subst IsRoomSize (sym (ap length is ∙ length-map nodes (λ (node : Vec KeptPart). four_kept node.items c.args.function))) c.requires.size);
-      rooms = all_one c.as_slice.result.now c.in-Ok-offers_for.here c.in-Ok-open.seats.items c.in-Ok-open.ensures.ok;
+      some = some_of_all c.args.quorums c.as_slice.result.now c.in-Ok-offers_for.here c.in-Ok-open.seats.items c.in-Ok-open.ensures.ok c.nodes-nodes.ensures.sizes;
+      rooms = all_one c.args.quorums c.as_slice.result.now c.in-Ok-offers_for.here c.in-Ok-open.seats.items c.in-Ok-open.ensures.ok;
     }
 
 pub returns-in-Ok-numbered-clause-opened : goal.returns-in-Ok-numbered-clause-opened
 returns-in-Ok-numbered-clause-opened g c =
     let is = c.as_slice.ensures.value ∙ c.in-Ok.ensures in
-    open_function_is c.args.kept.now c.args.function c.args.offers.now c.as_slice.result.now c.in-Ok-offers_for.here c.in-Ok-open.seats.items c.in-Ok-numbered.nodes.items
+    open_function_is c.args.quorums c.args.kept.now c.args.function c.args.offers.now c.as_slice.result.now c.in-Ok-offers_for.here c.in-Ok-open.seats.items c.in-Ok-numbered.nodes.items
     is c.in-Ok-offers_for.ensures.here c.in-Ok-open.ensures.ok c.in-Ok-numbered.ensures.seats c.in-Ok-numbered.ensures.one
-    (settled_all c.args.kept.now c.args.function (subst (λ (ps : List (List KeptPart)). by_pass.AreSettled ps) is c.in-Ok-open.ensures.settled))
+    (settled_all c.args.kept.now c.args.function c.args.quorums (subst (λ (ps : List (List KeptPart)). by_pass.AreSettled c.args.quorums ps) is c.in-Ok-open.ensures.settled))
+    c.requires.size
 
 pub returns-in-Err-open-clause-told : goal.returns-in-Err-open-clause-told
 returns-in-Err-open-clause-told g c =
@@ -57,9 +54,9 @@ returns-in-Err-open-clause-told g c =
     let are = c.in-Ok-offers_for.ensures.here in
     let is = c.as_slice.ensures.value ∙ c.in-Ok.ensures in
     let e = c.in-Err-open.unopened in
-    told_pass nodes f here c.told.result.room c.told.result.fault e.error c.told.ensures.fault
+    told_pass nodes f c.args.quorums here c.told.result.room c.told.result.fault e.error c.told.ensures.fault
     (offers_as_given (kept_of nodes (room_at f First)) (kept_of nodes (room_at f First)) (offers_of (rows_of offers.first.items) f) here.first.items refl are.first c.requires.offers1)
     (offers_as_given (kept_of nodes (room_at f Second)) (kept_of nodes (room_at f Second)) (offers_of (rows_of offers.second.items) f) here.second.items refl are.second c.requires.offers2)
     (offers_as_given (kept_of nodes (room_at f Third)) (kept_of nodes (room_at f Third)) (offers_of (rows_of offers.third.items) f) here.third.items refl are.third c.requires.offers3)
     (offers_as_given (kept_of nodes (room_at f Fourth)) (kept_of nodes (room_at f Fourth)) (offers_of (rows_of offers.fourth.items) f) here.fourth.items refl are.fourth c.requires.offers4)
-    e.pass (subst (λ (ps : List (List KeptPart)). by_pass.IsUnopened ps here e.pass e.error) is c.in-Err-open.ensures.told) c.told.ensures.room
+    e.pass (subst (λ (ps : List (List KeptPart)). by_pass.IsUnopened c.args.quorums ps here e.pass e.error) is c.in-Err-open.ensures.told) c.told.ensures.room

@@ -7,12 +7,12 @@ use Rattle.farm_nodes_functions.proofs.Rooms.{all_left_next, before_first, befor
 use Rattle.farm_nodes_functions.proofs.opening.open_functions.Goals as goal
 
 pub returns-in-Err-clause-before : goal.returns-in-Err-clause-before
-returns-in-Err-clause-before g c = before_first c.args.kept.now 0 c.no_memory.result.room (λ f low. absurd (omega (arith, low))) c.no_memory.ensures.room
+returns-in-Err-clause-before g c = before_first c.args.quorums c.args.kept.now 0 c.no_memory.result.room (λ f low. absurd (omega (arith, low))) c.no_memory.ensures.room
 
 pub loop-function-init : goal.loop-function-init
 loop-function-init g c = record {
   count = c.in-Ok.ensures.count;
-  opened = none_open c.args.kept.now c.args.offers (rows_of c.in-Ok.nodes.items) c.in-Ok.ensures.none;
+  opened = none_open c.args.quorums c.args.kept.now c.args.offers (rows_of c.in-Ok.nodes.items) c.in-Ok.ensures.none;
   left = none_taken c.args.offers;
 }
 
@@ -48,7 +48,7 @@ loop-function-preserved g c =
     record {
       count = c.add_each.ensures.count ∙ i.count;
       opened =
-          open_next c.args.kept.now n c.args.offers left (rows_of nodes) (rows_of c.add_each.new.lists.items) c.in-Ok-open_function.seats.items
+          open_next c.args.quorums c.args.kept.now n c.args.offers left (rows_of nodes) (rows_of c.add_each.new.lists.items) c.in-Ok-open_function.seats.items
           (length-map nodes (λ v. v.items) ∙ i.count) c.in-Ok-add_each.ensures.added i.left c.in-Ok-open_function.ensures.opened i.opened;
       left = all_left_next n c.args.offers left c.open_function.new.offers i.left c.in-Ok-open_function.ensures.others;
     }
@@ -58,17 +58,17 @@ returns-in-Err-open_function-clause-room g c memory = omega (arith, c.in-Err-ope
 
 pub returns-in-Err-open_function-clause-before : goal.returns-in-Err-open_function-clause-before
 returns-in-Err-open_function-clause-before g c =
-    before_room c.args.kept.now c.loop-function.function c.in-Err-open_function.unopened.room c.loop-function.invariant.opened.settled
+    before_room c.args.quorums c.args.kept.now c.loop-function.function c.in-Err-open_function.unopened.room c.loop-function.invariant.opened.settled
     c.in-Err-open_function.ensures.told.of_function c.in-Err-open_function.ensures.told.before
 
 pub returns-in-Err-open_function-clause-left : goal.returns-in-Err-open_function-clause-left
 returns-in-Err-open_function-clause-left g c left is =
     c.in-Err-open_function.ensures.told.unsettled is
-    (settled_again c.args.kept.now c.args.functions c.in-Err-open_function.unopened.room (omega (arith, c.in-Err-open_function.ensures.told.of_function, c.loop-function-test.true)) left)
+    (settled_again c.args.quorums c.args.kept.now c.args.functions c.in-Err-open_function.unopened.room (omega (arith, c.in-Err-open_function.ensures.told.of_function, c.loop-function-test.true)) left)
 
 pub returns-in-Err-add_each-clause-before : goal.returns-in-Err-add_each-clause-before
 returns-in-Err-add_each-clause-before g c =
-    before_first c.args.kept.now c.loop-function.function c.no_memory-in-Err-add_each.result.room c.loop-function.invariant.opened.settled c.no_memory-in-Err-add_each.ensures.room
+    before_first c.args.quorums c.args.kept.now c.loop-function.function c.no_memory-in-Err-add_each.result.room c.loop-function.invariant.opened.settled c.no_memory-in-Err-add_each.ensures.room
 
 pub returns-clause-functions : goal.returns-clause-functions
 returns-clause-functions g c =

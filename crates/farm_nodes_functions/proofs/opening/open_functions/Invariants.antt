@@ -7,6 +7,6 @@ use Rattle.farm_nodes_functions.proofs.opening.open_functions.Given as goal
 abbrev pub invariant-loop-function : goal.invariant-loop-function
 invariant-loop-function g l = record {
   count : length l.nodes.items ≡ length l.kept;
-  opened : AreOpen l.kept l.function l.fn.offers (rows_of l.nodes.items);
+  opened : AreOpen l.quorums l.kept l.function l.fn.offers (rows_of l.nodes.items);
   left : AllLeft l.function l.fn.offers l.left;
 }

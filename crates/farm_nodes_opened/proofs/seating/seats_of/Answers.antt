@@ -9,7 +9,6 @@ use Rattle.constprop_check.specs.contracts.pass.ConstPropPass.TheImpl as constan
 use Rattle.cse_check.specs.contracts.pass.CsePass.TheImpl as expressions
 use Rattle.alloc_check.specs.contracts.pass.AllocPass.TheImpl as allocation
 use Rattle.linearize_check.specs.contracts.pass.LinearizePass.TheImpl as order
-use Rattle.paxos_core_law.specs.NodeState.{IsRoomSize}
 use Rattle.paxos_core_world.specs.KeptPart.{KeptPart}
 use Rattle.farm_nodes_records.specs.Which.TheVariants.{First, Second, Third, Fourth}
 use Rattle.farm_nodes_lists.specs.Rows.{rows_of}
@@ -24,9 +23,7 @@ use Rattle.farm_nodes_opened.proofs.seating.seats_of.Goals as goal
 
 pub open_functions-requires-clause-size : goal.open_functions-requires-clause-size
 open_functions-requires-clause-size g c =
-    let js = c.args.journals.now in
-    let same : length js ≡ length c.as_slice.result.now = sym c.in-Ok.ensures.kept.count ∙ sym (ap length c.as_slice.ensures.value) in
-    subst (λ (n : ℕ). IsRoomSize n) same c.requires.size
+    ap length c.as_slice.ensures.value ∙ c.in-Ok.ensures.kept.count ∙ c.requires.size
 
 pub open_functions-requires-clause-offers1 : goal.open_functions-requires-clause-offers1
 open_functions-requires-clause-offers1 g c =
@@ -85,9 +82,9 @@ returns-clause-unopened g c room fault told =
       are_kept = c.in-Ok.ensures.kept;
       accepted = accepted_all c.args.functions c.args.journals.now c.in-Ok.found.1 c.in-Ok.ensures.offers;
       within = omega (arith, is.0, e.room is.2);
-      before = subst (λ (n : ℕ). IsSettledBefore c.in-Ok.found.0.items n) is.0 (subst (λ (kept : List (Vec KeptPart)). IsSettledBefore kept u.room) c.as_slice.ensures.value e.before);
-      unsettled = λ unsettled. subst (λ (n : ℕ). IsSettledIn c.in-Ok.found.0.items n → ⊥) is.0 (subst (λ (kept : List (Vec KeptPart)). IsSettledIn kept u.room → ⊥) c.as_slice.ensures.value (e.unsettled (is.1 ∙ unsettled)));
-      left = λ are same. e.left (subst (λ (kept : List (Vec KeptPart)). AreLeftIn kept c.args.functions) (sym c.as_slice.ensures.value) are) (is.1 ∙ same);
+      before = subst (λ (n : ℕ). IsSettledBefore c.args.quorums c.in-Ok.found.0.items n) is.0 (subst (λ (kept : List (Vec KeptPart)). IsSettledBefore c.args.quorums kept u.room) c.as_slice.ensures.value e.before);
+      unsettled = λ unsettled. subst (λ (n : ℕ). IsSettledIn c.args.quorums c.in-Ok.found.0.items n → ⊥) is.0 (subst (λ (kept : List (Vec KeptPart)). IsSettledIn c.args.quorums kept u.room → ⊥) c.as_slice.ensures.value (e.unsettled (is.1 ∙ unsettled)));
+      left = λ are same. e.left (subst (λ (kept : List (Vec KeptPart)). AreLeftIn c.args.quorums kept c.args.functions) (sym c.as_slice.ensures.value) are) (is.1 ∙ same);
       refused = λ refused. subst (λ (n : ℕ). IsOfferedIn c.in-Ok.found.0.items n) is.0 (subst (λ (kept : List (Vec KeptPart)). IsOfferedIn kept u.room) c.as_slice.ensures.value (e.refused (is.1 ∙ refused)));
     }
 
@@ -102,25 +99,25 @@ returns-in-Ok-open_functions-clause-seated g c =
       long = e.functions;
       kept = c.in-Ok.found.0.items;
       are_kept = read.kept;
-      settled = subst (λ (kept : List (Vec KeptPart)). (f : ℕ) → f < c.args.functions → AreSettled kept f) c.as_slice.ensures.value e.settled;
+      settled = subst (λ (kept : List (Vec KeptPart)). (f : ℕ) → f < c.args.functions → AreSettled c.args.quorums kept f) c.as_slice.ensures.value e.settled;
       first = record {
         offers = found.first.items;
         are_offers = read.offers.first;
-        opened = subst (λ (kept : List (Vec KeptPart)). AreOpenedIn kept First c.args.functions (rows_of found.first.items) first_seat (rows_of seats)) c.as_slice.ensures.value e.first;
+        opened = subst (λ (kept : List (Vec KeptPart)). AreOpenedIn c.args.quorums kept First c.args.functions (rows_of found.first.items) first_seat (rows_of seats)) c.as_slice.ensures.value e.first;
       };
       second = record {
         offers = found.second.items;
         are_offers = read.offers.second;
-        opened = subst (λ (kept : List (Vec KeptPart)). AreOpenedIn kept Second c.args.functions (rows_of found.second.items) second_seat (rows_of seats)) c.as_slice.ensures.value e.second;
+        opened = subst (λ (kept : List (Vec KeptPart)). AreOpenedIn c.args.quorums kept Second c.args.functions (rows_of found.second.items) second_seat (rows_of seats)) c.as_slice.ensures.value e.second;
       };
       third = record {
         offers = found.third.items;
         are_offers = read.offers.third;
-        opened = subst (λ (kept : List (Vec KeptPart)). AreOpenedIn kept Third c.args.functions (rows_of found.third.items) third_seat (rows_of seats)) c.as_slice.ensures.value e.third;
+        opened = subst (λ (kept : List (Vec KeptPart)). AreOpenedIn c.args.quorums kept Third c.args.functions (rows_of found.third.items) third_seat (rows_of seats)) c.as_slice.ensures.value e.third;
       };
       fourth = record {
         offers = found.fourth.items;
         are_offers = read.offers.fourth;
-        opened = subst (λ (kept : List (Vec KeptPart)). AreOpenedIn kept Fourth c.args.functions (rows_of found.fourth.items) fourth_seat (rows_of seats)) c.as_slice.ensures.value e.fourth;
+        opened = subst (λ (kept : List (Vec KeptPart)). AreOpenedIn c.args.quorums kept Fourth c.args.functions (rows_of found.fourth.items) fourth_seat (rows_of seats)) c.as_slice.ensures.value e.fourth;
       };
     }

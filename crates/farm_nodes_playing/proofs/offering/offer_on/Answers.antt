@@ -2,7 +2,7 @@ use Rattle.std.proofs.Common.{rules, ◌≡◌, false, option_copied, refl, sym,
 use Rattle.offers.specs.Text.{text_of}
 use Rattle.farm_nodes_offers.specs.declared.halt.Halt.{Halt}
 use Rattle.farm_nodes_offers.specs.Halted.{HasLeft, left_over}
-use Rattle.farm_nodes_offers.proofs.Leavings.{nothing_left}
+use Rattle.farm_nodes_offers.proofs.Leavings.{idle_grown, nothing_left}
 use Rattle.farm_nodes_offers.specs.Pending.{IsTextOf}
 use Rattle.farm_nodes_playing.proofs.Turns.{left_offering, made_either}
 use Rattle.farm_nodes_playing.proofs.offering.offer_on.Goals as goal
@@ -20,6 +20,20 @@ returns-in-Err-clause-journal g c honest going =
     subst (λ (h : Halt). HasLeft disk.seen disk.may_leave disk.moment disk.left_since log log c.args.room words words (left_over c.args.room words h.pending)) (sym c.idle.ensures)
     (nothing_left disk.is_honest disk.seen disk.may_leave disk.moment disk.left_since log c.args.room words (c.requires honest going)
     (λ b left. g.met.D.Disk.only_now log.disk b honest left))
+
+pub returns-then-offered-clause-journal : goal.returns-then-offered-clause-journal
+returns-then-offered-clause-journal g c honest going =
+    let disk = g.D.Disk in
+    let log = c.args.log.now in
+    idle_grown disk.is_honest disk.seen disk.may_leave disk.moment disk.left_since log c.args.room c.args.seat.now.words (c.requires honest going)
+    (λ b left. g.met.D.Disk.only_now log.disk b honest left)
+
+pub returns-in_default-clause-journal : goal.returns-in_default-clause-journal
+returns-in_default-clause-journal g c honest going =
+    let disk = g.D.Disk in
+    let log = c.args.log.now in
+    idle_grown disk.is_honest disk.seen disk.may_leave disk.moment disk.left_since log c.args.room c.args.seat.now.words (c.requires honest going)
+    (λ b left. g.met.D.Disk.only_now log.disk b honest left)
 
 pub returns-in-Ok-clause-left : goal.returns-in-Ok-clause-left
 returns-in-Ok-clause-left g c =

@@ -1,14 +1,15 @@
-use Rattle.std.proofs.Common.{◌*◌, ℕ, length, Option, refl, sym, ap, ◌∙◌, subst}
+use Rattle.std.proofs.Common.{◌≡◌, ◌*◌, ℕ, length, Option, refl, sym, ap, ◌∙◌, subst}
 use Rattle.std.proofs.lemmas.List.{length-map}
 use Rattle.acceptor_log_form.specs.declared.header.Header.{Header}
 use Rattle.acceptor_log_form.specs.Order.{AreInOrder}
 use Rattle.farm_nodes_acting.specs.declared.stop.Pending.{Pending}
 use Rattle.farm_nodes_node.specs.Fours.{four_of, fours_of}
 use Rattle.acceptor_log.specs.Acknowledged.{acknowledged}
+use Rattle.farm_nodes_node.specs.Held.{AreSeatsOf}
 use Rattle.farm_nodes_restart.specs.Returned.{HasCause}
 use Rattle.farm_nodes_restart.specs.Seats.{HaveComeBack}
 use Rattle.farm_nodes_returning.specs.Stopped.{left_by, room_in}
-use Rattle.farm_nodes_returning.proofs.Own.{never_others, not_others}
+use Rattle.farm_nodes_returning.proofs.Own.{never_others, not_others, own_fault}
 use Rattle.farm_nodes_returning.proofs.Soundness.{sound_back, sound_refused}
 use Rattle.farm_nodes_returning.proofs.Waiting.{at_both, still_pending}
 use Rattle.farm_nodes_returning.proofs.restarting.restart.Goals as goal
@@ -26,12 +27,16 @@ returns-in-Ok-clause-in_order g c honest =
 pub returns-in-Ok-clause-sound : goal.returns-in-Ok-clause-sound
 returns-in-Ok-clause-sound g c =
     let disk = g.D.Disk in
-    sound_back disk.is_honest disk.seen disk.may_leave c.in-Ok.fresh (fours_of c.come_back.new.seats.items)
-    c.args.node.log.header.nodes c.args.node.log.header.node (4 * length c.args.node.seats.items)
+    let old = fours_of c.args.node.seats.items in
+    let fresh = c.in-Ok.fresh in
+    let same : c.in-Ok.fresh.header ≡ c.args.node.log.header = c.in-Ok.ensures.ok.1 ∙ c.header.ensures in
+    sound_back disk.is_honest disk.seen disk.may_leave fresh old (fours_of c.come_back.new.seats.items) (4 * length c.args.node.seats.items)
     c.in-Ok.ensures.sound c.in-Ok.ensures.ok.0
     (ap (λ (n : ℕ). 4 * n) (sym (length-map c.come_back.new.seats.items four_of ∙ c.come_back.ensures.count)))
+    (subst (λ (h : Header). AreSeatsOf h (fours_of c.args.node.seats.items)) (sym same) c.requires.sound.own) c.in-Ok.ensures.rest
     (λ honest. (c.in-Ok.ensures.seats (c.in-Ok.ensures.honest.0 honest)).leave)
-    (λ honest. returns-in-Ok-clause-in_order g c (c.in-Ok.ensures.honest.0 honest))
+    (λ honest. subst (λ (h : Header). AreInOrder h.nodes h.node (4 * length c.args.node.seats.items) (acknowledged g.D.Disk.seen c.in-Ok.fresh)) (sym same)
+    (returns-in-Ok-clause-in_order g c (c.in-Ok.ensures.honest.0 honest)))
     (λ bytes honest left. c.at_rest.ensures c.in-Ok.fresh bytes c.in-Ok.ensures.sound honest c.in-Ok.ensures.ok.0 left)
 
 pub returns-in-Err-clause-sound : goal.returns-in-Err-clause-sound
@@ -70,3 +75,11 @@ returns-in-Err-clause-own g c honest own left is =
     (λ rs stands others. never_others disk.is_honest disk.seen disk.may_leave c.args.node.log (fours_of c.args.node.seats.items) c.args.node.halted
     (disk.seen c.args.disk) rs c.requires.sound own left stands others)
     is
+
+pub returns-in-Err-clause-own_journal : goal.returns-in-Err-clause-own_journal
+returns-in-Err-clause-own_journal g c honest own left =
+    let disk = g.D.Disk in
+    own_fault disk.is_honest disk.seen disk.may_leave c.args.node.log (fours_of c.args.node.seats.items) c.args.node.halted
+    (disk.seen c.args.disk) c.requires.sound own left c.in-Err.fault
+    (subst (λ (n : ℕ). HasCause c.args.node.log.header (4 * n) (fours_of c.args.node.seats.items) (room_in c.args.node.halted) (left_by c.args.node.halted) (disk.seen c.args.disk) c.in-Err.fault)
+    (sym (length-map c.args.node.seats.items four_of)) (returns-in-Err-clause-refused g c honest))

@@ -40,7 +40,7 @@ returns-clause-after g c =
     let word = (pcg32 c.args.words.now).0 in
     on_ok4 c.play_in.result
     (HasInput pass old → (words_of new pass).node.kept.offered ≡ true)
-    ((j : ℕ) → j < (words_of new pass).node.count → IsQuiet j (words_of new pass))
+    ((j : ℕ) → j < (words_of new pass).node.quorums.nodes → IsQuiet j (words_of new pass))
     (would (words_of new pass) asked.Propose ≡ None)
     ((words_of old pass).node.kept.offered ≡ true → word % 4 ≡ 0 → HasLed (words_of new pass))
     (AtPlace four_of (StandsAfter (pass_of c.args.room) word) (function_of c.args.room) c.args.seats.now.items (set c.args.seats.now.items c.from.result c.play_in.new.seats))

@@ -1,3 +1,4 @@
+use Rattle.std.proofs.Common.{arith}
 use Rattle.farm_nodes_compiling.specs.Fours.{fours_of}
 use Rattle.farm_nodes_opened.specs.Held.{IsSoundNode}
 use Rattle.farm_nodes_opened.specs.Waiting.{IsWaiting}
@@ -15,3 +16,6 @@ pub returns-in-Err-clause-refused : goal.returns-in-Err-clause-refused
 returns-in-Err-clause-refused g c =
     let told = c.in-Err.ensures in
     record { returned = told.back; journal = told.journal; refused = told.refused; unopened = told.unopened }
+
+pub open_nodes-opened-requires-clause-workers : goal.open_nodes-opened-requires-clause-workers
+open_nodes-opened-requires-clause-workers g c κs within = omega (arith, c.from-workers.ensures, c.nodes.ensures.value, c.nodes.ensures.sizes.least)

@@ -11,7 +11,7 @@ use Rattle.farm_nodes_turn.specs.Turned.{IsTooLargeFor}
 use Rattle.farm_nodes_node.specs.Held.{fault_in, pending_in, IsSoundNode}
 use Rattle.farm_nodes_node.specs.Stood.{TurnsInto}
 use Rattle.farm_nodes_node.specs.Waiting.{IsWaiting}
-use Rattle.farm_nodes_node.proofs.Whole.{into, no_cause, none_of, not_none, sound_now, stops_for, told_now, went_on}
+use Rattle.farm_nodes_node.proofs.Whole.{into, no_cause, none_of, not_none, sound_now, stays_node, stops_for, told_now, went_on}
 use Rattle.farm_nodes_node.proofs.node.FarmNode.turn.Goals as goal
 
 pub returns-in-Ok-clause-sound : goal.returns-in-Ok-clause-sound
@@ -22,6 +22,7 @@ returns-in-Ok-clause-sound g c =
     (sound_now disk.is_honest disk.seen disk.may_leave disk.moment disk.left_since disk.faults four_of c.args.self.now.log c.turn_in.new.log c.args.room
     c.args.self.now.seats.items c.turn_in.new.seats.items c.args.self.now.halted c.turn_in.ensures.served c.requires.sound c.requires.room none
     c.turn_in.ensures.count c.turn_in.ensures.others (λ x y p q. (c.turn_in.ensures.leaves x y p q).others)
+    (λ x y p q. stays_node (pass_of c.args.room) (four_of x) (four_of y) (c.turn_in.ensures.leaves x y p q).stays)
     (Ok c.in-Ok.progress) c.in-Ok.ensures.journal c.in-Ok.ensures.going)
 
 pub returns-in-Ok-clause-into : goal.returns-in-Ok-clause-into
@@ -32,6 +33,7 @@ returns-in-Ok-clause-into g c honest was =
     (into disk.is_honest disk.seen disk.may_leave disk.moment disk.left_since disk.faults four_of c.args.self.now.log c.turn_in.new.log c.args.room
     c.args.self.now.seats.items c.turn_in.new.seats.items c.args.self.now.halted c.turn_in.ensures.served c.requires.sound c.requires.room none
     c.turn_in.ensures.count c.turn_in.ensures.others (λ x y p q. (c.turn_in.ensures.leaves x y p q).others)
+    (λ x y p q. stays_node (pass_of c.args.room) (four_of x) (four_of y) (c.turn_in.ensures.leaves x y p q).stays)
     (Ok c.in-Ok.progress) c.in-Ok.ensures.journal honest)
 
 pub returns-in-Ok-clause-told : goal.returns-in-Ok-clause-told
@@ -42,6 +44,7 @@ returns-in-Ok-clause-told g c honest was x y p q =
     ∙ told_now disk.is_honest disk.seen disk.may_leave disk.moment disk.left_since disk.faults four_of c.args.self.now.log c.turn_in.new.log c.args.room
     c.args.self.now.seats.items c.turn_in.new.seats.items c.args.self.now.halted c.turn_in.ensures.served c.requires.sound c.requires.room none
     c.turn_in.ensures.count c.turn_in.ensures.others (λ x y p q. (c.turn_in.ensures.leaves x y p q).others)
+    (λ x y p q. stays_node (pass_of c.args.room) (four_of x) (four_of y) (c.turn_in.ensures.leaves x y p q).stays)
     c.in-Ok.progress c.in-Ok.ensures.journal honest x y p q
 
 pub returns-in-Ok-clause-fault : goal.returns-in-Ok-clause-fault
@@ -66,6 +69,7 @@ returns-in-Err-clause-sound g c =
     sound_now disk.is_honest disk.seen disk.may_leave disk.moment disk.left_since disk.faults four_of c.args.self.now.log c.turn_in.new.log c.args.room
     c.args.self.now.seats.items c.turn_in.new.seats.items c.args.self.now.halted c.turn_in.ensures.served c.requires.sound c.requires.room none
     c.turn_in.ensures.count c.turn_in.ensures.others (λ x y p q. (c.turn_in.ensures.leaves x y p q).others)
+    (λ x y p q. stays_node (pass_of c.args.room) (four_of x) (four_of y) (c.turn_in.ensures.leaves x y p q).stays)
     (Err c.in-Err.halt) c.in-Err.ensures.journal tt
 
 pub returns-in-Err-clause-into : goal.returns-in-Err-clause-into
@@ -75,6 +79,7 @@ returns-in-Err-clause-into g c honest was =
     into disk.is_honest disk.seen disk.may_leave disk.moment disk.left_since disk.faults four_of c.args.self.now.log c.turn_in.new.log c.args.room
     c.args.self.now.seats.items c.turn_in.new.seats.items c.args.self.now.halted c.turn_in.ensures.served c.requires.sound c.requires.room none
     c.turn_in.ensures.count c.turn_in.ensures.others (λ x y p q. (c.turn_in.ensures.leaves x y p q).others)
+    (λ x y p q. stays_node (pass_of c.args.room) (four_of x) (four_of y) (c.turn_in.ensures.leaves x y p q).stays)
     (Err c.in-Err.halt) c.in-Err.ensures.journal honest
 
 pub returns-then-is_some-clause-served : goal.returns-then-is_some-clause-served

@@ -1,17 +1,17 @@
--- What the records of a node leave, where they are in order.
-use Rattle.std.proofs.Common.{◌≡◌, ℕ, ◌<◌, ◌≤◌, false, eqb, cond, List, [], ◌∷◌, refl, ap, ◌∙◌, arith}
+-- The rooms of records in order.
+use Rattle.std.proofs.Common.{◌≡◌, ℕ, ◌<◌, ◌≤◌, false, eqb, cond, get_or, List, [], ◌∷◌, refl, ap, ◌∙◌, arith}
 use Rattle.std.proofs.lemmas.Bool.{ne_eqb}
 use Rattle.std.proofs.lemmas.List.Elements.{All-head, All-tail}
+use Rattle.std.proofs.lemmas.Option.{slice_get-get_or}
 use Rattle.acceptor_log_form.specs.declared.record.Record.{Record}
 use Rattle.acceptor_log_form.specs.Leaves.{left_from}
 use Rattle.acceptor_log_form.specs.Order.{AreInOrder}
 use Rattle.acceptor_log_form.specs.Text.{room_of}
 use Rattle.farm_nodes_acting.specs.Advances.{AreOf}
-use Rattle.farm_nodes_opened.proofs.Lists.{all_from}
 
 -- they are of so many rooms
 pub of_rooms : (count node rooms : ℕ) (rs : List Record) → AreInOrder count node rooms rs → AreOf rooms rs
-of_rooms count node rooms rs order = all_from (λ (r : Record). room_of r < rooms) rs (λ i r got. (order i r got).0)
+of_rooms count node rooms rs order k d below = (order k (get_or rs k d) (slice_get-get_or rs k d below)).0
 
 -- and leave nothing of others
 pub none_of_others : {A : Type 0} (by : A → Record → A) (rooms m : ℕ) (rs : List Record) (before : A) → AreOf rooms rs → rooms ≤ m → left_from by before rs m ≡ before
