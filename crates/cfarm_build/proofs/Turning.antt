@@ -11,6 +11,7 @@ use Rattle.cfarm_build_linking.specs.Seats.{Seats}
 use Rattle.cfarm_build_linking.specs.Halted.{Halted}
 use Rattle.cfarm_build_linking.specs.Held.{fault_in, IsSoundNode}
 use Rattle.cfarm_build_linking.specs.Source.{Source}
+use Rattle.cfarm_build_linking.specs.Quorum.{Sizes}
 use Rattle.cfarm_build_linking.specs.Words.{generators}
 use Rattle.cfarm_build_linking.specs.Nodes.{AreMade}
 use Rattle.cfarm_build_linking.specs.Back.{IsJournalOn}
@@ -76,17 +77,17 @@ module _ {N G D H : Type 0} {h : naming.Ghosts H} (disk : disks.Ghosts D) (progr
   sounds : (Q : N → Type 0) (ys : List N) → AllByRecursion (λ n. SoundOf n × Q n) ys → AllByRecursion SoundOf ys
   sounds Q ys fit = all_weaker (λ n. SoundOf n × Q n) SoundOf (λ n both. both.0) ys fit
 
-  pub have_run : (seed : ℕ) (source : Source) (given : List D) (xs ys : List N)
-      → AreMade (IsJournalOn disk (length given) source.digest) given (length given) (map log xs)
-      → AreOpenFrom disk.is_honest disk.seen (length (arc_value source.translated).functions) (map log xs) (map seats xs)
+  pub have_run : (q : Sizes) (seed : ℕ) (source : Source) (given : List D) (xs ys : List N)
+      → AreMade (IsJournalOn disk q source.digest) given (length given) (map log xs)
+      → AreOpenFrom disk.is_honest disk.seen q (length (arc_value source.translated).functions) (map log xs) (map seats xs)
       → map words xs ≡ generators seed (length given) → AllByRecursion (λ n. halted n ≡ None) xs
       → AllZip (Turns disk program log (λ n. fours_of (seats n)) halted) xs ys → AllByRecursion SoundOf ys
-      → HaveRun disk seed source given (map node_of ys)
-  have_run seed source given xs ys journals rooms drawn going turns sound = record {
+      → HaveRun disk q seed source given (map node_of ys)
+  have_run q seed source given xs ys journals rooms drawn going turns sound = record {
     begun = map begun_of xs;
-    journals = subst (λ l. AreMade (IsJournalOn disk (length given) source.digest) given (length given) l)
+    journals = subst (λ l. AreMade (IsJournalOn disk q source.digest) given (length given) l)
         (sym (map_twice begun_of (λ b. b.log) xs)) journals;
-    rooms = subst₂ (λ l r. AreOpenFrom disk.is_honest disk.seen (length (arc_value source.translated).functions) l r)
+    rooms = subst₂ (λ l r. AreOpenFrom disk.is_honest disk.seen q (length (arc_value source.translated).functions) l r)
         (sym (map_twice begun_of (λ b. b.log) xs)) (sym (map_twice begun_of (λ b. b.seats) xs)) rooms;
     words = map_twice begun_of (λ b. b.words) xs ∙ drawn;
     turned = turned xs ys going turns;
@@ -94,15 +95,15 @@ module _ {N G D H : Type 0} {h : naming.Ghosts H} (disk : disks.Ghosts D) (progr
   }
 
   -- the same of a farm that opened, whose nodes came back
-  pub ran : (Q : N → Type 0) (seed : ℕ) (source opened : Source) (given : List D) (xs ys : List N) → opened ≡ source
-      → AreMade (IsJournalOn disk (length given) opened.digest) given (length given) (map log xs)
-      → AreOpenFrom disk.is_honest disk.seen (length (arc_value opened.translated).functions) (map log xs) (map seats xs)
+  pub ran : (Q : N → Type 0) (q : Sizes) (seed : ℕ) (source opened : Source) (given : List D) (xs ys : List N) → opened ≡ source
+      → AreMade (IsJournalOn disk q opened.digest) given (length given) (map log xs)
+      → AreOpenFrom disk.is_honest disk.seen q (length (arc_value opened.translated).functions) (map log xs) (map seats xs)
       → map words xs ≡ generators seed (length given) → All (λ n. halted n ≡ None) xs
       → AllZip (Turns disk program log (λ n. fours_of (seats n)) halted) xs ys → AllByRecursion (λ n. SoundOf n × Q n) ys
-      → HaveRun disk seed source given (map node_of ys)
-  ran Q seed source opened given xs ys same journals rooms drawn going turns fit = have_run seed source given xs ys
-      (subst (λ (s : Source). AreMade (IsJournalOn disk (length given) s.digest) given (length given) (map log xs)) same journals)
-      (subst (λ (s : Source). AreOpenFrom disk.is_honest disk.seen (length (arc_value s.translated).functions) (map log xs) (map seats xs)) same rooms)
+      → HaveRun disk q seed source given (map node_of ys)
+  ran Q q seed source opened given xs ys same journals rooms drawn going turns fit = have_run q seed source given xs ys
+      (subst (λ (s : Source). AreMade (IsJournalOn disk q s.digest) given (length given) (map log xs)) same journals)
+      (subst (λ (s : Source). AreOpenFrom disk.is_honest disk.seen q (length (arc_value s.translated).functions) (map log xs) (map seats xs)) same rooms)
       drawn (all_of (λ n. halted n ≡ None) xs going) turns (sounds Q ys fit)
 
   pub have_met : (ys zs : List N) → AllByRecursion SoundOf ys → AllZip (Meets disk program log (λ n. fours_of (seats n)) halted) ys zs

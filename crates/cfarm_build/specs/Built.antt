@@ -3,10 +3,11 @@ use Rattle.std.specs.Prelude.{ℕ, List}
 use Rattle.durable_model.specs.declared.disk.Disk as disks
 use Rattle.rooms_hall.specs.declared.hall.Naming as naming
 use Rattle.cfarm_build_linking.specs.Source.{Source}
+use Rattle.cfarm_build_linking.specs.Quorum.{Sizes}
 use Rattle.cfarm_build_linking.specs.Built.{IsBuiltBy}
 pub use Rattle.cfarm_build_linking.specs.declared.built.Built.{Built}
 use Rattle.cfarm_build.specs.Nodes.{AfterMeeting}
 
--- The source is compiled by nodes over these disks, none of which failed.
-abbrev pub IsBuilt : {D : Type 0} → disks.Ghosts D → {H : Type 0} → naming.Ghosts H → ℕ → Source → List D → Built → Type 0
-IsBuilt disk {H} h seed source given built = AfterMeeting disk {H = H} {h = h} seed source given (λ nodes. IsBuiltBy source nodes built)
+-- The source is compiled by nodes over these disks, with quorums of these sizes, none of which failed.
+abbrev pub IsBuilt : {D : Type 0} → disks.Ghosts D → {H : Type 0} → naming.Ghosts H → Sizes → ℕ → Source → List D → Built → Type 0
+IsBuilt disk {H} h q seed source given built = AfterMeeting disk {H = H} {h = h} q seed source given (λ nodes. IsBuiltBy source nodes built)

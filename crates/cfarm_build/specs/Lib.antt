@@ -6,3 +6,4 @@ pub use Rattle.cfarm_build_linking.specs.Lines
 pub use Rattle.cfarm_build_linking.specs.Statuses
 pub use Rattle.cfarm_build_linking.specs.Numbers
 pub use Rattle.cfarm_build_linking.specs.Prepared
+pub use Rattle.cfarm_build_linking.specs.Quorum

@@ -14,6 +14,7 @@ use Rattle.cfarm_build_linking.specs.Seats.{Seats}
 use Rattle.cfarm_build_linking.specs.Halted.{Halted}
 use Rattle.cfarm_build_linking.specs.Held.{fault_in, IsSoundNode}
 use Rattle.cfarm_build_linking.specs.Source.{Source}
+use Rattle.cfarm_build_linking.specs.Quorum.{Sizes}
 use Rattle.cfarm_build_linking.specs.CameBack.{CameBack}
 use Rattle.cfarm_build_linking.specs.Words.{generators}
 use Rattle.cfarm_build_linking.specs.Nodes.{AreMade}
@@ -41,11 +42,11 @@ module _ {D : Type 0} (disk : disks.Ghosts D) where
   TurnedInto b n = CameBack disk.is_honest disk.seen disk.may_leave disk.moment disk.left_since b.log n.log
       (fours_of b.seats) (fours_of n.seats) None n.halted
 
-  -- They were opened on these disks, with the generators of the seed, and have taken turns.
-  pub record HaveRun {H : Type 0} {h : naming.Ghosts H} (seed : ℕ) (source : Source) (given : List D) (nodes : List (Node D H h)) : Type 0 where
+  -- They were opened on these disks, with quorums of these sizes and the generators of the seed, and have taken turns.
+  pub record HaveRun {H : Type 0} {h : naming.Ghosts H} (q : Sizes) (seed : ℕ) (source : Source) (given : List D) (nodes : List (Node D H h)) : Type 0 where
     pub begun : List (Begun D H h)
-    pub journals : AreMade (IsJournalOn disk (length given) source.digest) given (length given) (map (λ b. b.log) begun)
-    pub rooms : AreOpenFrom disk.is_honest disk.seen (length (arc_value source.translated).functions)
+    pub journals : AreMade (IsJournalOn disk q source.digest) given (length given) (map (λ b. b.log) begun)
+    pub rooms : AreOpenFrom disk.is_honest disk.seen q (length (arc_value source.translated).functions)
         (map (λ b. b.log) begun) (map (λ b. b.seats) begun)
     pub words : map (λ b. b.words) begun ≡ generators seed (length given)
     pub turned : AllZip TurnedInto begun nodes
@@ -73,10 +74,10 @@ abbrev pub failed_of : {D : Type 0} {H : Type 0} {h : naming.Ghosts H} → List 
 failed_of nodes = lowest_failed 0 (map (λ n. fault_in n.halted) nodes)
 
 -- None failed in their turns, then they met, and so it is of them.
-pub record AfterMeeting {D : Type 0} (disk : disks.Ghosts D) {H : Type 0} {h : naming.Ghosts H} (seed : ℕ) (source : Source) (given : List D)
+pub record AfterMeeting {D : Type 0} (disk : disks.Ghosts D) {H : Type 0} {h : naming.Ghosts H} (q : Sizes) (seed : ℕ) (source : Source) (given : List D)
     (Is : List (Node D H h) → Type 0) : Type 0 where
   pub ran : List (Node D H h)
-  pub run : HaveRun disk seed source given ran
+  pub run : HaveRun disk q seed source given ran
   pub going : failed_of ran ≡ None
   pub nodes : List (Node D H h)
   pub met : HaveMet disk ran nodes

@@ -3,6 +3,7 @@ use Rattle.std.specs.Prelude.{◌≡◌, ℕ, List, Some}
 use Rattle.durable_model.specs.declared.disk.Disk as disks
 use Rattle.rooms_hall.specs.declared.hall.Naming as naming
 use Rattle.cfarm_build_linking.specs.Source.{Source}
+use Rattle.cfarm_build_linking.specs.Quorum.{Sizes}
 use Rattle.farm_nodes_offers.specs.declared.halt.Fault.{Fault}
 use Rattle.cfarm_build_linking.specs.FarmRefused.{AreRefusedOver}
 use Rattle.cfarm_build_linking.specs.BuildError.{BuildError}
@@ -22,11 +23,11 @@ IsNotRun Undecided = ⊥
 IsNotRun (Unlinked fault function) = ⊥
 IsNotRun Names = ⊥
 
-module _ {D : Type 0} (disk : disks.Ghosts D) {H : Type 0} (h : naming.Ghosts H) (seed : ℕ) (source : Source) (given : List D) where
+module _ {D : Type 0} (disk : disks.Ghosts D) {H : Type 0} (h : naming.Ghosts H) (q : Sizes) (seed : ℕ) (source : Source) (given : List D) where
   -- the nodes took their turns, and the lowest one that failed is this
   pub record HasFailed (number : ℕ) (fault : Fault) : Type 0 where
     pub nodes : List (Node D H h)
-    pub run : HaveRun disk seed source given nodes
+    pub run : HaveRun disk q seed source given nodes
     pub failed : failed_of nodes ≡ Some (number, fault)
 
   -- In this order: the disks, the lowest node that failed, what is not linked. The names are the program's.
@@ -34,8 +35,8 @@ module _ {D : Type 0} (disk : disks.Ghosts D) {H : Type 0} (h : naming.Ghosts H)
   IsUnbuilt NoMemory = Unit {0}
   IsUnbuilt NoThread = Unit {0}
   IsUnbuilt (TextFault fault) = ⊥
-  IsUnbuilt (Disks fault) = (back : List D) × AreRefusedOver disk source given back fault
+  IsUnbuilt (Disks fault) = (back : List D) × AreRefusedOver disk q source given back fault
   IsUnbuilt (Failed number fault) = HasFailed number fault
-  IsUnbuilt Undecided = AfterMeeting disk {H = H} {h = h} seed source given (λ nodes. IsRefusedBy source nodes Undecided)
-  IsUnbuilt (Unlinked fault function) = AfterMeeting disk {H = H} {h = h} seed source given (λ nodes. IsRefusedBy source nodes (Unlinked fault function))
+  IsUnbuilt Undecided = AfterMeeting disk {H = H} {h = h} q seed source given (λ nodes. IsRefusedBy source nodes Undecided)
+  IsUnbuilt (Unlinked fault function) = AfterMeeting disk {H = H} {h = h} q seed source given (λ nodes. IsRefusedBy source nodes (Unlinked fault function))
   IsUnbuilt Names = ⊥

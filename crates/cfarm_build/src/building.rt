@@ -5,14 +5,13 @@ ghost use Rattle.cminor_lowering.specs.Programs.{low};
 ghost use Rattle.cminor_program_ranges.specs.Names.{HaveNames};
 ghost use Rattle.rtlgen_definition.specs.Gen.{gen};
 ghost use Rattle.rtlgen.specs.Refused.{HasFewNodes};
-ghost use Rattle.paxos_core_law.specs.NodeState.{IsRoomSize};
 ghost use Rattle.cfarm_build.specs.Built.{IsBuilt};
 ghost use Rattle.cfarm_build.specs.Refused.{IsUnbuilt};
 
 use crate::failing::first_failed;
 use crate::meeting::meet_neighbours;
 use crate::running::run_rounds;
-use cfarm_build_linking::{BuildError, Built, Farm, Oracles, Source, built_by};
+use cfarm_build_linking::{BuildError, Built, Farm, Oracles, Quorums, Source, built_by};
 use cfarm_meter::Meter;
 use durable_model::Disk;
 use rooms_hall::{Hall, Naming};
@@ -20,8 +19,8 @@ use std::alloc::Global;
 use std::sync::Wait;
 use std::thread::Threads;
 
-/// Compiles a C text that was made ready by a farm of a node for each disk, a thread for each node, each of which takes so many turns at
-/// most. Then each two neighbours meet, and node 0 links the program. Between rounds of turns it is told how far they are.
+/// Compiles a C text that was made ready by a farm with these quorums and a node for each disk, a thread for each node, each of which
+/// takes so many turns at most. Then each two neighbours meet, and node 0 links the program. Between rounds of turns it is told how far they are.
 pub fn build<
     D: Disk + Drop + Send,
     O: Oracles + Drop + Send,
@@ -37,9 +36,10 @@ pub fn build<
     oracles: Vec<O>,
     turns: u64,
     seed: u64,
+    quorums: Quorums,
     meter: &mut M,
 ) -> Result<Built, BuildError>
-    requires size { IsRoomSize (length disks.items) }
+    requires size { length disks.items ≡ quorums.nodes }
     requires oracles { length oracles.items ≡ length disks.items }
 
     // What is compiled was made ready.
@@ -50,12 +50,13 @@ pub fn build<
 
     // The bytes are the text of a program that keeps the meaning of the C program, linked from what node 0 has learned, as the
     // report says.
-    ensures built { IfOk result (IsBuilt D.Disk H.Naming seed source disks.items) }
+    ensures built { IfOk result (IsBuilt D.Disk H.Naming quorums seed source disks.items) }
 
     // The disks come first, then the lowest node that failed, then what is not linked.
-    ensures refused { IfErr result (IsUnbuilt D.Disk H.Naming seed source disks.items) }
+    ensures refused { IfErr result (IsUnbuilt D.Disk H.Naming quorums seed source disks.items) }
 {
-    let farm = match Farm::over(rt, alloc, hall, source, disks, oracles, seed) {
+    let _nodes = quorums.nodes();
+    let farm = match Farm::over(rt, alloc, hall, source, disks, oracles, seed, quorums) {
         Ok(farm) => farm,
         Err((_disks, fault)) => return Err(BuildError::Disks(fault)),
     };

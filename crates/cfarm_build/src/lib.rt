@@ -8,4 +8,4 @@ mod meeting;
 mod running;
 
 pub use building::build;
-pub use cfarm_build_linking::{BuildError, Built, optimisers_of};
+pub use cfarm_build_linking::{BuildError, Built, Quorums, optimisers_of};

@@ -12,4 +12,5 @@ pub use Rattle.farm_nodes.specs.Held
 pub use Rattle.farm_nodes.specs.Waiting
 pub use Rattle.farm_nodes.specs.Halted
 pub use Rattle.farm_nodes.specs.Nodes
+pub use Rattle.farm_nodes.specs.Quorum
 pub use Rattle.farm_nodes.specs.Source

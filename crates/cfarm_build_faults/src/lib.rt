@@ -7,4 +7,4 @@ mod names;
 mod telling;
 
 pub use error::BuildError;
-pub use farm_nodes::{Farm, FarmNode, RunError, Source, meet, optimisers_of, run_threads};
+pub use farm_nodes::{Farm, FarmNode, Quorums, RunError, Source, meet, optimisers_of, run_threads};

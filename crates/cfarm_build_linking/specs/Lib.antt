@@ -19,3 +19,4 @@ pub use Rattle.cfarm_build_faults.specs.Nodes
 pub use Rattle.farm_nodes_linked.specs.Fours
 pub use Rattle.farm_nodes_linked.specs.Seats
 pub use Rattle.cfarm_build_faults.specs.Source
+pub use Rattle.cfarm_build_faults.specs.Quorum

@@ -23,10 +23,10 @@ use Rattle.cfarm_build.specs.BuildError.{BuildError}
 use Rattle.cfarm_build.specs.BuildError.TheVariants.{NoMemory, NoThread, Source as TextFault, Disks, Failed, Undecided, Unlinked, Names}
 use Rattle.cfarm_files.specs.Placing.{Placed, Keeps, Places}
 use Rattle.cfarm_files.specs.Locking.{lock_path}
-use Rattle.cfarm_options.specs.Counts.{count_of}
+use Rattle.cfarm_options.specs.Sizes.{count_of}
 use Rattle.cfarm_options.specs.Paths.{linked_path}
 use Rattle.cfarm_options.specs.declared.options.BuildOptions.{BuildOptions}
-use Rattle.cfarm_building.specs.Compiled.{IsCompiled, IsUncompiled}
+use Rattle.cfarm_building.specs.Compiled.{quorums_of, IsCompiled, IsUncompiled}
 use Rattle.cfarm_building.specs.Disks.{AreGiven, HasNoDisk, IsRefusedAt}
 use Rattle.cfarm_building.specs.Done.{HasPut, IsNotBuilt}
 use Rattle.cfarm_building.specs.declared.error.BuildingError.{BuildingError}
@@ -86,7 +86,7 @@ module _ {D : Type 0} (disk : disks.Ghosts D) {H : Type 0} (h : naming.Ghosts H)
   -- what the farm refuses
   pub not_built : (source : Source) → IsSourceOf text source → (given : List D)
       → AreGiven may_give options.folder.now (count_of options.nodes) given → (e : BuildError)
-      → IsUnbuilt disk h options.seed source given e → IsUncompiled disk h may_give options text (Build e)
+      → IsUnbuilt disk h (quorums_of options) options.seed source given e → IsUncompiled disk h may_give options text (Build e)
   not_built source is given are NoMemory un = tt
   not_built source is given are NoThread un = tt
   not_built source is given are (TextFault f) un = absurd un

@@ -10,12 +10,17 @@ use Rattle.cfarm_build.specs.Refused.{IsUnbuilt}
 use Rattle.cfarm_build.specs.Built.{Built}
 use Rattle.cfarm_build.specs.BuildError.TheVariants.{NoMemory, NoThread, Source as TextFault, Disks, Failed, Undecided, Unlinked, Names}
 use Rattle.cfarm_build.specs.BuildError.{BuildError}
-use Rattle.cfarm_options.specs.Counts.{count_of}
+use Rattle.cfarm_build.specs.Quorum.{sizes, Sizes}
+use Rattle.cfarm_options.specs.Sizes.{count_of, sizes_of}
 use Rattle.cfarm_files.specs.Locking.{lock_path}
 use Rattle.cfarm_building.specs.Disks.{AreGiven, HasNoDisk, IsRefusedAt}
 use Rattle.cfarm_building.specs.declared.error.BuildingError.{BuildingError}
 use Rattle.cfarm_building.specs.declared.error.BuildingError.TheVariants.{Build, File, Write}
 use Rattle.cfarm_options.specs.declared.options.BuildOptions.{BuildOptions}
+
+-- the sizes of quorums that are asked for
+abbrev pub quorums_of : BuildOptions → Sizes
+quorums_of options = sizes (sizes_of options).nodes (sizes_of options).promise (sizes_of options).accept
 
 module _ {D : Type 0} (disk : disks.Ghosts D) {H : Type 0} (h : naming.Ghosts H) (may_give : List ℕ → D → Type 0)
     (options : BuildOptions) (text : List ℕ) where
@@ -31,13 +36,13 @@ module _ {D : Type 0} (disk : disks.Ghosts D) {H : Type 0} (h : naming.Ghosts H)
     pub are : AreGiven may_give options.folder.now (count_of options.nodes) given
     pub so : Is given
 
-  -- a farm builds it of the text over the disks of the folder, with the generators of the seed
+  -- a farm builds it of the text over the disks of the folder, with the quorums that are asked for and the generators of the seed
   abbrev pub IsCompiled : Built → Type 0
-  IsCompiled built = OfSource (λ source. OverDisks (λ given. IsBuilt disk h options.seed source given built))
+  IsCompiled built = OfSource (λ source. OverDisks (λ given. IsBuilt disk h (quorums_of options) options.seed source given built))
 
   -- it builds nothing over them
   abbrev pub HasNotBuilt : BuildError → Type 0
-  HasNotBuilt fault = OfSource (λ source. OverDisks (λ given. IsUnbuilt disk h options.seed source given fault))
+  HasNotBuilt fault = OfSource (λ source. OverDisks (λ given. IsUnbuilt disk h (quorums_of options) options.seed source given fault))
 
   -- somebody else has the folder, or a journal cannot be opened
   abbrev pub HasNoFile : BuildingError → Type 0

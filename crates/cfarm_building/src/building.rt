@@ -2,12 +2,13 @@
 
 ghost use Rattle.std.specs.Prelude.{◌≡◌, ◌++◌, ◌∷◌, [], OnOk, IfOk, IfErr};
 ghost use Rattle.std.specs.String.{string_bytes};
+ghost use Rattle.cfarm_building.specs.Compiled.{quorums_of};
 ghost use Rattle.cfarm_building.specs.Done.{HasBuilt, IsNotBuilt};
 
 use crate::compiling::compiled;
 use crate::error::BuildingError;
 use crate::placing::place;
-use cfarm_build::{BuildError, Built};
+use cfarm_build::{BuildError, Built, Quorums};
 use cfarm_files::Files;
 use cfarm_meter::Meter;
 use cfarm_options::BuildOptions;
@@ -29,7 +30,8 @@ fn line_of(report: String) -> Result<String, AllocError>
     }
 }
 
-/// Builds a C text in the folder, whose lock is held from the text's acceptance on to the end: the linked program is put in its file, and then the report is printed on one line and flushed. What
+/// Builds a C text in the folder by a farm with the quorums that are asked for. The folder's lock is held from the text's acceptance on to
+/// the end: the linked program is put in its file, and then the report is printed on one line and flushed. What
 /// is shown while the farm runs is taken away before.
 pub fn build_text<H: Naming + Send, R: Threads + Wait + Sync, F: Files, M: Meter, W: Write>(
     rt: &R,
@@ -37,10 +39,13 @@ pub fn build_text<H: Naming + Send, R: Threads + Wait + Sync, F: Files, M: Meter
     hall: &Hall<H>,
     text: &[u8],
     options: BuildOptions<'_>,
+    quorums: Quorums,
     files: &mut F,
     meter: &mut M,
     out: &mut W,
 ) -> Result<(), BuildingError>
+    requires { quorums ≡ quorums_of options }
+
     // Exactly one file is put, and its bytes are the text of a program that keeps the meaning of the C program. The report is printed.
     ensures built { OnOk result (HasBuilt F.Disk.Disk H.Naming (F.may_give files.old) options.entry text.now
         (F.placed files.old) (F.placed files.new) (W.contents out.old) (W.contents out.new)) }
@@ -49,7 +54,7 @@ pub fn build_text<H: Naming + Send, R: Threads + Wait + Sync, F: Files, M: Meter
     ensures refused { IfErr result (λ fault. IsNotBuilt F.Disk.Disk H.Naming (F.may_give files.old) options.entry
         text.now (F.placed files.old) (F.placed files.new) fault (W.contents out.old) (W.contents out.new)) }
 {
-    let (built, lock) = match compiled(rt, alloc, hall, text, options, &*files, meter) {
+    let (built, lock) = match compiled(rt, alloc, hall, text, options, quorums, &*files, meter) {
         Ok(made) => made,
         Err(fault) => return Err(fault),
     };

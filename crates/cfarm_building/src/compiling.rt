@@ -1,13 +1,13 @@
 //! From a text and its journals to what is built.
 
-ghost use Rattle.std.specs.Prelude.{IfOk, IfErr};
+ghost use Rattle.std.specs.Prelude.{◌≡◌, IfOk, IfErr};
 ghost use Rattle.cfarm_files.specs.Locking.{CoversFolder};
-ghost use Rattle.cfarm_building.specs.Compiled.{IsCompiled, IsUncompiled};
+ghost use Rattle.cfarm_building.specs.Compiled.{quorums_of, IsCompiled, IsUncompiled};
 
 use crate::error::BuildingError;
 use crate::locking::locked;
 use crate::opening::open_disks;
-use cfarm_build::{BuildError, Built, build, optimisers_of};
+use cfarm_build::{BuildError, Built, Quorums, build, optimisers_of};
 use cfarm_files::Files;
 use cfarm_meter::Meter;
 use cfarm_options::BuildOptions;
@@ -17,17 +17,19 @@ use std::alloc::Global;
 use std::sync::Wait;
 use std::thread::Threads;
 
-/// What is built of a text by a farm over the journals of the folder, and the folder's lock. The text comes first, then the lock, then
-/// the journals, then the farm.
+/// What is built of a text by a farm with the quorums that are asked for over the journals of the folder, and the folder's lock. The text
+/// comes first, then the lock, then the journals, then the farm.
 fn compiled_by<H: Naming + Send, R: Threads + Wait + Sync, F: Files, M: Meter>(
     rt: &R,
     alloc: Global,
     hall: &Hall<H>,
     text: &[u8],
     options: BuildOptions<'_>,
+    quorums: Quorums,
     files: &F,
     meter: &mut M,
 ) -> Result<(Built, F::Lock), BuildingError>
+    requires { quorums ≡ quorums_of options }
     ensures built { IfOk result (λ r. IsCompiled F.Disk.Disk H.Naming (F.may_give files.now) options.entry text.now r.0) }
     ensures locked { IfOk result (λ r. CoversFolder (F.covers r.1) options.entry.folder.now) }
     ensures refused { IfErr result (IsUncompiled F.Disk.Disk H.Naming (F.may_give files.now) options.entry text.now) }
@@ -44,11 +46,14 @@ fn compiled_by<H: Naming + Send, R: Threads + Wait + Sync, F: Files, M: Meter>(
         Ok(disks) => disks,
         Err(fault) => return Err(fault),
     };
-    let Ok(oracles) = optimisers_of(alloc, options.nodes.count()) else {
+    let nodes = quorums.nodes();
+    let Ok(oracles) = optimisers_of(alloc, usize::from(nodes)) else {
         return Err(BuildingError::Build(BuildError::NoMemory));
     };
     let (turns, seed) = (u64::from(options.turns), options.seed);
-    match build(rt, alloc, hall, source, disks, oracles, turns, seed, meter) {
+    match build(
+        rt, alloc, hall, source, disks, oracles, turns, seed, quorums, meter,
+    ) {
         Ok(built) => Ok((built, lock)),
         Err(fault) => Err(BuildingError::Build(fault)),
     }
@@ -61,14 +66,16 @@ pub(crate) fn compiled<H: Naming + Send, R: Threads + Wait + Sync, F: Files, M: 
     hall: &Hall<H>,
     text: &[u8],
     options: BuildOptions<'_>,
+    quorums: Quorums,
     files: &F,
     meter: &mut M,
 ) -> Result<(Built, F::Lock), BuildingError>
+    requires { quorums ≡ quorums_of options }
     ensures built { IfOk result (λ r. IsCompiled F.Disk.Disk H.Naming (F.may_give files.now) options.entry text.now r.0) }
     ensures locked { IfOk result (λ r. CoversFolder (F.covers r.1) options.entry.folder.now) }
     ensures refused { IfErr result (IsUncompiled F.Disk.Disk H.Naming (F.may_give files.now) options.entry text.now) }
 {
-    let made = compiled_by(rt, alloc, hall, text, options, files, meter);
+    let made = compiled_by(rt, alloc, hall, text, options, quorums, files, meter);
     meter.clear();
     made
 }

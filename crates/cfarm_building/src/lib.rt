@@ -3,6 +3,7 @@
 //! is printed. Each refusal has its exit status, and its line for standard error.
 #![tactic(auto)]
 
+mod asking;
 mod building;
 mod compiling;
 mod error;
@@ -10,5 +11,7 @@ mod locking;
 mod opening;
 mod placing;
 
+pub use asking::quorums_of;
 pub use building::build_text;
+pub use cfarm_build::Quorums;
 pub use error::BuildingError;

@@ -1,7 +1,7 @@
 //! The disks of the nodes.
 
 ghost use Rattle.std.specs.Prelude.{IfOk, IfErr};
-ghost use Rattle.cfarm_options.specs.Counts.{count_of};
+ghost use Rattle.cfarm_options.specs.Sizes.{count_of};
 ghost use Rattle.cfarm_files.specs.Locking.{CoversFolder};
 ghost use Rattle.cfarm_building.specs.Disks.{AreGiven, HasNoDisk, IsRefusedAt};
 ghost use Rattle.cfarm_options.specs.Paths.{journal_path};
@@ -47,7 +47,8 @@ pub(crate) fn open_disks<F: Files>(
     ensures refused { IfErr result
         (HasNoDisk (F.may_give files.now) options.entry.folder.now (count_of options.entry.nodes)) }
 {
-    let count = options.nodes.count();
+    let nodes = options.nodes.count();
+    let count = usize::from(nodes);
     let Ok(mut disks) = Vec::with_capacity(alloc, count) else {
         return Err(BuildingError::Build(BuildError::NoMemory));
     };

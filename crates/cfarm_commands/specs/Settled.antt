@@ -7,7 +7,7 @@ use Rattle.lang_base.specs.declared.errors.FormError.TheVariants as form
 use Rattle.ltl.specs.Function as ltl
 use Rattle.ltl.specs.Spelling as ltl_spelling
 use Rattle.cfarm_output.specs.Begun.{IsBegun}
-use Rattle.cfarm_commands.specs.LaidOut.{IsAgreedOn}
+use Rattle.cfarm_commands.specs.LaidOut.{AgreeOn, Seats}
 use Rattle.cfarm_commands.specs.declared.settle_error.SettleError.{SettleError}
 use Rattle.cfarm_commands.specs.declared.settle_error.SettleError.TheVariants.{NoMemory, Form, Undecided, Write}
 
@@ -15,17 +15,27 @@ use Rattle.cfarm_commands.specs.declared.settle_error.SettleError.TheVariants.{N
 abbrev pub ending : List ℕ
 ending = 10 ∷ 97 ∷ 103 ∷ 114 ∷ 101 ∷ 101 ∷ 100 ∷ 32 ∷ 51 ∷ 10 ∷ []
 
--- The bytes spell an LTL function. What is printed is the code that is agreed on for it, in lower case hex, and `agreed 3`.
-pub record IsSettled (bytes printed : List ℕ) : Type 0 where
+-- what is printed of this code: it in lower case hex, and `agreed 3`, each on a line
+abbrev pub settled_text : List ℕ → List ℕ
+settled_text code = encode_lower code ++ ending
+
+-- The bytes spell an LTL function. What is printed is the text of the code that the nodes of these seats have agreed on for it.
+pub record IsSettled (bytes : List ℕ) (seats : Seats) (printed : List ℕ) : Type 0 where
   pub function : ltl.FunctionData
   pub code : List ℕ
   pub read : bytes ≡ ltl_spelling.spelling function
-  pub agreed : IsAgreedOn function code
-  pub prints : printed ≡ encode_lower code ++ ending
+  pub agreed : AgreeOn seats function code
+  pub prints : printed ≡ settled_text code
 
--- what three nodes agreed on was printed
-abbrev pub HasSettled : List ℕ → Option (List ℕ) → Option (List ℕ) → Type 0
-HasSettled bytes before after = (printed : List ℕ) × IsSettled bytes printed × Appends before after printed
+-- that was printed
+abbrev pub HaveSettled : List ℕ → Seats → Option (List ℕ) → Option (List ℕ) → Type 0
+HaveSettled bytes seats before after = (printed : List ℕ) × IsSettled bytes seats printed × Appends before after printed
+
+-- Why the text was not printed, and what was: nothing, or where the writer failed a beginning of it.
+abbrev pub IsUnprinted : List ℕ → SettleError → Option (List ℕ) → Option (List ℕ) → Type 0
+IsUnprinted text NoMemory before after = after ≡ before
+IsUnprinted text Write before after = IsBegun text before after
+IsUnprinted text other before after = ⊥
 
 -- The bytes are those of one LTL function.
 abbrev pub IsAFunction : List ℕ → Type 0
@@ -46,4 +56,4 @@ abbrev pub IsRefused : List ℕ → SettleError → Option (List ℕ) → Option
 IsRefused bytes NoMemory before after = after ≡ before
 IsRefused bytes (Form fault) before after = IsNoFunction bytes × IsBehindTold bytes fault × (after ≡ before)
 IsRefused bytes Undecided before after = IsAFunction bytes × (after ≡ before)
-IsRefused bytes Write before after = (printed : List ℕ) × IsSettled bytes printed × IsBegun printed before after
+IsRefused bytes Write before after = (seats : Seats) × (printed : List ℕ) × IsSettled bytes seats printed × IsBegun printed before after

@@ -27,5 +27,6 @@ pub use exec_error::ExecError;
 pub use executing::exec;
 pub use interpreting::interpret;
 pub use lang_parts::RunError;
+pub use playing::Seats;
 pub use settle_error::SettleError;
 pub use settling::settle;

@@ -21,8 +21,8 @@ use std::thread::Threads;
 /// How many turns a node takes at most.
 const MOST_TURNS: u64 = 10_000;
 
-/// The seats of three nodes.
-type Seats = (Seat<Linearize>, Seat<Linearize>, Seat<Linearize>);
+/// The seats of three nodes of a room, by the nodes' numbers.
+pub type Seats = (Seat<Linearize>, Seat<Linearize>, Seat<Linearize>);
 
 /// The nodes of a new room, which have taken no turn.
 fn begin(alloc: Global, input: &Function) -> Result<Vec<Settler>, NoMemory>

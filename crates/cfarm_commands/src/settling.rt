@@ -2,10 +2,11 @@ ghost use Rattle.std.specs.Prelude.{◌≡◌, ◌≢◌, ◌++◌, OnOk, IfOk, 
 ghost use Rattle.std.specs.String.{string_bytes};
 ghost use Rattle.ltl.specs.Function.{IsFunction};
 ghost use Rattle.ltl.specs.Spelling as ltl_spelling;
-ghost use Rattle.hex.specs.Hex.{encode_lower};
-ghost use Rattle.cfarm_commands.specs.Settled.{HasSettled, IsBehindTold, IsNoFunction, IsRefused, ending};
+ghost use Rattle.cfarm_commands.specs.Settled.{HaveSettled, IsBehindTold, IsNoFunction, IsRefused, IsUnprinted, settled_text};
+ghost use Rattle.std.specs.Io.KnownBytes.{Appends};
 
 use crate::agreeing::agree;
+use crate::playing::Seats;
 use crate::settle_error::SettleError;
 use cfarm_output::print_whole;
 use lang_base::{FormError, Language, NoMemory};
@@ -29,34 +30,47 @@ fn read_function(alloc: Global, bytes: &[u8]) -> Result<Function, FormError>
     Ok(function)
 }
 
-/// Settles one LTL function: three nodes, each on a thread, agree on an order of its blocks, and the Linear code in that
-/// order is written in lower case hex on one line, and then `agreed 3`, and flushed.
-pub fn settle<R: Threads + Wait, W: Write>(
-    rt: &R,
-    alloc: Global,
-    bytes: &[u8],
-    out: &mut W,
-) -> Result<(), SettleError>
-    ensures settled { OnOk result (HasSettled bytes.now (W.contents out.old) (W.contents out.new)) }
-    // What is refused prints nothing; a writer that fails holds a beginning of the output.
-    ensures refused { IfErr result (λ fault. IsRefused bytes.now fault (W.contents out.old) (W.contents out.new)) }
+/// What is printed of the code that is agreed on.
+fn text_of(alloc: Global, code: &[u8]) -> Result<String, NoMemory>
+    ensures { IfOk result (λ text. string_bytes text ≡ settled_text code.now) }
 {
-    let function = read_function(alloc, bytes)?;
-    let Some(code) = agree(rt, alloc, &function)? else {
-        return Err(SettleError::Undecided);
-    };
-    let text = printed(alloc, code.as_slice())?;
+    let mut text = hex::encode(alloc, code)?;
+    text.push_str("\nagreed 3\n")?;
+    Ok(text)
+}
+
+/// Prints the code that is agreed on.
+fn print_code<W: Write>(alloc: Global, code: &[u8], out: &mut W) -> Result<(), SettleError>
+    ensures printed { OnOk result (Appends (W.contents out.old) (W.contents out.new) (settled_text code.now)) }
+    ensures refused { IfErr result (λ fault.
+        IsUnprinted (settled_text code.now) fault (W.contents out.old) (W.contents out.new)) }
+{
+    let text = text_of(alloc, code)?;
     match print_whole(out, text.as_bytes()) {
         Ok(()) => Ok(()),
         Err(_) => Err(SettleError::Write),
     }
 }
 
-/// What is printed of the code that is agreed on.
-fn printed(alloc: Global, code: &[u8]) -> Result<String, NoMemory>
-    ensures { IfOk result (λ text. string_bytes text ≡ encode_lower code.now ++ ending) }
+/// Settles one LTL function: three nodes, each on a thread, agree on an order of its blocks, and the Linear code in that
+/// order is written in lower case hex on one line, and then `agreed 3`, and flushed. The nodes' seats are handed back as they have met.
+pub fn settle<R: Threads + Wait, W: Write>(
+    rt: &R,
+    alloc: Global,
+    bytes: &[u8],
+    out: &mut W,
+) -> Result<Seats, SettleError>
+    // What is printed is what the nodes of these seats have agreed on.
+    ensures settled { IfOk result (λ seats. HaveSettled bytes.now seats (W.contents out.old) (W.contents out.new)) }
+    // What is refused prints nothing; a writer that fails holds a beginning of the output.
+    ensures refused { IfErr result (λ fault. IsRefused bytes.now fault (W.contents out.old) (W.contents out.new)) }
 {
-    let mut text = hex::encode(alloc, code)?;
-    text.push_str("\nagreed 3\n")?;
-    Ok(text)
+    let function = read_function(alloc, bytes)?;
+    let Some((code, seats)) = agree(rt, alloc, &function)? else {
+        return Err(SettleError::Undecided);
+    };
+    match print_code(alloc, code.as_slice(), out) {
+        Ok(()) => Ok(seats),
+        Err(fault) => Err(fault),
+    }
 }

@@ -12,7 +12,8 @@ use Rattle.cfarm_commands.specs.ExecStatuses as exec_status
 use Rattle.cfarm_commands.specs.ExecTold as exec
 use Rattle.cfarm_commands.specs.ExecLines.{exec_line}
 use Rattle.cfarm_commands.specs.SettleLines.{settle_line}
-use Rattle.cfarm_commands.specs.Settled.{HasSettled}
+use Rattle.cfarm_commands.specs.LaidOut.{Seats}
+use Rattle.cfarm_commands.specs.Settled.{HaveSettled}
 use Rattle.cfarm_commands.specs.Settled as settled
 use Rattle.cfarm_commands.specs.SettleStatuses as settle_status
 use Rattle.cfarm_schedules.specs.declared.error.ScheduleError.{ScheduleError}
@@ -71,10 +72,11 @@ Executed bytes limit answer before after =
     ((shown : Shown) × exec.HasRun bytes limit shown before after × (answer ≡ closed shown))
     ⊎ ((fault : ExecError) × exec.IsTold bytes fault × exec.Ran bytes limit fault before after × (answer ≡ exec_fault fault))
 
--- `settle`: what three nodes agree on is printed, or why the bytes are refused is told
+-- `settle`: what the nodes of three seats have agreed on is printed, or why the bytes are refused is told. The seats end with the
+-- program, so here there are some; which they are is said of the command.
 abbrev pub Settled : List ℕ → Answer → Option (List ℕ) → Option (List ℕ) → Type 0
 Settled bytes answer before after =
-    (HasSettled bytes before after × (answer ≡ quiet))
+    ((seats : Seats) × HaveSettled bytes seats before after × (answer ≡ quiet))
     ⊎ ((fault : SettleError) × settled.IsRefused bytes fault before after × (answer ≡ settle_fault fault))
 
 -- `sim`: what the lines of a schedule show is printed, or the first line that is none is told

@@ -1,20 +1,27 @@
 -- What the program does that is asked for, with what its file is read as.
-use Rattle.std.specs.Prelude.{◌≡◌, ℕ, List, ◌++◌, Option, Result, Ok, Err, codes}
+use Rattle.std.specs.Prelude.{◌≡◌, ◌⊎◌, ℕ, List, ◌++◌, Option, Result, Ok, Err, codes}
 use Rattle.durable_model.specs.declared.disk.Disk as disks
 use Rattle.rooms_hall.specs.declared.hall.Naming as naming
 use Rattle.cfarm_files.specs.Placing.{Placed, Keeps}
 use Rattle.cfarm_files.specs.Reading.{IsKnownAs}
 use Rattle.cfarm_files.specs.declared.fault.FileFault.{FileFault}
 use Rattle.cfarm_files.specs.declared.fault.FileFault.TheVariants.{NoMemory, Refused}
+use Rattle.cfarm_options.specs.Sizes.{sizes_line}
+use Rattle.cfarm_options.specs.declared.options.AskedSizes.{AskedSizes}
 use Rattle.cfarm_words.specs.declared.task.Task.{Task}
 use Rattle.cfarm_words.specs.declared.task.Task.TheVariants.{Check, Interpret, Build, Exec, Settle, Simulate}
 use Rattle.cfarm_program.specs.Telling.{Answer, IsTold, no_memory, told}
+use Rattle.cfarm_program.specs.Met.{AreMet, IsUnmet}
 use Rattle.cfarm_program.specs.Outcomes.{Builds, Checked, Executed, Interpreted, Settled, Simulated}
 
 -- the answer where a file is not read
 abbrev pub unread : List ℕ → FileFault → Answer
 unread path NoMemory = no_memory
 unread path Refused = told 2 (codes "file " ++ path)
+
+-- the answer where quorums of these sizes need not meet
+abbrev pub unmet : AskedSizes → Answer
+unmet sizes = told 2 (sizes_line sizes)
 
 -- What is said of a run: over these disks and rooms, with the disks that may be given for each path, and what was put before and now.
 module _ {D : Type 0} (disk : disks.Ghosts D) {H : Type 0} (h : naming.Ghosts H) (may_give : List ℕ → D → Type 0)
@@ -40,6 +47,17 @@ module _ {D : Type 0} (disk : disks.Ghosts D) {H : Type 0} (h : naming.Ghosts H)
       Keeps placed now_placed × (after ≡ before) × IsTold (unread path fault) status error_before error_after
 
   -- the file is read as it is known to be, and the task done
+  abbrev pub Reads : Option (Result (List ℕ) FileFault) → Task → List ℕ → ℕ → (before after error_before error_after : Option (List ℕ)) → Type 0
+  Reads known task path status before after error_before error_after =
+      (read : Result (List ℕ) FileFault) × IsKnownAs known read × DoesRead task path read status before after error_before error_after
+
+  -- a build whose quorums need not meet: their sizes are told, no file is read or put, and nothing printed
+  abbrev pub Declines : Task → ℕ → (before after error_before error_after : Option (List ℕ)) → Type 0
+  Declines task status before after error_before error_after =
+      (sizes : AskedSizes) × IsUnmet task sizes × Keeps placed now_placed × (after ≡ before) × IsTold (unmet sizes) status error_before error_after
+
+  -- that comes first, and then the file
   abbrev pub Does : Option (Result (List ℕ) FileFault) → Task → List ℕ → ℕ → (before after error_before error_after : Option (List ℕ)) → Type 0
   Does known task path status before after error_before error_after =
-      (read : Result (List ℕ) FileFault) × IsKnownAs known read × DoesRead task path read status before after error_before error_after
+      Declines task status before after error_before error_after
+      ⊎ (AreMet task × Reads known task path status before after error_before error_after)

@@ -1,12 +1,15 @@
 //! The commands, with what each tells.
 
 ghost use Rattle.std.specs.Prelude.{◌≤◌};
+ghost use Rattle.cfarm_building.specs.Compiled.{quorums_of};
+ghost use Rattle.cfarm_building.specs.Quorum.{AreQuorums};
+ghost use Rattle.cfarm_program.specs.Met.{AreMet};
 ghost use Rattle.cfarm_program.specs.Telling.{Answer, IsTold};
 ghost use Rattle.cfarm_program.specs.Outcomes.{Builds, Checked, Executed, Interpreted, Settled, Simulated};
 ghost use Rattle.cfarm_program.specs.Performed.{Performs};
 
 use crate::telling::tell;
-use cfarm_building::build_text;
+use cfarm_building::{build_text, quorums_of};
 use cfarm_commands::{Closing, check_text, exec, interpret, settle, status_of};
 use cfarm_files::Files;
 use cfarm_meter::Meter;
@@ -80,7 +83,7 @@ fn lay_out<R: Threads + Wait, W: Write, E: Write>(
     ensures table { result ≤ 7 }
 {
     match settle(rt, alloc, bytes, out) {
-        Ok(()) => 0,
+        Ok(_seats) => 0,
         Err(fault) => tell(err, fault, fault.status()),
     }
 }
@@ -109,12 +112,16 @@ fn build<H: Naming + Send, R: Threads + Wait + Sync, F: Files, M: Meter, W: Writ
     out: &mut W,
     err: &mut E,
 ) -> u8
+    requires met { AreQuorums (quorums_of options) }
     ensures does { (answer : Answer) × Builds F.Disk.Disk H.Naming (F.may_give files.old) (F.placed files.old)
         (F.placed files.new) options.entry text.now answer (W.contents out.old) (W.contents out.new)
         × IsTold answer result (E.contents err.old) (E.contents err.new) }
     ensures table { result ≤ 7 }
 {
-    match build_text(rt, alloc, hall, text, options, files, meter, out) {
+    let Some(quorums) = quorums_of(options) else {
+        unreachable!();
+    };
+    match build_text(rt, alloc, hall, text, options, quorums, files, meter, out) {
         Ok(()) => 0,
         Err(fault) => {
             let status = fault.status();
@@ -143,6 +150,7 @@ pub(crate) fn perform<
     out: &mut W,
     err: &mut E,
 ) -> u8
+    requires met { AreMet task }
     ensures does { Performs F.Disk.Disk H.Naming (F.may_give files.old) (F.placed files.old) (F.placed files.new)
         task.entry bytes.now result (W.contents out.old) (W.contents out.new) (E.contents err.old) (E.contents err.new) }
     ensures table { result ≤ 7 }

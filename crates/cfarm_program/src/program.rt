@@ -64,11 +64,11 @@ fn tell_refused<W: Write, E: Write>(fault: &clap::Error, out: &mut W, err: &mut 
 fn node_counts<'a>() -> &'a [&'a str]
     ensures { AreCounts result }
 {
-    &["3", "5", "7"]
+    &["2", "3", "4", "5", "6", "7"]
 }
 
-/// Does what the words of a command line ask for, the first of which is the program's name: reads the file, writes the
-/// output, tells a line on standard error where there is one, and gives the exit status. `rt` starts threads for `settle` and `build`,
+/// Does what the words of a command line ask for, the first of which is the program's name: says where the quorums of a build need not
+/// meet, and else reads the file, writes the output, tells a line on standard error where there is one, and gives the exit status. `rt` starts threads for `settle` and `build`,
 /// `hall` gives the rooms of a build their numbers, and `meter` shows how far it is.
 pub fn run<H: Naming + Send, R: Threads + Wait + Sync, F: Files, M: Meter, W: Write, E: Write>(
     rt: &R,

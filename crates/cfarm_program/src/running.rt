@@ -1,12 +1,15 @@
 //! A task on the file of a path.
 
-ghost use Rattle.std.specs.Prelude.{◌≤◌};
-ghost use Rattle.cfarm_program.specs.Performed.{Does};
+ghost use Rattle.std.specs.Prelude.{◌≤◌, IfSome, IsNone};
+ghost use Rattle.cfarm_program.specs.Met.{AreMet, IsUnmet};
+ghost use Rattle.cfarm_program.specs.Performed.{Does, Reads};
 
 use crate::performing::perform;
 use crate::telling::{tell, tell_no_memory};
+use cfarm_building::quorums_of;
 use cfarm_files::{FileFault, Files};
 use cfarm_meter::Meter;
+use cfarm_options::AskedSizes;
 use cfarm_words::Task;
 use rooms_hall::{Hall, Naming};
 use std::alloc::Global;
@@ -17,6 +20,9 @@ use std::thread::Threads;
 
 /// The status for a file that cannot be read.
 const UNREADABLE: u8 = 2;
+
+/// The status for quorums that need not meet.
+const UNMET: u8 = 2;
 
 /// The line for a file that cannot be read.
 #[derive(Drop)]
@@ -33,8 +39,55 @@ impl fmt::Display for Unread<'_> {
     }
 }
 
+/// The sizes of the quorums that a task asks for, where these need not meet.
+fn unmet(task: Task<'_>) -> Option<AskedSizes>
+    ensures some { IfSome result (IsUnmet task.entry) }
+    ensures none { IsNone result → AreMet task.entry }
+{
+    match task {
+        Task::Build(options) => match quorums_of(options) {
+            Some(_quorums) => None,
+            None => Some(options.sizes()),
+        },
+        _ => None,
+    }
+}
+
 /// Reads the file of this path and does the task on its bytes: writes the output, tells a line on standard error where there
 /// is one, and gives the exit status.
+fn read_and_perform<
+    H: Naming + Send,
+    R: Threads + Wait + Sync,
+    F: Files,
+    M: Meter,
+    W: Write,
+    E: Write,
+>(
+    rt: &R,
+    alloc: Global,
+    hall: &Hall<H>,
+    task: Task<'_>,
+    path: &str,
+    files: &mut F,
+    meter: &mut M,
+    out: &mut W,
+    err: &mut E,
+) -> u8
+    requires met { AreMet task }
+    ensures does { Reads F.Disk.Disk H.Naming (F.may_give files.old) (F.placed files.old) (F.placed files.new)
+        (F.known files.old path.now) task.entry path.now result (W.contents out.old) (W.contents out.new)
+        (E.contents err.old) (E.contents err.new) }
+    ensures table { result ≤ 7 }
+{
+    match files.read(path) {
+        Ok(bytes) => perform(rt, alloc, hall, task, &bytes, files, meter, out, err),
+        Err(FileFault::NoMemory) => tell_no_memory(err),
+        Err(FileFault::Refused) => tell(err, Unread(path), UNREADABLE),
+    }
+}
+
+/// Does the task on the file of this path: writes the output, tells a line on standard error where there is one, and gives the exit
+/// status. Where the quorums that it asks for need not meet, that is told, and no file is read.
 pub(crate) fn run_task<
     H: Naming + Send,
     R: Threads + Wait + Sync,
@@ -58,9 +111,8 @@ pub(crate) fn run_task<
         (E.contents err.old) (E.contents err.new) }
     ensures table { result ≤ 7 }
 {
-    match files.read(path) {
-        Ok(bytes) => perform(rt, alloc, hall, task, &bytes, files, meter, out, err),
-        Err(FileFault::NoMemory) => tell_no_memory(err),
-        Err(FileFault::Refused) => tell(err, Unread(path), UNREADABLE),
+    match unmet(task) {
+        Some(sizes) => tell(err, sizes, UNMET),
+        None => read_and_perform(rt, alloc, hall, task, path, files, meter, out, err),
     }
 }

@@ -4,6 +4,7 @@ use Rattle.std.specs.Io.KnownBytes.{Appends, Keeps}
 use Rattle.std.proofs.KnownBytes.{Appends-kept, Appends-nil, Appends-trans}
 use Rattle.lang_base.specs.Behaviour.{IsBeginningOf}
 use Rattle.lang_base.proofs.Beginnings.{IsBeginningOf-refl, IsBeginningOf-trans}
+use Rattle.paxos_core_world.specs.Quorum.{Sizes}
 use Rattle.paxos_core.specs.Schedule.{Room, NodeCall, played}
 use Rattle.cfarm_output.specs.Begun.{IsBegun}
 use Rattle.cfarm_output.proofs.Beginnings.{begun_by}
@@ -29,61 +30,64 @@ begun_behind front text before mid after first begun =
     (front ++ begun.0, (rest, append_assoc front begun.0 rest ∙ ap (λ l. front ++ l) begun.1.1), Appends-trans before mid after front begun.0 first begun.2)
 
 -- the lines of the calls are a beginning of what is shown
-is_shown : (count : ℕ) (calls : List NodeCall) (rest : List ℕ) → IsBeginningOf (printed count calls) (shown_of count calls rest)
-is_shown count calls [] = (closing count (played (start count) calls), refl)
-is_shown count calls (b ∷ rest) = IsBeginningOf-refl (printed count calls)
+is_shown : (q : Sizes) (calls : List NodeCall) (rest : List ℕ) → IsBeginningOf (printed q calls) (shown_of q calls rest)
+is_shown q calls [] = (closing q (played (start q) calls), refl)
+is_shown q calls (b ∷ rest) = IsBeginningOf-refl (printed q calls)
 
 longer_begun : (xs ys : List ℕ) (before after : Option (List ℕ)) → IsBeginningOf xs ys → IsBegun xs before after → IsBegun ys before after
 longer_begun xs ys before after more begun = (begun.0, IsBeginningOf-trans begun.0 xs ys begun.1 more, begun.2)
 
 -- the lines so far are all that is printed
-pub cut_going : (text : List ℕ) (count number : ℕ) (rest : List ℕ) (room : Room) (before now after : Option (List ℕ)) → IsGoing text count number rest room before now
+pub cut_going : (text : List ℕ) (q : Sizes) (number : ℕ) (rest : List ℕ) (room : Room) (before now after : Option (List ℕ)) → IsGoing text q number rest room before now
     → Keeps now after → IsCutOff text before after
-cut_going text count number rest room before now after so kept = record {
-  count = count;
+cut_going text q number rest room before now after so kept = record {
+  quorums = q;
+  head = so.head;
   commands = so.commands;
   calls = so.calls;
   rest = rest;
-  size = so.size;
+  says = so.says;
   lines = so.left;
   done = so.done;
-  output = longer_begun (printed count so.calls) (shown_of count so.calls rest) before after (is_shown count so.calls rest)
-      (begun_by (printed count so.calls) before after (Appends-kept before now after (printed count so.calls) so.output kept));
+  output = longer_begun (printed q so.calls) (shown_of q so.calls rest) before after (is_shown q so.calls rest)
+      (begun_by (printed q so.calls) before after (Appends-kept before now after (printed q so.calls) so.output kept));
 }
 
 -- a command was done, and of its line a beginning is printed
-pub cut_within : (text : List ℕ) (count number : ℕ) (rest line behind : List ℕ) (room later : Room) (before now after : Option (List ℕ)) (c : Command) (told : Told)
-    → IsGoing text count number rest room before now → rest ≢ [] → IsLine rest line behind → line ≡ line_of c
-    → HasObeyed count room c told later → IsBegun (told_text told) now after → IsCutOff text before after
-cut_within text count number rest line behind room later before now after c told so more split is did begun =
+pub cut_within : (text : List ℕ) (q : Sizes) (number : ℕ) (rest line behind : List ℕ) (room later : Room) (before now after : Option (List ℕ)) (c : Command) (told : Told)
+    → IsGoing text q number rest room before now → rest ≢ [] → IsLine rest line behind → line ≡ line_of c
+    → HasObeyed q room c told later → IsBegun (told_text told) now after → IsCutOff text before after
+cut_within text q number rest line behind room later before now after c told so more split is did begun =
     let k = did.0 in
-    let is_told : told ≡ told_by (played (start count) so.calls) k = did.3 ∙ ap (λ (r : Room). told_by r k) so.stands in
-    let lines = begun_behind (printed count so.calls) (told_text (told_by (played (start count) so.calls) k)) before now after so.output
+    let is_told : told ≡ told_by (played (start q) so.calls) k = did.3 ∙ ap (λ (r : Room). told_by r k) so.stands in
+    let lines = begun_behind (printed q so.calls) (told_text (told_by (played (start q) so.calls) k)) before now after so.output
     (subst (λ t. IsBegun (told_text t) now after) is_told begun) in
     record {
-      count = count;
+      quorums = q;
+      head = so.head;
       commands = c ∷ so.commands;
       calls = k ∷ so.calls;
       rest = behind;
-      size = so.size;
-      lines = next_left text count so.commands c rest line behind more is so.left split;
-      done = (so.done, subst (λ (r : Room). IsAsked count r c k) so.stands did.1);
-      output = longer_begun (printed count (k ∷ so.calls)) (shown_of count (k ∷ so.calls) behind) before after (is_shown count (k ∷ so.calls) behind) lines;
+      says = so.says;
+      lines = next_left text so.head so.commands c rest line behind more is so.left split;
+      done = (so.done, subst (λ (r : Room). IsAsked q r c k) so.stands did.1);
+      output = longer_begun (printed q (k ∷ so.calls)) (shown_of q (k ∷ so.calls) behind) before after (is_shown q (k ∷ so.calls) behind) lines;
     }
 
 -- the last line was begun
-pub cut_last : (text : List ℕ) (count number : ℕ) (rest : List ℕ) (room : Room) (before now after : Option (List ℕ)) (last : List ℕ) → IsGoing text count number rest room before now
-    → rest ≡ [] → last ≡ closing count room → IsBegun last now after → IsCutOff text before after
-cut_last text count number rest room before now after last so none is begun = record {
-  count = count;
+pub cut_last : (text : List ℕ) (q : Sizes) (number : ℕ) (rest : List ℕ) (room : Room) (before now after : Option (List ℕ)) (last : List ℕ) → IsGoing text q number rest room before now
+    → rest ≡ [] → last ≡ closing q room → IsBegun last now after → IsCutOff text before after
+cut_last text q number rest room before now after last so none is begun = record {
+  quorums = q;
+  head = so.head;
   commands = so.commands;
   calls = so.calls;
   rest = [];
-  size = so.size;
-  lines = subst (IsLeft text count so.commands) none so.left;
+  says = so.says;
+  lines = subst (IsLeft text so.head so.commands) none so.left;
   done = so.done;
-  output = begun_behind (printed count so.calls) (closing count (played (start count) so.calls)) before now after so.output
-      (subst (λ l. IsBegun l now after) (is ∙ ap (closing count) so.stands) begun);
+  output = begun_behind (printed q so.calls) (closing q (played (start q) so.calls)) before now after so.output
+      (subst (λ l. IsBegun l now after) (is ∙ ap (closing q) so.stands) begun);
 }
 
 -- ---- what is answered
@@ -114,15 +118,16 @@ stopped_at e text line before now after (inl p) stops off kept = subst (λ (x : 
     still : StopsAt text line before now → StopsAt text line before after
     still (inl first) = inl (first.0, first.1, Appends-kept before now after [] first.2 kept)
     still (inr behind) = inr (record {
-      count = behind.count;
+      quorums = behind.quorums;
+      head = behind.head;
       commands = behind.commands;
       calls = behind.calls;
       rest = behind.rest;
-      size = behind.size;
+      says = behind.says;
       lines = behind.lines;
       more = behind.more;
       number = behind.number;
       done = behind.done;
       none = behind.none;
-      output = Appends-kept before now after (printed behind.count behind.calls) behind.output kept;
+      output = Appends-kept before now after (printed behind.quorums behind.calls) behind.output kept;
     })

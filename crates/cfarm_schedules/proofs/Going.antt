@@ -1,18 +1,18 @@
 -- A schedule that is under way: what was read, done and printed so far.
-use Rattle.std.proofs.Common.{◌≡◌, ◌≢◌, ℕ, zero, suc, ◌+◌, ◌^◌, ◌<◌, ◌≤◌, List, [], ◌∷◌, ◌++◌, length, Option, Some, None, refl, sym, ap, ◌∙◌, subst, arith, ◌⊎◌, inl, inr, ◌==◌, true, false, reverse, append_assoc, append-nil}
+use Rattle.std.proofs.Common.{◌≡◌, ◌≢◌, ℕ, zero, suc, ◌+◌, ◌^◌, ◌<◌, ◌≤◌, List, [], ◌∷◌, ◌++◌, length, Option, Some, None, refl, sym, ap, ◌∙◌, subst, arith, inl, inr, ◌==◌, true, false, reverse, append_assoc, append-nil}
 use Rattle.std.specs.Prelude.{slice_get}
 use Rattle.std.specs.Option.{option_map}
 use Rattle.std.specs.Io.KnownBytes.{Appends}
 use Rattle.std.proofs.lemmas.Bool.Decides.{eqb_tells}
 use Rattle.std.proofs.KnownBytes.{Appends-nil, Appends-trans}
 use Rattle.std.proofs.lemmas.List.{reverse-append, length-reverse}
+use Rattle.paxos_core_world.specs.Quorum.{Sizes}
 use Rattle.paxos_core_world.specs.Settled.{Settled}
 use Rattle.paxos_core_world.specs.World.{Has, no_nodes}
 use Rattle.paxos_core_world.specs.declared.msg.Msg.{Msg}
-use Rattle.paxos_core_law.specs.NodeState.{IsRoomSize}
 use Rattle.paxos_core.specs.Call.{Call, On}
 use Rattle.paxos_core.specs.Schedule.{Room, NodeCall, played, room_after, IsSchedule, SchedulesAreRuns, WasSent}
-use Rattle.cfarm_schedules_lines.specs.Commands.{head_of, line_of, IsInWords}
+use Rattle.cfarm_schedules_lines.specs.Commands.{line_of, IsHead, IsInWords}
 use Rattle.cfarm_schedules.specs.Plays.{asked, IsAsked, AreDone, printed, closing, HasObeyed, IsLine, IsNoCommand, IsShown, StopsAt}
 use Rattle.cfarm_schedules.specs.Rooms.{start, told_by}
 use Rattle.cfarm_schedules_lines.specs.Texts.{text_of, IsLeft, IsTextOf, first_line}
@@ -21,16 +21,17 @@ use Rattle.cfarm_schedules_lines.specs.declared.command.Command.{Command}
 use Rattle.cfarm_schedules_lines.specs.declared.command.Command.TheVariants as command
 use Rattle.cfarm_schedules.specs.declared.told.Told.{Told}
 
-pub record IsGoing (text : List ℕ) (count number : ℕ) (rest : List ℕ) (room : Room) (before now : Option (List ℕ)) : Type 0 where
+pub record IsGoing (text : List ℕ) (q : Sizes) (number : ℕ) (rest : List ℕ) (room : Room) (before now : Option (List ℕ)) : Type 0 where
+  pub head : List ℕ
   pub commands : List Command
   pub calls : List NodeCall
-  pub left : IsLeft text count commands rest
+  pub left : IsLeft text head commands rest
   pub lines : number ≡ length commands + 1
-  pub size : IsRoomSize count
-  pub done : AreDone count commands calls
-  pub schedule : IsSchedule count (start count) calls
-  pub stands : room ≡ played (start count) calls
-  pub output : Appends before now (printed count calls)
+  pub says : IsHead head q
+  pub done : AreDone q commands calls
+  pub schedule : IsSchedule q.nodes (start q) calls
+  pub stands : room ≡ played (start q) calls
+  pub output : Appends before now (printed q calls)
   pub fits : number + length rest ≤ length text + 1
 
 -- ---- messages
@@ -85,14 +86,15 @@ some_left : (xs : List ℕ) → xs ≢ [] → 1 ≤ length xs
 some_left [] h = absurd (h refl)
 some_left (x ∷ xs) h = omega arith
 
-pub first_going : (text : List ℕ) (count : ℕ) (line rest : List ℕ) (room : Room) (before : Option (List ℕ)) → IsRoomSize count → line ≡ head_of count
-    → IsLine text line rest → room ≡ start count → IsGoing text count 1 rest room before before
-first_going text count line rest room before size is split stands = record {
+pub first_going : (text : List ℕ) (q : Sizes) (line rest : List ℕ) (room : Room) (before : Option (List ℕ)) → IsHead line q
+    → IsLine text line rest → room ≡ start q → IsGoing text q 1 rest room before before
+first_going text q line rest room before says split stands = record {
+  head = line;
   commands = [];
   calls = [];
   left = left split;
   lines = refl;
-  size = size;
+  says = says;
   done = tt;
   schedule = tt;
   stands = stands;
@@ -100,45 +102,46 @@ first_going text count line rest room before size is split stands = record {
   fits = fits split;
 }
   where
-    left : IsLine text line rest → IsLeft text count [] rest
-    left (inl e) = inl (e ∙ ap (λ l. l ++ 10 ∷ rest) is ∙ sym (append_assoc (head_of count) (10 ∷ []) rest))
-    left (inr p) = inr (p.1, ap (λ l. l ++ 10 ∷ []) (p.0 ∙ is))
+    left : IsLine text line rest → IsLeft text line [] rest
+    left (inl e) = inl (e ∙ sym (append_assoc line (10 ∷ []) rest))
+    left (inr p) = inr (p.1, ap (λ l. l ++ 10 ∷ []) p.0)
 
     fits : IsLine text line rest → 1 + length rest ≤ length text + 1
     fits (inl e) = let h = longer line rest in let same = ap length e in omega arith
     fits (inr p) = let none = ap length p.1 in omega arith
 
-pub next_left : (text : List ℕ) (count : ℕ) (commands : List Command) (c : Command) (rest line behind : List ℕ) → rest ≢ [] → line ≡ line_of c → IsLeft text count commands rest → IsLine rest line behind → IsLeft text count (c ∷ commands) behind
-next_left text count commands c rest line behind more is (inr none) split = absurd (more none.0)
-next_left text count commands c rest line behind more is (inl so) (inl e) =
-    inl (so ∙ ap (λ l. text_of count commands ++ l) (e ∙ ap (λ l. l ++ 10 ∷ behind) is ∙ sym (append_assoc (line_of c) (10 ∷ []) behind))
-    ∙ sym (append_assoc (text_of count commands) (line_of c ++ 10 ∷ []) behind))
-next_left text count commands c rest line behind more is (inl so) (inr p) =
-    inr (p.1, ap (λ l. l ++ 10 ∷ []) (so ∙ ap (λ l. text_of count commands ++ l) (p.0 ∙ is)) ∙ append_assoc (text_of count commands) (line_of c) (10 ∷ []))
+pub next_left : (text head : List ℕ) (commands : List Command) (c : Command) (rest line behind : List ℕ) → rest ≢ [] → line ≡ line_of c → IsLeft text head commands rest → IsLine rest line behind → IsLeft text head (c ∷ commands) behind
+next_left text head commands c rest line behind more is (inr none) split = absurd (more none.0)
+next_left text head commands c rest line behind more is (inl so) (inl e) =
+    inl (so ∙ ap (λ l. text_of head commands ++ l) (e ∙ ap (λ l. l ++ 10 ∷ behind) is ∙ sym (append_assoc (line_of c) (10 ∷ []) behind))
+    ∙ sym (append_assoc (text_of head commands) (line_of c ++ 10 ∷ []) behind))
+next_left text head commands c rest line behind more is (inl so) (inr p) =
+    inr (p.1, ap (λ l. l ++ 10 ∷ []) (so ∙ ap (λ l. text_of head commands ++ l) (p.0 ∙ is)) ∙ append_assoc (text_of head commands) (line_of c) (10 ∷ []))
 
 next_fits : (number : ℕ) (rest line behind text : List ℕ) → rest ≢ [] → IsLine rest line behind → number + length rest ≤ length text + 1 → (number + 1) + length behind ≤ length text + 1
 next_fits number rest line behind text more (inl e) h = let l = longer line behind in let same = ap length e in omega arith
 next_fits number rest line behind text more (inr p) h = let some = some_left rest more in let none = ap length p.1 in omega arith
 
-pub goes_on : (text : List ℕ) (count number : ℕ) (rest line behind : List ℕ) (room later : Room) (before now after : Option (List ℕ)) (c : Command) (told : Told)
-    → IsGoing text count number rest room before now → rest ≢ [] → IsLine rest line behind → line ≡ line_of c
-    → HasObeyed count room c told later
+pub goes_on : (text : List ℕ) (q : Sizes) (number : ℕ) (rest line behind : List ℕ) (room later : Room) (before now after : Option (List ℕ)) (c : Command) (told : Told)
+    → IsGoing text q number rest room before now → rest ≢ [] → IsLine rest line behind → line ≡ line_of c
+    → HasObeyed q room c told later
     → Appends now after (told_text told)
-    → IsGoing text count (number + 1) behind later before after
-goes_on text count number rest line behind room later before now after c told so more split is did more_output =
+    → IsGoing text q (number + 1) behind later before after
+goes_on text q number rest line behind room later before now after c told so more split is did more_output =
     let k = did.0 in
-    let stood : played (start count) so.calls ≡ room = sym so.stands in
-    let is_asked : IsAsked count (played (start count) so.calls) c k = subst (λ (r : Room). IsAsked count r c k) so.stands did.1 in
+    let stood : played (start q) so.calls ≡ room = sym so.stands in
+    let is_asked : IsAsked q (played (start q) so.calls) c k = subst (λ (r : Room). IsAsked q r c k) so.stands did.1 in
     record {
+      head = so.head;
       commands = c ∷ so.commands;
       calls = k ∷ so.calls;
-      left = next_left text count so.commands c rest line behind more is so.left split;
+      left = next_left text so.head so.commands c rest line behind more is so.left split;
       lines = ap (λ n. n + 1) so.lines ∙ omega arith;
-      size = so.size;
+      says = so.says;
       done = (so.done, is_asked);
-      schedule = (so.schedule, is_asked.0, asked_was_sent (played (start count) so.calls).sent c k is_asked.1);
+      schedule = (so.schedule, is_asked.0, asked_was_sent (played (start q) so.calls).sent c k is_asked.1);
       stands = did.2 ∙ ap (λ (r : Room). room_after r k) so.stands;
-      output = Appends-trans before now after (printed count so.calls) (told_text (told_by (played (start count) so.calls) k)) so.output
+      output = Appends-trans before now after (printed q so.calls) (told_text (told_by (played (start q) so.calls) k)) so.output
           (subst (λ t. Appends now after (told_text t)) (did.3 ∙ ap (λ (r : Room). told_by r k) so.stands) more_output);
       fits = next_fits number rest line behind text more split so.fits;
     }
@@ -158,13 +161,13 @@ delivered : (i : ℕ) (o : Option Msg) (k : NodeCall) → option_map (λ m. reco
 delivered i None k e = absurd (cc)
 delivered i (Some m) k e = (ap (node_in i) e, (m, refl))
 
-in_words : (count : ℕ) (room : Room) (c : Command) (k : NodeCall) → count < 256 → length room.sent < 2 ^ 64 → IsAsked count room c k → IsInWords c
-in_words count room (command.Offer i) k few short asked = let e = ap (node_in i) asked.1 in let h = asked.0 in omega arith
-in_words count room (command.Start i) k few short asked = let e = ap (node_in i) asked.1 in let h = asked.0 in omega arith
-in_words count room (command.Propose i) k few short asked = let e = ap (node_in i) asked.1 in let h = asked.0 in omega arith
-in_words count room (command.Restart i) k few short asked = let e = ap (node_in i) asked.1 in let h = asked.0 in omega arith
-in_words count room (command.Deliver i zero) k few short asked = absurd (let e = asked.1 in cc)
-in_words count room (command.Deliver i (suc n)) k few short asked =
+in_words : (q : Sizes) (room : Room) (c : Command) (k : NodeCall) → q.nodes < 256 → length room.sent < 2 ^ 64 → IsAsked q room c k → IsInWords c
+in_words q room (command.Offer i) k few short asked = let e = ap (node_in i) asked.1 in let h = asked.0 in omega arith
+in_words q room (command.Start i) k few short asked = let e = ap (node_in i) asked.1 in let h = asked.0 in omega arith
+in_words q room (command.Propose i) k few short asked = let e = ap (node_in i) asked.1 in let h = asked.0 in omega arith
+in_words q room (command.Restart i) k few short asked = let e = ap (node_in i) asked.1 in let h = asked.0 in omega arith
+in_words q room (command.Deliver i zero) k few short asked = absurd (let e = asked.1 in cc)
+in_words q room (command.Deliver i (suc n)) k few short asked =
     let d = delivered i (slice_get (reverse room.sent) n) k asked.1 in
     let h = asked.0 in
     let same = d.0 in
@@ -172,11 +175,11 @@ in_words count room (command.Deliver i (suc n)) k few short asked =
     let all = length-reverse room.sent in
     (omega arith, omega arith)
 
-pub no_command : (count : ℕ) (room : Room) (line : List ℕ) (found : Option Command) → count < 256 → length room.sent < 2 ^ 64
+pub no_command : (q : Sizes) (room : Room) (line : List ℕ) (found : Option Command) → q.nodes < 256 → length room.sent < 2 ^ 64
     → ((c : Command) → IsInWords c → line ≡ line_of c → found ≡ Some c)
-    → ((c : Command) (k : NodeCall) → found ≡ Some c → IsAsked count room c k → ⊥)
-    → IsNoCommand count room line
-no_command count room line found few short only none = λ c k asked e. none c k (only c (in_words count room c k few short asked) e) asked
+    → ((c : Command) (k : NodeCall) → found ≡ Some c → IsAsked q room c k → ⊥)
+    → IsNoCommand q room line
+no_command q room line found few short only none = λ c k asked e. none c k (only c (in_words q room c k few short asked) e) asked
 
 -- ---- the end
 
@@ -193,40 +196,42 @@ shorter rest line behind more split =
     less (inl e) = let h = longer line behind in let same = ap length e in omega arith
     less (inr p) = let h = some_left rest more in let none = ap length p.1 in omega arith
 
-pub stops : (text : List ℕ) (count number : ℕ) (rest line : List ℕ) (room : Room) (before now : Option (List ℕ)) → IsGoing text count number rest room before now
-    → rest ≢ [] → line ≡ first_line rest → IsNoCommand count room line → StopsAt text (number + 1) before now
-stops text count number rest line room before now so more is none = elim so.left as (λ _. StopsAt text (number + 1) before now) [
+pub stops : (text : List ℕ) (q : Sizes) (number : ℕ) (rest line : List ℕ) (room : Room) (before now : Option (List ℕ)) → IsGoing text q number rest room before now
+    → rest ≢ [] → line ≡ first_line rest → IsNoCommand q room line → StopsAt text (number + 1) before now
+stops text q number rest line room before now so more is none = elim so.left as (λ _. StopsAt text (number + 1) before now) [
   | inr empty ↦ absurd (more empty.0)
   | inl left ↦ inr (record {
-    count = count;
+    quorums = q;
+    head = so.head;
     commands = so.commands;
     calls = so.calls;
     rest = rest;
-    size = so.size;
+    says = so.says;
     lines = left;
     more = more;
     number = ap (λ n. n + 1) so.lines ∙ omega arith;
     done = so.done;
-    none = subst (λ l. IsNoCommand count (played (start count) so.calls) l) is (subst (λ (r : Room). IsNoCommand count r line) so.stands none);
+    none = subst (λ l. IsNoCommand q (played (start q) so.calls) l) is (subst (λ (r : Room). IsNoCommand q r line) so.stands none);
     output = so.output;
   })
 ]
 
-pub ends : (text : List ℕ) (count number : ℕ) (rest : List ℕ) (room : Room) (before now after : Option (List ℕ)) (last : List ℕ) → IsGoing text count number rest room before now
-    → rest ≡ [] → SchedulesAreRuns → Settled count no_nodes → last ≡ closing count room → Appends now after last → IsShown text before after
-ends text count number rest room before now after last so none runs settled is more = record {
-  count = count;
+pub ends : (text : List ℕ) (q : Sizes) (number : ℕ) (rest : List ℕ) (room : Room) (before now after : Option (List ℕ)) (last : List ℕ) → IsGoing text q number rest room before now
+    → rest ≡ [] → SchedulesAreRuns → Settled q no_nodes → last ≡ closing q room → Appends now after last → IsShown text before after
+ends text q number rest room before now after last so none runs settled is more = record {
+  quorums = q;
+  head = so.head;
   commands = so.commands;
   calls = so.calls;
-  size = so.size;
-  lines = elim so.left as (λ _. IsTextOf text count so.commands) [
-    | inl left ↦ inl (left ∙ ap (λ l. text_of count so.commands ++ l) none ∙ append-nil (text_of count so.commands))
+  says = so.says;
+  lines = elim so.left as (λ _. IsTextOf text so.head so.commands) [
+    | inl left ↦ inl (left ∙ ap (λ l. text_of so.head so.commands ++ l) none ∙ append-nil (text_of so.head so.commands))
     | inr whole ↦ inr whole.1
   ];
   done = so.done;
-  run = runs count no_nodes so.calls settled so.schedule;
-  output = Appends-trans before now after (printed count so.calls) (closing count (played (start count) so.calls)) so.output
-      (subst (λ l. Appends now after l) (is ∙ ap (closing count) so.stands) more);
+  run = runs q no_nodes so.calls so.says.0 settled so.schedule;
+  output = Appends-trans before now after (printed q so.calls) (closing q (played (start q) so.calls)) so.output
+      (subst (λ l. Appends now after l) (is ∙ ap (closing q) so.stands) more);
 }
 
 pub empty : (xs : List ℕ) → (length xs == 0) ≡ true → xs ≡ []

@@ -30,12 +30,12 @@ node_moves r i c j inside =
     let s = after_call (node_at r i) c in
     elim (eqb_tells j i) as (λ _. node_at (after_call_of r i c) j ≡ put_node (node_at r) i s j) [
       | inl same ↦ (
-          ap (λ x. slice_index_or (slice_set r.nodes i s) x (new_node x r.count)) same.1
-          ∙ read_set_same r.nodes i s (new_node i r.count) inside
+          ap (λ x. slice_index_or (slice_set r.nodes i s) x (new_node x r.quorums)) same.1
+          ∙ read_set_same r.nodes i s (new_node i r.quorums) inside
           ∙ ap (λ b. cond b s (node_at r j)) (sym same.0)
           )
       | inr other ↦ (
-          read_set_other r.nodes i j s (new_node j r.count) other.1
+          read_set_other r.nodes i j s (new_node j r.quorums) other.1
           ∙ ap (λ b. cond b s (node_at r j)) (sym other.0)
           )
     ]
@@ -51,11 +51,11 @@ room_moves r i c inside = λ k. record {
 }
 
 -- what a call has done, where a command asked for it
-pub done : (r t : Listed) (command : Command) (i : ℕ) (call : Call) (told : Told) → i < r.count → length r.nodes ≡ r.count
+pub done : (r t : Listed) (command : Command) (i : ℕ) (call : Call) (told : Told) → i < r.quorums.nodes → length r.nodes ≡ r.quorums.nodes
     → asked (reverse r.sent) command ≡ Some (record { node = i; call = call })
     → t ≡ after_call_of r i call
     → told ≡ told_of (length r.sent) i (node_at r i) call (answer_to (node_at r i) call)
-    → (k : NodeCall) × IsAsked r.count (room_of r) command k × (room_of t ≡ room_after (room_of r) k) × (told ≡ told_by (room_of r) k)
+    → (k : NodeCall) × IsAsked r.quorums (room_of r) command k × (room_of t ≡ room_after (room_of r) k) × (told ≡ told_by (room_of r) k)
 done r t command i call told below all is moved same =
     let inside : i < length r.nodes = omega (arith, all) in (
       record { node = i; call = call },

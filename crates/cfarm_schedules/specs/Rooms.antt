@@ -1,6 +1,7 @@
 -- A room as the program holds it: lists of its nodes and of the messages that they sent; and as the protocol has it.
 use Rattle.std.specs.Prelude.{ℕ, ◌+◌, if◌then◌else◌, List, ◌++◌, Option, Some, None, length, reverse, slice_set, slice_index_or}
 use Rattle.std.specs.Option.{option_to_list}
+use Rattle.paxos_core_world.specs.Quorum.{Sizes}
 use Rattle.paxos_core_world.specs.World.{no_nodes}
 use Rattle.paxos_core_world.specs.declared.msg.Msg.{Msg}
 use Rattle.paxos_core_law.specs.NodeState.{NodeState, new_node}
@@ -9,27 +10,27 @@ use Rattle.paxos_core.specs.Schedule.{Room, NodeCall, opened}
 use Rattle.cfarm_schedules.specs.declared.told.Told.{Told}
 use Rattle.cfarm_schedules.specs.declared.told.Told.TheVariants as told
 
--- the nodes by their numbers, and the messages that were sent, the oldest first
+-- the quorums, the nodes by their numbers, and the messages that were sent, the oldest first
 pub record Listed : Type 0 where
-  pub count : ℕ
+  pub quorums : Sizes
   pub nodes : List NodeState
   pub sent : List Msg
 
 abbrev pub node_at : Listed → ℕ → NodeState
-node_at r i = slice_index_or r.nodes i (new_node i r.count)
+node_at r i = slice_index_or r.nodes i (new_node i r.quorums)
 
 -- the room of the protocol
 abbrev pub room_of : Listed → Room
 room_of r = record { nodes = λ i. node_at r i; sent = reverse r.sent }
 
--- a room of so many nodes of which none has done anything
-abbrev pub start : ℕ → Room
-start count = opened count no_nodes
+-- a room with quorums of these sizes of whose nodes none has done anything
+abbrev pub start : Sizes → Room
+start q = opened q no_nodes
 
 -- the room after a call of node i, whose answer is sent last
 abbrev pub after_call_of : Listed → ℕ → Call → Listed
 after_call_of r i c = record {
-  count = r.count;
+  quorums = r.quorums;
   nodes = slice_set r.nodes i (after_call (node_at r i) c);
   sent = r.sent ++ option_to_list (answer_to (node_at r i) c);
 }

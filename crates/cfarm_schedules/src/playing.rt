@@ -13,7 +13,7 @@ use crate::error::ScheduleError;
 use crate::room::Room;
 use crate::told::Told;
 use cfarm_output::{print_all, print_whole};
-use cfarm_schedules_lines::{Command, command_of, count_of, split_at_byte};
+use cfarm_schedules_lines::{Command, command_of, quorums_of, split_at_byte};
 use lang_base::NoMemory;
 use paxos_core::agreement;
 use std::alloc::Global;
@@ -31,7 +31,7 @@ fn next_line(text: &[u8]) -> (&[u8], &[u8])
 fn obey(room: &mut Room, command: Command) -> Result<Option<Told>, NoMemory>
     ensures some { IfOk result (λ told. IfSome told (Obeyed room.old command room.new)) }
     ensures none { IfOk result (λ told. IsNone told → Refuses room.old command) }
-    ensures count { room.new.count ≡ room.old.count }
+    ensures quorums { room.new.quorums ≡ room.old.quorums }
 {
     let count = room.count();
     match command {
@@ -48,7 +48,7 @@ fn obey(room: &mut Room, command: Command) -> Result<Option<Told>, NoMemory>
 fn deliver(room: &mut Room, node: u8, number: u64) -> Result<Option<Told>, NoMemory>
     ensures some { IfOk result (λ told. IfSome told (Obeyed room.old (Command.Deliver node number) room.new)) }
     ensures none { IfOk result (λ told. IsNone told → Refuses room.old (Command.Deliver node number)) }
-    ensures count { room.new.count ≡ room.old.count }
+    ensures quorums { room.new.quorums ≡ room.old.quorums }
 {
     if number == 0 || node >= room.count() {
         return Ok(None);
@@ -62,8 +62,8 @@ fn deliver(room: &mut Room, node: u8, number: u64) -> Result<Option<Told>, NoMem
 /// Does what a line asks; none where it spells no command that can be done.
 fn obey_line(alloc: Global, room: &mut Room, line: &[u8]) -> Result<Option<Told>, NoMemory>
     ensures some { IfOk result (λ told. IfSome told (ObeyedLine room.old line.now room.new)) }
-    ensures none { IfOk result (λ told. IsNone told → IsNoCommand room.old.count (room_of room.old) line.now) }
-    ensures count { room.new.count ≡ room.old.count }
+    ensures none { IfOk result (λ told. IsNone told → IsNoCommand room.old.quorums (room_of room.old) line.now) }
+    ensures quorums { room.new.quorums ≡ room.old.quorums }
 {
     room.known();
     match command_of(alloc, line)? {
@@ -139,10 +139,10 @@ pub fn simulate<W: Write>(alloc: Global, schedule: &[u8], out: &mut W) -> Result
 {
     agreement();
     let (head, mut rest) = next_line(schedule);
-    let Some(count) = count_of(head) else {
+    let Some(quorums) = quorums_of(head) else {
         return Err(ScheduleError::Schedule(1));
     };
-    let Ok(mut room) = Room::new(alloc, count) else {
+    let Ok(mut room) = Room::new(alloc, quorums) else {
         return Err(ScheduleError::NoMemory);
     };
     let mut number = 1u64;

@@ -1,67 +1,64 @@
 ghost use Rattle.std.specs.Prelude.{◌≡◌, ◌<◌, ℕ, ◌+◌, ◌^◌, ◌++◌, ◌∷◌, [], IfOk, OnOk, IfSome, length, slice_get, Some};
 ghost use Rattle.paxos_core.specs.Call.{Offer, On, Proposal, Restart, Start};
-ghost use Rattle.paxos_core_law.specs.NodeState.{IsRoomSize};
 ghost use Rattle.cfarm_schedules.specs.declared.told.Told.TheVariants as Told;
 ghost use Rattle.cfarm_schedules.specs.Rooms.{after_call_of, learning, node_at, room_of, start, told_at};
 
 use crate::told::Told;
 use lang_base::NoMemory;
-use paxos_core::{Msg, Node};
+use paxos_core::{Msg, Node, Quorums};
 use std::alloc::Global;
 use std::marker::Model;
 
 /// The nodes of a room, and the messages that they sent, the oldest first.
 #[derive(Drop)]
 pub(crate) struct Room {
-    count: u8,
+    quorums: Quorums,
     nodes: Vec<Node>,
     sent: Vec<Msg>,
 }
 
 impl Model for Room {
     ghost use Rattle.std.specs.Prelude.{◌≡◌, length};
-    ghost use Rattle.paxos_core_law.specs.NodeState.{IsRoomSize};
     ghost use Rattle.cfarm_schedules.specs.Rooms.{Listed};
 
     ghost Value = { Listed };
 
-    ghost view = { λ r. record { count = r.count; nodes = r.nodes.items; sent = r.sent.items } };
+    ghost view = { λ r. record { quorums = r.quorums; nodes = r.nodes.items; sent = r.sent.items } };
 
-    ghost invariant = { λ r. (length r.nodes.items ≡ r.count) × IsRoomSize r.count };
+    ghost invariant = { λ r. length r.nodes.items ≡ r.quorums.nodes };
 }
 
 impl Room {
-    /// A room of so many nodes that have done nothing.
-    pub(crate) fn new(alloc: Global, count: u8) -> Result<Room, NoMemory>
-        requires { IsRoomSize count }
-        ensures count { IfOk result (λ room. room.count ≡ count) }
-        ensures start { IfOk result (λ room. room_of room ≡ start count) }
+    /// A room with these quorums whose nodes have done nothing.
+    pub(crate) fn new(alloc: Global, quorums: Quorums) -> Result<Room, NoMemory>
+        ensures quorums { IfOk result (λ room. room.quorums ≡ quorums) }
+        ensures start { IfOk result (λ room. room_of room ≡ start quorums) }
     {
         let mut nodes = Vec::new(alloc);
-        for me in 0..count {
-            nodes.push(Node::new(me, count))?;
+        for me in 0..quorums.nodes() {
+            nodes.push(Node::new(me, quorums))?;
         }
         Ok(Room {
-            count,
+            quorums,
             nodes,
             sent: Vec::new(alloc),
         })
     }
 
+    /// How many nodes it has.
     pub(crate) fn count(&self) -> u8
-        ensures count { result ≡ self.now.count }
-        ensures nodes { length self.now.nodes ≡ self.now.count }
-        ensures size { IsRoomSize result }
+        ensures count { result ≡ self.now.quorums.nodes }
+        ensures nodes { length self.now.nodes ≡ self.now.quorums.nodes }
     {
-        self.count
+        self.quorums.nodes()
     }
 
     /// What the type keeps, for a caller's proof.
     pub(crate) fn known(&self)
-        ensures count { self.now.count < 256 }
+        ensures count { self.now.quorums.nodes < 256 }
         ensures sent { length self.now.sent < 2 ^ 64 }
     {
-        let _count = self.count;
+        let _count = self.quorums.nodes();
         let _sent = self.sent.len();
     }
 
@@ -74,14 +71,14 @@ impl Room {
 
     /// What the node has learned since its last restart.
     pub(crate) fn learned(&self, node: u8) -> Option<u8>
-        requires { node < self.now.count }
+        requires { node < self.now.quorums.nodes }
         ensures { result ≡ (node_at self.now node).learned }
     {
         self.nodes[usize::from(node)].learned()
     }
 
     pub(crate) fn offer(&mut self, node: u8) -> Told
-        requires { node < self.old.count }
+        requires { node < self.old.quorums.nodes }
         ensures state { self.new ≡ after_call_of self.old node Offer }
         ensures told { result ≡ told_at self.old node Offer }
     {
@@ -93,10 +90,10 @@ impl Room {
     }
 
     pub(crate) fn start(&mut self, node: u8) -> Result<Told, NoMemory>
-        requires { node < self.old.count }
+        requires { node < self.old.quorums.nodes }
         ensures state { OnOk result (self.new ≡ after_call_of self.old node Start) }
         ensures told { IfOk result (λ told. told ≡ told_at self.old node Start) }
-        ensures count { self.new.count ≡ self.old.count }
+        ensures quorums { self.new.quorums ≡ self.old.quorums }
     {
         match self.nodes[usize::from(node)].start() {
             Ok(message) => self.send(node, message),
@@ -105,10 +102,10 @@ impl Room {
     }
 
     pub(crate) fn propose(&mut self, node: u8) -> Result<Told, NoMemory>
-        requires { node < self.old.count }
+        requires { node < self.old.quorums.nodes }
         ensures state { OnOk result (self.new ≡ after_call_of self.old node Proposal) }
         ensures told { IfOk result (λ told. told ≡ told_at self.old node Proposal) }
-        ensures count { self.new.count ≡ self.old.count }
+        ensures quorums { self.new.quorums ≡ self.old.quorums }
     {
         match self.nodes[usize::from(node)].propose() {
             Some(message) => self.send(node, message),
@@ -118,7 +115,7 @@ impl Room {
 
     /// The node forgets all but what it keeps.
     pub(crate) fn restart(&mut self, node: u8) -> Told
-        requires { node < self.old.count }
+        requires { node < self.old.quorums.nodes }
         ensures state { self.new ≡ after_call_of self.old node Restart }
         ensures told { result ≡ told_at self.old node Restart }
     {
@@ -127,10 +124,10 @@ impl Room {
     }
 
     pub(crate) fn deliver(&mut self, node: u8, message: Msg) -> Result<Told, NoMemory>
-        requires { node < self.old.count }
+        requires { node < self.old.quorums.nodes }
         ensures state { OnOk result (self.new ≡ after_call_of self.old node (On message)) }
         ensures told { IfOk result (λ told. told ≡ told_at self.old node (On message)) }
-        ensures count { self.new.count ≡ self.old.count }
+        ensures quorums { self.new.quorums ≡ self.old.quorums }
     {
         let before = self.nodes[usize::from(node)].learned();
         match self.nodes[usize::from(node)].on(&message) {
@@ -143,7 +140,7 @@ impl Room {
     fn send(&mut self, node: u8, message: Msg) -> Result<Told, NoMemory>
         ensures state { OnOk result (self.new ≡ record self.old { sent = self.old.sent ++ message ∷ [] }) }
         ensures told { IfOk result (λ told. told ≡ Told.Sent (length self.old.sent + 1) node message) }
-        ensures count { self.new.count ≡ self.old.count }
+        ensures quorums { self.new.quorums ≡ self.old.quorums }
     {
         let number = self.sent.len() as u64 + 1;
         self.sent.push(message)?;

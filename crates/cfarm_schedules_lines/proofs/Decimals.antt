@@ -1,26 +1,15 @@
 -- Numbers in a line, and where the blanks between them stand.
 use Rattle.std.proofs.Common.{◌≡◌, ℕ, zero, suc, ◌+◌, ◌%◌, ◌<◌, ◌^◌, List, [], ◌∷◌, ◌++◌, length, get_or, take, false, refl, sym, ap, ◌∙◌, arith, inl, inr}
-use Rattle.std.specs.Prelude.{codes}
 use Rattle.std.specs.Fmt.{decimal}
 use Rattle.std.specs.List.{before_first, position_or_len}
 use Rattle.std.specs.Str.{IsUtf8}
 use Rattle.std.proofs.Math.Seq.{take-append_seam}
 use Rattle.std.proofs.lemmas.Bool.Decides.{eqb_tells}
-use Rattle.std.proofs.lemmas.Fmt.{decimal_digit, decimal_by_steps, IsAscii-decimal}
+use Rattle.std.proofs.lemmas.Fmt.{decimal_by_steps, IsAscii-decimal}
 use Rattle.std.proofs.lemmas.List.{append_cancel_left}
 use Rattle.std.proofs.lemmas.List.Sums.{position_or_len_is}
 use Rattle.std.proofs.lemmas.Str.{IsUtf8-from_ascii}
-use Rattle.cfarm_schedules_lines.specs.Commands.{head_of}
 use Rattle.cfarm_schedules_lines.specs.Texts.{is_byte}
-
-pub head_3 : head_of 3 ≡ codes "nodes 3"
-head_3 = ap (λ ds. codes "nodes " ++ ds) (decimal_digit 3 (omega arith))
-
-pub head_5 : head_of 5 ≡ codes "nodes 5"
-head_5 = ap (λ ds. codes "nodes " ++ ds) (decimal_digit 5 (omega arith))
-
-pub head_7 : head_of 7 ≡ codes "nodes 7"
-head_7 = ap (λ ds. codes "nodes " ++ ds) (decimal_digit 7 (omega arith))
 
 pub decimal_is_text : (n : ℕ) → n < 2 ^ 64 → IsUtf8 (decimal n)
 decimal_is_text n h = IsUtf8-from_ascii (decimal n) (IsAscii-decimal n h)

@@ -1,12 +1,21 @@
 -- The lines of a schedule: words parted by one blank, numbers in decimal without leading zeros.
-use Rattle.std.specs.Prelude.{◌≡◌, ℕ, ◌<◌, ◌^◌, List, ◌++◌, Option, Some, codes}
+use Rattle.std.specs.Prelude.{◌≡◌, ◌⊎◌, ℕ, ◌<◌, ◌^◌, List, ◌++◌, Option, Some, codes}
 use Rattle.std.specs.Fmt.{decimal}
+use Rattle.paxos_core_world.specs.Quorum.{majority_sizes, AreQuorums, Sizes}
 use Rattle.cfarm_schedules_lines.specs.declared.command.Command.{Command}
 use Rattle.cfarm_schedules_lines.specs.declared.command.Command.TheVariants.{Offer, Start, Propose, Restart, Deliver}
 
--- the first line says how many nodes there are
+-- the first line says how many nodes there are, with quorums of which both kinds are more than half of them
 abbrev pub head_of : ℕ → List ℕ
 head_of count = codes "nodes " ++ decimal count
+
+-- or it says the sizes of a promise quorum and of an accept quorum too
+abbrev pub sizes_head_of : Sizes → List ℕ
+sizes_head_of q = codes "nodes " ++ (decimal q.nodes ++ (codes " " ++ (decimal q.promise ++ (codes " " ++ decimal q.accept))))
+
+-- the line is a first line that says these sizes, which meet
+abbrev pub IsHead : List ℕ → Sizes → Type 0
+IsHead line q = AreQuorums q × ((line ≡ sizes_head_of q) ⊎ ((line ≡ head_of q.nodes) × (q ≡ majority_sizes q.nodes)))
 
 -- the node and the message of a delivery
 abbrev pub delivery_of : ℕ → ℕ → List ℕ

@@ -1,2 +1,3 @@
 pub mod Commands
+pub mod FirstLine
 pub mod Texts

@@ -2,9 +2,12 @@
 #![tactic(auto)]
 
 mod command;
+mod heads;
 mod parts;
 mod reading;
 
 pub use command::Command;
+pub use heads::quorums_of;
 pub use parts::split_at_byte;
-pub use reading::{command_of, count_of};
+pub use paxos_core_world::quorum::Quorums;
+pub use reading::command_of;

@@ -1,9 +1,8 @@
 //! Reading a line: a number is guessed, and the line that it would spell is compared with what stands there.
 
-ghost use Rattle.std.specs.Prelude.{◌≡◌, ◌<◌, ◌^◌, ℕ, ◌++◌, Some, IsNone, IfSome, IfOk, OnOk, codes};
+ghost use Rattle.std.specs.Prelude.{◌≡◌, ◌<◌, ◌^◌, ℕ, Some, IfSome, IfOk};
 ghost use Rattle.std.specs.Fmt.{decimal};
-ghost use Rattle.paxos_core_law.specs.NodeState.{IsRoomSize};
-ghost use Rattle.cfarm_schedules_lines.specs.Commands.{IsInWords, IsReadAsDelivery, head_of, line_of};
+ghost use Rattle.cfarm_schedules_lines.specs.Commands.{IsInWords, IsReadAsDelivery, line_of};
 ghost use Rattle.cfarm_schedules_lines.specs.declared.command.Command.{Command};
 ghost use Rattle.cfarm_schedules_lines.specs.declared.command.Command.TheVariants as Command;
 
@@ -51,21 +50,4 @@ pub fn command_of(alloc: Global, line: &[u8]) -> Result<Option<Command>, NoMemor
     };
     let spelled = format!(in alloc; "{command}")?;
     Ok((spelled.as_bytes() == line).then_some(command))
-}
-
-/// The number of nodes that the first line says.
-#[tactic(auto, using(crate::proofs::Decimals::head_3, crate::proofs::Decimals::head_5, crate::proofs::Decimals::head_7))]
-pub fn count_of(line: &[u8]) -> Option<u8>
-    ensures some { IfSome result (λ count. IsRoomSize count × (line.now ≡ head_of count)) }
-    ensures none { IsNone result → (count : ℕ) → IsRoomSize count → line.now ≡ head_of count → ⊥ }
-{
-    if line == b"nodes 3".as_slice() {
-        Some(3)
-    } else if line == b"nodes 5".as_slice() {
-        Some(5)
-    } else if line == b"nodes 7".as_slice() {
-        Some(7)
-    } else {
-        None
-    }
 }

@@ -17,7 +17,7 @@ use Rattle.cfarm_settle_nodes.specs.Goes.{IsSameRoom, OffersFor, GoesOn, Stays}
 -- ---- words
 
 pub same_room : (s : SeatState) → IsSameRoom s s
-same_room s = record { table = refl; opening = refl; me = refl; count = refl }
+same_room s = record { table = refl; opening = refl; me = refl; quorums = refl }
 
 pub through_room : (a b c : SeatState) → IsSameRoom a b → IsSameRoom b c → IsSameRoom a c
 through_room a b c h k =
@@ -25,7 +25,7 @@ through_room a b c h k =
       table = k.table ∙ h.table;
       opening = k.opening ∙ h.opening;
       me = k.me ∙ h.me;
-      count = k.count ∙ h.count;
+      quorums = k.quorums ∙ h.quorums;
     }
 
 same_if : (a b : SeatState) → b ≡ a → IsSameRoom a b
@@ -37,12 +37,12 @@ looked_at_proposer j x old new h =
       table = ap (λ (s : SeatState). s.table) h.after;
       opening = ap (λ (v : View). v.opening) h.advances.stays;
       me = ap (λ (s : SeatState). s.node.me) h.after;
-      count = ap (λ (s : SeatState). s.node.count) h.after;
+      quorums = ap (λ (s : SeatState). s.node.quorums) h.after;
     }
 
 pub looked_at_acceptor : (j : ℕ) (x : AcceptorWord) (old new : SeatState) → LookedAtAcceptor j x old new → NotesOf j old new → IsSameRoom old new
 looked_at_acceptor j x old new h n =
-    record { table = n.table; opening = ap (λ (v : View). v.opening) h.advances.stays; me = n.me; count = n.count }
+    record { table = n.table; opening = ap (λ (v : View). v.opening) h.advances.stays; me = n.me; quorums = n.quorums }
 
 opening_after : (a : Act) (old new : SeatState) (o : Option Step) → IfSome o (λ s. Did (act_of s) (proposed_by_step s old.proposed) old new) → (o ≡ None → new ≡ old) → new.view.opening ≡ old.view.opening
 opening_after a old new (Some s) did idle = ap (λ (v : View). v.opening) did.took.advances.stays
@@ -50,10 +50,10 @@ opening_after a old new None did idle = ap (λ (s : SeatState). s.view.opening) 
 
 pub acted : (a : Act) (old new : SeatState) → Acted a old new → IsSameRoom old new
 acted a old new h =
-    record { table = h.table; opening = opening_after a old new (would old a) h.stepped h.idle; me = h.me; count = h.count }
+    record { table = h.table; opening = opening_after a old new (would old a) h.stepped h.idle; me = h.me; quorums = h.quorums }
 
 pub remained : (old new : SeatState) → Remains old new → IsSameRoom old new
-remained old new h = record { table = h.table; opening = h.opening; me = h.me; count = h.count }
+remained old new h = record { table = h.table; opening = h.opening; me = h.me; quorums = h.quorums }
 
 -- ---- seats
 

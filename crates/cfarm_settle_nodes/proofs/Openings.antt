@@ -5,6 +5,7 @@ use Rattle.std.specs.Option.{option_to_list}
 use Rattle.rooms_table.specs.RoomAt.{RoomAt}
 use Rattle.offers.specs.declared.parts.Parts.{Parts}
 use Rattle.paxos_core_world.specs.KeptPart.{KeptPart}
+use Rattle.paxos_core_world.specs.Quorum.{Sizes}
 use Rattle.rooms_cells.specs.Seen.{unseen, value_at}
 use Rattle.rooms_rule.specs.declared.view.Opening.{Opening}
 use Rattle.rooms_state.specs.SeatState.{opening_of}
@@ -33,12 +34,12 @@ module _ {F G C : Type 0} (f : F) where
       absurd (cc)
 
   -- the seats of a room of three, taken from the end of the list one by one
-  pub three_unmade : (kept : List KeptPart) (offers : List (Option (Parts F G C))) (seats two one rest : List (SeatValue (Parts F G C))) (x y z : Option (SeatValue (Parts F G C))) (a b c : SeatValue (Parts F G C))
-      → length kept ≡ 3 → offers ≡ None ∷ None ∷ None ∷ [] → AreOpened kept offers seats
+  pub three_unmade : (q : Sizes) (kept : List KeptPart) (offers : List (Option (Parts F G C))) (seats two one rest : List (SeatValue (Parts F G C))) (x y z : Option (SeatValue (Parts F G C))) (a b c : SeatValue (Parts F G C))
+      → q.nodes ≡ 3 → offers ≡ None ∷ None ∷ None ∷ [] → AreOpened q kept offers seats
       → seats ≡ two ++ option_to_list z → two ≡ one ++ option_to_list y → one ≡ rest ++ option_to_list x → x ≡ Some a → y ≡ Some b → z ≡ Some c → AllOfferFor f a b c
-  three_unmade kept offers seats two one rest x y z a b c size none h ez ey ex xa yb zc =
+  three_unmade q kept offers seats two one rest x y z a b c size none h ez ey ex xa yb zc =
       let S = SeatValue (Parts F G C) in
-      let o = opening_of kept in
+      let o = opening_of q kept in
       let listed : seats ≡ opened_first h.table h.cells o (None ∷ None ∷ None ∷ []) 3 =
       h.seats_are ∙ ap (λ (n : ℕ). opened_first h.table h.cells o offers n) size ∙ ap (λ (os : List (Option (Parts F G C))). opened_first h.table h.cells o os 3) none in
       let taken : seats ≡ ((rest ++ a ∷ []) ++ b ∷ []) ++ c ∷ [] =

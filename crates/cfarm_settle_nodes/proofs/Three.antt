@@ -21,7 +21,7 @@ module _ {F G C : Type 0} (f : F) where
         cells = h.cells ∙ s.cells;
         opening = h.room.opening ∙ s.opening;
         me = h.room.me ∙ s.me;
-        count = h.room.count ∙ s.count;
+        quorums = h.room.quorums ∙ s.quorums;
       }
 
   pub three_go : (a b c x y z : SeatValue (Parts F G C)) → AreThree a b c → GoesOn f a x → GoesOn f b y → GoesOn f c z → AreThree x y z
@@ -47,7 +47,7 @@ module _ {F G C : Type 0} (f : F) where
 module _ {P A B C I O : Type 0} (from : language.Ghosts A I) (to : language.Ghosts B O) (by : pass.Ghosts P A B C I O) where
   -- three seats that have met: what is known of the code of the node whose number all have learned
   pub agreed_code : (f : I) (node : ℕ) (code : List ℕ) (a b c x y z : SeatValue (Parts I O C)) → AreThree a b c → AllOfferFor f a b c → Stays a x → Stays b y → Stays c z
-      → IsLearnedByAll x.words.view.seen node → IsCodeOf from to by node x y z code → IsAgreed from to by f code
+      → IsLearnedByAll x.words.view.seen node → IsCodeOf from to by node x y z code → IsAgreed from to by f x y z code
   agreed_code f node code a b c x y z three all h k l learned it =
       let on : AllOfferFor f x y z = all_offer f a b c x y z all (stays_on f a x h) (stays_on f b y k) (stays_on f c z l) in
       record {
@@ -55,9 +55,6 @@ module _ {P A B C I O : Type 0} (from : language.Ghosts A I) (to : language.Ghos
         offer = it.0;
         offered = for_input f node it.0 x y z on it.1;
         agreed = record {
-          first = x;
-          second = y;
-          third = z;
           room = three_go f a b c x y z three (stays_on f a x h) (stays_on f b y k) (stays_on f c z l);
           learned = learned;
           offered = it.1;

@@ -21,12 +21,9 @@ IsOfferOf (suc zero) x first second third = HasOffered x second
 IsOfferOf (suc (suc zero)) x first second third = HasOffered x third
 IsOfferOf (suc (suc (suc node))) x first second third = ⊥
 
--- There are seats of the three nodes of a room that began with nothing; at the end of the run that the first has seen all three have
--- learned the node's number, and this is what the node has offered.
-pub record HaveAgreed {T : Type 0} (node : ℕ) (x : T) : Type 0 where
-  pub first : SeatValue T
-  pub second : SeatValue T
-  pub third : SeatValue T
+-- These are the seats of the three nodes of a room that began with nothing; at the end of the run that the first has seen all three
+-- have learned the node's number, and this is what the node has offered.
+pub record HaveAgreed {T : Type 0} (node : ℕ) (x : T) (first second third : SeatValue T) : Type 0 where
   pub room : AreThree first second third
   pub learned : IsLearnedByAll first.words.view.seen node
   pub offered : IsOfferOf node x first second third
@@ -47,10 +44,10 @@ module _ {P A B C I O : Type 0} (from : language.Ghosts A I) (to : language.Ghos
   abbrev pub IsCodeOf : ℕ → SeatValue (Parts I O C) → SeatValue (Parts I O C) → SeatValue (Parts I O C) → List ℕ → Type 0
   IsCodeOf node first second third code = (x : Parts I O C) × IsOfferOf node x first second third × IsCode x code
 
-  -- they are those of an offer for this input that three nodes have agreed on
-  pub record IsAgreed (input : I) (bytes : List ℕ) : Type 0 where
+  -- they are those of an offer for this input that the nodes of these three seats have agreed on
+  pub record IsAgreed (input : I) (first second third : SeatValue (Parts I O C)) (bytes : List ℕ) : Type 0 where
     pub node : ℕ
     pub offer : Parts I O C
     pub offered : offer.input ≡ input
-    pub agreed : HaveAgreed node offer
+    pub agreed : HaveAgreed node offer first second third
     pub code : IsCode offer bytes

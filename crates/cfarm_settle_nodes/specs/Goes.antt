@@ -4,20 +4,21 @@ use Rattle.rooms_table.specs.RoomAt.{RoomAt}
 use Rattle.offers.specs.declared.parts.Parts.{Parts}
 use Rattle.rooms_cells.specs.Seen.{names_of}
 use Rattle.paxos_core_world.specs.KeptPart.{nothing_kept}
+use Rattle.paxos_core_world.specs.Quorum.{majority_sizes}
 use Rattle.rooms_rule.specs.declared.view.Opening.{Opening}
 use Rattle.rooms_state.specs.SeatState.{SeatState}
 use Rattle.rooms.specs.SeatValue.{SeatValue, offer_of}
 
--- how a room of three nodes opens that have kept nothing
+-- how a room of three nodes opens that have kept nothing: both quorums are more than half of them
 abbrev pub empty_room : Opening
-empty_room = record { count = 3; kept = replicate 7 nothing_kept }
+empty_room = record { quorums = majority_sizes 3; kept = replicate 7 nothing_kept }
 
 -- the words are those of the same node in the same room
 pub record IsSameRoom (old new : SeatState) : Type 0 where
   pub table : new.table ≡ old.table
   pub opening : new.view.opening ≡ old.view.opening
   pub me : new.node.me ≡ old.node.me
-  pub count : new.node.count ≡ old.node.count
+  pub quorums : new.node.quorums ≡ old.node.quorums
 
 -- what the node has offered, if anything, is for this input
 abbrev pub OffersFor : {F G C : Type 0} → F → SeatValue (Parts F G C) → Type 0
@@ -40,7 +41,7 @@ pub record IsSeatOf {T : Type 0} (board : RoomAt) (shelf : List ℕ) (i : ℕ) (
   pub cells : names_of s.sights ≡ shelf
   pub opening : s.words.view.opening ≡ empty_room
   pub me : s.words.node.me ≡ i
-  pub count : s.words.node.count ≡ 3
+  pub quorums : s.words.node.quorums ≡ majority_sizes 3
 
 -- the seats of the three nodes of one such room
 pub record AreThree {T : Type 0} (a b c : SeatValue T) : Type 0 where

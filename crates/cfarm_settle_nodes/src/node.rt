@@ -58,7 +58,7 @@ fn offer<O: Oracle + Drop>(
 
 /// Accepts what node `j` was last seen to have proposed, or else promises what it has started.
 fn answer<P: Pass>(seat: &mut Seat<P>, j: u8)
-    requires { j < seat.old.words.node.count }
+    requires { j < seat.old.words.node.quorums.nodes }
     ensures { Stays seat.old seat.new }
 {
     match seat.accept(j) {
@@ -71,7 +71,7 @@ fn answer<P: Pass>(seat: &mut Seat<P>, j: u8)
 
 /// Looks at node `j`: at its proposer, which is answered, then at its acceptor. Answers whether it saw anything new.
 fn hear<P: Pass>(seat: &mut Seat<P>, j: u8, seen: &mut Seen) -> bool
-    requires { j < seat.old.words.node.count }
+    requires { j < seat.old.words.node.quorums.nodes }
     ensures { Stays seat.old seat.new }
 {
     let proposer = seat.look_proposer(j);

@@ -1,11 +1,12 @@
 //! The nodes of a room of three before their turns, and lists of three.
 
 ghost use Rattle.std.specs.Prelude.{◌≡◌, [], ◌∷◌, None, IfOk, IfSome};
+ghost use Rattle.paxos_core_world.specs.Quorum.{majority_sizes};
 ghost use Rattle.cfarm_settle_nodes.specs.Goes.{AllOfferFor, AreSeatsFor, AreThree};
 
 use crate::settle_node::SettleNode;
 use lang_base::{Language, NoMemory, Oracle, Pass};
-use paxos_core::Kept;
+use paxos_core::{Kept, Quorums};
 use rooms::{Room, Seat};
 use std::alloc::{AllocError, Global};
 
@@ -36,14 +37,25 @@ pub fn three_of_list<A: Drop>(all: Vec<A>) -> Option<(A, A, A)>
     Some((first, second, third))
 }
 
+/// The quorums of three nodes: more than half of them.
+fn three() -> Quorums
+    ensures { result ≡ majority_sizes 3 }
+{
+    let Some(quorums) = Quorums::majorities(3) else {
+        unreachable!();
+    };
+    quorums
+}
+
 /// The seats of a new room of three nodes that have kept nothing, by the nodes' numbers.
 fn seats<P: Pass>(alloc: Global) -> Result<(Seat<P>, Seat<P>, Seat<P>), NoMemory>
     ensures three { IfOk result (λ s. AreThree s.0 s.1 s.2) }
     ensures nothing { (f : P.In.Fun) → IfOk result (λ s. AllOfferFor f s.0 s.1 s.2) }
 {
+    let quorums = three();
     let kept = [Kept::nothing(); 3];
     let offers = list_of_three(alloc, None, None, None)?;
-    let Ok(mut seats) = Room::open(alloc, &kept, offers) else {
+    let Ok(mut seats) = Room::open(alloc, &kept, offers, quorums) else {
         return Err(NoMemory);
     };
     let (third, second, first) = (seats.pop(), seats.pop(), seats.pop());

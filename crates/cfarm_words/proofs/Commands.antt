@@ -11,7 +11,7 @@ use Rattle.clap.specs.declared.builder.arg.Arg.{Arg}
 use Rattle.clap.specs.declared.builder.command.Command.{Command}
 use Rattle.cfarm_words.specs.declared.task.Asked.{Asked}
 use Rattle.cfarm_words.specs.declared.task.Task.{Task}
-use Rattle.cfarm_words.specs.Words.{AsksNothingBy, IsAskedBy, IsTask, Reads}
+use Rattle.cfarm_words.specs.Words.{AsksNothingBy, IsAskedBy, IsTask, Reads, ReadsPerhaps}
 
 -- one more argument that is not global
 pub with_argument : (old new : Command) (a : Arg) (app : App) (r : Rule) → AddsArg old a new → app_of old ≡ app → (fields_of old).has_globals ≡ false → rule_of a ≡ r → a.global ≡ false → app_of new ≡ with_rule app r
@@ -45,6 +45,13 @@ asked_from f g o n found (Some a) e h t p = asked_by f g o n found a.task a.path
 pub reads_of : {E : Type 0} (bits : ℕ) (text : List ℕ) (r : Result ℕ E) → ParsesUnsigned bits 10 text r → Reads bits (Some text) (result_unwrap_or r 0)
 reads_of bits text (Ok x) p = λ numeral below. p.1
 reads_of bits text (Err e) p = λ numeral below. absurd (p (numeral, below))
+
+-- the number that is read of a text, if one is
+pub reads_some : {E : Type 0} (bits : ℕ) (text : List ℕ) (x : ℕ) (r : Result ℕ E) → r ≡ Ok x → ParsesUnsigned bits 10 text r → ReadsPerhaps bits (Some text) (Some x)
+reads_some {E} bits text x r e p = let q : ParsesUnsigned {E = E} bits 10 text (Ok x) = subst (λ (y : Result ℕ E). ParsesUnsigned {E = E} bits 10 text y) e p in λ numeral below. ap Some q.1
+
+pub reads_none : {E : Type 0} (bits : ℕ) (text : List ℕ) (x : E) (r : Result ℕ E) → r ≡ Err x → ParsesUnsigned bits 10 text r → ReadsPerhaps bits (Some text) None
+reads_none {E} bits text x r e p = let q : ParsesUnsigned {E = E} bits 10 text (Err x) = subst (λ (y : Result ℕ E). ParsesUnsigned {E = E} bits 10 text y) e p in λ numeral below. absurd (q (numeral, below))
 
 -- no file is named
 pub nothing_without_file : (name : Text) (found : Found) → None ≡ first_value found (codes "FILE") → AsksNothingBy (Some (name, rows_of found))

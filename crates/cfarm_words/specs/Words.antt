@@ -10,7 +10,7 @@ use Rattle.clap.specs.Simple.{on_top}
 use Rattle.clap.specs.declared.builder.value_parser.ValueParser.TheVariants.{Names, Unsigned}
 use Rattle.cfarm_options.specs.declared.options.BuildOptions.{BuildOptions}
 use Rattle.cfarm_options.specs.declared.options.Nodes.{Nodes}
-use Rattle.cfarm_options.specs.declared.options.Nodes.TheVariants.{Three, Five, Seven}
+use Rattle.cfarm_options.specs.declared.options.Nodes.TheVariants.{Two, Three, Four, Five, Six, Seven}
 use Rattle.cfarm_words.specs.declared.task.Task.{Task}
 use Rattle.cfarm_words.specs.declared.task.Task.TheVariants.{Check, Interpret, Build, Exec, Settle, Simulate}
 
@@ -42,10 +42,21 @@ Counts = Bor (List (Bor Text))
 
 -- they are those that a farm can have
 abbrev pub AreCounts : Counts → Type 0
-AreCounts counts = map (λ count. count.now) counts.now ≡ codes "3" ∷ codes "5" ∷ codes "7" ∷ []
+AreCounts counts = map (λ count. count.now) counts.now ≡
+    codes "2" ∷ codes "3" ∷ codes "4" ∷ codes "5" ∷ codes "6" ∷ codes "7" ∷ []
 
 abbrev pub nodes_rule : Counts → Rule
 nodes_rule counts = record (new_rule (codes "nodes")) { long = Some (codes "nodes"); parser = Some (Names counts); defaults = codes "3" ∷ [] }
+
+-- the size of a quorum, of which nothing need be said
+abbrev pub size_rule : Text → Rule
+size_rule name = record (new_rule name) { long = Some name; parser = Some (Unsigned 0 255) }
+
+abbrev pub promise_rule : Rule
+promise_rule = size_rule (codes "promise")
+
+abbrev pub accept_rule : Rule
+accept_rule = size_rule (codes "accept")
 
 abbrev pub turns_rule : Rule
 turns_rule = bound_rule (codes "turns") (codes "10000") 4294967295
@@ -57,8 +68,8 @@ abbrev pub folder_rule : Rule
 folder_rule = record (new_rule (codes "dir")) { long = Some (codes "dir"); required = true }
 
 abbrev pub build_app : Counts → App
-build_app counts = with_rule (with_rule (with_rule (with_rule (with_rule (new_app (codes "build")) file_rule) (nodes_rule counts)) turns_rule) seed_rule)
-    folder_rule
+build_app counts = with_rule (with_rule (with_rule (with_rule (with_rule (with_rule (with_rule (new_app (codes "build")) file_rule) (nodes_rule counts))
+    promise_rule) accept_rule) turns_rule) seed_rule) folder_rule
 
 abbrev pub exec_app : App
 exec_app = with_rule (with_rule (new_app (codes "exec")) file_rule) limit_rule
@@ -85,15 +96,26 @@ Reads bits None number = number ≡ 0
 Reads bits (Some text) number = IsNumeral 10 (without_leading_plus text) → digits_value 10 (without_leading_plus text) < 2 ^ bits →
     number ≡ digits_value 10 (without_leading_plus text)
 
+-- the number that a text spells so, if there is a text
+abbrev pub ReadsPerhaps : ℕ → Option Text → Option ℕ → Type 0
+ReadsPerhaps bits None number = number ≡ None
+ReadsPerhaps bits (Some text) number = IsNumeral 10 (without_leading_plus text) → digits_value 10 (without_leading_plus text) < 2 ^ bits →
+    number ≡ Some (digits_value 10 (without_leading_plus text))
+
 -- the word for a number of nodes
 abbrev pub node_word : Nodes → Text
+node_word Two = codes "2"
 node_word Three = codes "3"
+node_word Four = codes "4"
 node_word Five = codes "5"
+node_word Six = codes "6"
 node_word Seven = codes "7"
 
 -- what is found of a build's options
 pub record AreOptions (rows : List Row) (options : BuildOptions) : Type 0 where
   pub nodes : first_of (codes "nodes") rows ≡ Some (node_word options.nodes)
+  pub promise : ReadsPerhaps 8 (first_of (codes "promise") rows) options.promise
+  pub accept : ReadsPerhaps 8 (first_of (codes "accept") rows) options.accept
   pub turns : Reads 32 (first_of (codes "turns") rows) options.turns
   pub seed : Reads 64 (first_of (codes "seed") rows) options.seed
   pub folder : first_of (codes "dir") rows ≡ Some options.folder.now

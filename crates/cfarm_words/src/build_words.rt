@@ -5,8 +5,8 @@ ghost use Rattle.clap.specs.Words.{app_of, found_of, first_of, first_value, rows
 ghost use Rattle.clap.specs.declared.builder.command.Command.TheViews.{out-Command as fields_of};
 ghost use Rattle.cfarm_options.specs.declared.options.BuildOptions.{BuildOptions};
 ghost use Rattle.cfarm_options.specs.declared.options.Nodes.{Nodes};
-ghost use Rattle.cfarm_words.specs.Words.{AreOptions, Reads, build_app, folder_rule, node_word};
-ghost use Rattle.cfarm_words.specs.Words.{nodes_rule, seed_rule, turns_rule};
+ghost use Rattle.cfarm_words.specs.Words.{AreOptions, Reads, ReadsPerhaps, build_app, folder_rule, node_word};
+ghost use Rattle.cfarm_words.specs.Words.{accept_rule, nodes_rule, promise_rule, seed_rule, turns_rule};
 
 use crate::command_line::file;
 use cfarm_options::{BuildOptions, Nodes};
@@ -17,6 +17,12 @@ use std::alloc::{AllocError, Global};
 /// The option that says how many nodes there are.
 const NODES: &str = "nodes";
 
+/// The option with the size of a promise quorum.
+const PROMISE: &str = "promise";
+
+/// The option with the size of an accept quorum.
+const ACCEPT: &str = "accept";
+
 /// The option that bounds the turns of each node.
 const TURNS: &str = "turns";
 
@@ -25,6 +31,9 @@ const SEED: &str = "seed";
 
 /// The option with the folder.
 const FOLDER: &str = "dir";
+
+/// The greatest size of a quorum that is read; one that does not meet the other is told later.
+const MOST_SIZE: u64 = 255;
 
 /// The greatest bound of the turns of a node.
 const MOST_TURNS: u64 = 4_294_967_295;
@@ -41,6 +50,28 @@ fn nodes<'a>(alloc: Global, counts: &'a [&'a str]) -> Arg<'a>
         .help("How many nodes the farm has")
         .value_parser(ValueParser::Names(counts))
         .default_value("3")
+}
+
+fn promise<'a>(alloc: Global) -> Arg<'a>
+    ensures rule { rule_of result ≡ promise_rule }
+    ensures local { result.global ≡ false }
+{
+    Arg::new(alloc, PROMISE)
+        .long(PROMISE)
+        .help("How many nodes' promises a proposal rests on; more than half where none is given")
+        .value_parser(ValueParser::Unsigned(0, MOST_SIZE))
+}
+
+fn accept<'a>(alloc: Global) -> Arg<'a>
+    ensures rule { rule_of result ≡ accept_rule }
+    ensures local { result.global ≡ false }
+{
+    Arg::new(alloc, ACCEPT)
+        .long(ACCEPT)
+        .help(
+            "How many nodes' votes choose an offer; more than half where none is given. Both numbers are together above that of the nodes",
+        )
+        .value_parser(ValueParser::Unsigned(0, MOST_SIZE))
 }
 
 fn turns<'a>(alloc: Global) -> Arg<'a>
@@ -87,7 +118,9 @@ pub(crate) fn build<'a>(alloc: Global, counts: &'a [&'a str]) -> Result<Command<
         );
     let named = plain.arg(file(alloc, "A C text"))?;
     let counted = named.arg(nodes(alloc, counts))?;
-    let bounded = counted.arg(turns(alloc))?;
+    let promised = counted.arg(promise(alloc))?;
+    let accepted = promised.arg(accept(alloc))?;
+    let bounded = accepted.arg(turns(alloc))?;
     let seeded = bounded.arg(seed(alloc))?;
     let command = seeded.arg(folder(alloc))?;
     Ok(command)
@@ -100,10 +133,26 @@ fn nodes_of(words: &ArgMatches<'_>) -> Option<Nodes>
         first_value (found_of words.now) (codes "nodes") ≡ Some (node_word n) → ⊥ }
 {
     match words.get_str(NODES) {
+        Some("2") => Some(Nodes::Two),
         Some("3") => Some(Nodes::Three),
+        Some("4") => Some(Nodes::Four),
         Some("5") => Some(Nodes::Five),
+        Some("6") => Some(Nodes::Six),
         Some("7") => Some(Nodes::Seven),
         _ => None,
+    }
+}
+
+/// The size of a quorum, if this option says one.
+fn size_of(words: &ArgMatches<'_>, name: &str) -> Option<u8>
+    ensures { ReadsPerhaps 8 (first_of name.now (rows_of (found_of words.now))) result }
+{
+    match words.get_str(name) {
+        Some(text) => match text.parse() {
+            Ok(size) => Some(size),
+            Err(_) => None,
+        },
+        None => None,
     }
 }
 
@@ -138,6 +187,8 @@ pub(crate) fn options_of<'a>(words: &ArgMatches<'a>) -> Option<BuildOptions<'a>>
     };
     Some(BuildOptions {
         nodes,
+        promise: size_of(words, PROMISE),
+        accept: size_of(words, ACCEPT),
         turns: turns_of(words),
         seed: seed_of(words),
         folder,

@@ -1,11 +1,9 @@
 //! Nodes, call by call.
 
-ghost use Rattle.std.specs.Prelude.{◌≡◌, ◌⊎◌};
-
 use crate::kept_parts::entries_told;
 use crate::nodes::{all_nodes, restart};
-use crate::words::{message_of, message_told, yes_or_no};
-use paxos_core::{Kept, Msg, Node};
+use crate::words::{message_of, message_told, quorums_of, yes_or_no};
+use paxos_core::{Kept, Msg, Node, Quorums};
 use program_rows::{numbered, owned};
 use std::alloc::Global;
 
@@ -74,11 +72,9 @@ fn node_told(alloc: Global, node: &mut Node, kind: &str, rest: &str) -> Option<S
     }
 }
 
-/// What so many nodes answer to the calls.
-fn answers_told(alloc: Global, count: u8, calls: &str) -> Option<String>
-    requires { (count ≡ 3) ⊎ (count ≡ 5) ⊎ (count ≡ 7) }
-{
-    let mut nodes = all_nodes(alloc, count)?;
+/// What the nodes of a room with these quorums answer to the calls.
+fn answers_told(alloc: Global, quorums: Quorums, calls: &str) -> Option<String> {
+    let mut nodes = all_nodes(alloc, quorums)?;
     let mut told = String::new(alloc);
     for call in calls.split(';') {
         let answer = call_told(alloc, &mut nodes, call)?;
@@ -89,11 +85,6 @@ fn answers_told(alloc: Global, count: u8, calls: &str) -> Option<String>
 
 /// What the nodes of a room answer to the calls.
 pub fn calls_told(alloc: Global, question: &str) -> Option<String> {
-    let (count, calls) = question.split_once(' ')?;
-    match count {
-        "3" => answers_told(alloc, 3, calls),
-        "5" => answers_told(alloc, 5, calls),
-        "7" => answers_told(alloc, 7, calls),
-        _ => None,
-    }
+    let (sizes, calls) = question.split_once(' ')?;
+    answers_told(alloc, quorums_of(alloc, sizes)?, calls)
 }

@@ -1,7 +1,7 @@
 //! Kept parts of nodes, and what is settled.
 
-use crate::words::yes_or_no;
-use paxos_core::{Kept, settled};
+use crate::words::{quorums_of, yes_or_no};
+use paxos_core::{Kept, Quorums, settled};
 use program_rows::owned;
 use std::alloc::Global;
 
@@ -29,15 +29,34 @@ fn part_of(alloc: Global, text: &str) -> Option<Kept> {
     part_with(&entries_of(alloc, text)?)
 }
 
-/// Whether a room may open with these parts.
-pub fn settled_told(alloc: Global, text: &str) -> Option<String> {
+/// The parts with semicolons between.
+fn parts_of(alloc: Global, text: &str) -> Option<Vec<Kept>> {
     let mut parts = Vec::new(alloc);
     for part in text.split(';') {
         parts.push(part_of(alloc, part)?).ok()?;
     }
-    match parts.len() {
-        3 | 5 | 7 => owned(alloc, yes_or_no(settled(&parts))),
-        _ => None,
+    Some(parts)
+}
+
+/// Whether a room with these quorums may open with these parts.
+fn settled_with(alloc: Global, parts: &[Kept], quorums: Quorums) -> Option<String> {
+    if parts.len() != usize::from(quorums.nodes()) {
+        return None;
+    }
+    owned(alloc, yes_or_no(settled(parts, quorums)))
+}
+
+/// Whether a room may open with these parts. Where no sizes stand in front of them, its quorums are majorities.
+pub fn settled_told(alloc: Global, text: &str) -> Option<String> {
+    match text.split_once(' ') {
+        Some((sizes, text)) => {
+            settled_with(alloc, &parts_of(alloc, text)?, quorums_of(alloc, sizes)?)
+        }
+        None => {
+            let parts = parts_of(alloc, text)?;
+            let nodes = u8::try_from(parts.len()).ok()?;
+            settled_with(alloc, &parts, Quorums::majorities(nodes)?)
+        }
     }
 }
 

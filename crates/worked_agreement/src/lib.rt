@@ -3,16 +3,19 @@
 //!
 //! | Question | Answer |
 //! |---|---|
-//! | `settled PARTS` | `yes` or `no`: whether a room may open with these kept parts |
+//! | `settled PARTS`, `settled SIZES PARTS` | `yes` or `no`: whether a room may open with these kept parts |
 //! | `kept PART` | the part with these entries, or `none` |
-//! | `calls COUNT CALLS` | what so many nodes answer to each call, a message or `yes` or `no` |
-//! | `steps COUNT STEPS` | of each step in turn, the message that it sends, or `yes` where it sends none, or `no` where it is not allowed |
-//! | `random COUNT STREAMS TURNS` | `learned`, where in more than half of the schedules a value is, and each call is a step that the reference allows, or none where it allows none |
+//! | `calls SIZES CALLS` | what the nodes answer to each call, a message or `yes` or `no` |
+//! | `steps SIZES STEPS` | of each step in turn, the message that it sends, or `yes` where it sends none, or `no` where it is not allowed |
+//! | `random SIZES STREAMS TURNS` | `learned`, where in more than half of the schedules a value is, and each call is a step that the reference allows, or none where it allows none |
+//! | `alike SIZES STREAMS TURNS` | `alike`, where the same holds of each call, whether a value is learned or not |
 //! | `simulated SCHEDULE` | what a schedule prints, and the line of its refusal, `-` for none; both texts in hex |
 //! | `settle INPUT OUTPUT ..` | `agreed`, where `settle` prints one of the outputs |
 //! | `refused INPUT` | the status and the line of a refusal by `settle`, which prints nothing |
 //! | `near INPUT` | `well`, where on each strict front of the input, and each change of one byte of it, `settle` prints what is settled or refuses the form and prints nothing |
 //! | `noise COUNT` | `well` likewise, of so many random inputs |
+//!
+//! Sizes of quorums are `NODES,PROMISE,ACCEPT`, or `NODES` where both kinds are more than half of the nodes.
 //!
 //! A kept part is `OFFERED,STARTED,PROMISED,BALLOT,VALUE`, with ballot 0 for no vote; parts, calls and steps have semicolons
 //! between. A call is `offer NODE`, `start NODE`, `propose NODE`, `learned NODE`, `again NODE` (a restart), `opened NODE BALLOT` (a
@@ -39,7 +42,9 @@ use std::thread::Threads;
 /// Asks for each row of the files that lie beside the program, and tells how many agree. Nodes that settle take threads.
 pub fn tell<R: Threads + Wait>(rt: &HostRuntime, threads: &R) -> io::Result<()> {
     compare(rt, "settled.txt", &mut Rows)?;
+    compare(rt, "settled-sizes.txt", &mut Rows)?;
     compare(rt, "protocol.txt", &mut Rows)?;
     tell_settle(rt, threads, "settle.txt")?;
-    compare(rt, "schedules.txt", &mut Rows)
+    compare(rt, "schedules.txt", &mut Rows)?;
+    compare(rt, "schedules-sizes.txt", &mut Rows)
 }

@@ -1,17 +1,13 @@
 //! The nodes of a room.
 
-ghost use Rattle.std.specs.Prelude.{◌≡◌, ◌⊎◌};
-
-use paxos_core::{Kept, Node};
+use paxos_core::{Kept, Node, Quorums};
 use std::alloc::Global;
 
-/// All nodes of a room of so many.
-pub fn all_nodes(alloc: Global, count: u8) -> Option<Vec<Node>>
-    requires { (count ≡ 3) ⊎ (count ≡ 5) ⊎ (count ≡ 7) }
-{
+/// All nodes of a room with these quorums.
+pub fn all_nodes(alloc: Global, quorums: Quorums) -> Option<Vec<Node>> {
     let mut nodes = Vec::new(alloc);
-    for me in 0..count {
-        nodes.push(Node::new(me, count)).ok()?;
+    for me in 0..quorums.nodes() {
+        nodes.push(Node::new(me, quorums)).ok()?;
     }
     Some(nodes)
 }

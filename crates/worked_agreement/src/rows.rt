@@ -2,7 +2,7 @@
 
 use crate::calls::calls_told;
 use crate::kept_parts::{kept_told, settled_told};
-use crate::schedules::random_told;
+use crate::schedules::{alike_told, random_told};
 use crate::settle::{near, noise, refused, settled_on};
 use crate::simulated::simulated;
 use crate::steps::steps_told;
@@ -25,6 +25,7 @@ impl Answers for Rows {
             "calls" => calls_told(alloc, words),
             "steps" => steps_told(alloc, words),
             "random" => random_told(alloc, words),
+            "alike" => alike_told(alloc, words),
             "simulated" => simulated(alloc, words),
             _ => None,
         }

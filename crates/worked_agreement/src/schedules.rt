@@ -1,11 +1,9 @@
 //! Random schedules of the nodes of a room, with losses, repeats, delays, restarts and reopenings: each call is a step
 //! that the reference allows, or none where it allows none, and sends what the reference sends.
 
-ghost use Rattle.std.specs.Prelude.{◌≡◌, ◌⊎◌};
-
 use crate::nodes::{all_nodes, restart};
-use crate::words::numbers;
-use paxos_core::{Kept, Msg, Node, settled};
+use crate::words::{numbers, quorums_of};
+use paxos_core::{Kept, Msg, Node, Quorums, settled};
 use paxos_reference::label::Label;
 use paxos_reference::world::World;
 use program_rows::{numbered, owned};
@@ -30,22 +28,23 @@ enum Turn {
     Reopen,
 }
 
-/// The nodes of a room, the reference world in which they move, and the value that any of them ever learned.
+/// The nodes of a room, its quorums, the reference world in which they move, and the value that any of them ever learned.
 #[derive(Drop)]
 struct Room {
+    quorums: Quorums,
     nodes: Vec<Node>,
     world: World,
     learned: Option<u16>,
 }
 
 impl Room {
-    fn new(alloc: Global, count: u8) -> Option<Room>
-        requires { (count ≡ 3) ⊎ (count ≡ 5) ⊎ (count ≡ 7) }
-    {
+    fn new(alloc: Global, quorums: Quorums) -> Option<Room> {
         let parts = [Kept::nothing(); 7];
+        let parts = parts.get(..usize::from(quorums.nodes()))?;
         Some(Room {
-            nodes: all_nodes(alloc, count)?,
-            world: World::opening(alloc, &parts[..usize::from(count)]).ok()?,
+            quorums,
+            nodes: all_nodes(alloc, quorums)?,
+            world: World::opening(alloc, parts, quorums).ok()?,
             learned: None,
         })
     }
@@ -97,10 +96,11 @@ impl Room {
             self.restart(place)?;
         }
         let parts = &self.world.nodes;
-        if parts.len() > 7 || !settled(parts) {
+        let quorums = self.quorums;
+        if parts.len() != usize::from(quorums.nodes()) || !settled(parts, quorums) {
             return None;
         }
-        self.world = World::opening(alloc, parts).ok()?;
+        self.world = World::opening(alloc, parts, quorums).ok()?;
         Some(())
     }
 
@@ -179,42 +179,54 @@ fn place_below(words: &mut Pcg32, count: usize) -> usize {
 }
 
 /// Plays one schedule of so many turns, if the nodes and the reference agree in all. Whether a value was learned.
-fn play(alloc: Global, count: u8, stream: u64, turns: u16) -> Option<bool>
-    requires { (count ≡ 3) ⊎ (count ≡ 5) ⊎ (count ≡ 7) }
-{
+fn play(alloc: Global, quorums: Quorums, stream: u64, turns: u16) -> Option<bool> {
     let mut words = Pcg32::new(1, stream);
-    let mut room = Room::new(alloc, count)?;
+    let mut room = Room::new(alloc, quorums)?;
     for _ in 0..turns {
         room.turn(alloc, &mut words)?;
     }
     Some(room.learned.is_some())
 }
 
-/// Plays schedules, one for each stream of the generator, and tells whether in more than half of them a value is learned.
-fn played(alloc: Global, count: u8, streams: u16, turns: u16) -> Option<String>
-    requires { (count ≡ 3) ⊎ (count ≡ 5) ⊎ (count ≡ 7) }
-{
+/// Plays schedules, one for each stream of the generator: in how many of them a value is learned, or the first in which the nodes
+/// and the reference differ.
+fn played(alloc: Global, quorums: Quorums, streams: u16, turns: u16) -> Result<u16, u16> {
     let mut learned = 0u16;
     for stream in 0..streams {
-        match play(alloc, count, u64::from(stream), turns) {
+        match play(alloc, quorums, u64::from(stream), turns) {
             Some(true) => learned = learned.saturating_add(1),
             Some(false) => {}
-            None => return numbered(alloc, "differs in ", u64::from(stream)),
+            None => return Err(stream),
         }
     }
-    if learned > streams / 2 {
-        return owned(alloc, "learned");
-    }
-    numbered(alloc, "learned in ", u64::from(learned))
+    Ok(learned)
 }
 
-/// What is told of random schedules of so many nodes, streams and turns.
-pub fn random_told(alloc: Global, question: &str) -> Option<String> {
-    let counts = numbers(alloc, question, ' ')?;
+/// The quorums of the sizes that are asked for, how many schedules, and of how many turns each.
+fn asked(alloc: Global, question: &str) -> Option<(Quorums, u16, u16)> {
+    let (sizes, counts) = question.split_once(' ')?;
+    let counts = numbers(alloc, counts, ' ')?;
     match counts.as_slice() {
-        [3, streams, turns] => played(alloc, 3, *streams, *turns),
-        [5, streams, turns] => played(alloc, 5, *streams, *turns),
-        [7, streams, turns] => played(alloc, 7, *streams, *turns),
+        [streams, turns] => Some((quorums_of(alloc, sizes)?, *streams, *turns)),
         _ => None,
+    }
+}
+
+/// What is told of random schedules: whether in more than half of them a value is learned.
+pub fn random_told(alloc: Global, question: &str) -> Option<String> {
+    let (quorums, streams, turns) = asked(alloc, question)?;
+    match played(alloc, quorums, streams, turns) {
+        Ok(learned) if learned > streams / 2 => owned(alloc, "learned"),
+        Ok(learned) => numbered(alloc, "learned in ", u64::from(learned)),
+        Err(stream) => numbered(alloc, "differs in ", u64::from(stream)),
+    }
+}
+
+/// The same, whether a value is learned or not.
+pub fn alike_told(alloc: Global, question: &str) -> Option<String> {
+    let (quorums, streams, turns) = asked(alloc, question)?;
+    match played(alloc, quorums, streams, turns) {
+        Ok(_learned) => owned(alloc, "alike"),
+        Err(stream) => numbered(alloc, "differs in ", u64::from(stream)),
     }
 }

@@ -20,7 +20,7 @@ struct Ended {
 fn run<R: Threads + Wait>(threads: &R, alloc: Global, bytes: &[u8]) -> Option<Ended> {
     let mut output = Vec::new(alloc);
     match settle(threads, alloc, bytes, &mut output) {
-        Ok(()) => Some(Ended {
+        Ok(_seats) => Some(Ended {
             status: 0,
             line: String::new(alloc),
             output,

@@ -1,6 +1,6 @@
 //! The steps of the protocol's slow reference.
 
-use crate::words::{message_told, node_of, numbers};
+use crate::words::{message_told, node_of, numbers, quorums_of};
 use paxos_core_world::kept::Kept;
 use paxos_reference::label::Label;
 use paxos_reference::world::World;
@@ -58,12 +58,13 @@ fn step_told(alloc: Global, world: &mut World, step: &str) -> Option<String> {
     }
 }
 
-/// What is told of each step from the opening of a room of so many nodes.
+/// What is told of each step from the opening of a room with quorums of these sizes.
 pub fn steps_told(alloc: Global, question: &str) -> Option<String> {
-    let (count, steps) = question.split_once(' ')?;
-    let count: usize = count.parse().ok()?;
+    let (sizes, steps) = question.split_once(' ')?;
+    let quorums = quorums_of(alloc, sizes)?;
     let parts = [Kept::nothing(); 7];
-    let mut world = World::opening(alloc, parts.get(..count)?).ok()?;
+    let parts = parts.get(..usize::from(quorums.nodes()))?;
+    let mut world = World::opening(alloc, parts, quorums).ok()?;
     let mut told = String::new(alloc);
     for step in steps.split(';') {
         let answer = step_told(alloc, &mut world, step)?;

@@ -1,6 +1,7 @@
 //! Numbers, messages and answers as words.
 
 use paxos_core_world::msg::Msg;
+use paxos_core_world::quorum::Quorums;
 use paxos_core_world::vote::Vote;
 use program_rows::owned;
 use std::alloc::Global;
@@ -17,6 +18,18 @@ pub fn numbers(alloc: Global, text: &str, between: char) -> Option<Vec<u16>> {
 /// A node's number.
 pub fn node_of(number: u16) -> u8 {
     u8::try_from(number).unwrap_or(u8::MAX)
+}
+
+/// The quorums of these sizes, `N` or `N,Q1,Q2`: the number of nodes alone stands for majorities.
+pub fn quorums_of(alloc: Global, text: &str) -> Option<Quorums> {
+    let sizes = numbers(alloc, text, ',')?;
+    match sizes.as_slice() {
+        [nodes] => Quorums::majorities(node_of(*nodes)),
+        [nodes, promise, accept] => {
+            Quorums::of(node_of(*nodes), node_of(*promise), node_of(*accept))
+        }
+        _ => None,
+    }
 }
 
 /// A vote; ballot 0 stands for none.

@@ -4,7 +4,7 @@ use crate::running::opened_on;
 use acceptor_log::LogError;
 use cfarm_build::BuildError;
 use durable_model::MemoryDisk;
-use farm_nodes::{FarmError, Hall, Naming, OpenFault};
+use farm_nodes::{FarmError, Hall, Naming, OpenFault, Quorums};
 use program_rows::owned;
 use std::alloc::Global;
 use std::sync::Wait;
@@ -42,9 +42,10 @@ pub(crate) fn opening_told<H: Naming, R: Threads + Wait + Sync>(
     alloc: Global,
     hall: &Hall<H>,
     text: &[u8],
+    quorums: Quorums,
     disks: Vec<MemoryDisk>,
 ) -> Option<String> {
-    match opened_on(threads, alloc, hall, text, disks) {
+    match opened_on(threads, alloc, hall, text, quorums, disks) {
         Ok(_farm) => owned(alloc, "opened"),
         Err((_disks, fault)) => line_of_farm(alloc, fault),
     }

@@ -5,7 +5,7 @@ use crate::disks::empty_disk;
 use crate::running::TURNS;
 use crate::whole::whole_disks;
 use acceptor_log::{Header, Log, Record};
-use cfarm_build::build;
+use cfarm_build::{Quorums, build};
 use cfarm_meter::Meter;
 use durable_model::{Disk, MemoryDisk};
 use farm_nodes::{Hall, Naming, optimisers_of, prepare};
@@ -44,12 +44,19 @@ fn appended<D: Disk + Drop>(
 }
 
 /// The disks of three nodes with the same records in the other rooms.
-fn crossed(alloc: Global, disks: Vec<MemoryDisk>, digest: [u8; 32]) -> Option<Vec<MemoryDisk>> {
+fn crossed(
+    alloc: Global,
+    quorums: Quorums,
+    disks: Vec<MemoryDisk>,
+    digest: [u8; 32],
+) -> Option<Vec<MemoryDisk>> {
     let mut all = Vec::new(alloc);
     let mut number = 0u8;
     for disk in disks {
         let header = Header {
-            nodes: 3,
+            nodes: quorums.nodes(),
+            promise: quorums.promise(),
+            accept: quorums.accept(),
             node: number,
             digest,
         };
@@ -80,25 +87,27 @@ impl Meter for Quiet {
     fn clear(&mut self) {}
 }
 
-/// Whether a farm of three nodes builds a program over the disks; else its line.
+/// Whether a farm with these quorums builds a program over the disks; else its line.
 fn build_told<H: Naming + Send, R: Threads + Wait + Sync>(
     threads: &R,
     alloc: Global,
     hall: &Hall<H>,
     text: &[u8],
+    quorums: Quorums,
     disks: Vec<MemoryDisk>,
 ) -> Option<String> {
-    if disks.len() != 3 {
+    let count = usize::from(quorums.nodes());
+    if disks.len() != count {
         return None;
     }
-    let Ok(oracles) = optimisers_of(alloc, 3) else {
+    let Ok(oracles) = optimisers_of(alloc, count) else {
         return None;
     };
     let Ok(source) = prepare(alloc, text) else {
         return None;
     };
     let made = build(
-        threads, alloc, hall, source, disks, oracles, TURNS, 1, &mut Quiet,
+        threads, alloc, hall, source, disks, oracles, TURNS, 1, quorums, &mut Quiet,
     );
     match made {
         Ok(_built) => owned(alloc, "linked"),
@@ -112,15 +121,16 @@ pub(crate) fn crossed_told<H: Naming + Send, R: Threads + Wait + Sync>(
     alloc: Global,
     hall: &Hall<H>,
     text: &[u8],
+    quorums: Quorums,
 ) -> Option<String> {
     let Ok(source) = prepare(alloc, text) else {
         return None;
     };
-    let Some(disks) = whole_disks(threads, alloc, hall, text) else {
+    let Some(disks) = whole_disks(threads, alloc, hall, text, quorums) else {
         return None;
     };
-    let Some(disks) = crossed(alloc, disks, source.digest) else {
+    let Some(disks) = crossed(alloc, quorums, disks, source.digest) else {
         return None;
     };
-    build_told(threads, alloc, hall, text, disks)
+    build_told(threads, alloc, hall, text, quorums, disks)
 }

@@ -19,10 +19,10 @@ pub(crate) fn empty_disk(alloc: Global) -> Option<MemoryDisk> {
     MemoryDisk::new(alloc, CALLS, BYTES).ok()
 }
 
-/// Three empty disks, which stop from this call on; at none where it is 0.
-pub(crate) fn three_disks(alloc: Global, stops: usize) -> Option<Vec<MemoryDisk>> {
+/// So many empty disks, which stop from this call on; at none where it is 0.
+pub(crate) fn disks_of(alloc: Global, nodes: u8, stops: usize) -> Option<Vec<MemoryDisk>> {
     let mut disks = Vec::new(alloc);
-    for _node in 0..3usize {
+    for _node in 0..nodes {
         let Some(mut disk) = empty_disk(alloc) else {
             return None;
         };

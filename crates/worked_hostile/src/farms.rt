@@ -37,15 +37,16 @@ fn told_in<H: Naming + Send, R: Threads + Wait + Sync>(
     requires { opened ≡ H.hall }
 {
     let hall = opened.named::<H>();
+    let quorums = row.quorums;
     let text = row.text.as_slice();
     match row.trial {
-        Trial::Forged => forged_told(threads, alloc, &hall, &row.how, text),
-        Trial::Exchanged => exchanged_told(threads, alloc, &hall, text),
-        Trial::Edited => edited_told(threads, alloc, &hall, text),
-        Trial::Joined => joined_told(threads, alloc, &hall, text),
-        Trial::Crossed => crossed_told(threads, alloc, &hall, text),
-        Trial::Unread => unread_told(threads, alloc, &hall, text),
-        Trial::Stopped => stopped_told(threads, alloc, &hall, &row.how, text),
-        Trial::Swept => swept_told(threads, alloc, &hall, &row.how, text),
+        Trial::Forged => forged_told(threads, alloc, &hall, &row.how, text, quorums),
+        Trial::Exchanged => exchanged_told(threads, alloc, &hall, text, quorums),
+        Trial::Edited => edited_told(threads, alloc, &hall, text, quorums),
+        Trial::Joined => joined_told(threads, alloc, &hall, text, quorums),
+        Trial::Crossed => crossed_told(threads, alloc, &hall, text, quorums),
+        Trial::Unread => unread_told(threads, alloc, &hall, text, quorums),
+        Trial::Stopped => stopped_told(threads, alloc, &hall, &row.how, text, quorums),
+        Trial::Swept => swept_told(threads, alloc, &hall, &row.how, text, quorums),
     }
 }

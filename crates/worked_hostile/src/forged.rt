@@ -4,7 +4,7 @@ use crate::answers::opening_told;
 use crate::disks::disk_of;
 use acceptor_log::{Header, header_bytes};
 use durable_model::MemoryDisk;
-use farm_nodes::{Hall, Naming, prepare};
+use farm_nodes::{Hall, Naming, Quorums, prepare};
 use program_rows::bytes_of;
 use std::alloc::Global;
 use std::sync::Wait;
@@ -32,12 +32,19 @@ fn journal_of(alloc: Global, header: &Header, records: &str) -> Option<Vec<u8>> 
 }
 
 /// The disks of the nodes whose records are listed.
-fn forged_disks(alloc: Global, digest: [u8; 32], records: &str) -> Option<Vec<MemoryDisk>> {
+fn forged_disks(
+    alloc: Global,
+    quorums: Quorums,
+    digest: [u8; 32],
+    records: &str,
+) -> Option<Vec<MemoryDisk>> {
     let mut disks = Vec::new(alloc);
     let mut number = 0u8;
     for node in records.split(';') {
         let header = Header {
-            nodes: 3,
+            nodes: quorums.nodes(),
+            promise: quorums.promise(),
+            accept: quorums.accept(),
             node: number,
             digest,
         };
@@ -58,12 +65,13 @@ pub(crate) fn forged_told<H: Naming, R: Threads + Wait + Sync>(
     hall: &Hall<H>,
     records: &str,
     text: &[u8],
+    quorums: Quorums,
 ) -> Option<String> {
     let Ok(source) = prepare(alloc, text) else {
         return None;
     };
-    let Some(disks) = forged_disks(alloc, source.digest, records) else {
+    let Some(disks) = forged_disks(alloc, quorums, source.digest, records) else {
         return None;
     };
-    opening_told(threads, alloc, hall, text, disks)
+    opening_told(threads, alloc, hall, text, quorums, disks)
 }

@@ -1,16 +1,18 @@
-//! Farms of three nodes on disks in memory, under hostile use: what they answer where journals are forged, exchanged, cut and changed, and
+//! Farms on disks in memory, under hostile use: what they answer where journals are forged, exchanged, cut and changed, and
 //! where disks fail and stop. Tells how many rows of the file are answered as they say, and which are not.
 //!
 //! | Question | Answer |
 //! |---|---|
-//! | `forged RECORDS TEXT` | what opening over these journals tells: the records of a node have commas between, those of the nodes `;`, and `-` is none. A record is its bytes in hex |
-//! | `exchanged - TEXT` | what opening tells over the journals of a whole farm, of which the first two are exchanged |
-//! | `edited - TEXT` | the same over those of the text with a blank behind |
-//! | `joined - TEXT` | the same over those of three nodes and two empty disks |
-//! | `crossed - TEXT` | what a build tells over the journals of a whole farm in which the first two functions have exchanged their rooms |
-//! | `unread - TEXT` | `linked`, where opening over the journals of a whole farm tells each call of a disk that fails, and a farm on the disks that come back links what was linked |
-//! | `stopped STEP TEXT` | `linked`, where farms whose disks all stop, so many calls later each, and crash, open again, link all functions, and those that a node had linked with the same code. While the first journal is made it may also be refused as none, as bad or as another's |
-//! | `swept STEP TEXT` | `answered`, where a farm opens, or is refused for the node's journal or for a room that is not settled, with each journal of a whole farm cut at each length and with each of its bytes changed, one at a time: at every so many bytes |
+//! | `forged SIZES RECORDS TEXT` | what opening over these journals tells: the records of a node have commas between, those of the nodes `;`, and `-` is none. A record is its bytes in hex |
+//! | `exchanged SIZES - TEXT` | what opening tells over the journals of a whole farm, of which the first two are exchanged |
+//! | `edited SIZES - TEXT` | the same over those of the text with a blank behind |
+//! | `joined SIZES - TEXT` | the same over those of a whole farm of three nodes, as many as are needed, and empty disks behind |
+//! | `crossed SIZES - TEXT` | what a build tells over the journals of a whole farm in which the first two functions have exchanged their rooms |
+//! | `unread SIZES - TEXT` | `linked`, where opening over the journals of a whole farm tells each call of a disk that fails, and a farm on the disks that come back links what was linked |
+//! | `stopped SIZES STEP TEXT` | `linked`, where farms whose disks all stop, so many calls later each, and crash, open again, link all functions, and those that a node had linked with the same code. While the first journal is made it may also be refused as none, as bad or as another's |
+//! | `swept SIZES STEP TEXT` | `answered`, where a farm opens, or is refused for the node's journal or for a room that is not settled, with each journal of a whole farm cut at each length and with each of its bytes changed, one at a time: at every so many bytes |
+//!
+//! Sizes of quorums are `NODES,PROMISE,ACCEPT`, or `NODES` where both kinds are more than half of the nodes.
 //!
 //! What opening tells is `opened`, and what a build tells `linked`; or a status and a line. A farm is whole once its nodes have learned in
 //! all rooms.

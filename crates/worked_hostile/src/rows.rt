@@ -1,5 +1,6 @@
 //! What a row asks for.
 
+use farm_nodes::Quorums;
 use std::alloc::Global;
 
 /// What a farm suffers.
@@ -11,7 +12,7 @@ pub(crate) enum Trial {
     Exchanged,
     /// Its text is edited.
     Edited,
-    /// Two nodes join it.
+    /// It opens over the journals of three nodes.
     Joined,
     /// Two functions have exchanged their rooms.
     Crossed,
@@ -23,10 +24,11 @@ pub(crate) enum Trial {
     Swept,
 }
 
-/// What is asked for: what a farm of this text suffers, and how.
+/// What is asked for: what a farm of this text with these quorums suffers, and how.
 #[derive(Drop)]
 pub(crate) struct Row {
     pub trial: Trial,
+    pub quorums: Quorums,
     pub how: String,
     pub text: Vec<u8>,
 }
@@ -45,15 +47,29 @@ fn trial_of(word: &str) -> Option<Trial> {
     }
 }
 
+/// The quorums: `N` for more than half of the nodes, or `N,Q1,Q2`.
+fn quorums_of(word: &str) -> Option<Quorums> {
+    match word.split_once(',') {
+        None => Quorums::majorities(word.parse().ok()?),
+        Some((nodes, sizes)) => {
+            let (promise, accept) = sizes.split_once(',')?;
+            let promise = promise.parse().ok()?;
+            Quorums::of(nodes.parse().ok()?, promise, accept.parse().ok()?)
+        }
+    }
+}
+
 /// What a question asks for, if it is one.
 pub(crate) fn row_of(alloc: Global, question: &str) -> Option<Row> {
     let (word, rest) = question.split_once(' ')?;
+    let (sizes, rest) = rest.split_once(' ')?;
     let (how, text) = rest.split_once(' ')?;
     let Some(trial) = trial_of(word) else {
         return None;
     };
     Some(Row {
         trial,
+        quorums: quorums_of(sizes)?,
         how: how.to_string(alloc).ok()?,
         text: text.as_bytes().to_vec(alloc).ok()?,
     })

@@ -1,14 +1,15 @@
 //! Farms that open, and that take their turns.
 
-ghost use Rattle.std.specs.Prelude.{IsTrue, IfOk};
+ghost use Rattle.std.specs.Prelude.{IfOk};
 ghost use Rattle.std.specs.List.{AllByRecursion};
-ghost use Rattle.paxos_core_law.specs.NodeState.{IsRoomSize};
 ghost use Rattle.farm_nodes_passes.specs.Fours.{fours_of};
 ghost use Rattle.farm_nodes_node.specs.Held.{IsSoundNode};
 ghost use Rattle.farm_nodes_node.specs.Waiting.{IsWaiting};
 
 use durable_model::{Disk, MemoryDisk};
-use farm_nodes::{Farm, FarmError, FarmNode, Hall, Naming, Optimisers, optimisers_of, run_threads};
+use farm_nodes::{
+    Farm, FarmError, FarmNode, Hall, Naming, Optimisers, Quorums, optimisers_of, run_threads,
+};
 use parallel_validate::OpenGate;
 use std::alloc::Global;
 use std::sync::Wait;
@@ -20,33 +21,28 @@ pub(crate) const TURNS: u64 = 100_000;
 /// A node of these farms.
 pub(crate) type Node<H> = FarmNode<MemoryDisk, Optimisers, H>;
 
-/// Whether one of these farms has so many nodes.
-fn is_size(nodes: usize) -> bool
-    ensures { IsTrue result → IsRoomSize nodes }
-{
-    nodes == 3 || nodes == 5
-}
-
-/// A farm with a node for each of the disks. Where it does not open they come back, with the fault, if it is one.
+/// A farm with these quorums and a node for each of the disks. Where it does not open they come back, with the fault, if it is one; none
+/// where there are not as many disks as nodes.
 pub(crate) fn opened_on<D: Disk + Drop, H: Naming, R: Threads + Wait + Sync>(
     threads: &R,
     alloc: Global,
     hall: &Hall<H>,
     text: &[u8],
+    quorums: Quorums,
     disks: Vec<D>,
 ) -> Result<Farm<D, Optimisers, H>, (Vec<D>, Option<FarmError>)>
     ensures { IfOk result (λ farm. AllByRecursion (λ n.
         IsSoundNode D.is_honest D.seen D.may_leave n.log (fours_of n.seats.items) n.halted
         × IsWaiting n.seats.items n.halted) farm.nodes.items) }
 {
-    let count = disks.len();
-    if !is_size(count) {
+    let count = usize::from(quorums.nodes());
+    if disks.len() != count {
         return Err((disks, None));
     }
     let Ok(oracles) = optimisers_of(alloc, count) else {
         return Err((disks, None));
     };
-    match Farm::open(threads, alloc, hall, text, disks, oracles, 1) {
+    match Farm::open(threads, alloc, hall, text, disks, oracles, 1, quorums) {
         Ok(farm) => Ok(farm),
         Err((disks, fault)) => Err((disks, Some(fault))),
     }
@@ -58,9 +54,10 @@ pub(crate) fn ran_on<H: Naming + Send, R: Threads + Wait + Sync>(
     alloc: Global,
     hall: &Hall<H>,
     text: &[u8],
+    quorums: Quorums,
     disks: Vec<MemoryDisk>,
 ) -> Result<Vec<Node<H>>, (Vec<MemoryDisk>, Option<FarmError>)> {
-    let farm = match opened_on(threads, alloc, hall, text, disks) {
+    let farm = match opened_on(threads, alloc, hall, text, quorums, disks) {
         Ok(farm) => farm,
         Err(refused) => return Err(refused),
     };

@@ -2,11 +2,11 @@
 
 use crate::answers::is_failure;
 use crate::codes::{all_linked, codes_of, stays};
-use crate::disks::{crashed, crashed_of, three_disks};
+use crate::disks::{crashed, crashed_of, disks_of};
 use crate::running::{Node, ran_on};
 use acceptor_log::LogError;
 use durable_model::MemoryDisk;
-use farm_nodes::{FarmError, Hall, Naming, OpenFault};
+use farm_nodes::{FarmError, Hall, Naming, OpenFault, Quorums};
 use farm_nodes_offers::Fault;
 use program_rows::owned;
 use std::alloc::Global;
@@ -38,13 +38,14 @@ fn lives<H: Naming + Send, R: Threads + Wait + Sync>(
     alloc: Global,
     hall: &Hall<H>,
     text: &[u8],
+    quorums: Quorums,
     nodes: &[Node<H>],
     seed: u64,
 ) -> Option<bool> {
     let Some(disks) = crashed_of(alloc, nodes, seed) else {
         return None;
     };
-    let Ok(mut again) = ran_on(threads, alloc, hall, text, disks) else {
+    let Ok(mut again) = ran_on(threads, alloc, hall, text, quorums, disks) else {
         return None;
     };
     let Some(after) = all_linked(alloc, &mut again) else {
@@ -79,13 +80,14 @@ fn begins<H: Naming + Send, R: Threads + Wait + Sync>(
     alloc: Global,
     hall: &Hall<H>,
     text: &[u8],
+    quorums: Quorums,
     disks: &[MemoryDisk],
     seed: u64,
 ) -> bool {
     let Some(left) = crashed(alloc, disks, seed) else {
         return false;
     };
-    match ran_on(threads, alloc, hall, text, left) {
+    match ran_on(threads, alloc, hall, text, quorums, left) {
         Ok(nodes) => {
             let mut nodes = nodes;
             all_linked(alloc, &mut nodes).is_some()
@@ -100,16 +102,17 @@ fn stops<H: Naming + Send, R: Threads + Wait + Sync>(
     alloc: Global,
     hall: &Hall<H>,
     text: &[u8],
+    quorums: Quorums,
     call: usize,
 ) -> Option<bool> {
-    let Some(disks) = three_disks(alloc, call) else {
+    let Some(disks) = disks_of(alloc, quorums.nodes(), call) else {
         return None;
     };
     let seed = call as u64;
-    match ran_on(threads, alloc, hall, text, disks) {
-        Ok(nodes) => lives(threads, alloc, hall, text, &nodes, seed),
+    match ran_on(threads, alloc, hall, text, quorums, disks) {
+        Ok(nodes) => lives(threads, alloc, hall, text, quorums, &nodes, seed),
         Err((disks, fault)) => {
-            if is_failure(&fault, 0) && begins(threads, alloc, hall, text, &disks, seed) {
+            if is_failure(&fault, 0) && begins(threads, alloc, hall, text, quorums, &disks, seed) {
                 Some(true)
             } else {
                 None
@@ -125,13 +128,14 @@ pub(crate) fn stopped_told<H: Naming + Send, R: Threads + Wait + Sync>(
     hall: &Hall<H>,
     step: &str,
     text: &[u8],
+    quorums: Quorums,
 ) -> Option<String> {
     let Ok(step) = step.parse() else {
         return None;
     };
     let mut call = 1usize;
     for _moment in 0..MOST {
-        let Some(stopped) = stops(threads, alloc, hall, text, call) else {
+        let Some(stopped) = stops(threads, alloc, hall, text, quorums, call) else {
             return None;
         };
         if !stopped {

@@ -3,7 +3,7 @@
 use crate::answers::opening_told;
 use crate::disks::empty_disk;
 use crate::whole::whole_disks;
-use farm_nodes::{Hall, Naming};
+use farm_nodes::{Hall, Naming, Quorums};
 use std::alloc::Global;
 use std::sync::Wait;
 use std::thread::Threads;
@@ -14,15 +14,16 @@ pub(crate) fn exchanged_told<H: Naming + Send, R: Threads + Wait + Sync>(
     alloc: Global,
     hall: &Hall<H>,
     text: &[u8],
+    quorums: Quorums,
 ) -> Option<String> {
-    let Some(mut disks) = whole_disks(threads, alloc, hall, text) else {
+    let Some(mut disks) = whole_disks(threads, alloc, hall, text, quorums) else {
         return None;
     };
     if disks.len() < 2 {
         return None;
     }
     disks.swap(0, 1);
-    opening_told(threads, alloc, hall, text, disks)
+    opening_told(threads, alloc, hall, text, quorums, disks)
 }
 
 /// The journals are of the text with a blank behind.
@@ -31,6 +32,7 @@ pub(crate) fn edited_told<H: Naming + Send, R: Threads + Wait + Sync>(
     alloc: Global,
     hall: &Hall<H>,
     text: &[u8],
+    quorums: Quorums,
 ) -> Option<String> {
     let Ok(mut longer) = text.to_vec(alloc) else {
         return None;
@@ -38,23 +40,29 @@ pub(crate) fn edited_told<H: Naming + Send, R: Threads + Wait + Sync>(
     if longer.push(b' ').is_err() {
         return None;
     }
-    let Some(disks) = whole_disks(threads, alloc, hall, &longer) else {
+    let Some(disks) = whole_disks(threads, alloc, hall, &longer, quorums) else {
         return None;
     };
-    opening_told(threads, alloc, hall, text, disks)
+    opening_told(threads, alloc, hall, text, quorums, disks)
 }
 
-/// The journals are of three nodes, and two more nodes have empty disks.
+/// The journals are of three nodes, of which more than half are a quorum of either kind; further nodes have empty disks.
 pub(crate) fn joined_told<H: Naming + Send, R: Threads + Wait + Sync>(
     threads: &R,
     alloc: Global,
     hall: &Hall<H>,
     text: &[u8],
+    quorums: Quorums,
 ) -> Option<String> {
-    let Some(mut disks) = whole_disks(threads, alloc, hall, text) else {
+    let Some(three) = Quorums::majorities(3) else {
         return None;
     };
-    for _more in 0..2usize {
+    let Some(mut disks) = whole_disks(threads, alloc, hall, text, three) else {
+        return None;
+    };
+    let count = usize::from(quorums.nodes());
+    disks.truncate(count);
+    for _more in disks.len()..count {
         let Some(disk) = empty_disk(alloc) else {
             return None;
         };
@@ -62,5 +70,5 @@ pub(crate) fn joined_told<H: Naming + Send, R: Threads + Wait + Sync>(
             return None;
         }
     }
-    opening_told(threads, alloc, hall, text, disks)
+    opening_told(threads, alloc, hall, text, quorums, disks)
 }

@@ -8,7 +8,7 @@ use crate::running::opened_on;
 use crate::whole::whole_disks;
 use acceptor_log::LogError;
 use durable_model::MemoryDisk;
-use farm_nodes::{FarmError, Hall, Naming, OpenFault};
+use farm_nodes::{FarmError, Hall, Naming, OpenFault, Quorums};
 use farm_nodes_opening::RoomFault;
 use program_rows::owned;
 use std::alloc::Global;
@@ -85,10 +85,11 @@ fn answered<H: Naming, R: Threads + Wait + Sync>(
     alloc: Global,
     hall: &Hall<H>,
     text: &[u8],
+    quorums: Quorums,
     disks: Vec<MemoryDisk>,
     node: usize,
 ) -> Result<(), Option<String>> {
-    match opened_on(threads, alloc, hall, text, disks) {
+    match opened_on(threads, alloc, hall, text, quorums, disks) {
         Ok(_farm) => Ok(()),
         Err((_disks, fault)) => {
             if is_answer(&fault, node) {
@@ -106,6 +107,7 @@ fn all_answered<H: Naming, R: Threads + Wait + Sync>(
     alloc: Global,
     hall: &Hall<H>,
     text: &[u8],
+    quorums: Quorums,
     journals: &[Vec<u8>],
     node: usize,
     at: usize,
@@ -119,7 +121,7 @@ fn all_answered<H: Naming, R: Threads + Wait + Sync>(
         let Some(disks) = disks_with(alloc, journals, node, other.as_slice()) else {
             return Err(None);
         };
-        match answered(threads, alloc, hall, text, disks, node) {
+        match answered(threads, alloc, hall, text, quorums, disks, node) {
             Ok(()) => {}
             Err(line) => return Err(line),
         }
@@ -133,6 +135,7 @@ fn node_answered<H: Naming, R: Threads + Wait + Sync>(
     alloc: Global,
     hall: &Hall<H>,
     text: &[u8],
+    quorums: Quorums,
     journals: &[Vec<u8>],
     node: usize,
     step: usize,
@@ -141,7 +144,7 @@ fn node_answered<H: Naming, R: Threads + Wait + Sync>(
 {
     for at in 0..journals[node].len() {
         if step != 0 && at % step == 0 {
-            match all_answered(threads, alloc, hall, text, journals, node, at) {
+            match all_answered(threads, alloc, hall, text, quorums, journals, node, at) {
                 Ok(()) => {}
                 Err(line) => return Err(line),
             }
@@ -157,18 +160,19 @@ pub(crate) fn swept_told<H: Naming + Send, R: Threads + Wait + Sync>(
     hall: &Hall<H>,
     step: &str,
     text: &[u8],
+    quorums: Quorums,
 ) -> Option<String> {
     let Ok(step) = step.parse() else {
         return None;
     };
-    let Some(disks) = whole_disks(threads, alloc, hall, text) else {
+    let Some(disks) = whole_disks(threads, alloc, hall, text, quorums) else {
         return None;
     };
     let Some(journals) = bytes_of_all(alloc, disks) else {
         return None;
     };
     for node in 0..journals.len() {
-        match node_answered(threads, alloc, hall, text, &journals, node, step) {
+        match node_answered(threads, alloc, hall, text, quorums, &journals, node, step) {
             Ok(()) => {}
             Err(line) => return line,
         }

@@ -6,7 +6,7 @@ use crate::disks::crashed_of;
 use crate::running::{Node, opened_on, ran_on};
 use crate::whole::whole;
 use durable_model::MemoryDisk;
-use farm_nodes::{Hall, Naming};
+use farm_nodes::{Hall, Naming, Quorums};
 use program_rows::owned;
 use std::alloc::Global;
 use std::sync::Wait;
@@ -39,18 +39,19 @@ fn is_told<H: Naming + Send, R: Threads + Wait + Sync>(
     alloc: Global,
     hall: &Hall<H>,
     text: &[u8],
+    quorums: Quorums,
     disks: Vec<MemoryDisk>,
     node: u8,
     linked: &[Vec<u8>],
 ) -> Option<bool> {
-    let (disks, fault) = match opened_on(threads, alloc, hall, text, disks) {
+    let (disks, fault) = match opened_on(threads, alloc, hall, text, quorums, disks) {
         Ok(_farm) => return Some(false),
         Err(refused) => refused,
     };
     if !is_failure(&fault, node) {
         return None;
     }
-    let Ok(mut nodes) = ran_on(threads, alloc, hall, text, disks) else {
+    let Ok(mut nodes) = ran_on(threads, alloc, hall, text, quorums, disks) else {
         return None;
     };
     match all_linked(alloc, &mut nodes) {
@@ -65,6 +66,7 @@ fn calls_told<H: Naming + Send, R: Threads + Wait + Sync>(
     alloc: Global,
     hall: &Hall<H>,
     text: &[u8],
+    quorums: Quorums,
     nodes: &[Node<H>],
     node: u8,
     linked: &[Vec<u8>],
@@ -73,7 +75,7 @@ fn calls_told<H: Naming + Send, R: Threads + Wait + Sync>(
         let Some(disks) = disks_failing(alloc, nodes, node, call) else {
             return None;
         };
-        match is_told(threads, alloc, hall, text, disks, node, linked) {
+        match is_told(threads, alloc, hall, text, quorums, disks, node, linked) {
             Some(true) => {}
             Some(false) => return Some(call - 1),
             None => return None,
@@ -88,15 +90,16 @@ pub(crate) fn unread_told<H: Naming + Send, R: Threads + Wait + Sync>(
     alloc: Global,
     hall: &Hall<H>,
     text: &[u8],
+    quorums: Quorums,
 ) -> Option<String> {
-    let Some(mut nodes) = whole(threads, alloc, hall, text) else {
+    let Some(mut nodes) = whole(threads, alloc, hall, text, quorums) else {
         return None;
     };
     let Some(linked) = all_linked(alloc, &mut nodes) else {
         return None;
     };
-    for node in 0..3u8 {
-        match calls_told(threads, alloc, hall, text, &nodes, node, &linked) {
+    for node in 0..quorums.nodes() {
+        match calls_told(threads, alloc, hall, text, quorums, &nodes, node, &linked) {
             Some(calls) if calls > 1 => {}
             _ => return owned(alloc, "not told"),
         }

@@ -1,9 +1,9 @@
 //! Whole farms: their disks do not fail, and their nodes learn in all rooms.
 
-use crate::disks::{crashed_of, three_disks};
+use crate::disks::{crashed_of, disks_of};
 use crate::running::{Node, ran_on};
 use durable_model::MemoryDisk;
-use farm_nodes::{Hall, Naming};
+use farm_nodes::{Hall, Naming, Quorums};
 use std::alloc::Global;
 use std::sync::Wait;
 use std::thread::Threads;
@@ -14,11 +14,12 @@ pub(crate) fn whole<H: Naming + Send, R: Threads + Wait + Sync>(
     alloc: Global,
     hall: &Hall<H>,
     text: &[u8],
+    quorums: Quorums,
 ) -> Option<Vec<Node<H>>> {
-    let Some(disks) = three_disks(alloc, 0) else {
+    let Some(disks) = disks_of(alloc, quorums.nodes(), 0) else {
         return None;
     };
-    match ran_on(threads, alloc, hall, text, disks) {
+    match ran_on(threads, alloc, hall, text, quorums, disks) {
         Ok(nodes) => Some(nodes),
         Err(_) => None,
     }
@@ -30,8 +31,9 @@ pub(crate) fn whole_disks<H: Naming + Send, R: Threads + Wait + Sync>(
     alloc: Global,
     hall: &Hall<H>,
     text: &[u8],
+    quorums: Quorums,
 ) -> Option<Vec<MemoryDisk>> {
-    match whole(threads, alloc, hall, text) {
+    match whole(threads, alloc, hall, text, quorums) {
         Some(nodes) => crashed_of(alloc, &nodes, 1),
         None => None,
     }

@@ -18,7 +18,7 @@ use Rattle.cfarm_build.proofs.building.build.Goals as goal
 pub returns-in-Some-clause-refused : goal.returns-in-Some-clause-refused
 returns-in-Some-clause-refused g c = record {
   nodes = _;
-  run = ran g.D.Disk (λ n. n.program) (λ n. n.log) (λ n. n.seats.items) (λ n. n.words) (λ n. n.halted) _ c.args.seed c.args.source
+  run = ran g.D.Disk (λ n. n.program) (λ n. n.log) (λ n. n.seats.items) (λ n. n.words) (λ n. n.halted) _ c.args.quorums c.args.seed c.args.source
       c.in-Ok.farm.source c.args.disks.items c.in-Ok.farm.nodes.items c.in-Ok-run_rounds.nodes.items c.in-Ok.ensures.source
       c.in-Ok.ensures.journals c.in-Ok.ensures.rooms c.in-Ok.ensures.words c.in-Ok.ensures.going c.in-Ok-run_rounds.ensures.came
       c.in-Ok-run_rounds.ensures.fit;
@@ -26,6 +26,10 @@ returns-in-Some-clause-refused g c = record {
       c.in-Ok-run_rounds.nodes.items ∙ ap (λ l. lowest_failed 0 (map (λ n. fault_in n.halted) l)) (sym c.deref.ensures.value)
       ∙ sym c.in-Some.ensures;
 }
+
+pub run_rounds-requires-clause-some : goal.run_rounds-requires-clause-some
+run_rounds-requires-clause-some g c κs within =
+    omega (arith, c.nodes-nodes.ensures.sizes.least, c.requires.size, c.requires.oracles, ap length c.in-Ok.ensures.oracles, length-map c.in-Ok.farm.nodes.items (λ n. n.oracles))
 
 pub meet_neighbours-requires : goal.meet_neighbours-requires
 meet_neighbours-requires g c = record {
@@ -47,7 +51,7 @@ built_by-requires-clause-some g c =
     c.in-Ok-run_rounds.nodes.items c.deref_mut.result.now c.meet_neighbours.new.nodes c.deref-2.result.now c.deref_mut.ensures.value
     c.in-Ok-run_rounds.nodes.ok.0 c.deref-2.ensures.value c.meet_neighbours.ensures in
     let first : 0 < length c.in-Ok.farm.nodes.items =
-    omega (arith, c.requires.size, c.requires.oracles, ap length c.in-Ok.ensures.oracles, length-map c.in-Ok.farm.nodes.items (λ n. n.oracles)) in
+    omega (arith, c.nodes-nodes.ensures.sizes.least, c.requires.size, c.requires.oracles, ap length c.in-Ok.ensures.oracles, length-map c.in-Ok.farm.nodes.items (λ n. n.oracles)) in
     omega (
       arith,
       first,
@@ -69,14 +73,14 @@ built_by-requires-clause-program g c =
 
 pub returns-clause-built : goal.returns-clause-built
 returns-clause-built g c =
-    let ran_there = ran g.D.Disk (λ n. n.program) (λ n. n.log) (λ n. n.seats.items) (λ n. n.words) (λ n. n.halted) _ c.args.seed c.args.source
+    let ran_there = ran g.D.Disk (λ n. n.program) (λ n. n.log) (λ n. n.seats.items) (λ n. n.words) (λ n. n.halted) _ c.args.quorums c.args.seed c.args.source
     c.in-Ok.farm.source c.args.disks.items c.in-Ok.farm.nodes.items c.in-Ok-run_rounds.nodes.items c.in-Ok.ensures.source
     c.in-Ok.ensures.journals c.in-Ok.ensures.rooms c.in-Ok.ensures.words c.in-Ok.ensures.going c.in-Ok-run_rounds.ensures.came
     c.in-Ok-run_rounds.ensures.fit in
     let meets = meets_there g.D.Disk (λ n. n.program) (λ n. n.log) (λ n. fours_of n.seats.items) (λ n. n.halted) c.in-Ok-run_rounds.nodes.len
     c.in-Ok-run_rounds.nodes.items c.deref_mut.result.now c.meet_neighbours.new.nodes c.deref-2.result.now c.deref_mut.ensures.value
     c.in-Ok-run_rounds.nodes.ok.0 c.deref-2.ensures.value c.meet_neighbours.ensures in
-    built_so g.D.Disk g.H.Naming c.args.seed c.args.source c.in-Ok.farm.source c.args.disks.items c.in-Ok.ensures.source _ _ ran_there
+    built_so g.D.Disk g.H.Naming c.args.quorums c.args.seed c.args.source c.in-Ok.farm.source c.args.disks.items c.in-Ok.ensures.source _ _ ran_there
     (failed_same g.D.Disk (λ n. n.program) (λ n. n.log) (λ n. n.seats.items) (λ n. n.words) (λ n. n.halted)
     c.in-Ok-run_rounds.nodes.items ∙ ap (λ l. lowest_failed 0 (map (λ n. fault_in n.halted) l)) (sym c.deref.ensures.value)
     ∙ sym c.in_default.ensures)
@@ -85,14 +89,14 @@ returns-clause-built g c =
 
 pub returns-clause-refused : goal.returns-clause-refused
 returns-clause-refused g c =
-    let ran_there = ran g.D.Disk (λ n. n.program) (λ n. n.log) (λ n. n.seats.items) (λ n. n.words) (λ n. n.halted) _ c.args.seed c.args.source
+    let ran_there = ran g.D.Disk (λ n. n.program) (λ n. n.log) (λ n. n.seats.items) (λ n. n.words) (λ n. n.halted) _ c.args.quorums c.args.seed c.args.source
     c.in-Ok.farm.source c.args.disks.items c.in-Ok.farm.nodes.items c.in-Ok-run_rounds.nodes.items c.in-Ok.ensures.source
     c.in-Ok.ensures.journals c.in-Ok.ensures.rooms c.in-Ok.ensures.words c.in-Ok.ensures.going c.in-Ok-run_rounds.ensures.came
     c.in-Ok-run_rounds.ensures.fit in
     let meets = meets_there g.D.Disk (λ n. n.program) (λ n. n.log) (λ n. fours_of n.seats.items) (λ n. n.halted) c.in-Ok-run_rounds.nodes.len
     c.in-Ok-run_rounds.nodes.items c.deref_mut.result.now c.meet_neighbours.new.nodes c.deref-2.result.now c.deref_mut.ensures.value
     c.in-Ok-run_rounds.nodes.ok.0 c.deref-2.ensures.value c.meet_neighbours.ensures in
-    refused_so g.D.Disk g.H.Naming c.args.seed c.args.source c.in-Ok.farm.source c.args.disks.items c.in-Ok.ensures.source _ _ ran_there
+    refused_so g.D.Disk g.H.Naming c.args.quorums c.args.seed c.args.source c.in-Ok.farm.source c.args.disks.items c.in-Ok.ensures.source _ _ ran_there
     (failed_same g.D.Disk (λ n. n.program) (λ n. n.log) (λ n. n.seats.items) (λ n. n.words) (λ n. n.halted)
     c.in-Ok-run_rounds.nodes.items ∙ ap (λ l. lowest_failed 0 (map (λ n. fault_in n.halted) l)) (sym c.deref.ensures.value)
     ∙ sym c.in_default.ensures)

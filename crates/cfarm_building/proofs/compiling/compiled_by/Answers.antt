@@ -1,5 +1,7 @@
-use Rattle.std.proofs.Common.{sym, subst, ◌∙◌}
-use Rattle.paxos_core_law.specs.NodeState.{IsRoomSize}
+use Rattle.std.proofs.Common.{sym, ap, subst, ◌∙◌, arith}
+use Rattle.cfarm_build.specs.Built.{IsBuilt}
+use Rattle.cfarm_build.specs.Quorum.{Sizes}
+use Rattle.cfarm_build.specs.Refused.{IsUnbuilt}
 use Rattle.cfarm_building.proofs.Refusing.{no_disk, no_lock, not_built, ready}
 use Rattle.cfarm_building.proofs.compiling.compiled_by.Goals as goal
 
@@ -20,18 +22,24 @@ returns-in-Err-open_disks-clause-refused g c =
 
 pub build-requires-clause-size : goal.build-requires-clause-size
 build-requires-clause-size g c κs within =
-    subst IsRoomSize (c.count.ensures.number ∙ sym c.in-Ok-open_disks.ensures.given.count_is) c.count.ensures.size
+    c.in-Ok-open_disks.ensures.given.count_is ∙ sym (ap (λ (q : Sizes). q.nodes) c.requires)
 
 pub build-requires-clause-oracles : goal.build-requires-clause-oracles
-build-requires-clause-oracles g c κs within = c.in-Ok-optimisers_of.ensures ∙ c.count.ensures.number ∙ sym c.in-Ok-open_disks.ensures.given.count_is
+build-requires-clause-oracles g c κs within =
+    omega (arith, c.in-Ok-optimisers_of.ensures, c.from.ensures, c.nodes-nodes.ensures.value, ap (λ (q : Sizes). q.nodes) c.requires, c.in-Ok-open_disks.ensures.given.count_is)
 
 pub returns-in-Ok-build-clause-built : goal.returns-in-Ok-build-clause-built
 returns-in-Ok-build-clause-built g c =
     let made = c.in-Ok.ensures in
+    let disks = c.in-Ok-open_disks.disks.items in
     record {
       source = c.in-Ok.source;
       is = ready _ _ made.accepted made.translated made.keeps made.names made.count made.digest;
-      so = record { given = c.in-Ok-open_disks.disks.items; are = c.in-Ok-open_disks.ensures.given; so = c.in-Ok-build.ensures.built };
+      so = record {
+        given = disks;
+        are = c.in-Ok-open_disks.ensures.given;
+        so = subst (λ (q : Sizes). IsBuilt g.F.Disk.Disk g.H.Naming q c.args.options.seed c.in-Ok.source disks c.in-Ok-build.built) c.requires c.in-Ok-build.ensures.built;
+      };
     }
 
 pub returns-in-Err-build-clause-refused : goal.returns-in-Err-build-clause-refused
@@ -39,4 +47,5 @@ returns-in-Err-build-clause-refused g c =
     let made = c.in-Ok.ensures in
     not_built g.F.Disk.Disk g.H.Naming (g.F.Files.may_give c.args.files.now) c.args.options c.args.text.now c.in-Ok.source
     (ready _ _ made.accepted made.translated made.keeps made.names made.count made.digest)
-    c.in-Ok-open_disks.disks.items c.in-Ok-open_disks.ensures.given c.in-Err-build.fault c.in-Err-build.ensures.refused
+    c.in-Ok-open_disks.disks.items c.in-Ok-open_disks.ensures.given c.in-Err-build.fault
+    (subst (λ (q : Sizes). IsUnbuilt g.F.Disk.Disk g.H.Naming q c.args.options.seed c.in-Ok.source c.in-Ok-open_disks.disks.items c.in-Err-build.fault) c.requires c.in-Err-build.ensures.refused)

@@ -33,6 +33,6 @@ pub returns-in-Err-clause-refused : goal.returns-in-Err-clause-refused
 returns-in-Err-clause-refused g c = record {
   given = c.loop-node.disks.items;
   some = c.loop-node.invariant.some;
-  below = omega (arith, c.loop-node.invariant.count, c.loop-node-test.true, c.count-count.ensures.number);
+  below = omega (arith, c.loop-node.invariant.count, c.loop-node-test.true, c.from-count.ensures, c.count-nodes.ensures.number);
   refused = subst (λ n. IsRefusedAt (journal_path c.args.options.folder.now n) c.in-Err.fault) (sym c.loop-node.invariant.count) c.in-Err.ensures.refused;
 }

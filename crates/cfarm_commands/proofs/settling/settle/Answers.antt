@@ -1,34 +1,30 @@
 use Rattle.std.specs.Prelude.{IfSome}
-use Rattle.std.proofs.Common.{refl, subst}
+use Rattle.std.proofs.Common.{refl, subst, sym}
 use Rattle.std.proofs.lemmas.Result.{err_from_is_err_and}
-use Rattle.cfarm_commands.specs.LaidOut.{IsAgreedOn}
-use Rattle.cfarm_commands.proofs.AgreedLemmas.{settled_of}
+use Rattle.cfarm_commands.specs.LaidOut.{AgreeOn}
+use Rattle.cfarm_commands.proofs.AgreedLemmas.{have_settled, refused_unprinted}
 use Rattle.cfarm_commands.proofs.ReadingLemmas.{refused_of}
 use Rattle.cfarm_commands.proofs.settling.settle.Goals as goal
 
--- What is printed is the code that was agreed on.
+-- What is printed is the code that the nodes of the seats have agreed on.
 pub returns-in-Ok-clause-settled : goal.returns-in-Ok-clause-settled
 returns-in-Ok-clause-settled g c =
     let function = c.in_ok-function.function in
-    let printed = c.as_bytes.result.now in
-    let code = c.in-Some.code.items in
-    let agreed : IsAgreedOn function code = subst (λ o. IfSome o (λ v. IsAgreedOn function v.items)) c.in-Some.is c.in_ok-code.ensures in (
-      printed,
-      settled_of c.args.bytes.now printed _ c.as_slice.result.now code function c.in_ok-function.ensures.read agreed c.as_bytes.ensures.value c.in_ok-text.ensures c.as_slice.ensures.value,
-      c.in-Ok.ensures.printed,
-    )
+    let seats = c.in-Some.seats in
+    let agreed : AgreeOn seats function c.in-Some.code.items =
+    subst (λ o. IfSome o (λ it. AgreeOn it.1 function it.0.items)) c.in-Some.is c.in_ok-code.ensures in
+    have_settled c.args.bytes.now c.as_slice.result.now seats function c.in_ok-function.ensures.read
+    (subst (λ l. AgreeOn seats function l) (sym c.as_slice.ensures.value) agreed) _ _ c.in-Ok.ensures.printed
 
--- The writer failed: it holds a beginning of that.
+-- It was not printed, or not all of it.
 pub returns-clause-refused : goal.returns-clause-refused
 returns-clause-refused g c =
     let function = c.in_ok-function.function in
-    let printed = c.as_bytes.result.now in
-    let code = c.in-Some.code.items in
-    let agreed : IsAgreedOn function code = subst (λ o. IfSome o (λ v. IsAgreedOn function v.items)) c.in-Some.is c.in_ok-code.ensures in (
-      printed,
-      settled_of c.args.bytes.now printed _ c.as_slice.result.now code function c.in_ok-function.ensures.read agreed c.as_bytes.ensures.value c.in_ok-text.ensures c.as_slice.ensures.value,
-      c.in-Err.ensures.begun,
-    )
+    let seats = c.in-Some.seats in
+    let agreed : AgreeOn seats function c.in-Some.code.items =
+    subst (λ o. IfSome o (λ it. AgreeOn it.1 function it.0.items)) c.in-Some.is c.in_ok-code.ensures in
+    refused_unprinted c.args.bytes.now c.as_slice.result.now seats function c.in_ok-function.ensures.read
+    (subst (λ l. AgreeOn seats function l) (sym c.as_slice.ensures.value) agreed) c.in-Err.fault _ _ c.in-Err.ensures.refused
 
 pub returns-in_err-function-clause-refused : goal.returns-in_err-function-clause-refused
 returns-in_err-function-clause-refused g c =

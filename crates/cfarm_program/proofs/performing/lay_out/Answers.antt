@@ -6,7 +6,7 @@ use Rattle.cfarm_program.proofs.Answering.{told_by}
 use Rattle.cfarm_program.proofs.performing.lay_out.Goals as goal
 
 pub returns-in-Ok-clause-does : goal.returns-in-Ok-clause-does
-returns-in-Ok-clause-does g c = (quiet, inl (c.in-Ok.ensures.settled, refl), (refl, refl))
+returns-in-Ok-clause-does g c = (quiet, inl (c.in-Ok._seats, c.in-Ok.ensures.settled, refl), (refl, refl))
 
 pub returns-in-Err-clause-does : goal.returns-in-Err-clause-does
 returns-in-Err-clause-does g c =

@@ -1,3 +1,5 @@
+use Rattle.std.proofs.Common.{subst}
+use Rattle.cfarm_program.specs.Met.{AreMet}
 use Rattle.cfarm_program.proofs.Answering.{keeps_same}
 use Rattle.cfarm_program.proofs.performing.perform.Goals as goal
 
@@ -25,3 +27,6 @@ pub returns-in-Simulate-clause-does : goal.returns-in-Simulate-clause-does
 returns-in-Simulate-clause-does g c =
     let it = c.play.ensures.does in
     rw c.in-Simulate.is (it.0, (keeps_same _, it.1), it.2)
+
+pub build-requires-clause-met : goal.build-requires-clause-met
+build-requires-clause-met g c κs within = subst AreMet c.in-Build.is c.requires.met

@@ -1,13 +1,10 @@
-use Rattle.std.proofs.Common.{◌≡◌, length}
+use Rattle.std.proofs.Common.{length}
 use Rattle.cfarm_schedules.specs.Rooms.{room_of}
 use Rattle.cfarm_schedules.proofs.Going.{IsGoing}
 use Rattle.cfarm_schedules.proofs.playing.simulate.Given as goal
 
 abbrev pub invariant-loop-rest : goal.invariant-loop-rest
-invariant-loop-rest g l = record {
-  going : IsGoing l.schedule l.count l.number l.rest (room_of l.room) (g.W.Write.contents l.fn.out) (g.W.Write.contents l.out);
-  count : l.room.count ≡ l.count;
-}
+invariant-loop-rest g l = IsGoing l.schedule l.room.quorums l.number l.rest (room_of l.room) (g.W.Write.contents l.fn.out) (g.W.Write.contents l.out)
 
 abbrev pub decreases-loop-rest : goal.decreases-loop-rest
 decreases-loop-rest g l = length l.rest

@@ -16,6 +16,8 @@ returns-in_default-get_str-clause-none c = λ _ o are.
 pub returns-clause-some : goal.returns-clause-some
 returns-clause-some c = record {
   nodes = sym (first_value-rows (found_of c.args.words.now) (codes "nodes")) ∙ c.in-Some.ensures.some;
+  promise = c.size_of.ensures;
+  accept = c.size_of-2.ensures;
   turns = c.turns_of.ensures;
   seed = c.seed_of.ensures;
   folder = sym (c.in-Some-get_str.ensures ∙ first_value-rows (found_of c.args.words.now) (codes "dir"));

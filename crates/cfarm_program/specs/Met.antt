@@ -1,0 +1,25 @@
+-- Whether the quorums meet that a task asks for. A build alone asks for any.
+use Rattle.std.specs.Prelude.{◌≡◌}
+use Rattle.cfarm_building.specs.Compiled.{quorums_of}
+use Rattle.cfarm_building.specs.Quorum.{AreQuorums}
+use Rattle.cfarm_options.specs.Sizes.{sizes_of}
+use Rattle.cfarm_options.specs.declared.options.AskedSizes.{AskedSizes}
+use Rattle.cfarm_words.specs.declared.task.Task.{Task}
+use Rattle.cfarm_words.specs.declared.task.Task.TheVariants.{Check, Interpret, Build, Exec, Settle, Simulate}
+
+abbrev pub AreMet : Task → Type 0
+AreMet Check = Unit {0}
+AreMet (Interpret depth) = Unit {0}
+AreMet (Build options) = AreQuorums (quorums_of options)
+AreMet (Exec limit) = Unit {0}
+AreMet Settle = Unit {0}
+AreMet Simulate = Unit {0}
+
+-- it asks for these sizes, with which they need not
+abbrev pub IsUnmet : Task → AskedSizes → Type 0
+IsUnmet Check sizes = ⊥
+IsUnmet (Interpret depth) sizes = ⊥
+IsUnmet (Build options) sizes = (¬ AreQuorums (quorums_of options)) × (sizes ≡ sizes_of options)
+IsUnmet (Exec limit) sizes = ⊥
+IsUnmet Settle sizes = ⊥
+IsUnmet Simulate sizes = ⊥
