@@ -5,6 +5,8 @@
     bench/build.py --runs 1           one run each
     bench/build.py --statements 1000  so many statements in each function (5,000)
     bench/build.py --nodes 7          so many nodes
+    bench/build.py --nodes 7 --promise 6 --accept 2
+                                      with other sizes of quorums than more than half
     bench/build.py --folder PATH      the journals stand below this folder (the repository's)
 
 The texts are those of bench/compile.py. In each run a farm builds the text in an empty directory, gcc compiles it, and a farm builds it
@@ -103,7 +105,10 @@ class Bench:
         )
 
     def words(self, path):
-        return [self.given.program, "build", path, "--nodes", str(self.given.nodes), "--turns", "1000000", "--dir", self.folder]
+        sizes = [(word, getattr(self.given, word)) for word in ("promise", "accept")]
+        quorums = [text for word, size in sizes if size is not None for text in (f"--{word}", str(size))]
+        nodes = ["--nodes", str(self.given.nodes), *quorums]
+        return [self.given.program, "build", path, *nodes, "--turns", "1000000", "--dir", self.folder]
 
     def empty(self):
         shutil.rmtree(self.folder, ignore_errors=True)
@@ -145,7 +150,9 @@ def main():
     words = argparse.ArgumentParser(description=__doc__, formatter_class=argparse.RawDescriptionHelpFormatter)
     words.add_argument("--runs", type=int, default=5)
     words.add_argument("--statements", type=int, default=5000)
-    words.add_argument("--nodes", type=int, default=3, choices=(3, 5, 7))
+    words.add_argument("--nodes", type=int, default=3, choices=range(2, 8))
+    words.add_argument("--promise", type=int)
+    words.add_argument("--accept", type=int)
     words.add_argument("--folder", default=ROOT)
     words.add_argument("--program", default=os.path.join(ROOT, "crates/cfarm/out/cfarm"))
     given = words.parse_args()

@@ -17,7 +17,7 @@
     journals  each journal of a small build is cut at each length and changed at each byte, one at a time
     files     what else may stand in the way: files that are none, endless, huge, forbidden, full devices, closed streams
     pairs     two builds are started at once in one folder, fresh, after a kill and built: one at a time has it
-    examples  each example is built with 3, 5 and 7 nodes and four seeds, and run
+    examples  each example is built with 2 to 7 nodes, with equal and unequal sizes of quorums, and two seeds, and run
 
 An answer is right where it is the one without a fault, or a status and a line of the program's table; want of memory is answered by `memory`,
 7, alone. Never is it a signal, nor an output that is not a beginning of the right one. Behind each fault of a build linked.cfp is whole or
@@ -92,6 +92,7 @@ TABLE = (
     ("refused", 1, rb"refused \d+ \w+( at \d+| in \w+)?\n"),
     ("file", 2, rb"file [^\n]*\n"),
     ("schedule", 2, rb"schedule \d+\n"),
+    ("quorums", 2, rb"quorums \d+ \d+ \d+\n"),
     ("words", 2, rb"error: .*"),
     ("undecided", 3, rb"undecided\n"),
     ("journal", 4, rb"journal \d+ \w+ (node|room) \d+\n"),
@@ -321,12 +322,12 @@ def try_readers(sweep, part):
 class Building:
     """A build of a text over folders like one that is given, and what must stand there behind a fault of it."""
 
-    def __init__(self, sweep, text, like=None):
-        self.sweep, self.text, self.like = sweep, text, like
+    def __init__(self, sweep, text, like=None, sizes=()):
+        self.sweep, self.text, self.like, self.sizes = sweep, text, like, sizes
         self.wanted = sweep.interpreted(text)
 
     def words(self, folder):
-        return ["build", self.text, "--seed", "1", "--dir", folder]
+        return ["build", self.text, *self.sizes, "--seed", "1", "--dir", folder]
 
     def sound(self, folder):
         """What is wrong with a linked program that stands there."""
@@ -428,10 +429,14 @@ def try_calls(sweep):
 
 def try_kills(sweep):
     try_builds(sweep, "kills")
-    row = "kills, at random moments"
+    try_random_kills(sweep, "kills, at random moments", ("--nodes", "5"))
+    try_random_kills(sweep, "kills, at random moments, sizes 4 3 2", ("--nodes", "4", "--promise", "3", "--accept", "2"))
+
+
+def try_random_kills(sweep, row, sizes):
     if not sweep.wants(row) or sweep.given.at:
         return
-    random_kills = kills.Kills(sweep.program, 5, 1)
+    random_kills = kills.Kills(sweep.program, sizes, 1)
     for number in range(5 if sweep.given.quick else sweep.given.times):
         before = len(random_kills.wrong)
         random_kills.directory(number)
@@ -447,10 +452,10 @@ def try_kills(sweep):
 class Journals:
     """The journals of a small build, of which one is another."""
 
-    def __init__(self, sweep):
+    def __init__(self, sweep, sizes):
         self.sweep = sweep
         self.like = sweep.folder()
-        self.building = Building(sweep, sweep.file("small.c", SMALL.encode()), self.like)
+        self.building = Building(sweep, sweep.file("small.c", SMALL.encode()), self.like, sizes)
         sweep.run(self.building.words(self.like))
         self.linked = content(os.path.join(self.like, "linked.cfp"))
         self.usual = max(sweep.measure(self.building.words(self.like))[2] for _ in range(5))
@@ -483,13 +488,18 @@ class Journals:
 
 
 def try_journals(sweep):
-    journals, draw = Journals(sweep), random.Random(1)
-    for node in range(3):
+    try_journals_of(sweep, "journals", (), 3)
+    try_journals_of(sweep, "journals of sizes 2 1 2", ("--nodes", "2", "--promise", "1", "--accept", "2"), 2)
+
+
+def try_journals_of(sweep, title, sizes, nodes):
+    journals, draw = Journals(sweep, sizes), random.Random(1)
+    for node in range(nodes):
         data = content(os.path.join(journals.like, f"node{node}.cfj"))
-        row = f"journals, node {node}, cut"
+        row = f"{title}, node {node}, cut"
         if sweep.wants(row):
             sweep.try_all(row, range(len(data)), lambda length: journals.over(node, data[:length], f"cut to {length}"))
-        row = f"journals, node {node}, changed"
+        row = f"{title}, node {node}, changed"
         changes = [draw.randrange(1, 256) for _ in data]
 
         def changed(place):
@@ -568,7 +578,8 @@ def forbid_folder(folder):
 def journal_cases():
     """A journal that is none."""
     link = lambda target: replaced(lambda path: os.symlink(target, path))
-    five = lambda text, folder: ["build", text, "--nodes", "5", "--dir", folder]
+    sized = lambda *sizes: lambda text, folder: ["build", text, *sizes, "--dir", folder]
+    kept = lambda folder: None
     return [
         Case("no journal", ("done", "journal"), lambda folder: os.remove(journal(folder))),
         Case("journal of 0 bytes", ("done", "journal"), replaced(lambda path: write(path, b"")), mends=put_back),
@@ -581,7 +592,11 @@ def journal_cases():
         Case("journal is no device", ("done", "file", "journal"), link("/dev/null"), mends=put_back),
         Case("journal is a link to nothing", ("done", "file"), link("none/none"), mends=put_back),
         Case("journals exchanged", ("journal",), swap, mends=swap),
-        Case("journals of another number of nodes", ("journal",), words=five, mends=lambda folder: None),
+        Case("journals of another number of nodes", ("journal",), words=sized("--nodes", "5"), mends=kept),
+        Case("journals of an even number of nodes", ("journal",), words=sized("--nodes", "2"), mends=kept),
+        Case("journals of other sizes of quorums", ("journal",), words=sized("--promise", "3", "--accept", "1"), mends=kept),
+        Case("sizes of quorums that need not meet", ("quorums",), words=sized("--promise", "1"), mends=kept),
+        Case("sizes of quorums above the number of nodes", ("quorums",), words=sized("--accept", "4"), mends=kept),
     ]
 
 
@@ -795,20 +810,28 @@ def try_pairs(sweep):
 # Examples.
 
 
+SIZES = [f"--nodes {nodes}" for nodes in range(2, 8)] + [
+    "--nodes 4 --promise 3 --accept 2",
+    "--nodes 4 --promise 2 --accept 3",
+    "--nodes 5 --promise 5 --accept 1",
+    "--nodes 7 --promise 2 --accept 6",
+]
+
+
 def try_examples(sweep):
     folder = os.path.join(ROOT, "examples")
     for name in sorted(file for file in os.listdir(folder) if file.endswith(".c")):
         text = os.path.join(folder, name)
         building = Building(sweep, text)
-        pairs = [(nodes, seed) for nodes in (3, 5, 7) for seed in (1, 2, 3, 4)][:: 6 if sweep.given.quick else 1]
+        pairs = [(sizes, seed) for sizes in SIZES for seed in (1, 2)][:: 6 if sweep.given.quick else 1]
 
         def job(number):
-            nodes, seed = pairs[number]
+            sizes, seed = pairs[number]
             made = sweep.folder()
-            answer = sweep.run(["build", text, "--nodes", str(nodes), "--seed", str(seed), "--dir", made])
+            answer = sweep.run(["build", text, *sizes.split(), "--seed", str(seed), "--dir", made])
             wrong = building.report(made, answer) if answer.status == 0 else [shown(answer)]
             sweep.leave(made)
-            return name_of(answer), [f"--nodes {nodes} --seed {seed}: {one}" for one in wrong]
+            return name_of(answer), [f"{sizes} --seed {seed}: {one}" for one in wrong]
 
         if sweep.wants(f"examples, {name}"):
             sweep.try_all(f"examples, {name}", range(len(pairs)), job)

@@ -9,7 +9,8 @@ import os
 
 ROOT = os.path.dirname(os.path.dirname(os.path.realpath(__file__)))
 FILE = os.path.join(ROOT, "crates", "worked_journals", "data", "changed.txt")
-HEADER = b"CFJ1" + bytes([3, 1]) + bytes(range(100, 132))
+FIRST = b"CFJ1" + bytes([3, 1]) + bytes(range(100, 132))
+SECOND = b"CFJF" + bytes([4, 3, 3, 1]) + bytes(range(100, 132))
 
 
 def u16(number):
@@ -20,8 +21,8 @@ def block(body):
     return b"\x01" + len(body).to_bytes(4, "big") + body
 
 
-EMPTY = HEADER + b"\x00"
-EACH = HEADER + b"".join(map(block, (
+EMPTY = b"\x00"
+EACH = b"".join(map(block, (
     b"\x01" + u16(3) + b"\x00\xff\x07",
     b"\x02" + u16(3) + u16(4),
     b"\x04" + u16(3) + u16(4),
@@ -42,13 +43,23 @@ def told(body):
     return ",".join(str(it) for it in (code, room, int.from_bytes(rest[:2], "big"), *rest[2:])) + ";"
 
 
+def is_in_form(journal):
+    """Whether a journal begins with a header of either form, and a gate at least."""
+    if journal[:4] == b"CFJ1":
+        return len(journal) >= 39
+    if journal[:4] != b"CFJF" or len(journal) < 41:
+        return False
+    nodes, promise, accept = journal[4:7]
+    return not (nodes % 2 == 1 and promise == accept == (nodes + 1) // 2)
+
+
 def read(header, journal):
     """The records in words, or the name of the fault."""
-    if len(journal) < 39 or journal[:4] != b"CFJ1":
+    if not is_in_form(journal):
         return "NotAJournal"
-    if journal[:38] != header:
+    if journal[:len(header)] != header:
         return "OtherSource"
-    records, at = "", 38
+    records, at = "", len(header)
     while at < len(journal) and journal[at] == 1:
         size = int.from_bytes(journal[at + 1:at + 5], "big")
         body = journal[at + 5:at + 5 + size]
@@ -70,13 +81,20 @@ def runs(answers):
     return " ".join(f"{answer}*{number}" for answer, number in told_runs)
 
 
+def rows_of(header, behind, places):
+    journal = header + behind
+    names = f"{header.hex()} {journal.hex()}"
+    yield f"cuts {names} => {runs(read(header, journal[:n]) for n in range(len(journal) + 1))}"
+    for at in range(places):
+        changed = (journal[:at] + bytes([byte]) + journal[at + 1:] for byte in range(256))
+        yield f"changed-{at} {names} => {runs(read(header, it) for it in changed)}"
+
+
 def rows():
-    for journal in (EMPTY, EACH):
-        names = f"{HEADER.hex()} {journal.hex()}"
-        yield f"cuts {names} => {runs(read(HEADER, journal[:n]) for n in range(len(journal) + 1))}"
-        for at in range(len(journal)):
-            changed = (journal[:at] + bytes([byte]) + journal[at + 1:] for byte in range(256))
-            yield f"changed-{at} {names} => {runs(read(HEADER, it) for it in changed)}"
+    for behind in (EMPTY, EACH):
+        yield from rows_of(FIRST, behind, len(FIRST + behind))
+    for behind in (EMPTY, EACH):
+        yield from rows_of(SECOND, behind, len(SECOND) + 1)
 
 
 def main():

@@ -4,6 +4,7 @@
     bench/kills.py                 100 directories, each with one to five kills
     bench/kills.py --times 10      so many directories
     bench/kills.py --nodes 3       so many nodes (5)
+    bench/kills.py --nodes 4 --promise 3 --accept 2
     bench/kills.py --program PATH  this program
 
 In each directory a build of an example is killed (SIGKILL) one to five times, each at another moment, and then one goes on to its end.
@@ -42,8 +43,8 @@ def reported(out):
 class Kills:
     """What is killed, and what came of it."""
 
-    def __init__(self, program, nodes, draw):
-        self.program, self.nodes, self.draw = program, str(nodes), random.Random(draw)
+    def __init__(self, program, sizes, draw):
+        self.program, self.sizes, self.draw = program, sizes, random.Random(draw)
         self.kills = self.stood = self.told = 0
         self.wrong = []
 
@@ -83,7 +84,7 @@ class Kills:
     def directory(self, number):
         """A build that is killed again and again in a directory, and then one that is not."""
         text = os.path.join(ROOT, "examples", NAMES[number % len(NAMES)] + ".c")
-        words = ["build", text, "--nodes", self.nodes, "--seed", str(number), "--dir"]
+        words = ["build", text, *self.sizes, "--seed", str(number), "--dir"]
         whole = self.lasted(words)
         with tempfile.TemporaryDirectory(dir=ROOT) as folder:
             linked, first = os.path.join(folder, "linked.cfp"), None
@@ -105,10 +106,14 @@ def main():
     ask = argparse.ArgumentParser(description=__doc__, formatter_class=argparse.RawDescriptionHelpFormatter)
     ask.add_argument("--times", type=int, default=100)
     ask.add_argument("--nodes", default="5")
+    ask.add_argument("--promise")
+    ask.add_argument("--accept")
     ask.add_argument("--draw", type=int, default=1, help="what the moments are drawn from")
     ask.add_argument("--program", default=PROGRAM)
     asked = ask.parse_args()
-    sweep = Kills(os.path.abspath(asked.program), asked.nodes, asked.draw)
+    given = (("--nodes", asked.nodes), ("--promise", asked.promise), ("--accept", asked.accept))
+    sizes = [word for name, size in given if size is not None for word in (name, size)]
+    sweep = Kills(os.path.abspath(asked.program), sizes, asked.draw)
     for number in range(asked.times):
         before = len(sweep.wrong)
         sweep.directory(number)

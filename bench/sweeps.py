@@ -25,18 +25,18 @@ EXAMPLES = os.path.join(ROOT, "examples")
 DATA = os.path.join(ROOT, "crates", "worked_rows", "data")
 OTHER = "4 journal 404 OtherSource node 0"
 HOSTILE = {
-    "exchanged": ("exchanged -", OTHER),
-    "edited": ("edited -", OTHER),
-    "joined": ("joined -", OTHER),
-    "unread": ("unread -", "linked"),
-    "stopped": ("stopped 1", "linked"),
-    "swept": ("swept 1", "answered"),
+    "exchanged": ("exchanged 3 -", OTHER),
+    "edited": ("edited 3 -", OTHER),
+    "joined": ("joined 5 -", OTHER),
+    "unread": ("unread 3 -", "linked"),
+    "stopped": ("stopped 3 1", "linked"),
+    "swept": ("swept 3 1", "answered"),
 }
 FARMS = {"failing": ("failing 16", "linked"), "reopened": ("reopened", "linked"), "stranger": ("stranger", "stopped")}
 
 
 # Of the examples, which are longer, every so many moments and bytes are tried.
-STEPS = {"stopped 1": "stopped 7", "swept 1": "swept 101"}
+STEPS = {"stopped 3 1": "stopped 3 7", "swept 3 1": "swept 3 101"}
 
 
 def texts():
