@@ -9,7 +9,7 @@ use Rattle.paxos_core_world.specs.KeptPart.{KeptPart}
 use Rattle.paxos_core_world.specs.Quorum.{Sizes}
 use Rattle.rooms_seat.specs.SeatState.{opening_of}
 use Rattle.rooms_seat.specs.Dealing.{Dealing}
-use Rattle.rooms.specs.Opened.{offer_at, opened, opened_first, with_seen, AnyOffered, AreDealt, AreOpened}
+use Rattle.rooms.specs.Opened.{offer_at, opened, opened_first, with_seen, AnyOffered, AreDealt, AreFit, AreOpened, IsFit}
 use Rattle.rooms.specs.SeatValue.{SeatValue}
 
 -- the offers that are not yet taken are those that were given
@@ -43,6 +43,12 @@ pub put_seen : {B T : Type 0} (told : Put B) (b : B) (x : T) (j : ℕ) (old new 
 put_seen {B} {T} told b x j old new is h =
     let outcome : IsPut put.Yes b x (sight_at old j) h.at = subst (λ (t : Put B). IsPut t b x (sight_at old j) h.at) is h.outcome in
     h.after ∙ ap (λ (s : SightOf T). slice_set old j s) outcome.1
+
+-- the offer that is taken is the node's, if it has made one
+pub fit_next : {T : Type 0} (given : List (Option T)) (node : ℕ) (y : Option T) (d0 d : Dealing) → d ≡ record d0 { next = node } → AreFit d0.opening given → node < d0.opening.quorums.nodes
+    → y ≡ offer_at given node → IsFit d.opening d.next y
+fit_next {T} given node y d0 d at fit lt is =
+    subst (λ (x : Dealing). IsFit x.opening x.next y) (sym at) (subst (λ (o : Option T). IsFit d0.opening node o) (sym is) (fit node lt))
 
 -- one seat more
 pub seats_more : {T : Type 0} (table : RoomAt) (cells : List ℕ) (o : Opening) (given : List (Option T)) (node : ℕ) (dealer : Dealing) (x : Option T) (seats more : List (SeatValue T)) (seat : SeatValue T)

@@ -1,5 +1,5 @@
 -- The seats of a room as it is opened from what its nodes have kept, their offers among it.
-use Rattle.std.specs.Prelude.{◌≡◌, ℕ, zero, suc, ◌<◌, List, [], ◌∷◌, ◌++◌, length, Option, Some, None, is_some, slice_index_or, slice_set}
+use Rattle.std.specs.Prelude.{◌≡◌, ℕ, zero, suc, ◌<◌, List, [], ◌∷◌, ◌++◌, length, true, Option, Some, None, is_some, slice_index_or, slice_set}
 use Rattle.paxos_core_world.specs.KeptPart.{KeptPart}
 use Rattle.paxos_core_world.specs.Quorum.{Sizes}
 use Rattle.paxos_core_world.specs.World.{nodes_of}
@@ -17,6 +17,14 @@ offer_at offers i = slice_index_or offers i None
 pub record AreOffersOf {T : Type 0} (kept : List KeptPart) (offers : List (Option T)) : Type 0 where
   pub size : length offers ≡ length kept
   pub made : (i : ℕ) → i < length kept → (nodes_of kept i).offered ≡ is_some (offer_at offers i)
+
+-- this is node i's offer, if what it has kept in a room that opens so says that it has made one
+abbrev pub IsFit : {T : Type 0} → Opening → ℕ → Option T → Type 0
+IsFit o i offer = (nodes_of o.kept i).offered ≡ true → is_some offer ≡ true
+
+-- so it is of all nodes
+abbrev pub AreFit : {T : Type 0} → Opening → List (Option T) → Type 0
+AreFit o offers = (i : ℕ) → i < o.quorums.nodes → IsFit o i (offer_at offers i)
 
 -- there is an offer among them
 abbrev pub AnyOffered : {T : Type 0} → List (Option T) → Type 0

@@ -1,5 +1,5 @@
 -- A seat of a room: its words, and what it has seen of the cells.
-use Rattle.std.specs.Prelude.{◌≡◌, ◌≢◌, ℕ, false, List, Option, Some, None}
+use Rattle.std.specs.Prelude.{◌≡◌, ◌≢◌, ℕ, false, true, List, Option, Some, None, IsSome}
 use Rattle.paxos_core_law.specs.NodeState.{offered}
 use Rattle.rooms_cells.specs.declared.sight.Put.{Put}
 use Rattle.rooms_cells.specs.declared.sight.Put.TheVariants as put
@@ -16,6 +16,10 @@ pub record SeatValue (T : Type 0) : Type 0 where
 -- what the seat has seen of node j's offer
 abbrev pub offer_of : {T : Type 0} → SeatValue T → ℕ → Option T
 offer_of s j = value_at s.sights j
+
+-- if its node has offered, an offer stands in the node's cell, and the seat has seen it
+abbrev pub IsFilled : {T : Type 0} → SeatValue T → Type 0
+IsFilled s = s.words.node.kept.offered ≡ true → IsSome (offer_of s s.words.node.me)
 
 -- the seats are of one room: they load the same words, and read the same cells
 pub record IsOneRoom {T : Type 0} (a b : SeatValue T) : Type 0 where

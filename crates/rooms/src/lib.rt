@@ -1,6 +1,7 @@
 //! A room: nodes that agree by Paxos on one node's offer, over shared atomic words and write-once cells. Each call of a
-//! seat is exactly one load or store of one word, but `meet` and `forget`, which load more; none takes a lock or waits, and
-//! all but `offer` take no memory. What a seat learns is learned in a run of the protocol that has the room's words.
+//! seat is written as one load or store of one word, but `meet` and `forget`, which load more: its contract says which step
+//! of the protocol that is, and counts no loads. None takes a lock or waits, and all but `offer` take no memory. What a seat
+//! learns is learned in a run of the protocol that has the room's words.
 #![tactic(auto)]
 
 mod error;

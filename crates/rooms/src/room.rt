@@ -2,7 +2,7 @@ ghost use Rattle.std.specs.Prelude.{◌≡◌, ◌≢◌, ◌<◌, ◌+◌, ◌�
 ghost use Rattle.std.specs.Arc.{arc_value};
 ghost use Rattle.paxos_core_world.specs.Settled.{Settled};
 ghost use Rattle.paxos_core_world.specs.World.{nodes_of};
-ghost use Rattle.rooms.specs.Opened.{opened, with_seen, AnyOffered, AreDealt, AreOffersOf, AreOpened};
+ghost use Rattle.rooms.specs.Opened.{opened, with_seen, AnyOffered, AreDealt, AreFit, AreOffersOf, AreOpened, IsFit};
 ghost use Rattle.rooms.specs.declared.error.RoomError.TheVariants as error;
 
 use crate::error::RoomError;
@@ -52,6 +52,7 @@ pub fn seats_of<P: Pass>(
 ) -> Result<Vec<Seat<P>>, RoomError>
     requires next { dealer.next ≡ 0 }
     requires offers { length offers.items ≡ dealer.opening.quorums.nodes }
+    requires fit { AreFit dealer.opening offers.items }
     ensures ok { IfOk result (λ seats. AreDealt dealer.table dealer.opening offers.items seats.items) }
     ensures settled { result ≢ Err error.Unsettled }
     ensures refused { result ≡ Err error.CellRefused → AnyOffered offers.items }
@@ -82,7 +83,8 @@ fn next_seat<P: Pass>(
     shelf: &Arc<Shelf<Offer<P>>>,
     offer: Option<Offer<P>>,
 ) -> Result<Seat<P>, RoomError>
-    requires { dealer.old.next < dealer.old.opening.quorums.nodes }
+    requires number { dealer.old.next < dealer.old.opening.quorums.nodes }
+    requires fit { IsFit dealer.old.opening dealer.old.next offer }
     ensures seat { IfOk result (λ seat.
         seat ≡ opened dealer.old.table (arc_value shelf.now) dealer.old.opening dealer.old.next offer) }
     ensures ok { OnOk result (dealer.new ≡ record dealer.old { next = dealer.old.next + 1 }) }

@@ -12,7 +12,7 @@ ghost use Rattle.rooms_seat.specs.Did.{Forgotten, LookedAtAcceptor, LookedAtProp
 ghost use Rattle.rooms_seat.specs.SeatState.{seen_world};
 ghost use Rattle.rooms_seat.specs.Would.{would, Acted, IsAmong};
 ghost use Rattle.rooms_seat.specs.Act.TheVariants as act;
-ghost use Rattle.rooms.specs.SeatValue.{IsOffered, IsOneRoom, offer_of};
+ghost use Rattle.rooms.specs.SeatValue.{IsFilled, IsOffered, IsOneRoom, offer_of};
 
 use lang_base::Pass;
 use offers::Offer;
@@ -26,7 +26,8 @@ use std::marker::Model;
 use std::sync::Arc;
 
 /// One node's seat of a room: its right to store its two words, to load all, and to fill its cell. Whoever holds an offer
-/// holds a proof that the pass's rules hold of it.
+/// holds a proof that the pass's rules hold of it. If the node has offered, its offer stands in its cell: a caller that steps
+/// by the words themselves has to leave that so.
 #[derive(Drop)]
 pub struct Seat<P: Pass> {
     pub words: WordSeat,
@@ -35,11 +36,13 @@ pub struct Seat<P: Pass> {
 
 impl<P: Pass> Model for Seat<P> {
     ghost use Rattle.offers.specs.declared.parts.Parts.{Parts};
-    ghost use Rattle.rooms.specs.SeatValue.{SeatValue};
+    ghost use Rattle.rooms.specs.SeatValue.{IsFilled, SeatValue};
 
     ghost Value = { SeatValue (Parts P.In.Fun P.Out.Fun P.Cert) };
 
     ghost view = { λ s. record { words = s.words; sights = s.sights } };
+
+    ghost invariant = { λ s. IsFilled record { words = s.words; sights = s.sights } };
 }
 
 impl<P: Pass> Seat<P> {
@@ -208,6 +211,7 @@ impl<P: Pass> Seat<P> {
     pub fn known(&self)
         ensures run { IsKnown self.now.words }
         ensures numbers { IsBounded self.now.words }
+        ensures filled { IsFilled self.now }
     {
         self.words.known();
         self.words.bounds();

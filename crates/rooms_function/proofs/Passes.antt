@@ -11,7 +11,8 @@ use Rattle.rooms_table.specs.RoomAt.{RoomAt}
 use Rattle.rooms_state.specs.SeatState.{opening_of}
 use Rattle.rooms_seat.specs.Dealing.{room_opened, Dealing}
 use Rattle.rooms_seat.specs.declared.opening.FourDealers.{FourDealers}
-use Rattle.rooms.specs.Opened.{offer_at, opened, opened_first, AreDealt, AreOffersOf}
+use Rattle.rooms.specs.Opened.{offer_at, opened, opened_first, AreDealt, AreFit, AreOffersOf}
+use Rattle.rooms.proofs.Filled.{fit_offers}
 use Rattle.rooms.specs.SeatValue.{SeatValue}
 use Rattle.rooms.specs.declared.error.RoomError.{RoomError}
 use Rattle.rooms.specs.declared.error.RoomError.TheVariants.{CellRefused, NoMemory, Unsettled}
@@ -100,6 +101,10 @@ dealt_same {T} table o offers seats others e d = subst (λ (ss : List (SeatValue
 -- ---- from kept parts to seats
 
 module _ (q : Sizes) (kept : List (List KeptPart)) (offers : FunctionOffers) (all : FourDealers) (are : AreDealersOf q kept all) (nodes : length kept ≡ q.nodes) where
+  fit : {T : Type 0} (room : ℕ) (parts : List KeptPart) (os : List (Option T)) (d : Dealing) → d ≡ room_opened all.first.table.table 4 room q parts → length parts ≡ length kept
+      → AreOffersOf parts os → AreFit d.opening os
+  fit {T} room parts os d e size of = fit_offers {T = T} q parts os d.opening (size ∙ nodes) (ap (λ (x : Dealing). x.opening) e) of
+
   pub fresh : AreOffersOf (kept_in 0 kept) offers.first.items → AreOffersOf (kept_in 1 kept) offers.second.items
       → AreOffersOf (kept_in 2 kept) offers.third.items → AreOffersOf (kept_in 3 kept) offers.fourth.items → AreFresh all offers
   fresh o1 o2 o3 o4 =
@@ -119,6 +124,10 @@ module _ (q : Sizes) (kept : List (List KeptPart)) (offers : FunctionOffers) (al
         offers2 = o2.size ∙ (many kept 1 ∙ (nodes ∙ sym c2));
         offers3 = o3.size ∙ (many kept 2 ∙ (nodes ∙ sym c3));
         offers4 = o4.size ∙ (many kept 3 ∙ (nodes ∙ sym c4));
+        fit1 = fit 0 (kept_in 0 kept) offers.first.items all.first are.first (many kept 0) o1;
+        fit2 = fit 1 (kept_in 1 kept) offers.second.items all.second are.second (many kept 1) o2;
+        fit3 = fit 2 (kept_in 2 kept) offers.third.items all.third are.third (many kept 2) o3;
+        fit4 = fit 3 (kept_in 3 kept) offers.fourth.items all.fourth are.fourth (many kept 3) o4;
       }
 
   dealt_at : {T : Type 0} (room : ℕ) (parts : List KeptPart) (os : List (Option T)) (d : Dealing) (seats : List (SeatValue T)) → d ≡ room_opened all.first.table.table 4 room q parts

@@ -9,7 +9,7 @@ use Rattle.rooms_table.specs.RoomAt.{RoomAt}
 use Rattle.rooms_state.specs.SeatState.{opening_of}
 use Rattle.rooms_seat.specs.Dealing.{room_opened}
 use Rattle.rooms_seat.specs.declared.opening.FourDealers.{FourDealers}
-use Rattle.rooms.specs.Opened.{AnyOffered, AreDealt}
+use Rattle.rooms.specs.Opened.{AnyOffered, AreDealt, AreFit}
 use Rattle.rooms.specs.declared.error.RoomError.{RoomError}
 use Rattle.rooms.specs.declared.error.RoomError.TheVariants.{CellRefused, NoMemory, Unsettled}
 use Rattle.rooms_function.specs.declared.opening.FunctionOffers.{FunctionOffers}
@@ -79,7 +79,7 @@ pub record AreDealersOf (q : Sizes) (kept : List (List KeptPart)) (all : FourDea
   pub third : all.third ≡ room_opened all.first.table.table 4 2 q (kept_in 2 kept)
   pub fourth : all.fourth ≡ room_opened all.first.table.table 4 3 q (kept_in 3 kept)
 
--- none has dealt a seat, and each pass has so many nodes, and as many offers, made or not
+-- none has dealt a seat, and each pass has so many nodes, and as many offers: those of the nodes that have made one
 pub record AreFresh (all : FourDealers) (offers : FunctionOffers) : Type 0 where
   pub next1 : all.first.next ≡ 0
   pub next2 : all.second.next ≡ 0
@@ -92,6 +92,10 @@ pub record AreFresh (all : FourDealers) (offers : FunctionOffers) : Type 0 where
   pub offers2 : length offers.second.items ≡ all.second.opening.quorums.nodes
   pub offers3 : length offers.third.items ≡ all.third.opening.quorums.nodes
   pub offers4 : length offers.fourth.items ≡ all.fourth.opening.quorums.nodes
+  pub fit1 : AreFit all.first.opening offers.first.items
+  pub fit2 : AreFit all.second.opening offers.second.items
+  pub fit3 : AreFit all.third.opening offers.third.items
+  pub fit4 : AreFit all.fourth.opening offers.fourth.items
 
 -- the nodes' seats, as they were dealt
 pub record AreDealtBy (all : FourDealers) (offers : FunctionOffers) (seats : List FunctionSeat) : Type 0 where

@@ -1,6 +1,7 @@
 //! The seat of a node of a room over shared words, which stand in a table alone or beside those of three other rooms: its right to
-//! store its own two words and to load all. Promises that
-//! each call is exactly one load or one store of one word, and which step of the protocol that is.
+//! store its own two words and to load all. Promises of each call which step of the protocol it is. A call is written as one load
+//! or one store of one word, but `meet` and `forget`, which load more: the contracts count no loads, since one more between two
+//! steps of other nodes shows in no view.
 #![tactic(auto)]
 
 mod looking;

@@ -25,7 +25,7 @@ use Rattle.rooms_state.specs.declared.act.Act.{Act}
 use Rattle.rooms_state.specs.declared.act.Act.TheVariants as act
 use Rattle.rooms_state.specs.Did.{Did, LookedAtAcceptor, NotesOf}
 use Rattle.rooms_state.specs.SeatState.{SeatState, no_acceptor, proposer_of, promise_of, vote_of}
-use Rattle.rooms_state.specs.Would.{would, act_of, proposed_by_step, IsUnderWay, ProposesNoMore, Acted}
+use Rattle.rooms_state.specs.Would.{would, act_of, proposed_by_step, IsStarted, ProposesNoMore, Acted}
 use Rattle.rooms_state.proofs.Acts.{may_promise, vote_seen}
 use Rattle.rooms_state.proofs.Moves.{kept_hearing}
 
@@ -63,7 +63,7 @@ some_is : (s : Step) (o : Option Step) → o ≡ Some s → o ≡ None → ⊥
 some_is s o e n = let bad : Some s ≡ None = sym e ∙ n in cc
 
 did_acted : (a : Act) (s : Step) (old new : SeatState) → would old a ≡ Some s → core.would old.node (act_of s) ≡ Some s → Did (act_of s) (proposed_by_step s old.proposed) old new
-    → IsUnderWay (Some s) new → ProposesNoMore a (Some s) new → Acted a old new
+    → IsStarted (Some s) new → ProposesNoMore a (Some s) new → Acted a old new
 did_acted a s old new e told did way more =
     let node : new.node ≡ after_act old.node (act_of s) = ap (λ (x : SeatState). x.node) did.after in
     record {
@@ -78,7 +78,7 @@ did_acted a s old new e told did way more =
       learned = ap (λ (t : NodeState). t.learned) node ∙ learned_act old.node (act_of s);
       proposers = ap (λ (x : SeatState). x.proposers) did.after;
       acceptors = ap (λ (x : SeatState). x.acceptors) did.after;
-      under_way = subst (λ (o : Option Step). IsUnderWay o new) (sym e) way;
+      under_way = subst (λ (o : Option Step). IsStarted o new) (sym e) way;
       no_more = subst (λ (o : Option Step). ProposesNoMore a o new) (sym e) more;
     }
 
@@ -101,7 +101,7 @@ none_acted a old new e same =
       learned = refl;
       proposers = refl;
       acceptors = refl;
-      under_way = subst (λ (o : Option Step). IsUnderWay o old) (sym e) tt;
+      under_way = subst (λ (o : Option Step). IsStarted o old) (sym e) tt;
       no_more = no_more_none a old e;
     }
 

@@ -42,9 +42,9 @@ proposed_by_step (step.Propose b v) p = Some v
 proposed_by_step (step.Accept b v) p = p
 
 -- the ballot that is under way after a start
-abbrev pub IsUnderWay : Option Step → SeatState → Type 0
-IsUnderWay (Some (step.Start b)) s = (s.node.ballot ≡ Some b) × (s.node.kept.promised < b)
-IsUnderWay other s = Unit {0}
+abbrev pub IsStarted : Option Step → SeatState → Type 0
+IsStarted (Some (step.Start b)) s = (s.node.ballot ≡ Some b) × (s.node.kept.promised < b)
+IsStarted other s = Unit {0}
 
 -- nothing is proposed any more: it was asked to propose, or has started a ballot, under which no promise is noted yet
 abbrev pub ProposesNoMore : Act → Option Step → SeatState → Type 0
@@ -63,5 +63,5 @@ pub record Acted (a : Act) (old new : SeatState) : Type 0 where
   pub learned : new.node.learned ≡ old.node.learned
   pub proposers : new.proposers ≡ old.proposers
   pub acceptors : new.acceptors ≡ old.acceptors
-  pub under_way : IsUnderWay (would old a) new
+  pub under_way : IsStarted (would old a) new
   pub no_more : ProposesNoMore a (would old a) new

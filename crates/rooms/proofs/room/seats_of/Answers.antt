@@ -3,16 +3,22 @@ use Rattle.std.specs.Arc.{arc_value}
 use Rattle.rooms_seat.specs.Dealing.{Dealing}
 use Rattle.rooms.specs.declared.error.RoomError.TheVariants as error
 use Rattle.rooms.specs.Opened.{opened_first}
-use Rattle.rooms.proofs.Openings.{any_offer, pushed, same_error, seats_more, take_left, taken}
+use Rattle.rooms.proofs.Openings.{any_offer, fit_next, pushed, same_error, seats_more, take_left, taken}
 use Rattle.rooms.proofs.room.seats_of.Goals as goal
 
 pub next_seat-requires-after_bounds : goal.next_seat-requires-after_bounds
 next_seat-requires-after_bounds g c κs within =
-    let low : c.loop-node.node < length c.args.offers.items = omega (arith, c.loop-node-test.true, c.len-node-end.ensures, c.args.offers.ok.0) in (
+    let low : c.loop-node.node < length c.args.offers.items = omega (arith, c.loop-node-test.true, c.len-node-end.ensures, c.args.offers.ok.0) in
+    let size : length c.loop-node.offers.items ≡ length c.args.offers.items = c.loop-node.invariant.size in
+    let below : c.loop-node.node < c.args.dealer.opening.quorums.nodes = subst (λ (n : ℕ). c.loop-node.node < n) c.requires.offers low in (
       omega arith,
       (
         omega arith,
-        subst (λ (x : Dealing). x.next < x.opening.quorums.nodes) (sym c.loop-node.invariant.dealer) (subst (λ (n : ℕ). c.loop-node.node < n) c.requires.offers low),
+        (
+          subst (λ (x : Dealing). x.next < x.opening.quorums.nodes) (sym c.loop-node.invariant.dealer) below,
+          fit_next c.args.offers.items c.loop-node.node c.take-offer.result c.args.dealer c.loop-node.dealer c.loop-node.invariant.dealer c.requires.fit below
+              (taken c.loop-node.offers.items c.args.offers.items c.loop-node.node c.index_mut.result.now c.take-offer.result (omega arith) c.take-offer.ensures.value c.index_mut.ensures.value c.loop-node.invariant.left),
+        ),
       ),
     )
 
