@@ -3,8 +3,8 @@
 
     bench/floors.py             says what does not hold: an edge of crates.txt that no file of the crate names or that
                                 is missing, a crate on no floor or below one that it stands on, a crate over 1,500
-                                lines or 100 functions, an index that is not that of the crates; and how many clauses
-                                are over 120 characters, their lines joined
+                                lines or 100 functions, an index that is not that of the crates, a face's page that
+                                leaves out a part; and how many clauses are over 120 characters, their lines joined
     bench/floors.py --write     writes crates.txt, which has the floors below and for each crate exactly what its files
                                 name, and crates/README.md, the index
     bench/floors.py --clauses   prints each clause over 120 characters
@@ -41,35 +41,69 @@ FLOORS = [
      "alloc_check "
      "linearize_check_proof linearize_check_layout linearize_check"),
     ("Optimisers: they propose, and nothing is claimed of them",
-     "oracle_facts oracle_const oracle_cse oracle_alloc_blocks oracle_alloc oracle_order"),
+     "oracle_graphs oracle_facts oracle_const oracle_alloc_blocks oracle_alloc oracle_cse oracle_webs oracle_alloc_speed oracle_order"),
     ("Offers, chains of them, and the linked program", "offers offers_choice parallel_validate linker chains"),
     ("Agreement: the protocol, rooms on shared words",
      "paxos_core_world paxos_core_invariant paxos_core_model paxos_core_law paxos_core_late_offers paxos_core_crash paxos_core "
      "rooms_rule rooms_table rooms_steps rooms_state rooms_rights rooms_met rooms_seat rooms_cells rooms_hall rooms rooms_function rooms_numbered"),
-    ("Journals", "durable_model_writes durable_model acceptor_log_form acceptor_log"),
+    ("Journals", "durable_model_writes durable_model durable_pair durable_pair_turning durable_pair_memory durable_pair_files acceptor_log_form acceptor_log acceptor_log_old_form "
+     "acceptor_log_translating acceptor_log_migrating"),
     ("The farm",
      "farm_nodes_order farm_nodes_acting farm_nodes_leading farm_nodes_offers farm_nodes_playing farm_nodes_passes "
      "farm_nodes_turn farm_nodes_node farm_nodes_meeting farm_nodes_nodes farm_nodes_restart_seat "
-     "farm_nodes_restart_records farm_nodes_restart farm_nodes_returning farm_nodes_records farm_nodes_disks "
+     "farm_nodes_restart_records farm_nodes_restart farm_nodes_pairs farm_nodes_returning farm_nodes_disks farm_nodes_records "
      "farm_nodes_stored farm_nodes_lists farm_nodes_opening farm_nodes_functions farm_nodes_joining "
-     "farm_nodes_opened farm_nodes_rounds farm_nodes_workers farm_nodes_threads farm_nodes_source "
+     "farm_nodes_seated farm_nodes_opened farm_nodes_rounds farm_nodes_workers farm_nodes_threads farm_nodes_source "
      "farm_nodes_compiling farm_nodes_linked farm_nodes"),
     ("The program",
-     "cfarm_files cfarm_options cfarm_output cfarm_meter cfarm_report cfarm_build_faults cfarm_build_linking cfarm_build cfarm_building cfarm_settle_nodes cfarm_commands cfarm_schedules_lines "
+     "cfarm_files cfarm_options cfarm_explaining cfarm_output cfarm_runs cfarm_hints cfarm_meter cfarm_report cfarm_build_faults cfarm_build_linking cfarm_build cfarm_building cfarm_settle_nodes cfarm_commands cfarm_schedules_lines "
      "cfarm_schedules cfarm_words cfarm_program cfarm"),
     ("Tests",
      "program_rows paxos_reference worked_farm worked_commands worked_agreement worked_texts worked_forms worked_offers "
-     "worked_rows worked_disk worked_journals worked_rooms worked_hostile"),
+     "worked_rows worked_disk worked_journals worked_rooms worked_whole worked_hostile"),
 ]
 ORDER = [crate for _, crates in FLOORS for crate in crates.split()]
 # The product's public face. A crate whose name begins with that of a face and `_` is a part of it: what a caller needs of it the face
 # passes on. The other crates are shared by several faces.
 FACES = (
     "ints lang c_lexer c_reader c_checker c_meaning cminor rtl rtlgen ltl linear constprop_check cse_check alloc_check linearize_check "
-    "oracle_const oracle_cse oracle_alloc oracle_order offers parallel_validate linker durable_model acceptor_log paxos_core rooms "
+    "oracle_const oracle_cse oracle_alloc oracle_alloc_speed oracle_order offers parallel_validate linker durable_model acceptor_log paxos_core rooms "
     "farm_nodes cfarm"
 ).split()
 INDEX = f"{ROOT}/crates/README.md"
+# What somebody may want to change: where that begins, and which crates a change touches then. Each word with an underscore between
+# backticks is a crate.
+CHANGES = [
+    ("the grammar of C",
+     "[`c_reader`](c_reader/README.md); the trees: `c_syntax`",
+     "the laws and readers of that kind (`c_reader_expression_laws`, `c_reader_expressions`; `c_reader_statement_laws`, `c_reader_statements`; "
+     "`c_reader_declaration_laws`, `c_reader`). A new tree: also `c_checker_rules`, `c_checker_terms`, `c_checker_bodies` or "
+     "`c_checker_declarations`; `c_program`, `c_meaning_machine`, `c_meaning`; `cminor_lowering`, `cminor_lowering_ranges`, `cminor`"),
+    ("what is refused of a text",
+     "[`c_checker`](c_checker/README.md): `c_checker_rules`",
+     "the checker of that part; its sentence: `cfarm_runs` (`specs/Sentences`); its hint: `cfarm_explaining`"),
+    ("a rule of a pass",
+     "pass 1 `constprop_check_rules`, 2 `cse_check_rules`, 3 [`alloc_check`](alloc_check/README.md): `alloc_check_rules`, 4 `linearize_check_proof`; "
+     "what 1 and 2 share: `rtl_passes_filled`, `rtl_passes_facts`",
+     "its check (`constprop_check`, `cse_check`, `alloc_check_verdict`, `linearize_check`), its baseline there or in `alloc_check`, and its "
+     "optimiser, whose proposals would be refused (`oracle_const`, `oracle_cse`, `oracle_alloc`, `oracle_order`)"),
+    ("how optimisers choose", "the optimiser; which one a node has: `farm_nodes_compiling`", "nothing: no promise rests on it"),
+    ("the journal's form",
+     "[`acceptor_log`](acceptor_log/README.md): `acceptor_log_form`",
+     "`acceptor_log`, `acceptor_log_translating`; a new record: `farm_nodes_order`, `farm_nodes_acting`, `farm_nodes_restart_records`, "
+     "`farm_nodes_records`; the header: `farm_nodes_disks`, `cfarm_building`"),
+    ("which sizes of quorums meet, and how many a quorum has",
+     "[`paxos_core`](paxos_core/README.md): `paxos_core_world` (`quorum.rt`, `specs/Quorum`, `proofs/Quorums`)",
+     "who tests a quorum: `paxos_core`, `paxos_core_model`; what is told of it: `rooms_state` (`proofs/Told`); what a build asks for: `cfarm_words`, `cfarm_options`, `cfarm_building`; where sizes are written: "
+     "`acceptor_log_form`, `cfarm_schedules_lines`; the three nodes of `settle`: `cfarm_settle_nodes`"),
+    ("an option, a command, help",
+     "[`cfarm`](cfarm/README.md): `cfarm_words`",
+     "a build's option: `cfarm_options`, `cfarm_building`; one of another command: `cfarm_runs`; all: `cfarm_program`, docs/cfarm.1, docs/cfarm.bash"),
+    ("a line, a status, the order of refusals",
+     "[`cfarm`](cfarm/README.md): `cfarm_program`",
+     "`cfarm_runs`, `cfarm_build_faults`, `cfarm_building`, `cfarm_commands`, `cfarm_schedules`; rows of `worked_rows`"),
+    ("turns, and when a ballot starts", "[`farm_nodes`](farm_nodes/README.md): `farm_nodes_leading`, `farm_nodes_rounds`", "rows of `worked_rows`"),
+]
 
 
 def files_of(crate):
@@ -192,6 +226,8 @@ def index():
         "with a face's is a part of it, and what callers need of it the face passes on; the others are shared by several faces. Behind each: what",
         "it mostly is, its lines of code, definitions and proofs, and what it is for. A face with many parts has a README of its own.",
     ]
+    told += ["", "## Where to change what", "", "| To change | Begin in | Touched then |", "|---|---|---|"]
+    told += [f"| {what} | {first} | {then} |" for what, first, then in CHANGES]
     for name, crates in FLOORS:
         told += ["", f"## {name}", "", "| Crate | Kind | Code | Definitions | Proofs | What it is |", "|---|---|---:|---:|---:|---|"]
         for crate in crates.split():
@@ -214,9 +250,26 @@ def stamped(below):
     return 2 * sum(read[it] for it in ORDER if not os.path.isfile(f"{ROOT}/crates/{it}/src/main.rt"))
 
 
+def unnamed_parts(face):
+    """The parts of a face that its page does not name, where it has one; `_ending` stands for the part of that ending."""
+    page = f"{ROOT}/crates/{face}/README.md"
+    if not os.path.isfile(page):
+        return
+    with open(page, encoding="utf-8") as it:
+        named = set(re.findall(r"`([a-z_0-9]+)`", it.read()))
+    for crate in ORDER:
+        if face_of(crate) == face and not {crate, crate.removeprefix(face)} & named:
+            yield f"{face}: its page does not name {crate}"
+
+
 def faults():
     plan, below = read_plan(), edges()
     place = {crate: at for at, crate in enumerate(ORDER)}
+    for what, *told in CHANGES:
+        for it in set(re.findall(r"`([a-z]+(?:_[a-z]+)+)`", " ".join(told))) - set(ORDER):
+            yield f"crates/README.md: to change {what}: no crate {it}"
+    for face in FACES:
+        yield from unnamed_parts(face)
     for crate in sorted((set(os.listdir(f"{ROOT}/crates")) - {os.path.basename(INDEX)}) ^ set(ORDER)):
         yield f"{crate}: on no floor, or no crate"
     with open(INDEX, encoding="utf-8") as it:

@@ -1,9 +1,9 @@
 -- Time goes on over a call of a disk in memory.
 use Rattle.std.proofs.Common.{◌≡◌, ◌⊎◌, ℕ, ◌≤◌, List, [], ◌∷◌, ◌++◌, length, sym, ap, subst, arith, inl, inr}
-use Rattle.durable_model.specs.declared.call.Call.{Call}
+use Rattle.durable_model_writes.specs.declared.call.Call.{Call}
 use Rattle.durable_model.specs.declared.memory.MemoryDisk.{MemoryDisk}
 use Rattle.durable_model.specs.Honest.{Elapses}
-use Rattle.durable_model.specs.History.{MayLeave, LeftSince}
+use Rattle.durable_model_writes.specs.History.{MayLeave, LeftSince}
 use Rattle.durable_model.specs.Memory.{history, memory_moment, memory_may_leave, memory_left_since, Notes}
 
 -- a moment before the last call, or this one

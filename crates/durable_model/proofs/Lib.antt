@@ -1,3 +1,1 @@
 pub mod Elapsed
-pub mod Noted
-pub mod Redone

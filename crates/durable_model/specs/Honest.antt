@@ -23,12 +23,12 @@ pub record Unchanged {D : Type 0} (seen : D → List ℕ) (may_leave : D → Lis
   pub nothing_new : NothingNew (may_leave old) (may_leave new)
 
 -- Time goes on over a call: a crash since t might have left what it might have left before the call, or what it may
--- leave now, and what it might have left it still might.
-pub record Elapses {D : Type 0} (moment : D → ℕ) (left_since : D → ℕ → List ℕ → Type 0)
-    (may_leave : D → List ℕ → Type 0) (old new : D) : Type 0 where
+-- leave now, and what it might have left it still might. An image is that of one disk or of more at one moment.
+pub record Elapses {D I : Type 0} (moment : D → ℕ) (left_since : D → ℕ → I → Type 0) (may_leave : D → I → Type 0)
+    (old new : D) : Type 0 where
   pub later : moment old ≤ moment new
-  pub nothing_else : (t : ℕ) (c : List ℕ) → t ≤ moment old → left_since new t c → left_since old t c ⊎ may_leave new c
-  pub keeps : (t : ℕ) (c : List ℕ) → t ≤ moment old → left_since old t c → left_since new t c
+  pub nothing_else : (t : ℕ) (c : I) → t ≤ moment old → left_since new t c → left_since old t c ⊎ may_leave new c
+  pub keeps : (t : ℕ) (c : I) → t ≤ moment old → left_since old t c → left_since new t c
 
 -- the last number of failures, at which the count stays
 abbrev pub most_failures : ℕ

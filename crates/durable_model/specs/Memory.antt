@@ -2,13 +2,11 @@
 use Rattle.std.specs.Prelude.{◌≡◌, ◌≤◌, ℕ, List, [], ◌∷◌, ◌++◌, length, refl, ◌⊎◌, ◌<◌, ◌+◌, Result, OnOk, IsErrOf}
 use Rattle.std.proofs.Common.{sym, ◌∙◌, ap, subst, arith, length-append}
 use Rattle.std.proofs.lemmas.List.{nil_from_length}
-use Rattle.durable_model.specs.declared.call.Call.{Call}
-use Rattle.durable_model.specs.declared.call.Call.TheVariants.{Wrote, Tore, Synced, Left}
+use Rattle.durable_model_writes.specs.declared.call.Call.{Call}
 use Rattle.durable_model.specs.declared.memory.MemoryDisk.{MemoryDisk}
 use Rattle.durable_model.specs.declared.error.DiskError.{DiskError}
 use Rattle.durable_model.specs.declared.error.DiskError.TheVariants.{Device, NoMemory}
-use Rattle.durable_model_writes.specs.Writes.{torn_overwritten, torn_nothing}
-use Rattle.durable_model.specs.History.{noted, after, seen_after, Leaves, MayLeave, LeftSince}
+use Rattle.durable_model_writes.specs.History.{noted, MayLeave, LeftSince, seen_left}
 
 -- its calls with what they wrote, the last first
 abbrev pub history : MemoryDisk → List (Call × List ℕ)
@@ -116,18 +114,6 @@ pub record StandsAs (old new : MemoryDisk) : Type 0 where
   pub written_are : new.written.items ≡ old.written.items
   pub first_is : new.first.items ≡ old.first.items
   pub bytes_are : new.bytes.items ≡ old.bytes.items
-
-seen_by : (call : Call) (bytes : List ℕ) (before : List ℕ → Type 0) (seen : List ℕ) → before seen
-    → Leaves call bytes before seen (after call bytes seen)
-seen_by (Wrote at n) bytes before seen here = (seen, here, torn_overwritten seen at bytes)
-seen_by (Tore at n) bytes before seen here = (seen, here, torn_nothing seen at n)
-seen_by Synced bytes before seen here = refl
-seen_by Left bytes before seen here = here
-
-pub seen_left : (history : List (Call × List ℕ)) (first : List ℕ) → MayLeave history first (seen_after history first)
-seen_left [] first = refl
-seen_left (last ∷ earlier) first =
-    seen_by last.0 last.1 (MayLeave earlier first) (seen_after earlier first) (seen_left earlier first)
 
 -- what a read gives is an image that a crash now may leave
 pub left_as_kept : (disk : MemoryDisk) → MayLeave (history disk) disk.first.items disk.bytes.items

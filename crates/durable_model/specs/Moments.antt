@@ -1,26 +1,26 @@
 -- A crash at any moment of a run of calls, and how such runs are put together.
-use Rattle.std.specs.Prelude.{◌⊎◌, ◌≤◌, ℕ, List}
+use Rattle.std.specs.Prelude.{◌⊎◌, ◌≤◌, ℕ}
 use Rattle.std.proofs.Common.{inl, inr, ⊎_elim, arith}
 use Rattle.durable_model.specs.Honest.{Elapses}
 
--- A crash at some moment from old to new leaves bytes that have P.
-pub record LeavesOnly {D : Type 0} (moment : D → ℕ) (left_since : D → ℕ → List ℕ → Type 0)
-    (old new : D) (P : List ℕ → Type 0) : Type 0 where
+-- A crash at some moment from old to new leaves an image that has P: the bytes of one disk, or of more at one moment.
+pub record LeavesOnly {D I : Type 0} (moment : D → ℕ) (left_since : D → ℕ → I → Type 0)
+    (old new : D) (P : I → Type 0) : Type 0 where
   pub later : moment old ≤ moment new
-  pub each : (c : List ℕ) → left_since new (moment old) c → P c
+  pub each : (c : I) → left_since new (moment old) c → P c
   -- for a run that began earlier
-  pub before : (t : ℕ) (c : List ℕ) → t ≤ moment old → left_since new t c → left_since old t c ⊎ P c
+  pub before : (t : ℕ) (c : I) → t ≤ moment old → left_since new t c → left_since old t c ⊎ P c
 
-module _ {D : Type 0} (moment : D → ℕ) (left_since : D → ℕ → List ℕ → Type 0) where
+module _ {D I : Type 0} (moment : D → ℕ) (left_since : D → ℕ → I → Type 0) where
   -- before the first call
-  pub started : (old : D) (P : List ℕ → Type 0) → ((c : List ℕ) → left_since old (moment old) c → P c)
+  pub started : (old : D) (P : I → Type 0) → ((c : I) → left_since old (moment old) c → P c)
       → LeavesOnly moment left_since old old P
   started old P here = record { later = omega arith; each = here; before = λ t c le left. inl left }
 
   -- one call more, after which a crash leaves bytes that have P
-  pub goes_on : (old mid new : D) (P : List ℕ → Type 0) (may_leave : D → List ℕ → Type 0)
+  pub goes_on : (old mid new : D) (P : I → Type 0) (may_leave : D → I → Type 0)
       → LeavesOnly moment left_since old mid P → Elapses moment left_since may_leave mid new
-      → ((c : List ℕ) → may_leave new c → P c) → LeavesOnly moment left_since old new P
+      → ((c : I) → may_leave new c → P c) → LeavesOnly moment left_since old new P
   goes_on old mid new P may_leave so_far time here = record {
     later = omega (arith, so_far.later, time.later);
     each = λ c left. ⊎_elim (so_far.each c) (here c) (time.nothing_else (moment old) c so_far.later left);
@@ -29,9 +29,9 @@ module _ {D : Type 0} (moment : D → ℕ) (left_since : D → ℕ → List ℕ 
   }
 
   -- one run after another
-  pub composed : (old mid new : D) (P Q R : List ℕ → Type 0)
+  pub composed : (old mid new : D) (P Q R : I → Type 0)
       → LeavesOnly moment left_since old mid P → LeavesOnly moment left_since mid new Q
-      → ((c : List ℕ) → P c → R c) → ((c : List ℕ) → Q c → R c) → LeavesOnly moment left_since old new R
+      → ((c : I) → P c → R c) → ((c : I) → Q c → R c) → LeavesOnly moment left_since old new R
   composed old mid new P Q R first second p q = record {
     later = omega (arith, first.later, second.later);
     each = λ c left.

@@ -1,7 +1,9 @@
 //! The contract of an honest disk.
 
-ghost use Rattle.std.specs.Prelude.{◌≡◌, ◌≤◌, ◌↔◌, List, ℕ, length, IfOk, OnOk, IsErrOf};
-ghost use Rattle.durable_model.specs.declared.error.DiskError.TheVariants.{NoMemory};
+ghost use Rattle.std.specs.Prelude.{◌≡◌, ◌≤◌, ◌↔◌, ⊤, List, ℕ, [], length, IfOk, OnOk, OnErr, IsErrOf};
+ghost use Rattle.durable_model.specs.declared.error.DiskError.TheVariants.{Device, NoMemory};
+ghost use Rattle.durable_model_writes.specs.declared.call.Call.{Call};
+ghost use Rattle.durable_model_writes.specs.declared.call.Call.TheVariants.{Wrote, Tore, Synced, Left};
 ghost use Rattle.durable_model_writes.specs.Writes.{overwritten, Torn};
 ghost use Rattle.durable_model.specs.Honest.{Only, NothingNew, Follows, Unchanged, Elapses, MayWantMemory, Counts};
 
@@ -31,12 +33,17 @@ pub trait Disk {
     /// How many calls have answered `Device`; it stays at 2^64 - 1.
     ghost faults: { Self → ℕ };
 
+    /// What a call did, with the bytes that it wrote, where a disk gives this a meaning: so one that has a companion
+    /// says of that too what each call leaves.
+    ghost did: { Call → List ℕ → Self → Self → Type 0 } = { λ _ _ _ _. ⊤ };
+
     /// All the bytes.
     fn read(&mut self, alloc: Global) -> Result<Vec<u8>, DiskError>
         ensures honest { is_honest self.new ↔ is_honest self.old }
         ensures bytes { is_honest self.old → IfOk result (λ bytes. bytes.items ≡ seen self.old) }
         ensures unchanged { is_honest self.old → Unchanged seen may_leave self.old self.new }
         ensures time { is_honest self.old → Elapses moment left_since may_leave self.old self.new }
+        ensures left { did Left [] self.old self.new }
         ensures failures { Counts result (faults self.old) (faults self.new) };
 
     /// Writes over the bytes from `at` on, and past the end, where zeros fill a gap. A write of no bytes does nothing.
@@ -53,6 +60,9 @@ pub trait Disk {
         ensures memory { is_honest self.old
             → IsErrOf result NoMemory → MayWantMemory at (length bytes.now) (seen self.old) }
         ensures unwritten { is_honest self.old → IsErrOf result NoMemory → Unchanged seen may_leave self.old self.new }
+        ensures done { OnOk result (did (Wrote at (length bytes.now)) bytes.now self.old self.new) }
+        ensures tore { IsErrOf result Device → did (Tore at (length bytes.now)) [] self.old self.new }
+        ensures left { IsErrOf result NoMemory → did Left [] self.old self.new }
         ensures failures { Counts result (faults self.old) (faults self.new) };
 
     /// After it, where it succeeds, a crash leaves what a read gives. It takes no memory.
@@ -62,6 +72,8 @@ pub trait Disk {
         ensures unchanged { is_honest self.old → Unchanged seen may_leave self.old self.new }
         ensures time { is_honest self.old → Elapses moment left_since may_leave self.old self.new }
         ensures memory { IsErrOf result NoMemory → ⊥ }
+        ensures done { OnOk result (did Synced [] self.old self.new) }
+        ensures left { OnErr result (did Left [] self.old self.new) }
         ensures failures { Counts result (faults self.old) (faults self.new) };
 
     /// How many calls have answered `Device`; it stays at 2^64 - 1.

@@ -41,7 +41,7 @@ impl<T: Drop> From<AllocFailed<T>> for DiskError {
 }
 
 /// Counts a failure of the device.
-pub(crate) fn failed(failures: &mut u64) -> DiskError
+pub fn failed(failures: &mut u64) -> DiskError
     ensures device { result ≡ Device }
     ensures counted { failures.new ≡ min (failures.old + 1) most_failures }
     ensures later { failures.old ≤ failures.new }

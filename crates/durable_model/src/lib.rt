@@ -3,14 +3,12 @@
 //! [`FileDisk`] one over a real file, of which what a crash leaves is a premise with a name.
 #![tactic(auto)]
 
-mod call;
 mod disk;
 mod error;
 mod file;
 mod memory;
-mod replaying;
 
 pub use disk::Disk;
-pub use error::DiskError;
+pub use error::{DiskError, failed};
 pub use file::FileDisk;
 pub use memory::MemoryDisk;

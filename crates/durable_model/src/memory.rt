@@ -1,13 +1,11 @@
 //! A disk in memory, which can fail, crash and tear writes.
 
 ghost use Rattle.std.specs.Prelude.{◌≡◌, ◌≤◌, [], length, sum_by, vec_capacity};
-ghost use Rattle.durable_model.specs.History.{size_of, noted, seen_after};
+ghost use Rattle.durable_model_writes.specs.History.{size_of, noted, seen_after};
 
-use crate::call::{Call, keep, note};
 use crate::disk::Disk;
 use crate::error::{DiskError, failed};
-use crate::replaying::torn_image;
-use durable_model_writes::overwrite;
+use durable_model_writes::{Call, keep, note, overwrite, torn_image};
 use lang_base::NoMemory;
 use rand_pcg::Pcg32;
 use std::alloc::{AllocError, Global};
@@ -43,7 +41,7 @@ pub struct MemoryDisk {
 impl MemoryDisk {
     ghost use Rattle.std.specs.Prelude.{◌≡◌, ◌<◌, ◌≤◌, ◌↔◌, ◌+◌, [], false, length, IsTrue, IfOk, OnOk, OnErr};
     ghost use Rattle.durable_model.specs.Honest.{Only, Follows, Unchanged, Elapses};
-    ghost use Rattle.durable_model.specs.History.{size_of};
+    ghost use Rattle.durable_model_writes.specs.History.{size_of};
     ghost use Rattle.durable_model.specs.Memory.{seen_by_memory, memory_may_leave, memory_faults, memory_moment, memory_left_since, calls_made, bytes_noted, told_to_fail, told_to_stop, FailsAt, NoneFails, IsToldAs, IsPastCapacity, IsSettled, HasCapacity, KeepsCapacity, HasCounted, HasNotCounted, Notes, StandsAs};
     ghost use Rattle.durable_model_writes.specs.Writes.{overwritten, Lengthens, Torn};
 
@@ -60,7 +58,7 @@ impl MemoryDisk {
     }
 
     /// A disk that holds these bytes, all of them synced.
-    pub(crate) fn holding(
+    pub fn holding(
         alloc: Global,
         content: Vec<u8>,
         calls: usize,
@@ -123,14 +121,14 @@ impl MemoryDisk {
     }
 
     /// What a read gives.
-    pub(crate) fn bytes(&self) -> &[u8]
+    pub fn bytes(&self) -> &[u8]
         ensures { result.now ≡ seen_by_memory self.now }
     {
         self.bytes.as_slice()
     }
 
     /// A write of so many bytes would make it longer.
-    pub(crate) fn is_lengthened_by(&self, at: u64, n: usize) -> bool
+    pub fn is_lengthened_by(&self, at: u64, n: usize) -> bool
         ensures { IsTrue result ↔ Lengthens at n (seen_by_memory self.now) }
     {
         let len = self.bytes.len() as u64;
@@ -138,7 +136,7 @@ impl MemoryDisk {
     }
 
     /// Makes its capacity suffice for so many calls more, and for so many bytes more in their writes.
-    pub(crate) fn grow(&mut self, calls: usize, bytes: usize) -> Result<(), AllocError>
+    pub fn grow(&mut self, calls: usize, bytes: usize) -> Result<(), AllocError>
         ensures stands { StandsAs self.old self.new }
         ensures capacity { self.old.call_capacity ≤ self.new.call_capacity }
         ensures calls { OnOk result (calls_made self.new + calls ≤ self.new.call_capacity) }
@@ -152,9 +150,11 @@ impl MemoryDisk {
     }
 
     /// Writes, and notes the write. Where it finds no memory nothing was written.
-    pub(crate) fn note_write(&mut self, at: usize, bytes: &[u8]) -> Result<(), AllocError>
+    pub fn note_write(&mut self, at: usize, bytes: &[u8]) -> Result<(), AllocError>
         requires calls { calls_made self.old < self.old.call_capacity }
         requires bytes { bytes_noted self.old + length bytes.now ≤ self.old.byte_capacity }
+        ensures notes { OnOk result (Notes (Call.Wrote at (length bytes.now)) bytes.now self.old self.new) }
+        ensures stands { OnErr result (StandsAs self.old self.new) }
         ensures written { OnOk result (seen_by_memory self.new ≡ overwritten (seen_by_memory self.old) at bytes.now) }
         ensures others { Torn at (length bytes.now) (seen_by_memory self.old) (seen_by_memory self.new) }
         ensures crash { Follows (Torn at (length bytes.now)) (memory_may_leave self.old) (memory_may_leave self.new) }
@@ -175,8 +175,9 @@ impl MemoryDisk {
     }
 
     /// Notes a sync: from now on a crash leaves what a read gives.
-    pub(crate) fn note_sync(&mut self)
+    pub fn note_sync(&mut self)
         requires { calls_made self.old < self.old.call_capacity }
+        ensures notes { Notes Call.Synced [] self.old self.new }
         ensures durable { Only (seen_by_memory self.new) (memory_may_leave self.new) }
         ensures unchanged { Unchanged seen_by_memory memory_may_leave self.old self.new }
         ensures time { Elapses memory_moment memory_left_since memory_may_leave self.old self.new }
@@ -190,7 +191,7 @@ impl MemoryDisk {
     }
 
     /// Notes a call that wrote nothing.
-    fn note_call(&mut self, call: Call)
+    pub fn note_call(&mut self, call: Call)
         requires capacity { calls_made self.old < self.old.call_capacity }
         requires nothing { size_of call ≡ 0 }
         ensures notes { Notes call [] self.old self.new }
@@ -205,7 +206,7 @@ impl MemoryDisk {
     }
 
     /// The next call is one of those that are to fail.
-    fn fails_now(&self) -> bool
+    pub fn fails_now(&self) -> bool
         ensures { IsTrue result ↔ FailsAt (calls_made self.now + 1) self.now }
     {
         let made = self.calls.len();
@@ -213,7 +214,7 @@ impl MemoryDisk {
     }
 
     /// The capacity suffices for one call more, which writes so many bytes.
-    fn has_capacity(&self, bytes: usize) -> bool
+    pub fn has_capacity(&self, bytes: usize) -> bool
         ensures yes_calls { IsTrue result → calls_made self.now < self.now.call_capacity }
         ensures yes_bytes { IsTrue result → bytes_noted self.now + bytes ≤ self.now.byte_capacity }
         ensures no { result ≡ false → IsPastCapacity bytes self.now }

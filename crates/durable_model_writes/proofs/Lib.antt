@@ -1,2 +1,4 @@
 pub mod Filled
 pub mod Garbled
+pub mod Noted
+pub mod Redone

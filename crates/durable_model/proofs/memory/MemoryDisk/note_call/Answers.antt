@@ -1,7 +1,7 @@
 use Rattle.std.proofs.Common.{[], refl, ap, arith, ◌∙◌}
-use Rattle.durable_model.specs.History.{noted}
+use Rattle.durable_model_writes.specs.History.{noted}
 use Rattle.durable_model.proofs.Elapsed.{noted_elapses}
-use Rattle.durable_model.proofs.Noted.{noted_none, kept_none, whole_more}
+use Rattle.durable_model_writes.proofs.Noted.{noted_none, kept_none, whole_more}
 use Rattle.durable_model.proofs.memory.MemoryDisk.note_call.Goals as goal
 
 pub invariant_of-self-clause-kept : goal.invariant_of-self-clause-kept

@@ -1,5 +1,5 @@
 use Rattle.std.proofs.Common.{ap, sym, ◌∙◌, subst}
-use Rattle.durable_model.specs.History.{MayLeave}
+use Rattle.durable_model_writes.specs.History.{MayLeave}
 use Rattle.durable_model.specs.Memory.{history, left_as_kept}
 use Rattle.durable_model.proofs.memory.MemoryDisk.note_sync.Goals as goal
 

@@ -1,8 +1,8 @@
 use Rattle.std.proofs.Common.{rules, length, refl, ap, ◌∙◌, subst, length-append}
-use Rattle.durable_model.specs.declared.call.Call.TheVariants.{Wrote}
-use Rattle.durable_model.specs.History.{MayLeave}
+use Rattle.durable_model_writes.specs.declared.call.Call.TheVariants.{Wrote}
+use Rattle.durable_model_writes.specs.History.{MayLeave}
 use Rattle.durable_model.proofs.Elapsed.{noted_elapses}
-use Rattle.durable_model.proofs.Noted.{noted_last, kept_wrote, whole_more}
+use Rattle.durable_model_writes.proofs.Noted.{noted_last, kept_wrote, whole_more}
 use Rattle.durable_model.proofs.memory.MemoryDisk.note_write.Goals as goal
 
 pub invariant_of-self-2-clause-kept : goal.invariant_of-self-2-clause-kept
@@ -23,13 +23,19 @@ invariant_of-self-2-clause-whole c =
     whole_more old.calls.items c.note.new.calls.items old.written.items c.keep.new.written.items (Wrote c.args.at (length bytes))
     old.whole c.note.ensures.noted (ap length c.keep.ensures.kept ∙ length-append old.written.items bytes)
 
-pub returns-clause-time : goal.returns-clause-time
-returns-clause-time c =
+pub returns-clause-notes : goal.returns-clause-notes
+returns-clause-notes c =
     let old = c.args.self.now in
     let bytes = c.args.bytes.now in
-    let last = noted_last old.calls.items c.note.new.calls.items old.written.items c.keep.new.written.items bytes c.args.at
-    old.whole c.note.ensures.noted c.keep.ensures.kept in
-    noted_elapses old _ (Wrote c.args.at (length bytes)) bytes (record { history_is = last; first_is = refl })
+    record {
+      history_is = noted_last old.calls.items c.note.new.calls.items old.written.items c.keep.new.written.items bytes c.args.at
+          old.whole c.note.ensures.noted c.keep.ensures.kept;
+      first_is = refl;
+    }
+
+pub returns-clause-time : goal.returns-clause-time
+returns-clause-time c =
+    noted_elapses c.args.self.now _ (Wrote c.args.at (length c.args.bytes.now)) c.args.bytes.now (returns-clause-notes c)
 
 pub returns-clause-crash : goal.returns-clause-crash
 returns-clause-crash c image left =

@@ -1,0 +1,118 @@
+//! What a crash may leave of a disk that noted its calls.
+
+ghost use Rattle.std.specs.Prelude.{◌≡◌, ℕ, List, [], take, drop, OnOk, IfOk};
+ghost use Rattle.durable_model_writes.specs.History.{size_of, noted, after, seen_after, MayLeave, Redone, Tears};
+ghost use Rattle.durable_model_writes.specs.declared.call.Call.{Call};
+
+use crate::call::Call;
+use crate::overwriting::overwrite;
+use crate::tearing::{garble, tear};
+use lang_base::NoMemory;
+use rand_pcg::Pcg32;
+use std::alloc::{AllocError, Global};
+
+/// An image that a crash may leave after these calls on a disk that held `first`. The writes up to call number
+/// `synced` are done; those from there on are torn.
+pub fn torn_image(
+    alloc: Global,
+    first: &[u8],
+    calls: &[Call],
+    written: &[u8],
+    synced: usize,
+    words: &mut Pcg32,
+) -> Result<Vec<u8>, NoMemory>
+    ensures { IfOk result (λ image. MayLeave (noted calls.now written.now []) first.now image.items) }
+{
+    let (done, loose) = calls.split_at(synced.min(calls.len()));
+    let mut seen = first.to_vec(alloc)?;
+    let rest = redo_all(&mut seen, done, written)?;
+    let mut image = seen.to_vec(alloc)?;
+    tear_all(&mut image, &mut seen, loose, rest, words)?;
+    Ok(image)
+}
+
+/// Does calls again.
+fn redo_all<'a>(
+    seen: &mut Vec<u8>,
+    calls: &[Call],
+    written: &'a [u8],
+) -> Result<&'a [u8], AllocError>
+    ensures { IfOk result (λ rest. (first : List ℕ) (h : List (Call × List ℕ)) → seen.old.items ≡ seen_after h first
+        → Redone first calls.now written.now h rest.now seen.new.items) }
+{
+    let mut rest = written;
+    for call in calls {
+        let (bytes, later) = split_at_call(*call, rest);
+        redo(seen, *call, bytes)?;
+        rest = later;
+    }
+    Ok(rest)
+}
+
+/// Tears calls.
+fn tear_all(
+    image: &mut Vec<u8>,
+    seen: &mut Vec<u8>,
+    calls: &[Call],
+    written: &[u8],
+    words: &mut Pcg32,
+) -> Result<(), AllocError>
+    ensures { OnOk result ((first : List ℕ) (h : List (Call × List ℕ)) → seen.old.items ≡ seen_after h first
+        → MayLeave h first image.old.items → MayLeave (noted calls.now written.now h) first image.new.items) }
+{
+    let mut rest = written;
+    for call in calls {
+        let (bytes, later) = split_at_call(*call, rest);
+        tear_call(image, seen, *call, bytes, words)?;
+        redo(seen, *call, bytes)?;
+        rest = later;
+    }
+    Ok(())
+}
+
+/// The bytes that a call wrote, and those that later calls wrote.
+fn split_at_call(call: Call, written: &[u8]) -> (&[u8], &[u8])
+    ensures bytes { result.0.now ≡ take (size_of call) written.now }
+    ensures rest { result.1.now ≡ drop (size_of call) written.now }
+{
+    match call {
+        Call::Wrote(_, n) => written.split_at(n.min(written.len())),
+        _ => (&[], written),
+    }
+}
+
+/// Does a call again.
+fn redo(seen: &mut Vec<u8>, call: Call, bytes: &[u8]) -> Result<(), AllocError>
+    ensures { OnOk result (seen.new.items ≡ after call bytes.now seen.old.items) }
+{
+    match call {
+        Call::Wrote(at, _) => overwrite(seen, at, bytes),
+        _ => Ok(()),
+    }
+}
+
+/// Tears a call.
+fn tear_call(
+    image: &mut Vec<u8>,
+    seen: &[u8],
+    call: Call,
+    bytes: &[u8],
+    words: &mut Pcg32,
+) -> Result<(), AllocError>
+    ensures { OnOk result (Tears call bytes.now seen.now image.old.items image.new.items) }
+{
+    match call {
+        Call::Wrote(at, _) => tear(image, at, bytes, words),
+        Call::Tore(at, n) => garble(image, at, n, &[], words),
+        Call::Synced => hold(image, seen),
+        Call::Left => Ok(()),
+    }
+}
+
+/// Puts other bytes in the place of a file's.
+fn hold(file: &mut Vec<u8>, bytes: &[u8]) -> Result<(), AllocError>
+    ensures { OnOk result (file.new.items ≡ bytes.now) }
+{
+    file.clear();
+    file.extend_from_slice(bytes)
+}

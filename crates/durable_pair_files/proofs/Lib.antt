@@ -1,0 +1,2 @@
+mod Lifted
+mod AsFileDisk
