@@ -177,14 +177,14 @@ text-created h =
     ∙ append-nil text
 
 -- where nothing stands behind the closed gate, one record more makes the text of the list with it
-pub text-grown : (h : Header) (rs : List Record) (r : Record) → length h.digest ≡ 32 → All Fits rs → Fits r → with_record (journal_text h rs) (header_size h + length (blocks rs)) r ≡ journal_text h (rs ++ r ∷ [])
+pub text-grown : (h : Header) (rs : List Record) (r : Record) → length h.digest ≡ 32 → All Fits rs → Fits r → with_record (journal_text h rs) (header_size + length (blocks rs)) r ≡ journal_text h (rs ++ r ∷ [])
 text-grown h rs r long fit fits =
     let text = journal_text h rs in
-    let gate = header_size h + length (blocks rs) in
+    let gate = header_size + length (blocks rs) in
     let block = block_text r ++ 0 ∷ [] in
     let is_block : IsBlock r block = record { fits = fits; text = refl } in
     let written = overwritten text (gate + 1) block in
-    let staged = opened_is (header_size h) (header_text h) rs text gate (text-stands h rs long fit) refl r block is_block written (overwritten written gate (1 ∷ [])) refl refl in
+    let staged = opened_is header_size (header_text h) rs text gate (text-stands h rs long fit) refl r block is_block written (overwritten written gate (1 ∷ [])) refl refl in
     let none : drop (gate + 1 + length block) text ≡ [] =
     drop_all (gate + 1 + length block) text (omega (arith, length-header_text h long, length-append (header_text h) (blocks rs ++ 0 ∷ []), length-append (blocks rs) (0 ∷ []))) in
     staged

@@ -9,8 +9,8 @@ both_ok (Ok x) p q join = join p q
 both_ok (Err e) p q join = tt
 
 -- a run after which less is said
-pub weaker : {D : Type 0} {moment : D → ℕ} {left_since : D → ℕ → List ℕ → Type 0} {old new : D} {P Q : List ℕ → Type 0}
-    → LeavesOnly moment left_since old new P → ((c : List ℕ) → P c → Q c) → LeavesOnly moment left_since old new Q
+pub weaker : {D I : Type 0} {moment : D → ℕ} {left_since : D → ℕ → I → Type 0} {old new : D} {P Q : I → Type 0}
+    → LeavesOnly moment left_since old new P → ((c : I) → P c → Q c) → LeavesOnly moment left_since old new Q
 weaker run says = record {
   later = run.later;
   each = λ c left. says c (run.each c left);

@@ -4,6 +4,6 @@ use Rattle.durable_model.specs.declared.error.DiskError.TheVariants as disk
 use Rattle.acceptor_log_form.specs.declared.errors.LogError.{LogError}
 use Rattle.acceptor_log_form.specs.declared.errors.LogError.TheVariants as log
 
-abbrev pub fault_of : DiskError → LogError
-fault_of disk.Device = log.Device
-fault_of disk.NoMemory = log.NoMemory
+abbrev pub log_fault : DiskError → LogError
+log_fault disk.Device = log.Device
+log_fault disk.NoMemory = log.NoMemory

@@ -16,7 +16,7 @@ pub record Rests {D : Type 0} (is_honest : D → Type 0) (seen : D → List ℕ)
     (h : Header) (rs : List Record) (gate : ℕ) (disk : D) : Type 0 where
   pub honest : is_honest disk
   pub stands : StandsFor h rs (seen disk)
-  pub at_gate : gate ≡ header_size h + length (blocks rs)
+  pub at_gate : gate ≡ header_size + length (blocks rs)
   pub durable : Only (seen disk) (may_leave disk)
 
 -- what is written for a record behind a gate: its block, and a next gate, closed

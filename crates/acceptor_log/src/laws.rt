@@ -42,5 +42,5 @@ pub fn behind_call<D: Disk>()
 pub fn text_grows()
     ensures made { (h : Header) → overwritten [] 0 (journal_text h []) ≡ journal_text h [] }
     ensures grown { (h : Header) (rs : List Record) (r : Record) → length h.digest ≡ 32 → All Fits rs → Fits r
-        → with_record (journal_text h rs) (header_size h + length (blocks rs)) r ≡ journal_text h (rs ++ r ∷ []) }
+        → with_record (journal_text h rs) (header_size + length (blocks rs)) r ≡ journal_text h (rs ++ r ∷ []) }
 {}

@@ -11,7 +11,7 @@ ghost use Rattle.acceptor_log.specs.Rest.{IsBlock, with_record};
 use crate::device::put;
 use crate::opening::{lay, load};
 use crate::reading::Listed;
-use acceptor_log_form::{Header, LogError, Record, record_bytes};
+use acceptor_log_form::{HEADER_SIZE, Header, LogError, Record, record_bytes};
 use durable_model::{Disk, DiskError};
 use std::alloc::Global;
 
@@ -34,7 +34,10 @@ pub struct Log<D> {
 }
 
 impl<D: Disk> Log<D> {
-    ghost use Rattle.acceptor_log.specs.Acknowledged.{acknowledged, file_with, IsSound, IsUnwritten, IsNoFault};
+    ghost use Rattle.acceptor_log.specs.Acknowledged.{acknowledged, file_with, IsReady, IsSound, IsUnwritten, IsNoFault};
+    ghost use Rattle.acceptor_log.specs.Rest.{Rests};
+    ghost use Rattle.acceptor_log_form.specs.declared.record.Record.{Record};
+    ghost use Rattle.std.specs.Prelude.{List};
 
     /// Makes the journal with this header and no records on a disk, over what is there. Until it has answered `Ok`
     /// nothing is promised of the disk; after `NoMemory` nothing was written.
@@ -65,7 +68,7 @@ impl<D: Disk> Log<D> {
                 alloc,
                 disk,
                 header: *header,
-                gate: header.size() as u64,
+                gate: HEADER_SIZE as u64,
                 count: 0,
                 going: true,
             }),
@@ -179,6 +182,25 @@ impl<D: Disk> Log<D> {
                 self.going = false;
                 Err(LogError::Device)
             }
+        }
+    }
+
+    /// The journal on a disk that rests on so many records, its closed gate being there; a caller knows that it does.
+    pub fn resting(alloc: Global, disk: D, header: &Header, count: u64, gate: u64) -> Log<D>
+        requires { count ≤ gate }
+        ensures parts { (result.disk ≡ disk) × (result.header ≡ header.now) × (result.going ≡ true) }
+        ensures ready { (rs : List Record) → count ≡ length rs
+            → Rests D.is_honest D.seen D.may_leave header.now rs gate disk → IsReady D.is_honest D.seen D.may_leave result }
+        ensures acknowledged { (rs : List Record) → count ≡ length rs
+            → Rests D.is_honest D.seen D.may_leave header.now rs gate disk → acknowledged D.seen result ≡ rs }
+    {
+        Log {
+            alloc,
+            disk,
+            header: *header,
+            gate,
+            count,
+            going: true,
         }
     }
 

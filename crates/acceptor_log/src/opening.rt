@@ -7,7 +7,7 @@ ghost use Rattle.durable_model.specs.Writes.{overwritten};
 ghost use Rattle.acceptor_log_form.specs.Text.{header_size, blocks, journal_text, StandsFor};
 ghost use Rattle.acceptor_log_form.specs.Fault.{HasFault};
 ghost use Rattle.acceptor_log.specs.Rest.{Rests};
-ghost use Rattle.acceptor_log.specs.Faults.{fault_of};
+ghost use Rattle.acceptor_log.specs.Faults.{log_fault};
 
 use crate::device::write_durably;
 use crate::reading::{Listed, read};
@@ -19,7 +19,7 @@ use std::alloc::Global;
 pub fn lay<D: Disk>(alloc: Global, header: &Header, disk: &mut D) -> Result<(), LogError>
     ensures honest { D.is_honest disk.new ↔ D.is_honest disk.old }
     ensures rests { D.is_honest disk.old
-        → OnOk result (Rests D.is_honest D.seen D.may_leave header.now [] (header_size header.now) disk.new) }
+        → OnOk result (Rests D.is_honest D.seen D.may_leave header.now [] header_size disk.new) }
     ensures bytes { D.is_honest disk.old
         → OnOk result (D.seen disk.new ≡ overwritten (D.seen disk.old) 0 (journal_text header.now [])) }
     ensures unwritten { D.is_honest disk.old
@@ -64,7 +64,7 @@ pub fn load<D: Disk>(alloc: Global, header: &Header, disk: &mut D) -> Result<Lis
 
 /// What a failed call of the disk is told as.
 fn told(fault: DiskError) -> LogError
-    ensures { result ≡ fault_of fault }
+    ensures { result ≡ log_fault fault }
 {
     match fault {
         DiskError::Device => LogError::Device,

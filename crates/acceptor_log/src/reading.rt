@@ -1,14 +1,14 @@
 //! Reading journals.
 
-ghost use Rattle.std.specs.Prelude.{◌≡◌, ◌≢◌, ◌+◌, ◌↔◌, ℕ, List, [], ◌∷◌, ◌++◌, None, length, take, drop};
+ghost use Rattle.std.specs.Prelude.{◌≡◌, ◌≢◌, ◌≤◌, ◌+◌, ◌↔◌, ℕ, List, [], ◌∷◌, ◌++◌, None, length, take, drop};
 ghost use Rattle.std.specs.Prelude.{IsTrue, IsFalse, IfSome, OnSome, IfNone, IfOk, OnOk, IfErr};
-ghost use Rattle.acceptor_log_form.specs.Text.{first_form, second_form, header_text, header_size};
+ghost use Rattle.acceptor_log_form.specs.Text.{header_text, header_size};
 ghost use Rattle.acceptor_log_form.specs.Text.{body_text, block_text, blocks, Fits, FitsWidths};
 ghost use Rattle.acceptor_log_form.specs.Text.{StandsBehind, StandsFor};
 ghost use Rattle.acceptor_log_form.specs.Reading.{record_of, first_record, records_behind};
-ghost use Rattle.acceptor_log_form.specs.Fault.{IsInForm, IsInNoForm, HasFault};
+ghost use Rattle.acceptor_log_form.specs.Fault.{IsInForm, IsNotInForm, HasFault};
 
-use acceptor_log_form::{Header, LogError, Record, belongs_to_first};
+use acceptor_log_form::{HEADER_SIZE, Header, LogError, Record};
 use lang_base::Row;
 use std::alloc::Global;
 
@@ -23,20 +23,20 @@ pub struct Listed {
 /// told: the first one in the order of the bytes.
 pub fn read(alloc: Global, header: &Header, bytes: &[u8]) -> Result<Listed, LogError>
     ensures ok { IfOk result (λ found. StandsFor header.now found.records.items bytes.now) }
-    ensures gate { IfOk result (λ found. found.gate ≡ header_size header.now + length (blocks found.records.items)) }
+    ensures gate { IfOk result (λ found. found.gate ≡ header_size + length (blocks found.records.items)) }
     ensures refused { IfErr result (λ e. e ≢ LogError.NoMemory → HasFault header.now bytes.now e) }
 {
     let behind = behind_header(header, bytes)?;
     let mut found = read_records(alloc, behind)?;
-    found.gate += header.size();
+    found.gate += HEADER_SIZE;
     Ok(found)
 }
 
-/// What stands behind the header. The first bytes tell the form, whatever the header's own is.
+/// What stands behind the header.
 fn behind_header<'a>(header: &Header, bytes: &'a [u8]) -> Result<&'a [u8], LogError>
     ensures form { OnOk result (IsInForm bytes.now) }
-    ensures header { OnOk result (take (header_size header.now) bytes.now ≡ header_text header.now) }
-    ensures behind { IfOk result (λ behind. behind.now ≡ drop (header_size header.now) bytes.now) }
+    ensures header { OnOk result (take header_size bytes.now ≡ header_text header.now) }
+    ensures behind { IfOk result (λ behind. behind.now ≡ drop header_size bytes.now) }
     ensures refused { IfErr result (λ e. (e ≢ LogError.BadRecord) × HasFault header.now bytes.now e) }
 {
     if !is_in_form(bytes) {
@@ -48,22 +48,16 @@ fn behind_header<'a>(header: &Header, bytes: &'a [u8]) -> Result<&'a [u8], LogEr
     Ok(behind)
 }
 
-/// Whether the bytes are of one of the two forms, and have a gate.
+/// Whether the bytes begin with those of a journal, and have a header and a gate.
 fn is_in_form(bytes: &[u8]) -> bool
     ensures form { IsTrue result → IsInForm bytes.now }
-    ensures none { IsFalse result → IsInNoForm bytes.now }
+    ensures none { IsFalse result → IsNotInForm bytes.now }
 {
-    if begins_with(bytes, b'1') {
-        39 <= bytes.len()
-    } else if begins_with(bytes, b'F') {
-        41 <= bytes.len() && !belongs_to_first(bytes[4], bytes[5], bytes[6])
-    } else {
-        false
-    }
+    41 <= bytes.len() && begins_with(bytes, b'2')
 }
 
 /// Whether the bytes begin with `CFJ` and this one.
-fn begins_with(bytes: &[u8], form: u8) -> bool
+pub fn begins_with(bytes: &[u8], form: u8) -> bool
     ensures { IsTrue result ↔ (take 4 bytes.now ≡ 0x43 ∷ 0x46 ∷ 0x4a ∷ form ∷ []) }
 {
     match bytes {
@@ -74,15 +68,12 @@ fn begins_with(bytes: &[u8], form: u8) -> bool
 
 /// What stands behind the header, where the bytes begin with it.
 fn behind_text<'a>(header: &Header, bytes: &'a [u8]) -> Option<&'a [u8]>
-    ensures header { OnSome result (take (header_size header.now) bytes.now ≡ header_text header.now) }
-    ensures behind { IfSome result (λ behind. behind.now ≡ drop (header_size header.now) bytes.now) }
-    ensures other { IfNone result (take (header_size header.now) bytes.now ≢ header_text header.now) }
+    requires { 41 ≤ length bytes.now }
+    ensures header { OnSome result (take header_size bytes.now ≡ header_text header.now) }
+    ensures behind { IfSome result (λ behind. behind.now ≡ drop header_size bytes.now) }
+    ensures other { IfNone result (take header_size bytes.now ≢ header_text header.now) }
 {
-    let size = header.size();
-    if bytes.len() < size {
-        return None;
-    }
-    let (head, behind) = bytes.split_at(size);
+    let (head, behind) = bytes.split_at(HEADER_SIZE);
     if is_header(header, head) {
         Some(behind)
     } else {
@@ -91,37 +82,15 @@ fn behind_text<'a>(header: &Header, bytes: &'a [u8]) -> Option<&'a [u8]>
 }
 
 /// Whether the bytes are the header's, all of them.
-#[tactic(auto, unfolding(acceptor_log_form::specs::Text::header_text))]
 fn is_header(header: &Header, bytes: &[u8]) -> bool
     ensures { IsTrue result ↔ (bytes.now ≡ header_text header.now) }
-{
-    if header.has_first_form() {
-        is_first_form(header, bytes)
-    } else {
-        is_second_form(header, bytes)
-    }
-}
-
-fn is_first_form(header: &Header, bytes: &[u8]) -> bool
-    ensures { IsTrue result ↔ (bytes.now ≡ first_form header.now) }
-{
-    match bytes {
-        [b'C', b'F', b'J', b'1', nodes, node, digest @ ..] => {
-            *nodes == header.nodes && *node == header.node && is_digest(&header.digest, digest)
-        }
-        _ => false,
-    }
-}
-
-fn is_second_form(header: &Header, bytes: &[u8]) -> bool
-    ensures { IsTrue result ↔ (bytes.now ≡ second_form header.now) }
 {
     match bytes {
         [
             b'C',
             b'F',
             b'J',
-            b'F',
+            b'2',
             nodes,
             promise,
             accept,
@@ -138,14 +107,14 @@ fn is_second_form(header: &Header, bytes: &[u8]) -> bool
     }
 }
 
-fn is_digest(digest: &[u8; 32], bytes: &[u8]) -> bool
+pub fn is_digest(digest: &[u8; 32], bytes: &[u8]) -> bool
     ensures { IsTrue result ↔ (bytes.now ≡ digest.now) }
 {
     bytes == digest.as_slice()
 }
 
 /// The records from a gate on.
-fn read_records(alloc: Global, bytes: &[u8]) -> Result<Listed, LogError>
+pub fn read_records(alloc: Global, bytes: &[u8]) -> Result<Listed, LogError>
     ensures ok { IfOk result (λ found. StandsBehind found.records.items bytes.now) }
     ensures gate { IfOk result (λ found. found.gate ≡ length (blocks found.records.items)) }
     ensures refused { IfErr result (λ e. e ≢ LogError.NoMemory →
@@ -214,6 +183,12 @@ fn read_body(alloc: Global, body: &[u8]) -> Result<Record, LogError>
         (3, [a, b, value]) => Ok(Record::Proposed(room, u16::from_be_bytes([*a, *b]), *value)),
         (4, [a, b]) => Ok(Record::Promised(room, u16::from_be_bytes([*a, *b]))),
         (5, [a, b, value]) => Ok(Record::Accepted(room, u16::from_be_bytes([*a, *b]), *value)),
+        (6, [a, b, c, d, e, f, value]) => Ok(Record::Summary(
+            room,
+            u16::from_be_bytes([*a, *b]),
+            u16::from_be_bytes([*c, *d]),
+            (u16::from_be_bytes([*e, *f]), *value),
+        )),
         _ => Err(LogError::BadRecord),
     }
 }

@@ -6,7 +6,7 @@ use Rattle.std.proofs.lemmas.Bool.{le-leb}
 use Rattle.std.proofs.lemmas.List.{length-append, take_at}
 use Rattle.std.proofs.lemmas.Nat.{from_be_bytes-to_be_bytes_2, from_be_bytes-to_be_bytes_4}
 use Rattle.acceptor_log_form.specs.declared.record.Record.{Record}
-use Rattle.acceptor_log_form.specs.declared.record.Record.TheVariants.{Offered, Started, Proposed, Promised, Accepted}
+use Rattle.acceptor_log_form.specs.declared.record.Record.TheVariants.{Offered, Started, Proposed, Promised, Accepted, Summary}
 use Rattle.acceptor_log_form.specs.Text.{body_text, block_text, Fits, FitsWidths}
 use Rattle.acceptor_log_form.specs.Reading.{record_of, block_size, first_record}
 
@@ -16,6 +16,8 @@ record_of-text (Started room b) fits = λ i. Some (Started (from_be_bytes-to_be_
 record_of-text (Proposed room b v) fits = λ i. Some (Proposed (from_be_bytes-to_be_bytes_2 room fits.0 i) (from_be_bytes-to_be_bytes_2 b fits.1 i) v)
 record_of-text (Promised room b) fits = λ i. Some (Promised (from_be_bytes-to_be_bytes_2 room fits.0 i) (from_be_bytes-to_be_bytes_2 b fits.1 i))
 record_of-text (Accepted room b v) fits = λ i. Some (Accepted (from_be_bytes-to_be_bytes_2 room fits.0 i) (from_be_bytes-to_be_bytes_2 b fits.1 i) v)
+record_of-text (Summary room s p x) fits =
+    λ i. Some (Summary (from_be_bytes-to_be_bytes_2 room fits.0 i) (from_be_bytes-to_be_bytes_2 s fits.1 i) (from_be_bytes-to_be_bytes_2 p fits.2 i) (from_be_bytes-to_be_bytes_2 x.0 fits.3 i, x.1))
 
 pub length-block_text : (r : Record) → length (block_text r) ≡ 4 + length (body_text r)
 length-block_text r = length-append (to_be_bytes w32 (length (body_text r))) (body_text r)

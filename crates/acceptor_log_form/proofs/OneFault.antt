@@ -4,15 +4,15 @@ use Rattle.acceptor_log_form.specs.declared.header.Header.{Header}
 use Rattle.acceptor_log_form.specs.declared.errors.LogError.{LogError}
 use Rattle.acceptor_log_form.specs.declared.errors.LogError.TheVariants.{NoMemory, Device, NotAJournal, BadRecord, OtherSource, Stopped, Full}
 use Rattle.acceptor_log_form.specs.Text.{header_text, header_size}
-use Rattle.acceptor_log_form.specs.Fault.{IsInForm, IsInNoForm, HasFault}
-use Rattle.acceptor_log_form.proofs.Headers.{form-or_none}
+use Rattle.acceptor_log_form.specs.Fault.{IsInForm, IsNotInForm, HasFault}
+use Rattle.acceptor_log_form.proofs.Headers.{form-or_not}
 
 -- the three faults and what shows each
 abbrev Told : Header → List ℕ → LogError → Type 0
 Told h bytes e =
-    ((e ≡ NotAJournal) × IsInNoForm bytes)
-    ⊎ ((e ≡ OtherSource) × IsInForm bytes × (take (header_size h) bytes ≢ header_text h))
-    ⊎ ((e ≡ BadRecord) × IsInForm bytes × (take (header_size h) bytes ≡ header_text h))
+    ((e ≡ NotAJournal) × IsNotInForm bytes)
+    ⊎ ((e ≡ OtherSource) × IsInForm bytes × (take header_size bytes ≢ header_text h))
+    ⊎ ((e ≡ BadRecord) × IsInForm bytes × (take header_size bytes ≡ header_text h))
 
 told : (h : Header) (bytes : List ℕ) (e : LogError) → HasFault h bytes e → Told h bytes e
 told h bytes NotAJournal fault = inl (refl, fault)
@@ -25,10 +25,10 @@ told h bytes Full fault = absurd fault
 
 same : (h : Header) (bytes : List ℕ) (d e : LogError) → Told h bytes d → Told h bytes e → d ≡ e
 same h bytes d e (inl x) (inl y) = x.0 ∙ sym y.0
-same h bytes d e (inl x) (inr (inl y)) = absurd (form-or_none bytes y.1 x.1)
-same h bytes d e (inl x) (inr (inr y)) = absurd (form-or_none bytes y.1 x.1)
-same h bytes d e (inr (inl x)) (inl y) = absurd (form-or_none bytes x.1 y.1)
-same h bytes d e (inr (inr x)) (inl y) = absurd (form-or_none bytes x.1 y.1)
+same h bytes d e (inl x) (inr (inl y)) = absurd (form-or_not bytes y.1 x.1)
+same h bytes d e (inl x) (inr (inr y)) = absurd (form-or_not bytes y.1 x.1)
+same h bytes d e (inr (inl x)) (inl y) = absurd (form-or_not bytes x.1 y.1)
+same h bytes d e (inr (inr x)) (inl y) = absurd (form-or_not bytes x.1 y.1)
 same h bytes d e (inr (inl x)) (inr (inl y)) = x.0 ∙ sym y.0
 same h bytes d e (inr (inl x)) (inr (inr y)) = absurd (x.2 y.2)
 same h bytes d e (inr (inr x)) (inr (inl y)) = absurd (y.2 x.2)

@@ -11,7 +11,7 @@ use Rattle.acceptor_log_form.specs.declared.errors.LogError.{LogError}
 use Rattle.acceptor_log_form.specs.declared.errors.LogError.TheVariants.{NoMemory, Device, NotAJournal, BadRecord, OtherSource, Stopped, Full}
 use Rattle.acceptor_log_form.specs.Fault.{HasFault, IsInForm}
 use Rattle.acceptor_log_form.proofs.Blocks.{records_behind-drop, records_behind-stands}
-use Rattle.acceptor_log_form.proofs.Headers.{length-header_text, header-in_form, form-or_none, same_header}
+use Rattle.acceptor_log_form.proofs.Headers.{length-header_text, header-in_form, form-or_not, same_header}
 
 -- what stands before the gate
 abbrev pub before_gate : List ℕ → List Record → List ℕ
@@ -51,18 +51,18 @@ length-head_stands size head rs bytes stands =
 
 -- bytes that stand for records are read as them
 pub listed-stands : (h : Header) (rs : List Record) (bytes : List ℕ) → StandsFor h rs bytes → listed h bytes ≡ Some rs
-listed-stands h rs bytes stands = records_behind-drop (header_size h) bytes ∙ records_behind-stands rs (drop (header_size h) bytes) stands.records
+listed-stands h rs bytes stands = records_behind-drop header_size bytes ∙ records_behind-stands rs (drop header_size bytes) stands.records
 
 pub text-stands : (h : Header) (rs : List Record) → length h.digest ≡ 32 → All Fits rs → StandsFor h rs (journal_text h rs)
-text-stands h rs long fit = stands-pieces (header_size h) (header_text h) rs 0 [] (journal_text h rs) (length-header_text h long) fit (omega arith) (sym (append_assoc (header_text h) (blocks rs) (0 ∷ [])))
+text-stands h rs long fit = stands-pieces header_size (header_text h) rs 0 [] (journal_text h rs) (length-header_text h long) fit (omega arith) (sym (append_assoc (header_text h) (blocks rs) (0 ∷ [])))
 
 -- what stands for records is in form
 pub stands-in_form : (h : Header) (rs : List Record) (bytes : List ℕ) → StandsFor h rs bytes → IsInForm bytes
-stands-in_form h rs bytes stands = header-in_form h bytes stands.header (size-within (header_size h) (header_text h) rs bytes stands)
+stands-in_form h rs bytes stands = header-in_form h bytes stands.header (size-within header_size (header_text h) rs bytes stands)
 
 -- and has no fault
 pub stands-no_fault : (h : Header) (rs : List Record) (bytes : List ℕ) (e : LogError) → StandsFor h rs bytes → HasFault h bytes e → ⊥
-stands-no_fault h rs bytes NotAJournal stands fault = form-or_none bytes (stands-in_form h rs bytes stands) fault
+stands-no_fault h rs bytes NotAJournal stands fault = form-or_not bytes (stands-in_form h rs bytes stands) fault
 stands-no_fault h rs bytes OtherSource stands fault = fault.1 stands.header
 stands-no_fault h rs bytes BadRecord stands fault = let some = listed-stands h rs bytes stands in let none = fault.2 in absurd cc
 stands-no_fault h rs bytes NoMemory stands fault = fault

@@ -17,4 +17,4 @@ pub record BetweenAs (size : ℕ) (head : List ℕ) (low high : List Record) (by
 
 -- the bytes are a journal with this header, of a list that has all of low, and none that high has not
 abbrev pub Between : Header → List Record → List Record → List ℕ → Type 0
-Between h = BetweenAs (header_size h) (header_text h)
+Between h = BetweenAs header_size (header_text h)

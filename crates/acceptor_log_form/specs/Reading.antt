@@ -5,7 +5,7 @@ use Rattle.std.specs.Int.{w16, w32, from_be_bytes}
 use Rattle.std.specs.Option.{option_map}
 use Rattle.acceptor_log_form.specs.declared.header.Header.{Header}
 use Rattle.acceptor_log_form.specs.declared.record.Record.{Record}
-use Rattle.acceptor_log_form.specs.declared.record.Record.TheVariants.{Offered, Started, Proposed, Promised, Accepted}
+use Rattle.acceptor_log_form.specs.declared.record.Record.TheVariants.{Offered, Started, Proposed, Promised, Accepted, Summary}
 use Rattle.acceptor_log_form.specs.Text.{header_size}
 
 -- the ballot that these bytes are, all of them
@@ -18,6 +18,12 @@ abbrev pub vote_in : List ℕ → Option (ℕ × ℕ)
 vote_in (a ∷ b ∷ v ∷ []) = Some (from_be_bytes w16 (a ∷ b ∷ []), v)
 vote_in _ = None
 
+-- the summary of a room that these bytes are, all of them
+abbrev pub summary_in : ℕ → List ℕ → Option Record
+summary_in room (a ∷ b ∷ c ∷ d ∷ e ∷ f ∷ v ∷ []) = Some (Summary room (from_be_bytes w16 (a ∷ b ∷ []))
+    (from_be_bytes w16 (c ∷ d ∷ [])) (from_be_bytes w16 (e ∷ f ∷ []), v))
+summary_in room _ = None
+
 -- the record of a room, by its code and the bytes behind the room
 abbrev pub record_in : ℕ → ℕ → List ℕ → Option Record
 record_in room code rest =
@@ -26,7 +32,8 @@ record_in room code rest =
     else (if code == 3 then option_map (λ (x : ℕ × ℕ). Proposed room x.0 x.1) (vote_in rest)
     else (if code == 4 then option_map (λ b. Promised room b) (ballot_in rest)
     else (if code == 5 then option_map (λ (x : ℕ × ℕ). Accepted room x.0 x.1) (vote_in rest)
-    else None))))
+    else (if code == 6 then summary_in room rest
+    else None)))))
 
 -- the record that a body is, all of it
 abbrev pub record_of : List ℕ → Option Record
@@ -59,4 +66,4 @@ records_behind zero (gate ∷ bytes) =
 
 -- the records that the bytes of the journal with this header stand for: its first gate stands behind the header
 abbrev pub listed : Header → List ℕ → Option (List Record)
-listed h bytes = records_behind (header_size h) bytes
+listed h bytes = records_behind header_size bytes

@@ -1,10 +1,9 @@
 -- The text of a journal: a header, for each record an open gate and a block, and a closed gate.
-use Rattle.std.specs.Prelude.{◌≡◌, ◌≢◌, ℕ, ◌+◌, ◌*◌, ◌<◌, ◌^◌, List, [], ◌∷◌, ◌++◌, length, take, drop, All, Bool, ◌==◌, ◌&&◌}
-use Rattle.std.specs.Prelude.{if◌then◌else◌}
+use Rattle.std.specs.Prelude.{◌≡◌, ◌≢◌, ℕ, ◌<◌, ◌^◌, List, [], ◌∷◌, ◌++◌, length, take, drop, All}
 use Rattle.std.specs.Int.{w16, w32, to_be_bytes}
 use Rattle.acceptor_log_form.specs.declared.header.Header.{Header}
 use Rattle.acceptor_log_form.specs.declared.record.Record.{Record}
-use Rattle.acceptor_log_form.specs.declared.record.Record.TheVariants.{Offered, Started, Proposed, Promised, Accepted}
+use Rattle.acceptor_log_form.specs.declared.record.Record.TheVariants.{Offered, Started, Proposed, Promised, Accepted, Summary}
 
 -- the room of a record
 abbrev pub room_of : Record → ℕ
@@ -13,27 +12,20 @@ room_of (Started room b) = room
 room_of (Proposed room b v) = room
 room_of (Promised room b) = room
 room_of (Accepted room b v) = room
+room_of (Summary room s p x) = room
 
--- These sizes of quorums of so many nodes belong to the first form of a header: the number of nodes is odd, and both sizes
--- are half of it, rounded up. So it is where twice each size is one more than the number of nodes.
-unfoldable pub belong_to_first : ℕ → ℕ → ℕ → Bool
-belong_to_first nodes promise accept = 2 * promise == nodes + 1 && 2 * accept == nodes + 1
-
--- the four bytes CFJ1, the number of nodes, the node, the digest
-abbrev pub first_form : Header → List ℕ
-first_form h = 0x43 ∷ 0x46 ∷ 0x4a ∷ 0x31 ∷ h.nodes ∷ h.node ∷ h.digest
-
--- the four bytes CFJF, the number of nodes, the size of a promise quorum, that of an accept quorum, the node, the digest
-abbrev pub second_form : Header → List ℕ
-second_form h = 0x43 ∷ 0x46 ∷ 0x4a ∷ 0x46 ∷ h.nodes ∷ h.promise ∷ h.accept ∷ h.node ∷ h.digest
-
--- a header has the first form where its sizes belong to that, and else the second
-unfoldable pub header_text : Header → List ℕ
-header_text h = if belong_to_first h.nodes h.promise h.accept then first_form h else second_form h
+-- the four bytes CFJ2, the number of nodes, the size of a promise quorum, that of an accept quorum, the node, the digest
+abbrev pub header_text : Header → List ℕ
+header_text h = 0x43 ∷ 0x46 ∷ 0x4a ∷ 0x32 ∷ h.nodes ∷ h.promise ∷ h.accept ∷ h.node ∷ h.digest
 
 -- how many bytes that is, where the digest has 32
-unfoldable pub header_size : Header → ℕ
-header_size h = if belong_to_first h.nodes h.promise h.accept then 38 else 40
+abbrev pub header_size : ℕ
+header_size = 40
+
+-- a summary's body: code 6, the room, the ballots that were started and promised last, and the vote, a ballot and a value
+abbrev pub summary_text : ℕ → ℕ → ℕ → ℕ × ℕ → List ℕ
+summary_text room s p x =
+    6 ∷ (to_be_bytes w16 room ++ (to_be_bytes w16 s ++ (to_be_bytes w16 p ++ (to_be_bytes w16 x.0 ++ x.1 ∷ []))))
 
 -- a code, the room, and what the record says of it; numbers have their highest byte first
 abbrev pub body_text : Record → List ℕ
@@ -42,6 +34,7 @@ body_text (Started room b) = 2 ∷ (to_be_bytes w16 room ++ to_be_bytes w16 b)
 body_text (Proposed room b v) = 3 ∷ (to_be_bytes w16 room ++ (to_be_bytes w16 b ++ v ∷ []))
 body_text (Promised room b) = 4 ∷ (to_be_bytes w16 room ++ to_be_bytes w16 b)
 body_text (Accepted room b v) = 5 ∷ (to_be_bytes w16 room ++ (to_be_bytes w16 b ++ v ∷ []))
+body_text (Summary room s p x) = summary_text room s p x
 
 -- the length of the body, and the body
 abbrev pub block_text : Record → List ℕ
@@ -52,13 +45,14 @@ abbrev pub blocks : List Record → List ℕ
 blocks [] = []
 blocks (r ∷ rs) = 1 ∷ (block_text r ++ blocks rs)
 
--- its room and its ballot have two bytes
+-- its room and its ballots have two bytes
 abbrev pub FitsWidths : Record → Type 0
 FitsWidths (Offered room offer) = room < 2 ^ 16
 FitsWidths (Started room b) = (room < 2 ^ 16) × (b < 2 ^ 16)
 FitsWidths (Proposed room b v) = (room < 2 ^ 16) × (b < 2 ^ 16)
 FitsWidths (Promised room b) = (room < 2 ^ 16) × (b < 2 ^ 16)
 FitsWidths (Accepted room b v) = (room < 2 ^ 16) × (b < 2 ^ 16)
+FitsWidths (Summary room s p x) = (room < 2 ^ 16) × (s < 2 ^ 16) × (p < 2 ^ 16) × (x.0 < 2 ^ 16)
 
 -- the length of its body has four bytes
 abbrev pub HasLength : Record → Type 0
@@ -88,4 +82,4 @@ pub record StandsAs (size : ℕ) (head : List ℕ) (rs : List Record) (bytes : L
 
 -- Bytes stand for these records as the journal with this header.
 abbrev pub StandsFor : Header → List Record → List ℕ → Type 0
-StandsFor h = StandsAs (header_size h) (header_text h)
+StandsFor h = StandsAs header_size (header_text h)

@@ -16,8 +16,8 @@ pub enum LogError {
     /// The device failed in this call.
     #[error("Device")]
     Device,
-    /// The bytes are too few for a journal, or begin with others than `CFJ1` and `CFJF`, or with `CFJF` and sizes of
-    /// quorums that belong behind `CFJ1`.
+    /// The bytes are too few for a journal, or begin with others than it does; of one to be migrated, see
+    /// `acceptor_log_old_form`.
     #[error("NotAJournal")]
     NotAJournal,
     /// Behind an open gate, a body that is cut or is no record, or no gate behind it.

@@ -1,13 +1,13 @@
 //! What texts of journals are worth, as contracts of calls that do nothing else.
 
-ghost use Rattle.std.specs.Prelude.{◌≡◌, ◌≢◌, ◌⊎◌, ◌*◌, [], ◌∷◌, ◌++◌, ℕ, List, Some, All, length, get_or};
+ghost use Rattle.std.specs.Prelude.{◌≡◌, ◌≢◌, ◌⊎◌, [], ◌∷◌, ◌++◌, ℕ, List, Some, All, length};
 ghost use Rattle.acceptor_log_form.specs.declared.header.Header.{Header};
 ghost use Rattle.acceptor_log_form.specs.declared.record.Record.{Record};
 ghost use Rattle.acceptor_log_form.specs.Text.{journal_text, Fits, StandsFor};
 ghost use Rattle.acceptor_log_form.specs.declared.errors.LogError.{LogError};
 ghost use Rattle.acceptor_log_form.specs.declared.errors.LogError.TheVariants.{OtherSource};
 ghost use Rattle.acceptor_log_form.specs.Reading.{listed};
-ghost use Rattle.acceptor_log_form.specs.Fault.{IsFirst, HasFault};
+ghost use Rattle.acceptor_log_form.specs.Fault.{HasFault};
 ghost use Rattle.acceptor_log_form.specs.Lists.{Begins, Between};
 
 /// The list that bytes stand for is the one that they are read as, so they stand for no other.
@@ -15,13 +15,13 @@ pub fn one_list()
     ensures { (h : Header) (rs : List Record) (bytes : List ℕ) → StandsFor h rs bytes → listed h bytes ≡ Some rs }
 {}
 
-/// Bytes are the journal of one header: the forms are told apart, and each tells all five parts.
+/// Bytes are the journal of one header: it tells all five parts.
 pub fn one_header()
     ensures { (g h : Header) (xs ys : List Record) (bytes : List ℕ) → StandsFor g xs bytes → StandsFor h ys bytes
         → g ≡ h }
 {}
 
-/// As the journal with any other header they are refused as another source's, be the forms the same or not.
+/// As the journal with any other header they are refused as another source's.
 pub fn other_header()
     ensures { (g h : Header) (rs : List Record) (bytes : List ℕ) → StandsFor g rs bytes → g ≢ h
         → HasFault h bytes OtherSource }
@@ -39,16 +39,10 @@ pub fn no_fault()
         → HasFault h bytes e → ⊥ }
 {}
 
-/// No bytes have two faults: what is in no form is no journal, whatever stands in it, and a header is looked at before
-/// the records.
+/// No bytes have two faults: what is not in form is no journal, whatever stands in it, and the header is looked at
+/// before the records.
 pub fn one_fault()
     ensures { (h : Header) (bytes : List ℕ) (d e : LogError) → HasFault h bytes d → HasFault h bytes e → d ≡ e }
-{}
-
-/// The first form with an even number of nodes is another source's, whatever header is asked for.
-pub fn even_nodes()
-    ensures { (h : Header) (half : ℕ) (bytes : List ℕ) → IsFirst bytes → get_or bytes 4 0 ≡ 2 * half
-        → HasFault h bytes OtherSource }
 {}
 
 /// What is read of bytes that are between two lists, as those that a crash leaves: a list that begins with the first and

@@ -12,11 +12,11 @@ mod rooms;
 mod writing;
 
 pub use errors::LogError;
-pub use header::{Header, belongs_to_first};
+pub use header::{HEADER_SIZE, Header};
 pub use laws::{
-    even_nodes, no_fault, one_fault, one_header, one_list, other_header, read_between, text_stands,
+    no_fault, one_fault, one_header, one_list, other_header, read_between, text_stands,
     with_or_without,
 };
 pub use record::Record;
-pub use rooms::kept_parts;
-pub use writing::{header_bytes, journal_bytes, record_bytes};
+pub use rooms::{kept_parts, kept_parts_of};
+pub use writing::{header_bytes, journal_bytes, record_bytes, write_record};

@@ -3,8 +3,9 @@ ghost use Rattle.acceptor_log_form.specs.Text.{body_text, room_of, FitsWidths};
 
 use lang_base::Row;
 
-/// What a node puts down before it takes a step in a room (Lamport, Paxos Made Simple, section 3). Each names the room
-/// first; a ballot is behind it, and a value (the number of the node whose offer it is) behind the ballot.
+/// What a node puts down before it takes a step in a room (Lamport, Paxos Made Simple, section 3), and what a migrated
+/// journal tells of a room at once. Each names the room first; a ballot is behind it, and a value (the number of the
+/// node whose offer it is) behind the ballot.
 #[derive(PartialEq, Eq, Drop)]
 pub enum Record {
     /// The node's offer in the room, as it is written.
@@ -17,6 +18,9 @@ pub enum Record {
     Promised(u16, u16),
     /// It votes for the value under the ballot.
     Accepted(u16, u16, u8),
+    /// It has started this ballot last, promised that one last, and voted so last, under a ballot and for a value; 0
+    /// stands for none, of a vote for its value too.
+    Summary(u16, u16, u16, (u16, u8)),
 }
 
 impl Record {
@@ -30,6 +34,7 @@ impl Record {
             Record::Proposed(room, _, _) => *room,
             Record::Promised(room, _) => *room,
             Record::Accepted(room, _, _) => *room,
+            Record::Summary(room, _, _, _) => *room,
         }
     }
 
@@ -58,6 +63,11 @@ impl Record {
             Record::Accepted(room, ballot, _) => {
                 let (_room, _ballot) = (*room, *ballot);
                 6
+            }
+            Record::Summary(room, started, promised, accepted) => {
+                let (_room, _started) = (*room, *started);
+                let (_promised, _ballot) = (*promised, accepted.0);
+                10
             }
         }
     }

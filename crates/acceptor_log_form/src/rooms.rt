@@ -2,9 +2,9 @@
 
 ghost use Rattle.std.specs.Prelude.{◌≡◌, ◌≢◌, ◌<◌, ◌↔◌, ℕ, Some, slice_get, length, IsTrue, All, IfOk, OnOk, IfErr};
 ghost use Rattle.std.specs.Prelude.{IfSome, OnSome, IfNone};
-ghost use Rattle.paxos_core_world.specs.KeptPart.{nothing_kept};
-ghost use Rattle.acceptor_log_form.specs.Leaves.{kept_by, proposed_by, kept_in};
-ghost use Rattle.acceptor_log_form.specs.Order.{GoesOn, AreInOrder};
+ghost use Rattle.paxos_core_world.specs.KeptPart.{nothing_kept, part};
+ghost use Rattle.acceptor_log_form.specs.Leaves.{kept_by, proposed_by, kept_in, vote_told};
+ghost use Rattle.acceptor_log_form.specs.Order.{GoesOn, AreInOrder, Opens, IsVoteWithin};
 
 use crate::errors::LogError;
 use crate::header::Header;
@@ -29,8 +29,27 @@ pub fn kept_parts(
     ensures refused { IfErr result (λ e. e ≢ LogError.NoMemory →
         (e ≡ LogError.BadRecord) × (AreInOrder header.now.nodes header.now.node rooms records.now → ⊥)) }
 {
-    let mut kept = nothing_in(alloc, usize::from(rooms))?;
-    let mut proposed = vec![in alloc; 0u16; usize::from(rooms)]?;
+    let all = usize::from(rooms);
+    kept_parts_of(alloc, header, all, records)
+}
+
+/// The same of any number of rooms, such as all that a record can name.
+pub fn kept_parts_of(
+    alloc: Global,
+    header: &Header,
+    rooms: usize,
+    records: &[Record],
+) -> Result<Vec<Kept>, LogError>
+    requires { 0 < header.now.nodes }
+    ensures rooms { IfOk result (λ parts. length parts.items ≡ rooms) }
+    ensures kept { IfOk result (λ parts. (m : ℕ) → m < rooms →
+        slice_get parts.items m ≡ Some (kept_in records.now m)) }
+    ensures in_order { OnOk result (AreInOrder header.now.nodes header.now.node rooms records.now) }
+    ensures refused { IfErr result (λ e. e ≢ LogError.NoMemory →
+        (e ≡ LogError.BadRecord) × (AreInOrder header.now.nodes header.now.node rooms records.now → ⊥)) }
+{
+    let mut kept = nothing_in(alloc, rooms)?;
+    let mut proposed = vec![in alloc; 0u16; rooms]?;
     for entry in records {
         let room = usize::from(entry.room());
         if room >= kept.len() {
@@ -77,31 +96,66 @@ fn after(header: &Header, kept: Kept, proposed: u16, entry: &Record) -> Option<L
     if !goes_on(header, kept, proposed, entry) {
         return None;
     }
-    Some(match entry {
-        Record::Offered(_, _) => Left {
+    match entry {
+        Record::Offered(_, _) => Some(Left {
             kept: kept.with_offer(),
             proposed,
-        },
-        Record::Started(_, ballot) => Left {
+        }),
+        Record::Started(_, ballot) => Some(Left {
             kept: kept.with_start(*ballot),
             proposed,
-        },
-        Record::Proposed(_, ballot, _) => Left {
+        }),
+        Record::Proposed(_, ballot, _) => Some(Left {
             kept,
             proposed: *ballot,
-        },
-        Record::Promised(_, ballot) => Left {
+        }),
+        Record::Promised(_, ballot) => Some(Left {
             kept: kept.with_promise(*ballot),
             proposed,
-        },
-        Record::Accepted(_, ballot, value) => Left {
+        }),
+        Record::Accepted(_, ballot, value) => Some(Left {
             kept: kept.with_vote(Vote {
                 ballot: *ballot,
                 value: u16::from(*value),
             }),
             proposed,
-        },
+        }),
+        Record::Summary(_, started, promised, accepted) => {
+            after_summary(kept, *started, *promised, *accepted)
+        }
+    }
+}
+
+/// What is left of a room once its summary is put down. A node proposes no more under the ballot that it tells.
+fn after_summary(kept: Kept, started: u16, promised: u16, accepted: (u16, u8)) -> Option<Left>
+    ensures kept { IfSome result (λ next. next.kept ≡ part kept.offered started promised (vote_told accepted)) }
+    ensures proposed { IfSome result (λ next. next.proposed ≡ started) }
+    ensures none { IfNone result ((n : ℕ) → IsVoteWithin n promised accepted → ⊥) }
+{
+    let vote = told_vote(accepted);
+    let Some(kept) = Kept::of(
+        kept.offered(),
+        u32::from(started),
+        u32::from(promised),
+        vote,
+    ) else {
+        return None;
+    };
+    Some(Left {
+        kept,
+        proposed: started,
     })
+}
+
+/// The vote that a summary tells.
+fn told_vote(accepted: (u16, u8)) -> Option<(u32, u32)>
+    ensures { result ≡ vote_told accepted }
+{
+    if accepted.0 == 0 {
+        None
+    } else {
+        Some((u32::from(accepted.0), u32::from(accepted.1)))
+    }
 }
 
 /// Whether the record goes on from what was left of its room.
@@ -128,6 +182,33 @@ fn goes_on(header: &Header, kept: Kept, proposed: u16, entry: &Record) -> bool
                 && is_new_ballot(kept.accepted(), *ballot)
                 && *value < header.nodes
         }
+        Record::Summary(_, started, promised, accepted) => {
+            opens(header, kept, *started, *promised, *accepted)
+        }
+    }
+}
+
+/// Whether a summary of a room may be put down where this was left of it.
+fn opens(header: &Header, kept: Kept, started: u16, promised: u16, accepted: (u16, u8)) -> bool
+    requires { 0 < header.now.nodes }
+    ensures { IsTrue result ↔ Opens header.now.nodes header.now.node kept started promised accepted }
+{
+    let (nodes, node) = (usize::from(header.nodes), usize::from(header.node));
+    kept.started() == 0
+        && kept.promised() == 0
+        && (started == 0 || owns(nodes, node, started))
+        && is_vote_within(header.nodes, promised, accepted)
+        && (0 < started || 0 < promised)
+}
+
+/// Whether a summary tells no vote, or one for a node's offer under a ballot that is not above the promised one.
+fn is_vote_within(nodes: u8, promised: u16, accepted: (u16, u8)) -> bool
+    ensures { IsTrue result ↔ IsVoteWithin nodes promised accepted }
+{
+    if accepted.0 == 0 {
+        accepted.1 == 0
+    } else {
+        accepted.0 <= promised && accepted.1 < nodes
     }
 }
 

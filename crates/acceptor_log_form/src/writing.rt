@@ -2,50 +2,23 @@
 
 ghost use Rattle.std.specs.Prelude.{◌≡◌, [], ◌∷◌, ◌++◌, length, All, IfOk, OnOk};
 ghost use Rattle.std.specs.Int.{w16, to_be_bytes};
-ghost use Rattle.acceptor_log_form.specs.Text.{first_form, second_form, header_size, header_text};
-ghost use Rattle.acceptor_log_form.specs.Text.{body_text, block_text, journal_text, HasLength};
+ghost use Rattle.acceptor_log_form.specs.Text.{header_size, header_text};
+ghost use Rattle.acceptor_log_form.specs.Text.{body_text, block_text, journal_text, summary_text, HasLength};
 
 use crate::header::Header;
 use crate::record::Record;
 use lang_base::NoMemory;
 use std::alloc::Global;
 
-/// The header's bytes, 38 in the first form and 40 in the second.
-#[tactic(auto, unfolding(crate::specs::Text::header_text, crate::specs::Text::header_size))]
+/// The header's bytes, of which there are 40.
 pub fn header_bytes(alloc: Global, header: &Header) -> Result<Vec<u8>, NoMemory>
     ensures text { IfOk result (λ bytes. bytes.items ≡ header_text header.now) }
-    ensures len { IfOk result (λ bytes. length bytes.items ≡ header_size header.now) }
-{
-    if header.has_first_form() {
-        first_bytes(alloc, header)
-    } else {
-        second_bytes(alloc, header)
-    }
-}
-
-fn first_bytes(alloc: Global, header: &Header) -> Result<Vec<u8>, NoMemory>
-    ensures text { IfOk result (λ bytes. bytes.items ≡ first_form header.now) }
-    ensures len { IfOk result (λ bytes. length bytes.items ≡ 38) }
-{
-    joined(alloc, b"CFJ1", &[header.nodes, header.node], &header.digest)
-}
-
-fn second_bytes(alloc: Global, header: &Header) -> Result<Vec<u8>, NoMemory>
-    ensures text { IfOk result (λ bytes. bytes.items ≡ second_form header.now) }
-    ensures len { IfOk result (λ bytes. length bytes.items ≡ 40) }
+    ensures len { IfOk result (λ bytes. length bytes.items ≡ header_size) }
 {
     let (nodes, promise, accept) = (header.nodes, header.promise, header.accept);
-    let numbers = [nodes, promise, accept, header.node];
-    joined(alloc, b"CFJF", &numbers, &header.digest)
-}
-
-/// The magic, the numbers and the digest.
-fn joined(alloc: Global, magic: &[u8], numbers: &[u8], digest: &[u8]) -> Result<Vec<u8>, NoMemory>
-    ensures { IfOk result (λ bytes. bytes.items ≡ magic.now ++ (numbers.now ++ digest.now)) }
-{
-    let mut bytes = Vec::from_slice(alloc, magic)?;
-    bytes.extend_from_slice(numbers)?;
-    bytes.extend_from_slice(digest)?;
+    let mut bytes = Vec::from_slice(alloc, b"CFJ2")?;
+    bytes.extend_from_slice(&[nodes, promise, accept, header.node])?;
+    bytes.extend_from_slice(&header.digest)?;
     Ok(bytes)
 }
 
@@ -60,7 +33,7 @@ pub fn record_bytes(alloc: Global, entry: &Record) -> Result<Vec<u8>, NoMemory>
 }
 
 /// Writes a record as it stands behind its gate.
-fn write_record(entry: &Record, out: &mut Vec<u8>) -> Result<(), NoMemory>
+pub fn write_record(entry: &Record, out: &mut Vec<u8>) -> Result<(), NoMemory>
     requires { HasLength entry.now }
     ensures { OnOk result (out.new.items ≡ out.old.items ++ block_text entry.now) }
 {
@@ -82,7 +55,26 @@ fn write_body(entry: &Record, out: &mut Vec<u8>) -> Result<(), NoMemory>
         Record::Proposed(room, ballot, value) => write_vote(3, *room, *ballot, *value, out),
         Record::Promised(room, ballot) => write_ballot(4, *room, *ballot, out),
         Record::Accepted(room, ballot, value) => write_vote(5, *room, *ballot, *value, out),
+        Record::Summary(room, started, promised, accepted) => {
+            write_summary(*room, *started, *promised, *accepted, out)
+        }
     }
+}
+
+fn write_summary(
+    room: u16,
+    started: u16,
+    promised: u16,
+    accepted: (u16, u8),
+    out: &mut Vec<u8>,
+) -> Result<(), NoMemory>
+    ensures { OnOk result (out.new.items ≡ out.old.items ++ summary_text room started promised accepted) }
+{
+    write_ballot(6, room, started, out)?;
+    write_number(promised, out)?;
+    write_number(accepted.0, out)?;
+    out.push(accepted.1)?;
+    Ok(())
 }
 
 fn write_head(code: u8, room: u16, out: &mut Vec<u8>) -> Result<(), NoMemory>

@@ -1,4 +1,4 @@
-//! Worked runs of the disks: which call fails, what a crash leaves before and after a sync, and a real file.
+//! Worked runs of the disks: which call fails, what a crash leaves before and after a sync, a real file, and a pair of disks.
 #![tactic(auto)]
 
 #[cfg(test)]
@@ -9,3 +9,5 @@ mod crashes;
 mod failures;
 #[cfg(test)]
 mod files;
+#[cfg(test)]
+mod pairs;

@@ -1,7 +1,7 @@
 //! A journal that is cut, or of which one byte is another.
 
+use crate::forms::{Asked, records_in};
 use crate::rows::listed;
-use acceptor_log::{Header, read};
 use std::alloc::Global;
 
 /// Answers in a row, those that are alike told once with their number.
@@ -44,19 +44,19 @@ impl Runs {
 }
 
 /// What each front of the journal stands for.
-pub fn cut(alloc: Global, header: &Header, journal: &[u8]) -> Option<String> {
+pub fn cut(alloc: Global, asked: &Asked, journal: &[u8]) -> Option<String> {
     let mut runs = Runs::new(alloc);
     for number in 0..journal.len() {
         let front = journal.get(..number)?;
-        runs.push(alloc, stands_for(alloc, header, front)?)?;
+        runs.push(alloc, stands_for(alloc, asked, front)?)?;
     }
-    runs.push(alloc, stands_for(alloc, header, journal)?)?;
+    runs.push(alloc, stands_for(alloc, asked, journal)?)?;
     runs.close(alloc)?;
     Some(runs.text)
 }
 
 /// What the journal stands for with each byte at a place.
-pub fn changed(alloc: Global, header: &Header, journal: Vec<u8>, at: usize) -> Option<String> {
+pub fn changed(alloc: Global, asked: &Asked, journal: Vec<u8>, at: usize) -> Option<String> {
     let mut journal = journal;
     let mut runs = Runs::new(alloc);
     for byte in 0..=255u8 {
@@ -64,17 +64,17 @@ pub fn changed(alloc: Global, header: &Header, journal: Vec<u8>, at: usize) -> O
             return None;
         }
         journal[at] = byte;
-        runs.push(alloc, stands_for(alloc, header, journal.as_slice())?)?;
+        runs.push(alloc, stands_for(alloc, asked, journal.as_slice())?)?;
     }
     runs.close(alloc)?;
     Some(runs.text)
 }
 
 /// The records, or the name of the fault.
-fn stands_for(alloc: Global, header: &Header, journal: &[u8]) -> Option<String> {
-    match read(alloc, header, journal) {
+fn stands_for(alloc: Global, asked: &Asked, journal: &[u8]) -> Option<String> {
+    match records_in(alloc, asked, journal) {
         Ok(found) => {
-            let records = listed(alloc, found.records.as_slice())?;
+            let records = listed(alloc, found.as_slice())?;
             format!(in alloc; "[{records}]").ok()
         }
         Err(fault) => format!(in alloc; "{fault}").ok(),

@@ -1,7 +1,9 @@
 use crate::again::is_made_again;
 use crate::changes::{changed, cut};
 use crate::crashes::all_survive;
-use acceptor_log::{Header, Log, LogError, Record, read};
+use crate::forms::{Asked, asked_of, records_in};
+use crate::migrations::{made_after_stops, made_of, made_over};
+use acceptor_log::{Header, Log, LogError, Record, kept_parts};
 use durable_model::{Disk, MemoryDisk};
 use program_rows::{Answers, bytes_of, numbered, owned};
 use std::alloc::Global;
@@ -25,27 +27,66 @@ impl Answers for Rows {
 }
 
 fn asked(alloc: Global, word: &str, header: &str, journal: &str) -> Option<String> {
-    let header = header_of(bytes_of(alloc, header)?.as_slice())?;
+    let asked = asked_of(bytes_of(alloc, header)?.as_slice())?;
     let bytes = bytes_of(alloc, journal)?;
+    let (header, bytes) = (&asked.header, bytes.as_slice());
     match word {
-        "read" => match read(alloc, &header, bytes.as_slice()) {
-            Ok(found) => counted(alloc, &header, found.records.as_slice()),
+        "read" => match records_in(alloc, &asked, bytes) {
+            Ok(records) => counted(alloc, header, records.as_slice()),
             Err(fault) => refused(alloc, fault),
         },
-        "list" => match read(alloc, &header, bytes.as_slice()) {
-            Ok(found) => listed(alloc, found.records.as_slice()),
+        "list" => match records_in(alloc, &asked, bytes) {
+            Ok(records) => listed(alloc, records.as_slice()),
             Err(fault) => refused(alloc, fault),
         },
-        "open" => opened(alloc, &header, bytes.as_slice()),
+        "order" => ordered(alloc, &asked, bytes),
+        "open" => opened(alloc, header, bytes),
+        "create" => created(alloc, header, bytes),
         "again" => {
-            let is_same = is_made_again(alloc, &header, bytes.as_slice())?;
+            let is_same = is_made_again(alloc, header, bytes)?;
             owned(alloc, if is_same { "yes" } else { "no" })
         }
-        "cuts" => cut(alloc, &header, bytes.as_slice()),
-        _ => {
-            let at = word.strip_prefix("changed-")?.parse().ok()?;
-            changed(alloc, &header, bytes, at)
+        "migrate" => made_of(alloc, header, bytes),
+        "over" => made_over(alloc, header, bytes),
+        "stopped" => made_after_stops(alloc, header, bytes),
+        _ => varied(alloc, word, &asked, bytes),
+    }
+}
+
+fn varied(alloc: Global, word: &str, asked: &Asked, bytes: &[u8]) -> Option<String> {
+    if word == "cuts" {
+        return cut(alloc, asked, bytes);
+    }
+    let at = word.strip_prefix("changed-")?.parse().ok()?;
+    changed(alloc, asked, Vec::from_slice(alloc, bytes).ok()?, at)
+}
+
+/// How many records there are, where they keep the order.
+fn ordered(alloc: Global, asked: &Asked, bytes: &[u8]) -> Option<String> {
+    if asked.header.nodes == 0 {
+        return None;
+    }
+    let records = match records_in(alloc, asked, bytes) {
+        Ok(records) => records,
+        Err(fault) => return refused(alloc, fault),
+    };
+    match kept_parts(alloc, &asked.header, u16::MAX, records.as_slice()) {
+        Ok(_) => numbered(alloc, "", records.len() as u64),
+        Err(fault) => refused(alloc, fault),
+    }
+}
+
+/// What a new journal holds that was made over these bytes.
+fn created(alloc: Global, header: &Header, bytes: &[u8]) -> Option<String> {
+    let disk = MemoryDisk::new(alloc, 8, bytes.len().saturating_add(100)).ok()?;
+    let mut disk = disk;
+    disk.write_at(0, bytes).ok()?;
+    match Log::create(alloc, disk, header) {
+        Ok(log) => {
+            let mut disk = log.into_disk();
+            hex::encode(alloc, disk.read(alloc).ok()?.as_slice()).ok()
         }
+        Err((_disk, fault)) => refused(alloc, fault),
     }
 }
 
@@ -79,6 +120,7 @@ fn is_numbered(header: &Header, entry: &Record) -> bool {
         Record::Promised(_, ballot) => 0 < *ballot,
         Record::Proposed(_, ballot, value) => 0 < *ballot && *value < header.nodes,
         Record::Accepted(_, ballot, value) => 0 < *ballot && *value < header.nodes,
+        Record::Summary(_, _, _, _) => true,
     }
 }
 
@@ -103,43 +145,8 @@ fn told(alloc: Global, entry: &Record) -> Option<String> {
         Record::Accepted(room, ballot, value) => {
             format!(in alloc; "5,{room},{ballot},{value};").ok()
         }
-    }
-}
-
-/// The header with this digest, of a node in a farm with quorums of these sizes.
-fn header_with(nodes: u8, promise: u8, accept: u8, node: u8, rest: &[u8]) -> Option<Header> {
-    let mut digest = [0u8; 32];
-    if rest.len() != digest.len() {
-        return None;
-    }
-    digest.copy_from_slice(rest);
-    Some(Header {
-        nodes,
-        promise,
-        accept,
-        node,
-        digest,
-    })
-}
-
-/// The header that these bytes are, in either form.
-fn header_of(bytes: &[u8]) -> Option<Header> {
-    match bytes {
-        [b'C', b'F', b'J', b'1', nodes, node, rest @ ..] => {
-            let half = nodes / 2 + 1;
-            header_with(*nodes, half, half, *node, rest)
+        Record::Summary(room, started, promised, (ballot, value)) => {
+            format!(in alloc; "6,{room},{started},{promised},{ballot},{value};").ok()
         }
-        [
-            b'C',
-            b'F',
-            b'J',
-            b'F',
-            nodes,
-            promise,
-            accept,
-            node,
-            rest @ ..,
-        ] => { header_with(*nodes, *promise, *accept, *node, rest) }
-        _ => None,
     }
 }

@@ -15,7 +15,7 @@ returns-in-Err-clause-any_moment g c h rs r rests is_block =
     let disk = g.D.Disk in
     let old = c.args.disk.now in
     weaker (c.write_durably.ensures.any_moment rests.honest)
-    (between-first (header_size h) (header_text h) rs (disk.seen old) c.args.gate rests.stands rests.at_gate r c.args.block.now is_block (disk.may_leave old) rests.durable (length c.args.block.now))
+    (between-first header_size (header_text h) rs (disk.seen old) c.args.gate rests.stands rests.at_gate r c.args.block.now is_block (disk.may_leave old) rests.durable (length c.args.block.now))
 
 pub returns-in-Ok-clause-any_moment : goal.returns-in-Ok-clause-any_moment
 returns-in-Ok-clause-any_moment g c h rs r rests is_block =
@@ -26,8 +26,8 @@ returns-in-Ok-clause-any_moment g c h rs r rests is_block =
     composed disk.moment disk.left_since old mid c.write_durably-in-Ok.new.disk
     (MayTear (disk.may_leave old) (c.args.gate + 1) (length c.args.block.now)) (MayTear (disk.may_leave mid) c.args.gate 1) (Between h rs (rs ++ r ∷ []))
     (c.write_durably.ensures.any_moment rests.honest) (c.write_durably-in-Ok.ensures.any_moment still)
-    (between-first (header_size h) (header_text h) rs (disk.seen old) c.args.gate rests.stands rests.at_gate r c.args.block.now is_block (disk.may_leave old) rests.durable (length c.args.block.now))
-    (between-second (header_size h) (header_text h) rs (disk.seen old) c.args.gate rests.stands rests.at_gate r c.args.block.now is_block (disk.seen mid) (disk.may_leave mid)
+    (between-first header_size (header_text h) rs (disk.seen old) c.args.gate rests.stands rests.at_gate r c.args.block.now is_block (disk.may_leave old) rests.durable (length c.args.block.now))
+    (between-second header_size (header_text h) rs (disk.seen old) c.args.gate rests.stands rests.at_gate r c.args.block.now is_block (disk.seen mid) (disk.may_leave mid)
     (c.in-Ok.ensures.written rests.honest) (c.in-Ok.ensures.durable rests.honest))
 
 pub returns-in-Ok-clause-bytes : goal.returns-in-Ok-clause-bytes
@@ -46,7 +46,7 @@ returns-in-Ok-clause-written g c h rs r rests is_block =
     both_ok c.write_durably-in-Ok.result (c.write_durably-in-Ok.ensures.written still) (c.write_durably-in-Ok.ensures.durable still)
     (λ written durable. record {
       honest = c.write_durably-in-Ok.ensures.honest.1 still;
-      stands = stands-written (header_size h) (header_text h) rs (disk.seen old) c.args.gate rests.stands rests.at_gate r c.args.block.now is_block (disk.seen mid) (disk.seen new) (c.in-Ok.ensures.written rests.honest) written;
-      at_gate = next-gate (header_size h) (header_text h) rs (disk.seen old) c.args.gate rests.stands rests.at_gate r c.args.block.now is_block;
+      stands = stands-written header_size (header_text h) rs (disk.seen old) c.args.gate rests.stands rests.at_gate r c.args.block.now is_block (disk.seen mid) (disk.seen new) (c.in-Ok.ensures.written rests.honest) written;
+      at_gate = next-gate header_size (header_text h) rs (disk.seen old) c.args.gate rests.stands rests.at_gate r c.args.block.now is_block;
       durable = durable;
     })

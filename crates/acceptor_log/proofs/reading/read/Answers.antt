@@ -13,4 +13,4 @@ returns-in_err-found-clause-refused c =
     rw (p.1, p.2) (λ memory.
     let refused = c.in_err-found.ensures.refused memory in
     subst (HasFault c.args.header.now c.args.bytes.now) (sym refused.0)
-    (c.in_ok-behind.ensures.form, c.in_ok-behind.ensures.header, records_behind-drop (header_size c.args.header.now) c.args.bytes.now ∙ ap (λ (l : List ℕ). records_behind 0 l) (sym c.in_ok-behind.ensures.behind) ∙ refused.1))
+    (c.in_ok-behind.ensures.form, c.in_ok-behind.ensures.header, records_behind-drop header_size c.args.bytes.now ∙ ap (λ (l : List ℕ). records_behind 0 l) (sym c.in_ok-behind.ensures.behind) ∙ refused.1))

@@ -3,7 +3,7 @@ use Rattle.std.specs.Prelude.{slice_get}
 use Rattle.acceptor_log_form.specs.declared.record.Record.{Record}
 use Rattle.acceptor_log_form.specs.Leaves.{kept_in, proposed_in}
 use Rattle.acceptor_log_form.specs.Order.{MayFollow}
-use Rattle.acceptor_log_form.proofs.rooms.kept_parts.Given as goal
+use Rattle.acceptor_log_form.proofs.rooms.kept_parts_of.Given as goal
 
 -- what the records so far leave of each room, and that each of them may follow those in front of it
 abbrev pub invariant-loop-entry : goal.invariant-loop-entry

@@ -1,0 +1,3 @@
+pub use Rattle.acceptor_log_translating.specs.Migrated
+pub use Rattle.acceptor_log_translating.specs.Translating
+pub mod Stands

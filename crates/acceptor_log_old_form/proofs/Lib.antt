@@ -1,0 +1,4 @@
+pub mod OldHeaders
+pub mod OneOldFault
+pub mod OldTexts
+pub mod Plain

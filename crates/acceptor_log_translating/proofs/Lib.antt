@@ -1,0 +1,7 @@
+pub mod Kept
+pub mod Well
+pub mod InOrder
+pub mod Rooms
+pub mod Offers
+pub mod Places
+pub mod Written
