@@ -1,8 +1,9 @@
 pub mod Numbers
+pub mod OneProgram
 pub mod Prepared
 pub mod Refused
 pub use Rattle.paxos_core_world.specs.Quorum
-pub use Rattle.farm_nodes_opened.specs.declared.fault.OpenFault
+pub use Rattle.farm_nodes_seated.specs.declared.fault.OpenFault
 pub use Rattle.farm_nodes_opened.specs.Back
 pub use Rattle.farm_nodes_opened.specs.Opened
 pub use Rattle.farm_nodes_threads.specs.CameBack

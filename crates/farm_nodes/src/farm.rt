@@ -14,7 +14,7 @@ ghost use Rattle.farm_nodes.specs.Prepared.{IsSourceOf};
 ghost use Rattle.farm_nodes.specs.Refused.{AreRefused, AreRefusedOver};
 
 use crate::error::FarmError;
-use durable_model::Disk;
+use durable_pair::Pair;
 use farm_nodes_opened::{FarmNode, OpenFault, open_nodes};
 use farm_nodes_source::{Source, prepare};
 use paxos_core::Quorums;
@@ -30,24 +30,24 @@ pub struct Farm<D, O, H: Naming> {
     pub nodes: Vec<FarmNode<D, O, H>>,
 }
 
-impl<D: Disk + Drop, O: Drop, H: Naming> Farm<D, O, H> {
-    /// The farm of a C text with these quorums, and a node for each disk: each has the journal on its disk, which is created where the disk is empty, the
-    /// seats that come from what stands there, its optimisers, and the generator of the seed and its number. The text comes first, then the
-    /// journals in the order of the nodes (401 to 404), then what stands in them (403), then that the passes accept each offer, which as
-    /// many threads as there are nodes check again (301), then the rooms in order (510, 511). The first fault is told, and all disks come
-    /// back.
+impl<P: Pair + Drop, O: Drop, H: Naming> Farm<P, O, H> {
+    /// The farm of a C text with these quorums, and a node for each pair of disks: each has the journal on its pair, the seats that come from
+    /// what stands there, its optimisers, and the generator of the seed and its number. An old journal that counts is migrated, and a pair
+    /// with none gets one. The text comes first, then the journals in the order of the nodes (401 to 404, and 403 for the order of an old
+    /// one), then what stands in them (403), then that the passes accept each offer, which as many threads as there are nodes check again
+    /// (301), then the rooms in order (510, 511). The first fault is told, and all pairs come back; old journals may have been migrated.
     pub fn open<R: Threads + Wait + Sync>(
         rt: &R,
         alloc: Global,
         hall: &Hall<H>,
         text: &[u8],
-        disks: Vec<D>,
+        pairs: Vec<P>,
         oracles: Vec<O>,
         seed: u64,
         quorums: Quorums,
-    ) -> Result<Farm<D, O, H>, (Vec<D>, FarmError)>
-        requires size { length disks.items ≡ quorums.nodes }
-        requires oracles { length oracles.items ≡ length disks.items }
+    ) -> Result<Farm<P, O, H>, (Vec<P>, FarmError)>
+        requires size { length pairs.items ≡ quorums.nodes }
+        requires oracles { length oracles.items ≡ length pairs.items }
 
         // It compiles the program of the text. Each node has its share of the translation, its optimisers and its generator.
         ensures source { IfOk result (λ farm. IsSourceOf text.now farm.source) }
@@ -55,34 +55,34 @@ impl<D: Disk + Drop, O: Drop, H: Naming> Farm<D, O, H> {
             All (λ n. arc_value n.program ≡ arc_value farm.source.translated) farm.nodes.items) }
         ensures oracles { IfOk result (λ farm. map (λ n. n.oracles) farm.nodes.items ≡ oracles.items) }
         ensures words { IfOk result (λ farm.
-            map (λ n. n.words) farm.nodes.items ≡ generators seed (length disks.items)) }
+            map (λ n. n.words) farm.nodes.items ≡ generators seed (length pairs.items)) }
 
-        // Each has the journal on its disk, and may be asked; none is stopped. The rooms open from what the journals have acknowledged.
-        ensures journals { IfOk result (λ farm. AreMade (IsJournalOn D.Disk quorums farm.source.digest)
-            disks.items (length disks.items) (map (λ n. n.log) farm.nodes.items)) }
+        // Each has the journal on its pair, and may be asked; none is stopped. The rooms open from what the journals have acknowledged.
+        ensures journals { IfOk result (λ farm. AreMade (IsJournalOn P.Disk P.Pair.own quorums farm.source.digest)
+            pairs.items (length pairs.items) (map (λ n. n.log) farm.nodes.items)) }
         ensures going { IfOk result (λ farm. All (λ n. n.halted ≡ None) farm.nodes.items) }
         ensures fit { IfOk result (λ farm. AllByRecursion (λ n.
-            IsSoundNode D.is_honest D.seen D.may_leave n.log (fours_of n.seats.items) n.halted
+            IsSoundNode P.is_honest P.seen P.may_leave n.log (fours_of n.seats.items) n.halted
             × IsWaiting n.seats.items n.halted) farm.nodes.items) }
-        ensures rooms { IfOk result (λ farm. AreOpenFrom D.is_honest D.seen quorums
+        ensures rooms { IfOk result (λ farm. AreOpenFrom P.is_honest P.seen quorums
             (length (arc_value farm.source.translated).functions)
             (map (λ n. n.log) farm.nodes.items) (map (λ n. n.seats.items) farm.nodes.items)) }
 
-        // A text that is not compiled leaves the disks as they are.
+        // A text that is not compiled leaves the pairs as they are.
         ensures untouched { IfErr result (λ it. (fault : SourceFault) → it.1 ≡ FarmError.Source fault →
-            IsUnprepared text.now fault × (it.0 ≡ disks)) }
+            IsUnprepared text.now fault × (it.0 ≡ pairs)) }
 
-        // What is refused of the disks is refused over the source of the text, and all of them come back.
+        // What is refused of the pairs is refused over the source of the text, and all of them come back.
         ensures refused { IfErr result (λ it. (fault : OpenFault) → it.1 ≡ FarmError.Disks fault →
-            AreRefused D.Disk quorums text.now disks.items it.0.items fault) }
+            AreRefused P.Disk P.Pair.own quorums text.now pairs.items it.0.items fault) }
     {
         let source = match prepare(alloc, text) {
             Ok(source) => source,
-            Err(fault) => return Err((disks, FarmError::Source(fault))),
+            Err(fault) => return Err((pairs, FarmError::Source(fault))),
         };
-        match Farm::over(rt, alloc, hall, source, disks, oracles, seed, quorums) {
+        match Farm::over(rt, alloc, hall, source, pairs, oracles, seed, quorums) {
             Ok(farm) => Ok(farm),
-            Err((disks, fault)) => Err((disks, FarmError::Disks(fault))),
+            Err((pairs, fault)) => Err((pairs, FarmError::Disks(fault))),
         }
     }
 
@@ -92,13 +92,13 @@ impl<D: Disk + Drop, O: Drop, H: Naming> Farm<D, O, H> {
         alloc: Global,
         hall: &Hall<H>,
         source: Source,
-        disks: Vec<D>,
+        pairs: Vec<P>,
         oracles: Vec<O>,
         seed: u64,
         quorums: Quorums,
-    ) -> Result<Farm<D, O, H>, (Vec<D>, OpenFault)>
-        requires size { length disks.items ≡ quorums.nodes }
-        requires oracles { length oracles.items ≡ length disks.items }
+    ) -> Result<Farm<P, O, H>, (Vec<P>, OpenFault)>
+        requires size { length pairs.items ≡ quorums.nodes }
+        requires oracles { length oracles.items ≡ length pairs.items }
         requires functions { length (arc_value source.translated).functions ≤ 64 }
 
         // It compiles the source. Each node has its share of the translation, its optimisers and its generator.
@@ -107,21 +107,21 @@ impl<D: Disk + Drop, O: Drop, H: Naming> Farm<D, O, H> {
             All (λ n. arc_value n.program ≡ arc_value farm.source.translated) farm.nodes.items) }
         ensures oracles { IfOk result (λ farm. map (λ n. n.oracles) farm.nodes.items ≡ oracles.items) }
         ensures words { IfOk result (λ farm.
-            map (λ n. n.words) farm.nodes.items ≡ generators seed (length disks.items)) }
+            map (λ n. n.words) farm.nodes.items ≡ generators seed (length pairs.items)) }
 
-        // Each has the journal on its disk, and may be asked; none is stopped. The rooms open from what the journals have acknowledged.
-        ensures journals { IfOk result (λ farm. AreMade (IsJournalOn D.Disk quorums farm.source.digest)
-            disks.items (length disks.items) (map (λ n. n.log) farm.nodes.items)) }
+        // Each has the journal on its pair, and may be asked; none is stopped. The rooms open from what the journals have acknowledged.
+        ensures journals { IfOk result (λ farm. AreMade (IsJournalOn P.Disk P.Pair.own quorums farm.source.digest)
+            pairs.items (length pairs.items) (map (λ n. n.log) farm.nodes.items)) }
         ensures going { IfOk result (λ farm. All (λ n. n.halted ≡ None) farm.nodes.items) }
         ensures fit { IfOk result (λ farm. AllByRecursion (λ n.
-            IsSoundNode D.is_honest D.seen D.may_leave n.log (fours_of n.seats.items) n.halted
+            IsSoundNode P.is_honest P.seen P.may_leave n.log (fours_of n.seats.items) n.halted
             × IsWaiting n.seats.items n.halted) farm.nodes.items) }
-        ensures rooms { IfOk result (λ farm. AreOpenFrom D.is_honest D.seen quorums
+        ensures rooms { IfOk result (λ farm. AreOpenFrom P.is_honest P.seen quorums
             (length (arc_value farm.source.translated).functions)
             (map (λ n. n.log) farm.nodes.items) (map (λ n. n.seats.items) farm.nodes.items)) }
 
-        // What is told is the first fault of the disks, and all of them come back.
-        ensures refused { IfErr result (λ it. AreRefusedOver D.Disk quorums source disks.items it.0.items it.1) }
+        // What is told is the first fault of the pairs, and all of them come back.
+        ensures refused { IfErr result (λ it. AreRefusedOver P.Disk P.Pair.own quorums source pairs.items it.0.items it.1) }
     {
         let workers = usize::from(quorums.nodes());
         let opened = open_nodes(
@@ -130,7 +130,7 @@ impl<D: Disk + Drop, O: Drop, H: Naming> Farm<D, O, H> {
             hall,
             &source.digest,
             &source.translated,
-            disks,
+            pairs,
             oracles,
             seed,
             workers,

@@ -5,15 +5,18 @@
 
 mod error;
 mod farm;
+mod laws;
+mod nodes;
 
 pub use error::FarmError;
 pub use farm::Farm;
-pub use farm_nodes_compiling::{Optimisers, Oracles, optimisers_of};
+pub use farm_nodes_compiling::{Optimisers, Optimising, Oracles, optimisers_of};
 pub use farm_nodes_linked::{LinkedError, linked, one_program};
 pub use farm_nodes_nodes::meet;
 pub use farm_nodes_opened::{FarmNode, Halted, OpenFault, RoomFault, Turn};
 pub use farm_nodes_returning::{RestartFault, own_disk, restart};
 pub use farm_nodes_source::{Source, SourceFault, prepare};
 pub use farm_nodes_threads::{RunError, run_threads};
+pub use laws::linked_by_both;
 pub use paxos_core::Quorums;
 pub use rooms_hall::{Hall, Naming, Opened};

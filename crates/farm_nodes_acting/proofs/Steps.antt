@@ -21,7 +21,7 @@ use Rattle.rooms_seat.specs.Act.{Act}
 use Rattle.rooms_seat.specs.Act.TheVariants as act
 use Rattle.rooms_seat.specs.Did.{Did}
 use Rattle.rooms_seat.specs.SeatState.{SeatState, proposer_of, promise_of, vote_of}
-use Rattle.rooms_seat.specs.Would.{would, act_of, proposed_by_step, IsUnderWay, ProposesNoMore, Acted}
+use Rattle.rooms_seat.specs.Would.{would, act_of, proposed_by_step, IsStarted, ProposesNoMore, Acted}
 use Rattle.rooms_seat.proofs.Acts.{vote_seen}
 use Rattle.rooms_seat.specs.Meeting.{IsBounded}
 use Rattle.farm_nodes_acting.specs.Cause.{IsFull, HasCause}
@@ -52,7 +52,7 @@ none_acted a s e =
       learned = refl;
       proposers = refl;
       acceptors = refl;
-      under_way = subst (λ (o : Option Step). IsUnderWay o s) (sym e) tt;
+      under_way = subst (λ (o : Option Step). IsStarted o s) (sym e) tt;
       no_more = no_more_none a s e;
     }
 

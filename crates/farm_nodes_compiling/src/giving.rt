@@ -4,15 +4,30 @@ use farm_nodes_passes::Oracles;
 use lang_base::{NoMemory, Oracle};
 use linearize_check::Order;
 use oracle_alloc::AllocOracle;
-use oracle_const::ConstOracle;
-use oracle_cse::CseOracle;
-use oracle_order::OrderOracle;
+use oracle_alloc_speed::AllocSpeed;
+use oracle_const::{ConstOracle, ConstSpeed};
+use oracle_cse::{CseOracle, CseSpeed};
+use oracle_order::{OrderOracle, OrderSpeed};
 use rand_pcg::Pcg32;
 use std::alloc::Global;
 
-/// A node's optimisers, one for each pass of the compiler. They hold nothing: what they choose is drawn from the node's words.
+/// What a farm's optimisers are after.
 #[derive(Clone, Copy, Debug, PartialEq, Eq)]
-pub struct Optimisers;
+pub enum Optimising {
+    /// Nothing: each choice is drawn from the node's words.
+    Drawn,
+    /// Code that runs fast.
+    Speed,
+}
+
+/// A node's optimisers, one for each pass of the compiler.
+#[derive(Clone, Copy, Debug, PartialEq, Eq)]
+pub enum Optimisers {
+    /// They hold nothing: what they choose is drawn from the node's words.
+    Drawn,
+    /// They choose what is thought to run fast, and draw only between registers of the machine that are all free.
+    Speed,
+}
 
 impl Oracles for Optimisers {
     fn propose_constants(
@@ -21,7 +36,10 @@ impl Oracles for Optimisers {
         input: &rtl_language::Function,
         words: &mut Pcg32,
     ) -> Result<Option<(rtl_language::Function, constprop_check::FactLists)>, NoMemory> {
-        ConstOracle.propose(alloc, input, words)
+        match self {
+            Optimisers::Drawn => ConstOracle.propose(alloc, input, words),
+            Optimisers::Speed => ConstSpeed.propose(alloc, input, words),
+        }
     }
 
     fn propose_expressions(
@@ -30,7 +48,10 @@ impl Oracles for Optimisers {
         input: &rtl_language::Function,
         words: &mut Pcg32,
     ) -> Result<Option<(rtl_language::Function, cse_check::EquationLists)>, NoMemory> {
-        CseOracle.propose(alloc, input, words)
+        match self {
+            Optimisers::Drawn => CseOracle.propose(alloc, input, words),
+            Optimisers::Speed => CseSpeed.propose(alloc, input, words),
+        }
     }
 
     fn propose_allocation(
@@ -39,7 +60,10 @@ impl Oracles for Optimisers {
         input: &rtl_language::Function,
         words: &mut Pcg32,
     ) -> Result<Option<(ltl::Function, oracle_alloc::EquationLists)>, NoMemory> {
-        AllocOracle.propose(alloc, input, words)
+        match self {
+            Optimisers::Drawn => AllocOracle.propose(alloc, input, words),
+            Optimisers::Speed => AllocSpeed.propose(alloc, input, words),
+        }
     }
 
     fn propose_order(
@@ -48,17 +72,32 @@ impl Oracles for Optimisers {
         input: &ltl::Function,
         words: &mut Pcg32,
     ) -> Result<Option<(linear_language::Function, Order)>, NoMemory> {
-        OrderOracle.propose(alloc, input, words)
+        match self {
+            Optimisers::Drawn => OrderOracle.propose(alloc, input, words),
+            Optimisers::Speed => OrderSpeed.propose(alloc, input, words),
+        }
+    }
+}
+
+/// The optimisers that are after this.
+fn optimisers_for(kind: Optimising) -> Optimisers {
+    match kind {
+        Optimising::Drawn => Optimisers::Drawn,
+        Optimising::Speed => Optimisers::Speed,
     }
 }
 
 /// The optimisers of each of so many nodes.
-pub fn optimisers_of(alloc: Global, nodes: usize) -> Result<Vec<Optimisers>, NoMemory>
+pub fn optimisers_of(
+    alloc: Global,
+    nodes: usize,
+    kind: Optimising,
+) -> Result<Vec<Optimisers>, NoMemory>
     ensures { IfOk result (λ made. length made.items ≡ nodes) }
 {
     let mut made = Vec::new(alloc);
     for _node in 0..nodes {
-        match made.push(Optimisers) {
+        match made.push(optimisers_for(kind)) {
             Ok(()) => {}
             Err(_) => return Err(NoMemory),
         }

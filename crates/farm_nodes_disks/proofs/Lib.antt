@@ -1,2 +1,4 @@
 pub mod Next
 pub mod InFront
+pub mod Listed
+pub mod Behind

@@ -6,6 +6,7 @@ use Rattle.std.proofs.lemmas.Bool.{cases_eq}
 use Rattle.std.proofs.lemmas.List.{length_push}
 use Rattle.std.proofs.lemmas.Option.{slice_get_within}
 use Rattle.durable_model.specs.declared.disk.Disk as disks
+use Rattle.durable_pair.specs.declared.pair.Pair as pairs
 use Rattle.acceptor_log_form.specs.declared.record.Record.{Record}
 use Rattle.acceptor_log.specs.declared.log.Log.{Log}
 use Rattle.paxos_core_world.specs.Quorum.{Sizes}
@@ -39,32 +40,32 @@ in_front [] y i low = absurd (omega (arith, low))
 in_front (x ∷ xs) y zero low = refl
 in_front (x ∷ xs) y (suc i) low = in_front xs y i (omega (arith, low))
 
-module _ {D : Type 0} (disk : disks.Ghosts D) (q : Sizes) (digest : List ℕ) (given : List D) where
-  pub opened_none : (opened : List (Log D × Vec Record)) → opened ≡ [] → AreOpened disk q digest given 0 opened
+module _ {D : Type 0} (disk : disks.Ghosts D) (pair : pairs.Ghosts D) (q : Sizes) (digest : List ℕ) (given : List D) where
+  pub opened_none : (opened : List (Log D × Vec Record)) → opened ≡ [] → AreOpened disk pair q digest given 0 opened
   opened_none opened none = record {
     size = ap length none;
     each = λ i j d got there. let bad : slice_get [] i ≡ Some j = ap (λ l. slice_get l i) (sym none) ∙ got in absurd (omega (arith, slice_get_within [] i j bad));
   }
 
-  module _ (node : ℕ) (opened more : List (Log D × Vec Record)) (j : Log D × Vec Record) (d : D) (front : AreOpened disk q digest given node opened) (there : slice_get given node ≡ Some d)
-      (now : IsOpened disk (header_of q digest node) d j.0 j.1.items) (is : more ≡ opened ++ j ∷ []) where
-    one : (i : ℕ) (k : Log D × Vec Record) (e : D) → slice_get (opened ++ j ∷ []) i ≡ Some k → slice_get given i ≡ Some e → IsOpened disk (header_of q digest i) e k.0 k.1.items
+  module _ (node : ℕ) (opened more : List (Log D × Vec Record)) (j : Log D × Vec Record) (d : D) (front : AreOpened disk pair q digest given node opened) (there : slice_get given node ≡ Some d)
+      (now : IsOpened disk pair (header_of q digest node) d j.0 j.1.items) (is : more ≡ opened ++ j ∷ []) where
+    one : (i : ℕ) (k : Log D × Vec Record) (e : D) → slice_get (opened ++ j ∷ []) i ≡ Some k → slice_get given i ≡ Some e → IsOpened disk pair (header_of q digest i) e k.0 k.1.items
     one i k e got given_is = on (cases_eq i node)
       where
-        on : (i ≡ node) ⊎ (i ≢ node) → IsOpened disk (header_of q digest i) e k.0 k.1.items
+        on : (i ≡ node) ⊎ (i ≢ node) → IsOpened disk pair (header_of q digest i) e k.0 k.1.items
         on (inl same) =
             let last : (i ≡ length opened) × (j ≡ k) = in_more opened j k i got (λ low. omega (arith, low, same, front.size)) in
             let both : Some d ≡ Some e = sym there ∙ ap (λ n. slice_get given n) (sym same) ∙ given_is in
             let disk_is : d ≡ e = cc in
-            let of_k : IsOpened disk (header_of q digest node) d k.0 k.1.items = subst (λ (m : Log D × Vec Record). IsOpened disk (header_of q digest node) d m.0 m.1.items) last.1 now in
-            let of_e : IsOpened disk (header_of q digest node) e k.0 k.1.items = subst (λ (f : D). IsOpened disk (header_of q digest node) f k.0 k.1.items) disk_is of_k in
-            subst (λ (n : ℕ). IsOpened disk (header_of q digest n) e k.0 k.1.items) (sym same) of_e
+            let of_k : IsOpened disk pair (header_of q digest node) d k.0 k.1.items = subst (λ (m : Log D × Vec Record). IsOpened disk pair (header_of q digest node) d m.0 m.1.items) last.1 now in
+            let of_e : IsOpened disk pair (header_of q digest node) e k.0 k.1.items = subst (λ (f : D). IsOpened disk pair (header_of q digest node) f k.0 k.1.items) disk_is of_k in
+            subst (λ (n : ℕ). IsOpened disk pair (header_of q digest n) e k.0 k.1.items) (sym same) of_e
         on (inr other) =
             let within : i < length (opened ++ j ∷ []) = slice_get_within (opened ++ j ∷ []) i k got in
             let low : i < length opened = omega (arith, within, length_push opened j, other, front.size) in
             front.each i k e (sym (in_front opened j i low) ∙ got) given_is
 
-    pub opened_next : AreOpened disk q digest given (node + 1) more
+    pub opened_next : AreOpened disk pair q digest given (node + 1) more
     opened_next = record {
       size = omega (arith, ap length is, length_push opened j, front.size);
       each = λ i k e got given_is. one i k e (ap (λ l. slice_get l i) (sym is) ∙ got) given_is;

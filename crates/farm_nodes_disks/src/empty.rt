@@ -1,6 +1,6 @@
 ghost use Rattle.std.specs.Prelude.{◌≡◌, ◌≢◌, ◌≤◌, ◌↔◌, [], length, Err, IfOk, IfErr, MatchBool};
 ghost use Rattle.durable_model.specs.Honest.{Elapses, Risen, Unchanged};
-ghost use Rattle.acceptor_log.specs.Faults.{fault_of};
+ghost use Rattle.acceptor_log.specs.Faults.{log_fault};
 
 use acceptor_log::LogError;
 use durable_model::{Disk, DiskError};

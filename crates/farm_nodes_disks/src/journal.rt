@@ -11,7 +11,7 @@ use acceptor_log::{Header, Log, LogError, Record};
 use durable_model::Disk;
 use std::alloc::Global;
 
-/// The journal of a node on its disk, and the records that stand in it. Where it is refused the disk comes back.
+/// The journal on a disk, and the records that stand in it. Where it is refused the disk comes back.
 pub(crate) fn open_journal<D: Disk>(
     alloc: Global,
     disk: D,

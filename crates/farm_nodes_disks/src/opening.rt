@@ -1,28 +1,13 @@
-ghost use Rattle.std.specs.Prelude.{◌≡◌, length, IfOk, IfErr, MatchResult};
+ghost use Rattle.std.specs.Prelude.{◌≡◌, length, IfOk, IfErr};
 ghost use Rattle.std.specs.Vec.Iter.{into_iter_items};
-ghost use Rattle.farm_nodes_disks.specs.Journals.{header_of, AreOpened, IsOpened, IsRefused, IsRefusedAt};
+ghost use Rattle.farm_nodes_disks.specs.Journals.{header_of, AreOpened, IsRefusedAt};
 
-use crate::journal::open_journal;
-use crate::refused::RefusedDisk;
+use crate::pair::open_pair;
+use crate::refused::RefusedPair;
 use acceptor_log::{Header, Log, LogError, Record};
-use durable_model::Disk;
+use durable_pair::Pair;
 use paxos_core::Quorums;
 use std::alloc::Global;
-
-/// The journal of the node, and its records.
-fn open_next<D: Disk>(
-    alloc: Global,
-    disk: D,
-    header: &Header,
-) -> Result<(Log<D>, Vec<Record>), (D, LogError)>
-    ensures { MatchResult result (λ opened. IsOpened D.Disk header.now disk opened.0 opened.1.items)
-        (λ refused. IsRefused D.Disk header.now disk refused.0 refused.1) }
-{
-    match open_journal(alloc, disk, header) {
-        Ok(opened) => Ok(opened),
-        Err(refused) => Err(refused),
-    }
-}
 
 /// Whose journal it is, in a farm with these quorums.
 fn header_of(quorums: Quorums, digest: &[u8; 32], node: u8) -> Header
@@ -37,51 +22,51 @@ fn header_of(quorums: Quorums, digest: &[u8; 32], node: u8) -> Header
     }
 }
 
-/// The journals of a farm's nodes on their disks, in the order of the nodes, each with its records. An empty disk gets a journal. The
-/// headers have the sizes of both quorums.
-pub fn open_journals<D: Disk + Drop>(
+/// The journals of a farm's nodes on their pairs of disks, in the order of the nodes, each with its records: an old one that counts is
+/// migrated, and a pair that has none gets one. The headers have the sizes of both quorums.
+pub fn open_journals<P: Pair + Drop>(
     alloc: Global,
-    disks: Vec<D>,
+    pairs: Vec<P>,
     digest: &[u8; 32],
     quorums: Quorums,
-) -> Result<Vec<(Log<D>, Vec<Record>)>, RefusedDisk<D>>
-    requires { length disks.items ≡ quorums.nodes }
-    ensures opened { IfOk result (λ found. AreOpened D.Disk quorums digest.now disks.items
-        (length disks.items) found.items) }
-    ensures refused { IfErr result (λ refused. IsRefusedAt D.Disk quorums digest.now disks.items
-        refused.node refused.fault refused.opened.items refused.disk (into_iter_items refused.behind)) }
+) -> Result<Vec<(Log<P>, Vec<Record>)>, RefusedPair<P>>
+    requires { length pairs.items ≡ quorums.nodes }
+    ensures opened { IfOk result (λ found. AreOpened P.Disk P.Pair.own quorums digest.now pairs.items
+        (length pairs.items) found.items) }
+    ensures refused { IfErr result (λ refused. IsRefusedAt P.Disk P.Pair.own quorums digest.now pairs.items
+        refused.node refused.fault refused.opened.items refused.pair (into_iter_items refused.behind)) }
 {
     let count = quorums.nodes();
-    let mut behind = disks.into_iter();
+    let mut behind = pairs.into_iter();
     let mut opened = match Vec::with_capacity(alloc, usize::from(count)) {
         Ok(opened) => opened,
         Err(_) => {
-            return Err(RefusedDisk {
+            return Err(RefusedPair {
                 node: 0,
                 fault: LogError::NoMemory,
                 opened: Vec::new(alloc),
-                disk: None,
+                pair: None,
                 behind,
             });
         }
     };
     for node in 0..count {
         let header = header_of(quorums, digest, node);
-        let Some(disk) = behind.next() else {
+        let Some(pair) = behind.next() else {
             unreachable!();
         };
-        match open_next(alloc, disk, &header) {
+        match open_pair(alloc, pair, &header) {
             Ok(found) => match opened.push(found) {
                 Ok(()) => {}
                 // There is room for all of them.
                 Err(_) => unreachable!(),
             },
-            Err((disk, fault)) => {
-                return Err(RefusedDisk {
+            Err((pair, fault)) => {
+                return Err(RefusedPair {
                     node,
                     fault,
                     opened,
-                    disk: Some(disk),
+                    pair: Some(pair),
                     behind,
                 });
             }

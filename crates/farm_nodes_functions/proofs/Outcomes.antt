@@ -19,7 +19,7 @@ use Rattle.farm_nodes_opening.specs.declared.fault.RoomFault.{RoomFault}
 use Rattle.farm_nodes_opening.specs.declared.fault.RoomFault.TheVariants.{CellRefused, NoMemory, Spent, Unsettled}
 use Rattle.farm_nodes_opening.proofs.Left.{who_offered}
 use Rattle.farm_nodes_opening.proofs.OneRoom.{map-map}
-use Rattle.farm_nodes_functions.specs.Function.{fault_of, IsTold}
+use Rattle.farm_nodes_functions.specs.Function.{room_fault, IsTold}
 
 of_function : (f : ℕ) (pass : Which) (room : ℕ) → room ≡ room_at f pass → function_of room ≡ f
 of_function f First room is = omega (arith, is)
@@ -122,15 +122,15 @@ module _ (nodes : List (Vec KeptPart)) (f : ℕ) where
       all_settled q nodes f (settled_in q 0 (room_at f First) kept_first (s 0 (omega arith))) (settled_in q 1 (room_at f Second) kept_second (s 1 (omega arith)))
       (settled_in q 2 (room_at f Third) kept_third (s 2 (omega arith))) (settled_in q 3 (room_at f Fourth) kept_fourth (s 3 (omega arith)))
 
-  module _ (q : Sizes) (here : FunctionOffers) (room : ℕ) (fault : RoomFault) (why : RoomError) (are : fault ≡ fault_of why)
+  module _ (q : Sizes) (here : FunctionOffers) (room : ℕ) (fault : RoomFault) (why : RoomError) (are : fault ≡ room_fault why)
       (o1 : AreOffersOf (kept_of nodes (room_at f First)) here.first.items) (o2 : AreOffersOf (kept_of nodes (room_at f Second)) here.second.items)
       (o3 : AreOffersOf (kept_of nodes (room_at f Third)) here.third.items) (o4 : AreOffersOf (kept_of nodes (room_at f Fourth)) here.fourth.items) where
-    unsettled_is : (why : RoomError) → fault_of why ≡ Unsettled → why ≡ error.Unsettled
+    unsettled_is : (why : RoomError) → room_fault why ≡ Unsettled → why ≡ error.Unsettled
     unsettled_is error.NoMemory e = absurd (cc)
     unsettled_is error.Unsettled e = refl
     unsettled_is error.CellRefused e = absurd (cc)
 
-    refused_is : (why : RoomError) → fault_of why ≡ CellRefused → why ≡ error.CellRefused
+    refused_is : (why : RoomError) → room_fault why ≡ CellRefused → why ≡ error.CellRefused
     refused_is error.NoMemory e = absurd (cc)
     refused_is error.Unsettled e = absurd (cc)
     refused_is error.CellRefused e = refl

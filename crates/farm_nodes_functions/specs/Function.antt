@@ -47,10 +47,10 @@ pub record IsTold (q : Sizes) (nodes : List (Vec KeptPart)) (function room : ℕ
   pub refused : fault ≡ CellRefused → IsOfferedIn nodes room
 
 -- why a room is not opened, in the words of the farm
-abbrev pub fault_of : RoomError → RoomFault
-fault_of error.NoMemory = NoMemory
-fault_of error.Unsettled = Unsettled
-fault_of error.CellRefused = CellRefused
+abbrev pub room_fault : RoomError → RoomFault
+room_fault error.NoMemory = NoMemory
+room_fault error.Unsettled = Unsettled
+room_fault error.CellRefused = CellRefused
 
 -- they are those for the function
 pub record AreHere (f : ℕ) (offers : Offered) (here : FunctionOffers) : Type 0 where

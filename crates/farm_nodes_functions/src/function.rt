@@ -4,7 +4,7 @@ ghost use Rattle.farm_nodes_opening.specs.Numbers.{room_at};
 ghost use Rattle.farm_nodes_opening.specs.Which.TheVariants as which;
 ghost use Rattle.farm_nodes_lists.specs.Rows.{offers_of, rows_of};
 ghost use Rattle.farm_nodes_opening.specs.Kept.{kept_of};
-ghost use Rattle.farm_nodes_functions.specs.Function.{fault_of, AreHere, AreTaken, IsOpenFunction, IsTold};
+ghost use Rattle.farm_nodes_functions.specs.Function.{room_fault, AreHere, AreTaken, IsOpenFunction, IsTold};
 
 use constprop_check::ConstProp;
 use cse_check::Cse;
@@ -113,7 +113,7 @@ fn told(function: u16, unopened: rooms_function::Unopened) -> Unopened
     requires some { 0 < unopened.pass }
     requires most { unopened.pass ≤ 4 }
     ensures room { result.room + 1 ≡ 4 * function + unopened.pass }
-    ensures fault { result.fault ≡ fault_of unopened.error }
+    ensures fault { result.fault ≡ room_fault unopened.error }
 {
     let room = 4 * function + (u16::from(unopened.pass) - 1);
     let fault = match unopened.error {

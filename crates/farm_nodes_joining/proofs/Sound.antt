@@ -8,13 +8,14 @@ use Rattle.acceptor_log_form.specs.Text.{StandsFor}
 use Rattle.acceptor_log.specs.declared.log.Log.{Log}
 use Rattle.acceptor_log.specs.Acknowledged.{acknowledged, IsReady}
 use Rattle.farm_nodes_node.specs.Fours.{Four}
+use Rattle.farm_nodes_node.specs.Texts.{Texts}
 use Rattle.farm_nodes_node.specs.declared.halted.Halted.{Halted}
-use Rattle.farm_nodes_node.specs.Held.{IsJournalOf, IsSoundNode}
+use Rattle.farm_nodes_node.specs.Held.{IsJournalOf, IsSoundBy}
 use Rattle.farm_nodes_joining.specs.Joined.{IsHeld}
 
-module _ {D X1 X2 X3 X4 : Type 0} (is_honest : D → Type 0) (seen : D → List ℕ) (may_leave : D → List ℕ → Type 0) (log : Log D) (seats : List (Four X1 X2 X3 X4))
-    (held : IsHeld is_honest seen may_leave log seats) where
-  journal_of : is_honest log.disk → IsJournalOf may_leave log seats None (acknowledged seen log)
+module _ {D X1 X2 X3 X4 : Type 0} (texts : Texts X1 X2 X3 X4) (is_honest : D → Type 0) (seen : D → List ℕ) (may_leave : D → List ℕ → Type 0) (log : Log D) (seats : List (Four X1 X2 X3 X4))
+    (held : IsHeld texts is_honest seen may_leave log seats) where
+  journal_of : is_honest log.disk → IsJournalOf texts may_leave log seats None (acknowledged seen log)
   journal_of honest =
       let rs : List Record = acknowledged seen log in
       let ready : IsReady is_honest seen may_leave log = held.sound honest held.going in
@@ -32,7 +33,7 @@ module _ {D X1 X2 X3 X4 : Type 0} (is_honest : D → Type 0) (seen : D → List 
         };
       }
 
-  pub sound_of : IsSoundNode is_honest seen may_leave log seats None
+  pub sound_of : IsSoundBy texts is_honest seen may_leave log seats None
   sound_of = record {
     journal = held.sound;
     going = λ none. held.going;
@@ -41,20 +42,20 @@ module _ {D X1 X2 X3 X4 : Type 0} (is_honest : D → Type 0) (seen : D → List 
   }
 
 -- the nodes of these journals and seats
-module _ {N J S D X1 X2 X3 X4 : Type 0} (is_honest : D → Type 0) (seen : D → List ℕ) (may_leave : D → List ℕ → Type 0)
+module _ {N J S D X1 X2 X3 X4 : Type 0} (texts : Texts X1 X2 X3 X4) (is_honest : D → Type 0) (seen : D → List ℕ) (may_leave : D → List ℕ → Type 0)
     (log_of : J → Log D) (fours : S → List (Four X1 X2 X3 X4)) (log : N → Log D) (seats : N → S) (halted : N → Option Halted) where
   abbrev pub IsAsked : N → Type 0
-  IsAsked n = IsSoundNode is_honest seen may_leave (log n) (fours (seats n)) (halted n)
+  IsAsked n = IsSoundBy texts is_honest seen may_leave (log n) (fours (seats n)) (halted n)
 
-  asked : (n : N) (j : J) (s : S) → IsHeld is_honest seen may_leave (log_of j) (fours s) → log n ≡ log_of j → seats n ≡ s → halted n ≡ None → IsAsked n
+  asked : (n : N) (j : J) (s : S) → IsHeld texts is_honest seen may_leave (log_of j) (fours s) → log n ≡ log_of j → seats n ≡ s → halted n ≡ None → IsAsked n
   asked n j s held of_log of_seats going =
-      let before : IsSoundNode is_honest seen may_leave (log_of j) (fours s) None = sound_of is_honest seen may_leave (log_of j) (fours s) held in
-      let with_seats : IsSoundNode is_honest seen may_leave (log_of j) (fours (seats n)) None = subst (λ x. IsSoundNode is_honest seen may_leave (log_of j) (fours x) None) (sym of_seats) before in
-      let with_log : IsSoundNode is_honest seen may_leave (log n) (fours (seats n)) None = subst (λ x. IsSoundNode is_honest seen may_leave x (fours (seats n)) None) (sym of_log) with_seats in
-      subst (λ x. IsSoundNode is_honest seen may_leave (log n) (fours (seats n)) x) (sym going) with_log
+      let before : IsSoundBy texts is_honest seen may_leave (log_of j) (fours s) None = sound_of texts is_honest seen may_leave (log_of j) (fours s) held in
+      let with_seats : IsSoundBy texts is_honest seen may_leave (log_of j) (fours (seats n)) None = subst (λ x. IsSoundBy texts is_honest seen may_leave (log_of j) (fours x) None) (sym of_seats) before in
+      let with_log : IsSoundBy texts is_honest seen may_leave (log n) (fours (seats n)) None = subst (λ x. IsSoundBy texts is_honest seen may_leave x (fours (seats n)) None) (sym of_log) with_seats in
+      subst (λ x. IsSoundBy texts is_honest seen may_leave (log n) (fours (seats n)) x) (sym going) with_log
 
   pub all_asked : (ns : List N) (js : List J) (ss : List S) → map log ns ≡ map log_of js → map seats ns ≡ ss → All (λ n. halted n ≡ None) ns
-      → ((i : ℕ) (j : J) (s : S) → slice_get js i ≡ Some j → slice_get ss i ≡ Some s → IsHeld is_honest seen may_leave (log_of j) (fours s)) → All IsAsked ns
+      → ((i : ℕ) (j : J) (s : S) → slice_get js i ≡ Some j → slice_get ss i ≡ Some s → IsHeld texts is_honest seen may_leave (log_of j) (fours s)) → All IsAsked ns
   all_asked [] js ss logs sets going held = All-nil IsAsked
   all_asked (n ∷ ns) [] ss logs sets going held = absurd (cc)
   all_asked (n ∷ ns) (j ∷ js) [] logs sets going held = absurd (cc)

@@ -3,6 +3,7 @@ ghost use Rattle.std.specs.Arc.{arc_value};
 ghost use Rattle.farm_nodes_node.specs.Fours.{fours_of};
 ghost use Rattle.farm_nodes_node.specs.Held.{IsSoundNode};
 ghost use Rattle.farm_nodes_node.specs.Waiting.{IsWaiting};
+ghost use Rattle.farm_nodes_node.specs.Texts.{pass_texts};
 ghost use Rattle.farm_nodes_joining.specs.Joined.{AreHeld};
 ghost use Rattle.farm_nodes_joining.specs.Words.{generators};
 
@@ -84,7 +85,7 @@ where
     D: Disk + Drop,
     O: Drop,
     H: Naming,
-    requires held { AreHeld D.is_honest D.seen D.may_leave (λ j. j.0) (λ s. fours_of s.items) journals.items seats.items }
+    requires held { AreHeld pass_texts D.is_honest D.seen D.may_leave (λ j. j.0) (λ s. fours_of s.items) journals.items seats.items }
     requires functions { All (λ s. length s.items ≡ length (arc_value program.now).functions) seats.items }
     requires oracles { length oracles.items ≡ length journals.items }
 

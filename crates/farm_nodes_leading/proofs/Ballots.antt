@@ -14,7 +14,7 @@ use Rattle.paxos_core_law.specs.declared.step.Step.TheVariants as step
 use Rattle.rooms_rule.specs.declared.proposer.ProposerWord.{ProposerWord}
 use Rattle.rooms_state.specs.declared.act.Act.TheVariants as act
 use Rattle.rooms_state.specs.SeatState.{SeatState, proposer_of}
-use Rattle.rooms_state.specs.Would.{would, Acted, IsUnderWay}
+use Rattle.rooms_state.specs.Would.{would, Acted, IsStarted}
 use Rattle.farm_nodes_leading.specs.Leading.{may_start, is_passed, HasLed, LeavesAll}
 use Rattle.farm_nodes_acting.specs.Quiet.{IsQuiet}
 use Rattle.farm_nodes_acting.proofs.Answering.{IsPast, left_quiet, quiet_left, did_of, word_same}
@@ -75,7 +75,7 @@ led_if s t None e acted =
     inr (inl (ap (λ (u : SeatState). would u act.Start) (acted.idle none) ∙ none))
 led_if s t (Some b) e acted =
     let told : would s act.Start ≡ Some (step.Start b) = ap told_start e in
-    let way = subst (λ (o : Option Step). IsUnderWay o t) told acted.under_way in
+    let way = subst (λ (o : Option Step). IsStarted o t) told acted.under_way in
     let low : t.node.kept.promised < b = way.1 in
     let most : t.node.kept.promised ≤ b = omega arith in
     inr (inr (subst (λ (o : Option ℕ). IsSomeAnd o (λ (c : ℕ). t.node.kept.promised ≤ c)) (sym way.0) most))

@@ -29,7 +29,7 @@ pub record LeavesAll (old new : SeatState) : Type 0 where
   pub kept : new.node.kept ≡ with_start new.node.kept.started old.node.kept
 
 -- what taking part leaves of a seat: the room, its node and its offer, and what it had learned
-pub record Remains (old new : SeatState) : Type 0 where
+pub record StaysInRoom (old new : SeatState) : Type 0 where
   pub table : new.table ≡ old.table
   pub me : new.node.me ≡ old.node.me
   pub quorums : new.node.quorums ≡ old.node.quorums

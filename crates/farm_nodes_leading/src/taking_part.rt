@@ -8,7 +8,7 @@ ghost use Rattle.farm_nodes_acting.specs.Served.{IsServed};
 ghost use Rattle.farm_nodes_acting.specs.Journalled.{Journalled};
 ghost use Rattle.farm_nodes_acting.specs.Cause.{HasCause};
 ghost use Rattle.farm_nodes_acting.specs.Quiet.{IsQuiet};
-ghost use Rattle.farm_nodes_leading.specs.Leading.{HasLed, Remains};
+ghost use Rattle.farm_nodes_leading.specs.Leading.{HasLed, StaysInRoom};
 
 use crate::leading::{either, lead};
 use acceptor_log::Log;
@@ -27,7 +27,7 @@ pub fn take_part<D: Disk>(
     requires { IsSound D.is_honest D.seen D.may_leave log.old }
     ensures served { IsServed D.is_honest D.seen D.may_leave D.faults log.old log.new }
     ensures going { IfOk result (λ moved. log.new.going ≡ log.old.going) }
-    ensures remains { Remains seat.old seat.new }
+    ensures remains { StaysInRoom seat.old seat.new }
 
     // Nothing is left to accept, to promise or to propose, and it has led if it was to.
     ensures quiet { OnOk result ((j : ℕ) → j < seat.new.node.quorums.nodes → IsQuiet j seat.new) }

@@ -2,5 +2,6 @@ mod Lists
 mod Wanting
 mod Beside
 mod Exits
-mod Alike
+pub mod Alike
+pub mod Kept
 pub use Rattle.farm_nodes_meeting.proofs.Sent

@@ -3,19 +3,21 @@
 ghost use Rattle.c_checker_rules.specs.Checked.{program_tree};
 ghost use Rattle.cminor_lowering.specs.Programs.{low};
 ghost use Rattle.rtlgen_definition.specs.Gen.{gen};
-ghost use Rattle.farm_nodes_linked.specs.Alike.{HaveCountedAll, LinkOne};
+ghost use Rattle.farm_nodes_linked.specs.Alike.{HaveCounted, HaveCountedAll, LinkOne};
 
 use c_checker_rules::CProgram;
 use farm_nodes_node::FarmNode;
 use rooms_hall::Naming;
 
-/// Two nodes that have met, and of whose functions all were counted, link one program: neither is undecided, and where `linked`
-/// answers a program of both it is the same.
+/// Two nodes that met, all functions being counted, link one program, whatever they met since: neither is undecided, and where
+/// `linked` answers a program of both it is the same.
 pub fn one_program<D, O, H: Naming>(
     program: &CProgram,
     first: &FarmNode<D, O, H>,
     second: &FarmNode<D, O, H>,
 )
-    ensures { HaveCountedAll first.now.seats.items second.now.seats.items →
+    ensures now { HaveCountedAll first.now.seats.items second.now.seats.items →
+        HaveCounted first.now.seats.items second.now.seats.items }
+    ensures one { HaveCounted first.now.seats.items second.now.seats.items →
         LinkOne (gen (low (program_tree program.now))) first.now.seats.items second.now.seats.items }
 {}

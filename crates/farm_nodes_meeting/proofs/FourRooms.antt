@@ -8,7 +8,7 @@ use Rattle.farm_nodes_passes.specs.FunctionOf.{AreAsBefore, HaveMetIn, IsSameFun
 use Rattle.farm_nodes_passes.specs.Offers.{Constants, Expressions, Allocation, Order}
 use Rattle.farm_nodes_meeting.specs.Held.{Held, held}
 use Rattle.farm_nodes_meeting.specs.Learned.{learned_offer}
-use Rattle.farm_nodes_meeting.specs.Functions.{AreOne, BothLink, HasAll, HoldSame, MetIn, HasMet}
+use Rattle.farm_nodes_meeting.specs.Functions.{AreOne, BothLink, HasAll, HoldSameOffers, MetIn, HasMet}
 use Rattle.farm_nodes_meeting.proofs.Rooms.{met_apart, met_there, one_held}
 
 and_told : (p q : Bool) (P Q : Type 0) → (IsTrue p ↔ P) → (IsTrue q ↔ Q) → IsTrue (p && q) ↔ (P × Q)
@@ -22,7 +22,7 @@ both_told p q told P Q is is' all =
     (λ e. both.0 (sym all ∙ e), λ held. all ∙ both.1 held)
 
 module _ {T1 T2 T3 T4 : Type 0} (s t s' t' : Held T1 T2 T3 T4) (met : MetIn s t s' t') where
-  pub same_held : BothLink s' t' → HoldSame s' t'
+  pub same_held : BothLink s' t' → HoldSameOffers s' t'
   same_held link = record {
     first = one_held s.first t.first s'.first t'.first met.first link.first;
     second = one_held s.second t.second s'.second t'.second met.second link.second;

@@ -27,7 +27,7 @@ module _ {T1 T2 T3 T4 : Type 0} where
     pub fourth : IsSome (learned_offer s.fourth.seat)
 
   -- they hold the same four learned offers, so the same code
-  pub record HoldSame (s t : Held T1 T2 T3 T4) : Type 0 where
+  pub record HoldSameOffers (s t : Held T1 T2 T3 T4) : Type 0 where
     pub first : learned_offer s.first.seat ≡ learned_offer t.first.seat
     pub second : learned_offer s.second.seat ≡ learned_offer t.second.seat
     pub third : learned_offer s.third.seat ≡ learned_offer t.third.seat
@@ -44,4 +44,4 @@ module _ {T1 T2 T3 T4 : Type 0} where
   pub record HasMet (s t s' t' : Held T1 T2 T3 T4) (told : Bool) : Type 0 where
     pub met : MetIn s t s' t'
     pub link : IsTrue told ↔ BothLink s' t'
-    pub same : BothLink s' t' → HoldSame s' t'
+    pub same : BothLink s' t' → HoldSameOffers s' t'

@@ -1,7 +1,7 @@
 -- Two nodes that have met: by functions, what a node holds of each.
 use Rattle.std.specs.Prelude.{◌≡◌, ◌≢◌, ℕ, ◌<◌, List, length, slice_get, Some}
 use Rattle.farm_nodes_meeting.specs.Counts.{IsCount}
-use Rattle.farm_nodes_meeting.specs.Functions.{AreOne, BothLink, HoldSame, MetIn}
+use Rattle.farm_nodes_meeting.specs.Functions.{AreOne, BothLink, HoldSameOffers, MetIn}
 use Rattle.farm_nodes_meeting.specs.Held.{Held}
 
 -- so it is of what both hold at this place
@@ -32,5 +32,5 @@ pub record HaveMetAll {S T1 T2 T3 T4 : Type 0} (xs ys xs' ys' : List S) (count :
   pub met : length xs ≡ length ys → AreAll (λ a b a' b'. MetIn (view a) (view b) (view a') (view b')) xs ys xs' ys'
   pub counted : length xs ≡ length ys → IsCount (LinkAt view xs' ys') (length xs) count
   pub all : length xs ≡ length ys → count ≡ length xs → (k : ℕ) → k < length xs → LinkAt view xs' ys' k
-  pub same : length xs ≡ length ys → (k : ℕ) → LinkAt view xs' ys' k → IsAt (λ a b. HoldSame (view a) (view b)) xs' ys' k
+  pub same : length xs ≡ length ys → (k : ℕ) → LinkAt view xs' ys' k → IsAt (λ a b. HoldSameOffers (view a) (view b)) xs' ys' k
   pub none : ((k : ℕ) → k < length xs → IsOneAt view xs ys k → ⊥) → count ≡ 0

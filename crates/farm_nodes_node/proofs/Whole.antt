@@ -22,12 +22,14 @@ use Rattle.farm_nodes_node.specs.declared.halted.Halted.{Halted}
 use Rattle.farm_nodes_turn.specs.Which.{Which}
 use Rattle.farm_nodes_turn.specs.Which.TheVariants.{First, Second, Third, Fourth}
 use Rattle.farm_nodes_turn.specs.Fours.{Four, words_of}
+use Rattle.farm_nodes_turn.specs.Told.{TellNew}
+use Rattle.farm_nodes_turn.specs.Texts.{Texts, IsOwnTextIn}
 use Rattle.farm_nodes_turn.specs.Turned.{OthersStay, StaysIn}
 use Rattle.farm_nodes_node.specs.Told.{failure_of, turn_of}
 use Rattle.farm_nodes_turn.specs.Leaves.{Leave, left_in}
-use Rattle.farm_nodes_node.specs.Held.{pending_in, AreSeatsOf, AreUnproposed, IsSoundNode}
+use Rattle.farm_nodes_node.specs.Held.{pending_in, AreSeatsOf, AreUnproposed, IsSoundBy}
 use Rattle.farm_nodes_turn.specs.Turns.{PlayedIn}
-use Rattle.farm_nodes_node.specs.Stood.{TurnsInto}
+use Rattle.farm_nodes_node.specs.Stood.{TurnsBy}
 use Rattle.farm_nodes_turn.proofs.Places.{found, map_at, map_length, map_same}
 use Rattle.farm_nodes_node.proofs.Standings.{stands_turned, turned_rooms, turns_into}
 
@@ -60,25 +62,18 @@ stays_node Second s t stays = record { me = stays.me; quorums = stays.quorums }
 stays_node Third s t stays = record { me = stays.me; quorums = stays.quorums }
 stays_node Fourth s t stays = record { me = stays.me; quorums = stays.quorums }
 
-module _ {D X T1 T2 T3 T4 : Type 0} (is_honest : D → Type 0) (seen : D → List ℕ) (may_leave : D → List ℕ → Type 0) (moment : D → ℕ)
+module _ {D X T1 T2 T3 T4 : Type 0} (texts : Texts T1 T2 T3 T4) (is_honest : D → Type 0) (seen : D → List ℕ) (may_leave : D → List ℕ → Type 0) (moment : D → ℕ)
     (left_since : D → ℕ → List ℕ → Type 0) (faults : D → ℕ) (f : X → Four T1 T2 T3 T4) (old new : Log D) (room : ℕ) (xs ys : List X) (was : Option Halted)
-    (served : IsServed is_honest seen may_leave faults old new) (sound : IsSoundNode is_honest seen may_leave old (map f xs) was)
+    (served : IsServed is_honest seen may_leave faults old new) (sound : IsSoundBy texts is_honest seen may_leave old (map f xs) was)
     (low : function_of room < length xs) (none : was ≡ None) (count : length ys ≡ length xs)
     (others : (g : ℕ) → g ≢ function_of room → slice_get ys g ≡ slice_get xs g)
     (stay : (x y : X) → slice_get xs (function_of room) ≡ Some x → slice_get ys (function_of room) ≡ Some y → OthersStay (pass_of room) (f x) (f y))
-    (numbers : (x y : X) → slice_get xs (function_of room) ≡ Some x → slice_get ys (function_of room) ≡ Some y → IsOfOneNode (words_of (f x) (pass_of room)) (words_of (f y) (pass_of room))) where
-  stood : is_honest old.disk → Leave (map f xs) (acknowledged seen old)
-  stood honest = let u = sound.upto honest in subst (λ (rs : List Record). Leave (map f xs) rs) (u.2 none) u.1.leave
+    (stays : (x y : X) → slice_get xs (function_of room) ≡ Some x → slice_get ys (function_of room) ≡ Some y → StaysIn (pass_of room) (f x) (f y)) where
+  numbers : (x y : X) → slice_get xs (function_of room) ≡ Some x → slice_get ys (function_of room) ≡ Some y → IsOfOneNode (words_of (f x) (pass_of room)) (words_of (f y) (pass_of room))
+  numbers x y p q = stays_node (pass_of room) (f x) (f y) (stays x y p q)
 
-  stands_now : (x y : X) → slice_get xs (function_of room) ≡ Some x → slice_get ys (function_of room) ≡ Some y → (upto pending : List Record)
-      → Advances seen may_leave moment left_since old new room (words_of (f x) (pass_of room)) (words_of (f y) (pass_of room)) upto pending
-      → is_honest old.disk → Leave (map f ys) upto
-  stands_now x y p q upto pending advances honest =
-      let first : length (map f xs) ≡ length xs = map_length f xs in
-      stands_turned room (map f xs) (map f ys) (f x) (f y)
-      (map_at f xs (function_of room) x p) (map_at f ys (function_of room) y q)
-      (λ g other. map_same f ys xs g (others g other)) (stay x y p q) (acknowledged seen old) upto advances.kept advances.others (stood honest)
-      (subst (λ (n : ℕ). function_of room < n) (sym first) low) (map_length f ys ∙ (count ∙ sym first))
+  stood : is_honest old.disk → Leave texts (map f xs) (acknowledged seen old)
+  stood honest = let u = sound.upto honest in subst (λ (rs : List Record). Leave texts (map f xs) rs) (u.2 none) u.1.leave
 
   stood_named : is_honest old.disk → AreOf (4 * length xs) (acknowledged seen old)
   stood_named honest =
@@ -127,9 +122,23 @@ module _ {D X T1 T2 T3 T4 : Type 0} (is_honest : D → Type 0) (seen : D → Lis
 
   module _ (honest : is_honest old.disk) (x y : X) (p : slice_get xs (function_of room) ≡ Some x) (q : slice_get ys (function_of room) ≡ Some y) (halted : Option Halted) (upto pending : List Record)
       (advances : Advances seen may_leave moment left_since old new room (words_of (f x) (pass_of room)) (words_of (f y) (pass_of room)) upto pending)
+      (told : TellNew (IsOwnTextIn texts (pass_of room) (f y)) room (words_of (f x) (pass_of room)) (words_of (f y) (pass_of room)) (acknowledged seen old) upto)
       (same : pending ≡ pending_in (map f ys) halted) where
     low_room : room < 4 * length xs
     low_room = omega arith
+
+    -- what the node keeps, and has offered
+    stands_now : Leave texts (map f ys) upto
+    stands_now =
+        let first : length (map f xs) ≡ length xs = map_length f xs in
+        let before = ordered honest x p in
+        stands_turned room (map f xs) (map f ys) (f x) (f y)
+        (map_at f xs (function_of room) x p) (map_at f ys (function_of room) y q)
+        (λ g other. map_same f ys xs g (others g other)) (stay x y p q) texts (acknowledged seen old) upto (stood honest) (stays x y p q)
+        (words_of (f y) (pass_of room)).node.quorums.nodes (words_of (f y) (pass_of room)).node.me (4 * length xs)
+        (advances.order (4 * length xs) low_room before).0.in_order advances.longer (told (4 * length xs) low_room before)
+        advances.kept advances.others
+        (subst (λ (n : ℕ). function_of room < n) (sym first) low) (map_length f ys ∙ (count ∙ sym first))
 
     order_now : AreInOrder new.header.nodes new.header.node (4 * length (map f ys)) (upto ++ pending_in (map f ys) halted)
     order_now =
@@ -152,34 +161,34 @@ module _ {D X T1 T2 T3 T4 : Type 0} (is_honest : D → Type 0) (seen : D → Lis
         (λ m w other fresh. subst (λ (l : ℕ). IsUnproposed l w) (sym (advances.proposals m other)) fresh)
         (λ m u e. let before = sound.upto honest in subst (λ (rs : List Record). IsUnproposed (proposed_in rs m) (words_of u (pass_of m))) (before.2 none) (before.1.unproposed m u e))
 
-    turned : (halted ≡ None → upto ≡ acknowledged seen new) → TurnsInto seen may_leave moment left_since old new (map f ys) halted
+    turned : (halted ≡ None → upto ≡ acknowledged seen new) → TurnsBy texts seen may_leave moment left_since old new (map f ys) halted
     turned all =
-        turns_into seen may_leave moment left_since old new (map f ys) halted room (words_of (f x) (pass_of room)) (words_of (f y) (pass_of room)) upto pending
-        served.header advances same (stands_now x y p q upto pending advances honest)
+        turns_into texts seen may_leave moment left_since old new (map f ys) halted room (words_of (f x) (pass_of room)) (words_of (f y) (pass_of room)) upto pending
+        served.header advances same stands_now
         (named_now (words_of (f x) (pass_of room)) (words_of (f y) (pass_of room)) upto pending advances honest) order_now unproposed_now all
 
   pub into : (result : Result Progress Halt)
       → (is_honest old.disk → old.going ≡ true → (x y : X) → slice_get xs (function_of room) ≡ Some x → slice_get ys (function_of room) ≡ Some y
-      → PlayedIn is_honest seen may_leave moment left_since old new room result (f x) (f y))
-      → is_honest old.disk → TurnsInto seen may_leave moment left_since old new (map f ys) (halted_by room result)
+      → PlayedIn texts is_honest seen may_leave moment left_since old new room result (f x) (f y))
+      → is_honest old.disk → TurnsBy texts seen may_leave moment left_since old new (map f ys) (halted_by room result)
   into (Ok progress) journal honest =
       let x = found xs (function_of room) low in
       let y = found ys (function_of room) (subst (λ (n : ℕ). function_of room < n) (sym count) low) in
       let played = journal honest (sound.going none) x.0 y.0 x.1 y.1 in
-      turned honest x.0 y.0 x.1 y.1 None (acknowledged seen new) [] played.1.advances refl (λ e. refl)
+      turned honest x.0 y.0 x.1 y.1 None (acknowledged seen new) [] played.1.advances played.2 refl (λ e. refl)
   into (Err halt) journal honest =
       let x = found xs (function_of room) low in
       let y = found ys (function_of room) (subst (λ (n : ℕ). function_of room < n) (sym count) low) in
       let left = journal honest (sound.going none) x.0 y.0 x.1 y.1 in
-      turned honest x.0 y.0 x.1 y.1 (Some (record { room = room; halt = halt })) left.0 (left_over room (words_of (f y.0) (pass_of room)) halt.pending) left.1
+      turned honest x.0 y.0 x.1 y.1 (Some (record { room = room; halt = halt })) left.0 (left_over room (words_of (f y.0) (pass_of room)) halt.pending) left.1 left.2
       (sym (ap (λ (o : Option (Four T1 T2 T3 T4)). left_in o room halt.pending) (map_at f ys (function_of room) y.0 y.1)))
       (λ e. absurd (cc))
 
   pub sound_now : (result : Result Progress Halt)
       → (is_honest old.disk → old.going ≡ true → (x y : X) → slice_get xs (function_of room) ≡ Some x → slice_get ys (function_of room) ≡ Some y
-      → PlayedIn is_honest seen may_leave moment left_since old new room result (f x) (f y))
+      → PlayedIn texts is_honest seen may_leave moment left_since old new room result (f x) (f y))
       → IfOk result (λ progress. new.going ≡ old.going)
-      → IsSoundNode is_honest seen may_leave new (map f ys) (halted_by room result)
+      → IsSoundBy texts is_honest seen may_leave new (map f ys) (halted_by room result)
   sound_now (Ok progress) journal went = record {
     journal = served.sound;
     going = λ e. went ∙ sound.going none;
@@ -195,12 +204,12 @@ module _ {D X T1 T2 T3 T4 : Type 0} (is_honest : D → Type 0) (seen : D → Lis
 
   pub told_now : (progress : Progress)
       → (is_honest old.disk → old.going ≡ true → (x y : X) → slice_get xs (function_of room) ≡ Some x → slice_get ys (function_of room) ≡ Some y
-      → PlayedIn is_honest seen may_leave moment left_since old new room (Ok progress) (f x) (f y))
+      → PlayedIn texts is_honest seen may_leave moment left_since old new room (Ok progress) (f x) (f y))
       → is_honest old.disk → (x y : X) → slice_get xs (function_of room) ≡ Some x → slice_get ys (function_of room) ≡ Some y
       → turn_of progress ≡ turn_of (progress_of (words_of (f x) (pass_of room)).node.learned (words_of (f y) (pass_of room)).node.learned (ltb (length (acknowledged seen old)) (length (acknowledged seen new))))
   told_now progress journal honest x y p q =
       let played = journal honest (sound.going none) x y p q in
-      ap turn_of (played.2 ∙ ap (λ (m : Bool). progress_of (words_of (f x) (pass_of room)).node.learned (words_of (f y) (pass_of room)).node.learned m) played.1.moved)
+      ap turn_of (played.3 ∙ ap (λ (m : Bool). progress_of (words_of (f x) (pass_of room)).node.learned (words_of (f y) (pass_of room)).node.learned m) played.1.moved)
 
 -- the cause, with the pending record as the stopped node tells it
 pub stops_for : {D X T1 T2 T3 T4 : Type 0} (is_honest : D → Type 0) (faults : D → ℕ) (f : X → Four T1 T2 T3 T4) (TooLarge : Type 0) (old new : Log D) (room : ℕ) (ys : List X) (halt : Halt) (y : X)

@@ -13,6 +13,8 @@ use Rattle.farm_nodes_turn.specs.Fault.{Fault}
 use Rattle.farm_nodes_node.specs.declared.halted.Halted.{Halted}
 use Rattle.farm_nodes_order.specs.Ordered.{IsUnproposed}
 use Rattle.farm_nodes_turn.specs.Fours.{Four, words_of}
+use Rattle.farm_nodes_turn.specs.Offers.{Constants, Expressions, Allocation, Order}
+use Rattle.farm_nodes_turn.specs.Texts.{Texts, pass_texts}
 use Rattle.farm_nodes_turn.specs.Numbers.{function_of, pass_of}
 use Rattle.farm_nodes_turn.specs.Leaves.{Leave, pending_at}
 
@@ -35,11 +37,11 @@ module _ {T1 T2 T3 T4 : Type 0} where
   abbrev pub AreUnproposed : List (Four T1 T2 T3 T4) → List Record → Type 0
   AreUnproposed seats rs = (m : ℕ) (s : Four T1 T2 T3 T4) → slice_get seats (function_of m) ≡ Some s → IsUnproposed (proposed_in rs m) (words_of s (pass_of m))
 
-  -- The journal stands for what the node keeps, with the pending record or without, and names no room but the seats'. Its records
+  -- The journal stands for what the node keeps and has offered, with the pending record or without, and names no room but the seats'. Its records
   -- are in order, the pending one behind them too, and no seat proposes anything again.
-  pub record IsJournalOf {D : Type 0} (may_leave : D → List ℕ → Type 0) (log : Log D) (seats : List (Four T1 T2 T3 T4))
+  pub record IsJournalOf {D : Type 0} (texts : Texts T1 T2 T3 T4) (may_leave : D → List ℕ → Type 0) (log : Log D) (seats : List (Four T1 T2 T3 T4))
       (halted : Option Halted) (upto : List Record) : Type 0 where
-    pub leave : Leave seats upto
+    pub leave : Leave texts seats upto
     pub named : AreOf (4 * length seats) upto
     pub in_order : AreInOrder log.header.nodes log.header.node (4 * length seats) (upto ++ pending_in seats halted)
     pub unproposed : AreUnproposed seats upto
@@ -47,10 +49,15 @@ module _ {T1 T2 T3 T4 : Type 0} where
 
   -- A node that may be asked: its journal may be used and stands for what it keeps, its seats are its own; where it is not stopped, the journal goes on,
   -- and has acknowledged just that.
-  pub record IsSoundNode {D : Type 0} (is_honest : D → Type 0) (seen : D → List ℕ) (may_leave : D → List ℕ → Type 0)
+  pub record IsSoundBy {D : Type 0} (texts : Texts T1 T2 T3 T4) (is_honest : D → Type 0) (seen : D → List ℕ) (may_leave : D → List ℕ → Type 0)
       (log : Log D) (seats : List (Four T1 T2 T3 T4)) (halted : Option Halted) : Type 0 where
     pub journal : journal.IsSound is_honest seen may_leave log
     pub going : halted ≡ None → log.going ≡ true
     pub own : AreSeatsOf log.header seats
     pub upto : is_honest log.disk → (upto : List Record)
-        × IsJournalOf may_leave log seats halted upto × (halted ≡ None → upto ≡ acknowledged seen log)
+        × IsJournalOf texts may_leave log seats halted upto × (halted ≡ None → upto ≡ acknowledged seen log)
+
+-- the same with the texts of the passes' offers as they are
+abbrev pub IsSoundNode : {D : Type 0} → (D → Type 0) → (D → List ℕ) → (D → List ℕ → Type 0) → Log D
+    → List (Four Constants Expressions Allocation Order) → Option Halted → Type 0
+IsSoundNode is_honest seen may_leave log seats halted = IsSoundBy pass_texts is_honest seen may_leave log seats halted

@@ -10,5 +10,6 @@ pub use Rattle.farm_nodes_turn.specs.Numbers
 pub use Rattle.farm_nodes_turn.specs.Which
 pub use Rattle.farm_nodes_turn.specs.Offers
 pub use Rattle.farm_nodes_turn.specs.Pending
+pub use Rattle.farm_nodes_turn.specs.Texts
 pub use Rattle.farm_nodes_turn.specs.Seats
 pub use Rattle.farm_nodes_turn.specs.Played

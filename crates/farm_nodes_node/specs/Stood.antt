@@ -10,6 +10,8 @@ use Rattle.farm_nodes_turn.specs.Halted.{HasHaltCause}
 use Rattle.farm_nodes_turn.specs.Played.{progress_of}
 use Rattle.farm_nodes_turn.specs.Which.{Which}
 use Rattle.farm_nodes_turn.specs.Fours.{Four, words_of}
+use Rattle.farm_nodes_turn.specs.Offers.{Constants, Expressions, Allocation, Order}
+use Rattle.farm_nodes_turn.specs.Texts.{Texts, pass_texts}
 use Rattle.farm_nodes_node.specs.declared.halted.Halted.{Halted}
 use Rattle.farm_nodes_node.specs.declared.turn.Turn.{Turn}
 use Rattle.farm_nodes_node.specs.Held.{IsJournalOf, pending_in}
@@ -34,11 +36,16 @@ module _ {D T1 T2 T3 T4 : Type 0} where
   -- From the old journal, which stood for what the node kept, to the new one: that stands for what it keeps now, as the records do
   -- that were acknowledged before and a list of this turn's behind them. A crash at any moment of the turn leaves the journal from
   -- before with a beginning of those and of the pending one.
-  pub record TurnsInto (seen : D → List ℕ) (may_leave : D → List ℕ → Type 0) (moment : D → ℕ)
+  pub record TurnsBy (texts : Texts T1 T2 T3 T4) (seen : D → List ℕ) (may_leave : D → List ℕ → Type 0) (moment : D → ℕ)
       (left_since : D → ℕ → List ℕ → Type 0) (old new : Log D) (seats : List (Four T1 T2 T3 T4)) (halted : Option Halted) : Type 0 where
     pub upto : List Record
     pub longer : Begins (acknowledged seen old) upto
-    pub stands : IsJournalOf may_leave new seats halted upto
+    pub stands : IsJournalOf texts may_leave new seats halted upto
     pub all : halted ≡ None → upto ≡ acknowledged seen new
     pub any_moment : LeavesOnly moment left_since old.disk new.disk
         (Between old.header (acknowledged seen old) (upto ++ pending_in seats halted))
+
+-- the same with the texts of the passes' offers as they are
+abbrev pub TurnsInto : {D : Type 0} → (D → List ℕ) → (D → List ℕ → Type 0) → (D → ℕ) → (D → ℕ → List ℕ → Type 0) → Log D → Log D
+    → List (Four Constants Expressions Allocation Order) → Option Halted → Type 0
+TurnsInto seen may_leave moment left_since old new seats halted = TurnsBy pass_texts seen may_leave moment left_since old new seats halted

@@ -1,5 +1,6 @@
 -- What a call leaves of the journal that does nothing, that offers, or that halts.
-use Rattle.std.proofs.Common.{◌≡◌, ℕ, Bool, false, List, [], sym, ap, ◌∙◌, subst}
+use Rattle.std.proofs.Common.{◌≡◌, ℕ, ◌<◌, Bool, true, false, List, [], ◌∷◌, ◌++◌, Option, Some, sym, ap, ◌∙◌, subst}
+use Rattle.paxos_core_world.specs.KeptPart.{KeptPart}
 use Rattle.acceptor_log_form.specs.declared.errors.LogError.{LogError}
 use Rattle.acceptor_log_form.specs.declared.errors.LogError.TheVariants as log
 use Rattle.acceptor_log_form.specs.declared.record.Record.{Record}
@@ -10,18 +11,21 @@ use Rattle.acceptor_log_form.specs.Order.{GoesOn}
 use Rattle.acceptor_log.specs.declared.log.Log.{Log}
 use Rattle.acceptor_log.specs.Acknowledged.{acknowledged, IsReady}
 use Rattle.farm_nodes_acting.specs.SeatState.{SeatState}
-use Rattle.rooms.specs.SeatValue.{SeatValue}
+use Rattle.rooms.specs.SeatValue.{SeatValue, offer_of}
 use Rattle.farm_nodes_acting.specs.Cause.{HasCause}
 use Rattle.farm_nodes_acting.specs.Ordered.{IsUnproposed}
 use Rattle.farm_nodes_acting.proofs.Orders.{Follows}
 use Rattle.farm_nodes_acting.proofs.Results.{Grown}
 use Rattle.farm_nodes_acting.proofs.Runs.{none, then}
 use Rattle.farm_nodes_acting.proofs.Steps.{no_more}
-use Rattle.farm_nodes_offers.specs.Halted.{HasLeft, HasHaltCause, fault_of}
-use Rattle.farm_nodes_offers.specs.Offered.{HasOffered}
+use Rattle.farm_nodes_acting.specs.Advances.{Advances}
+use Rattle.farm_nodes_order.proofs.Told.{offer_own, offer_stays}
+use Rattle.farm_nodes_offers.specs.Halted.{HasLeft, HasHaltCause, fault_by_journal}
+use Rattle.farm_nodes_offers.specs.Told.{offer_by, offer_in, IsOwnText, TellNew}
+use Rattle.farm_nodes_offers.specs.Offered.{PutsOffer}
 
 -- what a node's offer leaves of the room is what its record leaves of it
-pub offer_kept : {T : Type 0} (room : ℕ) (text : List ℕ) (x : T) (r : Record) (s t : SeatValue T) → r ≡ Offered room text → HasOffered x s t → kept_by s.words.node.kept r ≡ t.words.node.kept
+pub offer_kept : {T : Type 0} (room : ℕ) (text : List ℕ) (x : T) (r : Record) (s t : SeatValue T) → r ≡ Offered room text → PutsOffer x s t → kept_by s.words.node.kept r ≡ t.words.node.kept
 offer_kept room text x r s t is has =
     ap (λ (q : Record). kept_by s.words.node.kept q) is ∙ sym (ap (λ (u : SeatState). u.node.kept) has.words)
 
@@ -31,7 +35,7 @@ pub offer_goes : {T : Type 0} (room : ℕ) (text : List ℕ) (r : Record) (s : S
 offer_goes room text r s is first last =
     subst (λ (q : Record). GoesOn s.words.node.quorums.nodes s.words.node.me s.words.node.kept last q) (sym is) first
 
-pub offer_follows : {T : Type 0} (room : ℕ) (text : List ℕ) (x : T) (r : Record) (s t : SeatValue T) → r ≡ Offered room text → HasOffered x s t → Follows room s.words t.words r
+pub offer_follows : {T : Type 0} (room : ℕ) (text : List ℕ) (x : T) (r : Record) (s t : SeatValue T) → r ≡ Offered room text → PutsOffer x s t → Follows room s.words t.words r
 offer_follows room text x r s t is has = record {
   own = ap room_of is;
   step = offer_kept room text x r s t is has;
@@ -46,9 +50,26 @@ offer_follows room text x r s t is has = record {
 pub same_words : {T : Type 0} (s t : SeatValue T) → t ≡ s → t.words ≡ s.words
 same_words s t e = ap (λ u. u.words) e
 
+-- no offer was made
+pub tell_same : (Is : List ℕ → Type 0) (room : ℕ) (s t : SeatState) (before upto : List Record) → t ≡ s → TellNew Is room s t before upto
+tell_same Is room s t before upto same rooms low ordered first now =
+    let bad : true ≡ false = sym now ∙ (ap (λ (u : SeatState). u.node.kept.offered) same ∙ first) in absurd (cc)
+
+pub tell_none : (Is : List ℕ → Type 0) (room : ℕ) (s : SeatState) (before upto : List Record) → TellNew Is room s s before upto
+tell_none Is room s before upto rooms low ordered first now = let bad : true ≡ false = sym now ∙ first in absurd (cc)
+
+-- the offer's record tells its text
+pub tell_offered : {T : Type 0} (IsText : List ℕ → T → Type 0) (room : ℕ) (text : List ℕ) (x : T) (r : Record) (s t : SeatValue T) (before upto : List Record)
+    → r ≡ Offered room text → PutsOffer x s t → IsText text x → upto ≡ before ++ r ∷ [] → TellNew (IsOwnText IsText t) room s.words t.words before upto
+tell_offered {T} IsText room text x r s t before upto is has told added rooms low ordered first now = (
+  text,
+  ap (λ (l : List Record). offer_in l room) added ∙ (offer_own before r room (ap room_of is) ∙ ap (λ (q : Record). offer_by (offer_in before room) q) is),
+  (x, ap (λ (u : SeatState). offer_of t u.node.me) has.words ∙ has.own, told),
+)
+
 -- the journal's cause is a cause of the fault that its answer is
 pub halt_cause : {D : Type 0} (is_honest : D → Type 0) (faults : D → ℕ) (TooLarge : Type 0) (old new : Log D) (pending : List Record) (e : LogError)
-    → HasCause is_honest faults old new pending e → HasHaltCause is_honest faults TooLarge old new pending (fault_of e)
+    → HasCause is_honest faults old new pending e → HasHaltCause is_honest faults TooLarge old new pending (fault_by_journal e)
 halt_cause is_honest faults TooLarge old new pending log.NoMemory cause = tt
 halt_cause is_honest faults TooLarge old new pending log.Device cause = cause
 halt_cause is_honest faults TooLarge old new pending log.NotAJournal cause = cause
@@ -58,8 +79,8 @@ halt_cause is_honest faults TooLarge old new pending log.Stopped cause = cause
 halt_cause is_honest faults TooLarge old new pending log.Full cause = cause
 
 module _ {D : Type 0} (is_honest : D → Type 0) (seen : D → List ℕ) (may_leave : D → List ℕ → Type 0) (moment : D → ℕ) (left_since : D → ℕ → List ℕ → Type 0) where
-  abbrev pub Left : Log D → Log D → ℕ → SeatState → SeatState → List Record → Type 0
-  Left old new room s t pending = HasLeft seen may_leave moment left_since old new room s t pending
+  abbrev pub Left : (List ℕ → Type 0) → Log D → Log D → ℕ → SeatState → SeatState → List Record → Type 0
+  Left Is old new room s t pending = HasLeft Is seen may_leave moment left_since old new room s t pending
 
   -- nothing was done
   pub idle_grown : (log : Log D) (room : ℕ) (s : SeatState) → IsReady is_honest seen may_leave log
@@ -71,13 +92,41 @@ module _ {D : Type 0} (is_honest : D → Type 0) (seen : D → List ℕ) (may_le
     moved = no_more (acknowledged seen log);
   }
 
-  pub nothing_left : (log : Log D) (room : ℕ) (s : SeatState) → IsReady is_honest seen may_leave log
+  pub nothing_left : (Is : List ℕ → Type 0) (log : Log D) (room : ℕ) (s : SeatState) → IsReady is_honest seen may_leave log
       → ((c : List ℕ) → left_since log.disk (moment log.disk) c → may_leave log.disk c)
-      → Left log log room s s []
-  nothing_left log room s ready now = (acknowledged seen log, none seen may_leave moment left_since is_honest log room s ready now)
+      → Left Is log log room s s []
+  nothing_left Is log room s ready now = (acknowledged seen log, none seen may_leave moment left_since is_honest log room s ready now, tell_none Is room s (acknowledged seen log) (acknowledged seen log))
+
+  -- a call that makes no offer leaves what was told of one
+  tell_on : (Is Now : List ℕ → Type 0) (old mid new : Log D) (room : ℕ) (s m t : SeatState) (upto pending : List Record)
+      → Advances seen may_leave moment left_since old mid room s m (acknowledged seen mid) [] → Advances seen may_leave moment left_since mid new room m t upto pending
+      → t.node.kept.offered ≡ m.node.kept.offered → ((text : List ℕ) → Is text → Now text) → TellNew Is room s m (acknowledged seen old) (acknowledged seen mid)
+      → TellNew Now room s t (acknowledged seen old) upto
+  tell_on Is Now old mid new room s m t upto pending first second same stays told rooms low ordered before now =
+      let had : m.node.kept.offered ≡ true = sym same ∙ now in
+      let is = told rooms low ordered before had in
+      let between = (first.order rooms low ordered).0 in
+      let after = (second.order rooms low between).0 in (
+        is.0,
+        offer_stays t.node.quorums.nodes t.node.me rooms room (acknowledged seen mid) upto second.longer after.in_order (ap (λ (k : KeptPart). k.offered) between.kept ∙ had) ∙ is.1,
+        stays is.0 is.2,
+      )
+
+  -- a call that makes none behind a call that went on
+  pub told_after : (Is Now : List ℕ → Type 0) (old mid new : Log D) (room : ℕ) (s m t : SeatState) (a b : Bool)
+      → Grown is_honest seen may_leave moment left_since old mid room s m a → Grown is_honest seen may_leave moment left_since mid new room m t b
+      → t.node.kept.offered ≡ m.node.kept.offered → ((text : List ℕ) → Is text → Now text) → TellNew Is room s m (acknowledged seen old) (acknowledged seen mid)
+      → TellNew Now room s t (acknowledged seen old) (acknowledged seen new)
+  told_after Is Now old mid new room s m t a b first second same stays told =
+      tell_on Is Now old mid new room s m t (acknowledged seen new) [] first.advances second.advances same stays told
 
   -- a halt behind a call that went on
-  pub left_after : (old mid new : Log D) (room : ℕ) (s m t : SeatState) (a : Bool) (pending : List Record) → mid.header ≡ old.header
-      → Grown is_honest seen may_leave moment left_since old mid room s m a → Left mid new room m t pending → Left old new room s t pending
-  left_after old mid new room s m t a pending header first second =
-      (second.0, then seen may_leave moment left_since old mid new room s m t second.0 pending header first.advances second.1)
+  pub left_after : (Is Now : List ℕ → Type 0) (old mid new : Log D) (room : ℕ) (s m t : SeatState) (a : Bool) (pending : List Record) → mid.header ≡ old.header
+      → Grown is_honest seen may_leave moment left_since old mid room s m a
+      → t.node.kept.offered ≡ m.node.kept.offered → ((text : List ℕ) → Is text → Now text) → TellNew Is room s m (acknowledged seen old) (acknowledged seen mid)
+      → (upto : List Record) × Advances seen may_leave moment left_since mid new room m t upto pending → Left Now old new room s t pending
+  left_after Is Now old mid new room s m t a pending header first same stays told second = (
+    second.0,
+    then seen may_leave moment left_since old mid new room s m t second.0 pending header first.advances second.1,
+    tell_on Is Now old mid new room s m t second.0 pending first.advances second.1 same stays told,
+  )

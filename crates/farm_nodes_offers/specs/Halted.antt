@@ -5,25 +5,27 @@ use Rattle.acceptor_log_form.specs.declared.errors.LogError.TheVariants as log
 use Rattle.acceptor_log_form.specs.declared.record.Record.{Record}
 use Rattle.acceptor_log_form.specs.Refusals as journal
 use Rattle.acceptor_log.specs.declared.log.Log.{Log}
+use Rattle.acceptor_log.specs.Acknowledged.{acknowledged}
 use Rattle.farm_nodes_acting.specs.SeatState.{SeatState}
 use Rattle.farm_nodes_acting.specs.declared.stop.Pending.{Pending}
 use Rattle.farm_nodes_acting.specs.Advances.{Advances}
 use Rattle.farm_nodes_acting.specs.Cause.{HasCause}
 use Rattle.farm_nodes_acting.specs.Journalled.{HasGrown}
 use Rattle.farm_nodes_acting.specs.Noted.{pending_of}
+use Rattle.farm_nodes_offers.specs.Told.{TellNew}
 use Rattle.farm_nodes_offers.specs.declared.halt.Fault.{Fault}
 use Rattle.farm_nodes_offers.specs.declared.halt.Fault.TheVariants.{NoMemory, Journal, TooManyRegisters, OtherRecords, CellRefused}
 use Rattle.farm_nodes_offers.specs.declared.halt.Halt.{Halt}
 
 -- the fault that a journal's answer is
-abbrev pub fault_of : LogError → Fault
-fault_of log.NoMemory = NoMemory
-fault_of log.Device = Journal log.Device
-fault_of log.NotAJournal = Journal log.NotAJournal
-fault_of log.BadRecord = Journal log.BadRecord
-fault_of log.OtherSource = Journal log.OtherSource
-fault_of log.Stopped = Journal log.Stopped
-fault_of log.Full = Journal log.Full
+abbrev pub fault_by_journal : LogError → Fault
+fault_by_journal log.NoMemory = NoMemory
+fault_by_journal log.Device = Journal log.Device
+fault_by_journal log.NotAJournal = Journal log.NotAJournal
+fault_by_journal log.BadRecord = Journal log.BadRecord
+fault_by_journal log.OtherSource = Journal log.OtherSource
+fault_by_journal log.Stopped = Journal log.Stopped
+fault_by_journal log.Full = Journal log.Full
 
 -- the number that a user is shown
 abbrev pub number_of : Fault → ℕ
@@ -38,19 +40,22 @@ abbrev pub left_over : ℕ → SeatState → Option Pending → List Record
 left_over room s None = []
 left_over room s (Some p) = pending_of room s p
 
--- the records up to some place stand for what the node keeps, and behind them may stand those that are pending
-abbrev pub HasLeft : {D : Type 0} → (D → List ℕ) → (D → List ℕ → Type 0) → (D → ℕ) → (D → ℕ → List ℕ → Type 0)
-    → Log D → Log D → ℕ → SeatState → SeatState → List Record → Type 0
-HasLeft seen may_leave moment left_since old new room s t pending =
+-- The records up to some place stand for what the node keeps, and behind them may stand those that are pending. An offer
+-- that was made is told, by a text that is so.
+abbrev pub HasLeft : {D : Type 0} → (List ℕ → Type 0) → (D → List ℕ) → (D → List ℕ → Type 0) → (D → ℕ)
+    → (D → ℕ → List ℕ → Type 0) → Log D → Log D → ℕ → SeatState → SeatState → List Record → Type 0
+HasLeft Is seen may_leave moment left_since old new room s t pending =
     (upto : List Record) × Advances seen may_leave moment left_since old new room s t upto pending
+    × TellNew Is room s t (acknowledged seen old) upto
 
 -- What a call leaves of the journal, by its result.
-abbrev pub Recorded : {D : Type 0} → (D → Type 0) → (D → List ℕ) → (D → List ℕ → Type 0) → (D → ℕ)
+abbrev pub Recorded : {D : Type 0} → (List ℕ → Type 0) → (D → Type 0) → (D → List ℕ) → (D → List ℕ → Type 0) → (D → ℕ)
     → (D → ℕ → List ℕ → Type 0) → Log D → Log D → ℕ → SeatState → SeatState → Result Bool Halt → Type 0
-Recorded is_honest seen may_leave moment left_since old new room s t (Ok moved) =
+Recorded Is is_honest seen may_leave moment left_since old new room s t (Ok moved) =
     HasGrown is_honest seen may_leave moment left_since old new room s t moved
-Recorded is_honest seen may_leave moment left_since old new room s t (Err halt) =
-    HasLeft seen may_leave moment left_since old new room s t (left_over room t halt.pending)
+    × TellNew Is room s t (acknowledged seen old) (acknowledged seen new)
+Recorded Is is_honest seen may_leave moment left_since old new room s t (Err halt) =
+    HasLeft Is seen may_leave moment left_since old new room s t (left_over room t halt.pending)
 
 -- Why it halted: memory was refused, the journal refused the pending record for a cause, the input is too large, or the
 -- cell refused an offer, which is pending. Other records are told by a restart alone.

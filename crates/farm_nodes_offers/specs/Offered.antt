@@ -7,7 +7,7 @@ use Rattle.farm_nodes_acting.specs.declared.stop.Pending.TheVariants as waiting
 use Rattle.rooms.specs.SeatValue.{SeatValue, offer_of}
 
 -- the node had not offered; its offer x stands in its cell, where the seat has seen it, and all else is as it was
-pub record HasOffered {T : Type 0} (x : T) (old new : SeatValue T) : Type 0 where
+pub record PutsOffer {T : Type 0} (x : T) (old new : SeatValue T) : Type 0 where
   pub first : old.words.node.kept.offered ≡ false
   pub empty : offer_of old old.words.node.me ≡ None
   pub words : new.words ≡ record old.words { node = offered old.words.node }

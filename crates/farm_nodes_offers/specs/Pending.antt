@@ -13,7 +13,7 @@ use Rattle.farm_nodes_acting.specs.declared.stop.Pending.{Pending}
 use Rattle.farm_nodes_acting.specs.declared.stop.Pending.TheVariants.{Act, Offer}
 
 -- these bytes are the text of this offer, which the pass accepts
-pub record IsTextOf {P A B C I O : Type 0} (from : language.Ghosts A I) (to : language.Ghosts B O)
+pub record IsOfferText {P A B C I O : Type 0} (from : language.Ghosts A I) (to : language.Ghosts B O)
     (by : pass.Ghosts P A B C I O) (bytes : List ℕ) (x : Parts I O C) : Type 0 where
   pub fits : PartsFit from.fits to.fits by.cert_fits x
   pub accepted : by.accepts x.input x.output x.certificate

@@ -1,6 +1,6 @@
 ghost use Rattle.std.specs.Prelude.{◌≡◌, Some, None};
 ghost use Rattle.farm_nodes_acting.specs.declared.stop.Pending.TheVariants as waiting;
-ghost use Rattle.farm_nodes_offers.specs.Halted.{fault_of, number_of};
+ghost use Rattle.farm_nodes_offers.specs.Halted.{fault_by_journal, number_of};
 
 use acceptor_log::{LogError, Record};
 use farm_nodes_acting::{Pending, Stop};
@@ -23,7 +23,7 @@ pub enum Fault {
 impl Fault {
     /// The fault that the journal's answer is.
     pub fn of(error: LogError) -> Fault
-        ensures { result ≡ fault_of error }
+        ensures { result ≡ fault_by_journal error }
     {
         match error {
             LogError::NoMemory => Fault::NoMemory,
@@ -75,7 +75,7 @@ impl Halt {
 
     /// The node was stopped.
     pub fn stopped(stop: Stop) -> Halt
-        ensures { result ≡ record { fault = fault_of stop.error; pending = Some stop.pending } }
+        ensures { result ≡ record { fault = fault_by_journal stop.error; pending = Some stop.pending } }
     {
         let Stop { error, pending } = stop;
         Halt {

@@ -6,7 +6,9 @@ ghost use Rattle.acceptor_log.specs.Acknowledged.{acknowledged, IsSound};
 ghost use Rattle.farm_nodes_acting.specs.Served.{IsServed};
 ghost use Rattle.rooms.specs.SeatValue.{IsOneRoom};
 ghost use Rattle.farm_nodes_offers.specs.Halted.{left_over, Recorded, HasHaltCause};
-ghost use Rattle.farm_nodes_offers.specs.Offered.{HasOffered, IsOfferPending};
+ghost use Rattle.farm_nodes_offers.specs.Offered.{PutsOffer, IsOfferPending};
+ghost use Rattle.farm_nodes_offers.specs.Pending.{IsOfferText};
+ghost use Rattle.farm_nodes_offers.specs.Told.{IsOwnText};
 
 use crate::halt::{Fault, Halt};
 use acceptor_log::{Log, Record};
@@ -30,7 +32,7 @@ pub fn make_offer<D: Disk, P: Pass>(
     requires first { seat.old.words.node.kept.offered ≡ false }
     ensures served { IsServed D.is_honest D.seen D.may_leave D.faults log.old log.new }
     ensures going { IfOk result (λ moved. log.new.going ≡ log.old.going) }
-    ensures ok { OnOk result (HasOffered offer seat.old seat.new) }
+    ensures ok { OnOk result (PutsOffer offer seat.old seat.new) }
     ensures room { IsOneRoom seat.old seat.new }
 
     // It has not offered where the record may be missing, nor where its cell refuses the offer behind the record.
@@ -40,11 +42,14 @@ pub fn make_offer<D: Disk, P: Pass>(
     ensures refused { D.is_honest log.old.disk → log.old.going ≡ true → IfErr result (λ halt. halt.fault ≡ Fault.CellRefused
         → acknowledged D.seen log.new ≡ acknowledged D.seen log.old ++ left_over room seat.new.words halt.pending) }
 
+    // Where it is made, its record has its text.
     ensures journal { D.is_honest log.old.disk → log.old.going ≡ true → Recorded
+        (IsOwnText (IsOfferText P.In.Language P.Out.Language P.Pass) seat.new)
         D.is_honest D.seen D.may_leave D.moment D.left_since log.old log.new room seat.old.words seat.new.words result }
     ensures cause { log.old.going ≡ true → IfErr result (λ halt. HasHaltCause D.is_honest D.faults ⊥
         log.old log.new (left_over room seat.new.words halt.pending) halt.fault) }
 {
+    offer.validated();
     let (entry, shared) = match prepared(alloc, room, offer) {
         Ok(made) => made,
         Err(_) => return Err(Halt::idle(Fault::NoMemory)),
@@ -79,7 +84,7 @@ fn prepared<P: Pass>(
 /// Lays an offer into the node's cell.
 fn lay<P: Pass>(alloc: Global, seat: &mut Seat<P>, offer: Arc<Offer<P>>) -> Result<(), Fault>
     requires { seat.old.words.node.kept.offered ≡ false }
-    ensures ok { OnOk result (HasOffered (arc_value offer) seat.old seat.new) }
+    ensures ok { OnOk result (PutsOffer (arc_value offer) seat.old seat.new) }
     ensures err { OnErr result (seat.new ≡ seat.old) }
     ensures faults { IfErr result (λ fault. (fault ≡ Fault.CellRefused) ⊎ (fault ≡ Fault.NoMemory)) }
     ensures room { IsOneRoom seat.old seat.new }

@@ -8,8 +8,8 @@ use Rattle.farm_nodes_records.specs.Seats.{Seats}
 use Rattle.farm_nodes_lists.specs.Rows.{rows_of}
 use Rattle.farm_nodes_functions.specs.RoomFault.{RoomFault}
 use Rattle.farm_nodes_joining.proofs.Moving.{map-map}
-use Rattle.farm_nodes_opened.specs.Refused.{HasBadRecord, HasRefusedOffer, IsUnopened}
-use Rattle.farm_nodes_opened.specs.Seated.{AreSeated}
+use Rattle.farm_nodes_seated.specs.Refused.{HasBadRecord, HasRefusedOffer, IsUnopened}
+use Rattle.farm_nodes_seated.specs.Seated.{AreSeated}
 
 module _ {J : Type 0} (f g : ℕ) (js ks : List (J × Vec Record)) (same : f ≡ g) (are : js ≡ ks) where
   pub bad_of : (node : ℕ) → HasBadRecord f js node → HasBadRecord g ks node

@@ -5,6 +5,7 @@ use Rattle.std.specs.Global.{Vec}
 use Rattle.std.proofs.lemmas.List.{length-append, length-drop, length-map}
 use Rattle.std.proofs.lemmas.Option.{slice_get_within}
 use Rattle.durable_model.specs.declared.disk.Disk as disks
+use Rattle.durable_pair.specs.declared.pair.Pair as pairs
 use Rattle.paxos_core_world.specs.Quorum.{Sizes}
 use Rattle.acceptor_log_form.specs.declared.errors.LogError.{LogError}
 use Rattle.acceptor_log_form.specs.declared.errors.LogError.TheVariants.{NoMemory}
@@ -13,7 +14,7 @@ use Rattle.acceptor_log.specs.declared.log.Log.{Log}
 use Rattle.farm_nodes_disks.specs.Journals.{header_of, AreOpened, IsRefused, IsRefusedAt}
 use Rattle.farm_nodes_stored.specs.Nodes.{AreMade}
 use Rattle.farm_nodes_opened.specs.Back.{IsBack}
-use Rattle.farm_nodes_opened.proofs.Lists.{map_at}
+use Rattle.farm_nodes_seated.proofs.Lists.{map_at}
 
 -- what stands in two lists
 at_append : {X : Type 0} (xs ys : List X) (i : ℕ) (z : X) → slice_get (xs ++ ys) i ≡ Some z → (slice_get xs i ≡ Some z) ⊎ ((k : ℕ) × (i ≡ length xs + k) × (slice_get ys k ≡ Some z))
@@ -39,22 +40,22 @@ at_one x z zero got = (refl, let same : Some x ≡ Some z = got in cc)
 at_one x z (suc zero) got = absurd (cc)
 at_one x z (suc (suc k)) got = absurd (cc)
 
-module _ {D : Type 0} (disk : disks.Ghosts D) (q : Sizes) (digest : List ℕ) (given : List D) where
+module _ {D : Type 0} (disk : disks.Ghosts D) (pair : pairs.Ghosts D) (q : Sizes) (digest : List ℕ) (given : List D) where
   abbrev Back : ℕ → D → D → Type 0
-  Back i d b = IsBack disk q digest i d b
+  Back i d b = IsBack disk pair q digest i d b
 
   -- where none was opened
   pub back_same : AreMade Back given (length given) given
   back_same = record { count = refl; each = λ i d b got there. let both : Some b ≡ Some d = sym there ∙ got in inl cc }
 
-  module _ (journals : List (Log D × Vec Record)) (so_far : ℕ) (opened : AreOpened disk q digest given so_far journals) where
+  module _ (journals : List (Log D × Vec Record)) (so_far : ℕ) (opened : AreOpened disk pair q digest given so_far journals) where
     of_journal : (i : ℕ) (d b : D) → slice_get given i ≡ Some d → slice_get (map (λ (j : Log D × Vec Record). j.0.disk) journals) i ≡ Some b → Back i d b
     of_journal i d b got there =
         let found : (j : Log D × Vec Record) × (slice_get journals i ≡ Some j) × (j.0.disk ≡ b) = map_at (λ (j : Log D × Vec Record). j.0.disk) journals i b there in
         inr (inl (found.0.0, (found.0.1.items, opened.each i found.0 d found.1 got), found.2))
 
   -- where all journals were opened
-  pub back_opened : (journals : List (Log D × Vec Record)) (backs : List D) → AreOpened disk q digest given (length given) journals → backs ≡ map (λ (j : Log D × Vec Record). j.0.disk) journals
+  pub back_opened : (journals : List (Log D × Vec Record)) (backs : List D) → AreOpened disk pair q digest given (length given) journals → backs ≡ map (λ (j : Log D × Vec Record). j.0.disk) journals
       → AreMade Back given (length given) backs
   back_opened journals backs opened is = record {
     count = ap length is ∙ length-map journals _ ∙ opened.size;
@@ -63,7 +64,7 @@ module _ {D : Type 0} (disk : disks.Ghosts D) (q : Sizes) (digest : List ℕ) (g
 
   module _ (node : ℕ) (fault : LogError) (opened : List (Log D × Vec Record)) (behind : List D) where
     -- how many there are
-    pub all_of_them : (back : Option D) → IsRefusedAt disk q digest given node fault opened back behind → length opened + length (option_to_list back) + length behind ≡ length given
+    pub all_of_them : (back : Option D) → IsRefusedAt disk pair q digest given node fault opened back behind → length opened + length (option_to_list back) + length behind ≡ length given
     all_of_them None refused =
         let none = refused.none refl in
         omega (arith, refused.front.size, none.1, ap length none.2)
@@ -72,7 +73,7 @@ module _ {D : Type 0} (disk : disks.Ghosts D) (q : Sizes) (digest : List ℕ) (g
         omega (arith, refused.front.size, slice_get_within given node some.0 some.1, ap length some.3, length-drop (node + 1) given)
 
     -- where the journal of a node was refused
-    back_refused : (back : Option D) (backs : List D) → IsRefusedAt disk q digest given node fault opened back behind
+    back_refused : (back : Option D) (backs : List D) → IsRefusedAt disk pair q digest given node fault opened back behind
         → backs ≡ (map (λ (j : Log D × Vec Record). j.0.disk) opened ++ option_to_list back) ++ behind → (i : ℕ) (d b : D) → slice_get given i ≡ Some d → slice_get backs i ≡ Some b → Back i d b
     back_refused None backs refused is i d b got there = on (at_append (map (λ (j : Log D × Vec Record). j.0.disk) opened ++ []) behind i b (ap (λ l. slice_get l i) (sym is) ∙ there))
       where
@@ -94,7 +95,7 @@ module _ {D : Type 0} (disk : disks.Ghosts D) (q : Sizes) (digest : List ℕ) (g
             inl cc
     back_refused (Some x) backs refused is i d b got there = on (at_append front behind i b (ap (λ l. slice_get l i) (sym is) ∙ there))
       where
-        some : (d : D) × (slice_get given node ≡ Some d) × IsRefused disk (header_of q digest node) d x fault × (behind ≡ drop (node + 1) given)
+        some : (d : D) × (slice_get given node ≡ Some d) × IsRefused disk pair (header_of q digest node) d x fault × (behind ≡ drop (node + 1) given)
         some = refused.some x refl
 
         opened_disks : List D
@@ -113,9 +114,9 @@ module _ {D : Type 0} (disk : disks.Ghosts D) (q : Sizes) (digest : List ℕ) (g
             let place : i ≡ node = omega (arith, w.1, last.0, in_front) in
             let both : Some d ≡ Some some.0 = sym got ∙ ap (λ k. slice_get given k) place ∙ some.1 in
             let disk_is : some.0 ≡ d = cc in
-            let of_d : IsRefused disk (header_of q digest node) d x fault = subst (λ (e : D). IsRefused disk (header_of q digest node) e x fault) disk_is some.2 in
-            let of_b : IsRefused disk (header_of q digest node) d b fault = subst (λ (e : D). IsRefused disk (header_of q digest node) d e fault) last.1 of_d in
-            inr (inr (fault, subst (λ (k : ℕ). IsRefused disk (header_of q digest k) d b fault) (sym place) of_b))
+            let of_d : IsRefused disk pair (header_of q digest node) d x fault = subst (λ (e : D). IsRefused disk pair (header_of q digest node) e x fault) disk_is some.2 in
+            let of_b : IsRefused disk pair (header_of q digest node) d b fault = subst (λ (e : D). IsRefused disk pair (header_of q digest node) d e fault) last.1 of_d in
+            inr (inr (fault, subst (λ (k : ℕ). IsRefused disk pair (header_of q digest k) d b fault) (sym place) of_b))
 
         on : (slice_get front i ≡ Some b) ⊎ ((k : ℕ) × (i ≡ length front + k) × (slice_get behind k ≡ Some b)) → Back i d b
         on (inl here) = on_front (at_append opened_disks (x ∷ []) i b here)
@@ -127,7 +128,7 @@ module _ {D : Type 0} (disk : disks.Ghosts D) (q : Sizes) (digest : List ℕ) (g
             let both : Some b ≡ Some d = sym same ∙ got in
             inl cc
 
-    pub back_at_fault : (back : Option D) (backs : List D) → IsRefusedAt disk q digest given node fault opened back behind
+    pub back_at_fault : (back : Option D) (backs : List D) → IsRefusedAt disk pair q digest given node fault opened back behind
         → backs ≡ (map (λ (j : Log D × Vec Record). j.0.disk) opened ++ option_to_list back) ++ behind → AreMade Back given (length given) backs
     back_at_fault back backs refused is = record {
       count =

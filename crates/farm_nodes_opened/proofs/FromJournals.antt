@@ -5,6 +5,7 @@ use Rattle.std.specs.Global.{Vec}
 use Rattle.std.proofs.lemmas.List.{length-map}
 use Rattle.std.proofs.lemmas.Option.{slice_get_within}
 use Rattle.durable_model.specs.declared.disk.Disk as disks
+use Rattle.durable_pair.specs.declared.pair.Pair as pairs
 use Rattle.lang_base.specs.declared.language.Language as language
 use Rattle.lang_base.specs.declared.pass.Pass as pass
 use Rattle.rtl_language.specs.contracts.language.RtlLanguage.TheImpl as rtl_language
@@ -32,31 +33,31 @@ use Rattle.farm_nodes_stored.specs.Read.{AreKept}
 use Rattle.farm_nodes_stored.specs.Checked.{AreOffers}
 use Rattle.farm_nodes_opened.specs.Back.{IsJournalOn}
 use Rattle.farm_nodes_opened.specs.Opened.{AreOpenFrom, AreOpenIn}
-use Rattle.farm_nodes_opened.specs.Seated.{AreSeated, AreSeatedIn, first_seat, second_seat, third_seat, fourth_seat}
-use Rattle.farm_nodes_opened.proofs.Lists.{found_at, map_at}
+use Rattle.farm_nodes_seated.specs.Seated.{AreSeated, AreSeatedIn, first_seat, second_seat, third_seat, fourth_seat}
+use Rattle.farm_nodes_seated.proofs.Lists.{found_at, map_at}
 
-module _ {D : Type 0} (disk : disks.Ghosts D) (q : Sizes) (digest : List ℕ) (given : List D) (journals : List (Log D × Vec Record)) (logs : List (Log D))
-    (opened : AreOpened disk q digest given (length given) journals) (logs_are : logs ≡ map (λ (j : Log D × Vec Record). j.0) journals) where
+module _ {D : Type 0} (disk : disks.Ghosts D) (pair : pairs.Ghosts D) (q : Sizes) (digest : List ℕ) (given : List D) (journals : List (Log D × Vec Record)) (logs : List (Log D))
+    (opened : AreOpened disk pair q digest given (length given) journals) (logs_are : logs ≡ map (λ (j : Log D × Vec Record). j.0) journals) where
   log_at : (i : ℕ) (log : Log D) → slice_get logs i ≡ Some log → (j : Log D × Vec Record) × (slice_get journals i ≡ Some j) × (j.0 ≡ log)
   log_at i log at = map_at (λ (j : Log D × Vec Record). j.0) journals i log (ap (λ l. slice_get l i) (sym logs_are) ∙ at)
 
   as_many : length logs ≡ length journals
   as_many = ap length logs_are ∙ length-map journals _
 
-  on_disks : (i : ℕ) (d : D) (log : Log D) → slice_get given i ≡ Some d → slice_get logs i ≡ Some log → IsJournalOn disk q digest i d log
+  on_disks : (i : ℕ) (d : D) (log : Log D) → slice_get given i ≡ Some d → slice_get logs i ≡ Some log → IsJournalOn disk pair q digest i d log
   on_disks i d log at there =
       let j : (j : Log D × Vec Record) × (slice_get journals i ≡ Some j) × (j.0 ≡ log) = log_at i log there in
-      (j.0.1.items, subst (λ (l : Log D). IsOpened disk (header_of q digest i) d l j.0.1.items) j.2 (opened.each i j.0 d j.1 at))
+      (j.0.1.items, subst (λ (l : Log D). IsOpened disk pair (header_of q digest i) d l j.0.1.items) j.2 (opened.each i j.0 d j.1 at))
 
   -- each is the journal on its disk
-  pub journals_on : AreMade (IsJournalOn disk q digest) given (length given) logs
+  pub journals_on : AreMade (IsJournalOn disk pair q digest) given (length given) logs
   journals_on = record { count = as_many ∙ opened.size; each = on_disks }
 
   -- its records are what it has acknowledged
   records_are : (i : ℕ) (j : Log D × Vec Record) → slice_get journals i ≡ Some j → disk.is_honest j.0.disk → acknowledged disk.seen j.0 ≡ j.1.items
   records_are i j at honest =
       let d : (d : D) × (slice_get given i ≡ Some d) = found_at given i (omega (arith, slice_get_within journals i j at, opened.size)) in
-      let is : IsOpened disk (header_of q digest i) d.0 j.0 j.1.items = opened.each i j d.0 at d.1 in
+      let is : IsOpened disk pair (header_of q digest i) d.0 j.0 j.1.items = opened.each i j d.0 at d.1 in
       is.acknowledged_are (is.honest.0 honest)
 
   -- what is so of its records is so of what it has acknowledged

@@ -1,7 +1,5 @@
-pub mod Lists
 pub mod Held
-pub mod Offered
 pub mod Disks
-pub mod Told
+pub mod FirstFault
 pub mod FromJournals
 pub mod Carried

@@ -1,7 +1,5 @@
-pub mod Faults
 pub mod Back
 pub mod Refused
-pub mod Seated
 pub mod Opened
 pub use Rattle.farm_nodes_joining.specs.Held
 pub use Rattle.farm_nodes_joining.specs.Waiting

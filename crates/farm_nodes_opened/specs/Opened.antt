@@ -27,7 +27,7 @@ use Rattle.farm_nodes_functions.specs.Opened.{AreOpenedIn}
 use Rattle.farm_nodes_stored.specs.Nodes.{AreMade}
 use Rattle.farm_nodes_stored.specs.Read.{AreKept}
 use Rattle.farm_nodes_stored.specs.Checked.{AreOffers}
-use Rattle.farm_nodes_opened.specs.Seated.{first_seat, second_seat, third_seat, fourth_seat}
+use Rattle.farm_nodes_seated.specs.Seated.{first_seat, second_seat, third_seat, fourth_seat}
 
 module _ {D : Type 0} (is_honest : D → Type 0) (seen : D → List ℕ) (q : Sizes) (functions : ℕ) (logs : List (Log D)) where
   module _ {P A B C I O N : Type 0} (from : language.Ghosts A I) (to : language.Ghosts B O) (by : pass.Ghosts P A B C I O) (which : Which) where

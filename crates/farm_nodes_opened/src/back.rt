@@ -3,7 +3,8 @@ ghost use Rattle.std.specs.Vec.Iter.{into_iter_items};
 
 use acceptor_log::{Log, Record};
 use durable_model::Disk;
-use farm_nodes_disks::RefusedDisk;
+use durable_pair::Pair;
+use farm_nodes_disks::RefusedPair;
 
 /// The disks of journals, in their order, put behind those that are there; there is room for them.
 pub(crate) fn with_disks<D: Disk + Drop>(
@@ -25,31 +26,42 @@ pub(crate) fn with_disks<D: Disk + Drop>(
     back
 }
 
-/// All disks, of which one is refused.
-pub(crate) fn with_refused<D: Disk + Drop>(back: Vec<D>, refused: RefusedDisk<D>) -> Vec<D>
-    requires { length back.items + length refused.opened.items + length (option_to_list refused.disk)
+/// All pairs, of which one is refused.
+pub(crate) fn with_refused<P: Pair + Drop>(back: Vec<P>, refused: RefusedPair<P>) -> Vec<P>
+    requires { length back.items + length refused.opened.items + length (option_to_list refused.pair)
         + length (into_iter_items refused.behind) ≤ vec_capacity back }
     ensures { result.items ≡ ((back.items ++ map (λ j. j.0.disk) refused.opened.items)
-        ++ option_to_list refused.disk) ++ into_iter_items refused.behind }
+        ++ option_to_list refused.pair) ++ into_iter_items refused.behind }
 {
-    let RefusedDisk {
+    let RefusedPair {
         opened,
-        disk,
+        pair,
         behind,
         ..
     } = refused;
-    let mut back = with_disks(back, opened);
-    if let Some(disk) = disk {
-        match back.push(disk) {
+    let mut back = with_one(with_disks(back, opened), pair);
+    for pair in behind {
+        match back.push(pair) {
             Ok(()) => {}
             Err(_) => unreachable!(),
         }
     }
-    for disk in behind {
-        match back.push(disk) {
-            Ok(()) => {}
-            Err(_) => unreachable!(),
-        }
+    back
+}
+
+/// One more put behind those that are there, where there is one; there is room for it.
+fn with_one<P: Drop>(back: Vec<P>, pair: Option<P>) -> Vec<P>
+    requires { length back.items + length (option_to_list pair) ≤ vec_capacity back }
+    ensures items { result.items ≡ back.items ++ option_to_list pair }
+    ensures capacity { vec_capacity back ≤ vec_capacity result }
+{
+    let mut back = back;
+    let Some(pair) = pair else {
+        return back;
+    };
+    match back.push(pair) {
+        Ok(()) => {}
+        Err(_) => unreachable!(),
     }
     back
 }

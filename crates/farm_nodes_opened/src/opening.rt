@@ -9,14 +9,14 @@ ghost use Rattle.farm_nodes_stored.specs.Nodes.{AreMade};
 ghost use Rattle.farm_nodes_joining.specs.Words.{generators};
 ghost use Rattle.farm_nodes_opened.specs.Back.{IsBack, IsJournalOn};
 ghost use Rattle.farm_nodes_opened.specs.Opened.{AreOpenFrom};
-ghost use Rattle.farm_nodes_opened.specs.Refused.{HasBadRecord, HasRefusedOffer, IsRefusedJournal, IsUnopened, OfJournals};
+ghost use Rattle.farm_nodes_seated.specs.Refused.{HasBadRecord, HasRefusedOffer, IsUnopened};
+ghost use Rattle.farm_nodes_opened.specs.Refused.{IsRefusedJournal, OfJournals};
 
 use crate::back::{with_disks, with_refused};
-use crate::fault::OpenFault;
-use crate::seating::seats_of;
-use durable_model::Disk;
+use durable_pair::Pair;
 use farm_nodes_disks::open_journals;
 use farm_nodes_joining::{FarmNode, join_nodes};
+use farm_nodes_seated::{OpenFault, seats_of};
 use lang_base::Program;
 use paxos_core::Quorums;
 use rooms_hall::{Hall, Naming};
@@ -25,68 +25,68 @@ use std::alloc::Global;
 use std::sync::{Arc, Wait};
 use std::thread::Threads;
 
-/// The nodes of a farm from their disks, in order, each with the journal on its disk, the seats that come from what stands there, its
+/// The nodes of a farm from their pairs of disks, in order, each with the journal on its pair, the seats that come from what stands there, its
 /// optimisers, and the generator of the seed and its number; all rooms have these quorums. Journals come first, in the order of the nodes (401 to 404 with the node);
 /// then, node by node, that its records are in order and name rooms of the program, and that their offers are offers (403 with the node);
 /// then, once all were read, that the passes accept them (301 with the node); then the rooms in order (510, 511 with the room). The first
-/// fault is told, and all disks come back.
-pub fn open_nodes<D, O, H, R>(
+/// fault is told, and all pairs come back.
+pub fn open_nodes<P, O, H, R>(
     rt: &R,
     alloc: Global,
     hall: &Hall<H>,
     digest: &[u8; 32],
     program: &Arc<Program<Function>>,
-    disks: Vec<D>,
+    pairs: Vec<P>,
     oracles: Vec<O>,
     seed: u64,
     workers: usize,
     quorums: Quorums,
-) -> Result<Vec<FarmNode<D, O, H>>, (Vec<D>, OpenFault)>
+) -> Result<Vec<FarmNode<P, O, H>>, (Vec<P>, OpenFault)>
 where
-    D: Disk + Drop,
+    P: Pair + Drop,
     O: Drop,
     H: Naming,
     R: Threads + Wait + Sync,
-    requires size { length disks.items ≡ quorums.nodes }
-    requires oracles { length oracles.items ≡ length disks.items }
+    requires size { length pairs.items ≡ quorums.nodes }
+    requires oracles { length oracles.items ≡ length pairs.items }
     requires functions { length (arc_value program.now).functions < 16384 }
     requires workers { 0 < workers }
 
-    // Each node has the journal on its disk, its optimisers and its generator; it may be asked, and is not stopped.
-    ensures journals { IfOk result (λ nodes. AreMade (IsJournalOn D.Disk quorums digest.now)
-        disks.items (length disks.items) (map (λ n. n.log) nodes.items)) }
+    // Each node has the journal on its pair, its optimisers and its generator; it may be asked, and is not stopped.
+    ensures journals { IfOk result (λ nodes. AreMade (IsJournalOn P.Disk P.Pair.own quorums digest.now)
+        pairs.items (length pairs.items) (map (λ n. n.log) nodes.items)) }
     ensures oracles { IfOk result (λ nodes. map (λ n. n.oracles) nodes.items ≡ oracles.items) }
     ensures program { IfOk result (λ nodes. All (λ n. arc_value n.program ≡ arc_value program.now) nodes.items) }
-    ensures words { IfOk result (λ nodes. map (λ n. n.words) nodes.items ≡ generators seed (length disks.items)) }
+    ensures words { IfOk result (λ nodes. map (λ n. n.words) nodes.items ≡ generators seed (length pairs.items)) }
     ensures going { IfOk result (λ nodes. All (λ n. n.halted ≡ None) nodes.items) }
     ensures sound { IfOk result (λ nodes. All (λ n.
-        IsSoundNode D.is_honest D.seen D.may_leave n.log (fours_of n.seats.items) n.halted) nodes.items) }
+        IsSoundNode P.is_honest P.seen P.may_leave n.log (fours_of n.seats.items) n.halted) nodes.items) }
     ensures waiting { IfOk result (λ nodes. All (λ n. IsWaiting n.seats.items n.halted) nodes.items) }
 
     // The rooms open from what the journals have acknowledged.
-    ensures rooms { IfOk result (λ nodes. AreOpenFrom D.is_honest D.seen quorums (length (arc_value program.now).functions)
+    ensures rooms { IfOk result (λ nodes. AreOpenFrom P.is_honest P.seen quorums (length (arc_value program.now).functions)
         (map (λ n. n.log) nodes.items) (map (λ n. n.seats.items) nodes.items)) }
 
-    // All disks come back, and what is told is the first fault.
-    ensures back { IfErr result (λ it. AreMade (IsBack D.Disk quorums digest.now)
-        disks.items (length disks.items) it.0.items) }
+    // All pairs come back, and what is told is the first fault.
+    ensures back { IfErr result (λ it. AreMade (IsBack P.Disk P.Pair.own quorums digest.now)
+        pairs.items (length pairs.items) it.0.items) }
     ensures journal { IfErr result (λ it. (node : ℕ) (fault : LogError) → it.1 ≡ OpenFault.Journal node fault →
-        IsRefusedJournal D.Disk quorums digest.now disks.items node fault
-        ⊎ ((fault ≡ LogError.BadRecord) × OfJournals D.Disk quorums digest.now disks.items
+        IsRefusedJournal P.Disk P.Pair.own quorums digest.now pairs.items node fault
+        ⊎ ((fault ≡ LogError.BadRecord) × OfJournals P.Disk P.Pair.own quorums digest.now pairs.items
         (λ journals. HasBadRecord (length (arc_value program.now).functions) journals node))) }
     ensures refused { IfErr result (λ it. (node : ℕ) → it.1 ≡ OpenFault.Refused node →
-        OfJournals D.Disk quorums digest.now disks.items
+        OfJournals P.Disk P.Pair.own quorums digest.now pairs.items
         (λ journals. HasRefusedOffer (length (arc_value program.now).functions) journals node)) }
     ensures unopened { IfErr result (λ it. (room : ℕ) (fault : RoomFault) → it.1 ≡ OpenFault.Room room fault →
-        OfJournals D.Disk quorums digest.now disks.items
+        OfJournals P.Disk P.Pair.own quorums digest.now pairs.items
         (λ journals. IsUnopened (length (arc_value program.now).functions) journals quorums room fault)) }
 {
     let _nodes = quorums.nodes();
     let functions = program.functions.len() as u16;
-    let Ok(back) = Vec::with_capacity(alloc, disks.len()) else {
-        return Err((disks, OpenFault::NoMemory));
+    let Ok(back) = Vec::with_capacity(alloc, pairs.len()) else {
+        return Err((pairs, OpenFault::NoMemory));
     };
-    let journals = match open_journals(alloc, disks, digest, quorums) {
+    let journals = match open_journals(alloc, pairs, digest, quorums) {
         Ok(journals) => journals,
         Err(refused) => {
             let fault = OpenFault::of_journal(refused.node, refused.fault);
@@ -94,7 +94,7 @@ where
         }
     };
     let before = journals.as_slice();
-    let seats = match seats_of::<D, H, R>(
+    let seats = match seats_of::<P, H, R>(
         rt, alloc, hall, digest, functions, workers, before, quorums,
     ) {
         Ok(seats) => seats,

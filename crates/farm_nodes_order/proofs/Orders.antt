@@ -18,7 +18,7 @@ use Rattle.paxos_core_law.specs.Would.{next_start}
 use Rattle.paxos_core_law.specs.declared.step.Step.{Step}
 use Rattle.paxos_core_law.specs.declared.step.Step.TheVariants as step
 use Rattle.acceptor_log_form.specs.declared.record.Record.{Record}
-use Rattle.acceptor_log_form.specs.declared.record.Record.TheVariants.{Offered, Started, Proposed, Promised, Accepted}
+use Rattle.acceptor_log_form.specs.declared.record.Record.TheVariants.{Offered, Started, Proposed, Promised, Accepted, Summary}
 use Rattle.acceptor_log_form.specs.Text.{room_of}
 use Rattle.acceptor_log_form.specs.Leaves.{kept_by, kept_in, proposed_by, proposed_in}
 use Rattle.acceptor_log_form.specs.Order.{GoesOn, MayFollow, AreInOrder}
@@ -28,7 +28,7 @@ use Rattle.rooms_seat.specs.Act.TheVariants as act
 use Rattle.rooms_seat.specs.Did.{Did}
 use Rattle.rooms_seat.specs.Meeting.{IsBounded}
 use Rattle.rooms_seat.specs.SeatState.{SeatState, proposer_of, promise_of, vote_of}
-use Rattle.rooms_seat.specs.Would.{would, act_of, proposed_by_step, IsUnderWay, IsAmong, Acted}
+use Rattle.rooms_seat.specs.Would.{would, act_of, proposed_by_step, IsStarted, IsAmong, Acted}
 use Rattle.farm_nodes_order.specs.Recorded.{record_of}
 use Rattle.farm_nodes_order.specs.Ordered.{AreOrdered, IsUnproposed}
 use Rattle.farm_nodes_order.proofs.Records.{kept_own, kept_other, proposed_own, proposed_other, room_of_step}
@@ -72,6 +72,7 @@ below_by n i k last (Started room b) goes low = let up : k.started < b = goes.1 
 below_by n i k last (Proposed room b v) goes low = let is : b ≡ k.started = goes.1 in omega (arith, is)
 below_by n i k last (Promised room b) goes low = low
 below_by n i k last (Accepted room b v) goes low = low
+below_by n i k last (Summary room s p x) goes low = omega arith
 
 abbrev Below : List Record → ℕ → Type 0
 Below rs room = proposed_in rs room ≤ (kept_in rs room).started
@@ -205,7 +206,7 @@ module _ (room : ℕ) (s t : SeatState) (a : Act) (last : ℕ) (fresh : IsUnprop
   -- above the one started last
   start_leaves : (b : ℕ) → Some (step.Start b) ≡ would s a → s.node.kept.started < b → Leaves (step.Start b)
   start_leaves b e above c is none same =
-      let under = subst (λ (o : Option Step). IsUnderWay o t) (sym e) acted.under_way in
+      let under = subst (λ (o : Option Step). IsStarted o t) (sym e) acted.under_way in
       let both : b ≡ c = some_number b c (sym under.0 ∙ is) in
       absurd (omega (arith, above, low, both, same))
     where

@@ -15,12 +15,12 @@ left_push : {A : Type 0} (by : A → Record → A) (k : A) (rs : List Record) (r
 left_push by k [] r room = refl
 left_push by k (x ∷ rs) r room = left_push by (cond (eqb (room_of x) room) (by k x) k) rs r room
 
-left_own : {A : Type 0} (by : A → Record → A) (k : A) (rs : List Record) (r : Record) (room : ℕ) → room_of r ≡ room → left_from by k (rs ++ r ∷ []) room ≡ by (left_from by k rs room) r
+pub left_own : {A : Type 0} (by : A → Record → A) (k : A) (rs : List Record) (r : Record) (room : ℕ) → room_of r ≡ room → left_from by k (rs ++ r ∷ []) room ≡ by (left_from by k rs room) r
 left_own by k rs r room own =
     left_push by k rs r room
     ∙ ap (λ t. cond t (by (left_from by k rs room) r) (left_from by k rs room)) (eq-eqb (room_of r) room own)
 
-left_other : {A : Type 0} (by : A → Record → A) (k : A) (rs : List Record) (r : Record) (room : ℕ) → room_of r ≢ room → left_from by k (rs ++ r ∷ []) room ≡ left_from by k rs room
+pub left_other : {A : Type 0} (by : A → Record → A) (k : A) (rs : List Record) (r : Record) (room : ℕ) → room_of r ≢ room → left_from by k (rs ++ r ∷ []) room ≡ left_from by k rs room
 left_other by k rs r room other =
     left_push by k rs r room
     ∙ ap (λ t. cond t (by (left_from by k rs room) r) (left_from by k rs room)) (ne_eqb (room_of r) room other)

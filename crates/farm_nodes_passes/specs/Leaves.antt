@@ -1,22 +1,27 @@
 -- What records leave of a node's seats, and what a halted node has pending there.
-use Rattle.std.specs.Prelude.{◌≡◌, ℕ, ◌≤◌, List, [], length, Option, Some, None, slice_get}
+use Rattle.std.specs.Prelude.{◌≡◌, ℕ, ◌≤◌, true, List, [], length, Option, Some, None, slice_get}
 use Rattle.paxos_core_world.specs.KeptPart.{nothing_kept}
 use Rattle.acceptor_log_form.specs.declared.record.Record.{Record}
 use Rattle.acceptor_log_form.specs.Leaves.{kept_in}
 use Rattle.farm_nodes_offers.specs.PendingStop.{Pending}
 use Rattle.farm_nodes_offers.specs.Halted.{left_over}
+use Rattle.farm_nodes_offers.specs.Told.{offer_in, IsToldAs}
 use Rattle.farm_nodes_offers.specs.Pending.{IsAsked, IsPendingOn, MayPendOn}
 use Rattle.farm_nodes_passes.specs.Fours.{Four, words_of}
+use Rattle.farm_nodes_passes.specs.Texts.{Texts, IsOwnTextIn}
 use Rattle.farm_nodes_passes.specs.Numbers.{function_of, pass_of}
 use Rattle.farm_nodes_passes.specs.declared.which.Which.{Which}
 use Rattle.farm_nodes_passes.specs.declared.which.Which.TheVariants.{First, Second, Third, Fourth}
 
 module _ {X1 X2 X3 X4 : Type 0} where
-  -- the records leave of each room what the seat there keeps, and of other rooms nothing
-  pub record Leave (seats : List (Four X1 X2 X3 X4)) (rs : List Record) : Type 0 where
+  -- The records leave of each room what the seat there keeps, and of other rooms nothing. Where its node has offered, they tell the
+  -- text of the offer that stands in its cell.
+  pub record Leave (texts : Texts X1 X2 X3 X4) (seats : List (Four X1 X2 X3 X4)) (rs : List Record) : Type 0 where
     pub rooms : (m : ℕ) (s : Four X1 X2 X3 X4) → slice_get seats (function_of m) ≡ Some s
         → kept_in rs m ≡ (words_of s (pass_of m)).node.kept
     pub no_others : (m : ℕ) → length seats ≤ function_of m → kept_in rs m ≡ nothing_kept
+    pub offers : (m : ℕ) (s : Four X1 X2 X3 X4) → slice_get seats (function_of m) ≡ Some s
+        → (words_of s (pass_of m)).node.kept.offered ≡ true → IsToldAs (IsOwnTextIn texts (pass_of m) s) (offer_in rs m)
 
   -- the record of what a halted node has not done in the room, if there is one
   abbrev pub left_in : Option (Four X1 X2 X3 X4) → ℕ → Option Pending → List Record

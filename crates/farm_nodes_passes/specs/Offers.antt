@@ -15,7 +15,7 @@ use Rattle.rooms_numbered.specs.CsePass.TheImpl as expressions
 use Rattle.alloc_check_rules.specs.declared.equation.Equation as places_held
 use Rattle.rooms_numbered.specs.AllocPass.TheImpl as allocation
 use Rattle.linearize_check.specs.contracts.pass.LinearizePass.TheImpl as order
-use Rattle.farm_nodes_offers.specs.Pending.{IsTextOf}
+use Rattle.farm_nodes_offers.specs.Pending.{IsOfferText}
 
 abbrev pub Constants : Type 0
 Constants = Parts rtl.FunctionData rtl.FunctionData (List (NodeRow Fact))
@@ -30,13 +30,13 @@ abbrev pub Order : Type 0
 Order = Parts ltl.FunctionData linear.FunctionData (List ℕ)
 
 abbrev pub IsConstants : List ℕ → Constants → Type 0
-IsConstants = IsTextOf rtl_language.ghosts rtl_language.ghosts constants.ghosts
+IsConstants = IsOfferText rtl_language.ghosts rtl_language.ghosts constants.ghosts
 
 abbrev pub IsExpressions : List ℕ → Expressions → Type 0
-IsExpressions = IsTextOf rtl_language.ghosts rtl_language.ghosts expressions.ghosts
+IsExpressions = IsOfferText rtl_language.ghosts rtl_language.ghosts expressions.ghosts
 
 abbrev pub IsAllocation : List ℕ → Allocation → Type 0
-IsAllocation = IsTextOf rtl_language.ghosts ltl_language.ghosts allocation.ghosts
+IsAllocation = IsOfferText rtl_language.ghosts ltl_language.ghosts allocation.ghosts
 
 abbrev pub IsOrder : List ℕ → Order → Type 0
-IsOrder = IsTextOf ltl_language.ghosts linear_language.ghosts order.ghosts
+IsOrder = IsOfferText ltl_language.ghosts linear_language.ghosts order.ghosts

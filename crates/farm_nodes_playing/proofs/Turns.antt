@@ -7,6 +7,7 @@ use Rattle.acceptor_log_form.specs.declared.errors.LogError.TheVariants as log
 use Rattle.acceptor_log_form.specs.declared.record.Record.{Record}
 use Rattle.acceptor_log_form.specs.declared.record.Record.TheVariants.{Offered}
 use Rattle.acceptor_log.specs.declared.log.Log.{Log}
+use Rattle.acceptor_log.specs.Acknowledged.{acknowledged}
 use Rattle.offers.specs.declared.parts.Parts.{Parts}
 use Rattle.rooms_cells.specs.Seen.{SightOf, Read, nothing_seen, value_at, names_of}
 use Rattle.rooms_state.specs.SeatState.{SeatState}
@@ -15,15 +16,17 @@ use Rattle.farm_nodes_leading.specs.Cause.{HasCause}
 use Rattle.farm_nodes_leading.specs.Pending.{Pending}
 use Rattle.farm_nodes_leading.specs.Pending.TheVariants.{Act, Offer}
 use Rattle.farm_nodes_leading.specs.Noted.{IsActAmong}
-use Rattle.farm_nodes_leading.specs.Leading.{Remains}
+use Rattle.farm_nodes_leading.specs.Leading.{StaysInRoom}
 use Rattle.farm_nodes_offers.specs.declared.halt.Fault.{Fault}
 use Rattle.farm_nodes_offers.specs.declared.halt.Fault.TheVariants as fault
 use Rattle.farm_nodes_leading.proofs.Results.{Grown}
 use Rattle.farm_nodes_offers.specs.declared.halt.Halt.{Halt}
 use Rattle.farm_nodes_offers.specs.Halted.{HasHaltCause, HasLeft, Recorded, left_over}
-use Rattle.farm_nodes_offers.specs.Offered.{HasOffered, IsOfferPending}
+use Rattle.farm_nodes_offers.specs.Offered.{PutsOffer, IsOfferPending}
 use Rattle.farm_nodes_offers.specs.Pending.{MayPendOn}
-use Rattle.farm_nodes_playing.specs.Played.{HeldOffer, IsChoiceFault, IsMadeOn, SeesOn, Stays}
+use Rattle.farm_nodes_offers.specs.Told.{IsOwnText, TellNew}
+use Rattle.farm_nodes_playing.specs.declared.progress.Progress.{Progress}
+use Rattle.farm_nodes_playing.specs.Played.{HeldOffer, IsChoiceFault, IsMadeOn, Played, SeesOn, StaysInTurn, progress_of}
 
 -- ---- a seat's room and what it has seen
 
@@ -46,7 +49,7 @@ held_same s t e = record {
   seen = seen_same s t e;
 }
 
-own_or : {T : Type 0} (x : T) (s t : SeatValue T) (j : ℕ) (y : T) (b : Bool) → eqb j s.words.node.me ≡ b → HasOffered x s t → offer_of s j ≡ Some y → offer_of t j ≡ Some y
+own_or : {T : Type 0} (x : T) (s t : SeatValue T) (j : ℕ) (y : T) (b : Bool) → eqb j s.words.node.me ≡ b → PutsOffer x s t → offer_of s j ≡ Some y → offer_of t j ≡ Some y
 own_or x s t j y true e has is =
     let same : j ≡ s.words.node.me = eqb-true j s.words.node.me e in
     let bad : Some y ≡ None = sym is ∙ (ap (λ (k : ℕ). offer_of s k) same ∙ has.empty) in
@@ -55,7 +58,7 @@ own_or x s t j y false e has is =
     has.others j (λ (same : j ≡ s.words.node.me). let bad : true ≡ false = sym (eq-eqb j s.words.node.me same) ∙ e in absurd (cc)) ∙ is
 
 -- an offer leaves all but itself
-pub held_offered : {T : Type 0} (x : T) (s t : SeatValue T) → HasOffered x s t → IsOneRoom s t → HeldOffer s t
+pub held_offered : {T : Type 0} (x : T) (s t : SeatValue T) → PutsOffer x s t → IsOneRoom s t → HeldOffer s t
 held_offered x s t has room = record {
   room = room;
   me = ap (λ (u : SeatState). u.node.me) has.words;
@@ -65,11 +68,11 @@ held_offered x s t has room = record {
   seen = λ j y is. own_or x s t j y (eqb j s.words.node.me) refl has is;
 }
 
-pub offered_now : {T : Type 0} (x : T) (s t : SeatValue T) → HasOffered x s t → t.words.node.kept.offered ≡ true
+pub offered_now : {T : Type 0} (x : T) (s t : SeatValue T) → PutsOffer x s t → t.words.node.kept.offered ≡ true
 offered_now x s t has = ap (λ (u : SeatState). u.node.kept.offered) has.words
 
 -- taking part leaves the cells alone
-pub stays_on : {T : Type 0} (s m t : SeatValue T) → HeldOffer s m → Remains m.words t.words → t.sights ≡ m.sights → Stays s t
+pub stays_on : {T : Type 0} (s m t : SeatValue T) → HeldOffer s m → StaysInRoom m.words t.words → t.sights ≡ m.sights → StaysInTurn s t
 stays_on {T} s m t held remains sights = record {
   room = record { table = held.room.table ∙ sym remains.table; cells = held.room.cells ∙ ap (λ (ss : List (SightOf T)). names_of ss) (sym sights) };
   me = remains.me ∙ held.me;
@@ -79,17 +82,17 @@ stays_on {T} s m t held remains sights = record {
   seen = λ j x is. ap (λ (ss : List (SightOf T)). value_at ss j) sights ∙ held.seen j x is;
 }
 
-pub stays_taking : {T : Type 0} (s m : SeatValue T) (w v : SeatState) (ss : List (SightOf T)) → record { words = w; sights = ss } ≡ m → HeldOffer s m → Remains w v
-    → Stays s record { words = v; sights = ss }
+pub stays_taking : {T : Type 0} (s m : SeatValue T) (w v : SeatState) (ss : List (SightOf T)) → record { words = w; sights = ss } ≡ m → HeldOffer s m → StaysInRoom w v
+    → StaysInTurn s record { words = v; sights = ss }
 stays_taking {T} s m w v ss is held remains =
     stays_on s (record { words = w; sights = ss }) (record { words = v; sights = ss })
     (subst (λ (u : SeatValue T). HeldOffer s u) (sym is) held) remains refl
 
-pub stays_held : {T : Type 0} (s t : SeatValue T) → HeldOffer s t → Stays s t
+pub stays_held : {T : Type 0} (s t : SeatValue T) → HeldOffer s t → StaysInTurn s t
 stays_held s t held = record { room = held.room; me = held.me; quorums = held.quorums; learned = λ v e. held.learned ∙ e; offered = held.offered; seen = held.seen }
 
 -- and looking at a cell the words
-pub stays_seeing : {T : Type 0} (s m t : SeatValue T) → Stays s m → t.words ≡ m.words → IsOneRoom m t → SeesOn m t → Stays s t
+pub stays_seeing : {T : Type 0} (s m t : SeatValue T) → StaysInTurn s m → t.words ≡ m.words → IsOneRoom m t → SeesOn m t → StaysInTurn s t
 stays_seeing s m t stays words room seen = record {
   room = room_through s m t stays.room room;
   me = ap (λ (u : SeatState). u.node.me) words ∙ stays.me;
@@ -128,7 +131,7 @@ module _ {I O C : Type 0} where
       let both : true ≡ false = sym after_is ∙ (ap (λ (u : SeatValue (Parts I O C)). u.words.node.kept.offered) e ∙ before_is) in
       absurd (cc)
 
-  pub made_own : (i : I) (x : Parts I O C) (s t : SeatValue (Parts I O C)) → x.input ≡ i → HasOffered x s t → IsMadeOn (Some i) s t
+  pub made_own : (i : I) (x : Parts I O C) (s t : SeatValue (Parts I O C)) → x.input ≡ i → PutsOffer x s t → IsMadeOn (Some i) s t
   made_own i x s t same has before_is after_is =
       (x, ap (λ (k : ℕ). offer_of t k) (ap (λ (u : SeatState). u.node.me) has.words) ∙ has.own, ap (λ (y : I). Some y) (sym same))
 
@@ -139,13 +142,13 @@ module _ {I O C : Type 0} where
       (before.0, ap (λ (k : ℕ). offer_of t k) me ∙ seen m.words.node.me before.0 before.1, before.2)
 
   pub made_either : {A E : Type 0} (r : Result A E) (input : Option I) (i : I) (x : Parts I O C) (s t : SeatValue (Parts I O C)) → input ≡ Some i → x.input ≡ i
-      → OnOk r (HasOffered x s t) → OnErr r (t ≡ s) → IsMadeOn input s t
+      → OnOk r (PutsOffer x s t) → OnErr r (t ≡ s) → IsMadeOn input s t
   made_either (Ok a) input i x s t known same has none = subst (λ (o : Option I). IsMadeOn o s t) (sym known) (made_own i x s t same has)
   made_either (Err e) input i x s t known same has none = made_none input s t none
 
   -- taking part leaves the offer
   pub made_taking : (input : Option I) (s m : SeatValue (Parts I O C)) (w v : SeatState) (ss : List (SightOf (Parts I O C))) → record { words = w; sights = ss } ≡ m
-      → IsMadeOn input s m → Remains w v → IsMadeOn input s record { words = v; sights = ss }
+      → IsMadeOn input s m → StaysInRoom w v → IsMadeOn input s record { words = v; sights = ss }
   made_taking input s m w v ss is made remains =
       made_on input s (record { words = w; sights = ss }) (record { words = v; sights = ss })
       (subst (λ (u : SeatValue (Parts I O C)). IsMadeOn input s u) (sym is) made) remains.me remains.offered (λ j x e. e)
@@ -184,18 +187,46 @@ later_cause is_honest faults old mid new pending log.Stopped honest later cause 
 
 -- ---- what it leaves of the journal
 
-module _ {D : Type 0} (is_honest : D → Type 0) (seen : D → List ℕ) (may_leave : D → List ℕ → Type 0) (moment : D → ℕ) (left_since : D → ℕ → List ℕ → Type 0) (old new : Log D) (room : ℕ) (s t : SeatState) where
+module _ {D : Type 0} (Is : List ℕ → Type 0) (is_honest : D → Type 0) (seen : D → List ℕ) (may_leave : D → List ℕ → Type 0) (moment : D → ℕ) (left_since : D → ℕ → List ℕ → Type 0) (old new : Log D) (room : ℕ) (s t : SeatState) where
   pub recorded_ok : (r : Result Bool Halt) (a b : Bool) → r ≡ Ok a → a ≡ b → Grown is_honest seen may_leave moment left_since old new room s t b
-      → Recorded is_honest seen may_leave moment left_since old new room s t r
-  recorded_ok r a b e same grown =
-      subst (λ (x : Result Bool Halt). Recorded is_honest seen may_leave moment left_since old new room s t x) (sym e)
-      (subst (λ (x : Bool). Grown is_honest seen may_leave moment left_since old new room s t x) (sym same) grown)
+      → TellNew Is room s t (acknowledged seen old) (acknowledged seen new) → Recorded Is is_honest seen may_leave moment left_since old new room s t r
+  recorded_ok r a b e same grown told =
+      subst (λ (x : Result Bool Halt). Recorded Is is_honest seen may_leave moment left_since old new room s t x) (sym e)
+      (subst (λ (x : Bool). Grown is_honest seen may_leave moment left_since old new room s t x) (sym same) grown, told)
 
-  pub recorded_err : (r : Result Bool Halt) (h k : Halt) → r ≡ Err h → h ≡ k → HasLeft seen may_leave moment left_since old new room s t (left_over room t k.pending)
-      → Recorded is_honest seen may_leave moment left_since old new room s t r
+  pub recorded_err : (r : Result Bool Halt) (h k : Halt) → r ≡ Err h → h ≡ k → HasLeft Is seen may_leave moment left_since old new room s t (left_over room t k.pending)
+      → Recorded Is is_honest seen may_leave moment left_since old new room s t r
   recorded_err r h k e same left =
-      subst (λ (x : Result Bool Halt). Recorded is_honest seen may_leave moment left_since old new room s t x) (sym e)
-      (subst (λ (x : Halt). HasLeft seen may_leave moment left_since old new room s t (left_over room t x.pending)) (sym same) left)
+      subst (λ (x : Result Bool Halt). Recorded Is is_honest seen may_leave moment left_since old new room s t x) (sym e)
+      (subst (λ (x : Halt). HasLeft Is seen may_leave moment left_since old new room s t (left_over room t x.pending)) (sym same) left)
+
+-- ---- the text of its offer
+
+-- it is so of words with the same node's number
+pub own_taking : {T : Type 0} (IsText : List ℕ → T → Type 0) (w v : SeatState) (ss : List (SightOf T)) → v.node.me ≡ w.node.me → (text : List ℕ)
+    → IsOwnText IsText record { words = w; sights = ss } text → IsOwnText IsText record { words = v; sights = ss } text
+own_taking {T} IsText w v ss me text has = (has.0, ap (λ (j : ℕ). value_at ss j) me ∙ has.1, has.2)
+
+-- and where what was seen stays
+pub own_seeing : {T : Type 0} (IsText : List ℕ → T → Type 0) (s t : SeatValue T) → t.words.node.me ≡ s.words.node.me → SeesOn s t → (text : List ℕ) → IsOwnText IsText s text → IsOwnText IsText t text
+own_seeing {T} IsText s t me seen text has = (has.0, ap (λ (j : ℕ). offer_of t j) me ∙ seen s.words.node.me has.0 has.1, has.2)
+
+-- looking at a cell behind what a call left of the journal
+pub played_seeing : {D T : Type 0} (IsText : List ℕ → T → Type 0) (is_honest : D → Type 0) (seen : D → List ℕ) (may_leave : D → List ℕ → Type 0) (moment : D → ℕ) (left_since : D → ℕ → List ℕ → Type 0) (old new : Log D) (room : ℕ)
+    (s : SeatState) (m t : SeatValue T) (moved : Bool) (progress : Progress) → t.words ≡ m.words → SeesOn m t → Recorded (IsOwnText IsText m) is_honest seen may_leave moment left_since old new room s m.words (Ok moved)
+    → progress ≡ progress_of s.node.learned t.words.node.learned moved → Played (IsOwnText IsText t) is_honest seen may_leave moment left_since old new room s t.words (Ok progress)
+played_seeing {D} {T} IsText is_honest seen may_leave moment left_since old new room s m t moved progress words sees left told = (
+  moved,
+  subst (λ (u : SeatState). Grown is_honest seen may_leave moment left_since old new room s u moved) (sym words) left.0,
+  λ rooms low ordered first now.
+      let is = left.1 rooms low ordered first (ap (λ (u : SeatState). u.node.kept.offered) (sym words) ∙ now) in
+      (is.0, is.1, own_seeing IsText m t (ap (λ (u : SeatState). u.node.me) words) sees is.0 is.2),
+  told,
+)
+
+-- what is so of the seat's value is so of its two parts
+pub seat_is : {T : Type 0} (P : SeatValue T → Type 0) (s : SeatValue T) (w : SeatState) (ss : List (SightOf T)) → record { words = w; sights = ss } ≡ s → P s → P record { words = w; sights = ss }
+seat_is {T} P s w ss is holds = subst P (sym is) holds
 
 -- ---- what is pending where it halts
 

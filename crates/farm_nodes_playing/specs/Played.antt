@@ -1,6 +1,7 @@
 -- One turn of a node in one room: what it tells, what it leaves, and why it halts.
 use Rattle.std.specs.Prelude.{◌≡◌, ℕ, ◌<◌, Bool, true, false, List, Option, Some, None, Result, Ok, Err}
 use Rattle.acceptor_log.specs.declared.log.Log.{Log}
+use Rattle.acceptor_log.specs.Acknowledged.{acknowledged}
 use Rattle.offers.specs.declared.parts.Parts.{Parts}
 use Rattle.rooms_state.specs.SeatState.{SeatState}
 use Rattle.rooms.specs.SeatValue.{SeatValue, IsOneRoom, offer_of}
@@ -9,6 +10,7 @@ use Rattle.farm_nodes_offers.specs.declared.halt.Fault.{Fault}
 use Rattle.farm_nodes_offers.specs.declared.halt.Fault.TheVariants.{NoMemory, Journal, TooManyRegisters, OtherRecords, CellRefused}
 use Rattle.farm_nodes_offers.specs.declared.halt.Halt.{Halt}
 use Rattle.farm_nodes_offers.specs.Halted.{HasLeft, left_over}
+use Rattle.farm_nodes_offers.specs.Told.{TellNew}
 use Rattle.farm_nodes_playing.specs.declared.progress.Progress.{Progress}
 use Rattle.farm_nodes_playing.specs.declared.progress.Progress.TheVariants.{Learned, Moved, Idle}
 
@@ -55,7 +57,7 @@ pub record HeldOffer {T : Type 0} (old new : SeatValue T) : Type 0 where
   pub seen : SeesOn old new
 
 -- what a turn leaves of a seat: the room, its node, its offer, and what it had learned and seen
-pub record Stays {T : Type 0} (old new : SeatValue T) : Type 0 where
+pub record StaysInTurn {T : Type 0} (old new : SeatValue T) : Type 0 where
   pub room : IsOneRoom old new
   pub me : new.words.node.me ≡ old.words.node.me
   pub quorums : new.words.node.quorums ≡ old.words.node.quorums
@@ -63,14 +65,16 @@ pub record Stays {T : Type 0} (old new : SeatValue T) : Type 0 where
   pub offered : old.words.node.kept.offered ≡ true → new.words.node.kept.offered ≡ true
   pub seen : SeesOn old new
 
--- What a turn leaves of the journal, by its result: what it tells is what was learned, and whether it has more records.
-abbrev pub Played : {D : Type 0} → (D → Type 0) → (D → List ℕ) → (D → List ℕ → Type 0) → (D → ℕ)
+-- What a turn leaves of the journal, by its result: what it tells is what was learned, and whether it has more records. An
+-- offer that was made is told, by a text that is so.
+abbrev pub Played : {D : Type 0} → (List ℕ → Type 0) → (D → Type 0) → (D → List ℕ) → (D → List ℕ → Type 0) → (D → ℕ)
     → (D → ℕ → List ℕ → Type 0) → Log D → Log D → ℕ → SeatState → SeatState → Result Progress Halt → Type 0
-Played is_honest seen may_leave moment left_since old new room s t (Ok progress) =
+Played Is is_honest seen may_leave moment left_since old new room s t (Ok progress) =
     (moved : Bool) × HasGrown is_honest seen may_leave moment left_since old new room s t moved
+    × TellNew Is room s t (acknowledged seen old) (acknowledged seen new)
     × (progress ≡ progress_of s.node.learned t.node.learned moved)
-Played is_honest seen may_leave moment left_since old new room s t (Err halt) =
-    HasLeft seen may_leave moment left_since old new room s t (left_over room t halt.pending)
+Played Is is_honest seen may_leave moment left_since old new room s t (Err halt) =
+    HasLeft Is seen may_leave moment left_since old new room s t (left_over room t halt.pending)
 
 -- this is the output of the offer that the node has learned here, as the seat has seen it
 pub record IsLearnedOutput {I O C : Type 0} (s : SeatValue (Parts I O C)) (made : O) : Type 0 where

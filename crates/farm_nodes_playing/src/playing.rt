@@ -8,8 +8,9 @@ ghost use Rattle.farm_nodes_leading.specs.Served.{IsServed};
 ghost use Rattle.farm_nodes_leading.specs.Quiet.{IsQuiet};
 ghost use Rattle.farm_nodes_leading.specs.Leading.{HasLed};
 ghost use Rattle.farm_nodes_offers.specs.Halted.{left_over, Recorded, HasHaltCause};
-ghost use Rattle.farm_nodes_offers.specs.Pending.{IsTextOf, MayPendOn};
-ghost use Rattle.farm_nodes_playing.specs.Played.{IsMadeOn, IsTooLarge, Played, SeesOn, Stays};
+ghost use Rattle.farm_nodes_offers.specs.Pending.{IsOfferText, MayPendOn};
+ghost use Rattle.farm_nodes_offers.specs.Told.{IsOwnText};
+ghost use Rattle.farm_nodes_playing.specs.Played.{IsMadeOn, IsTooLarge, Played, SeesOn, StaysInTurn};
 
 use crate::offering::offer_on;
 use crate::progress::Progress;
@@ -36,7 +37,7 @@ pub fn play<D: Disk, P: Pass, O: Oracle<P = P>>(
     requires { IsSound D.is_honest D.seen D.may_leave log.old }
     ensures served { IsServed D.is_honest D.seen D.may_leave D.faults log.old log.new }
     ensures going { IfOk result (λ progress. log.new.going ≡ log.old.going) }
-    ensures stays { Stays seat.old seat.new }
+    ensures stays { StaysInTurn seat.old seat.new }
 
     // An offer that it makes has the input.
     ensures made { IsMadeOn (option_copied input.entry) seat.old seat.new }
@@ -50,11 +51,12 @@ pub fn play<D: Disk, P: Pass, O: Oracle<P = P>>(
         → HasLed seat.new.words) }
 
     // Where it halts it had not done what is pending: an act asked of a node of the room, or its offer.
-    ensures left { IfErr result (λ halt. MayPendOn (IsTextOf P.In.Language P.Out.Language P.Pass)
+    ensures left { IfErr result (λ halt. MayPendOn (IsOfferText P.In.Language P.Out.Language P.Pass)
         room seat.new halt.pending) }
 
     // What it tells is what it learned, and whether the journal has more records.
     ensures journal { D.is_honest log.old.disk → log.old.going ≡ true → Played
+        (IsOwnText (IsOfferText P.In.Language P.Out.Language P.Pass) seat.new)
         D.is_honest D.seen D.may_leave D.moment D.left_since log.old log.new room seat.old.words seat.new.words result }
     ensures cause { log.old.going ≡ true → IfErr result (λ halt. HasHaltCause D.is_honest D.faults
         (IsTooLarge P.too_large (option_copied input.entry))
@@ -82,16 +84,17 @@ fn take_steps<D: Disk, P: Pass, O: Oracle<P = P>>(
     requires { IsSound D.is_honest D.seen D.may_leave log.old }
     ensures served { IsServed D.is_honest D.seen D.may_leave D.faults log.old log.new }
     ensures going { IfOk result (λ moved. log.new.going ≡ log.old.going) }
-    ensures stays { Stays seat.old seat.new }
+    ensures stays { StaysInTurn seat.old seat.new }
     ensures made { IsMadeOn (option_copied input.entry) seat.old seat.new }
     ensures offered { OnOk result (IsSome input.entry → seat.new.words.node.kept.offered ≡ true) }
     ensures quiet { OnOk result ((j : ℕ) → j < seat.new.words.node.quorums.nodes → IsQuiet j seat.new.words) }
     ensures proposed { OnOk result (would seat.new.words asked.Propose ≡ None) }
     ensures led { OnOk result (seat.old.words.node.kept.offered ≡ true → (pcg32 words.old).0 % 4 ≡ 0
         → HasLed seat.new.words) }
-    ensures left { IfErr result (λ halt. MayPendOn (IsTextOf P.In.Language P.Out.Language P.Pass)
+    ensures left { IfErr result (λ halt. MayPendOn (IsOfferText P.In.Language P.Out.Language P.Pass)
         room seat.new halt.pending) }
     ensures journal { D.is_honest log.old.disk → log.old.going ≡ true → Recorded
+        (IsOwnText (IsOfferText P.In.Language P.Out.Language P.Pass) seat.new)
         D.is_honest D.seen D.may_leave D.moment D.left_since log.old log.new room seat.old.words seat.new.words result }
     ensures cause { log.old.going ≡ true → IfErr result (λ halt. HasHaltCause D.is_honest D.faults
         (IsTooLarge P.too_large (option_copied input.entry))

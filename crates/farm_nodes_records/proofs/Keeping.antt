@@ -3,7 +3,7 @@ use Rattle.std.proofs.Common.{◌≡◌, ℕ, Bool, true, false, cond, eqb, List
 use Rattle.std.specs.Prelude.{is_some}
 use Rattle.paxos_core_world.specs.KeptPart.{KeptPart}
 use Rattle.acceptor_log_form.specs.declared.record.Record.{Record}
-use Rattle.acceptor_log_form.specs.declared.record.Record.TheVariants.{Offered, Started, Proposed, Promised, Accepted}
+use Rattle.acceptor_log_form.specs.declared.record.Record.TheVariants.{Offered, Started, Proposed, Promised, Accepted, Summary}
 use Rattle.acceptor_log_form.specs.Text.{room_of}
 use Rattle.acceptor_log_form.specs.Leaves.{left_from, kept_by}
 use Rattle.farm_nodes_records.specs.Written.{offer_by}
@@ -14,6 +14,7 @@ by_one k o (Started room b) is = is
 by_one k o (Proposed room b v) is = is
 by_one k o (Promised room b) is = is
 by_one k o (Accepted room b v) is = is
+by_one k o (Summary room s p x) is = is
 
 by_choice : (here : Bool) (k l : KeptPart) (o p : Option (List ℕ)) → k.offered ≡ is_some o → l.offered ≡ is_some p → (cond here k l).offered ≡ is_some (cond here o p)
 by_choice true k l o p first second = first

@@ -6,7 +6,7 @@ use Rattle.std.proofs.lemmas.Bool.{eq-eqb, ne_eqb, cases_eq}
 use Rattle.lang_base.specs.declared.language.Language as language
 use Rattle.lang_base.specs.declared.pass.Pass as pass
 use Rattle.acceptor_log_form.specs.declared.record.Record.{Record}
-use Rattle.acceptor_log_form.specs.declared.record.Record.TheVariants.{Offered, Started, Proposed, Promised, Accepted}
+use Rattle.acceptor_log_form.specs.declared.record.Record.TheVariants.{Offered, Started, Proposed, Promised, Accepted, Summary}
 use Rattle.acceptor_log_form.specs.Leaves.{left_from}
 use Rattle.offers.specs.declared.parts.Parts.{Parts}
 use Rattle.offers.specs.Text.{text_of}
@@ -14,7 +14,7 @@ use Rattle.farm_nodes_passes.specs.declared.which.Which.{Which}
 use Rattle.farm_nodes_passes.specs.declared.which.Which.TheVariants.{First, Second, Third, Fourth}
 use Rattle.farm_nodes_passes.specs.Numbers.{place_of, room_at}
 use Rattle.farm_nodes_records.specs.Written.{all_written, offer_by}
-use Rattle.farm_nodes_records.specs.Stored.{IsTextOf}
+use Rattle.farm_nodes_records.specs.Stored.{IsStoredText}
 use Rattle.farm_nodes_records.specs.Known.{last_in}
 
 below_four : (which : Which) → place_of which < 4
@@ -44,7 +44,7 @@ module _ {P A B C I O : Type 0} (from : language.Ghosts A I) (to : language.Ghos
   Text = text_of from to by
 
   abbrev pub Is : Option (List ℕ) → Option (Parts I O C) → Type 0
-  Is = IsTextOf from to by
+  Is = IsStoredText from to by
 
   chosen : (here : Bool) (text : List ℕ) (x : Parts I O C) (o : Option (List ℕ)) (p : Option (Parts I O C)) → text ≡ Text x → Is o p → Is (cond here (Some text) o) (cond here (Some x) p)
   chosen true text x o p spelled is = spelled
@@ -108,6 +108,7 @@ module _ {P A B C I O : Type 0} (from : language.Ghosts A I) (to : language.Ghos
     known_from (Proposed m b v ∷ rs) o p rooms xs is rooms_are texts_are = none (eqb m room) rs (known_from rs) o p rooms xs is rooms_are texts_are
     known_from (Promised m b ∷ rs) o p rooms xs is rooms_are texts_are = none (eqb m room) rs (known_from rs) o p rooms xs is rooms_are texts_are
     known_from (Accepted m b v ∷ rs) o p rooms xs is rooms_are texts_are = none (eqb m room) rs (known_from rs) o p rooms xs is rooms_are texts_are
+    known_from (Summary m s q x ∷ rs) o p rooms xs is rooms_are texts_are = none (eqb m room) rs (known_from rs) o p rooms xs is rooms_are texts_are
 
   -- there is an offer exactly where there is a text
   pub both_there : (o : Option (List ℕ)) (p : Option (Parts I O C)) → Is o p → is_some o ≡ is_some p

@@ -26,8 +26,8 @@ module _ {P A B C I O : Type 0} (from : language.Ghosts A I) (to : language.Ghos
     pub none : IsNoText from to by text
 
   -- the offer is that of the text, and there is one exactly where there is a text
-  abbrev pub IsTextOf : Option (List ℕ) → Option (Parts I O C) → Type 0
-  IsTextOf None None = Unit {0}
-  IsTextOf None (Some x) = ⊥
-  IsTextOf (Some text) None = ⊥
-  IsTextOf (Some text) (Some x) = text ≡ text_of from to by x
+  abbrev pub IsStoredText : Option (List ℕ) → Option (Parts I O C) → Type 0
+  IsStoredText None None = Unit {0}
+  IsStoredText None (Some x) = ⊥
+  IsStoredText (Some text) None = ⊥
+  IsStoredText (Some text) (Some x) = text ≡ text_of from to by x

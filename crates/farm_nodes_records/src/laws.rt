@@ -8,7 +8,7 @@ ghost use Rattle.farm_nodes_passes.specs.declared.which.Which.{Which};
 ghost use Rattle.farm_nodes_passes.specs.Numbers.{room_at};
 ghost use Rattle.farm_nodes_records.specs.declared.storing.Stored.{Stored};
 ghost use Rattle.farm_nodes_records.specs.Written.{offer_in};
-ghost use Rattle.farm_nodes_records.specs.Stored.{IsStored, IsTextOf};
+ghost use Rattle.farm_nodes_records.specs.Stored.{IsStored, IsStoredText};
 ghost use Rattle.farm_nodes_records.specs.Known.{AreKnown};
 
 use lang_base::Pass;
@@ -24,7 +24,7 @@ pub fn known_is_written<P: Pass>()
         (offers : List (Option (Parts P.In.Fun P.Out.Fun P.Cert))) →
         IsStored P.In.Language P.Out.Language P.Pass pass rs stored → AreKnown functions stored offers →
         (f : ℕ) → f < functions → (offer : Option (Parts P.In.Fun P.Out.Fun P.Cert)) → slice_get offers f ≡ Some offer →
-        IsTextOf P.In.Language P.Out.Language P.Pass (offer_in rs (room_at f pass)) offer }
+        IsStoredText P.In.Language P.Out.Language P.Pass (offer_in rs (room_at f pass)) offer }
 {}
 
 /// A node has kept that it offered in a room of a pass exactly where an offer of the room's function is known.

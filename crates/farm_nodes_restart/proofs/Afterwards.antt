@@ -1,5 +1,5 @@
 -- What records leave of a node's seats once what was pending is done, and once the seats have forgotten.
-use Rattle.std.proofs.Common.{◌≡◌, ◌≢◌, ℕ, ◌<◌, List, [], ◌∷◌, length, map, get_or, Option, Some, None, Result, Ok, Err, OnOk, OnErr, set, refl, sym, ap, ◌∙◌, subst, arith, inl, inr}
+use Rattle.std.proofs.Common.{◌≡◌, ◌≢◌, ℕ, ◌<◌, true, List, [], ◌∷◌, length, map, get_or, Option, Some, None, Result, Ok, Err, OnOk, OnErr, set, refl, sym, ap, ◌∙◌, subst, arith, inl, inr}
 use Rattle.std.specs.Prelude.{slice_get}
 use Rattle.std.proofs.lemmas.Bool.{cases_eq}
 use Rattle.std.proofs.lemmas.List.{length-map, length-set}
@@ -16,11 +16,14 @@ use Rattle.farm_nodes_restart_records.specs.Which.{Which}
 use Rattle.farm_nodes_restart_records.specs.Which.TheVariants.{First, Second, Third, Fourth}
 use Rattle.farm_nodes_restart_records.specs.Fours.{words_of, Four}
 use Rattle.farm_nodes_restart_records.specs.Leaves.{left_in, pending_at, IsPendingIn, Leave, MayPend}
+use Rattle.farm_nodes_restart_records.specs.Texts.{Texts, texts_by, IsOwnTextIn}
+use Rattle.farm_nodes_offers.specs.Told.{offer_by, offer_in, IsToldAs}
+use Rattle.farm_nodes_order.proofs.Told.{offer_other, offer_own}
 use Rattle.farm_nodes_restart_records.specs.Found.{EndsWith, IsFound, LeaveWith}
 use Rattle.farm_nodes_restart_records.specs.declared.finding.Found.{Found}
 use Rattle.farm_nodes_restart_seat.specs.Places.{AllChanged}
 use Rattle.farm_nodes_restart.specs.Returned.{HasStepped, HaveForgotten, HaveReturned, IsTaken, TookAt, TookIn}
-use Rattle.farm_nodes_restart_seat.proofs.Records.{forgotten_kept, took_record, IsRecordOf}
+use Rattle.farm_nodes_restart_seat.proofs.Records.{forgotten_kept, forgotten_own, took_record, took_told, IsRecordOf}
 use Rattle.farm_nodes_restart_seat.proofs.Places.{get_set_other, get_set_same, lent_at, ok_changed_at, seen_at, some_same, there_is}
 use Rattle.farm_nodes_restart_records.proofs.Rooms.{same_room}
 
@@ -55,10 +58,36 @@ module _ {X1 X2 X3 X4 : Type 0} (IsText1 : List ℕ → X1 → Type 0) (IsText2 
   others_words Fourth Third p old new took other = ap (λ (s : Four X1 X2 X3 X4). s.third.words) took.1
   others_words Fourth Fourth p old new took other = absurd (other refl)
 
+  -- the record tells the text of the offer that stands then, if one does
+  taken_told : (w : Which) (p : Pending) (old new : Four X1 X2 X3 X4) (last : Record) (told : Option (List ℕ)) → Taken w p old new → pending_of room (words_of old w) p ≡ last ∷ []
+      → ((words_of old w).node.kept.offered ≡ true → IsToldAs (IsOwnTextIn (texts_by IsText1 IsText2 IsText3 IsText4) w old) told) → (words_of new w).node.kept.offered ≡ true → IsToldAs (IsOwnTextIn (texts_by IsText1 IsText2 IsText3 IsText4) w new) (offer_by told last)
+  taken_told First p old new last told took e had now = took_told IsText1 room p old.first new.first last told took.0 e had now
+  taken_told Second p old new last told took e had now = took_told IsText2 room p old.second new.second last told took.0 e had now
+  taken_told Third p old new last told took e had now = took_told IsText3 room p old.third new.third last told took.0 e had now
+  taken_told Fourth p old new last told took e had now = took_told IsText4 room p old.fourth new.fourth last told took.0 e had now
+
+  others_own : (w v : Which) (p : Pending) (old new : Four X1 X2 X3 X4) → Taken w p old new → v ≢ w → (text : List ℕ) → IsOwnTextIn (texts_by IsText1 IsText2 IsText3 IsText4) v old text → IsOwnTextIn (texts_by IsText1 IsText2 IsText3 IsText4) v new text
+  others_own First First p old new took other text own = absurd (other refl)
+  others_own First Second p old new took other text own = subst (λ (s : Four X1 X2 X3 X4). IsOwnTextIn (texts_by IsText1 IsText2 IsText3 IsText4) Second s text) (sym took.1) own
+  others_own First Third p old new took other text own = subst (λ (s : Four X1 X2 X3 X4). IsOwnTextIn (texts_by IsText1 IsText2 IsText3 IsText4) Third s text) (sym took.1) own
+  others_own First Fourth p old new took other text own = subst (λ (s : Four X1 X2 X3 X4). IsOwnTextIn (texts_by IsText1 IsText2 IsText3 IsText4) Fourth s text) (sym took.1) own
+  others_own Second First p old new took other text own = subst (λ (s : Four X1 X2 X3 X4). IsOwnTextIn (texts_by IsText1 IsText2 IsText3 IsText4) First s text) (sym took.1) own
+  others_own Second Second p old new took other text own = absurd (other refl)
+  others_own Second Third p old new took other text own = subst (λ (s : Four X1 X2 X3 X4). IsOwnTextIn (texts_by IsText1 IsText2 IsText3 IsText4) Third s text) (sym took.1) own
+  others_own Second Fourth p old new took other text own = subst (λ (s : Four X1 X2 X3 X4). IsOwnTextIn (texts_by IsText1 IsText2 IsText3 IsText4) Fourth s text) (sym took.1) own
+  others_own Third First p old new took other text own = subst (λ (s : Four X1 X2 X3 X4). IsOwnTextIn (texts_by IsText1 IsText2 IsText3 IsText4) First s text) (sym took.1) own
+  others_own Third Second p old new took other text own = subst (λ (s : Four X1 X2 X3 X4). IsOwnTextIn (texts_by IsText1 IsText2 IsText3 IsText4) Second s text) (sym took.1) own
+  others_own Third Third p old new took other text own = absurd (other refl)
+  others_own Third Fourth p old new took other text own = subst (λ (s : Four X1 X2 X3 X4). IsOwnTextIn (texts_by IsText1 IsText2 IsText3 IsText4) Fourth s text) (sym took.1) own
+  others_own Fourth First p old new took other text own = subst (λ (s : Four X1 X2 X3 X4). IsOwnTextIn (texts_by IsText1 IsText2 IsText3 IsText4) First s text) (sym took.1) own
+  others_own Fourth Second p old new took other text own = subst (λ (s : Four X1 X2 X3 X4). IsOwnTextIn (texts_by IsText1 IsText2 IsText3 IsText4) Second s text) (sym took.1) own
+  others_own Fourth Third p old new took other text own = subst (λ (s : Four X1 X2 X3 X4). IsOwnTextIn (texts_by IsText1 IsText2 IsText3 IsText4) Third s text) (sym took.1) own
+  others_own Fourth Fourth p old new took other text own = absurd (other refl)
+
   -- ---- with all
 
   module _ (p : Pending) (old new : List (Four X1 X2 X3 X4)) (took : TookAt IsText1 IsText2 IsText3 IsText4 room p old new) (front rs : List Record)
-      (ends : EndsWith (pending_at old room (Some p)) front rs) (leave : Leave old front) where
+      (ends : EndsWith (pending_at old room (Some p)) front rs) (leave : Leave (texts_by IsText1 IsText2 IsText3 IsText4) old front) where
     own : IsRecordOf room (words_of took.before (pass_of room)) (words_of took.after (pass_of room)) ends.0
     own =
         taken_record (pass_of room) p took.before took.after ends.0 took.change
@@ -103,7 +132,47 @@ module _ {X1 X2 X3 X4 : Type 0} (IsText1 : List ℕ → X1 → Type 0) (IsText2 
         elsewhere m other
         ∙ leave.rooms m s (sym (get_set_other old (function_of room) (function_of m) took.after apart) ∙ (sym (now_at (function_of m)) ∙ at))
 
-    leave_taken : Leave new rs
+    -- the texts of the offers
+    abbrev Tells : Four X1 X2 X3 X4 → ℕ → Type 0
+    Tells s m = (words_of s (pass_of m)).node.kept.offered ≡ true → IsToldAs (IsOwnTextIn (texts_by IsText1 IsText2 IsText3 IsText4) (pass_of m) s) (offer_in rs m)
+
+    told_elsewhere : (m : ℕ) → m ≢ room → offer_in rs m ≡ offer_in front m
+    told_elsewhere m other =
+        ap (λ (l : List Record). offer_in l m) ends.2
+        ∙ offer_other front ends.0 m (λ e. other (sym e ∙ own.0))
+
+    tells_here : Tells took.after room
+    tells_here now =
+        let told = taken_told (pass_of room) p took.before took.after ends.0 (offer_in front room) took.change
+        (ap (λ (o : Option (Four X1 X2 X3 X4)). left_in o room (Some p)) (sym took.there) ∙ ends.1)
+        (leave.offers room took.before took.there) now in (
+          told.0,
+          ap (λ (l : List Record). offer_in l room) ends.2 ∙ (offer_own front ends.0 room own.0 ∙ told.1),
+          told.2,
+        )
+
+    tells_room : (m : ℕ) (s : Four X1 X2 X3 X4) → m ≡ room → slice_get new (function_of m) ≡ Some s → Tells s m
+    tells_room m s same at =
+        let after : took.after ≡ s = is_after (function_of m) s (ap function_of same) at in
+        subst (λ (j : ℕ). Tells s j) (sym same) (subst (λ (t : Four X1 X2 X3 X4). Tells t room) after tells_here)
+
+    tells_beside : (m : ℕ) (s : Four X1 X2 X3 X4) → m ≢ room → function_of m ≡ function_of room → slice_get new (function_of m) ≡ Some s → Tells s m
+    tells_beside m s other same at =
+        let after : took.after ≡ s = is_after (function_of m) s same at in
+        let there : slice_get old (function_of m) ≡ Some took.before = ap (λ (j : ℕ). slice_get old j) same ∙ took.there in
+        let apart : pass_of m ≢ pass_of room = (λ e. other (same_room m room same e)) in
+        subst (λ (t : Four X1 X2 X3 X4). Tells t m) after
+        (λ now.
+        let words : words_of took.after (pass_of m) ≡ words_of took.before (pass_of m) = others_words (pass_of room) (pass_of m) p took.before took.after took.change apart in
+        let told = leave.offers m took.before there (ap (λ (u : SeatState). u.node.kept.offered) (sym words) ∙ now) in
+        (told.0, told_elsewhere m other ∙ told.1, others_own (pass_of room) (pass_of m) p took.before took.after took.change apart told.0 told.2))
+
+    tells_away : (m : ℕ) (s : Four X1 X2 X3 X4) → m ≢ room → function_of m ≢ function_of room → slice_get new (function_of m) ≡ Some s → Tells s m
+    tells_away m s other apart at now =
+        let told = leave.offers m s (sym (get_set_other old (function_of room) (function_of m) took.after apart) ∙ (sym (now_at (function_of m)) ∙ at)) now in
+        (told.0, told_elsewhere m other ∙ told.1, told.2)
+
+    leave_taken : Leave (texts_by IsText1 IsText2 IsText3 IsText4) new rs
     leave_taken = record {
       rooms = λ m s at.
           elim (cases_eq m room) [
@@ -118,15 +187,23 @@ module _ {X1 X2 X3 X4 : Type 0} (IsText1 : List ℕ → X1 → Type 0) (IsText2 
           let within : function_of room < length old = slice_get_within old (function_of room) took.before took.there in
           let apart : m ≢ room = (λ e. let same : function_of m ≡ function_of room = ap function_of e in absurd (omega (arith, above, size, within, same))) in
           elsewhere m apart ∙ leave.no_others m (omega (arith, above, size));
+      offers = λ m s at.
+          elim (cases_eq m room) [
+            | inl same ↦ tells_room m s same at
+            | inr other ↦ elim (cases_eq (function_of m) (function_of room)) [
+              | inl same ↦ tells_beside m s other same at
+              | inr apart ↦ tells_away m s other apart at
+            ]
+          ];
     }
 
-  leave_done : (p : Option Pending) (old new : List (Four X1 X2 X3 X4)) (rs : List Record) → LeaveWith old room p rs → IsTaken IsText1 IsText2 IsText3 IsText4 room p old new → Leave new rs
+  leave_done : (p : Option Pending) (old new : List (Four X1 X2 X3 X4)) (rs : List Record) → LeaveWith (texts_by IsText1 IsText2 IsText3 IsText4) old room p rs → IsTaken IsText1 IsText2 IsText3 IsText4 room p old new → Leave (texts_by IsText1 IsText2 IsText3 IsText4) new rs
   leave_done None old new rs all taken = absurd taken
   leave_done (Some p) old new rs all taken = leave_taken p old new taken all.front rs all.ends all.leave
 
-  leave_stepped : (p : Option Pending) (old new : List (Four X1 X2 X3 X4)) (rs : List Record) → HasStepped IsText1 IsText2 IsText3 IsText4 room p rs old new → Leave new rs
+  leave_stepped : (p : Option Pending) (old new : List (Four X1 X2 X3 X4)) (rs : List Record) → HasStepped IsText1 IsText2 IsText3 IsText4 room p rs old new → Leave (texts_by IsText1 IsText2 IsText3 IsText4) new rs
   leave_stepped p old new rs (inl done) = leave_done p old new rs done.0 done.1
-  leave_stepped p old new rs (inr none) = subst (λ (l : List (Four X1 X2 X3 X4)). Leave l rs) (sym none.2) none.1
+  leave_stepped p old new rs (inr none) = subst (λ (l : List (Four X1 X2 X3 X4)). Leave (texts_by IsText1 IsText2 IsText3 IsText4) l rs) (sym none.2) none.1
 
 -- ---- once they have forgotten
 
@@ -136,14 +213,26 @@ four_kept old new Second forgot = forgotten_kept old.second new.second forgot.se
 four_kept old new Third forgot = forgotten_kept old.third new.third forgot.third
 four_kept old new Fourth forgot = forgotten_kept old.fourth new.fourth forgot.fourth
 
-leave_forgot : {X1 X2 X3 X4 : Type 0} (old new : List (Four X1 X2 X3 X4)) (rs : List Record) → AllChanged HaveForgotten old new → Leave old rs → Leave new rs
-leave_forgot old new rs forgot leave = record {
+four_own : {X1 X2 X3 X4 : Type 0} (texts : Texts X1 X2 X3 X4) (old new : Four X1 X2 X3 X4) (w : Which) → HaveForgotten old new → (text : List ℕ) → IsOwnTextIn texts w old text → IsOwnTextIn texts w new text
+four_own texts old new First forgot text own = forgotten_own texts.first old.first new.first forgot.first text own
+four_own texts old new Second forgot text own = forgotten_own texts.second old.second new.second forgot.second text own
+four_own texts old new Third forgot text own = forgotten_own texts.third old.third new.third forgot.third text own
+four_own texts old new Fourth forgot text own = forgotten_own texts.fourth old.fourth new.fourth forgot.fourth text own
+
+leave_forgot : {X1 X2 X3 X4 : Type 0} (texts : Texts X1 X2 X3 X4) (old new : List (Four X1 X2 X3 X4)) (rs : List Record) → AllChanged HaveForgotten old new → Leave texts old rs → Leave texts new rs
+leave_forgot texts old new rs forgot leave = record {
   rooms = λ m t at.
       let within : function_of m < length new = slice_get_within new (function_of m) t at in
       let before = there_is old (function_of m) (omega (arith, within, forgot.count)) in
       leave.rooms m before.0 before.1
       ∙ sym (four_kept before.0 t (pass_of m) (forgot.each (function_of m) before.0 t before.1 at));
   no_others = λ m above. leave.no_others m (omega (arith, above, forgot.count));
+  offers = λ m t at now.
+      let within : function_of m < length new = slice_get_within new (function_of m) t at in
+      let before = there_is old (function_of m) (omega (arith, within, forgot.count)) in
+      let changed = forgot.each (function_of m) before.0 t before.1 at in
+      let told = leave.offers m before.0 before.1 (ap (λ (k : KeptPart). k.offered) (sym (four_kept before.0 t (pass_of m) changed)) ∙ now) in
+      (told.0, told.1, four_own texts before.0 t (pass_of m) changed told.0 told.2);
 }
 
 module _ {X1 X2 X3 X4 : Type 0} (IsText1 : List ℕ → X1 → Type 0) (IsText2 : List ℕ → X2 → Type 0)
@@ -154,7 +243,7 @@ module _ {X1 X2 X3 X4 : Type 0} (IsText1 : List ℕ → X1 → Type 0) (IsText2 
     between = mid;
     stepped = stepped;
     forgot = forgot;
-    leave = leave_forgot mid new rs forgot (leave_stepped IsText1 IsText2 IsText3 IsText4 room p old mid rs stepped);
+    leave = leave_forgot (texts_by IsText1 IsText2 IsText3 IsText4) mid new rs forgot (leave_stepped IsText1 IsText2 IsText3 IsText4 room p old mid rs stepped);
   }
 
 -- ---- what calls answer
@@ -202,7 +291,7 @@ module _ {X1 X2 X3 X4 : Type 0} (IsText1 : List ℕ → X1 → Type 0) (IsText2 
   is_taken told room q p old new is took = subst (λ (r : Option Pending). OnOk told (IsTaken IsText1 IsText2 IsText3 IsText4 room r old new)) (sym is) took
 
   -- the record of what is pending stands last, and it is done
-  pub stepped_taken : {A E : Type 0} (told : Result A E) (room : ℕ) (p : Option Pending) (rs : List Record) (old new : List (Four X1 X2 X3 X4)) → LeaveWith old room p rs
+  pub stepped_taken : {A E : Type 0} (told : Result A E) (room : ℕ) (p : Option Pending) (rs : List Record) (old new : List (Four X1 X2 X3 X4)) → LeaveWith (texts_by IsText1 IsText2 IsText3 IsText4) old room p rs
       → OnOk told (IsTaken IsText1 IsText2 IsText3 IsText4 room p old new) → OnOk told (HasStepped IsText1 IsText2 IsText3 IsText4 room p rs old new)
   stepped_taken (Ok a) room p rs old new all taken = inl (all, taken)
   stepped_taken (Err e) room p rs old new all taken = tt
@@ -212,6 +301,6 @@ module _ {X1 X2 X3 X4 : Type 0} (IsText1 : List ℕ → X1 → Type 0) (IsText2 
   returned_over room p rs qs old new same back = subst (λ (l : List Record). HaveReturned IsText1 IsText2 IsText3 IsText4 room p l old new) same back
 
 -- what the records were found to be
-module _ {X1 X2 X3 X4 : Type 0} (seats : List (Four X1 X2 X3 X4)) (room : ℕ) (p : Option Pending) (rs : List Record) (f : Found) where
-  pub found_at : (g : Found) → f ≡ g → IsFound seats room p rs f → IsFound seats room p rs g
-  found_at g is found = subst (λ (x : Found). IsFound seats room p rs x) is found
+module _ {X1 X2 X3 X4 : Type 0} (texts : Texts X1 X2 X3 X4) (seats : List (Four X1 X2 X3 X4)) (room : ℕ) (p : Option Pending) (rs : List Record) (f : Found) where
+  pub found_at : (g : Found) → f ≡ g → IsFound texts seats room p rs f → IsFound texts seats room p rs g
+  found_at g is found = subst (λ (x : Found). IsFound texts seats room p rs x) is found

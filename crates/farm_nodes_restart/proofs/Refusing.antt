@@ -11,13 +11,14 @@ use Rattle.farm_nodes_acting.specs.declared.stop.Pending.TheVariants.{Act, Offer
 use Rattle.farm_nodes_restart_records.specs.Fours.{Four}
 use Rattle.farm_nodes_restart_seat.specs.declared.fault.RestartFault.{RestartFault}
 use Rattle.farm_nodes_restart_seat.specs.declared.fault.RestartFault.TheVariants.{NoMemory, Journal, OtherRecords, CellRefused}
-use Rattle.farm_nodes_restart_seat.specs.Refusals.{fault_of}
+use Rattle.farm_nodes_restart_seat.specs.Refusals.{restart_fault}
 use Rattle.farm_nodes_restart_seat.specs.Taken.{IsTakeFault}
 use Rattle.farm_nodes_restart_records.specs.Found.{LeaveWith}
-use Rattle.farm_nodes_restart.specs.Returned.{HasCause, HoldsBack, IsPendingFault}
+use Rattle.farm_nodes_restart_records.specs.Texts.{Texts}
+use Rattle.farm_nodes_restart.specs.Returned.{HasReason, HoldsBack, IsPendingFault}
 use Rattle.farm_nodes_restart_records.proofs.Leaving.{IsRefused}
 
-pub device_of : (e : LogError) → fault_of e ≡ Journal log.Device → e ≡ log.Device
+pub device_of : (e : LogError) → restart_fault e ≡ Journal log.Device → e ≡ log.Device
 device_of log.NoMemory is = absurd (cc)
 device_of log.Device is = refl
 device_of log.NotAJournal is = absurd (cc)
@@ -26,8 +27,8 @@ device_of log.OtherSource is = absurd (cc)
 device_of log.Stopped is = absurd (cc)
 device_of log.Full is = absurd (cc)
 
-module _ {X1 X2 X3 X4 : Type 0} (h : Header) (rooms : ℕ) (seats : List (Four X1 X2 X3 X4)) (room : ℕ) (p : Option Pending) where
-  pub not_opened : (bytes : List ℕ) (e : LogError) → (e ≢ log.NoMemory → e ≢ log.Device → HasFault h bytes e) → HasCause h rooms seats room p bytes (fault_of e)
+module _ {X1 X2 X3 X4 : Type 0} (texts : Texts X1 X2 X3 X4) (h : Header) (rooms : ℕ) (seats : List (Four X1 X2 X3 X4)) (room : ℕ) (p : Option Pending) where
+  pub not_opened : (bytes : List ℕ) (e : LogError) → (e ≢ log.NoMemory → e ≢ log.Device → HasFault h bytes e) → HasReason texts h rooms seats room p bytes (restart_fault e)
   not_opened bytes log.NoMemory fault = inl refl
   not_opened bytes log.Device fault = inr (inl refl)
   not_opened bytes log.NotAJournal fault = inr (inr (inl (log.NotAJournal, refl, fault (λ e. absurd (cc)) (λ e. absurd (cc)))))
@@ -37,7 +38,7 @@ module _ {X1 X2 X3 X4 : Type 0} (h : Header) (rooms : ℕ) (seats : List (Four X
   not_opened bytes log.Full fault = absurd (fault (λ e. absurd (cc)) (λ e. absurd (cc)))
 
   module _ (rs : List Record) where
-    pub out_of_order : (e : LogError) → IsRefused h.nodes h.node rooms rs e → HoldsBack h rooms seats room p rs (fault_of e)
+    pub out_of_order : (e : LogError) → IsRefused h.nodes h.node rooms rs e → HoldsBack texts h rooms seats room p rs (restart_fault e)
     out_of_order log.NoMemory refused = tt
     out_of_order log.Device refused = refused (λ e. absurd (cc))
     out_of_order log.NotAJournal refused = refused (λ e. absurd (cc))
@@ -46,13 +47,13 @@ module _ {X1 X2 X3 X4 : Type 0} (h : Header) (rooms : ℕ) (seats : List (Four X
     out_of_order log.Stopped refused = refused (λ e. absurd (cc))
     out_of_order log.Full refused = refused (λ e. absurd (cc))
 
-    pub no_device : (fault : RestartFault) → HoldsBack h rooms seats room p rs fault → fault ≡ Journal log.Device → ⊥
+    pub no_device : (fault : RestartFault) → HoldsBack texts h rooms seats room p rs fault → fault ≡ Journal log.Device → ⊥
     no_device fault held is =
-        let bad : log.Device ≡ log.BadRecord = (subst (λ (f : RestartFault). HoldsBack h rooms seats room p rs f) is held).0 in
+        let bad : log.Device ≡ log.BadRecord = (subst (λ (f : RestartFault). HoldsBack texts h rooms seats room p rs f) is held).0 in
         absurd (cc)
 
-module _ {X1 X2 X3 X4 : Type 0} (h : Header) (rooms : ℕ) (seats : List (Four X1 X2 X3 X4)) (room : ℕ) (rs : List Record) (order : AreInOrder h.nodes h.node rooms rs) where
-  not_taken : (p : Option Pending) → LeaveWith seats room p rs → (fault : RestartFault) → IsPendingFault p fault → HoldsBack h rooms seats room p rs fault
+module _ {X1 X2 X3 X4 : Type 0} (texts : Texts X1 X2 X3 X4) (h : Header) (rooms : ℕ) (seats : List (Four X1 X2 X3 X4)) (room : ℕ) (rs : List Record) (order : AreInOrder h.nodes h.node rooms rs) where
+  not_taken : (p : Option Pending) → LeaveWith texts seats room p rs → (fault : RestartFault) → IsPendingFault p fault → HoldsBack texts h rooms seats room p rs fault
   not_taken None all fault is = absurd is
   not_taken (Some (Act a)) all fault is = absurd is
   not_taken (Some (Offer r)) all NoMemory is = tt
@@ -60,8 +61,8 @@ module _ {X1 X2 X3 X4 : Type 0} (h : Header) (rooms : ℕ) (seats : List (Four X
   not_taken (Some (Offer r)) all OtherRecords is = absurd is
   not_taken (Some (Offer r)) all CellRefused is = (order, all, tt)
 
-  pub held_taken : {A : Type 0} (p : Option Pending) (told : Result A RestartFault) → LeaveWith seats room p rs → IfErr told (IsPendingFault p)
-      → IfErr told (HoldsBack h rooms seats room p rs)
+  pub held_taken : {A : Type 0} (p : Option Pending) (told : Result A RestartFault) → LeaveWith texts seats room p rs → IfErr told (IsPendingFault p)
+      → IfErr told (HoldsBack texts h rooms seats room p rs)
   held_taken p (Ok a) all fault = tt
   held_taken p (Err e) all fault = not_taken p all e fault
 

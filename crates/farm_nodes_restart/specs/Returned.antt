@@ -13,6 +13,7 @@ use Rattle.rooms_state.specs.SeatState.{SeatState}
 use Rattle.farm_nodes_order.specs.Ordered.{IsOfOneNode}
 use Rattle.farm_nodes_restart_records.specs.Fours.{Four, words_of}
 use Rattle.farm_nodes_restart_records.specs.Leaves.{Leave}
+use Rattle.farm_nodes_restart_records.specs.Texts.{Texts, texts_by}
 use Rattle.farm_nodes_restart_records.specs.Numbers.{function_of, pass_of}
 use Rattle.farm_nodes_restart_records.specs.Which.{Which}
 use Rattle.farm_nodes_restart_records.specs.Which.TheVariants.{First, Second, Third, Fourth}
@@ -59,19 +60,20 @@ module _ {X1 X2 X3 X4 : Type 0} (IsText1 : List ℕ → X1 → Type 0) (IsText2 
   IsTaken None old new = ⊥
   IsTaken (Some p) old new = TookAt p old new
 
-  -- What is pending is done where its record stands last, behind those that leave what the seats keep. Else all of the
-  -- records leave that, and the seats are as they were.
+  -- What is pending is done where its record stands last, behind those that leave what the seats keep and tell their offers. Else
+  -- all of the records do, and the seats are as they were.
   abbrev pub HasStepped : Option Pending → List Record → List (Four X1 X2 X3 X4) → List (Four X1 X2 X3 X4) → Type 0
   HasStepped p rs old new =
-      (LeaveWith old room p rs × IsTaken p old new)
-      ⊎ ((LeaveWith old room p rs → ⊥) × Leave old rs × (new ≡ old))
+      (LeaveWith (texts_by IsText1 IsText2 IsText3 IsText4) old room p rs × IsTaken p old new)
+      ⊎ ((LeaveWith (texts_by IsText1 IsText2 IsText3 IsText4) old room p rs → ⊥)
+      × Leave (texts_by IsText1 IsText2 IsText3 IsText4) old rs × (new ≡ old))
 
-  -- then all seats have forgotten; the records leave what they keep
+  -- then all seats have forgotten; the records leave what they keep, and tell their offers
   pub record HaveReturned (p : Option Pending) (rs : List Record) (old new : List (Four X1 X2 X3 X4)) : Type 0 where
     pub between : List (Four X1 X2 X3 X4)
     pub stepped : HasStepped p rs old between
     pub forgot : AllChanged HaveForgotten between new
-    pub leave : Leave new rs
+    pub leave : Leave (texts_by IsText1 IsText2 IsText3 IsText4) new rs
 
 -- why what is pending can't be done
 abbrev pub IsPendingFault : Option Pending → RestartFault → Type 0
@@ -86,17 +88,17 @@ IsOfferPending (Some (Offer r)) = Unit {0}
 
 module _ {X1 X2 X3 X4 : Type 0} where
   -- Why the seats don't come back over these records: memory was refused; they are out of order; or they are in order,
-  -- and are records of other kept parts, or the cell refused the offer whose record stands last.
-  abbrev pub HoldsBack : Header → ℕ → List (Four X1 X2 X3 X4) → ℕ → Option Pending → List Record → RestartFault → Type 0
-  HoldsBack h rooms seats room p rs NoMemory = Unit {0}
-  HoldsBack h rooms seats room p rs (Journal e) = (e ≡ log.BadRecord) × (AreInOrder h.nodes h.node rooms rs → ⊥)
-  HoldsBack h rooms seats room p rs OtherRecords = AreInOrder h.nodes h.node rooms rs × AreOther seats room p rs
-  HoldsBack h rooms seats room p rs CellRefused = AreInOrder h.nodes h.node rooms rs × LeaveWith seats room p rs × IsOfferPending p
+  -- and are records of other kept parts or offers, or the cell refused the offer whose record stands last.
+  abbrev pub HoldsBack : Texts X1 X2 X3 X4 → Header → ℕ → List (Four X1 X2 X3 X4) → ℕ → Option Pending → List Record → RestartFault → Type 0
+  HoldsBack texts h rooms seats room p rs NoMemory = Unit {0}
+  HoldsBack texts h rooms seats room p rs (Journal e) = (e ≡ log.BadRecord) × (AreInOrder h.nodes h.node rooms rs → ⊥)
+  HoldsBack texts h rooms seats room p rs OtherRecords = AreInOrder h.nodes h.node rooms rs × AreOther texts seats room p rs
+  HoldsBack texts h rooms seats room p rs CellRefused = AreInOrder h.nodes h.node rooms rs × LeaveWith texts seats room p rs × IsOfferPending p
 
   -- Why a node doesn't come back over bytes: the journal can't be opened, or its records hold the node back. A device's
   -- failure has a clause of its own.
-  abbrev pub HasCause : Header → ℕ → List (Four X1 X2 X3 X4) → ℕ → Option Pending → List ℕ → RestartFault → Type 0
-  HasCause h rooms seats room p bytes fault =
+  abbrev pub HasReason : Texts X1 X2 X3 X4 → Header → ℕ → List (Four X1 X2 X3 X4) → ℕ → Option Pending → List ℕ → RestartFault → Type 0
+  HasReason texts h rooms seats room p bytes fault =
       (fault ≡ NoMemory) ⊎ (fault ≡ Journal log.Device)
       ⊎ ((e : LogError) × (fault ≡ Journal e) × HasFault h bytes e)
-      ⊎ ((rs : List Record) × StandsFor h rs bytes × HoldsBack h rooms seats room p rs fault)
+      ⊎ ((rs : List Record) × StandsFor h rs bytes × HoldsBack texts h rooms seats room p rs fault)

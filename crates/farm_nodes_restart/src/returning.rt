@@ -9,9 +9,10 @@ ghost use Rattle.acceptor_log_form.specs.Text.{StandsFor};
 ghost use Rattle.acceptor_log.specs.Acknowledged.{acknowledged, IsSound};
 ghost use Rattle.farm_nodes_restart_records.specs.Fours.{fours_of};
 ghost use Rattle.farm_nodes_restart_records.specs.Pending.{HavePending};
+ghost use Rattle.farm_nodes_restart_records.specs.Texts.{pass_texts};
 ghost use Rattle.farm_nodes_restart_seat.specs.Taken.{IsTakeFault};
 ghost use Rattle.farm_nodes_restart_seat.specs.Places.{AllChanged, ChangedAt};
-ghost use Rattle.farm_nodes_restart.specs.Returned.{AreAtRest, HasCause, HaveForgotten, HoldsBack, IsPendingFault};
+ghost use Rattle.farm_nodes_restart.specs.Returned.{AreAtRest, HasReason, HaveForgotten, HoldsBack, IsPendingFault};
 ghost use Rattle.farm_nodes_restart.specs.Seats.{AreTaken, HaveComeBack, HaveStepped};
 
 use crate::fours::{forget_in, take_in};
@@ -63,7 +64,7 @@ pub fn come_back<D: Disk, H: Naming>(
     ensures count { length seats.new.items ≡ length seats.old.items }
 
     // It does not give up by itself.
-    ensures refused { D.is_honest disk → IfErr result (λ refused. HasCause header.now (4 * length seats.old.items)
+    ensures refused { D.is_honest disk → IfErr result (λ refused. HasReason pass_texts header.now (4 * length seats.old.items)
         (fours_of seats.old.items) room pending.now (D.seen disk) refused.1) }
     ensures failed { IfErr result (λ refused. refused.1 ≡ RestartFault.Journal LogError.Device
         → Risen (D.faults disk) (D.faults refused.0)) }
@@ -104,7 +105,7 @@ fn return_over<H: Naming>(
         (AreInOrder header.now.nodes header.now.node (4 * length seats.old.items) records.now) }
     ensures err { OnErr result (fours_of seats.new.items ≡ fours_of seats.old.items) }
     ensures count { length seats.new.items ≡ length seats.old.items }
-    ensures refused { IfErr result (HoldsBack header.now (4 * length seats.old.items)
+    ensures refused { IfErr result (HoldsBack pass_texts header.now (4 * length seats.old.items)
         (fours_of seats.old.items) room pending.now records.now) }
 {
     match step_over(alloc, header, seats, room, pending, records) {
@@ -133,7 +134,7 @@ fn step_over<H: Naming>(
         (AreInOrder header.now.nodes header.now.node (4 * length seats.old.items) records.now) }
     ensures err { OnErr result (fours_of seats.new.items ≡ fours_of seats.old.items) }
     ensures count { length seats.new.items ≡ length seats.old.items }
-    ensures refused { IfErr result (HoldsBack header.now (4 * length seats.old.items)
+    ensures refused { IfErr result (HoldsBack pass_texts header.now (4 * length seats.old.items)
         (fours_of seats.old.items) room pending.now records.now) }
 {
     match find(alloc, header, seats, room, pending, records) {

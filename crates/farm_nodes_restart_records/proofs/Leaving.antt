@@ -1,5 +1,5 @@
 -- What records leave of a node's seats: from the kept parts by room, and with the last record or without.
-use Rattle.std.proofs.Common.{◌≡◌, ◌≢◌, ℕ, zero, suc, ◌+◌, ◌*◌, ◌<◌, ◌≤◌, ◌↔◌, Bool, true, false, cond, List, [], ◌∷◌, ◌++◌, length, length-append, map, get_or, Option, Some, None, Result, Ok, Err, IfOk, IfErr, IsTrue, refl, sym, ap, ◌∙◌, subst, arith, inl, inr}
+use Rattle.std.proofs.Common.{◌≡◌, ◌≢◌, ◌⊎◌, ℕ, zero, suc, ◌+◌, ◌*◌, ◌<◌, ◌≤◌, ◌↔◌, Bool, true, false, cond, List, [], ◌∷◌, ◌++◌, length, length-append, map, get_or, Option, Some, None, Result, Ok, Err, IfOk, IfErr, IsTrue, refl, sym, ap, ◌∙◌, subst, arith, inl, inr}
 use Rattle.std.specs.Prelude.{slice_get, IsSome}
 use Rattle.std.proofs.lemmas.Bool.{ne_eqb}
 use Rattle.std.proofs.lemmas.List.{length-map, take-append-le}
@@ -8,6 +8,7 @@ use Rattle.paxos_core_world.specs.KeptPart.{KeptPart, nothing_kept}
 use Rattle.acceptor_log_form.specs.declared.errors.LogError.{LogError}
 use Rattle.acceptor_log_form.specs.declared.errors.LogError.TheVariants.{BadRecord, NoMemory}
 use Rattle.acceptor_log_form.specs.declared.record.Record.{Record}
+use Rattle.acceptor_log_form.specs.declared.record.Record.TheVariants.{Offered}
 use Rattle.acceptor_log_form.specs.Text.{room_of}
 use Rattle.acceptor_log_form.specs.Leaves.{kept_by, kept_in, left_from}
 use Rattle.acceptor_log_form.specs.Order.{AreInOrder, MayFollow}
@@ -21,10 +22,14 @@ use Rattle.farm_nodes_passes.specs.declared.which.Which.{Which}
 use Rattle.farm_nodes_passes.specs.declared.which.Which.TheVariants.{First, Second, Third, Fourth}
 use Rattle.farm_nodes_passes.specs.Fours.{words_of, Four}
 use Rattle.farm_nodes_passes.specs.Leaves.{left_in, pending_at, IsPendingIn, Leave, MayAsk, MayPend}
+use Rattle.farm_nodes_passes.specs.Texts.{Texts, IsOwnTextIn}
+use Rattle.farm_nodes_offers.specs.Told.{offer_in}
+use Rattle.farm_nodes_order.proofs.Told.{offered_told, stands_alone, stands_there, told_offered}
 use Rattle.farm_nodes_restart_records.specs.declared.finding.Found.{Found}
 use Rattle.farm_nodes_restart_records.specs.declared.finding.Found.TheVariants as found
 use Rattle.farm_nodes_restart_records.specs.Found.{AreKept, AreKeptAt, EndsSo, EndsWith, IsButLast, IsFound, IsJudged, LeaveWith, ShowFront, ShowParts}
-use Rattle.farm_nodes_restart_seat.proofs.Places.{lent_at, seen_at, some_same}
+use Rattle.farm_nodes_restart_records.specs.Told.{AreTold, IsConfirmed}
+use Rattle.farm_nodes_restart_seat.proofs.Places.{lent_at, seen_at, some_same, there_is}
 use Rattle.farm_nodes_restart_records.proofs.Rooms.{function_at, pass_at_room, room_above, room_below, room_is}
 
 -- ---- rooms of no record
@@ -54,6 +59,16 @@ front_in_order n i rooms front more rs is order k r at =
 
 -- ---- the kept parts by room
 
+module _ {X1 X2 X3 X4 : Type 0} (seats : List (Four X1 X2 X3 X4)) (rs : List Record) where
+  -- they leave what the seats keep,
+  abbrev pub LeaveRooms : Type 0
+  LeaveRooms = (m : ℕ) (s : Four X1 X2 X3 X4) → slice_get seats (function_of m) ≡ Some s → kept_in rs m ≡ (words_of s (pass_of m)).node.kept
+
+  -- and nothing else
+  pub record Keeps : Type 0 where
+    pub rooms : LeaveRooms
+    pub no_others : (m : ℕ) → length seats ≤ function_of m → kept_in rs m ≡ nothing_kept
+
 module _ {X1 X2 X3 X4 : Type 0} (parts : List KeptPart) (place : ℕ) (s : Four X1 X2 X3 X4) where
   part_at : AreKeptAt parts place s → (w : Which) → slice_get parts (place + place_of w) ≡ Some (words_of s w).node.kept
   part_at kept First = ap (λ (i : ℕ). slice_get parts i) (omega arith) ∙ kept.first
@@ -71,7 +86,7 @@ module _ {X1 X2 X3 X4 : Type 0} (parts : List KeptPart) (place : ℕ) (s : Four 
 
 module _ {X1 X2 X3 X4 : Type 0} (n i rooms : ℕ) (rs : List Record) (parts : List KeptPart) (seats : List (Four X1 X2 X3 X4))
     (size : rooms ≡ 4 * length seats) (shows : (m : ℕ) → m < rooms → slice_get parts m ≡ Some (kept_in rs m)) (order : AreInOrder n i rooms rs) where
-  kept_leave : AreKept parts seats → Leave seats rs
+  kept_leave : AreKept parts seats → Keeps seats rs
   kept_leave kept = record {
     rooms = λ m s there.
         let below : function_of m < length seats = slice_get_within seats (function_of m) s there in
@@ -82,7 +97,7 @@ module _ {X1 X2 X3 X4 : Type 0} (n i rooms : ℕ) (rs : List Record) (parts : Li
     no_others = λ m above. nothing_above n i rooms rs m order (omega (arith, size, room_above m (length seats) above));
   }
 
-  leave_kept : Leave seats rs → AreKept parts seats
+  leave_kept : LeaveRooms seats rs → AreKept parts seats
   leave_kept leave f s there =
       parts_at parts (4 * f) s (λ w.
       let m : ℕ = 4 * f + place_of w in
@@ -90,10 +105,7 @@ module _ {X1 X2 X3 X4 : Type 0} (n i rooms : ℕ) (rs : List Record) (parts : Li
       let at : slice_get seats (function_of (4 * f + place_of w)) ≡ Some s = ap (λ (j : ℕ). slice_get seats j) function ∙ there in
       let below : function_of (4 * f + place_of w) < length seats = slice_get_within seats (function_of (4 * f + place_of w)) s at in
       shows (4 * f + place_of w) (omega (arith, size, room_below (4 * f + place_of w) (length seats) below))
-      ∙ ap (λ (k : KeptPart). Some k) (leave.rooms (4 * f + place_of w) s at ∙ ap (λ (v : Which). (words_of s v).node.kept) (pass_at_room f w)))
-
-  pub leaves_iff : (told : Type 0) → told ↔ AreKept parts seats → told ↔ Leave seats rs
-  leaves_iff told iff = (λ yes. kept_leave (iff.0 yes), λ leave. iff.1 (leave_kept leave))
+      ∙ ap (λ (k : KeptPart). Some k) (leave (4 * f + place_of w) s at ∙ ap (λ (v : Which). (words_of s v).node.kept) (pass_at_room f w)))
 
 -- ---- the last record
 
@@ -130,9 +142,42 @@ nothing_pends (Some s) room last e = absurd (cc)
 pub no_pending : {X1 X2 X3 X4 : Type 0} (seats : List (Four X1 X2 X3 X4)) (room : ℕ) (front rs : List Record) → EndsWith (pending_at seats room None) front rs → ⊥
 no_pending seats room front rs ends = nothing_pends (slice_get seats (function_of room)) room ends.0 ends.1
 
-pub pends : {X1 X2 X3 X4 : Type 0} (seats : List (Four X1 X2 X3 X4)) (room : ℕ) (p : Option Pending) (rs : List Record) → LeaveWith seats room p rs → IsSome p
-pends seats room None rs all = absurd (no_pending seats room all.front rs all.ends)
-pends seats room (Some p) rs all = refl
+pub pends : {X1 X2 X3 X4 : Type 0} (texts : Texts X1 X2 X3 X4) (seats : List (Four X1 X2 X3 X4)) (room : ℕ) (p : Option Pending) (rs : List Record) → LeaveWith texts seats room p rs → IsSome p
+pends texts seats room None rs all = absurd (no_pending seats room all.front rs all.ends)
+pends texts seats room (Some p) rs all = refl
+
+-- ---- the texts of the offers
+
+module _ {X1 X2 X3 X4 : Type 0} (texts : Texts X1 X2 X3 X4) where
+  -- those of a beginning
+  told_before : (seats : List (Four X1 X2 X3 X4)) (front more rs : List Record) → rs ≡ front ++ more → AreTold texts seats rs → AreTold texts seats front
+  told_before seats front more rs is told k r at = told k r (ap (λ (l : List Record). slice_get l k) is ∙ get_front front more k r at)
+
+  module _ (n i rooms : ℕ) (rs : List Record) (seats : List (Four X1 X2 X3 X4)) where
+    -- records that leave what the seats keep, and whose texts are those of their offers, tell them
+    leave_of : Keeps seats rs → AreTold texts seats rs → Leave texts seats rs
+    leave_of keeps told = record {
+      rooms = keeps.rooms;
+      no_others = keeps.no_others;
+      offers = λ m s at now.
+          let one = offered_told rs m (ap (λ (k : KeptPart). k.offered) (keeps.rooms m s at) ∙ now) in
+          let there = stands_there rs m one.0 one.1 in
+          let is = told there.0 (Offered m one.0) there.1 m one.0 refl in
+          let same : is.0 ≡ s = some_same (slice_get seats (function_of m)) is.0 s is.1 at in
+          (one.0, one.1, subst (λ (u : Four X1 X2 X3 X4). IsOwnTextIn texts (pass_of m) u one.0) same is.2);
+    }
+
+    -- and no other texts stand there
+    told_of : rooms ≡ 4 * length seats → AreInOrder n i rooms rs → Leave texts seats rs → AreTold texts seats rs
+    told_of size order leave k r at m text is =
+        let here : slice_get rs k ≡ Some (Offered m text) = at ∙ ap (λ (x : Record). Some x) is in
+        let below : m < rooms = (order k (Offered m text) here).0 in
+        let s = there_is seats (function_of m) (omega (arith, below, size)) in
+        let first : offer_in rs m ≡ Some text = stands_alone n i rooms rs k m text order here in
+        let now : (words_of s.0 (pass_of m)).node.kept.offered ≡ true = ap (λ (k : KeptPart). k.offered) (sym (leave.rooms m s.0 s.1)) ∙ told_offered rs m text first in
+        let one = leave.offers m s.0 s.1 now in
+        let same : one.0 ≡ text = some_same (offer_in rs m) one.0 text one.1 first in
+        (s.0, s.1, subst (λ (t : List ℕ). IsOwnTextIn texts (pass_of m) s.0 t) same one.2)
 
 -- ---- what may be pending is asked
 
@@ -174,29 +219,66 @@ show_front items rooms front rs (Err e) is size shows = tt
 module _ {X1 X2 X3 X4 : Type 0} (n i rooms : ℕ) (rs : List Record) (seats : List (Four X1 X2 X3 X4)) (room : ℕ) (p : Option Pending)
     (whole front : List KeptPart) (last : Bool) (size : rooms ≡ 4 * length seats) (order : AreInOrder n i rooms rs)
     (shows : ShowParts rooms whole rs) (behind : ShowFront rooms front rs) (ends : IsTrue last ↔ EndsSo (pending_at seats room p) rs) where
-  before_iff : (f : List Record) → EndsWith (pending_at seats room p) f rs → AreKept front seats ↔ Leave seats f
-  before_iff f e =
+  kept_front : (f : List Record) → EndsWith (pending_at seats room p) f rs → AreKept front seats → Keeps seats f
+  kept_front f e kept =
       let same : behind.0 ≡ f = front_is rs behind.0 f e.0 behind.1 e.2 in
-      subst (λ (l : List Record). AreKept front seats ↔ Leave seats l) same
-      (leaves_iff n i rooms behind.0 front seats size behind.2.1 (but_last_in_order n i rooms behind.0 rs behind.1 order)
-      (AreKept front seats) (λ kept. kept, λ kept. kept))
+      subst (λ (l : List Record). Keeps seats l) same
+      (kept_leave n i rooms behind.0 front seats size behind.2.1 (but_last_in_order n i rooms behind.0 rs behind.1 order) kept)
 
-  with_last : (IsTrue last × AreKept front seats) ↔ LeaveWith seats room p rs
-  with_last = (
-    λ both. let e = ends.0 both.0 in record { front = e.0; ends = e.1; leave = (before_iff e.0 e.1).0 both.1 },
-    λ all. (ends.1 (all.front, all.ends), (before_iff all.front all.ends).1 all.leave),
-  )
+  front_kept : (f : List Record) → EndsWith (pending_at seats room p) f rs → LeaveRooms seats f → AreKept front seats
+  front_kept f e leave =
+      let same : behind.0 ≡ f = front_is rs behind.0 f e.0 behind.1 e.2 in
+      leave_kept n i rooms behind.0 front seats size behind.2.1 (but_last_in_order n i rooms behind.0 rs behind.1 order)
+      (subst (λ (l : List Record). LeaveRooms seats l) (sym same) leave)
 
-  whole_iff : AreKept whole seats ↔ Leave seats rs
-  whole_iff = leaves_iff n i rooms rs whole seats size shows.1 order (AreKept whole seats) (λ kept. kept, λ kept. kept)
+  module _ (texts : Texts X1 X2 X3 X4) where
+    front_order : (f : List Record) → EndsWith (pending_at seats room p) f rs → AreInOrder n i rooms f
+    front_order f e = front_in_order n i rooms f (e.0 ∷ []) rs e.2 order
 
-  pub found_judged : (r : Found) → IsJudged last whole front seats r → IsFound seats room p rs r
-  found_judged found.Pending j = with_last.0 j
-  found_judged found.Whole j = (λ all. j.0 (with_last.1 all), whole_iff.0 j.1)
-  found_judged found.Neither j = record {
-    whole = λ leave. j.1 (whole_iff.1 leave);
-    pending = λ all. j.0 (with_last.1 all);
-  }
+    with_last : LeaveWith texts seats room p rs → IsTrue last × AreKept front seats
+    with_last all = (ends.1 (all.front, all.ends), front_kept all.front all.ends all.leave.rooms)
+
+    whole_kept : Leave texts seats rs → AreKept whole seats
+    whole_kept leave = leave_kept n i rooms rs whole seats size shows.1 order leave.rooms
+
+    -- where what the seats keep stands in front of the pending record
+    pending_found : (r f : List Record) (g : Found) → EndsWith (pending_at seats room p) r rs → IsButLast rs f → AreKept front seats
+        → (AreTold texts seats f × (g ≡ found.Pending)) ⊎ ((AreTold texts seats f → ⊥) × (g ≡ found.Neither)) → IsFound texts seats room p rs g
+    pending_found r f g e is kept (inl told) =
+        let same : f ≡ r = front_is rs f r e.0 is e.2 in
+        subst (λ (x : Found). IsFound texts seats room p rs x) (sym told.1)
+        (record {
+          front = r;
+          ends = e;
+          leave = leave_of texts n i rooms r seats (kept_front r e kept) (subst (λ (l : List Record). AreTold texts seats l) same told.0);
+        })
+    pending_found r f g e is kept (inr not) =
+        let same : f ≡ r = front_is rs f r e.0 is e.2 in
+        let never : AreTold texts seats r → ⊥ = (λ told. not.0 (subst (λ (l : List Record). AreTold texts seats l) (sym same) told)) in
+        subst (λ (x : Found). IsFound texts seats room p rs x) (sym not.1)
+        (record {
+          whole = λ leave. never (told_before texts seats r (e.0 ∷ []) rs e.2 (told_of texts n i rooms rs seats size order leave));
+          pending = λ all.
+              let one : all.front ≡ r = same_front (pending_at seats room p) all.front r rs all.ends e in
+              never (subst (λ (l : List Record). AreTold texts seats l) one (told_of texts n i rooms all.front seats size (front_order all.front all.ends) all.leave));
+        })
+
+    whole_found : (g : Found) → (IsTrue last × AreKept front seats → ⊥) → AreKept whole seats
+        → (AreTold texts seats rs × (g ≡ found.Whole)) ⊎ ((AreTold texts seats rs → ⊥) × (g ≡ found.Neither)) → IsFound texts seats room p rs g
+    whole_found g alone kept (inl told) =
+        subst (λ (x : Found). IsFound texts seats room p rs x) (sym told.1)
+        (λ all. alone (with_last all), leave_of texts n i rooms rs seats (kept_leave n i rooms rs whole seats size shows.1 order kept) told.0)
+    whole_found g alone kept (inr not) =
+        subst (λ (x : Found). IsFound texts seats room p rs x) (sym not.1)
+        (record { whole = λ leave. not.0 (told_of texts n i rooms rs seats size order leave); pending = λ all. alone (with_last all) })
+
+    -- by what the seats keep, and then by their offers
+    pub found_judged : (k r : Found) → IsJudged last whole front seats k → IsConfirmed texts seats rs k r → IsFound texts seats room p rs r
+    found_judged found.Pending r j c = let e = ends.0 j.0 in pending_found e.0 c.0 r e.1 c.1 j.1 c.2
+    found_judged found.Whole r j c = whole_found r j.0 j.1 c
+    found_judged found.Neither r j c =
+        subst (λ (x : Found). IsFound texts seats room p rs x) (sym c)
+        (record { whole = λ leave. j.1 (whole_kept leave); pending = λ all. j.0 (with_last all) })
 
 pub judged_is : {X1 X2 X3 X4 : Type 0} (seats : List (Four X1 X2 X3 X4)) (whole front : List KeptPart) (last with_it all : Bool) (before : Type 0) (r : Found)
     → before ↔ AreKept front seats → IsTrue all ↔ AreKept whole seats → IsTrue with_it ↔ (IsTrue last × before)

@@ -3,3 +3,4 @@ pub mod Leaving
 pub mod Own
 pub mod Keeping
 pub use Rattle.farm_nodes_passes.proofs.Sent
+mod Texts

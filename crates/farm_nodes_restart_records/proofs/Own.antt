@@ -15,6 +15,7 @@ use Rattle.farm_nodes_acting.specs.Noted.{record_of, records_of}
 use Rattle.farm_nodes_passes.specs.Numbers.{function_of, pass_of}
 use Rattle.farm_nodes_passes.specs.Fours.{words_of, Four}
 use Rattle.farm_nodes_passes.specs.Leaves.{left_in, pending_at, Leave}
+use Rattle.farm_nodes_passes.specs.Texts.{Texts}
 use Rattle.farm_nodes_restart_records.specs.Found.{AreOther}
 
 -- no record, or one
@@ -40,8 +41,8 @@ split_few (x ∷ []) b pending is (inr one) =
     inr (one.0, one.1, ap (λ (y : Record). y ∷ []) (sym head))
 split_few (x ∷ y ∷ a) b pending is (inr one) = let long = ap length (sym one.1 ∙ is) in absurd (omega (arith, long))
 
-module _ {X1 X2 X3 X4 : Type 0} (seats : List (Four X1 X2 X3 X4)) (room : ℕ) (p : Option Pending) (h : Header) (upto rs : List Record) (bytes : List ℕ)
-    (leave : Leave seats upto) (between : Between h upto (upto ++ pending_at seats room p) bytes) (stands : StandsFor h rs bytes) (others : AreOther seats room p rs) where
+module _ {X1 X2 X3 X4 : Type 0} (texts : Texts X1 X2 X3 X4) (seats : List (Four X1 X2 X3 X4)) (room : ℕ) (p : Option Pending) (h : Header) (upto rs : List Record) (bytes : List ℕ)
+    (leave : Leave texts seats upto) (between : Between h upto (upto ++ pending_at seats room p) bytes) (stands : StandsFor h rs bytes) (others : AreOther texts seats room p rs) where
   begin : Begins upto rs × Begins rs (upto ++ pending_at seats room p)
   begin = between-lists h upto (upto ++ pending_at seats room p) rs bytes between stands
 
@@ -55,7 +56,7 @@ module _ {X1 X2 X3 X4 : Type 0} (seats : List (Four X1 X2 X3 X4)) (room : ℕ) (
       elim (split_few begin.0.0 begin.1.0 (pending_at seats room p) behind (few_left (slice_get seats (function_of room)) room p)) [
         | inl none ↦
             let same : rs ≡ upto = begin.0.1 ∙ (ap (λ (l : List Record). upto ++ l) none ∙ append-nil upto) in
-            others.whole (subst (λ (l : List Record). Leave seats l) (sym same) leave)
+            others.whole (subst (λ (l : List Record). Leave texts seats l) (sym same) leave)
         | inr one ↦
             others.pending record {
               front = upto;

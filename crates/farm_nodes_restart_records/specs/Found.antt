@@ -6,6 +6,7 @@ use Rattle.acceptor_log_form.specs.Leaves.{kept_in}
 use Rattle.farm_nodes_acting.specs.declared.stop.Pending.{Pending}
 use Rattle.farm_nodes_passes.specs.Fours.{Four}
 use Rattle.farm_nodes_passes.specs.Leaves.{pending_at, Leave}
+use Rattle.farm_nodes_passes.specs.Texts.{Texts}
 use Rattle.farm_nodes_restart_records.specs.declared.finding.Found.{Found}
 use Rattle.farm_nodes_restart_records.specs.declared.finding.Found.TheVariants as found
 
@@ -52,19 +53,19 @@ module _ {X1 X2 X3 X4 : Type 0} where
   IsJudged last whole front seats found.Whole = (IsTrue last × AreKept front seats → ⊥) × AreKept whole seats
   IsJudged last whole front seats found.Neither = (IsTrue last × AreKept front seats → ⊥) × (AreKept whole seats → ⊥)
 
-  -- the last record is the pending one, and the others leave what the seats keep
-  pub record LeaveWith (seats : List (Four X1 X2 X3 X4)) (room : ℕ) (p : Option Pending) (rs : List Record) : Type 0 where
+  -- the last record is the pending one, and the others leave what the seats keep, and tell their offers
+  pub record LeaveWith (texts : Texts X1 X2 X3 X4) (seats : List (Four X1 X2 X3 X4)) (room : ℕ) (p : Option Pending) (rs : List Record) : Type 0 where
     pub front : List Record
     pub ends : EndsWith (pending_at seats room p) front rs
-    pub leave : Leave seats front
+    pub leave : Leave texts seats front
 
-  -- they are records of other kept parts, with the pending one or without
-  pub record AreOther (seats : List (Four X1 X2 X3 X4)) (room : ℕ) (p : Option Pending) (rs : List Record) : Type 0 where
-    pub whole : Leave seats rs → ⊥
-    pub pending : LeaveWith seats room p rs → ⊥
+  -- they are records of other kept parts or offers, with the pending one or without
+  pub record AreOther (texts : Texts X1 X2 X3 X4) (seats : List (Four X1 X2 X3 X4)) (room : ℕ) (p : Option Pending) (rs : List Record) : Type 0 where
+    pub whole : Leave texts seats rs → ⊥
+    pub pending : LeaveWith texts seats room p rs → ⊥
 
   -- which of these it is
-  abbrev pub IsFound : List (Four X1 X2 X3 X4) → ℕ → Option Pending → List Record → Found → Type 0
-  IsFound seats room p rs found.Pending = LeaveWith seats room p rs
-  IsFound seats room p rs found.Whole = (LeaveWith seats room p rs → ⊥) × Leave seats rs
-  IsFound seats room p rs found.Neither = AreOther seats room p rs
+  abbrev pub IsFound : Texts X1 X2 X3 X4 → List (Four X1 X2 X3 X4) → ℕ → Option Pending → List Record → Found → Type 0
+  IsFound texts seats room p rs found.Pending = LeaveWith texts seats room p rs
+  IsFound texts seats room p rs found.Whole = (LeaveWith texts seats room p rs → ⊥) × Leave texts seats rs
+  IsFound texts seats room p rs found.Neither = AreOther texts seats room p rs

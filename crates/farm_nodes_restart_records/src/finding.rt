@@ -5,13 +5,17 @@ ghost use Rattle.std.specs.Prelude.{Some, true, false};
 ghost use Rattle.acceptor_log_form.specs.Order.{AreInOrder};
 ghost use Rattle.farm_nodes_passes.specs.Fours.{fours_of};
 ghost use Rattle.farm_nodes_passes.specs.Leaves.{pending_at, MayAsk};
+ghost use Rattle.farm_nodes_passes.specs.Texts.{pass_texts};
 ghost use Rattle.farm_nodes_restart_records.specs.Found.{AreKept, EndsSo, IsFound, IsJudged};
+ghost use Rattle.farm_nodes_restart_records.specs.Told.{settled_by, IsConfirmed};
 
 use crate::fours::{are_kept_at, both, is_pending_in};
-use crate::parts::both_parts;
+use crate::parts::{both_parts, but_last};
+use crate::telling::are_told;
 use acceptor_log::{Header, LogError, Record};
 use farm_nodes_acting::Pending;
 use farm_nodes_passes::{Seats, Which};
+use lang_base::NoMemory;
 use paxos_core::Kept;
 use rooms_hall::Naming;
 use std::alloc::Global;
@@ -19,9 +23,9 @@ use std::alloc::Global;
 /// What records are to a node's seats.
 #[derive(Clone, Copy, Debug, PartialEq, Eq)]
 pub enum Found {
-    /// The last is that of what is pending, and the others leave what the seats keep.
+    /// The last is that of what is pending, and the others leave what the seats keep, and tell their offers.
     Pending,
-    /// All of them leave what the seats keep.
+    /// All of them leave what the seats keep, and tell their offers.
     Whole,
     /// They are others.
     Neither,
@@ -39,7 +43,7 @@ pub fn find<H: Naming>(
     requires nodes { 0 < header.now.nodes }
     requires rooms { 4 * length seats.now.items ≤ 65535 }
     requires asked { MayAsk (fours_of seats.now.items) room pending.now }
-    ensures found { IfOk result (IsFound (fours_of seats.now.items) room pending.now records.now) }
+    ensures found { IfOk result (IsFound pass_texts (fours_of seats.now.items) room pending.now records.now) }
     ensures in_order { OnOk result
         (AreInOrder header.now.nodes header.now.node (4 * length seats.now.items) records.now) }
     ensures refused { IfErr result (λ e. e ≢ LogError.NoMemory → (e ≡ LogError.BadRecord)
@@ -49,9 +53,38 @@ pub fn find<H: Naming>(
     match both_parts(alloc, header, rooms, records) {
         Ok((whole, front)) => {
             let last = is_last(seats, room, pending, records);
-            Ok(judged(seats, last, whole.as_slice(), front.as_slice()))
+            let kept = judged(seats, last, whole.as_slice(), front.as_slice());
+            confirmed(alloc, seats, records, kept)
         }
         Err(error) => Err(error),
+    }
+}
+
+/// What the records are by the texts of the offers too, where they are this by what the seats keep.
+fn confirmed<H: Naming>(
+    alloc: Global,
+    seats: &Vec<Seats<H>>,
+    records: &[Record],
+    kept: Found,
+) -> Result<Found, LogError>
+    ensures ok { IfOk result (IsConfirmed pass_texts (fours_of seats.now.items) records.now kept) }
+    ensures refused { IfErr result (λ e. e ≡ LogError.NoMemory) }
+{
+    match kept {
+        Found::Pending => settled(are_told(alloc, seats, but_last(records)), Found::Pending),
+        Found::Whole => settled(are_told(alloc, seats, records), Found::Whole),
+        Found::Neither => Ok(Found::Neither),
+    }
+}
+
+/// What the answer says.
+fn settled(told: Result<bool, NoMemory>, kept: Found) -> Result<Found, LogError>
+    ensures { result ≡ settled_by told kept }
+{
+    match told {
+        Ok(true) => Ok(kept),
+        Ok(false) => Ok(Found::Neither),
+        Err(_) => Err(LogError::NoMemory),
     }
 }
 

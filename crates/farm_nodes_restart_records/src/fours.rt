@@ -1,18 +1,21 @@
 //! A node's seats in the four rooms of a function, over records and kept parts.
 
-ghost use Rattle.std.specs.Prelude.{◌≡◌, ◌<◌, ◌+◌, ◌↔◌, [], ◌∷◌, length, IsTrue};
+ghost use Rattle.std.specs.Prelude.{◌≡◌, ◌<◌, ◌+◌, ◌↔◌, [], ◌∷◌, length, IsTrue, IfOk};
 ghost use Rattle.farm_nodes_acting.specs.Noted.{pending_of};
 ghost use Rattle.farm_nodes_offers.specs.Pending.{IsAsked};
 ghost use Rattle.farm_nodes_passes.specs.Fours.{four_of, words_of};
+ghost use Rattle.farm_nodes_passes.specs.Texts.{pass_texts, IsOwnTextIn};
 ghost use Rattle.farm_nodes_restart_records.specs.Found.{AreKeptAt};
 
 use crate::seat::is_kept_in;
 use acceptor_log::Record;
 use farm_nodes_acting::Pending;
 use farm_nodes_passes::{Seats, Which};
-use farm_nodes_restart_seat::is_pending;
+use farm_nodes_restart_seat::{is_own_text, is_pending};
+use lang_base::NoMemory;
 use paxos_core::Kept;
 use rooms_hall::Naming;
+use std::alloc::Global;
 
 /// Whether the record is that of what is pending in the room, which is the one of this pass.
 pub(crate) fn is_pending_in<H: Naming>(
@@ -31,6 +34,23 @@ pub(crate) fn is_pending_in<H: Naming>(
         Which::Second => is_pending(&seats.seat.second, room, pending, entry),
         Which::Third => is_pending(&seats.seat.third, room, pending, entry),
         Which::Fourth => is_pending(&seats.seat.fourth, room, pending, entry),
+    }
+}
+
+/// Whether these bytes are the text of the offer that stands in the node's cell in the room of this pass.
+pub(crate) fn is_text_in<H: Naming>(
+    alloc: Global,
+    seats: &Seats<H>,
+    pass: Which,
+    text: &[u8],
+) -> Result<bool, NoMemory>
+    ensures { IfOk result (λ told. IsTrue told ↔ IsOwnTextIn pass_texts pass (four_of seats.now) text.now) }
+{
+    match pass {
+        Which::First => is_own_text(alloc, &seats.seat.first, text),
+        Which::Second => is_own_text(alloc, &seats.seat.second, text),
+        Which::Third => is_own_text(alloc, &seats.seat.third, text),
+        Which::Fourth => is_own_text(alloc, &seats.seat.fourth, text),
     }
 }
 

@@ -9,6 +9,7 @@ ghost use Rattle.farm_nodes_passes.specs.Offers.{Constants, Expressions, Allocat
 ghost use Rattle.farm_nodes_acting.specs.declared.stop.Pending.{Pending};
 ghost use Rattle.farm_nodes_passes.specs.Fours.{Four};
 ghost use Rattle.farm_nodes_passes.specs.Leaves.{pending_at, Leave};
+ghost use Rattle.farm_nodes_passes.specs.Texts.{pass_texts};
 ghost use Rattle.farm_nodes_restart_records.specs.Found.{AreOther};
 
 /// The records of a crash of the node's own disk are never others: where the list up to some place stands for what the
@@ -16,6 +17,6 @@ ghost use Rattle.farm_nodes_restart_records.specs.Found.{AreOther};
 pub fn own_journal()
     ensures { (seats : List (Four Constants Expressions
         Allocation Order))
-        (room : ℕ) (p : Option Pending) (h : Header) (upto rs : List Record) (bytes : List ℕ) → Leave seats upto
-        → Between h upto (upto ++ pending_at seats room p) bytes → StandsFor h rs bytes → AreOther seats room p rs → ⊥ }
+        (room : ℕ) (p : Option Pending) (h : Header) (upto rs : List Record) (bytes : List ℕ) → Leave pass_texts seats upto
+        → Between h upto (upto ++ pending_at seats room p) bytes → StandsFor h rs bytes → AreOther pass_texts seats room p rs → ⊥ }
 {}

@@ -50,7 +50,7 @@ fn front_parts(
 }
 
 /// The records before the last one.
-fn but_last(records: &[Record]) -> &[Record]
+pub(crate) fn but_last(records: &[Record]) -> &[Record]
     ensures { IsButLast records.now result.now }
 {
     if let [front @ .., _last] = records {

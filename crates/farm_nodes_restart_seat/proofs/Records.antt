@@ -1,13 +1,19 @@
 -- What a record leaves of the room is what is left once its step is taken, or its offer made.
-use Rattle.std.proofs.Common.{◌≡◌, ℕ, List, [], ◌∷◌, Option, Some, None, refl, sym, ap, ◌∙◌}
+use Rattle.std.proofs.Common.{◌≡◌, ℕ, true, List, [], ◌∷◌, Option, Some, None, refl, sym, ap, ◌∙◌}
 use Rattle.paxos_core_law.specs.declared.step.Step.{Step}
+use Rattle.paxos_core_law.specs.declared.step.Step.TheVariants as step
 use Rattle.acceptor_log_form.specs.declared.record.Record.{Record}
 use Rattle.acceptor_log_form.specs.Text.{room_of}
 use Rattle.acceptor_log_form.specs.Leaves.{kept_by}
 use Rattle.rooms_state.specs.declared.act.Act.{Act as Asked}
 use Rattle.rooms_state.specs.SeatState.{SeatState}
 use Rattle.rooms_state.specs.Would.{would, Acted}
-use Rattle.rooms.specs.SeatValue.{SeatValue}
+use Rattle.paxos_core_world.specs.KeptPart.{KeptPart}
+use Rattle.paxos_core_law.specs.Would as core
+use Rattle.rooms_cells.specs.Seen.{SightOf, value_at}
+use Rattle.rooms.specs.SeatValue.{SeatValue, offer_of}
+use Rattle.farm_nodes_offers.specs.Told.{offer_by, IsOwnText, IsToldAs}
+use Rattle.farm_nodes_order.proofs.Told.{offer_acted}
 use Rattle.farm_nodes_acting.specs.declared.stop.Pending.{Pending}
 use Rattle.farm_nodes_acting.specs.declared.stop.Pending.TheVariants.{Act, Offer}
 use Rattle.farm_nodes_acting.specs.Noted.{pending_of, record_of, records_of}
@@ -35,3 +41,31 @@ took_record IsText room (Offer r) old new last took e =
 
 pub forgotten_kept : {T : Type 0} (old new : SeatValue T) → HasForgotten old new → new.words.node.kept ≡ old.words.node.kept
 forgotten_kept old new forgot = ap (λ (s : SeatState). s.node.kept) forgot.words.after
+
+-- ---- the text of its offer
+
+offered_by : (o : Option Step) (k : KeptPart) → (core.kept_by o k).offered ≡ k.offered
+offered_by None k = refl
+offered_by (Some (step.Start b)) k = refl
+offered_by (Some (step.Promise b)) k = refl
+offered_by (Some (step.Propose b v)) k = refl
+offered_by (Some (step.Accept b v)) k = refl
+
+-- the record that is done tells the text of the offer that stands then
+pub took_told : {T : Type 0} (IsText : List ℕ → T → Type 0) (room : ℕ) (p : Pending) (old new : SeatValue T) (last : Record) (told : Option (List ℕ)) → Took IsText room p old new → pending_of room old.words p ≡ last ∷ []
+    → (old.words.node.kept.offered ≡ true → IsToldAs (IsOwnText IsText old) told) → new.words.node.kept.offered ≡ true → IsToldAs (IsOwnText IsText new) (offer_by told last)
+took_told {T} IsText room (Act a) old new last told took e had now =
+    let stays : new.words.node.kept.offered ≡ old.words.node.kept.offered = ap (λ (k : KeptPart). k.offered) took.0.kept ∙ offered_by (would old.words a) old.words.node.kept in
+    let is = had (sym stays ∙ now) in
+    let me : new.words.node.me ≡ old.words.node.me = took.0.me in (
+      is.0,
+      offer_acted told room (would old.words a) last e ∙ is.1,
+      (is.2.0, ap (λ (ss : List (SightOf T)). value_at ss new.words.node.me) took.1 ∙ (ap (λ (j : ℕ). value_at old.sights j) me ∙ is.2.1), is.2.2),
+    )
+took_told {T} IsText room (Offer r) old new last told took e had now =
+    let same : r ≡ last = cc in
+    (took.1, ap (λ (q : Record). offer_by told q) (sym same ∙ took.2), (took.0, ap (λ (s : SeatState). offer_of new s.node.me) took.4.words ∙ took.4.own, took.3))
+
+pub forgotten_own : {T : Type 0} (IsText : List ℕ → T → Type 0) (old new : SeatValue T) → HasForgotten old new → (text : List ℕ) → IsOwnText IsText old text → IsOwnText IsText new text
+forgotten_own {T} IsText old new forgot text own =
+    (own.0, ap (λ (ss : List (SightOf T)). value_at ss new.words.node.me) forgot.sights ∙ (ap (λ (s : SeatState). value_at old.sights s.node.me) forgot.words.after ∙ own.1), own.2)

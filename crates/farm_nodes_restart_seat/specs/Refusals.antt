@@ -6,14 +6,14 @@ use Rattle.acceptor_log_form.specs.Refusals as journal
 use Rattle.farm_nodes_restart_seat.specs.declared.fault.RestartFault.{RestartFault}
 use Rattle.farm_nodes_restart_seat.specs.declared.fault.RestartFault.TheVariants.{NoMemory, Journal, OtherRecords, CellRefused}
 
-abbrev pub fault_of : LogError → RestartFault
-fault_of log.NoMemory = NoMemory
-fault_of log.Device = Journal log.Device
-fault_of log.NotAJournal = Journal log.NotAJournal
-fault_of log.BadRecord = Journal log.BadRecord
-fault_of log.OtherSource = Journal log.OtherSource
-fault_of log.Stopped = Journal log.Stopped
-fault_of log.Full = Journal log.Full
+abbrev pub restart_fault : LogError → RestartFault
+restart_fault log.NoMemory = NoMemory
+restart_fault log.Device = Journal log.Device
+restart_fault log.NotAJournal = Journal log.NotAJournal
+restart_fault log.BadRecord = Journal log.BadRecord
+restart_fault log.OtherSource = Journal log.OtherSource
+restart_fault log.Stopped = Journal log.Stopped
+restart_fault log.Full = Journal log.Full
 
 abbrev pub number_of : RestartFault → ℕ
 number_of NoMemory = 1

@@ -7,14 +7,14 @@ use Rattle.rooms_state.specs.Would.{Acted}
 use Rattle.rooms.specs.SeatValue.{SeatValue}
 use Rattle.farm_nodes_acting.specs.declared.stop.Pending.{Pending}
 use Rattle.farm_nodes_acting.specs.declared.stop.Pending.TheVariants.{Act, Offer}
-use Rattle.farm_nodes_offers.specs.Offered.{HasOffered}
+use Rattle.farm_nodes_offers.specs.Offered.{PutsOffer}
 use Rattle.farm_nodes_restart_seat.specs.declared.fault.RestartFault.{RestartFault}
 use Rattle.farm_nodes_restart_seat.specs.declared.fault.RestartFault.TheVariants.{NoMemory, Journal, OtherRecords, CellRefused}
 
 module _ {T : Type 0} (IsText : List ℕ → T → Type 0) (room : ℕ) where
   -- the offer that the record is of stands in its cell
   abbrev pub TookOffer : Record → SeatValue T → SeatValue T → Type 0
-  TookOffer r old new = (x : T) × (bytes : List ℕ) × (r ≡ Offered room bytes) × IsText bytes x × HasOffered x old new
+  TookOffer r old new = (x : T) × (bytes : List ℕ) × (r ≡ Offered room bytes) × IsText bytes x × PutsOffer x old new
 
   -- it is done: the step is taken, or the offer is made
   abbrev pub Took : Pending → SeatValue T → SeatValue T → Type 0

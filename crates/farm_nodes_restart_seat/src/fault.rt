@@ -1,5 +1,5 @@
 ghost use Rattle.std.specs.Prelude.{◌≡◌};
-ghost use Rattle.farm_nodes_restart_seat.specs.Refusals.{fault_of, number_of};
+ghost use Rattle.farm_nodes_restart_seat.specs.Refusals.{restart_fault, number_of};
 
 use acceptor_log::LogError;
 
@@ -19,7 +19,7 @@ pub enum RestartFault {
 impl RestartFault {
     /// The fault that the journal's answer is.
     pub fn of(error: LogError) -> RestartFault
-        ensures { result ≡ fault_of error }
+        ensures { result ≡ restart_fault error }
     {
         match error {
             LogError::NoMemory => RestartFault::NoMemory,

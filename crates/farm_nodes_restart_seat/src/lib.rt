@@ -1,9 +1,11 @@
 //! One seat of a node that comes back: what the node was about to do with it is done, and then the seat forgets all but
-//! what its node keeps, and the offers that it has seen.
+//! what its node keeps, and the offers that it has seen. Whether a text is that of its node's offer.
 #![tactic(auto)]
 
 mod fault;
 mod taking;
+mod telling;
 
 pub use fault::RestartFault;
 pub use taking::{forget, is_pending, take};
+pub use telling::is_own_text;

@@ -6,8 +6,8 @@ ghost use Rattle.offers.specs.declared.parts.Parts.{Parts};
 ghost use Rattle.rooms.specs.SeatValue.{IsOneRoom};
 ghost use Rattle.rooms_state.specs.Would.{would, Acted, IsAmong};
 ghost use Rattle.farm_nodes_acting.specs.Noted.{record_of, records_of, pending_of, IsByte};
-ghost use Rattle.farm_nodes_offers.specs.Offered.{HasOffered};
-ghost use Rattle.farm_nodes_offers.specs.Pending.{IsAsked, IsOfferLeft, IsPendingOn, IsTextOf};
+ghost use Rattle.farm_nodes_offers.specs.Offered.{PutsOffer};
+ghost use Rattle.farm_nodes_offers.specs.Pending.{IsAsked, IsOfferLeft, IsPendingOn, IsOfferText};
 ghost use Rattle.farm_nodes_restart_seat.specs.Taken.{HasForgotten, IsOfferFault, IsTakeFault, Took, TookOffer};
 
 use crate::fault::RestartFault;
@@ -63,9 +63,9 @@ pub fn take<P: Pass>(
     room: u16,
     pending: &Pending,
 ) -> Result<(), RestartFault>
-    requires { IsPendingOn (IsTextOf P.In.Language P.Out.Language P.Pass) room seat.old pending.now }
+    requires { IsPendingOn (IsOfferText P.In.Language P.Out.Language P.Pass) room seat.old pending.now }
     ensures ok { OnOk result
-        (Took (IsTextOf P.In.Language P.Out.Language P.Pass) room pending.now seat.old seat.new) }
+        (Took (IsOfferText P.In.Language P.Out.Language P.Pass) room pending.now seat.old seat.new) }
     ensures err { OnErr result (seat.new ≡ seat.old) }
     ensures faults { IfErr result (IsTakeFault pending.now) }
     ensures room { IsOneRoom seat.old seat.new }
@@ -109,9 +109,9 @@ fn offer_again<P: Pass>(
     room: u16,
     entry: &Record,
 ) -> Result<(), RestartFault>
-    requires { IsOfferLeft (IsTextOf P.In.Language P.Out.Language P.Pass) room seat.old entry.now }
+    requires { IsOfferLeft (IsOfferText P.In.Language P.Out.Language P.Pass) room seat.old entry.now }
     ensures ok { OnOk result
-        (TookOffer (IsTextOf P.In.Language P.Out.Language P.Pass) room entry.now seat.old seat.new) }
+        (TookOffer (IsOfferText P.In.Language P.Out.Language P.Pass) room entry.now seat.old seat.new) }
     ensures err { OnErr result (seat.new ≡ seat.old) }
     ensures faults { IfErr result IsOfferFault }
     ensures room { IsOneRoom seat.old seat.new }
@@ -125,9 +125,9 @@ fn offer_again<P: Pass>(
 
 /// Makes the offer again that these bytes are, and lays it into the node's cell.
 fn lay_again<P: Pass>(alloc: Global, seat: &mut Seat<P>, bytes: &[u8]) -> Result<(), RestartFault>
-    requires { (x : Parts P.In.Fun P.Out.Fun P.Cert) × IsTextOf P.In.Language P.Out.Language P.Pass bytes.now x }
+    requires { (x : Parts P.In.Fun P.Out.Fun P.Cert) × IsOfferText P.In.Language P.Out.Language P.Pass bytes.now x }
     ensures ok { OnOk result ((x : Parts P.In.Fun P.Out.Fun P.Cert)
-        × IsTextOf P.In.Language P.Out.Language P.Pass bytes.now x × HasOffered x seat.old seat.new) }
+        × IsOfferText P.In.Language P.Out.Language P.Pass bytes.now x × PutsOffer x seat.old seat.new) }
     ensures err { OnErr result (seat.new ≡ seat.old) }
     ensures faults { IfErr result IsOfferFault }
     ensures room { IsOneRoom seat.old seat.new }
@@ -144,8 +144,8 @@ fn lay_again<P: Pass>(alloc: Global, seat: &mut Seat<P>, bytes: &[u8]) -> Result
 
 /// The offer that these bytes are, where all seats of the room can read it.
 fn made_again<P: Pass>(alloc: Global, bytes: &[u8]) -> Result<Arc<Offer<P>>, NoMemory>
-    requires { (x : Parts P.In.Fun P.Out.Fun P.Cert) × IsTextOf P.In.Language P.Out.Language P.Pass bytes.now x }
-    ensures { IfOk result (λ offer. IsTextOf P.In.Language P.Out.Language P.Pass bytes.now (arc_value offer)) }
+    requires { (x : Parts P.In.Fun P.Out.Fun P.Cert) × IsOfferText P.In.Language P.Out.Language P.Pass bytes.now x }
+    ensures { IfOk result (λ offer. IsOfferText P.In.Language P.Out.Language P.Pass bytes.now (arc_value offer)) }
 {
     let offer = match Offer::<P>::read(alloc, bytes) {
         Ok(offer) => offer,

@@ -1,3 +1,4 @@
 pub mod Own
 pub mod Waiting
 pub mod Soundness
+mod OverPair

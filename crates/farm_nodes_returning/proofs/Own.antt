@@ -12,14 +12,17 @@ use Rattle.farm_nodes_acting.specs.declared.stop.Pending.{Pending}
 use Rattle.farm_nodes_node.specs.Numbers.{function_of}
 use Rattle.farm_nodes_node.specs.Fours.{Four}
 use Rattle.farm_nodes_node.specs.Leaves.{left_in, pending_at}
+use Rattle.farm_nodes_node.specs.Texts.{Texts}
 use Rattle.farm_nodes_node.specs.declared.halted.Halted.{Halted}
-use Rattle.farm_nodes_node.specs.Held.{pending_in, IsSoundNode}
+use Rattle.farm_nodes_node.specs.Held.{pending_in, IsSoundBy}
 use Rattle.farm_nodes_restart_seat.specs.declared.fault.RestartFault.{RestartFault}
 use Rattle.farm_nodes_restart_seat.specs.declared.fault.RestartFault.TheVariants.{NoMemory, Journal, OtherRecords, CellRefused}
 use Rattle.farm_nodes_restart.specs.Found.{AreOther}
-use Rattle.farm_nodes_restart.specs.Returned.{HasCause, HoldsBack}
+use Rattle.farm_nodes_restart.specs.Returned.{HasReason, HoldsBack}
 use Rattle.farm_nodes_restart.proofs.Own.{own}
 use Rattle.farm_nodes_restart_records.proofs.Leaving.{front_in_order}
+use Rattle.durable_pair.specs.Images.{Images, IsSpent}
+use Rattle.farm_nodes_returning.specs.Cause.{HasCauseOn}
 use Rattle.farm_nodes_returning.specs.Own.{IsOwnFault}
 use Rattle.farm_nodes_returning.specs.Stopped.{left_by, room_in}
 
@@ -32,27 +35,27 @@ module _ {T1 T2 T3 T4 : Type 0} where
   pending_left seats None = sym (none_left (slice_get seats (function_of 0)) 0)
   pending_left seats (Some h) = refl
 
-  pub never_others : {D : Type 0} (is_honest : D → Type 0) (seen : D → List ℕ) (may_leave : D → List ℕ → Type 0) (log : Log D) (seats : List (Four T1 T2 T3 T4))
-      (halted : Option Halted) (bytes : List ℕ) (rs : List Record) → IsSoundNode is_honest seen may_leave log seats halted → is_honest log.disk → may_leave log.disk bytes
-      → StandsFor log.header rs bytes → AreOther seats (room_in halted) (left_by halted) rs → ⊥
-  never_others is_honest seen may_leave log seats halted bytes rs sound honest left stands others =
+  pub never_others : {D : Type 0} (texts : Texts T1 T2 T3 T4) (is_honest : D → Type 0) (seen : D → List ℕ) (may_leave : D → List ℕ → Type 0) (log : Log D) (seats : List (Four T1 T2 T3 T4))
+      (halted : Option Halted) (bytes : List ℕ) (rs : List Record) → IsSoundBy texts is_honest seen may_leave log seats halted → is_honest log.disk → may_leave log.disk bytes
+      → StandsFor log.header rs bytes → AreOther texts seats (room_in halted) (left_by halted) rs → ⊥
+  never_others texts is_honest seen may_leave log seats halted bytes rs sound honest left stands others =
       let u = sound.upto honest in
-      own seats (room_in halted) (left_by halted) log.header u.0 rs bytes u.1.leave
+      own texts seats (room_in halted) (left_by halted) log.header u.0 rs bytes u.1.leave
       (subst (λ (ps : List Record). Between log.header u.0 (u.0 ++ ps) bytes) (pending_left seats halted) (u.1.left bytes left))
       stands others
 
-  module _ (h : Header) (rooms : ℕ) (seats : List (Four T1 T2 T3 T4)) (room : ℕ) (p : Option Pending) (bytes : List ℕ) where
+  module _ (texts : Texts T1 T2 T3 T4) (h : Header) (rooms : ℕ) (seats : List (Four T1 T2 T3 T4)) (room : ℕ) (p : Option Pending) (bytes : List ℕ) where
     -- why it is not: no others stand there
-    pub not_others : (fault : RestartFault) → HasCause h rooms seats room p bytes fault
-        → ((rs : List Record) → StandsFor h rs bytes → AreOther seats room p rs → ⊥) → fault ≡ OtherRecords → ⊥
+    pub not_others : (fault : RestartFault) → HasReason texts h rooms seats room p bytes fault
+        → ((rs : List Record) → StandsFor h rs bytes → AreOther texts seats room p rs → ⊥) → fault ≡ OtherRecords → ⊥
     not_others fault (inl memory) never is = let bad = sym memory ∙ is in absurd (cc)
     not_others fault (inr (inl device)) never is = let bad = sym device ∙ is in absurd (cc)
     not_others fault (inr (inr (inl journal))) never is = let bad = sym journal.1 ∙ is in absurd (cc)
     not_others fault (inr (inr (inr held))) never is =
-        never held.0 held.1 (subst (λ (f : RestartFault). HoldsBack h rooms seats room p held.0 f) is held.2).1
+        never held.0 held.1 (subst (λ (f : RestartFault). HoldsBack texts h rooms seats room p held.0 f) is held.2).1
 
-  module _ {D : Type 0} (is_honest : D → Type 0) (seen : D → List ℕ) (may_leave : D → List ℕ → Type 0) (log : Log D) (seats : List (Four T1 T2 T3 T4))
-      (halted : Option Halted) (bytes : List ℕ) (sound : IsSoundNode is_honest seen may_leave log seats halted) (honest : is_honest log.disk) (left : may_leave log.disk bytes) where
+  module _ {D : Type 0} (texts : Texts T1 T2 T3 T4) (is_honest : D → Type 0) (seen : D → List ℕ) (may_leave : D → List ℕ → Type 0) (log : Log D) (seats : List (Four T1 T2 T3 T4))
+      (halted : Option Halted) (bytes : List ℕ) (sound : IsSoundBy texts is_honest seen may_leave log seats halted) (honest : is_honest log.disk) (left : may_leave log.disk bytes) where
     -- its records are in order
     pub own_in_order : (rs : List Record) → StandsFor log.header rs bytes → AreInOrder log.header.nodes log.header.node (4 * length seats) rs
     own_in_order rs stands =
@@ -60,17 +63,25 @@ module _ {T1 T2 T3 T4 : Type 0} where
         let begins = between-lists log.header u.0 (u.0 ++ pending_in seats halted) rs bytes (u.1.left bytes left) stands in
         front_in_order log.header.nodes log.header.node (4 * length seats) rs begins.1.0 (u.0 ++ pending_in seats halted) begins.1.1 u.1.in_order
 
-    held_back : (rs : List Record) (fault : RestartFault) → StandsFor log.header rs bytes → HoldsBack log.header (4 * length seats) seats (room_in halted) (left_by halted) rs fault → IsOwnFault fault
+    held_back : (rs : List Record) (fault : RestartFault) → StandsFor log.header rs bytes → HoldsBack texts log.header (4 * length seats) seats (room_in halted) (left_by halted) rs fault → IsOwnFault fault
     held_back rs NoMemory stands held = tt
     held_back rs (Journal e) stands held = absurd (held.1 (own_in_order rs stands))
-    held_back rs OtherRecords stands held = absurd (never_others is_honest seen may_leave log seats halted bytes rs sound honest left stands held.1)
+    held_back rs OtherRecords stands held = absurd (never_others texts is_honest seen may_leave log seats halted bytes rs sound honest left stands held.1)
     held_back rs CellRefused stands held = tt
 
     -- and no fault is told of it but a failure
-    pub own_fault : (fault : RestartFault) → HasCause log.header (4 * length seats) seats (room_in halted) (left_by halted) bytes fault → IsOwnFault fault
+    pub own_fault : (fault : RestartFault) → HasReason texts log.header (4 * length seats) seats (room_in halted) (left_by halted) bytes fault → IsOwnFault fault
     own_fault fault (inl memory) = subst IsOwnFault (sym memory) tt
     own_fault fault (inr (inl device)) = subst IsOwnFault (sym device) tt
     own_fault fault (inr (inr (inl journal))) =
         let u = sound.upto honest in
         absurd (between-no_fault log.header u.0 (u.0 ++ pending_in seats halted) bytes journal.0 (u.1.left bytes left) journal.2)
     own_fault fault (inr (inr (inr held))) = held_back held.0 fault held.1 held.2
+
+-- where the old disk counts no more it is by the new one's bytes
+pub cause_of : {T1 T2 T3 T4 : Type 0} (texts : Texts T1 T2 T3 T4) (h : Header) (rooms : ℕ) (seats : List (Four T1 T2 T3 T4)) (room : ℕ) (p : Option Pending) (im : Images) (fault : RestartFault) → IsSpent im.1
+    → HasCauseOn texts h rooms seats room p im fault → HasReason texts h rooms seats room p im.0 fault
+cause_of texts h rooms seats room p im fault spent (inl (inl memory)) = inl memory
+cause_of texts h rooms seats room p im fault spent (inl (inr (inl device))) = inr (inl device)
+cause_of texts h rooms seats room p im fault spent (inl (inr (inr counts))) = absurd (counts.0 spent)
+cause_of texts h rooms seats room p im fault spent (inr has) = has.1

@@ -16,8 +16,9 @@ use Rattle.farm_nodes_acting.specs.declared.stop.Pending.{Pending}
 use Rattle.farm_nodes_node.specs.Fours.{Four}
 use Rattle.farm_nodes_node.specs.Numbers.{function_of}
 use Rattle.farm_nodes_node.specs.Leaves.{pending_at, Leave}
+use Rattle.farm_nodes_node.specs.Texts.{Texts}
 use Rattle.farm_nodes_node.specs.declared.halted.Halted.{Halted}
-use Rattle.farm_nodes_node.specs.Held.{pending_in, AreSeatsOf, AreUnproposed, IsSoundNode}
+use Rattle.farm_nodes_node.specs.Held.{pending_in, AreSeatsOf, AreUnproposed, IsSoundBy}
 use Rattle.farm_nodes_restart.specs.Returned.{AreAtRest}
 use Rattle.farm_nodes_restart_seat.proofs.Places.{there_is}
 use Rattle.farm_nodes_returning.specs.Stopped.{left_by, room_in}
@@ -43,12 +44,12 @@ module _ {T1 T2 T3 T4 : Type 0} (old new : List (Four T1 T2 T3 T4)) where
       let bad : Some b ≡ None = sym is ∙ (rest.each m s.0 t s.1 at).ballot in
       absurd (cc)
 
-module _ {D T1 T2 T3 T4 : Type 0} (is_honest : D → Type 0) (seen : D → List ℕ) (may_leave : D → List ℕ → Type 0) where
+module _ {D T1 T2 T3 T4 : Type 0} (texts : Texts T1 T2 T3 T4) (is_honest : D → Type 0) (seen : D → List ℕ) (may_leave : D → List ℕ → Type 0) where
   -- the journal that it opened holds just what it acknowledges, and stands for its seats
   pub sound_back : (log : Log D) (old seats : List (Four T1 T2 T3 T4)) (rooms : ℕ) → IsSound is_honest seen may_leave log → log.going ≡ true → rooms ≡ 4 * length seats
       → AreSeatsOf log.header old → AreAtRest old seats
-      → (is_honest log.disk → Leave seats (acknowledged seen log)) → (is_honest log.disk → AreInOrder log.header.nodes log.header.node rooms (acknowledged seen log))
-      → ((bytes : List ℕ) → is_honest log.disk → may_leave log.disk bytes → StandsFor log.header (acknowledged seen log) bytes) → IsSoundNode is_honest seen may_leave log seats None
+      → (is_honest log.disk → Leave texts seats (acknowledged seen log)) → (is_honest log.disk → AreInOrder log.header.nodes log.header.node rooms (acknowledged seen log))
+      → ((bytes : List ℕ) → is_honest log.disk → may_leave log.disk bytes → StandsFor log.header (acknowledged seen log) bytes) → IsSoundBy texts is_honest seen may_leave log seats None
   sound_back log old seats rooms sound going size own at_rest leave order rest = record {
     journal = sound;
     going = λ none. going;
@@ -83,7 +84,7 @@ module _ {D T1 T2 T3 T4 : Type 0} (is_honest : D → Type 0) (seen : D → List 
         ∙ ap (λ (l : List (Four T1 T2 T3 T4)). pending_at l stopped.room stopped.halt.pending) (sym same)))
 
     -- its journal is as it was, and the same is left to do
-    pub sound_refused : IsSoundNode is_honest seen may_leave log old halted → IsSoundNode is_honest seen may_leave log new (Some stopped)
+    pub sound_refused : IsSoundBy texts is_honest seen may_leave log old halted → IsSoundBy texts is_honest seen may_leave log new (Some stopped)
     sound_refused sound = record {
       journal = sound.journal;
       going = λ none. absurd (cc);
@@ -92,7 +93,7 @@ module _ {D T1 T2 T3 T4 : Type 0} (is_honest : D → Type 0) (seen : D → List 
           let u = sound.upto honest in (
             u.0,
             record {
-              leave = subst (λ (l : List (Four T1 T2 T3 T4)). Leave l u.0) (sym same) u.1.leave;
+              leave = subst (λ (l : List (Four T1 T2 T3 T4)). Leave texts l u.0) (sym same) u.1.leave;
               named = subst (λ (l : List (Four T1 T2 T3 T4)). AreOf (4 * length l) u.0) (sym same) u.1.named;
               in_order =
                   subst (λ (l : List (Four T1 T2 T3 T4)). AreInOrder log.header.nodes log.header.node (4 * length l) (u.0 ++ pending_in new (Some stopped))) (sym same)

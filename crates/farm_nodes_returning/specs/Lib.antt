@@ -1,2 +1,3 @@
 pub mod Stopped
 pub mod Own
+pub mod Cause

@@ -9,6 +9,7 @@ ghost use Rattle.farm_nodes_node.specs.Offers.{Constants, Expressions, Allocatio
 ghost use Rattle.farm_nodes_node.specs.Fours.{Four};
 ghost use Rattle.farm_nodes_node.specs.declared.halted.Halted.{Halted};
 ghost use Rattle.farm_nodes_node.specs.Held.{IsSoundNode};
+ghost use Rattle.farm_nodes_node.specs.Texts.{pass_texts};
 ghost use Rattle.farm_nodes_restart.specs.Found.{AreOther};
 ghost use Rattle.farm_nodes_returning.specs.Stopped.{left_by, room_in};
 
@@ -24,5 +25,5 @@ pub fn own_disk<D: Disk>()
     ensures others { (log : Log D) (seats : List (Four Constants Expressions Allocation Order))
         (halted : Option Halted) (bytes : List ℕ) (rs : List Record)
         → IsSoundNode D.is_honest D.seen D.may_leave log seats halted → D.is_honest log.disk → D.may_leave log.disk bytes
-        → StandsFor log.header rs bytes → AreOther seats (room_in halted) (left_by halted) rs → ⊥ }
+        → StandsFor log.header rs bytes → AreOther pass_texts seats (room_in halted) (left_by halted) rs → ⊥ }
 {}

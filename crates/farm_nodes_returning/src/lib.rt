@@ -1,8 +1,9 @@
-//! A node of a farm is restarted over a disk: it comes back and goes on, or it is stopped, and says why. Over what a
-//! crash of its own disk leaves it is never refused for other records.
+//! A node of a farm is restarted over a pair of disks: it comes back and goes on, or it is stopped, and says why. Over what a
+//! crash of its own pair leaves it is never refused for other records.
 #![tactic(auto)]
 
 mod laws;
+mod opening;
 mod restarting;
 mod stopping;
 

@@ -1,3 +1,4 @@
 pub mod Nodes
 pub mod Offered
 pub mod Accepted
+pub mod Texts

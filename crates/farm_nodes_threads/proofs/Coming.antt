@@ -14,23 +14,24 @@ use Rattle.lang_base.specs.declared.program.Named.{Named}
 use Rattle.offers.specs.declared.parts.Parts.{Parts}
 use Rattle.rooms.specs.SeatValue.{SeatValue}
 use Rattle.farm_nodes_acting.specs.Served.{IsServed}
-use Rattle.farm_nodes_node.specs.Played.{Stays}
+use Rattle.farm_nodes_node.specs.Played.{StaysInTurn}
 use Rattle.farm_nodes_node.specs.Numbers.{function_of, pass_of}
 use Rattle.farm_nodes_node.specs.Fours.{Four}
+use Rattle.farm_nodes_node.specs.Texts.{Texts}
 use Rattle.farm_nodes_node.specs.Which.{Which}
 use Rattle.farm_nodes_node.specs.Which.TheVariants.{First, Second, Third, Fourth}
 use Rattle.farm_nodes_node.specs.Turned.{Leaves, StaysIn, OthersStay}
 use Rattle.farm_nodes_node.specs.Turns.{AtPlace, OfFunction}
 use Rattle.farm_nodes_node.proofs.Places.{found, mapped}
 use Rattle.farm_nodes_node.specs.declared.halted.Halted.{Halted}
-use Rattle.farm_nodes_node.specs.Held.{IsSoundNode, IsJournalOf, pending_in}
-use Rattle.farm_nodes_node.specs.Stood.{TurnsInto}
+use Rattle.farm_nodes_node.specs.Held.{IsSoundBy, IsJournalOf, pending_in}
+use Rattle.farm_nodes_node.specs.Stood.{TurnsBy}
 use Rattle.farm_nodes_rounds.specs.After.{After}
 use Rattle.farm_nodes_workers.specs.Taken.{HasTaken}
-use Rattle.farm_nodes_threads.specs.CameBack.{Keep, CameBack}
+use Rattle.farm_nodes_threads.specs.CameBack.{Keep, CameBackBy}
 
 -- a seat
-stays_so : {T : Type 0} (s : SeatValue T) → Stays s s
+stays_so : {T : Type 0} (s : SeatValue T) → StaysInTurn s s
 stays_so s = record {
   room = record { table = refl; cells = refl };
   me = refl;
@@ -40,10 +41,10 @@ stays_so s = record {
   seen = λ j x e. e;
 }
 
-stays_on : {T : Type 0} (s t : SeatValue T) → t ≡ s → Stays s t
-stays_on s t e = subst (λ u. Stays s u) (sym e) (stays_so s)
+stays_on : {T : Type 0} (s t : SeatValue T) → t ≡ s → StaysInTurn s t
+stays_on s t e = subst (λ u. StaysInTurn s u) (sym e) (stays_so s)
 
-stays_through : {T : Type 0} (s t u : SeatValue T) → Stays s t → Stays t u → Stays s u
+stays_through : {T : Type 0} (s t u : SeatValue T) → StaysInTurn s t → StaysInTurn t u → StaysInTurn s u
 stays_through s t u a b = record {
   room = record { table = a.room.table ∙ b.room.table; cells = a.room.cells ∙ b.room.cells };
   me = b.me ∙ a.me;
@@ -123,18 +124,18 @@ by_halt : {P : Type 0} (h : Option Halted) → (h ≡ None → P) → (h ≢ Non
 by_halt None none some = none refl
 by_halt (Some h) none some = some (λ (e : Some h ≡ None). absurd (cc))
 
-module _ {D T1 T2 T3 T4 : Type 0} (is_honest : D → Type 0) (seen : D → List ℕ) (may_leave : D → List ℕ → Type 0)
+module _ {D T1 T2 T3 T4 : Type 0} (texts : Texts T1 T2 T3 T4) (is_honest : D → Type 0) (seen : D → List ℕ) (may_leave : D → List ℕ → Type 0)
     (moment : D → ℕ) (left_since : D → ℕ → List ℕ → Type 0) where
   abbrev pub Came : Log D → Log D → List (Four T1 T2 T3 T4) → List (Four T1 T2 T3 T4) → Option Halted → Option Halted → Type 0
-  Came old new seats after halted now = CameBack is_honest seen may_leave moment left_since old new seats after halted now
+  Came old new seats after halted now = CameBackBy texts is_honest seen may_leave moment left_since old new seats after halted now
 
   abbrev pub Into : Log D → Log D → List (Four T1 T2 T3 T4) → Option Halted → Type 0
-  Into old new after now = TurnsInto seen may_leave moment left_since old new after now
+  Into old new after now = TurnsBy texts seen may_leave moment left_since old new after now
 
   -- no turn
   into_none : (log : Log D) (seats : List (Four T1 T2 T3 T4)) (halted : Option Halted) (upto : List Record)
       → ((c : List ℕ) → left_since log.disk (moment log.disk) c → may_leave log.disk c)
-      → IsJournalOf may_leave log seats halted upto → upto ≡ acknowledged seen log → Into log log seats halted
+      → IsJournalOf texts may_leave log seats halted upto → upto ≡ acknowledged seen log → Into log log seats halted
   into_none log seats halted upto now stands all = record {
     upto = upto;
     longer = subst (λ (l : List Record). Begins (acknowledged seen log) l) (sym all) (same_begins (acknowledged seen log));
@@ -146,7 +147,7 @@ module _ {D T1 T2 T3 T4 : Type 0} (is_honest : D → Type 0) (seen : D → List 
 
   pub came_none : (log : Log D) (seats : List (Four T1 T2 T3 T4)) (halted : Option Halted)
       → (is_honest log.disk → (c : List ℕ) → left_since log.disk (moment log.disk) c → may_leave log.disk c)
-      → IsSoundNode is_honest seen may_leave log seats halted → Came log log seats seats halted halted
+      → IsSoundBy texts is_honest seen may_leave log seats halted → Came log log seats seats halted halted
   came_none log seats halted now sound = record {
     functions = refl;
     rooms = λ f s t e g. keep_same s t (let same : Some s ≡ Some t = sym e ∙ g in cc);
@@ -247,29 +248,29 @@ keeps_at f functions room old new low leaves s t e g =
     subst₂ (λ a b. Keep a b) x.2 y.2 (keep_by (pass_of room) (f x.0) (f y.0) it.stays it.others)
 
 -- A node is seen as its program, its journal, its seats and what stopped it.
-module _ {N G D T1 T2 T3 T4 : Type 0} (is_honest : D → Type 0) (seen : D → List ℕ) (may_leave : D → List ℕ → Type 0)
+module _ {N G D T1 T2 T3 T4 : Type 0} (texts : Texts T1 T2 T3 T4) (is_honest : D → Type 0) (seen : D → List ℕ) (may_leave : D → List ℕ → Type 0)
     (moment : D → ℕ) (left_since : D → ℕ → List ℕ → Type 0) (program : N → G) (log : N → Log D)
     (fours : N → List (Four T1 T2 T3 T4)) (halted : N → Option Halted)
     (now : (d : D) → is_honest d → (c : List ℕ) → left_since d (moment d) c → may_leave d c) where
   abbrev pub Turned : N → N → Type 0
   Turned x y = (program y ≡ program x)
-      × CameBack is_honest seen may_leave moment left_since (log x) (log y) (fours x) (fours y) (halted x) (halted y)
+      × CameBackBy texts is_honest seen may_leave moment left_since (log x) (log y) (fours x) (fours y) (halted x) (halted y)
 
-  pub after_many : (n : ℕ) (x y : N) → IsSoundNode is_honest seen may_leave (log x) (fours x) (halted x) → After Turned n x y → Turned x y
+  pub after_many : (n : ℕ) (x y : N) → IsSoundBy texts is_honest seen may_leave (log x) (fours x) (halted x) → After Turned n x y → Turned x y
   after_many zero x y sound same = subst (λ z. Turned x z) (sym same)
-      (refl, came_none is_honest seen may_leave moment left_since (log x) (fours x) (halted x) (now (log x).disk) sound)
+      (refl, came_none texts is_honest seen may_leave moment left_since (log x) (fours x) (halted x) (now (log x).disk) sound)
   after_many (suc n) x y sound turns =
       let before = after_many n x turns.0 sound turns.1 in
       let last : Turned turns.0 y = turns.2 in (
         last.0 ∙ before.0,
-        came_through is_honest seen may_leave moment left_since (log x) (log turns.0) (log y) (fours x) (fours turns.0) (fours y)
+        came_through texts is_honest seen may_leave moment left_since (log x) (log turns.0) (log y) (fours x) (fours turns.0) (fours y)
             (halted x) (halted turns.0) (halted y) before.1 last.1,
       )
 
   -- of all nodes, each of which is sound and waits for what it is stopped at
   module _ (waiting : N → Type 0) (most : ℕ) where
     abbrev pub Fit : N → Type 0
-    Fit x = IsSoundNode is_honest seen may_leave (log x) (fours x) (halted x) × waiting x
+    Fit x = IsSoundBy texts is_honest seen may_leave (log x) (fours x) (halted x) × waiting x
 
     pub all_stay : (xs : List N) → AllByRecursion Fit xs → AllZip Turned xs xs
     all_stay [] fit = tt

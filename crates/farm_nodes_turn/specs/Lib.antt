@@ -6,6 +6,8 @@ pub use Rattle.farm_nodes_passes.specs.Fours
 pub use Rattle.farm_nodes_passes.specs.Leaves
 pub use Rattle.farm_nodes_passes.specs.Numbers
 pub use Rattle.farm_nodes_passes.specs.Pending
+pub use Rattle.farm_nodes_passes.specs.Texts
+pub use Rattle.farm_nodes_playing.specs.Told
 pub use Rattle.farm_nodes_passes.specs.Seats
 pub use Rattle.farm_nodes_passes.specs.declared.which.Which
 pub use Rattle.farm_nodes_passes.specs.Offers

@@ -11,7 +11,7 @@ use Rattle.rooms_state.specs.Would.{would}
 use Rattle.rooms.specs.SeatValue.{SeatValue, offer_of}
 use Rattle.farm_nodes_acting.specs.Quiet.{IsQuiet}
 use Rattle.farm_nodes_playing.specs.Leading.{HasLed}
-use Rattle.farm_nodes_playing.specs.Played.{IsLearnedOutput, IsMadeOn, Stays}
+use Rattle.farm_nodes_playing.specs.Played.{IsLearnedOutput, IsMadeOn, StaysInTurn}
 use Rattle.farm_nodes_passes.specs.Offers.{Constants, Expressions, Allocation, Order}
 use Rattle.farm_nodes_passes.specs.declared.which.Which.{Which}
 use Rattle.farm_nodes_passes.specs.declared.which.Which.TheVariants.{First, Second, Third, Fourth}
@@ -68,10 +68,10 @@ module _ {T1 T2 T3 T4 : Type 0} where
 
   -- what a turn leaves of the seat
   abbrev pub StaysIn : Which → Four T1 T2 T3 T4 → Four T1 T2 T3 T4 → Type 0
-  StaysIn First old new = Stays old.first new.first
-  StaysIn Second old new = Stays old.second new.second
-  StaysIn Third old new = Stays old.third new.third
-  StaysIn Fourth old new = Stays old.fourth new.fourth
+  StaysIn First old new = StaysInTurn old.first new.first
+  StaysIn Second old new = StaysInTurn old.second new.second
+  StaysIn Third old new = StaysInTurn old.third new.third
+  StaysIn Fourth old new = StaysInTurn old.fourth new.fourth
 
   -- the other seats, and the number of the rooms, are as they were
   abbrev pub OthersStay : Which → Four T1 T2 T3 T4 → Four T1 T2 T3 T4 → Type 0

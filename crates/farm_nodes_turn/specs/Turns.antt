@@ -8,6 +8,7 @@ use Rattle.farm_nodes_playing.specs.declared.progress.Progress.{Progress}
 use Rattle.farm_nodes_playing.specs.Played.{Played}
 use Rattle.farm_nodes_passes.specs.Numbers.{pass_of}
 use Rattle.farm_nodes_passes.specs.Fours.{Four, words_of}
+use Rattle.farm_nodes_passes.specs.Texts.{Texts, IsOwnTextIn}
 
 -- so it is, in the sight of f, of the elements at this place of two lists
 abbrev pub AtPlace : {X Y : Type 0} → (X → Y) → (Y → Y → Type 0) → ℕ → List X → List X → Type 0
@@ -19,10 +20,10 @@ OfFunction {F} functions number P = (x : Named F) → slice_get functions number
 
 module _ {D T1 T2 T3 T4 : Type 0} where
   -- what a turn in a room leaves of the journal, by its result
-  abbrev pub PlayedIn : (D → Type 0) → (D → List ℕ) → (D → List ℕ → Type 0) → (D → ℕ)
+  abbrev pub PlayedIn : Texts T1 T2 T3 T4 → (D → Type 0) → (D → List ℕ) → (D → List ℕ → Type 0) → (D → ℕ)
       → (D → ℕ → List ℕ → Type 0) → Log D → Log D → ℕ → Result Progress Halt → Four T1 T2 T3 T4 → Four T1 T2 T3 T4 → Type 0
-  PlayedIn is_honest seen may_leave moment left_since old new room result s t =
-      Played is_honest seen may_leave moment left_since old new room (words_of s (pass_of room)) (words_of t (pass_of room)) result
+  PlayedIn texts is_honest seen may_leave moment left_since old new room result s t =
+      Played (IsOwnTextIn texts (pass_of room) t) is_honest seen may_leave moment left_since old new room (words_of s (pass_of room)) (words_of t (pass_of room)) result
 
   -- why a turn in a room halts
   abbrev pub HaltsIn : (D → Type 0) → (D → ℕ) → (Four T1 T2 T3 T4 → Type 0) → Log D → Log D → ℕ → Halt → Four T1 T2 T3 T4 → Four T1 T2 T3 T4 → Type 0

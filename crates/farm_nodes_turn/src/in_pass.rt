@@ -7,10 +7,12 @@ ghost use Rattle.farm_nodes_acting.specs.Served.{IsServed};
 ghost use Rattle.farm_nodes_acting.specs.Quiet.{IsQuiet};
 ghost use Rattle.farm_nodes_playing.specs.Leading.{HasLed};
 ghost use Rattle.farm_nodes_playing.specs.Halted.{left_over, HasHaltCause};
-ghost use Rattle.farm_nodes_playing.specs.Pending.{IsTextOf, MayPendOn};
-ghost use Rattle.farm_nodes_playing.specs.Played.{IsMadeOn, Played, Stays};
+ghost use Rattle.farm_nodes_playing.specs.Pending.{IsOfferText, MayPendOn};
+ghost use Rattle.farm_nodes_playing.specs.Told.{IsOwnText};
+ghost use Rattle.farm_nodes_playing.specs.Played.{IsMadeOn, Played, StaysInTurn};
 ghost use Rattle.farm_nodes_passes.specs.Fours.{four_of, words_of};
 ghost use Rattle.farm_nodes_passes.specs.Pending.{HasPending};
+ghost use Rattle.farm_nodes_passes.specs.Texts.{pass_texts, IsOwnTextIn};
 ghost use Rattle.farm_nodes_turn.specs.Turned.{HasInput, HasLearned, IsMadeFrom, IsMadeIn, IsTooLargeFrom};
 ghost use Rattle.farm_nodes_turn.specs.Turned.{IsTooLargeFor, OthersStay, StaysIn};
 
@@ -60,7 +62,7 @@ pub fn play_in<D: Disk, O: Oracles, H: Naming>(
     ensures left { IfErr result (λ halt. HasPending seats.new room pass halt.pending) }
 
     ensures journal { D.is_honest log.old.disk → log.old.going ≡ true → Played
-        D.is_honest D.seen D.may_leave D.moment D.left_since log.old log.new room
+        (IsOwnTextIn pass_texts pass (four_of seats.new)) D.is_honest D.seen D.may_leave D.moment D.left_since log.old log.new room
         (words_of (four_of seats.old) pass) (words_of (four_of seats.new) pass) result }
     ensures cause { log.old.going ≡ true → IfErr result (λ halt. HasHaltCause D.is_honest D.faults
         (IsTooLargeFor function.now pass (four_of seats.old))
@@ -119,7 +121,7 @@ fn play_first<D: Disk, P: Pass, O: Oracle<P = P>>(
     requires { IsSound D.is_honest D.seen D.may_leave log.old }
     ensures served { IsServed D.is_honest D.seen D.may_leave D.faults log.old log.new }
     ensures going { IfOk result (λ progress. log.new.going ≡ log.old.going) }
-    ensures stays { Stays seat.old seat.new }
+    ensures stays { StaysInTurn seat.old seat.new }
     ensures made { IsMadeOn (Some function.now) seat.old seat.new }
     ensures offered { OnOk result (seat.new.words.node.kept.offered ≡ true) }
     ensures quiet { OnOk result ((j : ℕ) → j < seat.new.words.node.quorums.nodes
@@ -127,10 +129,10 @@ fn play_first<D: Disk, P: Pass, O: Oracle<P = P>>(
     ensures proposed { OnOk result (would seat.new.words asked.Propose ≡ None) }
     ensures led { OnOk result (seat.old.words.node.kept.offered ≡ true → (pcg32 words.old).0 % 4 ≡ 0
         → HasLed seat.new.words) }
-    ensures left { IfErr result (λ halt. MayPendOn (IsTextOf P.In.Language P.Out.Language P.Pass)
+    ensures left { IfErr result (λ halt. MayPendOn (IsOfferText P.In.Language P.Out.Language P.Pass)
         room seat.new halt.pending) }
     ensures journal { D.is_honest log.old.disk → log.old.going ≡ true → Played
-        D.is_honest D.seen D.may_leave D.moment D.left_since log.old log.new room
+        (IsOwnText (IsOfferText P.In.Language P.Out.Language P.Pass) seat.new) D.is_honest D.seen D.may_leave D.moment D.left_since log.old log.new room
         seat.old.words seat.new.words result }
     ensures cause { log.old.going ≡ true → IfErr result (λ halt. HasHaltCause D.is_honest D.faults
         (P.too_large function.now)
@@ -152,7 +154,7 @@ fn play_behind<D: Disk, B: Pass, P: Pass<In = B::Out>, O: Oracle<P = P>>(
     requires { IsSound D.is_honest D.seen D.may_leave log.old }
     ensures served { IsServed D.is_honest D.seen D.may_leave D.faults log.old log.new }
     ensures going { IfOk result (λ progress. log.new.going ≡ log.old.going) }
-    ensures stays { Stays seat.old seat.new }
+    ensures stays { StaysInTurn seat.old seat.new }
     ensures made { IsMadeFrom before.now seat.old seat.new }
     ensures offered { OnOk result (HasLearned before.now → seat.new.words.node.kept.offered ≡ true) }
     ensures quiet { OnOk result ((j : ℕ) → j < seat.new.words.node.quorums.nodes
@@ -160,10 +162,10 @@ fn play_behind<D: Disk, B: Pass, P: Pass<In = B::Out>, O: Oracle<P = P>>(
     ensures proposed { OnOk result (would seat.new.words asked.Propose ≡ None) }
     ensures led { OnOk result (seat.old.words.node.kept.offered ≡ true → (pcg32 words.old).0 % 4 ≡ 0
         → HasLed seat.new.words) }
-    ensures left { IfErr result (λ halt. MayPendOn (IsTextOf B.Out.Language P.Out.Language P.Pass)
+    ensures left { IfErr result (λ halt. MayPendOn (IsOfferText B.Out.Language P.Out.Language P.Pass)
         room seat.new halt.pending) }
     ensures journal { D.is_honest log.old.disk → log.old.going ≡ true → Played
-        D.is_honest D.seen D.may_leave D.moment D.left_since log.old log.new room
+        (IsOwnText (IsOfferText B.Out.Language P.Out.Language P.Pass) seat.new) D.is_honest D.seen D.may_leave D.moment D.left_since log.old log.new room
         seat.old.words seat.new.words result }
     ensures cause { log.old.going ≡ true → IfErr result (λ halt. HasHaltCause D.is_honest D.faults
         (IsTooLargeFrom P.too_large before.now)

@@ -5,6 +5,7 @@ ghost use Rattle.farm_nodes_acting.specs.Served.{IsServed};
 ghost use Rattle.farm_nodes_passes.specs.Numbers.{function_of, pass_of};
 ghost use Rattle.farm_nodes_passes.specs.Fours.{four_of};
 ghost use Rattle.farm_nodes_passes.specs.Pending.{HavePending};
+ghost use Rattle.farm_nodes_passes.specs.Texts.{pass_texts};
 ghost use Rattle.farm_nodes_turn.specs.Turned.{IsTooLargeFor, Leaves, StandsAfter};
 ghost use Rattle.farm_nodes_turn.specs.Turns.{AtPlace, HaltsIn, PlayedIn};
 
@@ -43,7 +44,7 @@ pub fn turn_in<D: Disk, O: Oracles, H: Naming>(
         seats.old.items seats.new.items) }
     ensures left { IfErr result (λ halt. HavePending seats.new.items room halt.pending) }
     ensures journal { D.is_honest log.old.disk → log.old.going ≡ true → AtPlace four_of (PlayedIn
-        D.is_honest D.seen D.may_leave D.moment D.left_since log.old log.new room result) (function_of room)
+        pass_texts D.is_honest D.seen D.may_leave D.moment D.left_since log.old log.new room result) (function_of room)
         seats.old.items seats.new.items }
     ensures cause { log.old.going ≡ true → IfErr result (λ halt. AtPlace four_of (HaltsIn D.is_honest D.faults
         (IsTooLargeFor function.now (pass_of room))

@@ -2,6 +2,7 @@
 use Rattle.std.proofs.Common.{◌≡◌, ◌<◌, ℕ, zero, suc, List, [], ◌∷◌, ◌++◌, length, map, slice_get, Some, None, refl, sym, ap, ◌∙◌, subst, arith, length-append}
 use Rattle.std.specs.List.{AllByRecursion, AllZip}
 use Rattle.durable_model.specs.declared.disk.Disk as disks
+use Rattle.durable_pair.specs.declared.pair.Pair as pairs
 use Rattle.acceptor_log_form.specs.declared.header.Header.{Header}
 use Rattle.acceptor_log.specs.declared.log.Log.{Log}
 use Rattle.paxos_core_world.specs.Quorum.{majority_sizes, Sizes}
@@ -16,10 +17,9 @@ third_of (a ∷ []) h = absurd (omega (arith, h))
 third_of (a ∷ b ∷ []) h = absurd (omega (arith, h))
 third_of (a ∷ b ∷ x ∷ rest) h = (x, refl)
 
--- where it opens
-pub third_opened : {D : Type 0} (disk : disks.Ghosts D) (q : Sizes) (digest : List ℕ) (given : List D) (logs : List (Log D)) → length given ≡ 3 → q ≡ majority_sizes 3
-    → AreMade (IsJournalOn disk q digest) given (length given) logs → IsThird digest logs
-third_opened disk q digest given logs three are made = λ log e.
+pub third_opened : {D : Type 0} (disk : disks.Ghosts D) (pair : pairs.Ghosts D) (q : Sizes) (digest : List ℕ) (given : List D) (logs : List (Log D)) → length given ≡ 3 → q ≡ majority_sizes 3
+    → AreMade (IsJournalOn disk pair q digest) given (length given) logs → IsThird digest logs
+third_opened disk pair q digest given logs three are made = λ log e.
     let it = third_of given three in
     (made.each 2 it.0 log it.1 e).1.header_is ∙ ap (λ (p : Sizes). header_of p digest 2) are
 

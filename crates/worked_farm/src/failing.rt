@@ -2,7 +2,7 @@
 
 ghost use Rattle.std.specs.Prelude.{◌≡◌, length, map, IfSome};
 ghost use Rattle.std.specs.List.{AllByRecursion};
-ghost use Rattle.durable_model.specs.contracts.memory.MemoryDiskDisk.TheImpl as memory;
+ghost use Rattle.durable_pair_memory.specs.contracts.memory.MemoryPairDisk.TheImpl as memory;
 ghost use Rattle.c_checker_rules.specs.Checked.{program_tree};
 ghost use Rattle.cminor_program_ranges.specs.Names.{HaveNames};
 ghost use Rattle.worked_farm.specs.Nodes.{IsFit, IsThird};
@@ -10,8 +10,8 @@ ghost use Rattle.worked_farm.specs.Nodes.{IsFit, IsThird};
 use crate::linking::{Node, all_linked, disks_of, empty_disk};
 use crate::turning::{back_over, joined, open_three, parted, turned, was_stopped};
 use acceptor_log::LogError;
-use durable_model::MemoryDisk;
-use farm_nodes::{Farm, FarmError, Hall, Naming, OpenFault, Source, optimisers_of};
+use durable_pair_memory::MemoryPair;
+use farm_nodes::{Farm, FarmError, Hall, Naming, OpenFault, Optimising, Source, optimisers_of};
 use program_rows::owned;
 use rand_pcg::Pcg32;
 use std::alloc::Global;
@@ -28,7 +28,7 @@ const MOST: usize = 400;
 const FEW: usize = 20;
 
 /// Three empty disks, the third of which fails at this call.
-fn disks_failing(alloc: Global, call: usize) -> Option<Vec<MemoryDisk>>
+fn disks_failing(alloc: Global, call: usize) -> Option<Vec<MemoryPair>>
     ensures { IfSome result (λ disks. length disks.items ≡ 3) }
 {
     let Some(mut disks) = disks_of(alloc, 2) else {
@@ -96,7 +96,7 @@ fn fails<H: Naming + Send, R: Threads + Wait + Sync>(
     let Some(disks) = disks_failing(alloc, call) else {
         return None;
     };
-    let Ok(oracles) = optimisers_of(alloc, 3) else {
+    let Ok(oracles) = optimisers_of(alloc, 3, Optimising::Drawn) else {
         return None;
     };
     match open_three(threads, alloc, hall, text, disks, oracles, seed) {

@@ -10,7 +10,7 @@ use crate::rows::{Row, Trial};
 use crate::stranger::stranger_told;
 use crate::together::together_told;
 use crate::turning::TURNS;
-use farm_nodes::{Farm, Hall, Naming, Opened, optimisers_of, run_threads};
+use farm_nodes::{Farm, Hall, Naming, Opened, Optimising, optimisers_of, run_threads};
 use parallel_validate::OpenGate;
 use program_rows::owned;
 use std::alloc::Global;
@@ -62,7 +62,7 @@ fn farm_told<H: Naming + Send, R: Threads + Wait + Sync>(
     let Some(disks) = disks_of(alloc, count) else {
         return None;
     };
-    let Ok(oracles) = optimisers_of(alloc, count) else {
+    let Ok(oracles) = optimisers_of(alloc, count, Optimising::Drawn) else {
         return None;
     };
     let (text, seed, quorums) = (&row.text, row.seed, row.quorums);

@@ -6,7 +6,7 @@ use acceptor_log::{Header, Log, Record};
 use alloc_check::EquationLists as PlaceLists;
 use constprop_check::FactLists;
 use cse_check::EquationLists;
-use durable_model::MemoryDisk;
+use durable_pair_memory::MemoryPair;
 use farm_nodes::{Farm, FarmNode, Hall, Naming, Oracles};
 use lang_base::NoMemory;
 use linearize_check::{Linearize, Order, arrange, rising};
@@ -89,7 +89,7 @@ fn is_falling(alloc: Global, bytes: &[u8]) -> bool {
 }
 
 /// How many offers of the room stand in a journal; none where one of them is another.
-fn offers_in(alloc: Global, disk: MemoryDisk, header: &Header) -> Option<usize> {
+fn offers_in(alloc: Global, disk: MemoryPair, header: &Header) -> Option<usize> {
     let Ok((_log, records)) = Log::open(alloc, disk, header) else {
         return None;
     };
@@ -110,7 +110,7 @@ fn offers_in(alloc: Global, disk: MemoryDisk, header: &Header) -> Option<usize> 
 /// The same in the journals of all nodes.
 fn all_offers<H: Naming>(
     alloc: Global,
-    nodes: &[FarmNode<MemoryDisk, Fixed, H>],
+    nodes: &[FarmNode<MemoryPair, Fixed, H>],
     digest: [u8; 32],
 ) -> Option<usize> {
     let mut words = Pcg32::new(1, 0);

@@ -6,7 +6,7 @@ ghost use Rattle.cminor_program_ranges.specs.Names.{HaveNames};
 ghost use Rattle.lang.specs.Form.{IsProgram};
 ghost use Rattle.linear_language.specs.Function.{IsFunction};
 
-use durable_model::MemoryDisk;
+use durable_pair_memory::MemoryPair;
 use farm_nodes::{FarmNode, Naming, Optimisers, Source, linked, meet};
 use lang::write_program;
 use lang_base::{Program, Shown};
@@ -24,15 +24,15 @@ const CALLS: usize = 20_000;
 const BYTES: usize = 2_000_000;
 
 /// A node of these farms.
-pub(crate) type Node<H> = FarmNode<MemoryDisk, Optimisers, H>;
+pub(crate) type Node<H> = FarmNode<MemoryPair, Optimisers, H>;
 
 /// An empty disk.
-pub(crate) fn empty_disk(alloc: Global) -> Option<MemoryDisk> {
-    MemoryDisk::new(alloc, CALLS, BYTES).ok()
+pub(crate) fn empty_disk(alloc: Global) -> Option<MemoryPair> {
+    MemoryPair::new(alloc, CALLS, BYTES).ok()
 }
 
 /// Empty disks for so many nodes.
-pub(crate) fn disks_of(alloc: Global, nodes: usize) -> Option<Vec<MemoryDisk>>
+pub(crate) fn disks_of(alloc: Global, nodes: usize) -> Option<Vec<MemoryPair>>
     ensures { IfSome result (λ disks. length disks.items ≡ nodes) }
 {
     let mut disks = Vec::new(alloc);
@@ -50,9 +50,9 @@ pub(crate) fn disks_of(alloc: Global, nodes: usize) -> Option<Vec<MemoryDisk>>
 /// What a crash leaves of the disks of all nodes.
 pub(crate) fn crashed_of<O, H: Naming>(
     alloc: Global,
-    nodes: &[FarmNode<MemoryDisk, O, H>],
+    nodes: &[FarmNode<MemoryPair, O, H>],
     seed: u64,
-) -> Option<Vec<MemoryDisk>> {
+) -> Option<Vec<MemoryPair>> {
     let mut words = Pcg32::new(seed, 0);
     let mut disks = Vec::new(alloc);
     for node in nodes {

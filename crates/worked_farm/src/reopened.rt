@@ -7,8 +7,8 @@ ghost use Rattle.cminor_program_ranges.specs.Names.{HaveNames};
 use crate::linking::{Node, all_linked, crashed_of, empty_disk, first_linked};
 use crate::turning::{open_three, turned};
 use acceptor_log::LogError;
-use durable_model::MemoryDisk;
-use farm_nodes::{Farm, FarmError, Hall, Naming, OpenFault, Optimisers, optimisers_of};
+use durable_pair_memory::MemoryPair;
+use farm_nodes::{Farm, FarmError, Hall, Naming, OpenFault, Optimisers, Optimising, optimisers_of};
 use farm_nodes_offers::Fault;
 use program_rows::owned;
 use std::alloc::Global;
@@ -25,7 +25,7 @@ const MOST: usize = 400;
 const FEW: usize = 20;
 
 /// Three empty disks that fail at this call.
-fn all_failing(alloc: Global, call: usize) -> Option<Vec<MemoryDisk>>
+fn all_failing(alloc: Global, call: usize) -> Option<Vec<MemoryPair>>
     ensures { IfSome result (λ disks. length disks.items ≡ 3) }
 {
     let mut disks = Vec::new(alloc);
@@ -47,15 +47,15 @@ fn ran_on<H: Naming + Send, R: Threads + Wait + Sync>(
     alloc: Global,
     hall: &Hall<H>,
     text: &[u8],
-    disks: Vec<MemoryDisk>,
+    disks: Vec<MemoryPair>,
     seed: u64,
-) -> Result<Farm<MemoryDisk, Optimisers, H>, Option<FarmError>>
+) -> Result<Farm<MemoryPair, Optimisers, H>, Option<FarmError>>
     ensures { IfOk result (λ farm. HaveNames (program_tree farm.source.program)) }
 {
     if disks.len() != 3 {
         return Err(None);
     }
-    let Ok(oracles) = optimisers_of(alloc, 3) else {
+    let Ok(oracles) = optimisers_of(alloc, 3, Optimising::Drawn) else {
         return Err(None);
     };
     let farm = match open_three(threads, alloc, hall, text, disks, oracles, seed) {
@@ -88,7 +88,7 @@ fn crashes<H: Naming + Send, R: Threads + Wait + Sync>(
     alloc: Global,
     hall: &Hall<H>,
     text: &[u8],
-    farm: Farm<MemoryDisk, Optimisers, H>,
+    farm: Farm<MemoryPair, Optimisers, H>,
     seed: u64,
 ) -> Option<bool>
     requires { HaveNames (program_tree farm.source.program) }

@@ -2,7 +2,7 @@
 
 ghost use Rattle.std.specs.Prelude.{◌≡◌, length, map, IfSome};
 ghost use Rattle.std.specs.List.{AllByRecursion};
-ghost use Rattle.durable_model.specs.contracts.memory.MemoryDiskDisk.TheImpl as memory;
+ghost use Rattle.durable_pair_memory.specs.contracts.memory.MemoryPairDisk.TheImpl as memory;
 ghost use Rattle.c_checker_rules.specs.Checked.{program_tree};
 ghost use Rattle.cminor_program_ranges.specs.Names.{HaveNames};
 ghost use Rattle.worked_farm.specs.Nodes.{IsFit, IsThird};
@@ -10,8 +10,8 @@ ghost use Rattle.worked_farm.specs.Nodes.{IsFit, IsThird};
 use crate::linking::{all_linked, crashed_of, disks_of};
 use crate::turning::{back_over, joined, open_three, parted, refused_over, turned};
 use acceptor_log::LogError;
-use durable_model::MemoryDisk;
-use farm_nodes::{Farm, Hall, Naming, Optimisers, RestartFault, optimisers_of};
+use durable_pair_memory::MemoryPair;
+use farm_nodes::{Farm, Hall, Naming, Optimisers, Optimising, RestartFault, optimisers_of};
 use program_rows::owned;
 use rand_pcg::Pcg32;
 use std::alloc::Global;
@@ -25,7 +25,7 @@ fn whole<H: Naming + Send, R: Threads + Wait + Sync>(
     hall: &Hall<H>,
     text: &[u8],
     seed: u64,
-) -> Option<Farm<MemoryDisk, Optimisers, H>>
+) -> Option<Farm<MemoryPair, Optimisers, H>>
     ensures fit { IfSome result (λ farm.
         AllByRecursion (λ n. IsFit memory.ghosts n.log n.seats.items n.halted) farm.nodes.items) }
     ensures third { IfSome result (λ farm. IsThird farm.source.digest (map (λ n. n.log) farm.nodes.items)) }
@@ -34,7 +34,7 @@ fn whole<H: Naming + Send, R: Threads + Wait + Sync>(
     let Some(disks) = disks_of(alloc, 3) else {
         return None;
     };
-    let Ok(oracles) = optimisers_of(alloc, 3) else {
+    let Ok(oracles) = optimisers_of(alloc, 3, Optimising::Drawn) else {
         return None;
     };
     let Ok(farm) = open_three(threads, alloc, hall, text, disks, oracles, seed) else {
@@ -53,7 +53,7 @@ fn strange_disks<H: Naming + Send, R: Threads + Wait + Sync>(
     alloc: Global,
     hall: &Hall<H>,
     text: &[u8],
-) -> Option<(MemoryDisk, MemoryDisk)> {
+) -> Option<(MemoryPair, MemoryPair)> {
     let Some(other) = whole(threads, alloc, hall, text, 1) else {
         return None;
     };

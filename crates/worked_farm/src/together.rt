@@ -2,7 +2,7 @@
 
 use crate::linking::{all_linked, disks_of};
 use crate::turning::{TURNS, open_three};
-use farm_nodes::{Farm, Hall, Naming, optimisers_of, run_threads};
+use farm_nodes::{Farm, Hall, Naming, Optimising, optimisers_of, run_threads};
 use parallel_validate::Gate;
 use program_rows::owned;
 use std::alloc::Global;
@@ -63,7 +63,7 @@ pub(crate) fn together_told<H: Naming + Send, R: Threads + Wait + Sync>(
     let Some(disks) = disks_of(alloc, 3) else {
         return None;
     };
-    let Ok(oracles) = optimisers_of(alloc, 3) else {
+    let Ok(oracles) = optimisers_of(alloc, 3, Optimising::Drawn) else {
         return None;
     };
     let Ok(farm) = open_three(threads, alloc, hall, text, disks, oracles, 1) else {

@@ -10,6 +10,7 @@ ghost use Rattle.worked_farm.specs.Nodes.{IsFit, IsThird};
 
 use acceptor_log::LogError;
 use durable_model::Disk;
+use durable_pair::Pair;
 use farm_nodes::{
     Farm, FarmError, FarmNode, Hall, Naming, Oracles, RestartFault, Turn, restart, run_threads,
 };
@@ -26,20 +27,20 @@ pub(crate) const TURNS: u64 = 10_000;
 const MOST_FUNCTIONS: usize = 64;
 
 /// A farm of three nodes on these disks, with majorities.
-pub(crate) fn open_three<D: Disk + Drop, O: Drop, H: Naming, R: Threads + Wait + Sync>(
+pub(crate) fn open_three<P: Pair + Drop, O: Drop, H: Naming, R: Threads + Wait + Sync>(
     threads: &R,
     alloc: Global,
     hall: &Hall<H>,
     text: &[u8],
-    disks: Vec<D>,
+    disks: Vec<P>,
     oracles: Vec<O>,
     seed: u64,
-) -> Result<Farm<D, O, H>, (Vec<D>, FarmError)>
+) -> Result<Farm<P, O, H>, (Vec<P>, FarmError)>
     requires disks { length disks.items ≡ 3 }
     requires oracles { length oracles.items ≡ 3 }
     ensures names { IfOk result (λ farm. HaveNames (program_tree farm.source.program)) }
     ensures fit { IfOk result (λ farm.
-        AllByRecursion (λ n. IsFit D.Disk n.log n.seats.items n.halted) farm.nodes.items) }
+        AllByRecursion (λ n. IsFit P.Disk n.log n.seats.items n.halted) farm.nodes.items) }
     ensures third { IfOk result (λ farm. IsThird farm.source.digest (map (λ n. n.log) farm.nodes.items)) }
 {
     let Some(quorums) = farm_nodes::Quorums::majorities(3) else {
@@ -121,13 +122,13 @@ pub(crate) fn has_stopped<D: Disk, O: Oracles, H: Naming>(node: &mut FarmNode<D,
 }
 
 /// The node, restarted over the disk; none where it is refused.
-pub(crate) fn back_over<D: Disk + Drop, O: Drop, H: Naming>(
-    node: FarmNode<D, O, H>,
-    disk: D,
-) -> Option<FarmNode<D, O, H>>
+pub(crate) fn back_over<P: Pair + Drop, O: Drop, H: Naming>(
+    node: FarmNode<P, O, H>,
+    disk: P,
+) -> Option<FarmNode<P, O, H>>
     requires nodes { 0 < node.log.header.nodes }
-    requires fit { IsFit D.Disk node.log node.seats.items node.halted }
-    ensures { IfSome result (λ back. IsFit D.Disk back.log back.seats.items back.halted) }
+    requires fit { IsFit P.Disk node.log node.seats.items node.halted }
+    ensures { IfSome result (λ back. IsFit P.Disk back.log back.seats.items back.halted) }
 {
     if node.seats.len() > MOST_FUNCTIONS {
         return None;
@@ -139,14 +140,14 @@ pub(crate) fn back_over<D: Disk + Drop, O: Drop, H: Naming>(
 }
 
 /// The node, if it is refused over the disk by this fault and stopped by it.
-pub(crate) fn refused_over<D: Disk + Drop, O: Oracles + Drop, H: Naming>(
-    node: FarmNode<D, O, H>,
-    disk: D,
+pub(crate) fn refused_over<P: Pair + Drop, O: Oracles + Drop, H: Naming>(
+    node: FarmNode<P, O, H>,
+    disk: P,
     wanted: RestartFault,
-) -> Option<FarmNode<D, O, H>>
+) -> Option<FarmNode<P, O, H>>
     requires nodes { 0 < node.log.header.nodes }
-    requires fit { IsFit D.Disk node.log node.seats.items node.halted }
-    ensures fit { IfSome result (λ back. IsFit D.Disk back.log back.seats.items back.halted) }
+    requires fit { IsFit P.Disk node.log node.seats.items node.halted }
+    ensures fit { IfSome result (λ back. IsFit P.Disk back.log back.seats.items back.halted) }
     ensures header { IfSome result (λ back. back.log.header ≡ node.log.header) }
 {
     if node.seats.len() > MOST_FUNCTIONS {

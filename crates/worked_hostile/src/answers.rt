@@ -1,14 +1,14 @@
 //! What is told of farms, in words.
 
-use crate::running::opened_on;
 use acceptor_log::LogError;
 use cfarm_build::BuildError;
-use durable_model::MemoryDisk;
+use durable_pair_memory::MemoryPair;
 use farm_nodes::{FarmError, Hall, Naming, OpenFault, Quorums};
 use program_rows::owned;
 use std::alloc::Global;
 use std::sync::Wait;
 use std::thread::Threads;
+use worked_whole::opened_on;
 
 /// The status and the line of a build that is refused.
 pub(crate) fn line_of(alloc: Global, fault: &BuildError) -> Option<String> {
@@ -43,7 +43,7 @@ pub(crate) fn opening_told<H: Naming, R: Threads + Wait + Sync>(
     hall: &Hall<H>,
     text: &[u8],
     quorums: Quorums,
-    disks: Vec<MemoryDisk>,
+    disks: Vec<MemoryPair>,
 ) -> Option<String> {
     match opened_on(threads, alloc, hall, text, quorums, disks) {
         Ok(_farm) => owned(alloc, "opened"),

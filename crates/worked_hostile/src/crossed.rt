@@ -1,18 +1,17 @@
 //! Journals in which two functions have exchanged their rooms.
 
 use crate::answers::line_of;
-use crate::disks::empty_disk;
-use crate::running::TURNS;
-use crate::whole::whole_disks;
 use acceptor_log::{Header, Log, Record};
 use cfarm_build::{Quorums, build};
 use cfarm_meter::Meter;
-use durable_model::{Disk, MemoryDisk};
-use farm_nodes::{Hall, Naming, optimisers_of, prepare};
+use durable_model::Disk;
+use durable_pair_memory::MemoryPair;
+use farm_nodes::{Hall, Naming, Optimising, optimisers_of, prepare};
 use program_rows::owned;
 use std::alloc::Global;
 use std::sync::Wait;
 use std::thread::Threads;
+use worked_whole::{TURNS, empty_disk, whole_disks};
 
 /// The same record in the room of the same pass of the other function, of the first two: they have the rooms 0 to 3, and 4 to 7.
 fn moved(entry: Record) -> Record {
@@ -22,6 +21,12 @@ fn moved(entry: Record) -> Record {
         Record::Proposed(room, ballot, value) => Record::Proposed(room ^ 4, ballot, value),
         Record::Promised(room, ballot) => Record::Promised(room ^ 4, ballot),
         Record::Accepted(room, ballot, value) => Record::Accepted(room ^ 4, ballot, value),
+        Record::Summary(room, started, promised, vote) => Record::Summary(
+            room ^ 4,
+            started,
+            promised,
+            vote,
+        ),
     }
 }
 
@@ -47,9 +52,9 @@ fn appended<D: Disk + Drop>(
 fn crossed(
     alloc: Global,
     quorums: Quorums,
-    disks: Vec<MemoryDisk>,
+    disks: Vec<MemoryPair>,
     digest: [u8; 32],
-) -> Option<Vec<MemoryDisk>> {
+) -> Option<Vec<MemoryPair>> {
     let mut all = Vec::new(alloc);
     let mut number = 0u8;
     for disk in disks {
@@ -82,7 +87,11 @@ fn crossed(
 struct Quiet;
 
 impl Meter for Quiet {
-    fn tell(&mut self, _linked: usize, _functions: usize, _turns: u64) {}
+    fn found(&mut self, _old: usize, _nodes: usize) {}
+
+    fn opened(&mut self) {}
+
+    fn tell(&mut self, _agreed: usize, _rooms: usize, _linked: usize, _functions: usize) {}
 
     fn clear(&mut self) {}
 }
@@ -94,13 +103,13 @@ fn build_told<H: Naming + Send, R: Threads + Wait + Sync>(
     hall: &Hall<H>,
     text: &[u8],
     quorums: Quorums,
-    disks: Vec<MemoryDisk>,
+    disks: Vec<MemoryPair>,
 ) -> Option<String> {
     let count = usize::from(quorums.nodes());
     if disks.len() != count {
         return None;
     }
-    let Ok(oracles) = optimisers_of(alloc, count) else {
+    let Ok(oracles) = optimisers_of(alloc, count, Optimising::Drawn) else {
         return None;
     };
     let Ok(source) = prepare(alloc, text) else {

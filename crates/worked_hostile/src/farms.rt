@@ -4,6 +4,7 @@ ghost use Rattle.std.specs.Prelude.{◌≡◌};
 
 use crate::crossed::crossed_told;
 use crate::forged::forged_told;
+use crate::migrated::migrated_told;
 use crate::rows::{Row, Trial};
 use crate::stopped::stopped_told;
 use crate::strangers::{edited_told, exchanged_told, joined_told};
@@ -46,6 +47,7 @@ fn told_in<H: Naming + Send, R: Threads + Wait + Sync>(
         Trial::Joined => joined_told(threads, alloc, &hall, text, quorums),
         Trial::Crossed => crossed_told(threads, alloc, &hall, text, quorums),
         Trial::Unread => unread_told(threads, alloc, &hall, text, quorums),
+        Trial::Migrated => migrated_told(threads, alloc, &hall, text, quorums),
         Trial::Stopped => stopped_told(threads, alloc, &hall, &row.how, text, quorums),
         Trial::Swept => swept_told(threads, alloc, &hall, &row.how, text, quorums),
     }

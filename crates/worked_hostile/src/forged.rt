@@ -1,14 +1,14 @@
 //! Journals of records that are listed.
 
 use crate::answers::opening_told;
-use crate::disks::disk_of;
 use acceptor_log::{Header, header_bytes};
-use durable_model::MemoryDisk;
+use durable_pair_memory::MemoryPair;
 use farm_nodes::{Hall, Naming, Quorums, prepare};
 use program_rows::bytes_of;
 use std::alloc::Global;
 use std::sync::Wait;
 use std::thread::Threads;
+use worked_whole::disk_of;
 
 /// Adds a record to a journal: its gate, its length, and its bytes.
 fn add(journal: &mut Vec<u8>, body: &[u8]) -> Option<()> {
@@ -37,7 +37,7 @@ fn forged_disks(
     quorums: Quorums,
     digest: [u8; 32],
     records: &str,
-) -> Option<Vec<MemoryDisk>> {
+) -> Option<Vec<MemoryPair>> {
     let mut disks = Vec::new(alloc);
     let mut number = 0u8;
     for node in records.split(';') {

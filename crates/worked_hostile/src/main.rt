@@ -9,6 +9,7 @@
 //! | `joined SIZES - TEXT` | the same over those of a whole farm of three nodes, as many as are needed, and empty disks behind |
 //! | `crossed SIZES - TEXT` | what a build tells over the journals of a whole farm in which the first two functions have exchanged their rooms |
 //! | `unread SIZES - TEXT` | `linked`, where opening over the journals of a whole farm tells each call of a disk that fails, and a farm on the disks that come back links what was linked |
+//! | `migrated SIZES - TEXT` | `linked`, where opening over the journals of a whole farm in an older form tells each call of a pair of disks that fails, and a farm on what a crash leaves of the pairs that come back, some with an old journal still, links what was linked, and leaves no old journal that counts |
 //! | `stopped SIZES STEP TEXT` | `linked`, where farms whose disks all stop, so many calls later each, and crash, open again, link all functions, and those that a node had linked with the same code. While the first journal is made it may also be refused as none, as bad or as another's |
 //! | `swept SIZES STEP TEXT` | `answered`, where a farm opens, or is refused for the node's journal or for a room that is not settled, with each journal of a whole farm cut at each length and with each of its bytes changed, one at a time: at every so many bytes |
 //!
@@ -19,18 +20,15 @@
 #![tactic(auto)]
 
 mod answers;
-mod codes;
 mod crossed;
-mod disks;
 mod farms;
 mod forged;
+mod migrated;
 mod rows;
-mod running;
 mod stopped;
 mod strangers;
 mod swept;
 mod unread;
-mod whole;
 
 use crate::farms::told;
 use crate::rows::row_of;

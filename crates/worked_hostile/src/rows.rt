@@ -18,6 +18,8 @@ pub(crate) enum Trial {
     Crossed,
     /// A disk fails while it opens.
     Unread,
+    /// Its journals are of an older form.
+    Migrated,
     /// All disks stop, and crash.
     Stopped,
     /// Its journals are cut and changed.
@@ -41,6 +43,7 @@ fn trial_of(word: &str) -> Option<Trial> {
         "joined" => Some(Trial::Joined),
         "crossed" => Some(Trial::Crossed),
         "unread" => Some(Trial::Unread),
+        "migrated" => Some(Trial::Migrated),
         "stopped" => Some(Trial::Stopped),
         "swept" => Some(Trial::Swept),
         _ => None,

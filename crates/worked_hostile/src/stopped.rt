@@ -1,17 +1,15 @@
 //! Disks that all stop, and crash.
 
 use crate::answers::is_failure;
-use crate::codes::{all_linked, codes_of, stays};
-use crate::disks::{crashed, crashed_of, disks_of};
-use crate::running::{Node, ran_on};
 use acceptor_log::LogError;
-use durable_model::MemoryDisk;
+use durable_pair_memory::MemoryPair;
 use farm_nodes::{FarmError, Hall, Naming, OpenFault, Quorums};
 use farm_nodes_offers::Fault;
 use program_rows::owned;
 use std::alloc::Global;
 use std::sync::Wait;
 use std::thread::Threads;
+use worked_whole::{Node, all_linked, codes_of, crashed, crashed_of, disks_of, ran_on, stays};
 
 /// So many moments are tried at most.
 const MOST: usize = 400;
@@ -81,7 +79,7 @@ fn begins<H: Naming + Send, R: Threads + Wait + Sync>(
     hall: &Hall<H>,
     text: &[u8],
     quorums: Quorums,
-    disks: &[MemoryDisk],
+    disks: &[MemoryPair],
     seed: u64,
 ) -> bool {
     let Some(left) = crashed(alloc, disks, seed) else {

@@ -3,17 +3,15 @@
 ghost use Rattle.std.specs.Prelude.{◌<◌, length};
 
 use crate::answers::line_of_farm;
-use crate::disks::{bytes_of_all, disk_of};
-use crate::running::opened_on;
-use crate::whole::whole_disks;
 use acceptor_log::LogError;
-use durable_model::MemoryDisk;
+use durable_pair_memory::MemoryPair;
 use farm_nodes::{FarmError, Hall, Naming, OpenFault, Quorums};
 use farm_nodes_opening::RoomFault;
 use program_rows::owned;
 use std::alloc::Global;
 use std::sync::Wait;
 use std::thread::Threads;
+use worked_whole::{bytes_of_all, disk_of, opened_on, whole_disks};
 
 /// What is done to a journal at a place.
 #[derive(Clone, Copy)]
@@ -45,7 +43,7 @@ fn disks_with(
     journals: &[Vec<u8>],
     node: usize,
     other: &[u8],
-) -> Option<Vec<MemoryDisk>> {
+) -> Option<Vec<MemoryPair>> {
     let mut disks = Vec::new(alloc);
     for number in 0..journals.len() {
         let bytes = if number == node {
@@ -86,7 +84,7 @@ fn answered<H: Naming, R: Threads + Wait + Sync>(
     hall: &Hall<H>,
     text: &[u8],
     quorums: Quorums,
-    disks: Vec<MemoryDisk>,
+    disks: Vec<MemoryPair>,
     node: usize,
 ) -> Result<(), Option<String>> {
     match opened_on(threads, alloc, hall, text, quorums, disks) {

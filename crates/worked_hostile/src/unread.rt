@@ -1,16 +1,13 @@
 //! Disks that fail while a farm opens.
 
 use crate::answers::is_failure;
-use crate::codes::{all_linked, stays};
-use crate::disks::crashed_of;
-use crate::running::{Node, opened_on, ran_on};
-use crate::whole::whole;
-use durable_model::MemoryDisk;
+use durable_pair_memory::MemoryPair;
 use farm_nodes::{Hall, Naming, Quorums};
 use program_rows::owned;
 use std::alloc::Global;
 use std::sync::Wait;
 use std::thread::Threads;
+use worked_whole::{Node, all_linked, crashed_of, opened_on, ran_on, stays, whole};
 
 /// More calls of a disk than an opening makes.
 const MOST: usize = 100;
@@ -21,7 +18,7 @@ fn disks_failing<H: Naming>(
     nodes: &[Node<H>],
     node: u8,
     call: usize,
-) -> Option<Vec<MemoryDisk>> {
+) -> Option<Vec<MemoryPair>> {
     let Some(mut disks) = crashed_of(alloc, nodes, 1) else {
         return None;
     };
@@ -40,7 +37,7 @@ fn is_told<H: Naming + Send, R: Threads + Wait + Sync>(
     hall: &Hall<H>,
     text: &[u8],
     quorums: Quorums,
-    disks: Vec<MemoryDisk>,
+    disks: Vec<MemoryPair>,
     node: u8,
     linked: &[Vec<u8>],
 ) -> Option<bool> {

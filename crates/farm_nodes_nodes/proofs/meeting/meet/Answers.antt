@@ -5,6 +5,7 @@ use Rattle.farm_nodes_meeting.specs.Held.{held_of}
 use Rattle.farm_nodes_node.specs.declared.halted.Halted.{Halted}
 use Rattle.farm_nodes_node.specs.Waiting.{IsWaiting}
 use Rattle.farm_nodes_node.proofs.Whole.{none_of, not_none}
+use Rattle.farm_nodes_node.specs.Texts.{pass_texts}
 use Rattle.farm_nodes_nodes.proofs.Kept.{first_kept, second_kept, met_as, sound_kept}
 use Rattle.farm_nodes_nodes.proofs.meeting.meet.Goals as goal
 
@@ -56,11 +57,11 @@ returns g c =
     let one : c.args.first.now.halted ≡ None = none_of c.args.first.now.halted (sym c.is_some.ensures ∙ c.if-is_some.false) in
     let other : c.args.second.now.halted ≡ None = none_of c.args.second.now.halted (sym c.is_some-2.ensures ∙ c.if-is_some-2.false) in
     let first_are : (with_items c.args.first.now.seats c.meet_all.new.first).items ≡ c.meet_all.new.first =
-    with_items_is c.args.first.now.seats c.meet_all.new.first ((first_kept held_of c.deref_mut.result.now c.deref_mut-2.result.now c.meet_all.new.first c.meet_all.new.second c.meet_all.result c.meet_all.ensures).long ∙ c.deref_mut.ensures.len) in
+    with_items_is c.args.first.now.seats c.meet_all.new.first ((first_kept pass_texts held_of c.deref_mut.result.now c.deref_mut-2.result.now c.meet_all.new.first c.meet_all.new.second c.meet_all.result c.meet_all.ensures).long ∙ c.deref_mut.ensures.len) in
     let second_are : (with_items c.args.second.now.seats c.meet_all.new.second).items ≡ c.meet_all.new.second =
-    with_items_is c.args.second.now.seats c.meet_all.new.second ((second_kept held_of c.deref_mut.result.now c.deref_mut-2.result.now c.meet_all.new.first c.meet_all.new.second c.meet_all.result c.meet_all.ensures).long ∙ c.deref_mut-2.ensures.len) in
+    with_items_is c.args.second.now.seats c.meet_all.new.second ((second_kept pass_texts held_of c.deref_mut.result.now c.deref_mut-2.result.now c.meet_all.new.first c.meet_all.new.second c.meet_all.result c.meet_all.ensures).long ∙ c.deref_mut-2.ensures.len) in
     let met =
-    met_as held_of c.args.first.now.seats.items c.args.second.now.seats.items (with_items c.args.first.now.seats c.meet_all.new.first).items (with_items c.args.second.now.seats c.meet_all.new.second).items c.deref_mut.result.now c.deref_mut-2.result.now c.meet_all.new.first c.meet_all.new.second c.meet_all.result
+    met_as pass_texts held_of c.args.first.now.seats.items c.args.second.now.seats.items (with_items c.args.first.now.seats c.meet_all.new.first).items (with_items c.args.second.now.seats c.meet_all.new.second).items c.deref_mut.result.now c.deref_mut-2.result.now c.meet_all.new.first c.meet_all.new.second c.meet_all.result
     c.deref_mut.ensures.value c.deref_mut-2.ensures.value first_are second_are c.meet_all.ensures in
     record {
       stopped = λ is. elim is [
@@ -71,11 +72,11 @@ returns g c =
       first_stays = (refl, refl, refl, refl, refl);
       second_stays = (refl, refl, refl, refl, refl);
       first_sound =
-          sound_kept held_of disk.is_honest disk.seen disk.may_leave c.args.first.now.log c.args.first.now.seats.items (with_items c.args.first.now.seats c.meet_all.new.first).items c.args.first.now.halted one
-          (first_kept held_of c.args.first.now.seats.items c.args.second.now.seats.items (with_items c.args.first.now.seats c.meet_all.new.first).items (with_items c.args.second.now.seats c.meet_all.new.second).items c.meet_all.result met);
+          sound_kept pass_texts held_of disk.is_honest disk.seen disk.may_leave c.args.first.now.log c.args.first.now.seats.items (with_items c.args.first.now.seats c.meet_all.new.first).items c.args.first.now.halted one
+          (first_kept pass_texts held_of c.args.first.now.seats.items c.args.second.now.seats.items (with_items c.args.first.now.seats c.meet_all.new.first).items (with_items c.args.second.now.seats c.meet_all.new.second).items c.meet_all.result met);
       second_sound =
-          sound_kept held_of disk.is_honest disk.seen disk.may_leave c.args.second.now.log c.args.second.now.seats.items (with_items c.args.second.now.seats c.meet_all.new.second).items c.args.second.now.halted other
-          (second_kept held_of c.args.first.now.seats.items c.args.second.now.seats.items (with_items c.args.first.now.seats c.meet_all.new.first).items (with_items c.args.second.now.seats c.meet_all.new.second).items c.meet_all.result met);
+          sound_kept pass_texts held_of disk.is_honest disk.seen disk.may_leave c.args.second.now.log c.args.second.now.seats.items (with_items c.args.second.now.seats c.meet_all.new.second).items c.args.second.now.halted other
+          (second_kept pass_texts held_of c.args.first.now.seats.items c.args.second.now.seats.items (with_items c.args.first.now.seats c.meet_all.new.first).items (with_items c.args.second.now.seats c.meet_all.new.second).items c.meet_all.result met);
       first_waiting = λ waiting. subst (λ (h : Option Halted). IsWaiting (with_items c.args.first.now.seats c.meet_all.new.first).items h) (sym one) tt;
       second_waiting = λ waiting. subst (λ (h : Option Halted). IsWaiting (with_items c.args.second.now.seats c.meet_all.new.second).items h) (sym other) tt;
     }

@@ -2,7 +2,7 @@
 use Rattle.std.proofs.Common.{◌∷◌, ◌++◌, [], length, map, ap, ◌∙◌, arith}
 use Rattle.std.specs.Vec.Iter.{into_iter_items}
 use Rattle.std.proofs.lemmas.List.{length_push}
-use Rattle.farm_nodes_opened.proofs.Lists.{all_there, empty, moved_on}
+use Rattle.farm_nodes_seated.proofs.Lists.{all_there, empty, moved_on}
 use Rattle.farm_nodes_opened.proofs.back.with_disks.Goals as goal
 
 pub loop-journal-init : goal.loop-journal-init

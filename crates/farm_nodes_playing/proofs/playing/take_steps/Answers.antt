@@ -1,11 +1,12 @@
 use Rattle.std.proofs.Common.{◌||◌, option_copied, Some, sym, ◌∙◌, subst}
-use Rattle.rooms_state.specs.SeatState.{SeatState}
+use Rattle.acceptor_log.specs.Acknowledged.{acknowledged}
 use Rattle.farm_nodes_leading.proofs.Results.{Grown, grown_on}
 use Rattle.farm_nodes_offers.specs.declared.halt.Halt.{Halt}
-use Rattle.farm_nodes_offers.specs.Halted.{fault_of}
-use Rattle.farm_nodes_offers.specs.Pending.{IsTextOf, MayPendOn}
-use Rattle.farm_nodes_offers.proofs.Leavings.{left_after, same_words}
-use Rattle.farm_nodes_playing.proofs.Turns.{if_halted, if_went_on, left_acting, made_taking, recorded_err, recorded_ok, stays_taking}
+use Rattle.farm_nodes_offers.specs.Halted.{fault_by_journal}
+use Rattle.farm_nodes_offers.specs.Pending.{IsOfferText, MayPendOn}
+use Rattle.farm_nodes_offers.specs.Told.{IsOwnText, TellNew}
+use Rattle.farm_nodes_offers.proofs.Leavings.{left_after, told_after}
+use Rattle.farm_nodes_playing.proofs.Turns.{if_halted, if_went_on, left_acting, made_taking, own_taking, recorded_err, recorded_ok, seat_is, stays_taking}
 use Rattle.farm_nodes_playing.proofs.playing.take_steps.Goals as goal
 use Rattle.farm_nodes_playing.proofs.playing.take_steps.Goals.{in-Ok-take_part, in-Err-take_part}
 
@@ -28,33 +29,42 @@ returns-clause-journal g c honest going =
     let s = c.args.seat.now.words in
     let m = c.seat.inside.words in
     let t = c.take_part.new.seat in
-    let same = same_words c.offer_on.new.seat record { words = m; sights = c.seat.inside.sights } c.seat.view_is in
-    let first = subst (λ (u : SeatState). Grown disk.is_honest disk.seen disk.may_leave disk.moment disk.left_since old mid c.args.room s u c.in-Ok.offered) (sym same) (c.in-Ok.ensures.journal honest going) in
+    let remains = c.take_part.ensures.remains in
+    let IsText = IsOfferText g.P.In.Language g.P.Out.Language g.P.Pass in
+    let had = IsOwnText IsText record { words = m; sights = c.seat.inside.sights } in
+    let has = IsOwnText IsText record { words = t; sights = c.seat.inside.sights } in
+    let first = seat_is
+    (λ u. Grown disk.is_honest disk.seen disk.may_leave disk.moment disk.left_since old mid c.args.room s u.words c.in-Ok.offered
+    × TellNew (IsOwnText IsText u) c.args.room s u.words (acknowledged disk.seen old) (acknowledged disk.seen mid))
+    c.offer_on.new.seat m c.seat.inside.sights c.seat.view_is (c.in-Ok.ensures.journal honest going) in
+    let stays = own_taking IsText m t c.seat.inside.sights remains.me in
     let honest_mid = c.offer_on.ensures.served.honest.1 honest in
     let going_mid = c.in-Ok.ensures.going ∙ going in
     elim c.match-take_part.branch [
       | in-Ok-take_part w ↦
-          recorded_ok disk.is_honest disk.seen disk.may_leave disk.moment disk.left_since old new c.args.room s t c.match-take_part.result w.either.result (c.in-Ok.offered || w.in-Ok-take_part.moved)
+          recorded_ok has disk.is_honest disk.seen disk.may_leave disk.moment disk.left_since old new c.args.room s t c.match-take_part.result w.either.result (c.in-Ok.offered || w.in-Ok-take_part.moved)
           w.result-is w.either.ensures
           (grown_on disk.is_honest disk.seen disk.may_leave disk.moment disk.left_since old mid new c.args.room s m t c.in-Ok.offered w.in-Ok-take_part.moved
-          c.offer_on.ensures.served.header first (w.in-Ok-take_part.ensures.journal honest_mid going_mid))
+          c.offer_on.ensures.served.header first.0 (w.in-Ok-take_part.ensures.journal honest_mid going_mid))
+          (told_after disk.is_honest disk.seen disk.may_leave disk.moment disk.left_since had has old mid new c.args.room s m t c.in-Ok.offered w.in-Ok-take_part.moved
+          first.0 (w.in-Ok-take_part.ensures.journal honest_mid going_mid) remains.offered stays first.1)
       | in-Err-take_part w ↦
-          recorded_err disk.is_honest disk.seen disk.may_leave disk.moment disk.left_since old new c.args.room s t c.match-take_part.result w.stopped.result
-          record { fault = fault_of w.in-Err-take_part.stop.error; pending = Some w.in-Err-take_part.stop.pending }
+          recorded_err has disk.is_honest disk.seen disk.may_leave disk.moment disk.left_since old new c.args.room s t c.match-take_part.result w.stopped.result
+          record { fault = fault_by_journal w.in-Err-take_part.stop.error; pending = Some w.in-Err-take_part.stop.pending }
           w.result-is w.stopped.ensures
-          (left_after disk.is_honest disk.seen disk.may_leave disk.moment disk.left_since old mid new c.args.room s m t c.in-Ok.offered _
-          c.offer_on.ensures.served.header first (w.in-Err-take_part.ensures.journal honest_mid going_mid))
+          (left_after disk.is_honest disk.seen disk.may_leave disk.moment disk.left_since had has old mid new c.args.room s m t c.in-Ok.offered _
+          c.offer_on.ensures.served.header first.0 remains.offered stays first.1 (w.in-Err-take_part.ensures.journal honest_mid going_mid))
     ]
 
 pub returns-clause-left : goal.returns-clause-left
 returns-clause-left g c =
-    let IsText = IsTextOf g.P.In.Language g.P.Out.Language g.P.Pass in
+    let IsText = IsOfferText g.P.In.Language g.P.Out.Language g.P.Pass in
     let P = λ (halt : Halt). MayPendOn IsText c.args.room record { words = c.take_part.new.seat; sights = c.seat.inside.sights } halt.pending in
     elim c.match-take_part.branch [
       | in-Ok-take_part w ↦ if_went_on P c.match-take_part.result w.either.result w.result-is
       | in-Err-take_part w ↦
           if_halted P c.match-take_part.result w.stopped.result
-          record { fault = fault_of w.in-Err-take_part.stop.error; pending = Some w.in-Err-take_part.stop.pending }
+          record { fault = fault_by_journal w.in-Err-take_part.stop.error; pending = Some w.in-Err-take_part.stop.pending }
           w.result-is w.stopped.ensures
           (left_acting IsText c.args.room record { words = c.take_part.new.seat; sights = c.seat.inside.sights } w.in-Err-take_part.stop.pending w.in-Err-take_part.ensures.acting)
     ]

@@ -5,7 +5,8 @@ use Rattle.acceptor_log_form.specs.Text.{StandsFor}
 use Rattle.farm_nodes_restart_records.specs.Offers.{IsConstants, IsExpressions, IsAllocation, IsOrder}
 use Rattle.farm_nodes_restart_records.specs.Fours.{fours_of}
 use Rattle.farm_nodes_restart_seat.specs.declared.fault.RestartFault.{RestartFault}
-use Rattle.farm_nodes_restart.specs.Returned.{HasCause, HoldsBack}
+use Rattle.farm_nodes_restart_records.specs.Texts.{pass_texts}
+use Rattle.farm_nodes_restart.specs.Returned.{HasReason, HoldsBack}
 use Rattle.farm_nodes_restart.proofs.Afterwards.{returned_over}
 use Rattle.farm_nodes_restart.proofs.Resting.{at_rest}
 use Rattle.farm_nodes_restart.proofs.Refusing.{not_opened}
@@ -51,7 +52,7 @@ returns-in-Ok-return_over-clause-count g c = c.return_over.ensures.count
 
 pub returns-in-Ok-clause-refused : goal.returns-in-Ok-clause-refused
 returns-in-Ok-clause-refused g c honest =
-    let held = subst (λ (rs : List Record). HoldsBack c.args.header.now (4 * length c.args.seats.now.items) (fours_of c.args.seats.now.items)
+    let held = subst (λ (rs : List Record). HoldsBack pass_texts c.args.header.now (4 * length c.args.seats.now.items) (fours_of c.args.seats.now.items)
     c.args.room c.args.pending.now rs c.in-Err-return_over.fault) c.as_slice.ensures.value c.in-Err-return_over.ensures.refused in
     inr (inr (inr (c.in-Ok.opened.1.items, c.in-Ok.ensures.listed honest, held)))
 
@@ -63,5 +64,5 @@ pub returns-clause-refused : goal.returns-clause-refused
 returns-clause-refused g c honest =
     let rooms = 4 * length c.args.seats.now.items in
     let seats = fours_of c.args.seats.now.items in
-    subst (λ (f : RestartFault). HasCause c.args.header.now rooms seats c.args.room c.args.pending.now (g.D.Disk.seen c.args.disk) f) (sym c.of.ensures)
-    (not_opened c.args.header.now rooms seats c.args.room c.args.pending.now (g.D.Disk.seen c.args.disk) c.in-Err.refused.1 (c.in-Err.ensures.refused honest))
+    subst (λ (f : RestartFault). HasReason pass_texts c.args.header.now rooms seats c.args.room c.args.pending.now (g.D.Disk.seen c.args.disk) f) (sym c.of.ensures)
+    (not_opened pass_texts c.args.header.now rooms seats c.args.room c.args.pending.now (g.D.Disk.seen c.args.disk) c.in-Err.refused.1 (c.in-Err.ensures.refused honest))

@@ -11,6 +11,7 @@ use Rattle.farm_nodes_passes.specs.Numbers.{function_of, pass_of}
 use Rattle.farm_nodes_passes.specs.Pending.{HasPending, HavePending}
 use Rattle.farm_nodes_playing.specs.Played.{Played}
 use Rattle.farm_nodes_passes.specs.Fours.{four_of, words_of}
+use Rattle.farm_nodes_passes.specs.Texts.{pass_texts, IsOwnTextIn}
 use Rattle.farm_nodes_turn.specs.Turned.{HasInput, IsTooLargeFor, Leaves, StandsAfter}
 use Rattle.farm_nodes_turn.specs.Turns.{AtPlace, HaltsIn, PlayedIn}
 use Rattle.farm_nodes_turn.proofs.Inputs.{if_err, on_ok4}
@@ -56,10 +57,10 @@ returns-clause-journal g c honest going =
     let disk = g.D.Disk in
     let old = four_of c.in-Some.four.now in
     let new = four_of c.play_in.new.seats in
-    place_set four_of (PlayedIn disk.is_honest disk.seen disk.may_leave disk.moment disk.left_since c.args.log.now c.play_in.new.log c.args.room c.play_in.result)
+    place_set four_of (PlayedIn pass_texts disk.is_honest disk.seen disk.may_leave disk.moment disk.left_since c.args.log.now c.play_in.new.log c.args.room c.play_in.result)
     c.args.seats.now.items c.from.result (function_of c.args.room)
     c.in-Some.four.now c.play_in.new.seats c.from.ensures c.in-Some.ensures.value
-    (subst (λ (p : Which). Played disk.is_honest disk.seen disk.may_leave disk.moment disk.left_since c.args.log.now c.play_in.new.log c.args.room (words_of old p) (words_of new p) c.play_in.result) c.of_room.ensures
+    (subst (λ (p : Which). Played (IsOwnTextIn pass_texts p new) disk.is_honest disk.seen disk.may_leave disk.moment disk.left_since c.args.log.now c.play_in.new.log c.args.room (words_of old p) (words_of new p) c.play_in.result) c.of_room.ensures
     (c.play_in.ensures.journal honest going))
 
 pub returns-clause-cause : goal.returns-clause-cause

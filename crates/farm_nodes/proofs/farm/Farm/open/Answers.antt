@@ -22,7 +22,7 @@ pub returns-in-Err-over-clause-refused : goal.returns-in-Err-over-clause-refused
 returns-in-Err-over-clause-refused g c = λ fault same.
     let made = c.in-Ok.ensures in
     let is : c.in-Err-over.fault ≡ fault = cc in
-    subst (λ f. AreRefused g.D.Disk c.args.quorums c.args.text.now c.args.disks.items c.in-Err-over.disks.items f) is
+    subst (λ f. AreRefused g.P.Disk g.P.Pair c.args.quorums c.args.text.now c.args.pairs.items c.in-Err-over.pairs.items f) is
     (record {
       source = c.in-Ok.source;
       is = record {

@@ -7,11 +7,12 @@ use Rattle.farm_nodes_turn.specs.Fours.{four_of, fours_of}
 use Rattle.farm_nodes_node.specs.Told.{failure_of}
 use Rattle.farm_nodes_turn.specs.Fault.{Fault}
 use Rattle.farm_nodes_turn.specs.Halted.{HasHaltCause}
+use Rattle.farm_nodes_turn.specs.Texts.{pass_texts}
 use Rattle.farm_nodes_turn.specs.Turned.{IsTooLargeFor}
 use Rattle.farm_nodes_node.specs.Held.{fault_in, pending_in, IsSoundNode}
 use Rattle.farm_nodes_node.specs.Stood.{TurnsInto}
 use Rattle.farm_nodes_node.specs.Waiting.{IsWaiting}
-use Rattle.farm_nodes_node.proofs.Whole.{into, no_cause, none_of, not_none, sound_now, stays_node, stops_for, told_now, went_on}
+use Rattle.farm_nodes_node.proofs.Whole.{into, no_cause, none_of, not_none, sound_now, stops_for, told_now, went_on}
 use Rattle.farm_nodes_node.proofs.node.FarmNode.turn.Goals as goal
 
 pub returns-in-Ok-clause-sound : goal.returns-in-Ok-clause-sound
@@ -19,10 +20,10 @@ returns-in-Ok-clause-sound g c =
     let disk = g.D.Disk in
     let none : c.args.self.now.halted ≡ None = none_of c.args.self.now.halted (sym c.is_some.ensures ∙ c.if-is_some.false) in
     subst (λ (h : Option Halted). IsSoundNode disk.is_honest disk.seen disk.may_leave c.turn_in.new.log (fours_of c.turn_in.new.seats.items) h) (sym none)
-    (sound_now disk.is_honest disk.seen disk.may_leave disk.moment disk.left_since disk.faults four_of c.args.self.now.log c.turn_in.new.log c.args.room
+    (sound_now pass_texts disk.is_honest disk.seen disk.may_leave disk.moment disk.left_since disk.faults four_of c.args.self.now.log c.turn_in.new.log c.args.room
     c.args.self.now.seats.items c.turn_in.new.seats.items c.args.self.now.halted c.turn_in.ensures.served c.requires.sound c.requires.room none
     c.turn_in.ensures.count c.turn_in.ensures.others (λ x y p q. (c.turn_in.ensures.leaves x y p q).others)
-    (λ x y p q. stays_node (pass_of c.args.room) (four_of x) (four_of y) (c.turn_in.ensures.leaves x y p q).stays)
+    (λ x y p q. (c.turn_in.ensures.leaves x y p q).stays)
     (Ok c.in-Ok.progress) c.in-Ok.ensures.journal c.in-Ok.ensures.going)
 
 pub returns-in-Ok-clause-into : goal.returns-in-Ok-clause-into
@@ -30,10 +31,10 @@ returns-in-Ok-clause-into g c honest was =
     let disk = g.D.Disk in
     let none : c.args.self.now.halted ≡ None = none_of c.args.self.now.halted (sym c.is_some.ensures ∙ c.if-is_some.false) in
     subst (λ (h : Option Halted). TurnsInto disk.seen disk.may_leave disk.moment disk.left_since c.args.self.now.log c.turn_in.new.log (fours_of c.turn_in.new.seats.items) h) (sym none)
-    (into disk.is_honest disk.seen disk.may_leave disk.moment disk.left_since disk.faults four_of c.args.self.now.log c.turn_in.new.log c.args.room
+    (into pass_texts disk.is_honest disk.seen disk.may_leave disk.moment disk.left_since disk.faults four_of c.args.self.now.log c.turn_in.new.log c.args.room
     c.args.self.now.seats.items c.turn_in.new.seats.items c.args.self.now.halted c.turn_in.ensures.served c.requires.sound c.requires.room none
     c.turn_in.ensures.count c.turn_in.ensures.others (λ x y p q. (c.turn_in.ensures.leaves x y p q).others)
-    (λ x y p q. stays_node (pass_of c.args.room) (four_of x) (four_of y) (c.turn_in.ensures.leaves x y p q).stays)
+    (λ x y p q. (c.turn_in.ensures.leaves x y p q).stays)
     (Ok c.in-Ok.progress) c.in-Ok.ensures.journal honest)
 
 pub returns-in-Ok-clause-told : goal.returns-in-Ok-clause-told
@@ -41,10 +42,10 @@ returns-in-Ok-clause-told g c honest was x y p q =
     let disk = g.D.Disk in
     let none : c.args.self.now.halted ≡ None = none_of c.args.self.now.halted (sym c.is_some.ensures ∙ c.if-is_some.false) in
     c.of.ensures
-    ∙ told_now disk.is_honest disk.seen disk.may_leave disk.moment disk.left_since disk.faults four_of c.args.self.now.log c.turn_in.new.log c.args.room
+    ∙ told_now pass_texts disk.is_honest disk.seen disk.may_leave disk.moment disk.left_since disk.faults four_of c.args.self.now.log c.turn_in.new.log c.args.room
     c.args.self.now.seats.items c.turn_in.new.seats.items c.args.self.now.halted c.turn_in.ensures.served c.requires.sound c.requires.room none
     c.turn_in.ensures.count c.turn_in.ensures.others (λ x y p q. (c.turn_in.ensures.leaves x y p q).others)
-    (λ x y p q. stays_node (pass_of c.args.room) (four_of x) (four_of y) (c.turn_in.ensures.leaves x y p q).stays)
+    (λ x y p q. (c.turn_in.ensures.leaves x y p q).stays)
     c.in-Ok.progress c.in-Ok.ensures.journal honest x y p q
 
 pub returns-in-Ok-clause-fault : goal.returns-in-Ok-clause-fault
@@ -66,20 +67,20 @@ pub returns-in-Err-clause-sound : goal.returns-in-Err-clause-sound
 returns-in-Err-clause-sound g c =
     let disk = g.D.Disk in
     let none : c.args.self.now.halted ≡ None = none_of c.args.self.now.halted (sym c.is_some.ensures ∙ c.if-is_some.false) in
-    sound_now disk.is_honest disk.seen disk.may_leave disk.moment disk.left_since disk.faults four_of c.args.self.now.log c.turn_in.new.log c.args.room
+    sound_now pass_texts disk.is_honest disk.seen disk.may_leave disk.moment disk.left_since disk.faults four_of c.args.self.now.log c.turn_in.new.log c.args.room
     c.args.self.now.seats.items c.turn_in.new.seats.items c.args.self.now.halted c.turn_in.ensures.served c.requires.sound c.requires.room none
     c.turn_in.ensures.count c.turn_in.ensures.others (λ x y p q. (c.turn_in.ensures.leaves x y p q).others)
-    (λ x y p q. stays_node (pass_of c.args.room) (four_of x) (four_of y) (c.turn_in.ensures.leaves x y p q).stays)
+    (λ x y p q. (c.turn_in.ensures.leaves x y p q).stays)
     (Err c.in-Err.halt) c.in-Err.ensures.journal tt
 
 pub returns-in-Err-clause-into : goal.returns-in-Err-clause-into
 returns-in-Err-clause-into g c honest was =
     let disk = g.D.Disk in
     let none : c.args.self.now.halted ≡ None = none_of c.args.self.now.halted (sym c.is_some.ensures ∙ c.if-is_some.false) in
-    into disk.is_honest disk.seen disk.may_leave disk.moment disk.left_since disk.faults four_of c.args.self.now.log c.turn_in.new.log c.args.room
+    into pass_texts disk.is_honest disk.seen disk.may_leave disk.moment disk.left_since disk.faults four_of c.args.self.now.log c.turn_in.new.log c.args.room
     c.args.self.now.seats.items c.turn_in.new.seats.items c.args.self.now.halted c.turn_in.ensures.served c.requires.sound c.requires.room none
     c.turn_in.ensures.count c.turn_in.ensures.others (λ x y p q. (c.turn_in.ensures.leaves x y p q).others)
-    (λ x y p q. stays_node (pass_of c.args.room) (four_of x) (four_of y) (c.turn_in.ensures.leaves x y p q).stays)
+    (λ x y p q. (c.turn_in.ensures.leaves x y p q).stays)
     (Err c.in-Err.halt) c.in-Err.ensures.journal honest
 
 pub returns-then-is_some-clause-served : goal.returns-then-is_some-clause-served

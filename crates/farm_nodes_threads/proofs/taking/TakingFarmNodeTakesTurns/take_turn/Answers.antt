@@ -5,6 +5,7 @@ use Rattle.rtl_language.specs.Function.{FunctionData}
 use Rattle.farm_nodes_node.specs.Numbers.{function_of}
 use Rattle.farm_nodes_node.specs.Fours.{four_of, fours_of}
 use Rattle.farm_nodes_node.proofs.Places.{map_length, map_same}
+use Rattle.farm_nodes_node.specs.Texts.{pass_texts}
 use Rattle.farm_nodes_threads.proofs.Coming.{came_once, keeps_at}
 use Rattle.farm_nodes_threads.proofs.taking.TakingFarmNodeTakesTurns.take_turn.Goals as goal
 
@@ -24,7 +25,7 @@ returns-clause-turned g c =
     let long : length new.seats.items ≡ length old.seats.items =
     new.covers ∙ (ap (λ p. length (arc_value {X = Program FunctionData} p).functions) c.turn.ensures.program ∙ sym old.covers) in (
       c.turn.ensures.program,
-      came_once disk.is_honest disk.seen disk.may_leave disk.moment disk.left_since disk.faults old.log new.log (fours_of old.seats.items) (fours_of new.seats.items)
+      came_once pass_texts disk.is_honest disk.seen disk.may_leave disk.moment disk.left_since disk.faults old.log new.log (fours_of old.seats.items) (fours_of new.seats.items)
           old.halted new.halted c.args.room
           (map_length four_of new.seats.items ∙ (long ∙ sym (map_length four_of old.seats.items)))
           (λ f other. map_same four_of new.seats.items old.seats.items f (c.turn.ensures.others f other))

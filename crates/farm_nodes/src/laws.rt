@@ -1,0 +1,41 @@
+//! From an accepted text to what two nodes of its farm link.
+
+ghost use Rattle.std.specs.Prelude.{◌≡◌, ◌≢◌, ℕ, List, Err, IfOk, IfErr};
+ghost use Rattle.std.specs.Arc.{arc_value};
+ghost use Rattle.c_checker_rules.specs.Checked.{program_tree};
+ghost use Rattle.cminor_lowering.specs.Programs.{low};
+ghost use Rattle.farm_nodes_linked.specs.Alike.{HaveCounted};
+ghost use Rattle.farm_nodes_linked.specs.Chains.{names_of};
+ghost use Rattle.farm_nodes_linked.specs.Learned.{learned_by};
+ghost use Rattle.farm_nodes_linked.specs.Refused.{IsRefused};
+ghost use Rattle.farm_nodes.specs.OneProgram.{IsOneProgram};
+ghost use Rattle.farm_nodes.specs.Prepared.{IsSourceOf};
+
+use farm_nodes_linked::{LinkedError, linked};
+use farm_nodes_opened::FarmNode;
+use farm_nodes_source::Source;
+use lang_base::Program;
+use linear_language::Function;
+use rooms_hall::Naming;
+
+/// The program that two nodes of a farm link, which met, all functions being counted: `meet` tells how many were, and `one_program`
+/// that such nodes have been counted. It does not matter which turns each took before, how often it came back from its journal, or
+/// whom it met since.
+pub fn linked_by_both<D, O, H: Naming>(
+    source: &Source,
+    first: &FarmNode<D, O, H>,
+    second: &FarmNode<D, O, H>,
+) -> Result<Program<Function>, LinkedError>
+    requires { HaveCounted first.now.seats.items second.now.seats.items }
+
+    // Of each text that the source is of: the text is accepted, and both nodes link one program, which does what the text's program does.
+    ensures one { (text : List ℕ) → IsSourceOf text source.now →
+        IfOk result (IsOneProgram text source.now first.now.seats.items second.now.seats.items) }
+
+    // No room is undecided; whatever else the linker refuses of the first it refuses.
+    ensures decided { result ≢ Err LinkedError.Undecided }
+    ensures refused { IfErr result (IsRefused (low (program_tree source.now.program))
+        (names_of (arc_value first.now.program).functions) (learned_by first.now.seats.items)) }
+{
+    linked(first, &source.program)
+}

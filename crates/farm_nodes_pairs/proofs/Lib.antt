@@ -1,0 +1,2 @@
+mod OldRead
+pub mod Shows

@@ -1,0 +1,40 @@
+//! Whether a text is that of the offer in a node's own cell.
+
+ghost use Rattle.std.specs.Prelude.{◌≡◌, ◌↔◌, IsTrue, IfOk};
+ghost use Rattle.farm_nodes_offers.specs.Pending.{IsOfferText};
+ghost use Rattle.farm_nodes_offers.specs.Told.{IsOwnText};
+
+use lang_base::{NoMemory, Pass};
+use offers::Offer;
+use rooms::Seat;
+use std::alloc::Global;
+
+/// Whether these bytes are the text of the offer that stands in the cell of the seat's node, as the seat has seen it.
+pub fn is_own_text<P: Pass>(alloc: Global, seat: &Seat<P>, text: &[u8]) -> Result<bool, NoMemory>
+    ensures { IfOk result (λ told. IsTrue told
+        ↔ IsOwnText (IsOfferText P.In.Language P.Out.Language P.Pass) seat.now text.now) }
+{
+    let Some(offer) = seat.fetch(seat.me()) else {
+        return Ok(false);
+    };
+    is_text_of(alloc, offer, text)
+}
+
+/// Whether these bytes are the text of the offer.
+fn is_text_of<P: Pass>(alloc: Global, offer: &Offer<P>, text: &[u8]) -> Result<bool, NoMemory>
+    ensures { IfOk result (λ told. IsTrue told
+        ↔ IsOfferText P.In.Language P.Out.Language P.Pass text.now offer.now) }
+{
+    offer.validated();
+    let mut written = Vec::new(alloc);
+    match offer.write(&mut written) {
+        Ok(()) => Ok(are_same(text, written.as_slice())),
+        Err(error) => Err(error),
+    }
+}
+
+fn are_same(text: &[u8], written: &[u8]) -> bool
+    ensures { IsTrue result ↔ (text.now ≡ written.now) }
+{
+    text == written
+}

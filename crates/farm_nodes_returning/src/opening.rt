@@ -1,0 +1,103 @@
+//! The pair of disks that a node comes back over.
+
+ghost use Rattle.std.specs.Prelude.{◌≡◌, ◌≢◌, ◌<◌, ◌≤◌, ◌*◌, ◌↔◌, length, true, Err, IfOk, IfErr, OnOk, OnErr, MatchResult};
+ghost use Rattle.durable_model.specs.Honest.{Risen};
+ghost use Rattle.durable_model.specs.Moments.{LeavesOnly};
+ghost use Rattle.durable_pair.specs.Images.{IsSpent, Both};
+ghost use Rattle.acceptor_log_form.specs.Order.{AreInOrder};
+ghost use Rattle.acceptor_log_form.specs.Text.{StandsFor};
+ghost use Rattle.acceptor_log.specs.Acknowledged.{acknowledged, IsSound};
+ghost use Rattle.farm_nodes_node.specs.Fours.{fours_of};
+ghost use Rattle.farm_nodes_node.specs.Texts.{pass_texts};
+ghost use Rattle.farm_nodes_restart_records.specs.Pending.{HavePending};
+ghost use Rattle.farm_nodes_restart.specs.Returned.{AreAtRest};
+ghost use Rattle.farm_nodes_restart.specs.Seats.{HaveComeBack};
+ghost use Rattle.farm_nodes_pairs.specs.OnPairs.{MayShow, IsSame, IsShown, IsUntouched};
+ghost use Rattle.farm_nodes_returning.specs.Cause.{HasCauseBefore, HasCauseOn};
+
+use acceptor_log::{Header, Log, LogError};
+use durable_pair::Pair;
+use farm_nodes_acting::Pending;
+use farm_nodes_pairs::{OldDisk, old_disk};
+use farm_nodes_restart::{RestartFault, come_back};
+use farm_nodes_restart_records::Seats;
+use rooms_hall::Naming;
+use std::alloc::Global;
+
+/// A node comes back over the journal on a pair of disks, as it does over one on a disk, where no old one counts.
+pub(crate) fn come_back_on<P: Pair, H: Naming>(
+    alloc: Global,
+    pair: P,
+    header: &Header,
+    seats: &mut Vec<Seats<H>>,
+    room: u16,
+    pending: &Option<Pending>,
+) -> Result<Log<P>, (P, RestartFault)>
+    requires nodes { 0 < header.now.nodes }
+    requires rooms { 4 * length seats.old.items ≤ 65535 }
+    requires pending { HavePending seats.old.items room pending.now }
+
+    // The journal goes on, and has acknowledged just the records over which the seats came back.
+    ensures sound { IfOk result (IsSound P.is_honest P.seen P.may_leave) }
+    ensures ok { IfOk result (λ log. (log.going ≡ true) × (log.header ≡ header.now)) }
+    ensures honest { IfOk result (λ log. P.is_honest log.disk ↔ P.is_whole pair) }
+    ensures whole { P.is_whole pair → IfErr result (λ refused. P.is_whole refused.0) }
+    ensures spent { P.is_whole pair → IfOk result (λ log. IsSpent (P.old_seen pair)) }
+    ensures listed { P.is_whole pair
+        → IfOk result (λ log. StandsFor header.now (acknowledged P.seen log) (P.seen pair)) }
+    ensures in_order { P.is_whole pair → IfOk result (λ log. AreInOrder header.now.nodes header.now.node
+        (4 * length seats.old.items) (acknowledged P.seen log)) }
+    ensures seats { P.is_whole pair → IfOk result (λ log.
+        HaveComeBack room pending.now (acknowledged P.seen log) seats.old.items seats.new.items) }
+    ensures rest { OnOk result (AreAtRest (fours_of seats.old.items) (fours_of seats.new.items)) }
+
+    // The pair is as it was, and a crash meanwhile shows what it might have shown before.
+    ensures unchanged { P.is_whole pair → IfOk result (λ log. IsShown P.Disk P.Pair.own pair log.disk) }
+    ensures untouched { P.is_whole pair → IfErr result (λ refused. IsUntouched P.Disk P.Pair.own pair refused.0) }
+    ensures any_moment { P.is_whole pair → MatchResult result
+        (λ log. LeavesOnly P.moment P.left_since pair log.disk (MayShow P.Disk P.Pair.own pair))
+        (λ refused. LeavesOnly P.moment P.left_since pair refused.0 (MayShow P.Disk P.Pair.own pair)) }
+    ensures err { OnErr result (fours_of seats.new.items ≡ fours_of seats.old.items) }
+    ensures count { length seats.new.items ≡ length seats.old.items }
+
+    // It does not give up by itself.
+    ensures refused { P.is_whole pair → IfErr result (λ refused. HasCauseOn pass_texts header.now
+        (4 * length seats.old.items) (fours_of seats.old.items) room pending.now (P.seen pair, P.old_seen pair) refused.1) }
+    ensures failed { IfErr result (λ refused. refused.1 ≡ RestartFault.Journal LogError.Device
+        → Risen (P.faults pair) (P.faults refused.0)) }
+    ensures later { MatchResult result (λ log. P.faults pair ≤ P.faults log.disk)
+        (λ refused. P.faults pair ≤ P.faults refused.0) }
+    ensures unfailed { MatchResult result (λ log. P.faults log.disk ≡ P.faults pair)
+        (λ refused. refused.1 ≢ RestartFault.Journal LogError.Device → P.faults refused.0 ≡ P.faults pair) }
+{
+    let mut pair = pair;
+    match no_old_journal(alloc, &mut pair) {
+        Ok(()) => match come_back(alloc, pair, header, seats, room, pending) {
+            Ok(log) => Ok(log),
+            Err(refused) => Err(refused),
+        },
+        Err(fault) => Err((pair, fault)),
+    }
+}
+
+/// Sees that no old journal counts: the old disk is synced, and then read.
+fn no_old_journal<P: Pair>(alloc: Global, pair: &mut P) -> Result<(), RestartFault>
+    ensures whole { P.is_whole pair.new ↔ P.is_whole pair.old }
+    ensures same { P.is_whole pair.old → IsSame P.Disk P.Pair.own pair.old pair.new }
+    ensures any_moment { P.is_whole pair.old
+        → LeavesOnly P.moment P.both_since pair.old pair.new (Both P.new_may P.old_may pair.old) }
+    ensures spent { P.is_whole pair.old → OnOk result (IsSpent (P.old_seen pair.old)) }
+    ensures honest { P.is_whole pair.old → OnOk result (P.is_honest pair.new) }
+    ensures refused { P.is_whole pair.old → IfErr result (HasCauseBefore (P.old_seen pair.old)) }
+    ensures failed { result ≡ Err (RestartFault.Journal LogError.Device)
+        → Risen (P.faults pair.old) (P.faults pair.new) }
+    ensures later { P.faults pair.old ≤ P.faults pair.new }
+    ensures unfailed { result ≢ Err (RestartFault.Journal LogError.Device) → P.faults pair.new ≡ P.faults pair.old }
+{
+    match old_disk(alloc, pair) {
+        Ok(OldDisk::Counts) => Err(RestartFault::Journal(LogError::NotAJournal)),
+        Ok(OldDisk::Empty) => Ok(()),
+        Ok(OldDisk::Spent) => Ok(()),
+        Err(error) => Err(RestartFault::of(error)),
+    }
+}

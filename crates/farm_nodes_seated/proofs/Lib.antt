@@ -1,0 +1,3 @@
+pub mod Lists
+pub mod Offered
+pub mod Told
