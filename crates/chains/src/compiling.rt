@@ -28,8 +28,8 @@ use linear_language::{Function, Linear};
 use linker::{LinkError, link_translated, translated};
 use std::alloc::Global;
 
-/// The offers of each function, in order.
-fn all_offers(
+/// The offers of each function that the maker makes, in order: their passes accept them, and they chain from the functions on.
+pub fn all_offers(
     alloc: Global,
     functions: &[Named<rtl_language::Function>],
     maker: &mut Maker,

@@ -10,7 +10,7 @@ mod makers;
 mod offering;
 
 pub use baselines::ExactBaselines;
-pub use compiling::{compile, link_offers};
+pub use compiling::{all_offers, compile, link_offers};
 pub use errors::CompileError;
 pub use makers::Maker;
 pub use offering::Offers;

@@ -21,7 +21,7 @@ pub struct Offers {
 
 impl Offers {
     /// The offers, lent.
-    pub(crate) fn chain(&self) -> Chain<'_>
+    pub fn chain(&self) -> Chain<'_>
         ensures { IsLent self.now result }
     {
         Chain {

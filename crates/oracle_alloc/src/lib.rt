@@ -15,4 +15,7 @@ mod register_set;
 mod worth;
 
 pub use alloc_check::EquationLists;
+pub use liveness::live_before;
+pub use parts::{copied_by, defined_by, edges_of};
 pub use propose::AllocOracle;
+pub use register_set::RegisterSet;

@@ -2,9 +2,10 @@
 //! way from there (Leroy 2009, section 3.2), by sweeps backward until one finds nothing new.
 
 use crate::order::order_of;
-use crate::parts::{Edges, add_uses, defined_by, edges_of};
+use crate::parts::{add_uses, defined_by, edges_of};
 use crate::register_set::RegisterSet;
 use lang_base::NoMemory;
+use oracle_graphs::Edges;
 use rtl_language::Instruction;
 use std::alloc::Global;
 
@@ -39,7 +40,7 @@ fn join_node(behind: &mut RegisterSet, live: &[RegisterSet], node: Option<u16>) 
 }
 
 /// What is live before each of these nodes.
-pub(crate) fn live_before(
+pub fn live_before(
     alloc: Global,
     registers: u16,
     nodes: &[Instruction],

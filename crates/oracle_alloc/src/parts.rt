@@ -1,17 +1,12 @@
 //! What an instruction defines and uses, and where it goes on.
 
 use crate::register_set::RegisterSet;
+use oracle_graphs::Edges;
 use rtl_language::Instruction;
 use rtl_parts::{Act, Arguments, Register};
 
-/// Where an instruction can go on: nowhere, to one node, or to two.
-#[derive(Clone, Copy)]
-pub(crate) struct Edges {
-    pub first: Option<u16>,
-    pub second: Option<u16>,
-}
-
-pub(crate) fn edges_of(instruction: &Instruction) -> Edges {
+/// Where an instruction can go on.
+pub fn edges_of(instruction: &Instruction) -> Edges {
     match instruction {
         Instruction::Do { successor, .. } | Instruction::Call { successor, .. } => Edges {
             first: Some(*successor),
@@ -40,7 +35,7 @@ fn target_of(act: &Act) -> Option<Register> {
 }
 
 /// The register that the instruction defines, if it defines one.
-pub(crate) fn defined_by(instruction: &Instruction) -> Option<Register> {
+pub fn defined_by(instruction: &Instruction) -> Option<Register> {
     match instruction {
         Instruction::Do { act, .. } => target_of(act),
         Instruction::Call { target, .. } => *target,
@@ -49,7 +44,7 @@ pub(crate) fn defined_by(instruction: &Instruction) -> Option<Register> {
 }
 
 /// The register that the instruction copies, if it is a move.
-pub(crate) fn copied_by(instruction: &Instruction) -> Option<Register> {
+pub fn copied_by(instruction: &Instruction) -> Option<Register> {
     match instruction {
         Instruction::Do {
             act: Act::Move { source, .. },

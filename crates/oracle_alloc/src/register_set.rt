@@ -4,7 +4,7 @@ use std::alloc::Global;
 
 /// A set of registers below a number, as bits: 64 of them a word.
 #[derive(Drop)]
-pub(crate) struct RegisterSet {
+pub struct RegisterSet {
     words: Vec<u64>,
 }
 
@@ -79,14 +79,20 @@ impl RegisterSet {
     /// The registers of the set, rising.
     pub fn members(&self, alloc: Global) -> Result<Vec<Register>, NoMemory> {
         let mut members = Vec::new(alloc);
+        self.push_to(&mut members)?;
+        Ok(members)
+    }
+
+    /// Appends the registers of the set, rising.
+    pub fn push_to(&self, members: &mut Vec<Register>) -> Result<(), NoMemory> {
         let mut first: Register = 0;
         for word in &self.words {
             if *word != 0 {
-                push_members(&mut members, first, *word)?;
+                push_members(members, first, *word)?;
             }
             first = first.saturating_add(64);
         }
-        Ok(members)
+        Ok(())
     }
 }
 

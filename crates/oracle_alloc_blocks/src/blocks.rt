@@ -3,6 +3,7 @@
 ghost use Rattle.std.specs.Prelude.{◌≡◌, ◌<◌, ℕ, length, All, IfOk, IfSome};
 ghost use Rattle.locations.specs.Fits.{MoveFits, MovesFit};
 ghost use Rattle.ltl.specs.Function.{BlockFits};
+ghost use Rattle.rtl_language.specs.Function.{InstructionFits};
 ghost use Rattle.oracle_alloc_blocks.specs.Blocks.{FitsForAct, FitsForCall, FitsForBranch, FitsForInstruction};
 ghost use Rattle.oracle_alloc_blocks.specs.Plans.{PlanFits};
 
@@ -194,6 +195,25 @@ fn block_of(
     }
 }
 
+/// A block for each of the instructions, which are in range; those that are needless do nothing.
+pub fn blocks_for(
+    alloc: Global,
+    nodes: &[Instruction],
+    assignment: &Assignment,
+    needless: &[bool],
+) -> Result<Vec<Block>, NoMemory>
+    ensures count { IfOk result (λ made. length made.items ≡ length nodes.now) }
+    ensures fit { (registers count : ℕ) → All (InstructionFits registers count) nodes.now →
+        IfOk result (λ made. All (BlockFits assignment.now.slots count) made.items) }
+{
+    let mut made = Vec::new(alloc);
+    for (n, instruction) in nodes.iter().enumerate() {
+        let is_left_out = needless.get(n).copied().unwrap_or(false);
+        made.push(block_of(alloc, assignment, instruction, is_left_out)?)?;
+    }
+    Ok(made)
+}
+
 /// A block for each node; those nodes that are needless do nothing.
 pub fn blocks_of(
     alloc: Global,
@@ -204,10 +224,5 @@ pub fn blocks_of(
     ensures count { IfOk result (λ made. length made.items ≡ length input.now.nodes) }
     ensures fit { IfOk result (λ made. All (BlockFits assignment.now.slots (length input.now.nodes)) made.items) }
 {
-    let mut made = Vec::new(alloc);
-    for (n, instruction) in input.nodes().as_slice().iter().enumerate() {
-        let is_left_out = needless.get(n).copied().unwrap_or(false);
-        made.push(block_of(alloc, assignment, instruction, is_left_out)?)?;
-    }
-    Ok(made)
+    blocks_for(alloc, input.nodes().as_slice(), assignment, needless)
 }

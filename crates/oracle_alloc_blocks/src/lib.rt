@@ -10,5 +10,5 @@ mod plans;
 mod reaching;
 
 pub use assignment::Assignment;
-pub use blocks::blocks_of;
+pub use blocks::{blocks_for, blocks_of};
 pub use parameters::{are_distinct, locations_of};

@@ -1,7 +1,7 @@
 use crate::follows::Constants;
 use constprop_check::{ConstProp, FactLists};
 use lang_base::{NoMemory, Oracle};
-use oracle_facts::proposed;
+use oracle_facts::{Each, proposed};
 use rand_pcg::Pcg32;
 use rtl_language::Function;
 use std::alloc::Global;
@@ -20,5 +20,23 @@ impl Oracle for ConstOracle {
         words: &mut Pcg32,
     ) -> Result<Option<(Function, FactLists)>, NoMemory> {
         Ok(Some(proposed(alloc, Constants, input, words)?))
+    }
+}
+
+/// Proposes constants wherever facts allow one.
+#[derive(Clone, Copy, Debug)]
+pub struct ConstSpeed;
+
+impl Oracle for ConstSpeed {
+    type P = ConstProp;
+
+    fn propose(
+        &mut self,
+        alloc: Global,
+        input: &Function,
+        _words: &mut Pcg32,
+    ) -> Result<Option<(Function, FactLists)>, NoMemory> {
+        let mut chooser = Each;
+        Ok(Some(proposed(alloc, Constants, input, &mut chooser)?))
     }
 }

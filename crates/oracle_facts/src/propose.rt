@@ -3,27 +3,25 @@ ghost use Rattle.rtl_language.specs.Function.{InstructionFits};
 ghost use Rattle.oracle_facts.specs.Ranges.{StaysInRange};
 
 use crate::analysis::Analysis;
+use crate::chooses::Chooses;
 use crate::follows::{FactOf, Follows};
 use crate::unreached::give_each;
 use lang_base::{NoMemory, Row};
-use rand_core::utils::NextWord;
-use rand_pcg::Pcg32;
 use rtl_language::{Function, Instruction, copy_instruction};
 use rtl_passes::with_nodes;
 use rtl_passes_filled::list_at;
 use rtl_passes_marks::NodeRow;
 use std::alloc::Global;
 
-/// The function with the changes that the words choose among those that the facts allow, and the facts at marked
-/// nodes.
-pub fn proposed<F: Follows>(
+/// The function with those changes that are chosen among those that the facts allow, and the facts at marked nodes.
+pub fn proposed<F: Follows, C: Chooses>(
     alloc: Global,
     follows: F,
     input: &Function,
-    words: &mut Pcg32,
+    chooser: &mut C,
 ) -> Result<(Function, Row<NodeRow<FactOf<F>>>), NoMemory> {
     let (lists, feeders) = followed(alloc, follows, input)?;
-    let nodes = changed::<F>(alloc, input, &lists, words)?;
+    let nodes = changed::<F, C>(alloc, input, &lists, chooser)?;
     let output = with_nodes(alloc, input, nodes)?;
     let rows = rows_of(alloc, &feeders, lists)?;
     Ok((output, Row::from_vec(rows)))
@@ -79,12 +77,12 @@ fn list_of<T: Drop>(alloc: Global, known: Option<Vec<T>>) -> Row<T> {
     }
 }
 
-/// The instructions of the input, with the changes that the words choose.
-fn changed<F: Follows>(
+/// The instructions of the input, with the changes that are chosen.
+fn changed<F: Follows, C: Chooses>(
     alloc: Global,
     input: &Function,
     lists: &[Row<FactOf<F>>],
-    words: &mut Pcg32,
+    chooser: &mut C,
 ) -> Result<Vec<Instruction>, NoMemory>
     ensures count { IfOk result (λ made. length made.items ≡ length input.now.nodes) }
     ensures fit { IfOk result (λ made. All (InstructionFits input.now.registers (length input.now.nodes)) made.items) }
@@ -93,23 +91,23 @@ fn changed<F: Follows>(
     let registers = input.registers();
     for (n, instruction) in input.nodes().as_slice().iter().enumerate() {
         let facts = list_at(lists, n);
-        made.push(chosen::<F>(alloc, registers, instruction, facts, words)?)?;
+        made.push(chosen::<F, C>(alloc, registers, instruction, facts, chooser)?)?;
     }
     Ok(made)
 }
 
-/// The instruction, or where the next word is odd what the facts allow it to be made.
-fn chosen<F: Follows>(
+/// The instruction, or where that is chosen what the facts allow it to be made.
+fn chosen<F: Follows, C: Chooses>(
     alloc: Global,
     registers: u16,
     instruction: &Instruction,
     facts: &[FactOf<F>],
-    words: &mut Pcg32,
+    chooser: &mut C,
 ) -> Result<Instruction, NoMemory>
     ensures { StaysInRange registers instruction.now result }
 {
     match F::allowed(registers, instruction, facts) {
-        Some(simpler) if words.next_word() % 2 == 1 => Ok(simpler),
+        Some(simpler) if chooser.is_taken(instruction, &simpler) => Ok(simpler),
         _ => copy_instruction(alloc, instruction),
     }
 }

@@ -1,3 +1,4 @@
+use crate::chains::chained;
 use lang_base::{NoMemory, Oracle};
 use linearize_check::{Linearize, Order, arrange, rising};
 use ltl::Function;
@@ -21,6 +22,25 @@ impl Oracle for OrderOracle {
     ) -> Result<Option<(linear_language::Function, Order)>, NoMemory> {
         let reached = rising(alloc, input)?;
         let nodes = drawn(alloc, reached.as_slice(), words)?;
+        arrange(alloc, input, nodes)
+    }
+}
+
+/// Proposes orders in which what is run most falls through, and loops have their test behind their body.
+#[derive(Clone, Copy, Debug)]
+pub struct OrderSpeed;
+
+impl Oracle for OrderSpeed {
+    type P = Linearize;
+
+    fn propose(
+        &mut self,
+        alloc: Global,
+        input: &Function,
+        _words: &mut Pcg32,
+    ) -> Result<Option<(linear_language::Function, Order)>, NoMemory> {
+        let reached = rising(alloc, input)?;
+        let nodes = chained(alloc, input.blocks().as_slice(), reached.as_slice())?;
         arrange(alloc, input, nodes)
     }
 }
