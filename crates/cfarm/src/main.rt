@@ -8,9 +8,10 @@ mod screen;
 
 use crate::screen::Screen;
 use cfarm_files::HostFiles;
+use cfarm_output::{ErrorLines, ErrorWriter, Paced};
 use cfarm_program::{run, tell_no_memory, tell_no_text};
 use rooms_hall::{Naming, Opened};
-use std::io::{BufWriter, ErrorKind, Write};
+use std::io::{BufWriter, ErrorKind, IsTerminal};
 use std::marker::Brand;
 use std::process::ExitCode;
 use std::sync::Wait;
@@ -22,8 +23,9 @@ fn words_of(rt: &HostRuntime) -> io::Result<Vec<String>> {
     Ok(env::args(rt)?.collect(rt.alloc())?)
 }
 
-/// Runs the program in the hall, under its name. The output is kept until it is flushed, or much of it is there.
-fn run_in<H: Naming + Send, R: Threads + Wait + Sync, E: Write>(
+/// Runs the program in the hall, under its name. The output is kept until it is flushed, or much of it is there; on a terminal it is flushed
+/// at each line feed.
+fn run_in<H: Naming + Send, R: Threads + Wait + Sync, E: ErrorLines>(
     rt: &HostRuntime,
     threads: &R,
     opened: Opened,
@@ -37,15 +39,17 @@ fn run_in<H: Naming + Send, R: Threads + Wait + Sync, E: Write>(
     let hall = opened.named::<H>();
     let mut files = HostFiles(rt);
     let mut screen = Screen::over(rt);
+    let is_seen = rt.stderr().is_terminal();
     match BufWriter::new(alloc, io::writer(rt)) {
-        Ok(mut out) => run(
+        Ok(out) => run(
             threads,
             alloc,
             &hall,
+            is_seen,
             words,
             &mut files,
             &mut screen,
-            &mut out,
+            &mut Paced::over(out, rt.stdout().is_terminal()),
             err,
         ),
         Err(_) => tell_no_memory(err),
@@ -57,7 +61,7 @@ fn run_here<R: Threads + Wait + Sync>(rt: &HostRuntime, threads: &R) -> u8
     ensures table { result ≤ 7 }
 {
     let standard_error = rt.stderr();
-    let mut err = io::writer(&standard_error);
+    let mut err = ErrorWriter::over(io::writer(&standard_error));
     let words = match words_of(rt) {
         Ok(words) => words,
         Err(fault) if fault.kind() == ErrorKind::InvalidData => return tell_no_text(&mut err),

@@ -3,31 +3,78 @@
 use cfarm_meter::Meter;
 use std::io;
 use std::io::{IsTerminal, Write};
+use std::time::{Duration, Instant};
 
-/// A line on standard error that is written again and again, where that is a terminal; else nothing is written. A line that cannot be
-/// written is left out.
+/// For how many milliseconds a line is shown at least.
+const SHOWN: u64 = 100;
+
+/// A line on standard error that is written again and again, ten times a second at most, where that is a terminal; else nothing is
+/// written. Above it stands a line that stays where journals were migrated. The terminal cuts each where it ends. A line that cannot be written is left out.
 #[derive(Drop)]
 pub struct Screen<'a> {
     rt: &'a HostRuntime,
     is_shown: bool,
+    /// When the line was written last.
+    last: Option<Instant>,
+    /// How many journals of the first version were found.
+    old: usize,
+    nodes: usize,
 }
 
 impl<'a> Screen<'a> {
     /// The screen of the machine.
     pub fn over(rt: &'a HostRuntime) -> Screen<'a> {
         let is_shown = rt.stderr().is_terminal();
-        Screen { rt, is_shown }
+        Screen {
+            rt,
+            is_shown,
+            last: None,
+            old: 0,
+            nodes: 0,
+        }
+    }
+}
+
+impl Screen<'_> {
+    /// Whether the line is to be written now.
+    fn is_due(&mut self) -> bool {
+        let Ok(now) = Instant::now(self.rt) else {
+            return true;
+        };
+        let is_due = match self.last {
+            Some(last) => now.duration_since(last) >= Duration::from_millis(SHOWN),
+            None => true,
+        };
+        if is_due {
+            self.last = Some(now);
+        }
+        is_due
     }
 }
 
 impl Meter for Screen<'_> {
-    fn tell(&mut self, linked: usize, functions: usize, turns: u64) {
-        if self.is_shown {
+    fn found(&mut self, old: usize, nodes: usize) {
+        self.old = old;
+        self.nodes = nodes;
+    }
+
+    fn opened(&mut self) {
+        if self.is_shown && self.old > 0 {
+            let (old, nodes) = (self.old, self.nodes);
+            let standard_error = self.rt.stderr();
+            let mut line = io::writer(&standard_error);
+            let _ = write!(line, "migrated {old} of {nodes} journals\n");
+            let _ = line.flush();
+        }
+    }
+
+    fn tell(&mut self, agreed: usize, rooms: usize, linked: usize, functions: usize) {
+        if self.is_shown && self.is_due() {
             let standard_error = self.rt.stderr();
             let mut line = io::writer(&standard_error);
             let _ = write!(
                 line,
-                "\r{linked} of {functions} functions linked, {turns} turns\x1b[K"
+                "\r\x1b[?7lbuild: {agreed} of {rooms} rooms agreed, {linked} of {functions} functions linked\x1b[K\x1b[?7h"
             );
             let _ = line.flush();
         }

@@ -1,3 +1,4 @@
+mod Counting
 mod Lowest
 mod Made
 mod Turning

@@ -1,6 +1,9 @@
 -- The lowest node that failed, looked for in order.
 use Rattle.std.proofs.Common.{◌≡◌, ℕ, zero, suc, ◌<◌, ◌≤◌, List, [], ◌∷◌, map, length, get_or, drop, Option, Some, None, refl, sym, ap, ◌∙◌, arith}
 use Rattle.farm_nodes_offers.specs.declared.halt.Fault.{Fault}
+use Rattle.std.specs.List.{AllByRecursion}
+use Rattle.cfarm_build_linking.specs.Halted.{Halted}
+use Rattle.cfarm_build_linking.specs.Held.{fault_in}
 use Rattle.cfarm_build.specs.Nodes.{lowest_failed}
 
 module _ {N : Type 0} (fault : N → Option Fault) where
@@ -21,3 +24,19 @@ module _ {N : Type 0} (fault : N → Option Fault) where
   none_left [] (suc n) k end = refl
   none_left (y ∷ nodes) zero k end = absurd (omega (arith, end))
   none_left (y ∷ nodes) (suc n) k end = none_left nodes n k (omega (arith, end))
+
+-- where none failed, none is stopped
+none_first : (k : ℕ) (o : Option Fault) (faults : List (Option Fault)) → lowest_failed k (o ∷ faults) ≡ None → (o ≡ None) × (lowest_failed (suc k) faults ≡ None)
+none_first k None faults none = (refl, none)
+none_first k (Some fault) faults none = absurd (cc none)
+
+not_stopped : (halted : Option Halted) → fault_in halted ≡ None → halted ≡ None
+not_stopped None none = refl
+not_stopped (Some halted) none = absurd (cc none)
+
+pub all_going : {N : Type 0} (halted : N → Option Halted) (nodes : List N) (k : ℕ) → lowest_failed k (map (λ n. fault_in (halted n)) nodes) ≡ None
+    → AllByRecursion (λ n. halted n ≡ None) nodes
+all_going halted [] k none = tt
+all_going halted (n ∷ nodes) k none =
+    let both = none_first k (fault_in (halted n)) (map (λ n. fault_in (halted n)) nodes) none in
+    (not_stopped (halted n) both.0, all_going halted nodes (suc k) both.1)

@@ -3,6 +3,7 @@ use Rattle.std.proofs.Common.{◌≡◌, ℕ, List, map, length, ◌++◌, take,
 use Rattle.std.specs.Arc.{arc_value}
 use Rattle.std.specs.List.{All, AllByRecursion, AllZip}
 use Rattle.durable_model.specs.declared.disk.Disk as disks
+use Rattle.durable_pair.specs.declared.pair.Pair as pairs
 use Rattle.acceptor_log.specs.declared.log.Log.{Log}
 use Rattle.rand_pcg.specs.Lcg.{Lcg}
 use Rattle.rooms_hall.specs.declared.hall.Naming as naming
@@ -17,13 +18,17 @@ use Rattle.cfarm_build_linking.specs.Nodes.{AreMade}
 use Rattle.cfarm_build_linking.specs.Back.{IsJournalOn}
 use Rattle.cfarm_build_linking.specs.Opened.{AreOpenFrom}
 use Rattle.cfarm_build_linking.specs.CameBack.{CameBack}
+use Rattle.farm_nodes_passes.specs.Offers.{Constants, Expressions, Allocation, Order}
+use Rattle.farm_nodes_passes.specs.Texts.{pass_texts}
+use Rattle.cfarm_build_linking.specs.Learned.{FourOffers, learned_by}
+use Rattle.cfarm_build_linking.proofs.Alike.{keeps_none, keeps_through}
 use Rattle.cfarm_build_linking.proofs.Coming.{came_through}
 use Rattle.cfarm_build_linking.specs.Node.{Node, node}
-use Rattle.cfarm_build.specs.Nodes.{Begun, HaveMet, HaveRun, IsSound, Stays, TurnedInto, failed_of, lowest_failed}
+use Rattle.cfarm_build.specs.Nodes.{Begun, HasStayed, HaveMet, HaveRun, IsSound, JournalStays, TurnedInto, failed_of, lowest_failed}
 use Rattle.cfarm_build.proofs.Zips.{all_mapped, all_of, all_weaker, as_long, kept, map_twice, seen, through, written}
 
 -- A node is seen as its program, its journal, its seats and what stopped it.
-module _ {N G D T1 T2 T3 T4 : Type 0} (disk : disks.Ghosts D) (program : N → G) (log : N → Log D) (fours : N → List (Four T1 T2 T3 T4))
+module _ {N G D : Type 0} (disk : disks.Ghosts D) (program : N → G) (log : N → Log D) (fours : N → List (Four Constants Expressions Allocation Order))
     (halted : N → Option Halted) where
   abbrev pub Turns : N → N → Type 0
   Turns n m = (program m ≡ program n) × CameBack disk.is_honest disk.seen disk.may_leave disk.moment disk.left_since
@@ -32,28 +37,45 @@ module _ {N G D T1 T2 T3 T4 : Type 0} (disk : disks.Ghosts D) (program : N → G
   pub turns_through : (xs ys zs : List N) → AllZip Turns xs ys → AllZip Turns ys zs → AllZip Turns xs zs
   turns_through = through Turns (λ x y z p q. (
     q.0 ∙ p.0,
-    came_through disk.is_honest disk.seen disk.may_leave disk.moment disk.left_since (log x) (log y) (log z) (fours x) (fours y) (fours z)
+    came_through pass_texts disk.is_honest disk.seen disk.may_leave disk.moment disk.left_since (log x) (log y) (log z) (fours x) (fours y) (fours z)
         (halted x) (halted y) (halted z) p.1 q.1,
   ))
 
+-- so it is where they meet, and of what each has learned
+module _ {N G D : Type 0} (disk : disks.Ghosts D) (program : N → G) (log : N → Log D)
+    (fours : N → List (Four Constants Expressions Allocation Order)) (halted : N → Option Halted) (learned : N → List (Option FourOffers)) where
   abbrev pub Meets : N → N → Type 0
-  Meets n m = (program m ≡ program n) × Stays disk (log n) (log m) (fours n) (fours m) (halted n) (halted m)
+  Meets n m = (program m ≡ program n) × JournalStays disk (log n) (log m) (fours n) (fours m) (halted n) (halted m) (learned n) (learned m)
 
   pub meets_none : (x : N) → Meets x x
-  meets_none x = (refl, record { log = refl; halted_same = refl; sound = λ s. s })
+  meets_none x = (refl, record { log = refl; halted_same = refl; sound = λ s. s; learned_still = keeps_none (learned x) })
 
   pub meets_through : (xs ys zs : List N) → AllZip Meets xs ys → AllZip Meets ys zs → AllZip Meets xs zs
   meets_through = through Meets (λ x y z p q. (
     q.0 ∙ p.0,
-    record { log = q.1.log ∙ p.1.log; halted_same = q.1.halted_same ∙ p.1.halted_same; sound = λ s. q.1.sound (p.1.sound s) },
+    record {
+      log = q.1.log ∙ p.1.log;
+      halted_same = q.1.halted_same ∙ p.1.halted_same;
+      sound = λ s. q.1.sound (p.1.sound s);
+      learned_still = keeps_through (learned x) (learned y) (learned z) p.1.learned_still q.1.learned_still;
+    },
   ))
 
   -- those that met in place, in a list of so many
+  pub new_there : (n : ℕ) (ys old new now : List N) → old ≡ ys → n ≡ length ys → now ≡ take n (new ++ drop (length new) ys)
+      → AllZip Meets old new → now ≡ new
+  new_there n ys old new now same count is met =
+      let over : AllZip Meets ys new = subst (λ l. AllZip Meets l new) same met in
+      is ∙ written n new ys count (as_long Meets ys new over)
+
   pub meets_there : (n : ℕ) (ys old new now : List N) → old ≡ ys → n ≡ length ys → now ≡ take n (new ++ drop (length new) ys)
       → AllZip Meets old new → AllZip Meets ys now
   meets_there n ys old new now same count is met =
-      let over : AllZip Meets ys new = subst (λ l. AllZip Meets l new) same met in
-      subst (λ l. AllZip Meets ys l) (sym (is ∙ written n new ys count (as_long Meets ys new over))) over
+      subst₂ (λ l r. AllZip Meets l r) same (sym (new_there n ys old new now same count is met)) met
+
+  -- what stopped each of them is what it was
+  pub going_still : (xs ys : List N) → AllZip Meets xs ys → AllByRecursion (λ n. halted n ≡ None) xs → AllByRecursion (λ n. halted n ≡ None) ys
+  going_still xs ys met so = kept Meets (λ n. halted n ≡ None) (λ n. halted n ≡ None) (λ x y it none. it.1.halted_same ∙ none) xs ys met so
 
 -- those that took turns and met, as they opened and as they are
 module _ {N G D H : Type 0} {h : naming.Ghosts H} (disk : disks.Ghosts D) (program : N → G) (log : N → Log D) (seats : N → List (Seats H h))
@@ -77,15 +99,15 @@ module _ {N G D H : Type 0} {h : naming.Ghosts H} (disk : disks.Ghosts D) (progr
   sounds : (Q : N → Type 0) (ys : List N) → AllByRecursion (λ n. SoundOf n × Q n) ys → AllByRecursion SoundOf ys
   sounds Q ys fit = all_weaker (λ n. SoundOf n × Q n) SoundOf (λ n both. both.0) ys fit
 
-  pub have_run : (q : Sizes) (seed : ℕ) (source : Source) (given : List D) (xs ys : List N)
-      → AreMade (IsJournalOn disk q source.digest) given (length given) (map log xs)
+  pub have_run : (pair : pairs.Ghosts D) (q : Sizes) (seed : ℕ) (source : Source) (given : List D) (xs ys : List N)
+      → AreMade (IsJournalOn disk pair q source.digest) given (length given) (map log xs)
       → AreOpenFrom disk.is_honest disk.seen q (length (arc_value source.translated).functions) (map log xs) (map seats xs)
       → map words xs ≡ generators seed (length given) → AllByRecursion (λ n. halted n ≡ None) xs
       → AllZip (Turns disk program log (λ n. fours_of (seats n)) halted) xs ys → AllByRecursion SoundOf ys
-      → HaveRun disk q seed source given (map node_of ys)
-  have_run q seed source given xs ys journals rooms drawn going turns sound = record {
+      → HaveRun disk pair q seed source given (map node_of ys)
+  have_run pair q seed source given xs ys journals rooms drawn going turns sound = record {
     begun = map begun_of xs;
-    journals = subst (λ l. AreMade (IsJournalOn disk q source.digest) given (length given) l)
+    journals = subst (λ l. AreMade (IsJournalOn disk pair q source.digest) given (length given) l)
         (sym (map_twice begun_of (λ b. b.log) xs)) journals;
     rooms = subst₂ (λ l r. AreOpenFrom disk.is_honest disk.seen q (length (arc_value source.translated).functions) l r)
         (sym (map_twice begun_of (λ b. b.log) xs)) (sym (map_twice begun_of (λ b. b.seats) xs)) rooms;
@@ -95,28 +117,28 @@ module _ {N G D H : Type 0} {h : naming.Ghosts H} (disk : disks.Ghosts D) (progr
   }
 
   -- the same of a farm that opened, whose nodes came back
-  pub ran : (Q : N → Type 0) (q : Sizes) (seed : ℕ) (source opened : Source) (given : List D) (xs ys : List N) → opened ≡ source
-      → AreMade (IsJournalOn disk q opened.digest) given (length given) (map log xs)
+  pub ran : (pair : pairs.Ghosts D) (Q : N → Type 0) (q : Sizes) (seed : ℕ) (source opened : Source) (given : List D) (xs ys : List N) → opened ≡ source
+      → AreMade (IsJournalOn disk pair q opened.digest) given (length given) (map log xs)
       → AreOpenFrom disk.is_honest disk.seen q (length (arc_value opened.translated).functions) (map log xs) (map seats xs)
       → map words xs ≡ generators seed (length given) → All (λ n. halted n ≡ None) xs
       → AllZip (Turns disk program log (λ n. fours_of (seats n)) halted) xs ys → AllByRecursion (λ n. SoundOf n × Q n) ys
-      → HaveRun disk q seed source given (map node_of ys)
-  ran Q q seed source opened given xs ys same journals rooms drawn going turns fit = have_run q seed source given xs ys
-      (subst (λ (s : Source). AreMade (IsJournalOn disk q s.digest) given (length given) (map log xs)) same journals)
+      → HaveRun disk pair q seed source given (map node_of ys)
+  ran pair Q q seed source opened given xs ys same journals rooms drawn going turns fit = have_run pair q seed source given xs ys
+      (subst (λ (s : Source). AreMade (IsJournalOn disk pair q s.digest) given (length given) (map log xs)) same journals)
       (subst (λ (s : Source). AreOpenFrom disk.is_honest disk.seen q (length (arc_value s.translated).functions) (map log xs) (map seats xs)) same rooms)
       drawn (all_of (λ n. halted n ≡ None) xs going) turns (sounds Q ys fit)
 
-  pub have_met : (ys zs : List N) → AllByRecursion SoundOf ys → AllZip (Meets disk program log (λ n. fours_of (seats n)) halted) ys zs
+  pub have_met : (ys zs : List N) → AllByRecursion SoundOf ys → AllZip (Meets disk program log (λ n. fours_of (seats n)) halted (λ n. learned_by (seats n))) ys zs
       → HaveMet disk (map node_of ys) (map node_of zs)
   have_met ys zs sound met = record {
-    stay = seen (Meets disk program log (λ n. fours_of (seats n)) halted) node_of node_of SoundOf
-        (λ n m. (m.log ≡ n.log) × (m.halted ≡ n.halted)) (λ x y s it. (it.1.log, it.1.halted_same)) ys zs sound met;
-    sound = all_mapped node_of (IsSound disk) zs (kept (Meets disk program log (λ n. fours_of (seats n)) halted) SoundOf SoundOf
+    stay = seen (Meets disk program log (λ n. fours_of (seats n)) halted (λ n. learned_by (seats n))) node_of node_of SoundOf
+        (HasStayed disk) (λ x y s it. record { log = it.1.log; halted_same = it.1.halted_same; learned = it.1.learned_still }) ys zs sound met;
+    sound = all_mapped node_of (IsSound disk) zs (kept (Meets disk program log (λ n. fours_of (seats n)) halted (λ n. learned_by (seats n))) SoundOf SoundOf
         (λ x y it s. it.1.sound s) ys zs met sound);
   }
 
   pub have_met_fit : (Q : N → Type 0) (ys zs : List N) → AllByRecursion (λ n. SoundOf n × Q n) ys
-      → AllZip (Meets disk program log (λ n. fours_of (seats n)) halted) ys zs → HaveMet disk (map node_of ys) (map node_of zs)
+      → AllZip (Meets disk program log (λ n. fours_of (seats n)) halted (λ n. learned_by (seats n))) ys zs → HaveMet disk (map node_of ys) (map node_of zs)
   have_met_fit Q ys zs fit met = have_met ys zs (sounds Q ys fit) met
 
   -- the first that failed
@@ -129,9 +151,9 @@ module _ {N G D H : Type 0} {h : naming.Ghosts H} (disk : disks.Ghosts D) (progr
   programs_turn P xs ys turns so = kept (Turns disk program log (λ n. fours_of (seats n)) halted) (λ n. P (program n)) (λ n. P (program n))
       (λ x y it p. subst P (sym it.0) p) xs ys turns so
 
-  pub programs_meet : (P : G → Type 0) (ys zs : List N) → AllZip (Meets disk program log (λ n. fours_of (seats n)) halted) ys zs
+  pub programs_meet : (P : G → Type 0) (ys zs : List N) → AllZip (Meets disk program log (λ n. fours_of (seats n)) halted (λ n. learned_by (seats n))) ys zs
       → AllByRecursion (λ n. P (program n)) ys → AllByRecursion (λ n. P (program n)) zs
-  programs_meet P ys zs met so = kept (Meets disk program log (λ n. fours_of (seats n)) halted) (λ n. P (program n)) (λ n. P (program n))
+  programs_meet P ys zs met so = kept (Meets disk program log (λ n. fours_of (seats n)) halted (λ n. learned_by (seats n))) (λ n. P (program n)) (λ n. P (program n))
       (λ x y it p. subst P (sym it.0) p) ys zs met so
 
   -- what they all compile
@@ -145,6 +167,6 @@ module _ {N G D H : Type 0} {h : naming.Ghosts H} (disk : disks.Ghosts D) (progr
   share_such value t P such ys all = all_weaker (λ n. value (program n) ≡ t) (λ n. P (value (program n))) (λ n same. subst P (sym same) such) ys all
 
   pub share_met : {V : Type 0} (value : G → V) (t : V) (ys zs : List N)
-      → AllZip (Meets disk program log (λ n. fours_of (seats n)) halted) ys zs
+      → AllZip (Meets disk program log (λ n. fours_of (seats n)) halted (λ n. learned_by (seats n))) ys zs
       → AllByRecursion (λ n. value (program n) ≡ t) ys → AllByRecursion (λ n. value (program n) ≡ t) zs
   share_met value t ys zs met all = programs_meet (λ p. value p ≡ t) ys zs met all

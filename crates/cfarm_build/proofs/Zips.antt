@@ -1,6 +1,7 @@
 -- Lists beside one another, of which it is said place by place.
-use Rattle.std.proofs.Common.{◌≡◌, ℕ, zero, suc, ◌<◌, List, [], ◌∷◌, ◌++◌, map, length, get_or, set, take, drop, refl, sym, ap, subst, arith}
+use Rattle.std.proofs.Common.{◌≡◌, ℕ, zero, suc, ◌<◌, List, [], ◌∷◌, ◌++◌, map, length, get_or, set, take, drop, Some, refl, sym, ap, subst, arith}
 use Rattle.std.specs.List.{All, AllByRecursion, AllZip}
+use Rattle.std.specs.Prelude.{slice_get}
 
 pub map_twice : {A B C : Type 0} (f : A → B) (g : B → C) (xs : List A) → map g (map f xs) ≡ map (λ x. g (f x)) xs
 map_twice f g [] = refl
@@ -28,6 +29,14 @@ module _ {A B : Type 0} (R : A → B → Type 0) where
   as_long [] (y ∷ ys) z = absurd z
   as_long (x ∷ xs) [] z = absurd z
   as_long (x ∷ xs) (y ∷ ys) z = ap suc (as_long xs ys z.1)
+
+  -- the one that it comes from
+  pub zipped : (xs : List A) (ys : List B) (k : ℕ) (y : B) → AllZip R xs ys → slice_get ys k ≡ Some y → (x : A) × (slice_get xs k ≡ Some x) × R x y
+  zipped [] [] k y z e = absurd (cc e)
+  zipped [] (b ∷ ys) k y z e = absurd z
+  zipped (a ∷ xs) [] k y z e = absurd z
+  zipped (a ∷ xs) (b ∷ ys) zero y z e = (a, refl, subst (λ v. R a v) (let same : b ≡ y = cc e in same) z.0)
+  zipped (a ∷ xs) (b ∷ ys) (suc k) y z e = zipped xs ys k y z.1 e
 
 module _ {A : Type 0} (R : A → A → Type 0) where
   pub append : (xs ys zs ws : List A) → AllZip R xs ys → AllZip R zs ws → AllZip R (xs ++ zs) (ys ++ ws)
@@ -60,6 +69,11 @@ all_at P [] i x all below is = absurd (omega (arith, below))
 all_at P (y ∷ ys) zero x all below is = subst P (sym is) all.0
 all_at P (y ∷ ys) (suc i) x all below is = all_at P ys i x all.1 (omega (arith, below)) is
 
+pub all_get : {A : Type 0} (P : A → Type 0) (xs : List A) (i : ℕ) (d : A) → AllByRecursion P xs → i < length xs → P (get_or xs i d)
+all_get P [] i d all below = absurd (omega (arith, below))
+all_get P (y ∷ ys) zero d all below = all.0
+all_get P (y ∷ ys) (suc i) d all below = all_get P ys i d all.1 (omega (arith, below))
+
 pub all_weaker : {A : Type 0} (P Q : A → Type 0) → ((x : A) → P x → Q x) → (xs : List A) → AllByRecursion P xs → AllByRecursion Q xs
 all_weaker P Q so [] all = tt
 all_weaker P Q so (x ∷ xs) all = (so x all.0, all_weaker P Q so xs all.1)
@@ -72,6 +86,29 @@ all_mapped f P (x ∷ xs) all = (all.0, all_mapped f P xs all.1)
 pub all_of : {A : Type 0} (P : A → Type 0) (xs : List A) → All P xs → AllByRecursion P xs
 all_of P [] each = tt
 all_of P (x ∷ xs) each = (each 0 x (omega arith), all_of P xs (λ k d below. each (suc k) d (omega (arith, below))))
+
+-- what is so of two lists behind one another
+pub all_front : {A : Type 0} (P : A → Type 0) (xs ys : List A) → AllByRecursion P (xs ++ ys) → AllByRecursion P xs
+all_front P [] ys all = tt
+all_front P (x ∷ xs) ys all = (all.0, all_front P xs ys all.1)
+
+pub all_back : {A : Type 0} (P : A → Type 0) (xs ys : List A) → AllByRecursion P (xs ++ ys) → AllByRecursion P ys
+all_back P [] ys all = all
+all_back P (x ∷ xs) ys all = all_back P xs ys all.1
+
+-- Two are set, on the two sides of a cut.
+pub set_first : {A : Type 0} (front back : List A) (i : ℕ) (v : A) → length front ≡ suc i → slice_get (set front i v ++ back) i ≡ Some v
+set_first [] back i v cut = absurd (omega (arith, cut))
+set_first (x ∷ front) back zero v cut = refl
+set_first (x ∷ front) back (suc i) v cut = set_first front back i v (omega (arith, cut))
+
+pub set_second : {A : Type 0} (front back : List A) (i : ℕ) (v w : A) → length front ≡ suc i → 0 < length back
+    → slice_get (set front i v ++ set back 0 w) (suc i) ≡ Some w
+set_second [] back i v w cut some = absurd (omega (arith, cut))
+set_second (x ∷ []) [] zero v w cut some = absurd (omega (arith, some))
+set_second (x ∷ []) (y ∷ back) zero v w cut some = refl
+set_second (x ∷ z ∷ front) back zero v w cut some = absurd (omega (arith, cut))
+set_second (x ∷ front) back (suc i) v w cut some = set_second front back i v w (omega (arith, cut)) some
 
 -- A list of which as many were written over, from its front, is what was written.
 pub written : {A : Type 0} (n : ℕ) (new old : List A) → n ≡ length old → length new ≡ length old → take n (new ++ drop (length new) old) ≡ new

@@ -13,16 +13,16 @@ use crate::meeting::meet_neighbours;
 use crate::running::run_rounds;
 use cfarm_build_linking::{BuildError, Built, Farm, Oracles, Quorums, Source, built_by};
 use cfarm_meter::Meter;
-use durable_model::Disk;
+use durable_pair::Pair;
 use rooms_hall::{Hall, Naming};
 use std::alloc::Global;
 use std::sync::Wait;
 use std::thread::Threads;
 
-/// Compiles a C text that was made ready by a farm with these quorums and a node for each disk, a thread for each node, each of which
-/// takes so many turns at most. Then each two neighbours meet, and node 0 links the program. Between rounds of turns it is told how far they are.
+/// Compiles a C text that was made ready by a farm with these quorums and a node for each pair of disks, a thread for each node, each of which
+/// takes so many turns at most. Then each two neighbours meet, and the program is linked. Between rounds of turns it is told how far they are.
 pub fn build<
-    D: Disk + Drop + Send,
+    D: Pair + Drop + Send,
     O: Oracles + Drop + Send,
     H: Naming + Send,
     R: Threads + Wait + Sync,
@@ -48,18 +48,19 @@ pub fn build<
     requires count { length (arc_value source.translated).functions ≤ 64 }
     requires few { All HasFewNodes (low (program_tree source.program)).functions }
 
-    // The bytes are the text of a program that keeps the meaning of the C program, linked from what node 0 has learned, as the
-    // report says.
-    ensures built { IfOk result (IsBuilt D.Disk H.Naming quorums seed source disks.items) }
+    // Each two neighbours met, and all functions were counted. So every node has learned the same offers, and what each would link is one
+    // program: the bytes are its text, it keeps the meaning of the C program, and the report tells the offers.
+    ensures built { IfOk result (IsBuilt D.Disk D.Pair.own H.Naming quorums seed source disks.items) }
 
-    // The disks come first, then the lowest node that failed, then what is not linked.
-    ensures refused { IfErr result (IsUnbuilt D.Disk H.Naming quorums seed source disks.items) }
+    // The disks come first, then the lowest node that failed, then what is not counted, or not linked.
+    ensures refused { IfErr result (IsUnbuilt D.Disk D.Pair.own H.Naming quorums seed source disks.items) }
 {
     let _nodes = quorums.nodes();
     let farm = match Farm::over(rt, alloc, hall, source, disks, oracles, seed, quorums) {
         Ok(farm) => farm,
         Err((_disks, fault)) => return Err(BuildError::Disks(fault)),
     };
+    meter.opened();
     let Farm { source, nodes } = farm;
     let mut nodes = match run_rounds(rt, alloc, nodes, turns, meter) {
         Ok(nodes) => nodes,
@@ -68,6 +69,8 @@ pub fn build<
     if let Some((node, fault)) = first_failed(&nodes) {
         return Err(BuildError::Failed(node, fault));
     }
-    meet_neighbours(&mut nodes);
+    if !meet_neighbours(&mut nodes) {
+        return Err(BuildError::Undecided);
+    }
     built_by(alloc, &source, &nodes)
 }

@@ -8,4 +8,6 @@ mod meeting;
 mod running;
 
 pub use building::build;
-pub use cfarm_build_linking::{BuildError, Built, Quorums, optimisers_of};
+pub use cfarm_build_linking::{
+    BuildError, Built, LogError, OpenFault, Optimising, Quorums, SourceFault, optimisers_of,
+};

@@ -65,10 +65,34 @@ fn are_done<D, O, H: Naming>(nodes: &[FarmNode<D, O, H>]) -> bool {
     true
 }
 
-/// Tells how many functions the first node links.
-fn tell_of<D, O, H: Naming, M: Meter>(nodes: &[FarmNode<D, O, H>], turns: u64, meter: &mut M) {
+/// In how many of the four rooms of a function a value is learned.
+fn learned_in<H: Naming>(seats: &Seats<H>) -> usize {
+    usize::from(seats.seat.first.learned().is_some())
+        .saturating_add(usize::from(seats.seat.second.learned().is_some()))
+        .saturating_add(usize::from(seats.seat.third.learned().is_some()))
+        .saturating_add(usize::from(seats.seat.fourth.learned().is_some()))
+}
+
+/// In how many rooms of all functions a value is learned.
+fn learned_rooms<H: Naming>(seats: &[Seats<H>]) -> usize {
+    let mut learned = 0usize;
+    for function in 0..seats.len() {
+        learned = learned.saturating_add(learned_in(&seats[function]));
+    }
+    learned
+}
+
+/// Tells in how many rooms the first node has learned, and how many functions it links.
+fn tell_of<D, O, H: Naming, M: Meter>(nodes: &[FarmNode<D, O, H>], meter: &mut M) {
     if let Some(first) = nodes.first() {
-        meter.tell(linked_functions(&first.seats), first.seats.len(), turns);
+        let functions = first.seats.len();
+        let rooms = functions.saturating_mul(4);
+        meter.tell(
+            learned_rooms(&first.seats),
+            rooms,
+            linked_functions(&first.seats),
+            functions,
+        );
     }
 }
 
@@ -131,6 +155,7 @@ pub(crate) fn run_rounds<
 {
     let mut nodes = nodes;
     let mut left = turns;
+    tell_of(&nodes, meter);
     while left > 0 {
         let round = left.min(turns_of(&nodes));
         nodes = match one_round(rt, alloc, nodes, round) {
@@ -138,7 +163,7 @@ pub(crate) fn run_rounds<
             Err(fault) => return Err(fault),
         };
         left -= round;
-        tell_of(&nodes, turns - left, meter);
+        tell_of(&nodes, meter);
         if are_done(&nodes) {
             left = 0;
         }

@@ -6,5 +6,9 @@ mod error;
 mod names;
 mod telling;
 
+pub use acceptor_log_form::LogError;
 pub use error::BuildError;
-pub use farm_nodes::{Farm, FarmNode, Quorums, RunError, Source, meet, optimisers_of, run_threads};
+pub use farm_nodes::{
+    Farm, FarmNode, OpenFault, Optimising, Quorums, RunError, Source, SourceFault, meet,
+    optimisers_of, run_threads,
+};

@@ -1,5 +1,5 @@
 -- What nodes make that link all functions.
-use Rattle.std.specs.Prelude.{◌≡◌, ℕ, List, length, map, Some, slice_get}
+use Rattle.std.specs.Prelude.{◌≡◌, ℕ, suc, List, length, map, Option, Some, slice_get}
 use Rattle.std.specs.List.{AllByRecursion}
 use Rattle.std.specs.String.{string_bytes}
 use Rattle.sha2.specs.Sha256.{sha256}
@@ -17,7 +17,8 @@ use Rattle.rtlgen_definition.specs.Gen.{gen}
 use Rattle.rooms_hall.specs.declared.hall.Naming as naming
 use Rattle.cfarm_build_faults.specs.Source.{Source}
 use Rattle.farm_nodes_linked.specs.Seats.{Seats}
-use Rattle.farm_nodes_linked.specs.Learned.{learned_by, IsUndecided}
+use Rattle.farm_nodes_linked.specs.Alike.{HaveCounted}
+use Rattle.farm_nodes_linked.specs.Learned.{FourOffers, learned_by, IsUndecided}
 use Rattle.farm_nodes_linked.specs.Offered.{linked_offers}
 use Rattle.cfarm_report.specs.declared.function.FunctionRooms.{FunctionRooms}
 use Rattle.cfarm_report.specs.Report.{report_of}
@@ -25,10 +26,23 @@ use Rattle.cfarm_build_linking.specs.Node.{Node}
 use Rattle.cfarm_build_linking.specs.Told.{AreTold}
 use Rattle.cfarm_build_linking.specs.declared.built.Built.{Built}
 
--- the bytes of the program that these offers link; it keeps the meaning of the C program
-pub record IsLinkedBy {H : Type 0} {h : naming.Ghosts H} (source : Source) (seats : List (Seats H h)) (bytes : List ℕ) : Type 0 where
+-- so it is of each two neighbours
+abbrev pub EachTwo : {A : Type 0} → (A → A → Type 0) → List A → Type 0
+EachTwo {A} Are xs = (k : ℕ) (x y : A) → slice_get xs k ≡ Some x → slice_get xs (suc k) ≡ Some y → Are x y
+
+-- Each two neighbours met, and all functions were counted.
+abbrev pub AllCounted : {D : Type 0} {H : Type 0} {h : naming.Ghosts H} → List (Node D H h) → Type 0
+AllCounted nodes = EachTwo (λ n m. HaveCounted n.seats m.seats) nodes
+
+-- All nodes have learned these offers.
+abbrev pub AllLearned : {D : Type 0} {H : Type 0} {h : naming.Ghosts H} → List (Option FourOffers) → List (Node D H h) → Type 0
+AllLearned learned nodes = AllByRecursion (λ n. learned_by n.seats ≡ learned) nodes
+
+-- The bytes are the text of the one program that all nodes link, each from the offers that it has learned. It keeps the meaning of
+-- the C program.
+pub record IsLinkedByAll {D : Type 0} {H : Type 0} {h : naming.Ghosts H} (source : Source) (nodes : List (Node D H h)) (bytes : List ℕ) : Type 0 where
   pub program : Program linear_function.FunctionData
-  pub linked : program ≡ linked_offers (gen (low (program_tree source.program))) (learned_by seats)
+  pub linked : AllByRecursion (λ n. program ≡ linked_offers (gen (low (program_tree source.program))) (learned_by n.seats)) nodes
   pub keeps : Keeps (crun (program_tree source.program)) (linear.run program)
   pub fits : IsProgram linear_function.IsFunction program
   pub text : bytes ≡ program_text 4 spelling program
@@ -44,10 +58,13 @@ pub record IsReportOf {H : Type 0} {h : naming.Ghosts H} (source : Source) (seat
 abbrev pub AllDecided : {D : Type 0} {H : Type 0} {h : naming.Ghosts H} → List (Node D H h) → Type 0
 AllDecided nodes = AllByRecursion (λ n. IsUndecided (learned_by n.seats) → ⊥) nodes
 
--- so it is of the first node of all that link, and of so many
+-- Each two neighbours met, and all functions were counted. So all nodes have learned the offers of the first one, and link one program:
+-- the bytes are its text. The report tells what the first has learned, and how many they are.
 pub record IsBuiltBy {D : Type 0} {H : Type 0} {h : naming.Ghosts H} (source : Source) (nodes : List (Node D H h)) (built : Built) : Type 0 where
+  pub counted : AllCounted nodes
   pub decided : AllDecided nodes
   pub node : Node D H h
   pub first : slice_get nodes 0 ≡ Some node
-  pub linked : IsLinkedBy source node.seats built.program.items
+  pub same : AllLearned (learned_by node.seats) nodes
+  pub linked : IsLinkedByAll source nodes built.program.items
   pub report : IsReportOf source node.seats built.program.items (length nodes) (string_bytes built.report)

@@ -20,3 +20,7 @@ pub use Rattle.farm_nodes_linked.specs.Fours
 pub use Rattle.farm_nodes_linked.specs.Seats
 pub use Rattle.cfarm_build_faults.specs.Source
 pub use Rattle.cfarm_build_faults.specs.Quorum
+pub use Rattle.farm_nodes_linked.specs.Alike
+pub use Rattle.farm_nodes_linked.specs.Held as Holding
+pub use Rattle.farm_nodes_linked.specs.Learned
+pub use Rattle.farm_nodes_linked.specs.Lists

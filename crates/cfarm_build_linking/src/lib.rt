@@ -9,7 +9,8 @@ mod writing;
 
 pub use built::Built;
 pub use cfarm_build_faults::{
-    BuildError, Farm, FarmNode, Quorums, RunError, Source, meet, optimisers_of, run_threads,
+    BuildError, Farm, FarmNode, LogError, OpenFault, Optimising, Quorums, RunError, Source,
+    SourceFault, meet, optimisers_of, run_threads,
 };
 pub use farm_nodes_linked::{Oracles, Seats};
 pub use linking::built_by;

@@ -9,8 +9,9 @@ ghost use Rattle.cminor_program_ranges.specs.Names.{HaveNames};
 ghost use Rattle.rtlgen.specs.Refused.{HasFewNodes};
 ghost use Rattle.rtlgen_definition.specs.Gen.{gen};
 ghost use Rattle.farm_nodes_linked.specs.Numbers.{function_of_link_error};
+ghost use Rattle.farm_nodes_linked.specs.Alike.{HaveCounted};
 ghost use Rattle.farm_nodes_linked.specs.Learned.{learned_by, IsUndecided};
-ghost use Rattle.cfarm_build_linking.specs.Built.{IsBuiltBy};
+ghost use Rattle.cfarm_build_linking.specs.Built.{EachTwo, IsBuiltBy};
 ghost use Rattle.cfarm_build_linking.specs.Node.{node};
 ghost use Rattle.cfarm_build_linking.specs.Refused.{IsNotLinked, IsRefusedBy, IsToldOf};
 
@@ -63,6 +64,7 @@ fn made_by<D, O, H: Naming>(
     nodes: &[FarmNode<D, O, H>],
 ) -> Result<Built, BuildError>
     requires some { 0 < length nodes.now }
+    requires counted { EachTwo (λ n m. HaveCounted n.seats.items m.seats.items) nodes.now }
     requires decided { AllByRecursion (λ n. IsUndecided (learned_by n.seats.items) → ⊥) nodes.now }
     requires translated { arc_value source.now.translated ≡ gen (low (program_tree source.now.program)) }
     requires names { HaveNames (program_tree source.now.program) }
@@ -93,13 +95,14 @@ fn made_by<D, O, H: Naming>(
     }
 }
 
-/// What the first of the nodes links, once each of them links all functions.
+/// What all the nodes link, each two neighbours of whom met, all functions being counted: the bytes of the one program, and the report.
 pub fn built_by<D, O, H: Naming>(
     alloc: Global,
     source: &Source,
     nodes: &[FarmNode<D, O, H>],
 ) -> Result<Built, BuildError>
     requires some { 0 < length nodes.now }
+    requires counted { EachTwo (λ n m. HaveCounted n.seats.items m.seats.items) nodes.now }
     requires translated { arc_value source.now.translated ≡ gen (low (program_tree source.now.program)) }
     requires names { HaveNames (program_tree source.now.program) }
     requires few { All HasFewNodes (low (program_tree source.now.program)).functions }

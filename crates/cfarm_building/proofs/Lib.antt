@@ -1,2 +1,3 @@
 mod Given
+mod Making
 mod Refusing

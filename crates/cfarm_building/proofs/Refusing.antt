@@ -12,6 +12,7 @@ use Rattle.cminor_program_ranges.specs.Names.{HaveNames}
 use Rattle.rtl_language.specs.Meaning as rtl
 use Rattle.rtlgen_definition.specs.Gen.{gen}
 use Rattle.durable_model.specs.declared.disk.Disk as disks
+use Rattle.durable_pair.specs.declared.pair.Pair as pairs
 use Rattle.rooms_hall.specs.declared.hall.Naming as naming
 use Rattle.farm_nodes_source.specs.Refused.{IsUnprepared}
 use Rattle.farm_nodes_source.specs.declared.source.Source.{Source}
@@ -21,13 +22,14 @@ use Rattle.cfarm_build.specs.Refused.{IsUnbuilt}
 use Rattle.cfarm_build.specs.Built.{Built}
 use Rattle.cfarm_build.specs.BuildError.{BuildError}
 use Rattle.cfarm_build.specs.BuildError.TheVariants.{NoMemory, NoThread, Source as TextFault, Disks, Failed, Undecided, Unlinked, Names}
-use Rattle.cfarm_files.specs.Placing.{Placed, Keeps, Places}
+use Rattle.cfarm_files.specs.Placing.{Placed, Keeps, Makes, Places}
 use Rattle.cfarm_files.specs.Locking.{lock_path}
 use Rattle.cfarm_options.specs.Sizes.{count_of}
 use Rattle.cfarm_options.specs.Paths.{linked_path}
 use Rattle.cfarm_options.specs.declared.options.BuildOptions.{BuildOptions}
 use Rattle.cfarm_building.specs.Compiled.{quorums_of, IsCompiled, IsUncompiled}
-use Rattle.cfarm_building.specs.Disks.{AreGiven, HasNoDisk, IsRefusedAt}
+use Rattle.cfarm_building.specs.Disks.{AreGiven, HasNoDisk, IsOwn, IsRefusedAt}
+use Rattle.cfarm_building.specs.Left.{Leaves}
 use Rattle.cfarm_building.specs.Done.{HasPut, IsNotBuilt}
 use Rattle.cfarm_building.specs.declared.error.BuildingError.{BuildingError}
 use Rattle.cfarm_building.specs.declared.error.BuildingError.TheVariants.{Build, File, Write}
@@ -53,11 +55,11 @@ pub keeps_same : (o : Option (List Placed)) → Keeps o o
 keeps_same None = tt
 keeps_same (Some placed) = refl
 
-module _ {D : Type 0} (disk : disks.Ghosts D) {H : Type 0} (h : naming.Ghosts H) (may_give : List ℕ → D → Type 0)
+module _ {D : Type 0} (disk : disks.Ghosts D) (pair : pairs.Ghosts D) {H : Type 0} (h : naming.Ghosts H) (may_give : List ℕ → List ℕ → D → Type 0)
     (options : BuildOptions) (text : List ℕ) where
   -- the folder's lock is refused
   pub no_lock : (source : Source) → IsSourceOf text source → (e : BuildingError)
-      → IsRefusedAt (lock_path options.folder.now) e → IsUncompiled disk h may_give options text e
+      → IsRefusedAt (lock_path options.folder.now) e → IsUncompiled disk pair h may_give options text e
   no_lock source is (Build NoMemory) none = tt
   no_lock source is (Build NoThread) none = tt
   no_lock source is (Build (TextFault f)) none = absurd none
@@ -71,7 +73,7 @@ module _ {D : Type 0} (disk : disks.Ghosts D) {H : Type 0} (h : naming.Ghosts H)
 
   -- the first journal that is refused
   pub no_disk : (source : Source) → IsSourceOf text source → (e : BuildingError)
-      → HasNoDisk may_give options.folder.now (count_of options.nodes) e → IsUncompiled disk h may_give options text e
+      → HasNoDisk may_give options.folder.now (count_of options.nodes) e → IsUncompiled disk pair h may_give options text e
   no_disk source is (Build NoMemory) none = tt
   no_disk source is (Build NoThread) none = tt
   no_disk source is (Build (TextFault f)) none = absurd none.refused
@@ -86,7 +88,7 @@ module _ {D : Type 0} (disk : disks.Ghosts D) {H : Type 0} (h : naming.Ghosts H)
   -- what the farm refuses
   pub not_built : (source : Source) → IsSourceOf text source → (given : List D)
       → AreGiven may_give options.folder.now (count_of options.nodes) given → (e : BuildError)
-      → IsUnbuilt disk h (quorums_of options) options.seed source given e → IsUncompiled disk h may_give options text (Build e)
+      → IsUnbuilt disk pair h (quorums_of options) options.seed source given e → IsUncompiled disk pair h may_give options text (Build e)
   not_built source is given are NoMemory un = tt
   not_built source is given are NoThread un = tt
   not_built source is given are (TextFault f) un = absurd un
@@ -97,31 +99,34 @@ module _ {D : Type 0} (disk : disks.Ghosts D) {H : Type 0} (h : naming.Ghosts H)
   not_built source is given are Names un = record { source = source; is = is; so = record { given = given; are = are; so = un } }
 
   -- the text is refused
-  pub unprepared : (e : SourceFault) → IsUnprepared text e → IsUncompiled disk h may_give options text (Build (TextFault e))
+  pub unprepared : (e : SourceFault) → IsUnprepared text e → IsUncompiled disk pair h may_give options text (Build (TextFault e))
   unprepared e un = un
 
   -- what was put is what was built
-  pub has_put : (placed now_placed : Option (List Placed)) (Is : Built → Type 0) (built : Built) → IsCompiled disk h may_give options text built
-      → (program : List ℕ) → program ≡ built.program.items → Places placed now_placed (linked_path options.folder.now) program
-      → Is built → HasPut disk h may_give options text placed now_placed Is
-  has_put placed now_placed Is built compiled program same put so = record {
+  pub has_put : (placed now_placed : Option (List Placed)) (Is : Built → Type 0) (built : Built) → IsCompiled disk pair h may_give options text built
+      → (so_far : Option (List Placed)) → Makes placed so_far (IsOwn options.folder.now)
+      → (program : List ℕ) → program ≡ built.program.items → Places so_far now_placed (linked_path options.folder.now) program
+      → Is built → HasPut disk pair h may_give options text placed now_placed Is
+  has_put placed now_placed Is built compiled so_far made program same put so = record {
     built = built;
     compiled = compiled;
-    put = subst (λ p. Places placed now_placed (linked_path options.folder.now) p) same put;
+    so_far = so_far;
+    made = made;
+    put = subst (λ p. Places so_far now_placed (linked_path options.folder.now) p) same put;
     so = so;
   }
 
   module _ (placed now_placed : Option (List Placed)) (before after : Option (List ℕ)) where
     -- nothing was put and nothing printed
-    pub not_compiled : (e : BuildingError) → IsUncompiled disk h may_give options text e → Keeps placed now_placed → after ≡ before
-        → IsNotBuilt disk h may_give options text placed now_placed e before after
-    not_compiled (Build f) un keeps same = record { why = inl un; put = keeps; printed = same }
-    not_compiled (File path) un keeps same = record { why = inl un; put = keeps; printed = same }
-    not_compiled Write un keeps same = absurd un
+    pub not_compiled : (e : BuildingError) → IsUncompiled disk pair h may_give options text e → Leaves options.folder.now placed now_placed e → after ≡ before
+        → IsNotBuilt disk pair h may_give options text placed now_placed e before after
+    not_compiled (Build f) un leaves same = record { why = inl un; files = leaves; printed = same }
+    not_compiled (File path) un leaves same = record { why = inl un; files = leaves; printed = same }
+    not_compiled Write un leaves same = absurd un
 
-    pub not_placed : (built : Built) → IsCompiled disk h may_give options text built → (e : BuildingError)
-        → IsRefusedAt (linked_path options.folder.now) e → Keeps placed now_placed → after ≡ before
-        → IsNotBuilt disk h may_give options text placed now_placed e before after
-    not_placed built compiled (Build f) un keeps same = record { why = inr (built, compiled, un); put = keeps; printed = same }
-    not_placed built compiled (File path) un keeps same = record { why = inr (built, compiled, un); put = keeps; printed = same }
-    not_placed built compiled Write un keeps same = absurd un
+    pub not_placed : (built : Built) → IsCompiled disk pair h may_give options text built → (e : BuildingError)
+        → IsRefusedAt (linked_path options.folder.now) e → Leaves options.folder.now placed now_placed e → after ≡ before
+        → IsNotBuilt disk pair h may_give options text placed now_placed e before after
+    not_placed built compiled (Build f) un leaves same = record { why = inr (built, compiled, un); files = leaves; printed = same }
+    not_placed built compiled (File path) un leaves same = record { why = inr (built, compiled, un); files = leaves; printed = same }
+    not_placed built compiled Write un leaves same = absurd un

@@ -1,6 +1,7 @@
 -- What is built of a text by a farm over the journals of a folder.
 use Rattle.std.specs.Prelude.{◌⊎◌, ℕ, List}
 use Rattle.durable_model.specs.declared.disk.Disk as disks
+use Rattle.durable_pair.specs.declared.pair.Pair as pairs
 use Rattle.rooms_hall.specs.declared.hall.Naming as naming
 use Rattle.farm_nodes_source.specs.Refused.{IsUnprepared}
 use Rattle.farm_nodes_source.specs.declared.source.Source.{Source}
@@ -22,7 +23,7 @@ use Rattle.cfarm_options.specs.declared.options.BuildOptions.{BuildOptions}
 abbrev pub quorums_of : BuildOptions → Sizes
 quorums_of options = sizes (sizes_of options).nodes (sizes_of options).promise (sizes_of options).accept
 
-module _ {D : Type 0} (disk : disks.Ghosts D) {H : Type 0} (h : naming.Ghosts H) (may_give : List ℕ → D → Type 0)
+module _ {D : Type 0} (disk : disks.Ghosts D) (pair : pairs.Ghosts D) {H : Type 0} (h : naming.Ghosts H) (may_give : List ℕ → List ℕ → D → Type 0)
     (options : BuildOptions) (text : List ℕ) where
   -- the text was made ready, and so it is of what it was made
   pub record OfSource (Is : Source → Type 0) : Type 0 where
@@ -38,11 +39,11 @@ module _ {D : Type 0} (disk : disks.Ghosts D) {H : Type 0} (h : naming.Ghosts H)
 
   -- a farm builds it of the text over the disks of the folder, with the quorums that are asked for and the generators of the seed
   abbrev pub IsCompiled : Built → Type 0
-  IsCompiled built = OfSource (λ source. OverDisks (λ given. IsBuilt disk h (quorums_of options) options.seed source given built))
+  IsCompiled built = OfSource (λ source. OverDisks (λ given. IsBuilt disk pair h (quorums_of options) options.seed source given built))
 
   -- it builds nothing over them
   abbrev pub HasNotBuilt : BuildError → Type 0
-  HasNotBuilt fault = OfSource (λ source. OverDisks (λ given. IsUnbuilt disk h (quorums_of options) options.seed source given fault))
+  HasNotBuilt fault = OfSource (λ source. OverDisks (λ given. IsUnbuilt disk pair h (quorums_of options) options.seed source given fault))
 
   -- somebody else has the folder, or a journal cannot be opened
   abbrev pub HasNoFile : BuildingError → Type 0

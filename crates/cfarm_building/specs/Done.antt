@@ -3,12 +3,14 @@ use Rattle.std.specs.Prelude.{◌≡◌, ◌⊎◌, ℕ, List, [], ◌∷◌, �
 use Rattle.std.specs.Io.KnownBytes.{Appends}
 use Rattle.std.specs.String.{string_bytes}
 use Rattle.durable_model.specs.declared.disk.Disk as disks
+use Rattle.durable_pair.specs.declared.pair.Pair as pairs
 use Rattle.rooms_hall.specs.declared.hall.Naming as naming
 use Rattle.cfarm_build.specs.Built.{Built}
-use Rattle.cfarm_files.specs.Placing.{Placed, Keeps, Places}
+use Rattle.cfarm_files.specs.Placing.{Placed, Makes, Places}
 use Rattle.cfarm_output.specs.Begun.{IsBegun}
 use Rattle.cfarm_building.specs.Compiled.{IsCompiled, IsUncompiled}
-use Rattle.cfarm_building.specs.Disks.{IsRefusedAt}
+use Rattle.cfarm_building.specs.Disks.{IsOwn, IsRefusedAt}
+use Rattle.cfarm_building.specs.Left.{Leaves}
 use Rattle.cfarm_options.specs.Paths.{linked_path}
 use Rattle.cfarm_building.specs.declared.error.BuildingError.{BuildingError}
 use Rattle.cfarm_building.specs.declared.error.BuildingError.TheVariants.{Build, File, Write}
@@ -18,13 +20,16 @@ use Rattle.cfarm_options.specs.declared.options.BuildOptions.{BuildOptions}
 abbrev pub report_line : Built → List ℕ
 report_line built = string_bytes built.report ++ 10 ∷ []
 
-module _ {D : Type 0} (disk : disks.Ghosts D) {H : Type 0} (h : naming.Ghosts H) (may_give : List ℕ → D → Type 0)
+module _ {D : Type 0} (disk : disks.Ghosts D) (pair : pairs.Ghosts D) {H : Type 0} (h : naming.Ghosts H) (may_give : List ℕ → List ℕ → D → Type 0)
     (options : BuildOptions) (text : List ℕ) (placed now_placed : Option (List Placed)) where
-  -- the program that a farm built of the text was put in its file, and so it is of what was built
+  -- The program that a farm built of the text was put in its file, and so it is of what was built. Before, the lock's file was made and
+  -- those of journals, where they were not there; nothing else was.
   pub record HasPut (Is : Built → Type 0) : Type 0 where
     pub built : Built
-    pub compiled : IsCompiled disk h may_give options text built
-    pub put : Places placed now_placed (linked_path options.folder.now) built.program.items
+    pub compiled : IsCompiled disk pair h may_give options text built
+    pub so_far : Option (List Placed)
+    pub made : Makes placed so_far (IsOwn options.folder.now)
+    pub put : Places so_far now_placed (linked_path options.folder.now) built.program.items
     pub so : Is built
 
   -- and its report was printed
@@ -33,12 +38,12 @@ module _ {D : Type 0} (disk : disks.Ghosts D) {H : Type 0} (h : naming.Ghosts H)
 
   -- what was built could not be put in its file
   abbrev pub IsUnplaced : BuildingError → Type 0
-  IsUnplaced fault = (built : Built) × IsCompiled disk h may_give options text built × IsRefusedAt (linked_path options.folder.now) fault
+  IsUnplaced fault = (built : Built) × IsCompiled disk pair h may_give options text built × IsRefusedAt (linked_path options.folder.now) fault
 
   -- nothing was put and nothing printed, for this
   pub record IsRefused (fault : BuildingError) (before after : Option (List ℕ)) : Type 0 where
-    pub why : IsUncompiled disk h may_give options text fault ⊎ IsUnplaced fault
-    pub put : Keeps placed now_placed
+    pub why : IsUncompiled disk pair h may_give options text fault ⊎ IsUnplaced fault
+    pub files : Leaves options.folder.now placed now_placed fault
     pub printed : after ≡ before
 
   -- In this order: what is not built, the file of the program, the output, of which a beginning may have been printed.

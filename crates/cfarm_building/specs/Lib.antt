@@ -2,6 +2,7 @@ pub mod Answers
 pub mod Compiled
 pub mod Disks
 pub mod Done
+pub mod Left
 pub use Rattle.cfarm_build.specs.BuildError
 pub use Rattle.cfarm_build.specs.Numbers
 pub use Rattle.cfarm_build.specs.Quorum

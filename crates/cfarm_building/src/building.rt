@@ -47,14 +47,14 @@ pub fn build_text<H: Naming + Send, R: Threads + Wait + Sync, F: Files, M: Meter
     requires { quorums ≡ quorums_of options }
 
     // Exactly one file is put, and its bytes are the text of a program that keeps the meaning of the C program. The report is printed.
-    ensures built { OnOk result (HasBuilt F.Disk.Disk H.Naming (F.may_give files.old) options.entry text.now
+    ensures built { OnOk result (HasBuilt F.Disk.Disk F.Disk.Pair.own H.Naming (F.may_give files.old) options.entry text.now
         (F.placed files.old) (F.placed files.new) (W.contents out.old) (W.contents out.new)) }
 
-    // What is refused puts nothing and prints nothing. The output is the last that can be refused.
-    ensures refused { IfErr result (λ fault. IsNotBuilt F.Disk.Disk H.Naming (F.may_give files.old) options.entry
+    // What is refused puts nothing and prints nothing, and a refused text makes no file. The output is the last that can be refused.
+    ensures refused { IfErr result (λ fault. IsNotBuilt F.Disk.Disk F.Disk.Pair.own H.Naming (F.may_give files.old) options.entry
         text.now (F.placed files.old) (F.placed files.new) fault (W.contents out.old) (W.contents out.new)) }
 {
-    let (built, lock) = match compiled(rt, alloc, hall, text, options, quorums, &*files, meter) {
+    let (built, lock) = match compiled(rt, alloc, hall, text, options, quorums, files, meter) {
         Ok(made) => made,
         Err(fault) => return Err(fault),
     };

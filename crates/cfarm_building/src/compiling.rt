@@ -1,21 +1,32 @@
 //! From a text and its journals to what is built.
 
-ghost use Rattle.std.specs.Prelude.{◌≡◌, IfOk, IfErr};
+ghost use Rattle.std.specs.Prelude.{◌≡◌, OnOk, IfOk, IfErr};
 ghost use Rattle.cfarm_files.specs.Locking.{CoversFolder};
+ghost use Rattle.cfarm_files.specs.Placing.{Makes};
 ghost use Rattle.cfarm_building.specs.Compiled.{quorums_of, IsCompiled, IsUncompiled};
+ghost use Rattle.cfarm_building.specs.Disks.{IsOwn};
+ghost use Rattle.cfarm_building.specs.Left.{Leaves};
 
 use crate::error::BuildingError;
 use crate::locking::locked;
-use crate::opening::open_disks;
-use cfarm_build::{BuildError, Built, Quorums, build, optimisers_of};
+use crate::opening::{old_among, open_disks};
+use cfarm_build::{BuildError, Built, Optimising, Quorums, build, optimisers_of};
 use cfarm_files::Files;
 use cfarm_meter::Meter;
-use cfarm_options::BuildOptions;
+use cfarm_options::{BuildOptions, Optimise};
 use farm_nodes_source::{Source, prepare};
 use rooms_hall::{Hall, Naming};
 use std::alloc::Global;
 use std::sync::Wait;
 use std::thread::Threads;
+
+/// What the farm's optimisers are after, as it is asked for.
+fn optimising_of(optimise: Optimise) -> Optimising {
+    match optimise {
+        Optimise::Drawn => Optimising::Drawn,
+        Optimise::Speed => Optimising::Speed,
+    }
+}
 
 /// What is built of a text by a farm with the quorums that are asked for over the journals of the folder, and the folder's lock. The text
 /// comes first, then the lock, then the journals, then the farm.
@@ -26,13 +37,15 @@ fn compiled_by<H: Naming + Send, R: Threads + Wait + Sync, F: Files, M: Meter>(
     text: &[u8],
     options: BuildOptions<'_>,
     quorums: Quorums,
-    files: &F,
+    files: &mut F,
     meter: &mut M,
 ) -> Result<(Built, F::Lock), BuildingError>
     requires { quorums ≡ quorums_of options }
-    ensures built { IfOk result (λ r. IsCompiled F.Disk.Disk H.Naming (F.may_give files.now) options.entry text.now r.0) }
+    ensures built { IfOk result (λ r. IsCompiled F.Disk.Disk F.Disk.Pair.own H.Naming (F.may_give files.old) options.entry text.now r.0) }
     ensures locked { IfOk result (λ r. CoversFolder (F.covers r.1) options.entry.folder.now) }
-    ensures refused { IfErr result (IsUncompiled F.Disk.Disk H.Naming (F.may_give files.now) options.entry text.now) }
+    ensures refused { IfErr result (IsUncompiled F.Disk.Disk F.Disk.Pair.own H.Naming (F.may_give files.old) options.entry text.now) }
+    ensures made { OnOk result (Makes (F.placed files.old) (F.placed files.new) (IsOwn options.entry.folder.now)) }
+    ensures left { IfErr result (Leaves options.entry.folder.now (F.placed files.old) (F.placed files.new)) }
 {
     let source = match prepare(alloc, text) {
         Ok(source) => source,
@@ -46,8 +59,10 @@ fn compiled_by<H: Naming + Send, R: Threads + Wait + Sync, F: Files, M: Meter>(
         Ok(disks) => disks,
         Err(fault) => return Err(fault),
     };
+    meter.found(old_among(&*files, &disks), disks.len());
     let nodes = quorums.nodes();
-    let Ok(oracles) = optimisers_of(alloc, usize::from(nodes)) else {
+    let kind = optimising_of(options.optimise);
+    let Ok(oracles) = optimisers_of(alloc, usize::from(nodes), kind) else {
         return Err(BuildingError::Build(BuildError::NoMemory));
     };
     let (turns, seed) = (u64::from(options.turns), options.seed);
@@ -67,13 +82,15 @@ pub(crate) fn compiled<H: Naming + Send, R: Threads + Wait + Sync, F: Files, M: 
     text: &[u8],
     options: BuildOptions<'_>,
     quorums: Quorums,
-    files: &F,
+    files: &mut F,
     meter: &mut M,
 ) -> Result<(Built, F::Lock), BuildingError>
     requires { quorums ≡ quorums_of options }
-    ensures built { IfOk result (λ r. IsCompiled F.Disk.Disk H.Naming (F.may_give files.now) options.entry text.now r.0) }
+    ensures built { IfOk result (λ r. IsCompiled F.Disk.Disk F.Disk.Pair.own H.Naming (F.may_give files.old) options.entry text.now r.0) }
     ensures locked { IfOk result (λ r. CoversFolder (F.covers r.1) options.entry.folder.now) }
-    ensures refused { IfErr result (IsUncompiled F.Disk.Disk H.Naming (F.may_give files.now) options.entry text.now) }
+    ensures refused { IfErr result (IsUncompiled F.Disk.Disk F.Disk.Pair.own H.Naming (F.may_give files.old) options.entry text.now) }
+    ensures made { OnOk result (Makes (F.placed files.old) (F.placed files.new) (IsOwn options.entry.folder.now)) }
+    ensures left { IfErr result (Leaves options.entry.folder.now (F.placed files.old) (F.placed files.new)) }
 {
     let made = compiled_by(rt, alloc, hall, text, options, quorums, files, meter);
     meter.clear();

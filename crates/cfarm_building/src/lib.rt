@@ -6,7 +6,9 @@
 mod asking;
 mod building;
 mod compiling;
+mod differing;
 mod error;
+mod hinting;
 mod locking;
 mod opening;
 mod placing;
@@ -15,3 +17,4 @@ pub use asking::quorums_of;
 pub use building::build_text;
 pub use cfarm_build::Quorums;
 pub use error::BuildingError;
+pub use hinting::of_build;

@@ -1,7 +1,8 @@
 //! The lock of the folder.
 
-ghost use Rattle.std.specs.Prelude.{IfOk, IfErr};
+ghost use Rattle.std.specs.Prelude.{◌≡◌, IfOk, IfErr};
 ghost use Rattle.cfarm_files.specs.Locking.{CoversFolder, lock_path};
+ghost use Rattle.cfarm_files.specs.Placing.{GivesNoMore, Makes};
 ghost use Rattle.cfarm_building.specs.Disks.{IsRefusedAt};
 
 use crate::error::BuildingError;
@@ -13,10 +14,12 @@ use std::alloc::Global;
 pub(crate) fn locked<F: Files>(
     alloc: Global,
     folder: &str,
-    files: &F,
+    files: &mut F,
 ) -> Result<F::Lock, BuildingError>
     ensures covers { IfOk result (λ lock. CoversFolder (F.covers lock) folder.now) }
     ensures refused { IfErr result (IsRefusedAt (lock_path folder.now)) }
+    ensures made { Makes (F.placed files.old) (F.placed files.new) (λ path. path ≡ lock_path folder.now) }
+    ensures others { GivesNoMore (F.may_give files.old) (F.may_give files.new) }
 {
     let Ok(path) = lock_path(alloc, folder) else {
         return Err(BuildingError::Build(BuildError::NoMemory));

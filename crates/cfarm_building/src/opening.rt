@@ -1,51 +1,73 @@
 //! The disks of the nodes.
 
-ghost use Rattle.std.specs.Prelude.{IfOk, IfErr};
+ghost use Rattle.std.specs.Prelude.{◌≡◌, IfOk, IfErr};
 ghost use Rattle.cfarm_options.specs.Sizes.{count_of};
 ghost use Rattle.cfarm_files.specs.Locking.{CoversFolder};
-ghost use Rattle.cfarm_building.specs.Disks.{AreGiven, HasNoDisk, IsRefusedAt};
-ghost use Rattle.cfarm_options.specs.Paths.{journal_path};
+ghost use Rattle.cfarm_files.specs.Placing.{GivesNoMore, Makes};
+ghost use Rattle.cfarm_building.specs.Disks.{AreGiven, HasNoDisk, IsJournal, IsRefusedAtEither};
+ghost use Rattle.cfarm_options.specs.Paths.{journal_path, old_journal_path};
 
 use crate::error::BuildingError;
 use cfarm_build::BuildError;
-use cfarm_files::{FileFault, Files};
-use cfarm_options::{BuildOptions, journal_path};
+use cfarm_files::{DiskFault, Files};
+use cfarm_options::{BuildOptions, journal_path, old_journal_path};
 use std::alloc::Global;
 
-/// The disk of the node of this number.
+/// The disks of the node of this number.
 fn disk_of<F: Files>(
     alloc: Global,
     folder: &str,
     node: usize,
-    files: &F,
+    files: &mut F,
     lock: &F::Lock,
 ) -> Result<F::Disk, BuildingError>
     requires locked { CoversFolder (F.covers lock.now) folder.now }
-    ensures given { IfOk result (F.may_give files.now (journal_path folder.now node)) }
-    ensures refused { IfErr result (IsRefusedAt (journal_path folder.now node)) }
+    ensures given { IfOk result
+        (F.may_give files.old (journal_path folder.now node) (old_journal_path folder.now node)) }
+    ensures refused { IfErr result
+        (IsRefusedAtEither (journal_path folder.now node) (old_journal_path folder.now node)) }
+    ensures made { Makes (F.placed files.old) (F.placed files.new) (λ path. path ≡ journal_path folder.now node) }
+    ensures others { GivesNoMore (F.may_give files.old) (F.may_give files.new) }
 {
-    let Ok(path) = journal_path(alloc, folder, node) else {
+    let (Ok(path), Ok(old_path)) = (
+        journal_path(alloc, folder, node),
+        old_journal_path(alloc, folder, node),
+    ) else {
         return Err(BuildingError::Build(BuildError::NoMemory));
     };
-    match files.disk(lock, &path) {
+    match files.disk(lock, &path, &old_path) {
         Ok(disk) => Ok(disk),
-        Err(FileFault::NoMemory) => Err(BuildingError::Build(BuildError::NoMemory)),
-        Err(FileFault::Refused) => Err(BuildingError::File(path)),
+        Err(DiskFault::NoMemory) => Err(BuildingError::Build(BuildError::NoMemory)),
+        Err(DiskFault::Old) => Err(BuildingError::File(old_path)),
+        Err(DiskFault::New) => Err(BuildingError::File(path)),
     }
+}
+
+/// How many of the nodes have a journal of the first version that counts.
+pub(crate) fn old_among<F: Files>(files: &F, disks: &[F::Disk]) -> usize {
+    let mut old = 0usize;
+    for disk in disks {
+        if files.counts_old(disk) {
+            old = old.saturating_add(1);
+        }
+    }
+    old
 }
 
 /// The disks of all nodes, in their order: the first that is refused is told.
 pub(crate) fn open_disks<F: Files>(
     alloc: Global,
     options: BuildOptions<'_>,
-    files: &F,
+    files: &mut F,
     lock: &F::Lock,
 ) -> Result<Vec<F::Disk>, BuildingError>
     requires locked { CoversFolder (F.covers lock.now) options.folder.now }
     ensures given { IfOk result (λ disks.
-        AreGiven (F.may_give files.now) options.entry.folder.now (count_of options.entry.nodes) disks.items) }
+        AreGiven (F.may_give files.old) options.entry.folder.now (count_of options.entry.nodes) disks.items) }
     ensures refused { IfErr result
-        (HasNoDisk (F.may_give files.now) options.entry.folder.now (count_of options.entry.nodes)) }
+        (HasNoDisk (F.may_give files.old) options.entry.folder.now (count_of options.entry.nodes)) }
+    ensures made { Makes (F.placed files.old) (F.placed files.new) (IsJournal options.entry.folder.now) }
+    ensures others { GivesNoMore (F.may_give files.old) (F.may_give files.new) }
 {
     let nodes = options.nodes.count();
     let count = usize::from(nodes);

@@ -6,3 +6,14 @@ pub enum FileFault {
     /// The system refuses it: there is no such file or folder, it may not be used so, or its device failed.
     Refused,
 }
+
+/// Why the disks of a node are not opened: which of its two files is refused.
+#[derive(Clone, Copy, Debug, PartialEq, Eq)]
+pub enum DiskFault {
+    /// There was no memory for the bytes of a file.
+    NoMemory,
+    /// The system refuses the old file, which is there. The new one was not touched.
+    Old,
+    /// The system refuses the new file.
+    New,
+}

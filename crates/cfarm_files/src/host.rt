@@ -1,10 +1,10 @@
 //! The files of the machine.
 
-use crate::fault::FileFault;
+use crate::fault::{DiskFault, FileFault};
 use crate::files::Files;
 use crate::locking::locked;
 use crate::placing::place;
-use durable_model::FileDisk;
+use durable_pair_files::{FilePair, Unopened};
 use std::fs::File;
 use std::io::ErrorKind;
 use std::{fs, io};
@@ -21,16 +21,20 @@ pub(crate) fn fault_of(fault: &io::Error) -> FileFault {
     }
 }
 
-/// A disk over a file that is there, or over a new one.
-fn disk_over(rt: &HostRuntime, path: &str) -> io::Result<FileDisk> {
-    match FileDisk::open(rt, path) {
-        Err(fault) if fault.kind() == ErrorKind::NotFound => FileDisk::create(rt, path),
-        opened => opened,
+/// The same, where that is of the old file of a node, or of the new one.
+fn disk_fault_of(fault: &Unopened) -> DiskFault {
+    let (told, which) = match fault {
+        Unopened::Old(told) => (fault_of(told), DiskFault::Old),
+        Unopened::New(told) => (fault_of(told), DiskFault::New),
+    };
+    match told {
+        FileFault::NoMemory => DiskFault::NoMemory,
+        FileFault::Refused => which,
     }
 }
 
 impl Files for HostFiles<'_> {
-    type Disk = FileDisk;
+    type Disk = FilePair;
 
     type Lock = File;
 
@@ -41,18 +45,22 @@ impl Files for HostFiles<'_> {
         }
     }
 
-    fn lock(&self, _folder: &str, path: &str) -> Result<File, FileFault> {
+    fn lock(&mut self, _folder: &str, path: &str) -> Result<File, FileFault> {
         match locked(self.0, path) {
             Ok(lock) => Ok(lock),
             Err(fault) => Err(fault_of(&fault)),
         }
     }
 
-    fn disk(&self, _lock: &File, path: &str) -> Result<FileDisk, FileFault> {
-        match disk_over(self.0, path) {
+    fn disk(&mut self, _lock: &File, path: &str, old_path: &str) -> Result<FilePair, DiskFault> {
+        match FilePair::open(self.0, path, old_path) {
             Ok(disk) => Ok(disk),
-            Err(fault) => Err(fault_of(&fault)),
+            Err(fault) => Err(disk_fault_of(&fault)),
         }
+    }
+
+    fn counts_old(&self, disk: &FilePair) -> bool {
+        disk.old_counts()
     }
 
     fn put(&mut self, _lock: &File, path: &str, bytes: &[u8]) -> Result<(), FileFault> {

@@ -1,5 +1,5 @@
-//! The files that the program reads and writes, as a trait: one file read whole, the lock of a folder, disks over files for journals, and a file put
-//! in the place of another. `HostFiles` are those of the machine; a test has its own.
+//! The files that the program reads and writes, as a trait: one file read whole, the lock of a folder, a pair of disks over the two files of a
+//! node's journals, and a file put in the place of another. `HostFiles` are those of the machine; a test has its own.
 #![tactic(auto)]
 
 mod fault;
@@ -8,7 +8,7 @@ mod host;
 mod locking;
 mod placing;
 
-pub use fault::FileFault;
+pub use fault::{DiskFault, FileFault};
 pub use files::Files;
 pub use host::HostFiles;
 pub use locking::lock_path;

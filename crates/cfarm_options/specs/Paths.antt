@@ -5,7 +5,11 @@ use Rattle.std.specs.Path.{path_join}
 
 -- the journal of a node
 abbrev pub journal_path : List ℕ → ℕ → List ℕ
-journal_path folder node = path_join folder (codes "node" ++ (decimal node ++ codes ".cfj"))
+journal_path folder node = path_join folder (codes "node" ++ (decimal node ++ codes ".cf2"))
+
+-- its journal of the first version, where it has one
+abbrev pub old_journal_path : List ℕ → ℕ → List ℕ
+old_journal_path folder node = path_join folder (codes "node" ++ (decimal node ++ codes ".cfj"))
 
 -- the linked program
 abbrev pub linked_path : List ℕ → List ℕ

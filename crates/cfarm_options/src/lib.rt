@@ -4,5 +4,5 @@
 mod options;
 mod paths;
 
-pub use options::{AskedSizes, BuildOptions, Nodes};
-pub use paths::{journal_path, linked_path};
+pub use options::{AskedSizes, BuildOptions, Nodes, Optimise};
+pub use paths::{journal_path, linked_path, old_journal_path};

@@ -54,6 +54,15 @@ impl fmt::Display for AskedSizes {
     }
 }
 
+/// How the optimisers of a build's nodes choose among what they may propose.
+#[derive(Clone, Copy, Debug, PartialEq, Eq)]
+pub enum Optimise {
+    /// Each choice is a draw of the node's generator.
+    Drawn,
+    /// Each node tries to make a program that runs fast, in a way of its own.
+    Speed,
+}
+
 /// What a build is asked for, beside its text.
 #[derive(Clone, Copy, Debug)]
 pub struct BuildOptions<'a> {
@@ -66,6 +75,8 @@ pub struct BuildOptions<'a> {
     pub turns: u32,
     /// Of the nodes' generators.
     pub seed: u64,
+    /// How the nodes' optimisers choose.
+    pub optimise: Optimise,
     /// The folder of the journals and of the linked program, which is not made.
     pub folder: &'a str,
 }

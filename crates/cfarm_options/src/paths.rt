@@ -2,7 +2,7 @@
 
 ghost use Rattle.std.specs.Prelude.{◌≡◌, IfOk};
 ghost use Rattle.std.specs.String.{string_bytes};
-ghost use Rattle.cfarm_options.specs.Paths.{journal_path, linked_path};
+ghost use Rattle.cfarm_options.specs.Paths.{journal_path, linked_path, old_journal_path};
 
 use std::alloc::{AllocError, Global};
 use std::path::Path;
@@ -10,6 +10,15 @@ use std::path::Path;
 /// The journal of the node of this number.
 pub fn journal_path(alloc: Global, folder: &str, node: usize) -> Result<String, AllocError>
     ensures { IfOk result (λ path. string_bytes path ≡ journal_path folder.now node) }
+{
+    let name = format!(in alloc; "node{node}.cf2")?;
+    let path = Path::new(folder).join(alloc, name.as_str())?;
+    Ok(path.into_string())
+}
+
+/// The journal of the first version of the node of this number.
+pub fn old_journal_path(alloc: Global, folder: &str, node: usize) -> Result<String, AllocError>
+    ensures { IfOk result (λ path. string_bytes path ≡ old_journal_path folder.now node) }
 {
     let name = format!(in alloc; "node{node}.cfj")?;
     let path = Path::new(folder).join(alloc, name.as_str())?;

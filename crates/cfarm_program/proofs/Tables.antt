@@ -1,17 +1,18 @@
 -- Each status of the commands is at most 7.
-use Rattle.std.specs.Prelude.{ℕ, zero, suc, ◌≤◌, ◌==◌, Bool, true, false, if◌then◌else◌}
+use Rattle.std.specs.Prelude.{ℕ, ℤ, Option, None, Some, zero, suc, ◌≤◌, ◌==◌, Bool, true, false, if◌then◌else◌}
+use Rattle.std.specs.Int.{cast_unsigned, w32}
 use Rattle.std.proofs.Common.{arith}
 use Rattle.lang_base.specs.declared.errors.FormError.TheVariants as F
 use Rattle.lang_base.specs.declared.shown.Shown.{Shown}
 use Rattle.lang_base.specs.declared.shown.Shown.TheVariants as S
 use Rattle.lang_parts.specs.declared.error.RunError.TheVariants as R
 use Rattle.c_texts.specs.Refusals.{number_of}
-use Rattle.cfarm_commands.specs.TextStatuses.{status_of_error, status_of_shown}
-use Rattle.cfarm_commands.specs.declared.command_error.CommandError.{CommandError}
-use Rattle.cfarm_commands.specs.declared.command_error.CommandError.TheVariants as C
-use Rattle.cfarm_commands.specs.ExecStatuses as exec
-use Rattle.cfarm_commands.specs.declared.exec_error.ExecError.{ExecError}
-use Rattle.cfarm_commands.specs.declared.exec_error.ExecError.TheVariants as X
+use Rattle.cfarm_runs.specs.TextStatuses.{status_of_end, status_of_error, status_of_shown, status_where}
+use Rattle.cfarm_runs.specs.declared.command_error.CommandError.{CommandError}
+use Rattle.cfarm_runs.specs.declared.command_error.CommandError.TheVariants as C
+use Rattle.cfarm_runs.specs.ExecStatuses as exec
+use Rattle.cfarm_runs.specs.declared.exec_error.ExecError.{ExecError}
+use Rattle.cfarm_runs.specs.declared.exec_error.ExecError.TheVariants as X
 use Rattle.cfarm_commands.specs.SettleStatuses as settle
 use Rattle.cfarm_schedules.specs.Lines as schedule
 use Rattle.cfarm_schedules.specs.declared.error.ScheduleError.{ScheduleError}
@@ -40,6 +41,19 @@ pub shown_in_table : (s : Shown) → status_of_shown s ≤ 7
 shown_in_table (S.Ended result) = omega arith
 shown_in_table S.Wrong = omega arith
 shown_in_table S.Running = omega arith
+
+five : (b : Bool) → (if b then 0 else 5) ≤ 7
+five true = omega arith
+five false = omega arith
+
+end_in_table : (s : Shown) (wanted : ℕ) → status_of_end s wanted ≤ 7
+end_in_table (S.Ended result) wanted = five (result == wanted)
+end_in_table S.Wrong wanted = omega arith
+end_in_table S.Running wanted = omega arith
+
+pub where_in_table : (s : Shown) (expected : Option ℤ) → status_where s expected ≤ 7
+where_in_table s None = shown_in_table s
+where_in_table s (Some wanted) = end_in_table s (cast_unsigned w32 wanted)
 
 pub exec_in_table : (e : ExecError) → exec.status_of e ≤ 7
 exec_in_table (X.Form F.NoMemory) = omega arith

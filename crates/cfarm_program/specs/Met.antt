@@ -8,18 +8,18 @@ use Rattle.cfarm_words.specs.declared.task.Task.{Task}
 use Rattle.cfarm_words.specs.declared.task.Task.TheVariants.{Check, Interpret, Build, Exec, Settle, Simulate}
 
 abbrev pub AreMet : Task → Type 0
-AreMet Check = Unit {0}
+AreMet (Check format) = Unit {0}
 AreMet (Interpret depth) = Unit {0}
 AreMet (Build options) = AreQuorums (quorums_of options)
-AreMet (Exec limit) = Unit {0}
+AreMet (Exec limit expected) = Unit {0}
 AreMet Settle = Unit {0}
 AreMet Simulate = Unit {0}
 
 -- it asks for these sizes, with which they need not
 abbrev pub IsUnmet : Task → AskedSizes → Type 0
-IsUnmet Check sizes = ⊥
+IsUnmet (Check format) sizes = ⊥
 IsUnmet (Interpret depth) sizes = ⊥
 IsUnmet (Build options) sizes = (¬ AreQuorums (quorums_of options)) × (sizes ≡ sizes_of options)
-IsUnmet (Exec limit) sizes = ⊥
+IsUnmet (Exec limit expected) sizes = ⊥
 IsUnmet Settle sizes = ⊥
 IsUnmet Simulate sizes = ⊥

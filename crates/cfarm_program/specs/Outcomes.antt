@@ -1,16 +1,16 @@
 -- What each command comes to, on the bytes of its file: what it wrote, and what it answers.
-use Rattle.std.specs.Prelude.{◌≡◌, ◌⊎◌, ℕ, List, Option}
+use Rattle.std.specs.Prelude.{◌≡◌, ◌⊎◌, ℕ, ℤ, List, Option}
 use Rattle.lang_base.specs.declared.shown.Shown.{Shown}
-use Rattle.cfarm_commands.specs.declared.command_error.CommandError.{CommandError}
-use Rattle.cfarm_commands.specs.Closings.{closing_line}
-use Rattle.cfarm_commands.specs.TextLines.{error_line}
-use Rattle.cfarm_commands.specs.TextStatuses.{status_of_error, status_of_shown}
-use Rattle.cfarm_commands.specs.TextTold as text
-use Rattle.cfarm_commands.specs.declared.exec_error.ExecError.{ExecError}
+use Rattle.cfarm_runs.specs.declared.command_error.CommandError.{CommandError}
+use Rattle.cfarm_runs.specs.Closings.{closing_line}
+use Rattle.cfarm_runs.specs.TextLines.{error_line, gcc_line}
+use Rattle.cfarm_runs.specs.TextStatuses.{status_of_error, status_of_shown, status_where}
+use Rattle.cfarm_runs.specs.TextTold as text
+use Rattle.cfarm_runs.specs.declared.exec_error.ExecError.{ExecError}
 use Rattle.cfarm_commands.specs.declared.settle_error.SettleError.{SettleError}
-use Rattle.cfarm_commands.specs.ExecStatuses as exec_status
-use Rattle.cfarm_commands.specs.ExecTold as exec
-use Rattle.cfarm_commands.specs.ExecLines.{exec_line}
+use Rattle.cfarm_runs.specs.ExecStatuses as exec_status
+use Rattle.cfarm_runs.specs.ExecTold as exec
+use Rattle.cfarm_runs.specs.ExecLines.{exec_line}
 use Rattle.cfarm_commands.specs.SettleLines.{settle_line}
 use Rattle.cfarm_commands.specs.LaidOut.{Seats}
 use Rattle.cfarm_commands.specs.Settled.{HaveSettled}
@@ -20,20 +20,32 @@ use Rattle.cfarm_schedules.specs.declared.error.ScheduleError.{ScheduleError}
 use Rattle.cfarm_schedules.specs.Lines as schedule
 use Rattle.cfarm_schedules.specs.Plays.{IsShown, IsStopped}
 use Rattle.durable_model.specs.declared.disk.Disk as disks
+use Rattle.durable_pair.specs.declared.pair.Pair as pairs
 use Rattle.rooms_hall.specs.declared.hall.Naming as naming
 use Rattle.cfarm_files.specs.Placing.{Placed}
 use Rattle.cfarm_building.specs.Answers as building
 use Rattle.cfarm_building.specs.Done.{HasBuilt, IsNotBuilt}
 use Rattle.cfarm_building.specs.declared.error.BuildingError.{BuildingError}
 use Rattle.cfarm_options.specs.declared.options.BuildOptions.{BuildOptions}
+use Rattle.cfarm_words.specs.declared.task.Format.{Format}
+use Rattle.cfarm_words.specs.declared.task.Format.TheVariants.{Plain, Gcc}
 use Rattle.cfarm_program.specs.Telling.{Answer, quiet, told}
 
 -- the answer after a run, and after each command that is not done
 abbrev pub closed : Shown → Answer
 closed shown = told (status_of_shown shown) (closing_line shown)
 
+-- after a run that is to end with a result, where one is given
+abbrev pub closed_where : Option ℤ → Shown → Answer
+closed_where expected shown = told (status_where shown expected) (closing_line shown)
+
 abbrev pub text_fault : CommandError → Answer
 text_fault fault = told (status_of_error fault) (error_line fault)
+
+-- of the text of the file of this path
+abbrev pub checked_fault : Format → List ℕ → List ℕ → CommandError → Answer
+checked_fault Plain path bytes fault = text_fault fault
+checked_fault Gcc path bytes fault = told (status_of_error fault) (gcc_line path bytes fault)
 
 abbrev pub exec_fault : ExecError → Answer
 exec_fault fault = told (exec_status.status_of fault) (exec_line fault)
@@ -47,11 +59,11 @@ schedule_fault fault = told (schedule.status_of fault) (schedule.schedule_line f
 abbrev pub building_fault : BuildingError → Answer
 building_fault fault = told (building.status_of fault) (building.building_line fault)
 
--- `check`: an accepted text's counts are printed, or its first fault is told
-abbrev pub Checked : List ℕ → Answer → Option (List ℕ) → Option (List ℕ) → Type 0
-Checked bytes answer before after =
+-- `check`: an accepted text's counts are printed, or its first fault is told in this form
+abbrev pub Checked : Format → (path bytes : List ℕ) → Answer → Option (List ℕ) → Option (List ℕ) → Type 0
+Checked format path bytes answer before after =
     (text.HasCounted bytes before after × (answer ≡ quiet))
-    ⊎ ((fault : CommandError) × text.IsTold bytes fault × text.Printed bytes fault before after × (answer ≡ text_fault fault))
+    ⊎ ((fault : CommandError) × text.IsTold bytes fault × text.Printed bytes fault before after × (answer ≡ checked_fault format path bytes fault))
 
 -- `interpret`: what an accepted text's program does at the bound is written and told, or its first fault is
 abbrev pub Interpreted : List ℕ → ℕ → Answer → Option (List ℕ) → Option (List ℕ) → Type 0
@@ -60,16 +72,16 @@ Interpreted bytes depth answer before after =
     ⊎ ((fault : CommandError) × text.IsTold bytes fault × text.Ran bytes depth fault before after × (answer ≡ text_fault fault))
 
 -- `build`: what a farm links of the text is put in its file and the report printed, or why not is told
-abbrev pub Builds : {D : Type 0} → disks.Ghosts D → {H : Type 0} → naming.Ghosts H → (List ℕ → D → Type 0) →
+abbrev pub Builds : {D : Type 0} → disks.Ghosts D → pairs.Ghosts D → {H : Type 0} → naming.Ghosts H → (List ℕ → List ℕ → D → Type 0) →
     (placed now_placed : Option (List Placed)) → BuildOptions → List ℕ → Answer → (before after : Option (List ℕ)) → Type 0
-Builds disk h may_give placed now_placed options bytes answer before after =
-    (HasBuilt disk h may_give options bytes placed now_placed before after × (answer ≡ quiet))
-    ⊎ ((fault : BuildingError) × IsNotBuilt disk h may_give options bytes placed now_placed fault before after × (answer ≡ building_fault fault))
+Builds disk pair h may_give placed now_placed options bytes answer before after =
+    (HasBuilt disk pair h may_give options bytes placed now_placed before after × (answer ≡ quiet))
+    ⊎ ((fault : BuildingError) × IsNotBuilt disk pair h may_give options bytes placed now_placed fault before after × (answer ≡ building_fault fault))
 
 -- `exec`: what the program of Linear that the bytes spell does within the bound is written and told, or why there is none
-abbrev pub Executed : List ℕ → ℕ → Answer → Option (List ℕ) → Option (List ℕ) → Type 0
-Executed bytes limit answer before after =
-    ((shown : Shown) × exec.HasRun bytes limit shown before after × (answer ≡ closed shown))
+abbrev pub Executed : List ℕ → ℕ → Option ℤ → Answer → Option (List ℕ) → Option (List ℕ) → Type 0
+Executed bytes limit expected answer before after =
+    ((shown : Shown) × exec.HasRun bytes limit shown before after × (answer ≡ closed_where expected shown))
     ⊎ ((fault : ExecError) × exec.IsTold bytes fault × exec.Ran bytes limit fault before after × (answer ≡ exec_fault fault))
 
 -- `settle`: what the nodes of three seats have agreed on is printed, or why the bytes are refused is told. The seats end with the

@@ -1,16 +1,19 @@
 -- What the program does that is asked for, with what its file is read as.
-use Rattle.std.specs.Prelude.{◌≡◌, ◌⊎◌, ℕ, List, ◌++◌, Option, Result, Ok, Err, codes}
+use Rattle.std.specs.Prelude.{◌≡◌, ◌⊎◌, ℕ, List, ◌++◌, Bool, false, Option, Result, Ok, Err, codes}
 use Rattle.durable_model.specs.declared.disk.Disk as disks
+use Rattle.durable_pair.specs.declared.pair.Pair as pairs
 use Rattle.rooms_hall.specs.declared.hall.Naming as naming
+use Rattle.cfarm_output.specs.Errors.{ErrorsHeld}
 use Rattle.cfarm_files.specs.Placing.{Placed, Keeps}
 use Rattle.cfarm_files.specs.Reading.{IsKnownAs}
 use Rattle.cfarm_files.specs.declared.fault.FileFault.{FileFault}
 use Rattle.cfarm_files.specs.declared.fault.FileFault.TheVariants.{NoMemory, Refused}
 use Rattle.cfarm_options.specs.Sizes.{sizes_line}
 use Rattle.cfarm_options.specs.declared.options.AskedSizes.{AskedSizes}
+use Rattle.cfarm_words.specs.declared.task.Format.TheVariants.{Plain, Gcc}
 use Rattle.cfarm_words.specs.declared.task.Task.{Task}
 use Rattle.cfarm_words.specs.declared.task.Task.TheVariants.{Check, Interpret, Build, Exec, Settle, Simulate}
-use Rattle.cfarm_program.specs.Telling.{Answer, IsTold, no_memory, told}
+use Rattle.cfarm_program.specs.Telling.{Answer, IsExplained, IsTold, no_memory, told}
 use Rattle.cfarm_program.specs.Met.{AreMet, IsUnmet}
 use Rattle.cfarm_program.specs.Outcomes.{Builds, Checked, Executed, Interpreted, Settled, Simulated}
 
@@ -23,41 +26,51 @@ unread path Refused = told 2 (codes "file " ++ path)
 abbrev pub unmet : AskedSizes → Answer
 unmet sizes = told 2 (sizes_line sizes)
 
+-- whether the answer of a task is explained to a user: not where a refusal is told as compilers tell editors
+abbrev pub is_explained : Bool → Task → Bool
+is_explained is_seen (Check Plain) = is_seen
+is_explained is_seen (Check Gcc) = false
+is_explained is_seen (Interpret depth) = is_seen
+is_explained is_seen (Build options) = is_seen
+is_explained is_seen (Exec limit expected) = is_seen
+is_explained is_seen Settle = is_seen
+is_explained is_seen Simulate = is_seen
+
 -- What is said of a run: over these disks and rooms, with the disks that may be given for each path, and what was put before and now.
-module _ {D : Type 0} (disk : disks.Ghosts D) {H : Type 0} (h : naming.Ghosts H) (may_give : List ℕ → D → Type 0)
-    (placed now_placed : Option (List Placed)) where
+module _ {D : Type 0} (disk : disks.Ghosts D) (pair : pairs.Ghosts D) {H : Type 0} (h : naming.Ghosts H) (may_give : List ℕ → List ℕ → D → Type 0)
+    (placed now_placed : Option (List Placed)) (is_seen : Bool) where
   -- a task on the bytes of its file, with what it wrote and answers; a build alone puts a file
-  abbrev pub Comes : Task → List ℕ → Answer → Option (List ℕ) → Option (List ℕ) → Type 0
-  Comes Check bytes answer before after = Keeps placed now_placed × Checked bytes answer before after
-  Comes (Interpret depth) bytes answer before after = Keeps placed now_placed × Interpreted bytes depth answer before after
-  Comes (Build options) bytes answer before after = Builds disk h may_give placed now_placed options bytes answer before after
-  Comes (Exec limit) bytes answer before after = Keeps placed now_placed × Executed bytes limit answer before after
-  Comes Settle bytes answer before after = Keeps placed now_placed × Settled bytes answer before after
-  Comes Simulate bytes answer before after = Keeps placed now_placed × Simulated bytes answer before after
+  abbrev pub Comes : Task → (path bytes : List ℕ) → Answer → Option (List ℕ) → Option (List ℕ) → Type 0
+  Comes (Check format) path bytes answer before after = Keeps placed now_placed × Checked format path bytes answer before after
+  Comes (Interpret depth) path bytes answer before after = Keeps placed now_placed × Interpreted bytes depth answer before after
+  Comes (Build options) path bytes answer before after = Builds disk pair h may_give placed now_placed options bytes answer before after
+  Comes (Exec limit expected) path bytes answer before after = Keeps placed now_placed × Executed bytes limit expected answer before after
+  Comes Settle path bytes answer before after = Keeps placed now_placed × Settled bytes answer before after
+  Comes Simulate path bytes answer before after = Keeps placed now_placed × Simulated bytes answer before after
 
   -- a task that was done: its status, and what both writers held and hold
-  abbrev pub Performs : Task → List ℕ → ℕ → (before after error_before error_after : Option (List ℕ)) → Type 0
-  Performs task bytes status before after error_before error_after =
-      (answer : Answer) × Comes task bytes answer before after × IsTold answer status error_before error_after
+  abbrev pub Performs : Task → (path bytes : List ℕ) → ℕ → (before after : Option (List ℕ)) (error_before error_after : ErrorsHeld) → Type 0
+  Performs task path bytes status before after error_before error_after =
+      (answer : Answer) × Comes task path bytes answer before after × IsExplained (is_explained is_seen task) answer status error_before error_after
 
   -- a file that was read, or was not, and then nothing is put and nothing printed
-  abbrev pub DoesRead : Task → List ℕ → Result (List ℕ) FileFault → ℕ → (before after error_before error_after : Option (List ℕ)) → Type 0
-  DoesRead task path (Ok bytes) status before after error_before error_after = Performs task bytes status before after error_before error_after
+  abbrev pub DoesRead : Task → List ℕ → Result (List ℕ) FileFault → ℕ → (before after : Option (List ℕ)) (error_before error_after : ErrorsHeld) → Type 0
+  DoesRead task path (Ok bytes) status before after error_before error_after = Performs task path bytes status before after error_before error_after
   DoesRead task path (Err fault) status before after error_before error_after =
       Keeps placed now_placed × (after ≡ before) × IsTold (unread path fault) status error_before error_after
 
   -- the file is read as it is known to be, and the task done
-  abbrev pub Reads : Option (Result (List ℕ) FileFault) → Task → List ℕ → ℕ → (before after error_before error_after : Option (List ℕ)) → Type 0
+  abbrev pub Reads : Option (Result (List ℕ) FileFault) → Task → List ℕ → ℕ → (before after : Option (List ℕ)) (error_before error_after : ErrorsHeld) → Type 0
   Reads known task path status before after error_before error_after =
       (read : Result (List ℕ) FileFault) × IsKnownAs known read × DoesRead task path read status before after error_before error_after
 
   -- a build whose quorums need not meet: their sizes are told, no file is read or put, and nothing printed
-  abbrev pub Declines : Task → ℕ → (before after error_before error_after : Option (List ℕ)) → Type 0
+  abbrev pub Declines : Task → ℕ → (before after : Option (List ℕ)) (error_before error_after : ErrorsHeld) → Type 0
   Declines task status before after error_before error_after =
       (sizes : AskedSizes) × IsUnmet task sizes × Keeps placed now_placed × (after ≡ before) × IsTold (unmet sizes) status error_before error_after
 
   -- that comes first, and then the file
-  abbrev pub Does : Option (Result (List ℕ) FileFault) → Task → List ℕ → ℕ → (before after error_before error_after : Option (List ℕ)) → Type 0
+  abbrev pub Does : Option (Result (List ℕ) FileFault) → Task → List ℕ → ℕ → (before after : Option (List ℕ)) (error_before error_after : ErrorsHeld) → Type 0
   Does known task path status before after error_before error_after =
       Declines task status before after error_before error_after
       ⊎ (AreMet task × Reads known task path status before after error_before error_after)

@@ -11,7 +11,7 @@
 //! | 4 | a journal is refused or fails | `journal NUMBER Name node I`, `journal NUMBER Name room R` |
 //! | 4 | what was learned does not link | `link NUMBER Name in FUNCTION` |
 //! | 4 | the output could not be written, or standard error | `write 701`, or nothing |
-//! | 5 | the program went wrong | `wrong` |
+//! | 5 | the program went wrong, or with `--expect R` did not end with R | `wrong`, `ended R`, `running` |
 //! | 6 | the bound was reached | `running` |
 //! | 7 | no memory, or a thread cannot be made | `memory` |
 #![tactic(auto)]

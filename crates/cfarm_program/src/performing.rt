@@ -4,81 +4,157 @@ ghost use Rattle.std.specs.Prelude.{◌≤◌};
 ghost use Rattle.cfarm_building.specs.Compiled.{quorums_of};
 ghost use Rattle.cfarm_building.specs.Quorum.{AreQuorums};
 ghost use Rattle.cfarm_program.specs.Met.{AreMet};
-ghost use Rattle.cfarm_program.specs.Telling.{Answer, IsTold};
-ghost use Rattle.cfarm_program.specs.Outcomes.{Builds, Checked, Executed, Interpreted, Settled, Simulated};
-ghost use Rattle.cfarm_program.specs.Performed.{Performs};
+ghost use Rattle.cfarm_program.specs.Telling.{Answer, IsExplained, IsTold};
+ghost use Rattle.cfarm_program.specs.Outcomes.{Builds, Checked, Executed, Interpreted, Settled, Simulated, checked_fault, text_fault};
+ghost use Rattle.cfarm_program.specs.Performed.{Performs, is_explained};
+ghost use Rattle.cfarm_words.specs.declared.task.Task.TheVariants.{Check};
 
-use crate::telling::tell;
-use cfarm_building::{build_text, quorums_of};
-use cfarm_commands::{Closing, check_text, exec, interpret, settle, status_of};
+use crate::telling::{tell, tell_among};
+use cfarm_building::{build_text, of_build, quorums_of};
+use cfarm_commands::settle;
 use cfarm_files::Files;
+use cfarm_hints::{is_amid, of_depth, of_limit, of_text};
 use cfarm_meter::Meter;
 use cfarm_options::BuildOptions;
+use cfarm_output::{ErrorLines, Paced};
+use cfarm_runs::{
+    Closing, CommandError, PlacedError, check_text, exec, interpret, status_of, status_where,
+};
 use cfarm_schedules::simulate;
-use cfarm_words::Task;
+use cfarm_words::{Format, Task};
 use rooms_hall::{Hall, Naming};
 use std::alloc::Global;
 use std::io::Write;
 use std::sync::Wait;
 use std::thread::Threads;
 
+/// Tells a fault of a command over the text of the file of this path.
 #[tactic(auto, using(crate::proofs::Tables::error_in_table))]
-fn check<W: Write, E: Write>(alloc: Global, text: &[u8], out: &mut W, err: &mut E) -> u8
-    ensures does { (answer : Answer) × Checked text.now answer (W.contents out.old) (W.contents out.new)
-        × IsTold answer result (E.contents err.old) (E.contents err.new) }
+fn tell_fault<E: ErrorLines>(
+    alloc: Global,
+    is_seen: bool,
+    path: &str,
+    text: &[u8],
+    fault: CommandError,
+    err: &mut E,
+) -> u8
+    ensures told { IsExplained is_seen (text_fault fault) result (E.contents err.old) (E.contents err.new) }
+    ensures table { result ≤ 7 }
+{
+    let behind = of_text(alloc, is_seen, path, text, fault);
+    tell_among(err, false, fault, fault.status(), behind.as_str())
+}
+
+/// Tells it in the form that is asked for.
+#[tactic(auto, using(crate::proofs::Tables::error_in_table))]
+fn tell_checked<E: ErrorLines>(
+    alloc: Global,
+    is_seen: bool,
+    format: Format,
+    path: &str,
+    text: &[u8],
+    fault: CommandError,
+    err: &mut E,
+) -> u8
+    ensures told { IsExplained (is_explained is_seen (Check format)) (checked_fault format path.now text.now fault) result
+        (E.contents err.old) (E.contents err.new) }
+    ensures table { result ≤ 7 }
+{
+    match format {
+        Format::Plain => tell_fault(alloc, is_seen, path, text, fault, err),
+        Format::Gcc => tell_among(
+            err,
+            false,
+            PlacedError { path, text, fault },
+            fault.status(),
+            "",
+        ),
+    }
+}
+
+#[tactic(auto, using(crate::proofs::Tables::error_in_table))]
+fn check<W: Write, E: ErrorLines>(
+    alloc: Global,
+    is_seen: bool,
+    format: Format,
+    path: &str,
+    text: &[u8],
+    out: &mut Paced<W>,
+    err: &mut E,
+) -> u8
+    ensures does { (answer : Answer) × Checked format path.now text.now answer (W.contents out.old.taker) (W.contents out.new.taker)
+        × IsExplained (is_explained is_seen (Check format)) answer result (E.contents err.old) (E.contents err.new) }
     ensures table { result ≤ 7 }
 {
     match check_text(alloc, text, out) {
         Ok(()) => 0,
-        Err(fault) => tell(err, fault, fault.status()),
+        Err(fault) => tell_checked(alloc, is_seen, format, path, text, fault, err),
     }
 }
 
 #[tactic(auto, using(crate::proofs::Tables::error_in_table, crate::proofs::Tables::shown_in_table))]
-fn run_text<W: Write, E: Write>(
+fn run_text<W: Write, E: ErrorLines>(
     alloc: Global,
+    is_seen: bool,
+    path: &str,
     text: &[u8],
     depth: u32,
-    out: &mut W,
+    out: &mut Paced<W>,
     err: &mut E,
 ) -> u8
-    ensures does { (answer : Answer) × Interpreted text.now depth answer (W.contents out.old) (W.contents out.new)
-        × IsTold answer result (E.contents err.old) (E.contents err.new) }
+    ensures does { (answer : Answer) × Interpreted text.now depth answer (W.contents out.old.taker) (W.contents out.new.taker)
+        × IsExplained is_seen answer result (E.contents err.old) (E.contents err.new) }
     ensures table { result ≤ 7 }
 {
     match interpret(alloc, text, depth, out) {
-        Ok(shown) => tell(err, Closing(shown), status_of(shown)),
-        Err(fault) => tell(err, fault, fault.status()),
+        Ok(shown) => {
+            let front = is_amid(is_seen, out);
+            let behind = of_depth(is_seen, shown);
+            tell_among(err, front, Closing(shown), status_of(shown), behind)
+        }
+        Err(fault) => tell_fault(alloc, is_seen, path, text, fault, err),
     }
 }
 
-#[tactic(auto, using(crate::proofs::Tables::exec_in_table, crate::proofs::Tables::shown_in_table))]
-fn run_bytes<W: Write, E: Write>(
+#[tactic(auto, using(crate::proofs::Tables::exec_in_table, crate::proofs::Tables::where_in_table))]
+fn run_bytes<W: Write, E: ErrorLines>(
     alloc: Global,
+    is_seen: bool,
     bytes: &[u8],
     limit: u64,
-    out: &mut W,
+    expected: Option<i32>,
+    out: &mut Paced<W>,
     err: &mut E,
 ) -> u8
-    ensures does { (answer : Answer) × Executed bytes.now limit answer (W.contents out.old) (W.contents out.new)
-        × IsTold answer result (E.contents err.old) (E.contents err.new) }
+    ensures does { (answer : Answer) × Executed bytes.now limit expected answer (W.contents out.old.taker) (W.contents out.new.taker)
+        × IsExplained is_seen answer result (E.contents err.old) (E.contents err.new) }
     ensures table { result ≤ 7 }
 {
     match exec(alloc, bytes, limit, out) {
-        Ok(shown) => tell(err, Closing(shown), status_of(shown)),
-        Err(fault) => tell(err, fault, fault.status()),
+        Ok(shown) => {
+            let front = is_amid(is_seen, out);
+            let behind = of_limit(is_seen, shown);
+            tell_among(
+                err,
+                front,
+                Closing(shown),
+                status_where(shown, expected),
+                behind,
+            )
+        }
+        Err(fault) => tell_among(err, false, fault, fault.status(), ""),
     }
 }
 
 #[tactic(auto, using(crate::proofs::Tables::settle_in_table))]
-fn lay_out<R: Threads + Wait, W: Write, E: Write>(
+fn lay_out<R: Threads + Wait, W: Write, E: ErrorLines>(
     rt: &R,
     alloc: Global,
     bytes: &[u8],
-    out: &mut W,
+    out: &mut Paced<W>,
     err: &mut E,
 ) -> u8
-    ensures does { (answer : Answer) × Settled bytes.now answer (W.contents out.old) (W.contents out.new)
+    ensures does { (answer : Answer) × Settled bytes.now answer (W.contents out.old.taker) (W.contents out.new.taker)
         × IsTold answer result (E.contents err.old) (E.contents err.new) }
     ensures table { result ≤ 7 }
 {
@@ -89,8 +165,13 @@ fn lay_out<R: Threads + Wait, W: Write, E: Write>(
 }
 
 #[tactic(auto, using(crate::proofs::Tables::schedule_in_table))]
-fn play<W: Write, E: Write>(alloc: Global, schedule: &[u8], out: &mut W, err: &mut E) -> u8
-    ensures does { (answer : Answer) × Simulated schedule.now answer (W.contents out.old) (W.contents out.new)
+fn play<W: Write, E: ErrorLines>(
+    alloc: Global,
+    schedule: &[u8],
+    out: &mut Paced<W>,
+    err: &mut E,
+) -> u8
+    ensures does { (answer : Answer) × Simulated schedule.now answer (W.contents out.old.taker) (W.contents out.new.taker)
         × IsTold answer result (E.contents err.old) (E.contents err.new) }
     ensures table { result ≤ 7 }
 {
@@ -101,21 +182,23 @@ fn play<W: Write, E: Write>(alloc: Global, schedule: &[u8], out: &mut W, err: &m
 }
 
 #[tactic(auto, using(crate::proofs::Tables::building_in_table))]
-fn build<H: Naming + Send, R: Threads + Wait + Sync, F: Files, M: Meter, W: Write, E: Write>(
+fn build<H: Naming + Send, R: Threads + Wait + Sync, F: Files, M: Meter, W: Write, E: ErrorLines>(
     rt: &R,
     alloc: Global,
     hall: &Hall<H>,
+    is_seen: bool,
     options: BuildOptions<'_>,
+    path: &str,
     text: &[u8],
     files: &mut F,
     meter: &mut M,
-    out: &mut W,
+    out: &mut Paced<W>,
     err: &mut E,
 ) -> u8
     requires met { AreQuorums (quorums_of options) }
-    ensures does { (answer : Answer) × Builds F.Disk.Disk H.Naming (F.may_give files.old) (F.placed files.old)
-        (F.placed files.new) options.entry text.now answer (W.contents out.old) (W.contents out.new)
-        × IsTold answer result (E.contents err.old) (E.contents err.new) }
+    ensures does { (answer : Answer) × Builds F.Disk.Disk F.Disk.Pair.own H.Naming (F.may_give files.old) (F.placed files.old)
+        (F.placed files.new) options.entry text.now answer (W.contents out.old.taker) (W.contents out.new.taker)
+        × IsExplained is_seen answer result (E.contents err.old) (E.contents err.new) }
     ensures table { result ≤ 7 }
 {
     let Some(quorums) = quorums_of(options) else {
@@ -125,41 +208,46 @@ fn build<H: Naming + Send, R: Threads + Wait + Sync, F: Files, M: Meter, W: Writ
         Ok(()) => 0,
         Err(fault) => {
             let status = fault.status();
-            tell(err, fault, status)
+            let behind = of_build(alloc, is_seen, options, path, text, &*files, &fault);
+            tell_among(err, false, fault, status, behind.as_str())
         }
     }
 }
 
 /// Does the task on the bytes of its file: writes the output, tells a line on standard error where there is one, and
-/// gives the exit status. `rt` starts the threads of the nodes that settle or build, and `hall` gives the rooms of a build their numbers.
+/// gives the exit status. Where a user sees standard error the line is explained. `rt` starts the threads of the nodes that settle or build, and `hall` gives the rooms of a build their numbers.
 pub(crate) fn perform<
     H: Naming + Send,
     R: Threads + Wait + Sync,
     F: Files,
     M: Meter,
     W: Write,
-    E: Write,
+    E: ErrorLines,
 >(
     rt: &R,
     alloc: Global,
     hall: &Hall<H>,
+    is_seen: bool,
     task: Task<'_>,
+    path: &str,
     bytes: &[u8],
     files: &mut F,
     meter: &mut M,
-    out: &mut W,
+    out: &mut Paced<W>,
     err: &mut E,
 ) -> u8
     requires met { AreMet task }
-    ensures does { Performs F.Disk.Disk H.Naming (F.may_give files.old) (F.placed files.old) (F.placed files.new)
-        task.entry bytes.now result (W.contents out.old) (W.contents out.new) (E.contents err.old) (E.contents err.new) }
+    ensures does { Performs F.Disk.Disk F.Disk.Pair.own H.Naming (F.may_give files.old) (F.placed files.old) (F.placed files.new) is_seen
+        task.entry path.now bytes.now result (W.contents out.old.taker) (W.contents out.new.taker) (E.contents err.old) (E.contents err.new) }
     ensures table { result ≤ 7 }
 {
     match task {
-        Task::Check => check(alloc, bytes, out, err),
-        Task::Interpret(depth) => run_text(alloc, bytes, depth, out, err),
-        Task::Build(options) => build(rt, alloc, hall, options, bytes, files, meter, out, err),
-        Task::Exec(limit) => run_bytes(alloc, bytes, limit, out, err),
+        Task::Check(format) => check(alloc, is_seen, format, path, bytes, out, err),
+        Task::Interpret(depth) => run_text(alloc, is_seen, path, bytes, depth, out, err),
+        Task::Build(options) => build(
+            rt, alloc, hall, is_seen, options, path, bytes, files, meter, out, err,
+        ),
+        Task::Exec(limit, expected) => run_bytes(alloc, is_seen, bytes, limit, expected, out, err),
         Task::Settle => lay_out(rt, alloc, bytes, out, err),
         Task::Simulate => play(alloc, bytes, out, err),
     }

@@ -3,14 +3,16 @@
 ghost use Rattle.std.specs.Prelude.{◌≡◌, ◌≢◌, ◌≤◌, ◌⊎◌, map, string_bytes};
 ghost use Rattle.clap.specs.Words.{kind_of};
 ghost use Rattle.cfarm_program.specs.Telling.{IsTold, no_memory};
-ghost use Rattle.cfarm_program.specs.Runs.{IsHelped, Runs, no_text};
-ghost use Rattle.cfarm_words.specs.Words.{AreCounts, Counts};
+ghost use Rattle.cfarm_program.specs.Runs.{IsHelped, IsMistake, Runs, no_text};
+ghost use Rattle.cfarm_words.specs.Words.{AreChoices};
+ghost use Rattle.cfarm_words.specs.declared.choices.Choices.{Choices};
 
 use crate::running::run_task;
 use crate::telling::{UNWRITTEN, tell, tell_no_memory};
 use cfarm_files::Files;
 use cfarm_meter::Meter;
-use cfarm_words::asked_for;
+use cfarm_output::{ErrorLines, Paced, Unwritten};
+use cfarm_words::{asked_for, offered};
 use clap::error::ErrorKind;
 use rooms_hall::{Hall, Naming};
 use std::alloc::Global;
@@ -22,18 +24,18 @@ use std::thread::Threads;
 const MISTAKEN: u8 = 2;
 
 /// Tells what is wrong with the words.
-fn tell_mistake<E: Write>(fault: &clap::Error, err: &mut E) -> u8
-    ensures mistake { (result ≡ 2) ⊎ (result ≡ 4) }
+fn tell_mistake<E: ErrorLines>(fault: &clap::Error, err: &mut E) -> u8
+    ensures mistake { IsMistake result (E.contents err.new) }
     ensures table { result ≤ 7 }
 {
-    if write!(err, "{fault}").is_err() || err.flush().is_err() {
-        return UNWRITTEN;
+    match err.text(fault) {
+        Ok(()) => MISTAKEN,
+        Err(Unwritten) => UNWRITTEN,
     }
-    MISTAKEN
 }
 
 /// Prints the help that the words ask for.
-fn print_help<W: Write, E: Write>(fault: &clap::Error, out: &mut W, err: &mut E) -> u8
+fn print_help<W: Write, E: ErrorLines>(fault: &clap::Error, out: &mut Paced<W>, err: &mut E) -> u8
     ensures help { IsHelped result (E.contents err.old) (E.contents err.new) }
     ensures table { result ≤ 7 }
 {
@@ -44,11 +46,12 @@ fn print_help<W: Write, E: Write>(fault: &clap::Error, out: &mut W, err: &mut E)
 }
 
 /// Tells why the words ask for nothing that can be done, or prints the help that they ask for.
-fn tell_refused<W: Write, E: Write>(fault: &clap::Error, out: &mut W, err: &mut E) -> u8
-    ensures memory { kind_of fault.now ≡ ErrorKind.OutOfMemory → (W.contents out.new ≡ W.contents out.old)
+fn tell_refused<W: Write, E: ErrorLines>(fault: &clap::Error, out: &mut Paced<W>, err: &mut E) -> u8
+    ensures memory { kind_of fault.now ≡ ErrorKind.OutOfMemory → (W.contents out.new.taker ≡ W.contents out.old.taker)
         × IsTold no_memory result (E.contents err.old) (E.contents err.new) }
     ensures mistake { kind_of fault.now ≢ ErrorKind.OutOfMemory → kind_of fault.now ≢ ErrorKind.DisplayHelp →
-        kind_of fault.now ≢ ErrorKind.DisplayVersion → (W.contents out.new ≡ W.contents out.old) × ((result ≡ 2) ⊎ (result ≡ 4)) }
+        kind_of fault.now ≢ ErrorKind.DisplayVersion → (W.contents out.new.taker ≡ W.contents out.old.taker)
+        × IsMistake result (E.contents err.new) }
     ensures help { (kind_of fault.now ≡ ErrorKind.DisplayHelp) ⊎ (kind_of fault.now ≡ ErrorKind.DisplayVersion) →
         IsHelped result (E.contents err.old) (E.contents err.new) }
     ensures table { result ≤ 7 }
@@ -60,35 +63,30 @@ fn tell_refused<W: Write, E: Write>(fault: &clap::Error, out: &mut W, err: &mut 
     }
 }
 
-/// The numbers of nodes that a farm can have.
-fn node_counts<'a>() -> &'a [&'a str]
-    ensures { AreCounts result }
-{
-    &["2", "3", "4", "5", "6", "7"]
-}
-
 /// Does what the words of a command line ask for, the first of which is the program's name: says where the quorums of a build need not
 /// meet, and else reads the file, writes the output, tells a line on standard error where there is one, and gives the exit status. `rt` starts threads for `settle` and `build`,
-/// `hall` gives the rooms of a build their numbers, and `meter` shows how far it is.
-pub fn run<H: Naming + Send, R: Threads + Wait + Sync, F: Files, M: Meter, W: Write, E: Write>(
+/// `hall` gives the rooms of a build their numbers, and `meter` shows how far it is. `is_seen` says that a user sees standard error, where a line is then
+/// explained; whether one sees the output, the output knows.
+pub fn run<H: Naming + Send, R: Threads + Wait + Sync, F: Files, M: Meter, W: Write, E: ErrorLines>(
     rt: &R,
     alloc: Global,
     hall: &Hall<H>,
+    is_seen: bool,
     words: &[String],
     files: &mut F,
     meter: &mut M,
-    out: &mut W,
+    out: &mut Paced<W>,
     err: &mut E,
 ) -> u8
-    ensures does { (counts : Counts) × AreCounts counts × Runs F.Disk.Disk H.Naming (F.may_give files.old)
-        (F.placed files.old) (F.placed files.new) counts (map string_bytes words.now) (F.known files.old) result
-        (W.contents out.old) (W.contents out.new) (E.contents err.old) (E.contents err.new) }
+    ensures does { (choices : Choices) × AreChoices choices × Runs F.Disk.Disk F.Disk.Pair.own H.Naming (F.may_give files.old)
+        (F.placed files.old) (F.placed files.new) is_seen choices (map string_bytes words.now) (F.known files.old) result
+        (W.contents out.old.taker) (W.contents out.new.taker) (E.contents err.old) (E.contents err.new) }
     ensures table { result ≤ 7 }
 {
-    let counts = node_counts();
-    match asked_for(alloc, words, counts) {
+    let choices = offered();
+    match asked_for(alloc, words, choices) {
         Ok(Some(asked)) => run_task(
-            rt, alloc, hall, asked.task, asked.path, files, meter, out, err,
+            rt, alloc, hall, is_seen, asked.task, asked.path, files, meter, out, err,
         ),
         Ok(None) => MISTAKEN,
         Err(fault) => tell_refused(&fault, out, err),
@@ -96,7 +94,7 @@ pub fn run<H: Naming + Send, R: Threads + Wait + Sync, F: Files, M: Meter, W: Wr
 }
 
 /// Tells that the words of the command line are not text, and gives the status.
-pub fn tell_no_text<E: Write>(err: &mut E) -> u8
+pub fn tell_no_text<E: ErrorLines>(err: &mut E) -> u8
     ensures told { IsTold no_text result (E.contents err.old) (E.contents err.new) }
     ensures table { result ≤ 7 }
 {

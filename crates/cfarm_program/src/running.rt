@@ -10,6 +10,7 @@ use cfarm_building::quorums_of;
 use cfarm_files::{FileFault, Files};
 use cfarm_meter::Meter;
 use cfarm_options::AskedSizes;
+use cfarm_output::{ErrorLines, Paced};
 use cfarm_words::Task;
 use rooms_hall::{Hall, Naming};
 use std::alloc::Global;
@@ -61,26 +62,29 @@ fn read_and_perform<
     F: Files,
     M: Meter,
     W: Write,
-    E: Write,
+    E: ErrorLines,
 >(
     rt: &R,
     alloc: Global,
     hall: &Hall<H>,
+    is_seen: bool,
     task: Task<'_>,
     path: &str,
     files: &mut F,
     meter: &mut M,
-    out: &mut W,
+    out: &mut Paced<W>,
     err: &mut E,
 ) -> u8
     requires met { AreMet task }
-    ensures does { Reads F.Disk.Disk H.Naming (F.may_give files.old) (F.placed files.old) (F.placed files.new)
-        (F.known files.old path.now) task.entry path.now result (W.contents out.old) (W.contents out.new)
+    ensures does { Reads F.Disk.Disk F.Disk.Pair.own H.Naming (F.may_give files.old) (F.placed files.old) (F.placed files.new) is_seen
+        (F.known files.old path.now) task.entry path.now result (W.contents out.old.taker) (W.contents out.new.taker)
         (E.contents err.old) (E.contents err.new) }
     ensures table { result ≤ 7 }
 {
     match files.read(path) {
-        Ok(bytes) => perform(rt, alloc, hall, task, &bytes, files, meter, out, err),
+        Ok(bytes) => perform(
+            rt, alloc, hall, is_seen, task, path, &bytes, files, meter, out, err,
+        ),
         Err(FileFault::NoMemory) => tell_no_memory(err),
         Err(FileFault::Refused) => tell(err, Unread(path), UNREADABLE),
     }
@@ -94,25 +98,26 @@ pub(crate) fn run_task<
     F: Files,
     M: Meter,
     W: Write,
-    E: Write,
+    E: ErrorLines,
 >(
     rt: &R,
     alloc: Global,
     hall: &Hall<H>,
+    is_seen: bool,
     task: Task<'_>,
     path: &str,
     files: &mut F,
     meter: &mut M,
-    out: &mut W,
+    out: &mut Paced<W>,
     err: &mut E,
 ) -> u8
-    ensures does { Does F.Disk.Disk H.Naming (F.may_give files.old) (F.placed files.old) (F.placed files.new)
-        (F.known files.old path.now) task.entry path.now result (W.contents out.old) (W.contents out.new)
+    ensures does { Does F.Disk.Disk F.Disk.Pair.own H.Naming (F.may_give files.old) (F.placed files.old) (F.placed files.new) is_seen
+        (F.known files.old path.now) task.entry path.now result (W.contents out.old.taker) (W.contents out.new.taker)
         (E.contents err.old) (E.contents err.new) }
     ensures table { result ≤ 7 }
 {
     match unmet(task) {
         Some(sizes) => tell(err, sizes, UNMET),
-        None => read_and_perform(rt, alloc, hall, task, path, files, meter, out, err),
+        None => read_and_perform(rt, alloc, hall, is_seen, task, path, files, meter, out, err),
     }
 }

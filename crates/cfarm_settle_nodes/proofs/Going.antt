@@ -12,14 +12,14 @@ use Rattle.rooms_state.specs.SeatState.{SeatState}
 use Rattle.rooms_state.specs.Would.{would, act_of, proposed_by_step, Acted}
 use Rattle.rooms_seat.specs.Meeting.{Remains}
 use Rattle.rooms.specs.SeatValue.{SeatValue, offer_of}
-use Rattle.cfarm_settle_nodes.specs.Goes.{IsSameRoom, OffersFor, GoesOn, Stays}
+use Rattle.cfarm_settle_nodes.specs.Goes.{IsSameSeat, OffersFor, GoesOn, SeesNoMore}
 
 -- ---- words
 
-pub same_room : (s : SeatState) → IsSameRoom s s
+pub same_room : (s : SeatState) → IsSameSeat s s
 same_room s = record { table = refl; opening = refl; me = refl; quorums = refl }
 
-pub through_room : (a b c : SeatState) → IsSameRoom a b → IsSameRoom b c → IsSameRoom a c
+pub through_room : (a b c : SeatState) → IsSameSeat a b → IsSameSeat b c → IsSameSeat a c
 through_room a b c h k =
     record {
       table = k.table ∙ h.table;
@@ -28,10 +28,10 @@ through_room a b c h k =
       quorums = k.quorums ∙ h.quorums;
     }
 
-same_if : (a b : SeatState) → b ≡ a → IsSameRoom a b
-same_if a b e = subst (λ (s : SeatState). IsSameRoom a s) (sym e) (same_room a)
+same_if : (a b : SeatState) → b ≡ a → IsSameSeat a b
+same_if a b e = subst (λ (s : SeatState). IsSameSeat a s) (sym e) (same_room a)
 
-pub looked_at_proposer : (j : ℕ) (x : ProposerWord) (old new : SeatState) → LookedAtProposer j x old new → IsSameRoom old new
+pub looked_at_proposer : (j : ℕ) (x : ProposerWord) (old new : SeatState) → LookedAtProposer j x old new → IsSameSeat old new
 looked_at_proposer j x old new h =
     record {
       table = ap (λ (s : SeatState). s.table) h.after;
@@ -40,7 +40,7 @@ looked_at_proposer j x old new h =
       quorums = ap (λ (s : SeatState). s.node.quorums) h.after;
     }
 
-pub looked_at_acceptor : (j : ℕ) (x : AcceptorWord) (old new : SeatState) → LookedAtAcceptor j x old new → NotesOf j old new → IsSameRoom old new
+pub looked_at_acceptor : (j : ℕ) (x : AcceptorWord) (old new : SeatState) → LookedAtAcceptor j x old new → NotesOf j old new → IsSameSeat old new
 looked_at_acceptor j x old new h n =
     record { table = n.table; opening = ap (λ (v : View). v.opening) h.advances.stays; me = n.me; quorums = n.quorums }
 
@@ -48,32 +48,32 @@ opening_after : (a : Act) (old new : SeatState) (o : Option Step) → IfSome o (
 opening_after a old new (Some s) did idle = ap (λ (v : View). v.opening) did.took.advances.stays
 opening_after a old new None did idle = ap (λ (s : SeatState). s.view.opening) (idle refl)
 
-pub acted : (a : Act) (old new : SeatState) → Acted a old new → IsSameRoom old new
+pub acted : (a : Act) (old new : SeatState) → Acted a old new → IsSameSeat old new
 acted a old new h =
     record { table = h.table; opening = opening_after a old new (would old a) h.stepped h.idle; me = h.me; quorums = h.quorums }
 
-pub remained : (old new : SeatState) → Remains old new → IsSameRoom old new
+pub remained : (old new : SeatState) → Remains old new → IsSameSeat old new
 remained old new h = record { table = h.table; opening = h.opening; me = h.me; quorums = h.quorums }
 
 -- ---- seats
 
 module _ {T : Type 0} where
-  pub stays_still : (s : SeatValue T) → Stays s s
+  pub stays_still : (s : SeatValue T) → SeesNoMore s s
   stays_still s = record { room = same_room s.words; sights = refl }
 
-  pub stays_if : (a b : SeatValue T) → IsSameRoom a.words b.words → b.sights ≡ a.sights → Stays a b
+  pub stays_if : (a b : SeatValue T) → IsSameSeat a.words b.words → b.sights ≡ a.sights → SeesNoMore a b
   stays_if a b h k = record { room = h; sights = k }
 
-  pub stays_through : (a b c : SeatValue T) → Stays a b → Stays b c → Stays a c
+  pub stays_through : (a b c : SeatValue T) → SeesNoMore a b → SeesNoMore b c → SeesNoMore a c
   stays_through a b c h k = record { room = through_room a.words b.words c.words h.room k.room; sights = k.sights ∙ h.sights }
 
-  pub stays_acted : (act : Act) (a b : SeatValue T) → Acted act a.words b.words → b.sights ≡ a.sights → Stays a b
+  pub stays_acted : (act : Act) (a b : SeatValue T) → Acted act a.words b.words → b.sights ≡ a.sights → SeesNoMore a b
   stays_acted act a b h k = record { room = acted act a.words b.words h; sights = k }
 
-  pub stays_looked_at_proposer : (j : ℕ) (x : ProposerWord) (a b : SeatValue T) → LookedAtProposer j x a.words b.words → b.sights ≡ a.sights → Stays a b
+  pub stays_looked_at_proposer : (j : ℕ) (x : ProposerWord) (a b : SeatValue T) → LookedAtProposer j x a.words b.words → b.sights ≡ a.sights → SeesNoMore a b
   stays_looked_at_proposer j x a b h k = record { room = looked_at_proposer j x a.words b.words h; sights = k }
 
-  pub stays_looked_at_acceptor : (j : ℕ) (x : AcceptorWord) (a b : SeatValue T) → LookedAtAcceptor j x a.words b.words → NotesOf j a.words b.words → b.sights ≡ a.sights → Stays a b
+  pub stays_looked_at_acceptor : (j : ℕ) (x : AcceptorWord) (a b : SeatValue T) → LookedAtAcceptor j x a.words b.words → NotesOf j a.words b.words → b.sights ≡ a.sights → SeesNoMore a b
   stays_looked_at_acceptor j x a b h n k = record { room = looked_at_acceptor j x a.words b.words h n; sights = k }
 
 -- ---- turns
@@ -94,7 +94,7 @@ module _ {F G C : Type 0} (f : F) where
   keeps_own : (a b : SeatValue (Parts F G C)) → offer_of b b.words.node.me ≡ offer_of a a.words.node.me → OffersFor f a → OffersFor f b
   keeps_own a b e o x is = o x (sym e ∙ is)
 
-  pub stays_on : (a b : SeatValue (Parts F G C)) → Stays a b → GoesOn f a b
+  pub stays_on : (a b : SeatValue (Parts F G C)) → SeesNoMore a b → GoesOn f a b
   stays_on a b h =
       record {
         room = h.room;

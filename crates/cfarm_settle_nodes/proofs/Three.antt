@@ -8,8 +8,8 @@ use Rattle.lang_base.specs.declared.program.Global.{Global}
 use Rattle.offers.specs.OneFunction.{program_of_one}
 use Rattle.offers.specs.declared.parts.Parts.{Parts}
 use Rattle.rooms.specs.SeatValue.{SeatValue, offer_of}
-use Rattle.cfarm_settle_nodes.specs.Agreed.{HasOffered, IsOfferOf, IsCode, IsCodeOf, IsOwnCode, IsAgreed}
-use Rattle.cfarm_settle_nodes.specs.Goes.{AllOfferFor, AreThree, GoesOn, IsSeatOf, Stays}
+use Rattle.cfarm_settle_nodes.specs.Agreed.{IsOwnOffer, IsOfferOf, IsCode, IsCodeOf, IsOwnCode, IsAgreed}
+use Rattle.cfarm_settle_nodes.specs.Goes.{AllOfferFor, AreThree, GoesOn, IsSeatOf, SeesNoMore}
 use Rattle.cfarm_settle_nodes.specs.Learned.{IsLearnedByAll}
 use Rattle.cfarm_settle_nodes.proofs.Going.{stays_on}
 
@@ -46,7 +46,7 @@ module _ {F G C : Type 0} (f : F) where
 
 module _ {P A B C I O : Type 0} (from : language.Ghosts A I) (to : language.Ghosts B O) (by : pass.Ghosts P A B C I O) where
   -- three seats that have met: what is known of the code of the node whose number all have learned
-  pub agreed_code : (f : I) (node : ℕ) (code : List ℕ) (a b c x y z : SeatValue (Parts I O C)) → AreThree a b c → AllOfferFor f a b c → Stays a x → Stays b y → Stays c z
+  pub agreed_code : (f : I) (node : ℕ) (code : List ℕ) (a b c x y z : SeatValue (Parts I O C)) → AreThree a b c → AllOfferFor f a b c → SeesNoMore a x → SeesNoMore b y → SeesNoMore c z
       → IsLearnedByAll x.words.view.seen node → IsCodeOf from to by node x y z code → IsAgreed from to by f x y z code
   agreed_code f node code a b c x y z three all h k l learned it =
       let on : AllOfferFor f x y z = all_offer f a b c x y z all (stays_on f a x h) (stays_on f b y k) (stays_on f c z l) in

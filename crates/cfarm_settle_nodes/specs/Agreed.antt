@@ -11,14 +11,14 @@ use Rattle.cfarm_settle_nodes.specs.Goes.{AreThree}
 use Rattle.cfarm_settle_nodes.specs.Learned.{IsLearnedByAll}
 
 -- the seat's node has offered this
-abbrev pub HasOffered : {T : Type 0} → T → SeatValue T → Type 0
-HasOffered x s = offer_of s s.words.node.me ≡ Some x
+abbrev pub IsOwnOffer : {T : Type 0} → T → SeatValue T → Type 0
+IsOwnOffer x s = offer_of s s.words.node.me ≡ Some x
 
 -- of three nodes this one has offered this
 abbrev pub IsOfferOf : {T : Type 0} → ℕ → T → SeatValue T → SeatValue T → SeatValue T → Type 0
-IsOfferOf zero x first second third = HasOffered x first
-IsOfferOf (suc zero) x first second third = HasOffered x second
-IsOfferOf (suc (suc zero)) x first second third = HasOffered x third
+IsOfferOf zero x first second third = IsOwnOffer x first
+IsOfferOf (suc zero) x first second third = IsOwnOffer x second
+IsOfferOf (suc (suc zero)) x first second third = IsOwnOffer x third
 IsOfferOf (suc (suc (suc node))) x first second third = ⊥
 
 -- These are the seats of the three nodes of a room that began with nothing; at the end of the run that the first has seen all three
@@ -38,7 +38,7 @@ module _ {P A B C I O : Type 0} (from : language.Ghosts A I) (to : language.Ghos
 
   -- they are those of the seat's own offer
   abbrev pub IsOwnCode : SeatValue (Parts I O C) → List ℕ → Type 0
-  IsOwnCode s code = (x : Parts I O C) × HasOffered x s × IsCode x code
+  IsOwnCode s code = (x : Parts I O C) × IsOwnOffer x s × IsCode x code
 
   -- they are those of what the node has offered
   abbrev pub IsCodeOf : ℕ → SeatValue (Parts I O C) → SeatValue (Parts I O C) → SeatValue (Parts I O C) → List ℕ → Type 0

@@ -14,7 +14,7 @@ abbrev pub empty_room : Opening
 empty_room = record { quorums = majority_sizes 3; kept = replicate 7 nothing_kept }
 
 -- the words are those of the same node in the same room
-pub record IsSameRoom (old new : SeatState) : Type 0 where
+pub record IsSameSeat (old new : SeatState) : Type 0 where
   pub table : new.table ≡ old.table
   pub opening : new.view.opening ≡ old.view.opening
   pub me : new.node.me ≡ old.node.me
@@ -26,13 +26,13 @@ OffersFor {F} {G} {C} f s = (x : Parts F G C) → offer_of s s.words.node.me ≡
 
 -- the seat is the same node's, in the same room, and what it offers is for this input
 pub record GoesOn {F G C : Type 0} (f : F) (old new : SeatValue (Parts F G C)) : Type 0 where
-  pub room : IsSameRoom old.words new.words
+  pub room : IsSameSeat old.words new.words
   pub cells : names_of new.sights ≡ names_of old.sights
   pub own : OffersFor f old → OffersFor f new
 
 -- the same, and nothing else was seen of the cells
-pub record Stays {T : Type 0} (old new : SeatValue T) : Type 0 where
-  pub room : IsSameRoom old.words new.words
+pub record SeesNoMore {T : Type 0} (old new : SeatValue T) : Type 0 where
+  pub room : IsSameSeat old.words new.words
   pub sights : new.sights ≡ old.sights
 
 -- node i's seat of a room of three that began with nothing

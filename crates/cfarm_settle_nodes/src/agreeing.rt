@@ -2,7 +2,7 @@
 
 ghost use Rattle.std.specs.Prelude.{◌≡◌, ℕ, IfOk, IfSome};
 ghost use Rattle.cfarm_settle_nodes.specs.Agreed.{IsAgreed, IsCodeOf, IsOwnCode};
-ghost use Rattle.cfarm_settle_nodes.specs.Goes.{AllOfferFor, AreThree, Stays};
+ghost use Rattle.cfarm_settle_nodes.specs.Goes.{AllOfferFor, AreThree, SeesNoMore};
 
 use crate::meeting::agreed;
 use lang_base::{Language, NoMemory, Pass};
@@ -55,7 +55,7 @@ pub fn code_agreed<P: Pass>(
     // Of these seats that have met it is said, whose nodes offer for this input.
     ensures agreed { (f : P.In.Fun) → AllOfferFor f first.old second.old third.old → IfOk result (λ found. IfSome found (λ code.
         IsAgreed P.In.Language P.Out.Language P.Pass f first.new second.new third.new code.items)) }
-    ensures stay { Stays first.old first.new × Stays second.old second.new × Stays third.old third.new }
+    ensures stay { SeesNoMore first.old first.new × SeesNoMore second.old second.new × SeesNoMore third.old third.new }
 {
     let Some(node) = agreed(first, second, third) else {
         return Ok(None);

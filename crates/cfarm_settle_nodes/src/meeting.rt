@@ -1,7 +1,7 @@
 //! Three seats meet.
 
 ghost use Rattle.std.specs.Prelude.{IfSome};
-ghost use Rattle.cfarm_settle_nodes.specs.Goes.{AreThree, Stays};
+ghost use Rattle.cfarm_settle_nodes.specs.Goes.{AreThree, SeesNoMore};
 ghost use Rattle.cfarm_settle_nodes.specs.Learned.{AreSame, IsLearnedByAll};
 
 use lang_base::Pass;
@@ -31,9 +31,9 @@ pub(crate) fn agreed<P: Pass>(
 ) -> Option<u8>
     requires { AreThree first.old second.old third.old }
     ensures learned { IfSome result (IsLearnedByAll first.new.words.view.seen) }
-    ensures first { Stays first.old first.new }
-    ensures second { Stays second.old second.new }
-    ensures third { Stays third.old third.new }
+    ensures first { SeesNoMore first.old first.new }
+    ensures second { SeesNoMore second.old second.new }
+    ensures third { SeesNoMore third.old third.new }
 {
     let first_two = meet(first, second);
     second.known();

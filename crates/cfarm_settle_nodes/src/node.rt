@@ -3,7 +3,7 @@
 ghost use Rattle.std.specs.Prelude.{◌≡◌, ◌<◌, ◌≢◌, IfErr};
 ghost use Rattle.rooms_cells.specs.Seen.{names_of};
 ghost use Rattle.rooms.specs.SeatValue.{offer_of};
-ghost use Rattle.cfarm_settle_nodes.specs.Goes.{GoesOn, Stays};
+ghost use Rattle.cfarm_settle_nodes.specs.Goes.{GoesOn, SeesNoMore};
 
 use crate::offering::offer_for;
 use crate::player::{Player, Seen};
@@ -59,7 +59,7 @@ fn offer<O: Oracle + Drop>(
 /// Accepts what node `j` was last seen to have proposed, or else promises what it has started.
 fn answer<P: Pass>(seat: &mut Seat<P>, j: u8)
     requires { j < seat.old.words.node.quorums.nodes }
-    ensures { Stays seat.old seat.new }
+    ensures { SeesNoMore seat.old seat.new }
 {
     match seat.accept(j) {
         Some(_vote) => {}
@@ -72,7 +72,7 @@ fn answer<P: Pass>(seat: &mut Seat<P>, j: u8)
 /// Looks at node `j`: at its proposer, which is answered, then at its acceptor. Answers whether it saw anything new.
 fn hear<P: Pass>(seat: &mut Seat<P>, j: u8, seen: &mut Seen) -> bool
     requires { j < seat.old.words.node.quorums.nodes }
-    ensures { Stays seat.old seat.new }
+    ensures { SeesNoMore seat.old seat.new }
 {
     let proposer = seat.look_proposer(j);
     answer(seat, j);
@@ -82,7 +82,7 @@ fn hear<P: Pass>(seat: &mut Seat<P>, j: u8, seen: &mut Seen) -> bool
 
 /// Looks at each node, its own too. Answers whether it saw anything new.
 fn hear_all<P: Pass>(seat: &mut Seat<P>, seen: &mut Seen) -> bool
-    ensures { Stays seat.old seat.new }
+    ensures { SeesNoMore seat.old seat.new }
 {
     let count = seat.count();
     let mut is_new = false;
@@ -106,14 +106,14 @@ fn is_due<P: Pass>(seat: &Seat<P>, words: &mut Pcg32) -> bool {
 
 /// Starts a ballot, if one is left.
 fn start<P: Pass>(seat: &mut Seat<P>)
-    ensures { Stays seat.old seat.new }
+    ensures { SeesNoMore seat.old seat.new }
 {
     let _started = seat.start();
 }
 
 /// Proposes, and starts a ballot where that is due.
 fn lead<P: Pass>(seat: &mut Seat<P>, words: &mut Pcg32)
-    ensures { Stays seat.old seat.new }
+    ensures { SeesNoMore seat.old seat.new }
 {
     let _proposed = seat.propose();
     if !is_due(seat, words) {

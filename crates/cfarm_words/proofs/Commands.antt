@@ -1,7 +1,8 @@
 -- The commands, one argument and one command after the other; and what is found of a command.
-use Rattle.std.specs.Prelude.{◌≡◌, ◌||◌, ℕ, List, Option, None, Some, Result, Ok, Err, IfSome, false, option_map, codes}
-use Rattle.std.specs.Result.{result_unwrap_or}
-use Rattle.std.specs.Str.Parse.{ParsesUnsigned}
+use Rattle.std.specs.Prelude.{◌≡◌, ◌||◌, ℕ, ℤ, FitsSigned, List, Option, None, Some, Result, Ok, Err, IfOk, IfSome, false, option_map, codes}
+use Rattle.std.specs.Result.{result_ok, result_unwrap_or}
+use Rattle.std.specs.Int.{w32}
+use Rattle.std.specs.Str.Parse.{ParsesSigned, ParsesUnsigned}
 use Rattle.std.proofs.Common.{ap, ap₂, sym, subst, ◌∙◌}
 use Rattle.clap.proofs.WalkLemmas.{first_value-rows}
 use Rattle.clap.specs.Words.{AddsArg, AddsSubcommand, App, Row, Rule, Text, app_of, first_of, first_value, rows_of, rule_of, with_rule, with_subcommand}
@@ -11,7 +12,7 @@ use Rattle.clap.specs.declared.builder.arg.Arg.{Arg}
 use Rattle.clap.specs.declared.builder.command.Command.{Command}
 use Rattle.cfarm_words.specs.declared.task.Asked.{Asked}
 use Rattle.cfarm_words.specs.declared.task.Task.{Task}
-use Rattle.cfarm_words.specs.Words.{AsksNothingBy, IsAskedBy, IsTask, Reads, ReadsPerhaps}
+use Rattle.cfarm_words.specs.Words.{AsksNothingBy, IsArgument, IsAskedBy, IsCommand, IsTask, Reads, ReadsPerhaps, ReadsSigned}
 
 -- one more argument that is not global
 pub with_argument : (old new : Command) (a : Arg) (app : App) (r : Rule) → AddsArg old a new → app_of old ≡ app → (fields_of old).has_globals ≡ false → rule_of a ≡ r → a.global ≡ false → app_of new ≡ with_rule app r
@@ -23,6 +24,23 @@ still_local old new a adds g l = adds.globals ∙ ap₂ (λ x y. x || y) g l
 -- one more command
 pub with_command : (old sub new : Command) (app part : App) → AddsSubcommand old sub new → app_of old ≡ app → app_of sub ≡ part → (fields_of sub).has_globals ≡ false → app_of new ≡ with_subcommand app part.top
 with_command old sub new app part adds e h l = adds.shape l ∙ ap₂ with_subcommand e (ap (λ (a : App). a.top) h)
+
+-- a command that a call answered
+pub of_ok : {E : Type 0} (answer : Result Command E) (old : Command) (app : App) → answer ≡ Ok old → IfOk answer (IsCommand app) → IsCommand app old
+of_ok {E} answer old app e h = subst (λ (r : Result Command E). IfOk r (IsCommand app)) e h
+
+-- the same, of what a call answers
+pub takes_argument : {E : Type 0} (old : Command) (a : Arg) (app : App) (r : Rule) (answer : Result Command E) → IfOk answer (AddsArg old a) →
+    IsCommand app old → IsArgument r a → IfOk answer (IsCommand (with_rule app r))
+takes_argument old a app r (Ok new) adds is argument =
+    (with_argument old new a app r adds is.0 is.1 argument.0 argument.1, still_local old new a adds is.1 argument.1)
+takes_argument old a app r (Err fault) adds is argument = tt
+
+pub takes_command : {E : Type 0} (old sub : Command) (app part : App) (answer : Result Command E) → IfOk answer (AddsSubcommand old sub) →
+    IsCommand app old → IsCommand part sub → IfOk answer (IsCommand (with_subcommand app part.top))
+takes_command old sub app part (Ok new) adds is inner =
+    (with_command old sub new app part adds is.0 inner.0 inner.1, adds.globals ∙ ap₂ (λ x y. x || y) is.1 inner.1)
+takes_command old sub app part (Err fault) adds is inner = tt
 
 -- what is asked for by the parts of what is found
 pub asked_by : {A : Type 0} (f : A → Text) (g : A → List Row) (o : Option A) (n : Text) (found : Found) (task : Task) (path : Text) →
@@ -52,6 +70,11 @@ reads_some {E} bits text x r e p = let q : ParsesUnsigned {E = E} bits 10 text (
 
 pub reads_none : {E : Type 0} (bits : ℕ) (text : List ℕ) (x : E) (r : Result ℕ E) → r ≡ Err x → ParsesUnsigned bits 10 text r → ReadsPerhaps bits (Some text) None
 reads_none {E} bits text x r e p = let q : ParsesUnsigned {E = E} bits 10 text (Err x) = subst (λ (y : Result ℕ E). ParsesUnsigned {E = E} bits 10 text y) e p in λ numeral below. absurd (q (numeral, below))
+
+-- the same of a number with a sign
+pub reads_signed : {E : Type 0} (text : List ℕ) (r : Result ℤ E) → ParsesSigned w32 10 text r → ReadsSigned (Some text) (result_ok r)
+reads_signed text (Ok x) p = λ numeral fits. ap Some p.1
+reads_signed text (Err e) p = λ numeral fits. absurd (p (numeral, fits))
 
 -- no file is named
 pub nothing_without_file : (name : Text) (found : Found) → None ≡ first_value found (codes "FILE") → AsksNothingBy (Some (name, rows_of found))

@@ -1,16 +1,25 @@
 -- What the words of a command line ask for. How words are read is defined in `clap`: here stand the commands, and what is
 -- asked for by what is found.
-use Rattle.std.specs.Prelude.{◌≡◌, ◌<◌, ◌^◌, ℕ, List, [], ◌∷◌, Option, Some, None, map, true, codes}
+use Rattle.std.specs.Prelude.{◌≡◌, ◌<◌, ◌^◌, ℕ, ℤ, pos, negsuc, FitsSigned, List, [], ◌∷◌, Option, Some, None, map, true, false, codes}
+use Rattle.std.specs.Int.{w32}
 use Rattle.std.specs.Borrow.{Bor}
-use Rattle.std.specs.Str.Parse.{IsNumeral, digits_value, without_leading_plus}
-use Rattle.clap.specs.Words.{App, Row, Rule, Text, first_of, kind_of, new_app, new_rule, subcommand_of, takes, with_rule, with_subcommand}
+use Rattle.std.specs.Str.Parse.{IsNumeral, digits_value, signed_digits_value, without_leading_plus, without_leading_sign}
+use Rattle.clap.specs.Words.{App, Row, Rule, Text, app_of, first_of, kind_of, new_app, new_rule, rule_of, subcommand_of, takes, with_rule, with_subcommand}
+use Rattle.clap.specs.declared.builder.arg.Arg.{Arg}
+use Rattle.clap.specs.declared.builder.command.Command.{Command}
+use Rattle.clap.specs.declared.builder.command.Command.TheViews.{out-Command as fields_of}
 use Rattle.clap.specs.declared.error.Error.{Error}
 use Rattle.clap.specs.declared.error.kind.ErrorKind.TheVariants.{OutOfMemory}
 use Rattle.clap.specs.Simple.{on_top}
-use Rattle.clap.specs.declared.builder.value_parser.ValueParser.TheVariants.{Names, Unsigned}
+use Rattle.clap.specs.declared.builder.value_parser.ValueParser.TheVariants.{Names, NonEmptyString, Signed, Unsigned}
 use Rattle.cfarm_options.specs.declared.options.BuildOptions.{BuildOptions}
 use Rattle.cfarm_options.specs.declared.options.Nodes.{Nodes}
 use Rattle.cfarm_options.specs.declared.options.Nodes.TheVariants.{Two, Three, Four, Five, Six, Seven}
+use Rattle.cfarm_options.specs.declared.options.Optimise.{Optimise}
+use Rattle.cfarm_options.specs.declared.options.Optimise.TheVariants.{Drawn, Speed}
+use Rattle.cfarm_words.specs.declared.choices.Choices.{Choices}
+use Rattle.cfarm_words.specs.declared.task.Format.{Format}
+use Rattle.cfarm_words.specs.declared.task.Format.TheVariants.{Plain, Gcc}
 use Rattle.cfarm_words.specs.declared.task.Task.{Task}
 use Rattle.cfarm_words.specs.declared.task.Task.TheVariants.{Check, Interpret, Build, Exec, Settle, Simulate}
 
@@ -22,7 +31,7 @@ file_rule = record (new_rule (codes "FILE")) { required = true }
 
 -- an option with a number from 0 to `most`
 abbrev pub bound_rule : Text → Text → ℕ → Rule
-bound_rule name standard most = record (new_rule name) { long = Some name; parser = Some (Unsigned 0 most); defaults = standard ∷ [] }
+bound_rule name standard most = record (new_rule name) { long = Some name; value_names = 1; parser = Some (Unsigned 0 most); defaults = standard ∷ [] }
 
 abbrev pub depth_rule : Rule
 depth_rule = bound_rule (codes "depth") (codes "100000") 4294967295
@@ -30,27 +39,39 @@ depth_rule = bound_rule (codes "depth") (codes "100000") 4294967295
 abbrev pub limit_rule : Rule
 limit_rule = bound_rule (codes "limit") (codes "1000000") 9223372036854775807
 
-abbrev pub check_app : App
-check_app = with_rule (new_app (codes "check")) file_rule
+-- a number of 32 bits, of which nothing need be said
+abbrev pub expect_rule : Rule
+expect_rule = record (new_rule (codes "expect")) { long = Some (codes "expect"); value_names = 1; parser = Some (Signed (negsuc 2147483647) (pos 2147483647)) }
+
+-- the words that options offer
+abbrev pub AreNames : Bor (List (Bor Text)) → List Text → Type 0
+AreNames names texts = map (λ name. name.now) names.now ≡ texts
+
+-- the numbers of nodes are those that a farm can have, optimisers choose in two ways, and there is one form of a refusal beside the plain one
+abbrev pub AreChoices : Choices → Type 0
+AreChoices choices = AreNames choices.nodes (codes "2" ∷ codes "3" ∷ codes "4" ∷ codes "5" ∷ codes "6" ∷ codes "7" ∷ [])
+    × AreNames choices.optimise (codes "drawn" ∷ codes "speed" ∷ [])
+    × AreNames choices.formats (codes "gcc" ∷ [])
+
+-- one of these words, of which nothing need be said
+abbrev pub choice_rule : Text → Bor (List (Bor Text)) → Rule
+choice_rule name names = record (new_rule name) { long = Some name; value_names = 1; parser = Some (Names names) }
+
+abbrev pub format_rule : Choices → Rule
+format_rule choices = choice_rule (codes "format") choices.formats
+
+abbrev pub check_app : Choices → App
+check_app choices = with_rule (with_rule (new_app (codes "check")) file_rule) (format_rule choices)
 
 abbrev pub interpret_app : App
 interpret_app = with_rule (with_rule (new_app (codes "interpret")) file_rule) depth_rule
 
--- the numbers of nodes that are offered, as words
-abbrev pub Counts : Type 0
-Counts = Bor (List (Bor Text))
-
--- they are those that a farm can have
-abbrev pub AreCounts : Counts → Type 0
-AreCounts counts = map (λ count. count.now) counts.now ≡
-    codes "2" ∷ codes "3" ∷ codes "4" ∷ codes "5" ∷ codes "6" ∷ codes "7" ∷ []
-
-abbrev pub nodes_rule : Counts → Rule
-nodes_rule counts = record (new_rule (codes "nodes")) { long = Some (codes "nodes"); parser = Some (Names counts); defaults = codes "3" ∷ [] }
+abbrev pub nodes_rule : Choices → Rule
+nodes_rule choices = record (choice_rule (codes "nodes") choices.nodes) { defaults = codes "3" ∷ [] }
 
 -- the size of a quorum, of which nothing need be said
 abbrev pub size_rule : Text → Rule
-size_rule name = record (new_rule name) { long = Some name; parser = Some (Unsigned 0 255) }
+size_rule name = record (new_rule name) { long = Some name; value_names = 1; parser = Some (Unsigned 0 255) }
 
 abbrev pub promise_rule : Rule
 promise_rule = size_rule (codes "promise")
@@ -64,15 +85,19 @@ turns_rule = bound_rule (codes "turns") (codes "10000") 4294967295
 abbrev pub seed_rule : Rule
 seed_rule = bound_rule (codes "seed") (codes "1") 9223372036854775807
 
-abbrev pub folder_rule : Rule
-folder_rule = record (new_rule (codes "dir")) { long = Some (codes "dir"); required = true }
+abbrev pub optimise_rule : Choices → Rule
+optimise_rule choices = record (choice_rule (codes "optimise") choices.optimise) { defaults = codes "drawn" ∷ [] }
 
-abbrev pub build_app : Counts → App
-build_app counts = with_rule (with_rule (with_rule (with_rule (with_rule (with_rule (with_rule (new_app (codes "build")) file_rule) (nodes_rule counts))
-    promise_rule) accept_rule) turns_rule) seed_rule) folder_rule
+-- a folder, whose name is not empty
+abbrev pub folder_rule : Rule
+folder_rule = record (new_rule (codes "dir")) { long = Some (codes "dir"); value_names = 1; parser = Some NonEmptyString; required = true }
+
+abbrev pub build_app : Choices → App
+build_app choices = with_rule (with_rule (with_rule (with_rule (with_rule (with_rule (with_rule (with_rule (new_app (codes "build")) file_rule) (nodes_rule choices))
+    promise_rule) accept_rule) turns_rule) seed_rule) (optimise_rule choices)) folder_rule
 
 abbrev pub exec_app : App
-exec_app = with_rule (with_rule (new_app (codes "exec")) file_rule) limit_rule
+exec_app = with_rule (with_rule (with_rule (new_app (codes "exec")) file_rule) limit_rule) expect_rule
 
 abbrev pub settle_app : App
 settle_app = with_rule (new_app (codes "settle")) file_rule
@@ -80,13 +105,25 @@ settle_app = with_rule (new_app (codes "settle")) file_rule
 abbrev pub sim_app : App
 sim_app = with_rule (new_app (codes "sim")) file_rule
 
--- the program has to be given a command
-abbrev pub top_app : App
-top_app = on_top (λ s. record s { subcommand_required = true; arg_required_else_help = true }) (new_app (codes "cfarm"))
+-- it has help alone
+abbrev pub statuses_app : App
+statuses_app = on_top (λ s. record s { arg_required_else_help = true }) (new_app (codes "statuses"))
 
-abbrev pub farm : Counts → App
-farm counts = with_subcommand (with_subcommand (with_subcommand (with_subcommand (with_subcommand (with_subcommand top_app check_app.top) interpret_app.top)
-    (build_app counts).top) exec_app.top) settle_app.top) sim_app.top
+-- the program has to be given a command, and has a version
+abbrev pub top_app : App
+top_app = on_top (λ s. record s { has_version = true; subcommand_required = true; arg_required_else_help = true }) (new_app (codes "cfarm"))
+
+abbrev pub farm : Choices → App
+farm choices = with_subcommand (with_subcommand (with_subcommand (with_subcommand (with_subcommand (with_subcommand (with_subcommand top_app
+    (check_app choices).top) interpret_app.top) (build_app choices).top) exec_app.top) settle_app.top) sim_app.top) statuses_app.top
+
+-- a command that the parser reads so, with no argument of all commands
+abbrev pub IsCommand : App → Command → Type 0
+IsCommand app command = (app_of command ≡ app) × ((fields_of command).has_globals ≡ false)
+
+-- an argument of one command that the parser reads so
+abbrev pub IsArgument : Rule → Arg → Type 0
+IsArgument rule argument = (rule_of argument ≡ rule) × (argument.global ≡ false)
 
 -- ---- what is asked for
 
@@ -102,6 +139,17 @@ ReadsPerhaps bits None number = number ≡ None
 ReadsPerhaps bits (Some text) number = IsNumeral 10 (without_leading_plus text) → digits_value 10 (without_leading_plus text) < 2 ^ bits →
     number ≡ Some (digits_value 10 (without_leading_plus text))
 
+-- the number of 32 bits that a text spells so, which may have a sign
+abbrev pub ReadsSigned : Option Text → Option ℤ → Type 0
+ReadsSigned None number = number ≡ None
+ReadsSigned (Some text) number = IsNumeral 10 (without_leading_sign text) → FitsSigned w32 (signed_digits_value 10 text) →
+    number ≡ Some (signed_digits_value 10 text)
+
+-- the word for a form of a refusal
+abbrev pub format_word : Format → Option Text
+format_word Plain = None
+format_word Gcc = Some (codes "gcc")
+
 -- the word for a number of nodes
 abbrev pub node_word : Nodes → Text
 node_word Two = codes "2"
@@ -111,6 +159,11 @@ node_word Five = codes "5"
 node_word Six = codes "6"
 node_word Seven = codes "7"
 
+-- the word for how optimisers choose
+abbrev pub optimise_word : Optimise → Text
+optimise_word Drawn = codes "drawn"
+optimise_word Speed = codes "speed"
+
 -- what is found of a build's options
 pub record AreOptions (rows : List Row) (options : BuildOptions) : Type 0 where
   pub nodes : first_of (codes "nodes") rows ≡ Some (node_word options.nodes)
@@ -118,14 +171,15 @@ pub record AreOptions (rows : List Row) (options : BuildOptions) : Type 0 where
   pub accept : ReadsPerhaps 8 (first_of (codes "accept") rows) options.accept
   pub turns : Reads 32 (first_of (codes "turns") rows) options.turns
   pub seed : Reads 64 (first_of (codes "seed") rows) options.seed
+  pub optimise : first_of (codes "optimise") rows ≡ Some (optimise_word options.optimise)
   pub folder : first_of (codes "dir") rows ≡ Some options.folder.now
 
 -- the command of this name, with what is found of its arguments, is this task
 abbrev pub IsTask : Text → List Row → Task → Type 0
-IsTask name rows Check = name ≡ codes "check"
+IsTask name rows (Check format) = (name ≡ codes "check") × (first_of (codes "format") rows ≡ format_word format)
 IsTask name rows (Interpret depth) = (name ≡ codes "interpret") × Reads 32 (first_of (codes "depth") rows) depth
 IsTask name rows (Build options) = (name ≡ codes "build") × AreOptions rows options
-IsTask name rows (Exec limit) = (name ≡ codes "exec") × Reads 64 (first_of (codes "limit") rows) limit
+IsTask name rows (Exec limit expected) = (name ≡ codes "exec") × Reads 64 (first_of (codes "limit") rows) limit × ReadsSigned (first_of (codes "expect") rows) expected
 IsTask name rows Settle = name ≡ codes "settle"
 IsTask name rows Simulate = name ≡ codes "sim"
 
@@ -135,16 +189,16 @@ IsAskedBy None task path = ⊥
 IsAskedBy (Some (name, rows)) task path = IsTask name rows task × (first_of (codes "FILE") rows ≡ Some path)
 
 -- the words ask for this task on the file of this path
-abbrev pub Asks : Counts → List Text → Task → Text → Type 0
-Asks counts words task path = IsAskedBy (subcommand_of (farm counts) words) task path
+abbrev pub Asks : Choices → List Text → Task → Text → Type 0
+Asks choices words task path = IsAskedBy (subcommand_of (farm choices) words) task path
 
 -- words that can be taken are refused where memory is, alone
-abbrev pub IsRefusedRightly : Counts → List Text → Error → Type 0
-IsRefusedRightly counts words fault = takes (farm counts) words ≡ true → kind_of fault ≡ OutOfMemory
+abbrev pub IsRefusedRightly : Choices → List Text → Error → Type 0
+IsRefusedRightly choices words fault = takes (farm choices) words ≡ true → kind_of fault ≡ OutOfMemory
 
 -- the words ask for no task on any file
-abbrev pub AsksNothing : Counts → List Text → Type 0
-AsksNothing counts words = (task : Task) (path : Text) → Asks counts words task path → ⊥
+abbrev pub AsksNothing : Choices → List Text → Type 0
+AsksNothing choices words = (task : Task) (path : Text) → Asks choices words task path → ⊥
 
 -- what is found asks for no task on any file
 abbrev pub AsksNothingBy : Option (Text × List Row) → Type 0

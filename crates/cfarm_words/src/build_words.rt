@@ -1,15 +1,16 @@
 //! What the command line says of a build.
 
-ghost use Rattle.std.specs.Prelude.{◌≡◌, Some, false, codes, IfOk, IfSome, IsNone};
-ghost use Rattle.clap.specs.Words.{app_of, found_of, first_of, first_value, rows_of, rule_of};
-ghost use Rattle.clap.specs.declared.builder.command.Command.TheViews.{out-Command as fields_of};
+ghost use Rattle.std.specs.Prelude.{◌≡◌, Some, codes, IfOk, IfSome, IsNone};
+ghost use Rattle.clap.specs.Words.{found_of, first_of, first_value, rows_of};
 ghost use Rattle.cfarm_options.specs.declared.options.BuildOptions.{BuildOptions};
 ghost use Rattle.cfarm_options.specs.declared.options.Nodes.{Nodes};
-ghost use Rattle.cfarm_words.specs.Words.{AreOptions, Reads, ReadsPerhaps, build_app, folder_rule, node_word};
-ghost use Rattle.cfarm_words.specs.Words.{accept_rule, nodes_rule, promise_rule, seed_rule, turns_rule};
+ghost use Rattle.cfarm_options.specs.declared.options.Optimise.{Optimise};
+ghost use Rattle.cfarm_words.specs.Words.{AreOptions, IsArgument, IsCommand, Reads, ReadsPerhaps, build_app, folder_rule, node_word};
+ghost use Rattle.cfarm_words.specs.Words.{accept_rule, nodes_rule, optimise_rule, optimise_word, promise_rule, seed_rule, turns_rule};
 
-use crate::command_line::file;
-use cfarm_options::{BuildOptions, Nodes};
+use crate::choices::Choices;
+use crate::joining::{file, with_argument};
+use cfarm_options::{BuildOptions, Nodes, Optimise};
 use clap::builder::ValueParser;
 use clap::{Arg, ArgMatches, Command};
 use std::alloc::{AllocError, Global};
@@ -29,6 +30,9 @@ const TURNS: &str = "turns";
 /// The option with the seed of the nodes' generators.
 const SEED: &str = "seed";
 
+/// The option that says how the optimisers choose.
+const OPTIMISE: &str = "optimise";
+
 /// The option with the folder.
 const FOLDER: &str = "dir";
 
@@ -41,89 +45,100 @@ const MOST_TURNS: u64 = 4_294_967_295;
 /// The greatest seed.
 const GREATEST_SEED: u64 = 9_223_372_036_854_775_807;
 
-fn nodes<'a>(alloc: Global, counts: &'a [&'a str]) -> Arg<'a>
-    ensures rule { rule_of result ≡ nodes_rule counts.entry }
-    ensures local { result.global ≡ false }
+fn nodes<'a>(alloc: Global, choices: Choices<'a>) -> Arg<'a>
+    ensures { IsArgument (nodes_rule choices.entry) result }
 {
     Arg::new(alloc, NODES)
         .long(NODES)
+        .value_name("N")
         .help("How many nodes the farm has")
-        .value_parser(ValueParser::Names(counts))
+        .value_parser(ValueParser::Names(choices.nodes))
         .default_value("3")
 }
 
 fn promise<'a>(alloc: Global) -> Arg<'a>
-    ensures rule { rule_of result ≡ promise_rule }
-    ensures local { result.global ≡ false }
+    ensures { IsArgument promise_rule result }
 {
     Arg::new(alloc, PROMISE)
         .long(PROMISE)
-        .help("How many nodes' promises a proposal rests on; more than half where none is given")
+        .value_name("N")
+        .help("How many promises a proposal rests on; more than half where none is given")
         .value_parser(ValueParser::Unsigned(0, MOST_SIZE))
 }
 
 fn accept<'a>(alloc: Global) -> Arg<'a>
-    ensures rule { rule_of result ≡ accept_rule }
-    ensures local { result.global ≡ false }
+    ensures { IsArgument accept_rule result }
 {
     Arg::new(alloc, ACCEPT)
         .long(ACCEPT)
+        .value_name("N")
         .help(
-            "How many nodes' votes choose an offer; more than half where none is given. Both numbers are together above that of the nodes",
+            "How many votes choose an offer; more than half where none is given.\nBoth numbers are together above that of the nodes",
         )
         .value_parser(ValueParser::Unsigned(0, MOST_SIZE))
 }
 
 fn turns<'a>(alloc: Global) -> Arg<'a>
-    ensures rule { rule_of result ≡ turns_rule }
-    ensures local { result.global ≡ false }
+    ensures { IsArgument turns_rule result }
 {
     Arg::new(alloc, TURNS)
         .long(TURNS)
-        .help("How many turns each node takes at most, from 0 to 4294967295")
+        .value_name("N")
+        .help("How many turns a node takes at most, from 0 to 4294967295")
         .value_parser(ValueParser::Unsigned(0, MOST_TURNS))
         .default_value("10000")
 }
 
 fn seed<'a>(alloc: Global) -> Arg<'a>
-    ensures rule { rule_of result ≡ seed_rule }
-    ensures local { result.global ≡ false }
+    ensures { IsArgument seed_rule result }
 {
     Arg::new(alloc, SEED)
         .long(SEED)
+        .value_name("N")
         .help("The seed of what the nodes draw, from 0 to 9223372036854775807")
         .value_parser(ValueParser::Unsigned(0, GREATEST_SEED))
         .default_value("1")
 }
 
+fn optimise<'a>(alloc: Global, choices: Choices<'a>) -> Arg<'a>
+    ensures { IsArgument (optimise_rule choices.entry) result }
+{
+    Arg::new(alloc, OPTIMISE)
+        .long(OPTIMISE)
+        .value_name("HOW")
+        .help("How the optimisers choose")
+        .value_parser(ValueParser::Names(choices.optimise))
+        .default_value("drawn")
+}
+
 fn folder<'a>(alloc: Global) -> Arg<'a>
-    ensures rule { rule_of result ≡ folder_rule }
-    ensures local { result.global ≡ false }
+    ensures { IsArgument folder_rule result }
 {
     Arg::new(alloc, FOLDER)
         .long(FOLDER)
-        .help("The folder of the nodes' journals and of the linked program, which has to be there")
+        .value_name("FOLDER")
+        .help("The folder of the journals and the linked program; it has to be there")
+        .value_parser(ValueParser::NonEmptyString)
         .required(true)
 }
 
-/// The command, for these numbers of nodes.
-pub(crate) fn build<'a>(alloc: Global, counts: &'a [&'a str]) -> Result<Command<'a>, AllocError>
-    ensures app { IfOk result (λ command. app_of command ≡ build_app counts.entry) }
-    ensures local { IfOk result (λ command. (fields_of command).has_globals ≡ false) }
+/// The command, with these choices.
+pub(crate) fn build<'a>(alloc: Global, choices: Choices<'a>) -> Result<Command<'a>, AllocError>
+    ensures { IfOk result (IsCommand (build_app choices.entry)) }
 {
     let plain = Command::new(alloc, "build")
         .about("Compiles and links a C program by a farm of nodes")
         .after_help(
-            "Writes `linked.cfp` in the folder, and prints the report, one line of JSON: of each function the nodes whose offers were\nlearned in its four rooms, the SHA-256 of `linked.cfp`, and how many nodes there are. Nodes go on from the journals\n`node0.cfj` and so on that they find in the folder.\n\nStatus: 0 done; 1 the text is refused, by number, name and byte offset or function; 2 the command line or a file;\n3 undecided; 4 a journal is refused or failed, or the output could not be written; 7 no memory or no thread.",
+            "Writes `linked.cfp` in the folder, and prints the report, one line of JSON: of each function the\nnodes whose offers were learned in its four rooms, the SHA-256 of `linked.cfp`, and how many nodes\nthere are. Nodes go on from the journals `node0.cf2` and so on that they find in the folder; those\nof the first version, `node0.cfj` and so on, are migrated to these.\n\nStatus: 0 done; 1 the text is refused, by number, name and byte offset or function; 2 the command\nline or a file; 3 undecided; 4 a journal is refused or failed, or the output could not be written;\n7 no memory or no thread.",
         );
-    let named = plain.arg(file(alloc, "A C text"))?;
-    let counted = named.arg(nodes(alloc, counts))?;
-    let promised = counted.arg(promise(alloc))?;
-    let accepted = promised.arg(accept(alloc))?;
-    let bounded = accepted.arg(turns(alloc))?;
-    let seeded = bounded.arg(seed(alloc))?;
-    let command = seeded.arg(folder(alloc))?;
-    Ok(command)
+    let named = with_argument(Ok(plain), file(alloc, "A C text"));
+    let counted = with_argument(named, nodes(alloc, choices));
+    let promised = with_argument(counted, promise(alloc));
+    let accepted = with_argument(promised, accept(alloc));
+    let bounded = with_argument(accepted, turns(alloc));
+    let seeded = with_argument(bounded, seed(alloc));
+    let optimised = with_argument(seeded, optimise(alloc, choices));
+    with_argument(optimised, folder(alloc))
 }
 
 /// How many nodes there are to be.
@@ -139,6 +154,19 @@ fn nodes_of(words: &ArgMatches<'_>) -> Option<Nodes>
         Some("5") => Some(Nodes::Five),
         Some("6") => Some(Nodes::Six),
         Some("7") => Some(Nodes::Seven),
+        _ => None,
+    }
+}
+
+/// How the nodes' optimisers are to choose.
+fn optimise_of(words: &ArgMatches<'_>) -> Option<Optimise>
+    ensures some { IfSome result (λ o. first_value (found_of words.now) (codes "optimise") ≡ Some (optimise_word o)) }
+    ensures none { IsNone result → (o : Optimise) →
+        first_value (found_of words.now) (codes "optimise") ≡ Some (optimise_word o) → ⊥ }
+{
+    match words.get_str(OPTIMISE) {
+        Some("drawn") => Some(Optimise::Drawn),
+        Some("speed") => Some(Optimise::Speed),
         _ => None,
     }
 }
@@ -174,12 +202,16 @@ fn seed_of(words: &ArgMatches<'_>) -> u64
     }
 }
 
-/// What was found of a build; none where there is no folder, or no number of nodes that a farm can have, which `clap` refuses.
+/// What was found of a build; none where there is no folder, no number of nodes that a farm can have or no known way to optimise, which
+/// `clap` refuses.
 pub(crate) fn options_of<'a>(words: &ArgMatches<'a>) -> Option<BuildOptions<'a>>
     ensures some { IfSome result (AreOptions (rows_of (found_of words.now))) }
     ensures none { IsNone result → (o : BuildOptions) → AreOptions (rows_of (found_of words.now)) o → ⊥ }
 {
     let Some(nodes) = nodes_of(words) else {
+        return None;
+    };
+    let Some(optimise) = optimise_of(words) else {
         return None;
     };
     let Some(folder) = words.get_str(FOLDER) else {
@@ -191,6 +223,7 @@ pub(crate) fn options_of<'a>(words: &ArgMatches<'a>) -> Option<BuildOptions<'a>>
         accept: size_of(words, ACCEPT),
         turns: turns_of(words),
         seed: seed_of(words),
+        optimise,
         folder,
     })
 }

@@ -1,187 +1,137 @@
 //! What the program is told on its command line.
 
-ghost use Rattle.std.specs.Prelude.{◌≡◌, Some, false, map, codes, string_bytes, IfOk, IfErr, IfSome, IsNone};
-ghost use Rattle.clap.specs.Words.{FailsBy, app_of, fault_of, first_of, first_value, found_of, rows_of, rule_of};
-ghost use Rattle.cfarm_words.specs.declared.task.Task.{Task};
+ghost use Rattle.std.specs.Prelude.{◌≡◌, Some, map, codes, string_bytes, IfOk, IfErr, IfSome, IsNone};
+ghost use Rattle.clap.specs.Words.{FailsBy, fault_of, first_value, found_of, rows_of};
 ghost use Rattle.clap.specs.Words.{subcommand_rows_of};
-ghost use Rattle.clap.specs.declared.builder.command.Command.TheViews.{out-Command as fields_of};
-ghost use Rattle.cfarm_words.specs.Words.{Asks, AsksNothing, AsksNothingBy, IsAskedBy, IsRefusedRightly, IsTask, Reads, check_app, exec_app, farm, file_rule, interpret_app, settle_app, sim_app};
-ghost use Rattle.cfarm_words.specs.Words.{depth_rule, limit_rule};
+ghost use Rattle.cfarm_words.specs.declared.task.Task.{Task};
+ghost use Rattle.cfarm_words.specs.Words.{Asks, AsksNothing, AsksNothingBy, IsAskedBy, IsRefusedRightly, IsTask};
+ghost use Rattle.cfarm_words.specs.Words.{IsCommand, farm, settle_app, sim_app, statuses_app, top_app};
 
 use crate::build_words::{build, options_of};
+use crate::choices::Choices;
+use crate::joining::{FILE, file, with_argument, with_command};
+use crate::run_words::{check, depth_of, exec, expected_of, format_of, interpret, limit_of};
 use crate::task::{Asked, Task};
-use clap::builder::ValueParser;
-use clap::{Arg, ArgMatches, Command};
+use clap::{ArgMatches, Command};
 use std::alloc::{AllocError, Global};
 
-/// The argument that names a file.
-const FILE: &str = "FILE";
+/// What the program is called, in its second line the logic that its proofs are of (`rt version`).
+const VERSION: &str = "1.0.0\nlogic dac8208d650f15bf";
 
-/// The option that bounds a run of a C program.
-const DEPTH: &str = "depth";
+/// What the statuses and the numbers of refusals mean.
+const STATUSES: &str =
+    "The status with which the program ends, and what it then tells on standard error:
 
-/// The option that bounds a run of a linked program.
-const LIMIT: &str = "limit";
+  0  done; after a run `ended R`
+  1  the file is refused: `refused NUMBER Name at OFFSET` for a text, `refused NUMBER Name` for
+     bytes, `refused 240 TooManyNodes in NAME` for a function that is too large
+  2  the command line, in words; `quorums N Q1 Q2`, which need not meet; `file PATH`;
+     `schedule LINE`
+  3  undecided: `undecided`, for want of turns; the same build again goes on from its journals
+  4  a journal: `journal NUMBER Name node I` or `room R`; `link NUMBER Name in FUNCTION`; the output
+     could not be written: `write 701`, or standard error could not, and then nothing is told
+  5  the program that was run went wrong: `wrong`; with --expect, it did not end with R
+  6  the bound was reached: `running`
+  7  no memory, or no thread could be made: `memory`
 
-/// The greatest bound of a run of a C program.
-const GREATEST_DEPTH: u64 = 4_294_967_295;
+Numbers, by what is refused:
 
-/// The greatest bound of a run of a linked program.
-const GREATEST_LIMIT: u64 = 9_223_372_036_854_775_807;
+  101 Short         102 BadTag        103 NotCanonical  104 TooLarge                        bytes
+  201 BadByte       202 OpenComment   203 LiteralRange  204 BadChar                         tokens
+  210 Syntax        211 TooDeep                                                             grammar
+  220 Undeclared    221 Redeclared    222 WrongArity    223 VoidValue     224 NoMain        names
+  225 BadMain       226 NotConstant   227 NoBody        228 Limit         229 StrayBreak    and
+  230 ArrayUse                                                                              types
+  240 TooManyNodes                                                                          size
+  301 Refused       an offer in a journal that its pass does not accept
+  401 Device        402 NotAJournal   403 BadRecord     404 OtherSource   405 Stopped       journals
+  406 Full          521 OtherRecords  522 CellRefused
+  601 Missing       602 Unchained     603 Names                                             links
+";
 
-/// The commands, with their help. A build has one of these numbers of nodes.
-fn command<'a>(alloc: Global, counts: &'a [&'a str]) -> Result<Command<'a>, AllocError>
-    ensures { IfOk result (λ command. app_of command ≡ farm counts.entry) }
+/// The program, before its commands.
+fn bare<'a>(alloc: Global) -> Command<'a>
+    ensures { IsCommand top_app result }
 {
-    let top = Command::new(alloc, "cfarm")
+    Command::new(alloc, "cfarm")
         .about(
-            "A farm of compiler nodes in one process: untrusted optimisers propose, proved validators decide, and the nodes agree.",
+            "A farm of compiler nodes in one process: untrusted optimisers propose, proved validators decide,\nand the nodes agree.",
         )
+        .version(VERSION)
         .subcommand_required(true)
-        .arg_required_else_help(true);
-    let first = top.subcommand(check(alloc)?)?;
-    let second = first.subcommand(interpret(alloc)?)?;
-    let third = second.subcommand(build(alloc, counts)?)?;
-    let fourth = third.subcommand(exec(alloc)?)?;
-    let fifth = fourth.subcommand(settle(alloc)?)?;
-    let all = fifth.subcommand(sim(alloc)?)?;
-    Ok(all)
+        .arg_required_else_help(true)
 }
 
-/// The argument that names a file.
-pub(crate) fn file<'a>(alloc: Global, help: &'a str) -> Arg<'a>
-    ensures rule { rule_of result ≡ file_rule }
-    ensures local { result.global ≡ false }
+/// The commands, with their help. Options offer these choices.
+fn command<'a>(alloc: Global, choices: Choices<'a>) -> Result<Command<'a>, AllocError>
+    ensures { IfOk result (IsCommand (farm choices.entry)) }
 {
-    Arg::new(alloc, FILE).help(help).required(true)
-}
-
-fn check<'a>(alloc: Global) -> Result<Command<'a>, AllocError>
-    ensures app { IfOk result (λ command. app_of command ≡ check_app) }
-    ensures local { IfOk result (λ command. (fields_of command).has_globals ≡ false) }
-{
-    let plain = Command::new(alloc, "check")
-        .about("Checks a C program")
-        .after_help(
-            "Prints `ok F functions G globals`: how many functions have bodies, and how many globals there are.\n\nStatus: 0 done; 1 the text is refused, by number, name and byte offset; 2 the command line or the file;\n4 the output could not be written; 7 no memory.",
-        );
-    let command = plain.arg(file(alloc, "A C text"))?;
-    Ok(command)
-}
-
-fn depth<'a>(alloc: Global) -> Arg<'a>
-    ensures rule { rule_of result ≡ depth_rule }
-    ensures local { result.global ≡ false }
-{
-    Arg::new(alloc, DEPTH)
-        .long(DEPTH)
-        .help("How many turns of loops and calls may stand in one another, from 0 to 4294967295")
-        .value_parser(ValueParser::Unsigned(0, GREATEST_DEPTH))
-        .default_value("100000")
-}
-
-fn interpret<'a>(alloc: Global) -> Result<Command<'a>, AllocError>
-    ensures app { IfOk result (λ command. app_of command ≡ interpret_app) }
-    ensures local { IfOk result (λ command. (fields_of command).has_globals ≡ false) }
-{
-    let plain = Command::new(alloc, "interpret")
-        .about("Runs a C program as the C standard means it")
-        .after_help(
-            "Writes what the program prints, and closes on standard error with `ended R`, `wrong` or `running`.\n\nStatus: 0 ended; 1 the text is refused, by number, name and byte offset; 2 the command line or the file;\n4 the output could not be written; 5 the program went wrong; 6 the bound was reached; 7 no memory.",
-        );
-    let named = plain.arg(file(alloc, "A C text"))?;
-    let command = named.arg(depth(alloc))?;
-    Ok(command)
-}
-
-fn limit<'a>(alloc: Global) -> Arg<'a>
-    ensures rule { rule_of result ≡ limit_rule }
-    ensures local { result.global ≡ false }
-{
-    Arg::new(alloc, LIMIT)
-        .long(LIMIT)
-        .help("How many instructions may be done, from 0 to 9223372036854775807")
-        .value_parser(ValueParser::Unsigned(0, GREATEST_LIMIT))
-        .default_value("1000000")
-}
-
-fn exec<'a>(alloc: Global) -> Result<Command<'a>, AllocError>
-    ensures app { IfOk result (λ command. app_of command ≡ exec_app) }
-    ensures local { IfOk result (λ command. (fields_of command).has_globals ≡ false) }
-{
-    let plain = Command::new(alloc, "exec")
-        .about("Runs a linked program")
-        .after_help(
-            "Writes what the program prints, and closes on standard error with `ended R`, `wrong` or `running`.\n\nStatus: 0 ended; 1 the bytes are refused, by number and name; 2 the command line or the file;\n4 the output could not be written; 5 the program went wrong; 6 the bound was reached; 7 no memory.",
-        );
-    let named = plain.arg(file(alloc, "The bytes of a program of Linear"))?;
-    let command = named.arg(limit(alloc))?;
-    Ok(command)
+    let checking = with_command(Ok(bare(alloc)), check(alloc, choices));
+    let interpreting = with_command(checking, interpret(alloc));
+    let building = with_command(interpreting, build(alloc, choices));
+    let executing = with_command(building, exec(alloc));
+    let settling = with_command(executing, settle(alloc));
+    let playing = with_command(settling, sim(alloc));
+    with_command(playing, statuses(alloc))
 }
 
 fn settle<'a>(alloc: Global) -> Result<Command<'a>, AllocError>
-    ensures app { IfOk result (λ command. app_of command ≡ settle_app) }
-    ensures local { IfOk result (λ command. (fields_of command).has_globals ≡ false) }
+    ensures { IfOk result (IsCommand settle_app) }
 {
     let plain = Command::new(alloc, "settle")
         .about("Lays out one LTL function as Linear code in an order that three nodes agree on")
         .after_help(
             "Prints the agreed Linear code in lower case hex on one line, and then `agreed 3`.\n\nStatus: 0 done; 1 the bytes are refused, by number and name; 2 the command line or the file;\n3 undecided; 4 the output could not be written; 7 no memory.",
         );
-    let command = plain.arg(file(alloc, "The bytes of one LTL function"))?;
-    Ok(command)
+    with_argument(Ok(plain), file(alloc, "The bytes of one LTL function"))
 }
 
 fn sim<'a>(alloc: Global) -> Result<Command<'a>, AllocError>
-    ensures app { IfOk result (λ command. app_of command ≡ sim_app) }
-    ensures local { IfOk result (λ command. (fields_of command).has_globals ≡ false) }
+    ensures { IfOk result (IsCommand sim_app) }
 {
     let plain = Command::new(alloc, "sim")
         .about("Plays a schedule of the nodes of one room, call by call")
         .after_help(
-            "Prints a line for each command of the schedule, and at its end what each node has learned.\n\nStatus: 0 done; 2 the command line, the file or a line of the schedule, by its number; 4 the output could not be\nwritten; 7 no memory.",
+            "Prints a line for each command of the schedule, and at its end what each node has learned.\n\nStatus: 0 done; 2 the command line, the file or a line of the schedule, by its number;\n4 the output could not be written; 7 no memory.",
         );
-    let command = plain.arg(file(
-        alloc,
-        "A schedule: `nodes 3`, and then a command on each line",
-    ))?;
-    Ok(command)
+    with_argument(
+        Ok(plain),
+        file(
+            alloc,
+            "A schedule: `nodes 3`, and then a command on each line",
+        ),
+    )
 }
 
-/// The bound of a run of a C program, which is read as a number.
-fn depth_of(words: &ArgMatches<'_>) -> u32
-    ensures { Reads 32 (first_of (codes "depth") (rows_of (found_of words.now))) result }
+/// What `help statuses` shows. Alone it is a mistake, and shows the same.
+fn statuses<'a>(alloc: Global) -> Result<Command<'a>, AllocError>
+    ensures { IfOk result (IsCommand statuses_app) }
 {
-    match words.get_str(DEPTH) {
-        Some(text) => text.parse().unwrap_or(0),
-        None => 0,
-    }
+    Ok(
+        Command::new(alloc, "statuses")
+            .about("What the statuses and the numbers of refusals mean (`cfarm help statuses`)")
+            .arg_required_else_help(true)
+            .override_help(STATUSES),
+    )
 }
 
-/// The bound of a run of a linked program, which is read as a number.
-fn limit_of(words: &ArgMatches<'_>) -> u64
-    ensures { Reads 64 (first_of (codes "limit") (rows_of (found_of words.now))) result }
-{
-    match words.get_str(LIMIT) {
-        Some(text) => text.parse().unwrap_or(0),
-        None => 0,
-    }
-}
-
-/// What is asked for by what was found in the words of a command of this name; none where there is no such command, or not all that a
-/// build needs.
+/// What is asked for by what was found in the words of a command of this name; none where there is no such command, or not all that it
+/// needs.
 fn task_of<'a>(name: &str, words: &ArgMatches<'a>) -> Option<Task<'a>>
     ensures some { IfSome result (IsTask name.now (rows_of (found_of words.now))) }
     ensures none { IsNone result → (task : Task) → IsTask name.now (rows_of (found_of words.now)) task → ⊥ }
 {
     match name {
-        "check" => Some(Task::Check),
+        "check" => match format_of(words) {
+            Some(format) => Some(Task::Check(format)),
+            None => None,
+        },
         "interpret" => Some(Task::Interpret(depth_of(words))),
         "build" => match options_of(words) {
             Some(options) => Some(Task::Build(options)),
             None => None,
         },
-        "exec" => Some(Task::Exec(limit_of(words))),
+        "exec" => Some(Task::Exec(limit_of(words), expected_of(words))),
         "settle" => Some(Task::Settle),
         "sim" => Some(Task::Simulate),
         _ => None,
@@ -214,19 +164,19 @@ fn asked_of<'a>(matches: &ArgMatches<'a>) -> Option<Asked<'a>>
     }
 }
 
-/// What the words ask for. A build has one of these numbers of nodes.
+/// What the words ask for. Options offer these choices.
 pub fn asked_for<'a>(
     alloc: Global,
     words: &'a [String],
-    counts: &'a [&'a str],
+    choices: Choices<'a>,
 ) -> Result<Option<Asked<'a>>, clap::Error>
     ensures asks { IfOk result (λ asked. IfSome asked
-        (λ a. Asks counts.entry (map string_bytes words.entry.now) a.task a.path.now)) }
-    ensures none { IfOk result (λ asked. IsNone asked → AsksNothing counts.entry (map string_bytes words.entry.now)) }
-    ensures right { FailsBy (fault_of (farm counts.entry) (map string_bytes words.entry.now)) result }
-    ensures refused { IfErr result (λ fault. IsRefusedRightly counts.entry (map string_bytes words.entry.now) fault) }
+        (λ a. Asks choices.entry (map string_bytes words.entry.now) a.task a.path.now)) }
+    ensures none { IfOk result (λ asked. IsNone asked → AsksNothing choices.entry (map string_bytes words.entry.now)) }
+    ensures right { FailsBy (fault_of (farm choices.entry) (map string_bytes words.entry.now)) result }
+    ensures refused { IfErr result (λ fault. IsRefusedRightly choices.entry (map string_bytes words.entry.now) fault) }
 {
-    let command = command(alloc, counts)?;
+    let command = command(alloc, choices)?;
     let matches = command.try_get_matches_from(words)?;
     Ok(asked_of(&matches))
 }

@@ -3,8 +3,12 @@
 #![tactic(auto)]
 
 mod build_words;
+mod choices;
 mod command_line;
+mod joining;
+mod run_words;
 mod task;
 
+pub use choices::{Choices, offered};
 pub use command_line::asked_for;
-pub use task::{Asked, Task};
+pub use task::{Asked, Format, Task};

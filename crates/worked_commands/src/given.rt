@@ -1,7 +1,7 @@
 //! Files in memory.
 
-use cfarm_files::{FileFault, Files};
-use durable_model::{Disk, MemoryDisk};
+use cfarm_files::{DiskFault, FileFault, Files};
+use durable_pair_memory::MemoryPair;
 use program_rows::bytes_of;
 use std::alloc::Global;
 
@@ -17,7 +17,7 @@ pub struct Put {
     pub bytes: Vec<u8>,
 }
 
-/// The one file that can be read, and what was put. A journal is empty, unless its folder says otherwise.
+/// The one file that can be read, and what was put. Journals are empty, unless their folder says otherwise.
 #[derive(Drop)]
 pub struct Given<'a> {
     pub alloc: Global,
@@ -35,26 +35,57 @@ impl<'a> Given<'a> {
     }
 }
 
-/// A disk that holds the bytes, by its first two calls; it can note so many, and fails at this one.
-fn disk_of(alloc: Global, calls: usize, fails: usize, bytes: &[u8]) -> Option<MemoryDisk> {
-    let mut disk = MemoryDisk::new(alloc, calls, BYTES).ok()?;
-    disk.write_at(0, bytes).ok()?;
-    disk.sync().ok()?;
-    disk.fail_at(fails);
-    Some(disk)
+/// Disks that hold these bytes, synced; they can note so many calls, and fail at this one.
+fn disk_of(
+    alloc: Global,
+    calls: usize,
+    fails: usize,
+    bytes: &[u8],
+    old_bytes: &[u8],
+) -> Result<MemoryPair, DiskFault> {
+    let (Ok(new), Ok(old)) = (bytes.to_vec(alloc), old_bytes.to_vec(alloc)) else {
+        return Err(DiskFault::NoMemory);
+    };
+    match MemoryPair::holding(alloc, new, old, calls, BYTES) {
+        Ok(mut disk) => {
+            disk.fail_at(fails);
+            Ok(disk)
+        }
+        Err(_) => Err(DiskFault::NoMemory),
+    }
 }
 
-/// The disk of a folder. One that is named `%` and hex digits has journals of these bytes.
-fn disk_in(alloc: Global, folder: &str, name: &str) -> Option<MemoryDisk> {
+/// What the name of a folder spells for the node with this new file: where a number and `=` stand in front, nothing for another node.
+fn spelled<'a>(folder: &'a str, name: &str) -> &'a str {
+    let number = name.strip_prefix("node").unwrap_or("");
+    let number = number.strip_suffix(".cf2").unwrap_or("");
+    match folder.split_once('=') {
+        Some((meant, rest)) if meant == number => rest,
+        Some(_) => "",
+        None => folder,
+    }
+}
+
+/// Disks whose bytes are spelled: behind `%` those of the old one, behind `&` those of the new one.
+fn disk_spelled(alloc: Global, text: &str) -> Result<MemoryPair, DiskFault> {
+    let (old, new) = text.split_once('&').unwrap_or((text, ""));
+    let old = old.strip_prefix("%").unwrap_or("");
+    let (Some(bytes), Some(old_bytes)) = (bytes_of(alloc, new), bytes_of(alloc, old)) else {
+        return Err(DiskFault::New);
+    };
+    disk_of(alloc, CALLS, 0, &bytes, &old_bytes)
+}
+
+/// The disks of a folder.
+fn disk_in(alloc: Global, folder: &str, name: &str) -> Result<MemoryPair, DiskFault> {
     match folder {
-        "missing" => None,
-        "behind" if name == "node1.cfj" => None,
-        "broken" => disk_of(alloc, CALLS, 3, &[]),
-        "worn" => disk_of(alloc, 14, 0, &[]),
-        _ => match folder.strip_prefix("%") {
-            Some(digits) => disk_of(alloc, CALLS, 0, &bytes_of(alloc, digits)?),
-            None => disk_of(alloc, CALLS, 0, &[]),
-        },
+        "missing" => Err(DiskFault::New),
+        "behind" if name == "node1.cf2" => Err(DiskFault::New),
+        "barred" if name == "node1.cf2" => Err(DiskFault::Old),
+        "scarce" => Err(DiskFault::NoMemory),
+        "broken" => disk_of(alloc, CALLS, 1, &[], &[]),
+        "worn" => disk_of(alloc, 14, 0, &[], &[]),
+        _ => disk_spelled(alloc, spelled(folder, name)),
     }
 }
 
@@ -63,11 +94,11 @@ fn disk_in(alloc: Global, folder: &str, name: &str) -> Option<MemoryDisk> {
 pub struct Held;
 
 impl Files for Given<'_> {
-    type Disk = MemoryDisk;
+    type Disk = MemoryPair;
 
     type Lock = Held;
 
-    fn lock(&self, folder: &str, _path: &str) -> Result<Held, FileFault> {
+    fn lock(&mut self, folder: &str, _path: &str) -> Result<Held, FileFault> {
         match folder {
             "missing" | "busy" => Err(FileFault::Refused),
             "locked" => Err(FileFault::NoMemory),
@@ -86,15 +117,13 @@ impl Files for Given<'_> {
         }
     }
 
-    fn disk(&self, _lock: &Held, path: &str) -> Result<MemoryDisk, FileFault> {
+    fn disk(&mut self, _lock: &Held, path: &str, _old_path: &str) -> Result<MemoryPair, DiskFault> {
         let (folder, name) = path.rsplit_once('/').unwrap_or(("", path));
-        if folder == "scarce" {
-            return Err(FileFault::NoMemory);
-        }
-        match disk_in(self.alloc, folder, name) {
-            Some(disk) => Ok(disk),
-            None => Err(FileFault::Refused),
-        }
+        disk_in(self.alloc, folder, name)
+    }
+
+    fn counts_old(&self, disk: &MemoryPair) -> bool {
+        disk.old_bytes().starts_with(b"C".as_slice())
     }
 
     fn put(&mut self, _lock: &Held, path: &str, bytes: &[u8]) -> Result<(), FileFault> {

@@ -4,11 +4,13 @@
 //! | Question | Answer |
 //! |---|---|
 //! | `run WORDS < TEXT` | the status, the output and standard error, each in quotes; where a file was put its path, and the same of `exec --limit 1000` on it |
+//! | `seen WORDS < TEXT` | the same, where the output and standard error are terminals |
 //! | `interrupted WORDS < TEXT` | the same, where a signal interrupts every other write |
 //! | `failing WORDS < TEXT` | the bytes of the output and of standard error, where the program answers 4 with a writer that fails at any of them |
 //! | `unflushed WORDS < TEXT`, `untold WORDS < TEXT` | the same as `run`, where the output, or standard error, cannot be flushed |
 //! | `linked WORDS < TEXT` | the same as `run`, without what the program does that was put |
 //! | `here WORDS` | the same as `run`, with the files of the machine |
+//! | `bytes PATH` | the bytes of a file of the machine, in hex; `none` where none is there |
 //! | `twice FOLDER WORDS` | the same, of a build in the folder, and the same of `exec --limit 1000` on its `linked.cfp`; and `same` where a second build answers the same and leaves the same file |
 //!
 //! The words have blanks between; `''` is an empty one. The file `f` has the text, for `big` there is no memory, and no
@@ -17,9 +19,10 @@
 //! empty line only what stands before that is shown, with `..` behind it. In a report `v` is shown for a number of a node, and `H` for the
 //! SHA-256 of the file that was put; of a program that was put and is still running, one byte that it writes again and again is shown once.
 //!
-//! Journals are disks in memory, which are empty in most folders. The folder `missing` has none, and `behind` not that of node 1; there is
-//! no memory for those in `scarce`. They fail at the first call in `broken`, and after the twelfth in `worn`. In a folder whose name is `%`
-//! and hex digits each holds these bytes. No file can be put in `full`, and for one in `tight` there is no memory.
+//! Journals are disks in memory, which are empty in most folders. The folder `missing` has none, `behind` not the new one of node 1, and `barred`
+//! not its old one; there is no memory for those in `scarce`. They fail at the first call in `broken`, and after the fourteenth in `worn`. In a folder
+//! whose name is `%` and hex digits each old one holds these bytes; behind `&` stand those of each new one; a number and `=` in front mean the disks of
+//! that node alone. No file can be put in `full`, and for one in `tight` there is no memory.
 #![tactic(auto)]
 
 mod failing;

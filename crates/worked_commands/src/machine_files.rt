@@ -5,6 +5,7 @@ use crate::runs::{Here, Ran, executed, run_over, told, words_of};
 use cfarm_files::HostFiles;
 use rooms_hall::Naming;
 use std::fs;
+use std::io::ErrorKind;
 use std::sync::Wait;
 use std::thread::Threads;
 
@@ -32,6 +33,16 @@ pub fn answer_here<H: Naming + Send, R: Threads + Wait + Sync>(
 ) -> Option<String> {
     let words = words_of(here.alloc, line)?;
     told(here.alloc, &ran_here(rt, here, &words), &[])
+}
+
+/// The bytes of a file of the machine in hex, if one is there.
+pub fn bytes_here(rt: &HostRuntime, path: &str) -> Option<String> {
+    let alloc = rt.alloc();
+    match fs::read(rt, path) {
+        Ok(bytes) => hex::encode(alloc, bytes.as_slice()).ok(),
+        Err(fault) if fault.kind() == ErrorKind::NotFound => "none".to_string(alloc).ok(),
+        Err(_) => None,
+    }
 }
 
 /// The same of a build in this folder, and what the program does that is linked there; and whether a second build there answers the

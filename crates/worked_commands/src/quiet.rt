@@ -10,7 +10,11 @@ pub struct Quiet {
 }
 
 impl Meter for Quiet {
-    fn tell(&mut self, _linked: usize, _functions: usize, _turns: u64) {
+    fn found(&mut self, _old: usize, _nodes: usize) {}
+
+    fn opened(&mut self) {}
+
+    fn tell(&mut self, _agreed: usize, _rooms: usize, _linked: usize, _functions: usize) {
         self.told = self.told.saturating_add(1);
     }
 

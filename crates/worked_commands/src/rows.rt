@@ -4,7 +4,7 @@ ghost use Rattle.std.specs.Prelude.{◌≡◌};
 
 use crate::failing::failing;
 use crate::held::Held;
-use crate::machine_files::{answer_here, answer_twice};
+use crate::machine_files::{answer_here, answer_twice, bytes_here};
 use crate::runs::{Here, answer, linked, words_of};
 use crate::texts::text_of;
 use program_rows::{agrees, parts_of_row};
@@ -28,7 +28,7 @@ fn told<H: Naming + Send, R: Threads + Wait + Sync>(
     let words = words_of(alloc, line)?;
     let text = text_of(alloc, text)?;
     let (out, err) = match kind {
-        "run" => (Held::ample(alloc), Held::ample(alloc)),
+        "run" | "seen" => (Held::ample(alloc), Held::ample(alloc)),
         "interrupted" => (Held::with_signals(alloc), Held::with_signals(alloc)),
         "unflushed" => (Held::stuck(alloc), Held::ample(alloc)),
         "untold" => (Held::ample(alloc), Held::stuck(alloc)),
@@ -48,10 +48,17 @@ fn asked<H: Naming + Send, R: Threads + Wait + Sync>(
     let (kind, rest) = question.split_once(' ').unwrap_or((question, ""));
     match kind {
         "here" => answer_here(rt, here, rest),
+        "bytes" => bytes_here(rt, rest),
         "twice" => answer_twice(rt, here, rest),
         _ => {
             let (line, text) = rest.split_once(" <").unwrap_or((rest, ""));
-            told(here, kind, line, text.trim_start())
+            let here = Here {
+                threads: here.threads,
+                hall: here.hall,
+                alloc: here.alloc,
+                is_seen: kind == "seen",
+            };
+            told(&here, kind, line, text.trim_start())
         }
     }
 }
@@ -69,6 +76,7 @@ fn tell_in<H: Naming + Send, R: Threads + Wait + Sync>(
         threads,
         hall: &hall,
         alloc: rt.alloc(),
+        is_seen: false,
     };
     let text = fs::read_to_string(rt, NAME)?;
     let mut all = 0u64;

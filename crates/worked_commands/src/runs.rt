@@ -6,6 +6,7 @@ use crate::masked::masked;
 use crate::quiet::Quiet;
 use crate::shown::shown;
 use cfarm_files::Files;
+use cfarm_output::{ErrorWriter, Paced};
 use cfarm_program::run;
 use rooms_hall::{Hall, Naming};
 use std::alloc::Global;
@@ -18,6 +19,8 @@ pub struct Here<'a, H: Naming, R> {
     pub threads: &'a R,
     pub hall: &'a Hall<H>,
     pub alloc: Global,
+    /// Whether the output and standard error are terminals.
+    pub is_seen: bool,
 }
 
 /// What a run came to.
@@ -47,27 +50,30 @@ pub fn run_over<H: Naming + Send, R: Threads + Wait + Sync, F: Files>(
     here: &Here<'_, H, R>,
     words: &[String],
     files: &mut F,
-    mut out: Held,
-    mut err: Held,
+    out: Held,
+    err: Held,
 ) -> Ran {
     let mut quiet = Quiet {
         told: 0,
         cleared: 0,
     };
+    let mut out = Paced::over(out, here.is_seen);
+    let mut lines = ErrorWriter::over(err);
     let status = run(
         here.threads,
         here.alloc,
         here.hall,
+        here.is_seen,
         words,
         files,
         &mut quiet,
         &mut out,
-        &mut err,
+        &mut lines,
     );
     Ran {
         status,
-        out: out.bytes,
-        err: err.bytes,
+        out: out.taker.bytes,
+        err: lines.into_writer().bytes,
     }
 }
 

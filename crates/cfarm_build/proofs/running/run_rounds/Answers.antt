@@ -1,5 +1,6 @@
 -- Rounds behind rounds.
 use Rattle.std.proofs.Common.{arith}
+use Rattle.farm_nodes_passes.specs.Texts.{pass_texts}
 use Rattle.cfarm_build_linking.specs.Fours.{fours_of}
 use Rattle.cfarm_build_linking.specs.Waiting.{IsWaiting}
 use Rattle.cfarm_build_linking.proofs.Coming.{all_stay}
@@ -12,7 +13,7 @@ loop-left-init g c =
     record {
       left = omega arith;
       fit = c.requires.fit;
-      came = all_stay disk.is_honest disk.seen disk.may_leave disk.moment disk.left_since (λ n. n.program) (λ n. n.log)
+      came = all_stay pass_texts disk.is_honest disk.seen disk.may_leave disk.moment disk.left_since (λ n. n.program) (λ n. n.log)
           (λ n. fours_of n.seats.items) (λ n. n.halted) (λ d honest c left. (g.met.D.Disk g.world.𝓛 g.world.𝓜 g.world.𝓡 ((λ s x. x), (λ x. x), (λ x. x), λ x. x)).only_now d c honest left)
           (λ n. IsWaiting n.seats.items n.halted) c.args.turns c.args.nodes.items c.requires.fit;
     }

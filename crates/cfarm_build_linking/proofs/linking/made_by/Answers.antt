@@ -1,5 +1,5 @@
 -- The first of the nodes links what it has learned, or why not.
-use Rattle.std.proofs.Common.{◌≡◌, length, map, sym, ap, subst, ◌∙◌}
+use Rattle.std.proofs.Common.{◌≡◌, length, map, refl, sym, ap, subst, ◌∙◌}
 use Rattle.std.specs.Arc.{arc_value}
 use Rattle.std.specs.String.{string_bytes}
 use Rattle.std.proofs.lemmas.List.{length-map}
@@ -8,12 +8,15 @@ use Rattle.cminor_lowering.specs.Programs.{low}
 use Rattle.farm_nodes_linked.specs.Chains.{names_of}
 use Rattle.farm_nodes_linked.specs.Numbers.{function_of_link_error}
 use Rattle.farm_nodes_linked.specs.Learned.{learned_by, IsUndecided}
+use Rattle.farm_nodes_linked.specs.Offered.{linked_offers}
 use Rattle.farm_nodes_linked.specs.Refused.{IsRefused}
+use Rattle.rtlgen_definition.specs.Gen.{gen}
 use Rattle.cfarm_build_linking.specs.Node.{node}
 use Rattle.cfarm_build_linking.specs.Refused.{IsToldOf}
 use Rattle.cfarm_build_linking.specs.Told.{AreTold}
 use Rattle.cfarm_build_linking.proofs.Learning.{all_at, all_mapped, seen_at}
 use Rattle.cfarm_build_linking.proofs.Firsts as firsts
+use Rattle.cfarm_build_linking.proofs.Neighbours.{all_link, all_same, two_seen}
 use Rattle.cfarm_build_linking.proofs.Refusing.{as_many, of_function, refused}
 use Rattle.cfarm_build_linking.proofs.linking.made_by.Goals as goal
 
@@ -64,13 +67,19 @@ returns-in-Ok-report-clause-built g c =
     let functions = c.in-Ok-numbers_of.functions.items in
     let bytes = c.in-Ok-written.bytes.items in
     let count = length-map c.args.nodes.now (λ n. node n.log n.seats.items n.halted) in
+    let same = all_same (λ n. n.seats.items) c.args.nodes.now x c.requires.some c.index-nodes-0.is c.requires.counted in
     record {
+      counted = two_seen (λ n. n.seats.items) (λ n. node n.log n.seats.items n.halted) (λ n. n.seats) (λ n. refl) c.args.nodes.now c.requires.counted;
       decided = all_mapped (λ n. node n.log n.seats.items n.halted) (λ n. IsUndecided (learned_by n.seats) → ⊥) c.args.nodes.now c.requires.decided;
       node = node x.log x.seats.items x.halted;
       first = seen_at (λ n. node n.log n.seats.items n.halted) c.args.nodes.now 0 x c.requires.some c.index-nodes-0.is;
+      same = all_mapped (λ n. node n.log n.seats.items n.halted) (λ n. learned_by n.seats ≡ learned_by x.seats.items) c.args.nodes.now same;
       linked = record {
         program = c.in-Ok.program;
-        linked = c.in-Ok.ensures.ok;
+        linked = all_mapped (λ n. node n.log n.seats.items n.halted)
+            (λ n. c.in-Ok.program ≡ linked_offers (gen (low (program_tree source.program))) (learned_by n.seats)) c.args.nodes.now
+            (all_link (λ n. n.seats.items) (gen (low (program_tree source.program))) c.in-Ok.program (learned_by x.seats.items) c.args.nodes.now
+            c.in-Ok.ensures.ok same);
         keeps = c.in-Ok.ensures.keeps;
         fits = c.in-Ok.ensures.spelled c.requires.names;
         text = c.in-Ok-written.ensures;

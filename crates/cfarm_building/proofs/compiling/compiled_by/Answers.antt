@@ -1,8 +1,11 @@
-use Rattle.std.proofs.Common.{sym, ap, subst, ◌∙◌, arith}
+use Rattle.std.proofs.Common.{sym, ap, inl, inr, subst, ◌∙◌, arith}
 use Rattle.cfarm_build.specs.Built.{IsBuilt}
 use Rattle.cfarm_build.specs.Quorum.{Sizes}
 use Rattle.cfarm_build.specs.Refused.{IsUnbuilt}
-use Rattle.cfarm_building.proofs.Refusing.{no_disk, no_lock, not_built, ready}
+use Rattle.cfarm_building.proofs.Given.{given_before, refused_before}
+use Rattle.cfarm_options.specs.Sizes.{count_of}
+use Rattle.cfarm_building.proofs.Making.{left_at, left_built, left_either, of_both, of_lock}
+use Rattle.cfarm_building.proofs.Refusing.{keeps_same, no_disk, no_lock, not_built, ready}
 use Rattle.cfarm_building.proofs.compiling.compiled_by.Goals as goal
 
 pub returns-in-Err-clause-refused : goal.returns-in-Err-clause-refused
@@ -11,14 +14,15 @@ returns-in-Err-clause-refused g c = c.in-Err.ensures.refused
 pub returns-in-Err-locked-clause-refused : goal.returns-in-Err-locked-clause-refused
 returns-in-Err-locked-clause-refused g c =
     let made = c.in-Ok.ensures in
-    no_lock g.F.Disk.Disk g.H.Naming (g.F.Files.may_give c.args.files.now) c.args.options c.args.text.now c.in-Ok.source
+    no_lock g.F.Disk.Disk g.F.Disk.Pair g.H.Naming (g.F.Files.may_give c.args.files.now) c.args.options c.args.text.now c.in-Ok.source
     (ready _ _ made.accepted made.translated made.keeps made.names made.count made.digest) c.in-Err-locked.fault c.in-Err-locked.ensures.refused
 
 pub returns-in-Err-open_disks-clause-refused : goal.returns-in-Err-open_disks-clause-refused
 returns-in-Err-open_disks-clause-refused g c =
     let made = c.in-Ok.ensures in
-    no_disk g.F.Disk.Disk g.H.Naming (g.F.Files.may_give c.args.files.now) c.args.options c.args.text.now c.in-Ok.source
-    (ready _ _ made.accepted made.translated made.keeps made.names made.count made.digest) c.in-Err-open_disks.fault c.in-Err-open_disks.ensures.refused
+    no_disk g.F.Disk.Disk g.F.Disk.Pair g.H.Naming (g.F.Files.may_give c.args.files.now) c.args.options c.args.text.now c.in-Ok.source
+    (ready _ _ made.accepted made.translated made.keeps made.names made.count made.digest) c.in-Err-open_disks.fault
+    (refused_before _ _ c.in-Ok-locked.ensures.others c.args.options.folder.now (count_of c.args.options.nodes) c.in-Err-open_disks.fault c.in-Err-open_disks.ensures.refused)
 
 pub build-requires-clause-size : goal.build-requires-clause-size
 build-requires-clause-size g c κs within =
@@ -37,15 +41,39 @@ returns-in-Ok-build-clause-built g c =
       is = ready _ _ made.accepted made.translated made.keeps made.names made.count made.digest;
       so = record {
         given = disks;
-        are = c.in-Ok-open_disks.ensures.given;
-        so = subst (λ (q : Sizes). IsBuilt g.F.Disk.Disk g.H.Naming q c.args.options.seed c.in-Ok.source disks c.in-Ok-build.built) c.requires c.in-Ok-build.ensures.built;
+        are = given_before _ _ c.in-Ok-locked.ensures.others c.args.options.folder.now (count_of c.args.options.nodes) disks c.in-Ok-open_disks.ensures.given;
+        so = subst (λ (q : Sizes). IsBuilt g.F.Disk.Disk g.F.Disk.Pair g.H.Naming q c.args.options.seed c.in-Ok.source disks c.in-Ok-build.built) c.requires c.in-Ok-build.ensures.built;
       };
     }
 
 pub returns-in-Err-build-clause-refused : goal.returns-in-Err-build-clause-refused
 returns-in-Err-build-clause-refused g c =
     let made = c.in-Ok.ensures in
-    not_built g.F.Disk.Disk g.H.Naming (g.F.Files.may_give c.args.files.now) c.args.options c.args.text.now c.in-Ok.source
+    not_built g.F.Disk.Disk g.F.Disk.Pair g.H.Naming (g.F.Files.may_give c.args.files.now) c.args.options c.args.text.now c.in-Ok.source
     (ready _ _ made.accepted made.translated made.keeps made.names made.count made.digest)
-    c.in-Ok-open_disks.disks.items c.in-Ok-open_disks.ensures.given c.in-Err-build.fault
-    (subst (λ (q : Sizes). IsUnbuilt g.F.Disk.Disk g.H.Naming q c.args.options.seed c.in-Ok.source c.in-Ok-open_disks.disks.items c.in-Err-build.fault) c.requires c.in-Err-build.ensures.refused)
+    c.in-Ok-open_disks.disks.items
+    (given_before _ _ c.in-Ok-locked.ensures.others c.args.options.folder.now (count_of c.args.options.nodes) c.in-Ok-open_disks.disks.items c.in-Ok-open_disks.ensures.given)
+    c.in-Err-build.fault
+    (subst (λ (q : Sizes). IsUnbuilt g.F.Disk.Disk g.F.Disk.Pair g.H.Naming q c.args.options.seed c.in-Ok.source c.in-Ok-open_disks.disks.items c.in-Err-build.fault) c.requires c.in-Err-build.ensures.refused)
+
+-- A refused text makes nothing; behind it the lock's file and journals may have been made.
+pub returns-in-Err-clause-left : goal.returns-in-Err-clause-left
+returns-in-Err-clause-left g c = keeps_same (g.F.Files.placed c.args.files.now)
+
+pub returns-in-Err-locked-clause-left : goal.returns-in-Err-locked-clause-left
+returns-in-Err-locked-clause-left g c = left_at c.args.options.folder.now _ _ _ c.in-Err-locked.fault c.in-Err-locked.ensures.refused
+    (of_lock c.args.options.folder.now _ _ c.in-Err-locked.ensures.made)
+
+pub returns-in-Err-open_disks-clause-left : goal.returns-in-Err-open_disks-clause-left
+returns-in-Err-open_disks-clause-left g c = left_either c.args.options.folder.now _ _ _ _ c.in-Err-open_disks.fault c.in-Err-open_disks.ensures.refused.refused
+    (of_both c.args.options.folder.now _ _ _ c.in-Ok-locked.ensures.made c.in-Err-open_disks.ensures.made)
+
+pub returns-in-Ok-build-clause-made : goal.returns-in-Ok-build-clause-made
+returns-in-Ok-build-clause-made g c = of_both c.args.options.folder.now _ _ _ c.in-Ok-locked.ensures.made c.in-Ok-open_disks.ensures.made
+
+pub returns-in-Err-build-clause-left : goal.returns-in-Err-build-clause-left
+returns-in-Err-build-clause-left g c = left_built c.args.options.folder.now _ _ _ _ _ _ _ _ _ c.in-Err-build.fault c.in-Err-build.ensures.refused
+    (of_both c.args.options.folder.now _ _ _ c.in-Ok-locked.ensures.made c.in-Ok-open_disks.ensures.made)
+
+pub returns-in_default-clause-left : goal.returns-in_default-clause-left
+returns-in_default-clause-left g c = of_both c.args.options.folder.now _ _ _ c.in-Ok-locked.ensures.made c.in-Ok-open_disks.ensures.made

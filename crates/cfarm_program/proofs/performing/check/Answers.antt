@@ -1,8 +1,6 @@
 use Rattle.std.proofs.Common.{refl, inl, inr}
-use Rattle.cfarm_commands.specs.TextLines.{error_line}
-use Rattle.cfarm_program.specs.Outcomes.{text_fault}
+use Rattle.cfarm_program.specs.Outcomes.{checked_fault}
 use Rattle.cfarm_program.specs.Telling.{quiet}
-use Rattle.cfarm_program.proofs.Answering.{told_by}
 use Rattle.cfarm_program.proofs.performing.check.Goals as goal
 
 pub returns-in-Ok-clause-does : goal.returns-in-Ok-clause-does
@@ -11,4 +9,4 @@ returns-in-Ok-clause-does g c = (quiet, inl (c.in-Ok.ensures.accepted, refl), (r
 pub returns-in-Err-clause-does : goal.returns-in-Err-clause-does
 returns-in-Err-clause-does g c =
     let fault = c.in-Err.fault in
-    (text_fault fault, inr (fault, c.in-Err.ensures.refused, c.in-Err.ensures.printed, refl), told_by _ _ (error_line fault) _ _ _ c.status.ensures (c.tell.ensures.told (error_line fault) refl))
+    (checked_fault c.args.format c.args.path.now c.args.text.now fault, inr (fault, c.in-Err.ensures.refused, c.in-Err.ensures.printed, refl), c.tell_checked.ensures.told)

@@ -1,6 +1,6 @@
 use Rattle.std.proofs.Common.{subst}
 use Rattle.cfarm_program.specs.Met.{AreMet}
-use Rattle.cfarm_program.proofs.Answering.{keeps_same}
+use Rattle.cfarm_program.proofs.Answering.{keeps_same, plainly}
 use Rattle.cfarm_program.proofs.performing.perform.Goals as goal
 
 pub returns-in-Check-clause-does : goal.returns-in-Check-clause-does
@@ -21,12 +21,12 @@ returns-in-Exec-clause-does g c =
 pub returns-in-Settle-clause-does : goal.returns-in-Settle-clause-does
 returns-in-Settle-clause-does g c =
     let it = c.lay_out.ensures.does in
-    rw c.in-Settle.is (it.0, (keeps_same _, it.1), it.2)
+    rw c.in-Settle.is (it.0, (keeps_same _, it.1), plainly c.args.is_seen it.0 _ _ _ it.2)
 
 pub returns-in-Simulate-clause-does : goal.returns-in-Simulate-clause-does
 returns-in-Simulate-clause-does g c =
     let it = c.play.ensures.does in
-    rw c.in-Simulate.is (it.0, (keeps_same _, it.1), it.2)
+    rw c.in-Simulate.is (it.0, (keeps_same _, it.1), plainly c.args.is_seen it.0 _ _ _ it.2)
 
 pub build-requires-clause-met : goal.build-requires-clause-met
 build-requires-clause-met g c κs within = subst AreMet c.in-Build.is c.requires.met

@@ -7,17 +7,17 @@ pub returns-in-Ok-Some-clause-does : goal.returns-in-Ok-Some-clause-does
 returns-in-Ok-Some-clause-does g c =
     let asked = c.in-Ok-Some.asked in
     let asks = rw c.in-Ok-Some.field-0-is at c.in-Ok-Some.ensures.asks in
-    (c.node_counts-counts.result, c.node_counts-counts.ensures, inl (asked.task, asked.path.now, asks, c.in-Ok-Some.ensures.right, c.run_task.ensures.does))
+    (c.offered-choices.result, c.offered-choices.ensures, inl (asked.task, asked.path.now, asks, c.in-Ok-Some.ensures.right, c.run_task.ensures.does))
 
 pub returns-in-Ok-None-clause-does : goal.returns-in-Ok-None-clause-does
 returns-in-Ok-None-clause-does g c =
     let nothing = rw c.in-Ok-None.field-0-is at c.in-Ok-None.ensures.none in
-    (c.node_counts-counts.result, c.node_counts-counts.ensures, inr (inr (keeps_same _, nothing refl, refl, refl, refl)))
+    (c.offered-choices.result, c.offered-choices.ensures, inr (inr (keeps_same _, nothing refl, refl, refl, refl)))
 
 pub returns-in-Err-clause-does : goal.returns-in-Err-clause-does
 returns-in-Err-clause-does g c = (
-  c.node_counts-counts.result,
-  c.node_counts-counts.ensures,
+  c.offered-choices.result,
+  c.offered-choices.ensures,
   inr (inl (
     keeps_same _,
     record {

@@ -1,5 +1,5 @@
-use Rattle.cfarm_settle_nodes.specs.Goes.{Stays}
+use Rattle.cfarm_settle_nodes.specs.Goes.{SeesNoMore}
 use Rattle.cfarm_settle_nodes.proofs.node.hear_all.Given as goal
 
 abbrev pub invariant-loop-j : goal.invariant-loop-j
-invariant-loop-j g l = Stays l.initial.seat l.seat
+invariant-loop-j g l = SeesNoMore l.initial.seat l.seat

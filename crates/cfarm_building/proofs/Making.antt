@@ -1,0 +1,113 @@
+-- Files that are made, one after another.
+use Rattle.std.proofs.Common.{◌≡◌, ℕ, List, [], ◌∷◌, ◌++◌, map, Option, None, Some, inl, inr, refl, sym, ap, subst, ◌∙◌}
+use Rattle.std.specs.List.{AllByRecursion}
+use Rattle.cfarm_files.specs.Locking.{lock_path}
+use Rattle.cfarm_files.specs.Placing.{Placed, Keeps, Makes, made_at}
+use Rattle.durable_model.specs.declared.disk.Disk as disks
+use Rattle.durable_pair.specs.declared.pair.Pair as pairs
+use Rattle.rooms_hall.specs.declared.hall.Naming as naming
+use Rattle.farm_nodes_source.specs.declared.source.Source as compiled
+use Rattle.cfarm_build.specs.BuildError.{BuildError}
+use Rattle.cfarm_build.specs.Quorum.{Sizes}
+use Rattle.cfarm_build.specs.Refused.{IsUnbuilt}
+use Rattle.cfarm_build.specs.BuildError.TheVariants.{NoMemory, NoThread, Source, Disks, Failed, Undecided, Unlinked, Names}
+use Rattle.cfarm_options.specs.Paths.{journal_path}
+use Rattle.cfarm_building.specs.Disks.{IsJournal, IsOwn, IsRefusedAt, IsRefusedAtEither}
+use Rattle.cfarm_building.specs.Left.{Leaves}
+use Rattle.cfarm_building.specs.declared.error.BuildingError.{BuildingError}
+use Rattle.cfarm_building.specs.declared.error.BuildingError.TheVariants.{Build, File, Write}
+
+behind_none : {A : Type 0} (xs : List A) → xs ++ [] ≡ xs
+behind_none [] = refl
+behind_none (x ∷ xs) = ap (λ l. x ∷ l) (behind_none xs)
+
+behind_both : {A : Type 0} (xs ys zs : List A) → (xs ++ ys) ++ zs ≡ xs ++ (ys ++ zs)
+behind_both [] ys zs = refl
+behind_both (x ∷ xs) ys zs = ap (λ l. x ∷ l) (behind_both xs ys zs)
+
+map_both : {A B : Type 0} (f : A → B) (xs ys : List A) → map f (xs ++ ys) ≡ map f xs ++ map f ys
+map_both f [] ys = refl
+map_both f (x ∷ xs) ys = ap (λ l. f x ∷ l) (map_both f xs ys)
+
+all_both : {A : Type 0} (P : A → Type 0) (xs ys : List A) → AllByRecursion P xs → AllByRecursion P ys → AllByRecursion P (xs ++ ys)
+all_both P [] ys all more = more
+all_both P (x ∷ xs) ys all more = (all.0, all_both P xs ys all.1 more)
+
+all_weaker : {A : Type 0} (P Q : A → Type 0) → ((x : A) → P x → Q x) → (xs : List A) → AllByRecursion P xs → AllByRecursion Q xs
+all_weaker P Q so [] all = tt
+all_weaker P Q so (x ∷ xs) all = (so x all.0, all_weaker P Q so xs all.1)
+
+module _ (IsSuch : List ℕ → Type 0) where
+  pub makes_none : (o : Option (List Placed)) → Makes o o IsSuch
+  makes_none None = tt
+  makes_none (Some before) = ([], ap (λ l. Some l) (sym (behind_none before)), tt)
+
+  -- what else stays as it is
+  pub makes_keeps : (a b c : Option (List Placed)) → Makes a b IsSuch → Keeps b c → Makes a c IsSuch
+  makes_keeps None b c makes keeps = tt
+  makes_keeps (Some before) None c makes keeps = absurd (cc makes.1)
+  makes_keeps (Some before) (Some mid) c makes keeps = (makes.0, keeps ∙ makes.1, makes.2)
+
+  pub makes_weaker : (IsOne : List ℕ → Type 0) (a b : Option (List Placed)) → ((path : List ℕ) → IsOne path → IsSuch path) → Makes a b IsOne → Makes a b IsSuch
+  makes_weaker IsOne None b so makes = tt
+  makes_weaker IsOne (Some before) b so makes = (makes.0, makes.1, all_weaker IsOne IsSuch so makes.0 makes.2)
+
+  pub makes_through : (a b c : Option (List Placed)) → Makes a b IsSuch → Makes b c IsSuch → Makes a c IsSuch
+  makes_through None b c one two = tt
+  makes_through (Some before) None c one two = absurd (cc one.1)
+  makes_through (Some before) (Some mid) c one two =
+      let same : mid ≡ before ++ map made_at one.0 = (let both : Some mid ≡ Some (before ++ map made_at one.0) = one.1 in cc both) in (
+        one.0 ++ two.0,
+        two.1 ∙ ap (λ l. Some l) (ap (λ l. l ++ map made_at two.0) same ∙ (behind_both before (map made_at one.0) (map made_at two.0)
+            ∙ ap (λ l. before ++ l) (sym (map_both made_at one.0 two.0)))),
+        all_both IsSuch one.0 two.0 one.2 two.2,
+      )
+
+-- the journal of a node is one
+pub of_node : (folder : List ℕ) (node : ℕ) (a b : Option (List Placed)) → Makes a b (λ path. path ≡ journal_path folder node) → Makes a b (IsJournal folder)
+of_node folder node a b makes = makes_weaker (IsJournal folder) (λ path. path ≡ journal_path folder node) a b (λ path is. (node, is)) makes
+
+pub of_lock : (folder : List ℕ) (a b : Option (List Placed)) → Makes a b (λ path. path ≡ lock_path folder) → Makes a b (IsOwn folder)
+of_lock folder a b makes = makes_weaker (IsOwn folder) (λ path. path ≡ lock_path folder) a b (λ path is. inl is) makes
+
+-- the lock's file, and then journals
+pub of_both : (folder : List ℕ) (a b c : Option (List Placed)) → Makes a b (λ path. path ≡ lock_path folder) → Makes b c (IsJournal folder) → Makes a c (IsOwn folder)
+of_both folder a b c lock journals = makes_through (IsOwn folder) a b c (of_lock folder a b lock)
+    (makes_weaker (IsOwn folder) (IsJournal folder) b c (λ path is. inr is) journals)
+
+-- Behind a text that was made ready, where files may have been made.
+module _ (folder : List ℕ) (placed now_placed : Option (List Placed)) where
+  pub left_at : (at : List ℕ) (e : BuildingError) → IsRefusedAt at e → Makes placed now_placed (IsOwn folder) → Leaves folder placed now_placed e
+  left_at at (Build NoMemory) is makes = makes
+  left_at at (Build NoThread) is makes = makes
+  left_at at (Build (Source f)) is makes = absurd is
+  left_at at (Build (Disks f)) is makes = makes
+  left_at at (Build (Failed n f)) is makes = makes
+  left_at at (Build Undecided) is makes = makes
+  left_at at (Build (Unlinked f name)) is makes = makes
+  left_at at (Build Names) is makes = makes
+  left_at at (File path) is makes = makes
+  left_at at Write is makes = absurd is
+
+  pub left_either : (at other : List ℕ) (e : BuildingError) → IsRefusedAtEither at other e → Makes placed now_placed (IsOwn folder) → Leaves folder placed now_placed e
+  left_either at other (Build NoMemory) is makes = makes
+  left_either at other (Build NoThread) is makes = makes
+  left_either at other (Build (Source f)) is makes = absurd is
+  left_either at other (Build (Disks f)) is makes = makes
+  left_either at other (Build (Failed n f)) is makes = makes
+  left_either at other (Build Undecided) is makes = makes
+  left_either at other (Build (Unlinked f name)) is makes = makes
+  left_either at other (Build Names) is makes = makes
+  left_either at other (File path) is makes = makes
+  left_either at other Write is makes = absurd is
+
+  module _ {D : Type 0} (disk : disks.Ghosts D) (pair : pairs.Ghosts D) {H : Type 0} (h : naming.Ghosts H) (q : Sizes) (seed : ℕ) (source : compiled.Source) (given : List D) where
+    pub left_built : (e : BuildError) → IsUnbuilt disk pair h q seed source given e → Makes placed now_placed (IsOwn folder) → Leaves folder placed now_placed (Build e)
+    left_built NoMemory is makes = makes
+    left_built NoThread is makes = makes
+    left_built (Source f) is makes = absurd is
+    left_built (Disks f) is makes = makes
+    left_built (Failed n f) is makes = makes
+    left_built Undecided is makes = makes
+    left_built (Unlinked f name) is makes = makes
+    left_built Names is makes = makes

@@ -1,0 +1,84 @@
+//! A refused text, explained.
+
+use crate::before::{Before, tokens_before};
+use crate::excerpt::write_excerpt;
+use crate::hints::{hint, seems_unended};
+use crate::place::place_of;
+use crate::words::{bytes_between, first_part, word_of};
+use std::alloc::{AllocError, Global};
+
+/// How many bytes of a statement are shown.
+const MOST: usize = 30;
+
+/// The token that stands at this offset; nothing where none does.
+fn token_at(text: &[u8], at: usize) -> &str {
+    let rest = bytes_between(text, at, text.len());
+    let part = first_part(rest);
+    if part.is_token {
+        word_of(bytes_between(rest, 0, part.length))
+    } else {
+        ""
+    }
+}
+
+/// The statement as it is shown: without a `return` in front, or its last token alone where it is long or goes over lines.
+fn statement_of<'a>(text: &'a [u8], before: &Before<'a>) -> &'a str {
+    let statement = word_of(bytes_between(text, before.start, before.end));
+    let statement = statement.strip_prefix("return ").unwrap_or(statement);
+    if statement.is_empty() || statement.len() > MOST || statement.contains("\n") {
+        before.last
+    } else {
+        statement
+    }
+}
+
+/// Whether the text begins with the mark of the byte order of UTF-8, and this is its place.
+fn is_byte_order_mark(text: &[u8], at: usize) -> bool {
+    at == 0 && matches!(text, [0xEF, 0xBB, 0xBF, ..])
+}
+
+/// What is said of the fault: a hint, or else the sentence.
+fn said(
+    alloc: Global,
+    text: &[u8],
+    number: u16,
+    at: usize,
+    sentence: &str,
+) -> Result<String, AllocError> {
+    if number == 201 && is_byte_order_mark(text, at) {
+        return format!(in alloc; "a byte order mark stands in front: save the text without it");
+    }
+    let before = tokens_before(text, at);
+    let found = token_at(text, at);
+    let is_on_new_line = bytes_between(text, before.end, at).contains(&b'\n');
+    if number == 210 && seems_unended(found, is_on_new_line, &before) {
+        let statement = statement_of(text, &before);
+        return format!(in alloc; "`{found}` after `{statement}`: is `;` missing?");
+    }
+    if number == 210 && found.is_empty() {
+        let wanted = if before.braces > 0 { "}" } else { ";" };
+        return format!(in alloc; "the text ends: is `{wanted}` missing?");
+    }
+    match hint(number, found, &before) {
+        Some(hint) => format!(in alloc; "`{found}`: {hint}"),
+        None => format!(in alloc; "{sentence}"),
+    }
+}
+
+/// What a user is shown behind the fixed line of a refused text: `PATH:LINE:COLUMN: ` and a hint or this sentence, the line of the
+/// text, and a mark below the place. The time is linear in the text.
+pub fn explanation(
+    alloc: Global,
+    path: &str,
+    text: &[u8],
+    number: u16,
+    at: usize,
+    sentence: &str,
+) -> Result<String, AllocError> {
+    let place = place_of(text, at);
+    let said = said(alloc, text, number, at, sentence)?;
+    let (line, column) = (place.line, place.column);
+    let mut out = format!(in alloc; "{path}:{line}:{column}: {said}\n")?;
+    write_excerpt(&mut out, alloc, text, at, place)?;
+    Ok(out)
+}

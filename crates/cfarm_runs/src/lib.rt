@@ -1,0 +1,25 @@
+//! The commands that check or run one file, as functions over bytes and writers: what `main` and the tests call. `check_text` tells what a
+//! C text declares, `interpret` runs its program as the C standard means it, and `exec` runs a linked program. What a fault of a
+//! text means is said in a sentence (`sentence_of`), and can be told as compilers tell editors (`PlacedError`).
+#![tactic(auto)]
+
+mod checking;
+mod closing;
+mod command_error;
+mod exec_error;
+mod executing;
+mod interpreting;
+mod placed_error;
+mod reading;
+mod sentences;
+
+pub use c_texts::{TextError, accept};
+pub use checking::check_text;
+pub use closing::{Closing, status_of, status_where};
+pub use command_error::CommandError;
+pub use exec_error::ExecError;
+pub use executing::exec;
+pub use interpreting::interpret;
+pub use lang_parts::RunError;
+pub use placed_error::PlacedError;
+pub use sentences::sentence_of;
