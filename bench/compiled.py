@@ -1,20 +1,24 @@
 #!/usr/bin/env python3
-"""Times C programs as they are compiled, linked and run, beside the same work in Lua, Python and by gcc.
+"""Times C programs as `cfarm build` makes them and `cfarm exec` runs them, beside the same work in Lua, Python and by gcc.
 
-    bench/compiled.py --add        adds crates/linked to the tree, which writes what a text is linked to, proves and builds it
-    bench/compiled.py --remove     takes it out again
     bench/compiled.py              median of five runs of each, the kinds of run by turns
     bench/compiled.py --runs 1     one run of each
     bench/compiled.py --only sieve one program alone
+    bench/compiled.py --nodes 7    farms of seven nodes, not three
+    bench/compiled.py --add        adds crates/linked to the tree, which links a text by the baselines and counts what passes accept
+    bench/compiled.py --accepted   how many proposals of the optimisers that try for speed are accepted, of the programs and examples
+    bench/compiled.py --remove     takes that crate out again
 
 The programs: Fibonacci's number 30 by recursion, thirty sieves of 65,536, Collatz's sequences below 150,000, and two that
-print: primes, and the steps of a tower. Each is compiled by the baselines, and by the optimisers with the generators 1 to 4, and
-run by `cfarm exec`; by `cfarm interpret`; by Lua 5.4, Python 3, and as gcc makes it with -O0 and -O2. What each prints is
-compared. A ratio is a kind's time by Lua's; the time is a process's own, of user and system, its start among it.
+print: primes, and the steps of a tower. Each is built with the seeds 1 to 12 and each way of optimising, and shown are the median
+over the seeds and the worst; beside them `cfarm interpret`, Lua 5.4 where the machine has one, Python 3, and gcc with -O0 and -O2,
+and, where `linked` is built, the baselines. What each prints is compared. A ratio is a kind's time by Lua's, or by Python's
+where there is no Lua; the time is a process's own, of user and system, its start among it.
 
 `linked` is no part of the gate, so it stands as a patch, bench/compiled.patch. Remove it before anything is committed."""
 import argparse
 import os
+import shutil
 import statistics
 import subprocess
 import sys
@@ -23,10 +27,16 @@ import tempfile
 from laid_out import LaidOut, ROOT
 
 CFARM = os.path.join(ROOT, "crates", "cfarm", "out", "cfarm")
-LAID = LaidOut("compiled.patch", "linked: chains farm_nodes_source lang linear_language anyhow rand_pcg rand_core\n")
+LAID = LaidOut(
+    "compiled.patch",
+    "linked: chains farm_nodes_compiling farm_nodes_source linker offers_choice offers linearize_check alloc_check cse_check "
+    "constprop_check rtl_language linear_language lang lang_base anyhow rand_pcg\n",
+)
 LINKED = LAID.program
 LIMIT = str(2**63 - 1)
-GENERATORS = (1, 2, 3, 4)
+SEEDS = range(1, 13)
+WAYS = ("speed", "drawn")
+EXAMPLES = os.path.join(ROOT, "examples")
 
 PRINTING = """int putchar(int);
 void number(unsigned n) { if (n > 9u) number(n / 10u); putchar((int)(48u + n % 10u)); }
@@ -88,24 +98,36 @@ def write(folder, name, text):
     return path
 
 
+def built(folder, name, text, way, seed, given):
+    """The linked program of a build."""
+    place = os.path.join(folder, f"{name}.{way}.{seed}")
+    os.mkdir(place)
+    words = ["build", text, "--dir", place, "--nodes", str(given.nodes), "--seed", str(seed), "--optimise", way]
+    subprocess.run([given.cfarm, *words], stdout=subprocess.DEVNULL, check=True)
+    return os.path.join(place, "linked.cfp")
+
+
 def commands(folder, name, given):
-    """Each kind of run of a program, and the command for it."""
+    """Each kind of run of a program, and the command for it: of a build the kind is the way and the seed."""
     c, lua, python = PROGRAMS[name]
     text = write(folder, f"{name}.c", PRINTING + c)
-    found = {
-        "lua5.4": [given.lua, write(folder, f"{name}.lua", lua)],
-        "python3": ["python3", write(folder, f"{name}.py", python)],
-        "interpret": [given.cfarm, "interpret", text, "--depth", "4294967295"],
-    }
+    found = {"python3": ["python3", write(folder, f"{name}.py", python)]}
+    if shutil.which(given.lua):
+        found[given.lua] = [given.lua, write(folder, f"{name}.lua", lua)]
+    found["interpret"] = [given.cfarm, "interpret", text, "--depth", "4294967295"]
     for level in ("-O0", "-O2"):
         path = os.path.join(folder, name + level)
         subprocess.run(["gcc", level, "-w", "-o", path, text], check=True)
         found[f"gcc {level}"] = [path]
-    for number in (0, *GENERATORS):
-        linked = os.path.join(folder, f"{name}.{number}")
+    if os.path.exists(given.linked):
+        linked = os.path.join(folder, f"{name}.base")
         with open(linked, "wb") as file:
-            subprocess.run([given.linked, str(number), text], stdout=file, check=True)
-        found[f"exec, optimisers {number}" if number else "exec, baselines"] = [given.cfarm, "exec", linked, "--limit", LIMIT]
+            subprocess.run([given.linked, "baselines", text], stdout=file, check=True)
+        found["exec, baselines"] = [given.cfarm, "exec", linked, "--limit", LIMIT]
+    for way in WAYS:
+        for seed in SEEDS:
+            linked = built(folder, name, text, way, seed, given)
+            found[(way, seed)] = [given.cfarm, "exec", linked, "--limit", LIMIT]
     return found
 
 
@@ -119,6 +141,24 @@ def timed(command):
         return used.ru_utime + used.ru_stime, out.read()
 
 
+def show(kind, seconds, by):
+    print(f"    {kind:24} {seconds:8.3f} s {seconds / by:8.2f} times", flush=True)
+
+
+def show_all(name, medians, given):
+    """A program's lines: the builds of a way as the median over the seeds, and the worst."""
+    reference = given.lua if given.lua in medians else "python3"
+    by = medians[reference]
+    print(f"{name}, by the time of {reference}{'' if reference == given.lua else ' (there is no Lua here)'}")
+    for kind, took in medians.items():
+        if isinstance(kind, str):
+            show(kind, took, by)
+    for way in WAYS:
+        seeds = sorted(medians[(way, seed)] for seed in SEEDS)
+        show(f"exec, {way}: median", statistics.median(seeds), by)
+        show(f"exec, {way}: worst", seeds[-1], by)
+
+
 def measure(given):
     for name in [given.only] if given.only else PROGRAMS:
         with tempfile.TemporaryDirectory() as folder:
@@ -129,13 +169,25 @@ def measure(given):
                 for kind, command in kinds.items():
                     took, printed[kind] = timed(command)
                     seconds[kind].append(took)
-        other = [kind for kind in kinds if printed[kind] != printed["lua5.4"]]
+        other = [kind for kind in kinds if printed[kind] != printed["python3"]]
         if other:
-            sys.exit(f"{name}: {other} print something else than Lua")
-        lua = statistics.median(seconds["lua5.4"])
-        print(name)
-        for kind, took in seconds.items():
-            print(f"    {kind:20} {statistics.median(took):8.3f} s {statistics.median(took) / lua:8.2f} times Lua", flush=True)
+            sys.exit(f"{name}: {other} print something else than Python")
+        show_all(name, {kind: statistics.median(took) for kind, took in seconds.items()}, given)
+    return 0
+
+
+def accepted(given):
+    """Tells of each text how many proposals there are and how many are accepted, and of all."""
+    counts = []
+    with tempfile.TemporaryDirectory() as folder:
+        texts = [write(folder, f"{name}.c", PRINTING + c) for name, (c, _, _) in PROGRAMS.items()]
+        texts += sorted(os.path.join(EXAMPLES, name) for name in os.listdir(EXAMPLES) if name.endswith(".c"))
+        for text in texts + given.text:
+            done = subprocess.run([given.linked, "accepted", text], stdout=subprocess.PIPE, check=True)
+            counts.append([int(number) for number in done.stdout.split()])
+            print(f"{os.path.basename(text):24} {counts[-1][0]} of {counts[-1][1]}", flush=True)
+    some, whole = (sum(column) for column in zip(*counts))
+    print(f"accepted: {some} of {whole}, {100 * some / whole:.2f} of a hundred")
     return 0
 
 
@@ -143,15 +195,18 @@ def main():
     words = argparse.ArgumentParser(description=__doc__.splitlines()[0])
     words.add_argument("--add", action="store_true")
     words.add_argument("--remove", action="store_true")
+    words.add_argument("--accepted", action="store_true")
+    words.add_argument("--text", action="append", default=[], help="one more text of which proposals are counted")
     words.add_argument("--runs", type=int, default=5)
+    words.add_argument("--nodes", type=int, default=3)
     words.add_argument("--only", choices=PROGRAMS)
     words.add_argument("--cfarm", default=CFARM)
     words.add_argument("--linked", default=LINKED)
     words.add_argument("--lua", default="lua5.4")
     given = words.parse_args()
     if given.add or given.remove:
-        return LAID.add() if given.add else LAID.remove()
-    return measure(given)
+        return LAID.add_built() if given.add else LAID.remove()
+    return accepted(given) if given.accepted else measure(given)
 
 
 if __name__ == "__main__":

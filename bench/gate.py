@@ -3,7 +3,7 @@
 
     bench/gate.py run FILE      at the top of a clean clone, with nothing else running: runs the gate (`rt ci`) and
                                 writes a line `crate,kind,begun,seconds` to FILE for each piece of work as it ends
-    bench/gate.py table FILE    prints what FILE says as the table of docs/SPEED.md
+    bench/gate.py table FILE    prints the dearest of what FILE says as the table of docs/SPEED.md, and the sums
 
 The gate is the toolchain's own; only its pieces of work are timed."""
 import importlib.machinery
@@ -15,6 +15,7 @@ import time
 
 KINDS = ("proof", "tests", "edits")
 COLUMNS = 3
+SHOWN = 36
 
 
 def load_gate():
@@ -56,7 +57,7 @@ def table(file):
             seconds.setdefault(crate, dict.fromkeys(KINDS, 0.0))[kind] += float(took)
     dear = sorted(seconds, key=lambda it: -sum(seconds[it].values()))
     told = []
-    for crate in dear:
+    for crate in dear[:SHOWN]:
         numbers = [f"{seconds[crate][kind]:.0f}" if seconds[crate][kind] >= 1 else "" for kind in KINDS]
         told.append(f"`{crate}` | " + " | ".join(numbers))
     rows = -(-len(told) // COLUMNS)

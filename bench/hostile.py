@@ -13,15 +13,20 @@
     memory    the nth allocation is refused, or thread not made, once and from then on, in each command
     threads   the nth thread is not made, once and from then on, in each command
     calls     the nth call of the system fails, once and from then on, or is interrupted, or reads or writes less than it was asked to
-    kills     a build is killed at its nth call of the system, and builds are killed at random moments (bench/kills.py)
-    journals  each journal of a small build is cut at each length and changed at each byte, one at a time
+    kills     a build is killed at its nth call of the system, and builds are killed at random moments (bench/kills.py); in folders with journals
+              of the first version it is killed while it migrates them, too
+    journals  each journal of a small build is cut at each length and changed at each byte, one at a time: those that the build left, those of the
+              first version with the same records, and those that these were migrated to
     files     what else may stand in the way: files that are none, endless, huge, forbidden, full devices, closed streams
-    pairs     two builds are started at once in one folder, fresh, after a kill and built: one at a time has it
+    terminals what a build shows on a terminal, of journals that it migrates
+    pairs     two builds are started at once in one folder, fresh, after a kill and built, with journals of the first version too: one at a time
+              has it
     examples  each example is built with 2 to 7 nodes, with equal and unequal sizes of quorums, and two seeds, and run
 
 An answer is right where it is the one without a fault, or a status and a line of the program's table; want of memory is answered by `memory`,
 7, alone. Never is it a signal, nor an output that is not a beginning of the right one. Behind each fault of a build linked.cfp is whole or
-is not there, and a build without faults ends with 0 and leaves what stood there. It prints a table: what was tried, how often, what was
+is not there, and a build without faults ends with 0 and leaves what stood there. A journal of the first version is as it was, or spent behind the
+very one that it is to be migrated to (bench/aged.py), and none is made. It prints a table: what was tried, how often, what was
 answered, and how long the slowest trial took; then what was wrong, which must be nothing. Its status is 1 where something was."""
 import argparse
 import collections
@@ -29,6 +34,7 @@ import concurrent.futures
 import hashlib
 import json
 import os
+import pty
 import random
 import re
 import shutil
@@ -38,6 +44,7 @@ import sys
 import tempfile
 import time
 
+import aged
 import kills
 import shim
 
@@ -128,6 +135,40 @@ def content(path):
 def write(path, data):
     with open(path, "wb") as file:
         file.write(data)
+
+
+def olds(folder):
+    """The journals of the first version of a folder."""
+    found = {node: content(aged.old_in(folder, node)) for node in range(7) if os.path.isfile(aged.old_in(folder, node))}
+    return {node: data for node, data in found.items() if len(data) < MEGA}
+
+
+def may_be(old, now, new):
+    """Whether a journal of the first version may be so now, and the new one beside it."""
+    if now == old:
+        return True
+    if old[:1] != b"C" or now != aged.spent(old):
+        return False
+    becomes = aged.migrated(aged.old_header_of(old), old)
+    return not isinstance(becomes, int) and (new or b"").startswith(becomes[:-1])
+
+
+def old_faults(folder, before):
+    """What is wrong with the journals of the first version of a folder, where these stood before."""
+    now = olds(folder)
+    wrong = [f"a journal of the first version is made, of node {node}" for node in now if node not in before]
+    for node, old in before.items():
+        if node not in now or not may_be(old, now[node], content(aged.new_in(folder, node))):
+            wrong.append(f"the journal of the first version of node {node} is lost or another")
+    return wrong
+
+
+def strangers(folder):
+    """The files of a folder that no build reads or writes."""
+    own = re.compile(r"node\d\.cf[2j]|linked\.cfp(\.new)?|cfarm\.lock")
+    names = [name for name in os.listdir(folder) if not own.fullmatch(name)]
+    paths = {name: os.path.join(folder, name) for name in names}
+    return {name: content(path) for name, path in paths.items() if os.path.isfile(path) and os.path.getsize(path) < MEGA}
 
 
 def tell(line):
@@ -347,10 +388,11 @@ class Building:
 
     def again(self, folder, stood):
         """What is wrong with a further build, without faults, where this stood in linked.cfp."""
+        before = olds(folder)
         answer = self.sweep.run(self.words(folder))
         if answer.status != 0:
             return [f"the build behind it: {shown(answer)}"]
-        wrong = self.report(folder, answer)
+        wrong = self.report(folder, answer) + old_faults(folder, before)
         if stood is not None and content(os.path.join(folder, "linked.cfp")) != stood:
             wrong.append("the build behind it leaves another linked.cfp")
         if os.path.exists(os.path.join(folder, "linked.cfp.new")):
@@ -372,12 +414,12 @@ class Building:
     def fault(self, how, right, number):
         """Tries one fault: the name of its answer, and what was wrong."""
         folder = self.sweep.folder(self.like)
-        old = content(os.path.join(folder, "linked.cfp"))
+        old, before = content(os.path.join(folder, "linked.cfp")), olds(folder)
         told = os.path.join(folder, "told")
         answer, _, failed = self.sweep.faulty(self.words(folder), how, number, told)
         name = "killed" if how[0] == "k" and answer.status == -signal.SIGKILL else name_of(answer)
         wrong = [] if name in (right if failed else ("done",)) else [shown(answer)]
-        wrong += self.behind(folder, answer, old)
+        wrong += old_faults(folder, before) + self.behind(folder, answer, old)
         self.sweep.leave(folder)
         return name if failed else None, [f"call {number}, {failed or 'no fault'}: {one}" for one in wrong]
 
@@ -391,8 +433,16 @@ def killed_folder(sweep, text):
     return folder
 
 
+def aged_folder(sweep, like, which=None):
+    """A folder like this one, with journals of the first version."""
+    folder = sweep.folder(like)
+    aged.age(folder, which)
+    return folder
+
+
 def try_builds(sweep, part):
-    """Faults of a build in a fresh folder, over one that a killed build left, and over one of a build that was done."""
+    """Faults of a build in a fresh folder, over one that a killed build left, and over one of a build that was done; over the last two with
+    journals of the first version too, of all nodes or of one."""
     text = sweep.file("built.c", TEXT.encode())
     done = sweep.folder()
     sweep.run(Building(sweep, text).words(done))
@@ -402,7 +452,16 @@ def try_builds(sweep, part):
         "calls": ("done", "file", "journal", "undecided", "write 701", "no line"),
         "kills": ("killed",),
     }[part]
-    for title, like in (("fresh", None), ("after a kill", killed_folder(sweep, text)), ("again", done)):
+    killed = killed_folder(sweep, text)
+    folders = (
+        ("fresh", None),
+        ("after a kill", killed),
+        ("again", done),
+        ("first version, after a kill", aged_folder(sweep, killed)),
+        ("first version, again", aged_folder(sweep, done)),
+        ("first version of node 1, again", aged_folder(sweep, done, (1,))),
+    )
+    for title, like in folders:
         building = Building(sweep, text, like)
         for way, *how in WAYS[part]:
             row = f"{part}, build, {title}, {way}"
@@ -429,14 +488,17 @@ def try_calls(sweep):
 
 def try_kills(sweep):
     try_builds(sweep, "kills")
+    sizes = ("--nodes", "4", "--promise", "3", "--accept", "2")
     try_random_kills(sweep, "kills, at random moments", ("--nodes", "5"))
-    try_random_kills(sweep, "kills, at random moments, sizes 4 3 2", ("--nodes", "4", "--promise", "3", "--accept", "2"))
+    try_random_kills(sweep, "kills, at random moments, sizes 4 3 2", sizes)
+    try_random_kills(sweep, "kills, at random moments, first version", ("--nodes", "5"), True)
+    try_random_kills(sweep, "kills, at random moments, first version, sizes 4 3 2", sizes, True)
 
 
-def try_random_kills(sweep, row, sizes):
+def try_random_kills(sweep, row, sizes, is_aged=False):
     if not sweep.wants(row) or sweep.given.at:
         return
-    random_kills = kills.Kills(sweep.program, sizes, 1)
+    random_kills = kills.Kills(sweep.program, sizes, 1, is_aged)
     for number in range(5 if sweep.given.quick else sweep.given.times):
         before = len(random_kills.wrong)
         random_kills.directory(number)
@@ -450,15 +512,23 @@ def try_random_kills(sweep, row, sizes):
 
 
 class Journals:
-    """The journals of a small build, of which one is another."""
+    """The journals of a small build, of which one is another. `path` gives the file of a node's, `make` makes the folder of a build ready."""
 
-    def __init__(self, sweep, sizes):
-        self.sweep = sweep
+    def __init__(self, sweep, sizes, path, make):
+        self.sweep, self.path = sweep, path
         self.like = sweep.folder()
         self.building = Building(sweep, sweep.file("small.c", SMALL.encode()), self.like, sizes)
         sweep.run(self.building.words(self.like))
+        make(self)
         self.linked = content(os.path.join(self.like, "linked.cfp"))
-        self.usual = max(sweep.measure(self.building.words(self.like))[2] for _ in range(5))
+        self.usual = max(self.peak() for _ in range(5))
+
+    def peak(self):
+        """How much memory a build takes in a folder like it."""
+        folder = self.sweep.folder(self.like)
+        _, _, peak = self.sweep.measure(self.building.words(folder))
+        self.sweep.leave(folder)
+        return peak
 
     def too_much(self, folder, size, tries=3):
         """Builds over a folder; again where it took too long, as it may where other runs go on. Its answer, and whether it took too much."""
@@ -473,9 +543,11 @@ class Journals:
     def over(self, node, data, what):
         """Builds where the journal of a node has these bytes."""
         folder = self.sweep.folder(self.like)
-        write(os.path.join(folder, f"node{node}.cfj"), data)
+        write(self.path(folder, node), data)
+        before = olds(folder)
         answer, wrong = self.too_much(folder, len(data))
         name, linked = name_of(answer), os.path.join(folder, "linked.cfp")
+        wrong += old_faults(folder, before)
         if name not in ("done", "journal", "link", "undecided"):
             wrong.append(shown(answer))
         if name == "done":
@@ -487,15 +559,40 @@ class Journals:
         return name, [f"node {node}, {what}: {one}" for one in wrong]
 
 
+def as_built(journals):
+    """The journals that the build left."""
+
+
+def of_first_version(journals):
+    """Those of the first version with the same records."""
+    aged.age(journals.like)
+
+
+def migrated(journals):
+    """Those that these were migrated to, without the old ones beside."""
+    aged.age(journals.like)
+    journals.sweep.run([*journals.building.words(journals.like), "--turns", "0"])
+    for node in range(7):
+        if os.path.exists(aged.old_in(journals.like, node)):
+            os.remove(aged.old_in(journals.like, node))
+
+
 def try_journals(sweep):
-    try_journals_of(sweep, "journals", (), 3)
-    try_journals_of(sweep, "journals of sizes 2 1 2", ("--nodes", "2", "--promise", "1", "--accept", "2"), 2)
+    for version, path, make in (
+        ("journals", aged.new_in, as_built),
+        ("journals of the first version", aged.old_in, of_first_version),
+        ("journals that are migrated", aged.new_in, migrated),
+    ):
+        try_journals_of(sweep, version, (), 3, path, make)
+        try_journals_of(sweep, version + ", sizes 2 1 2", ("--nodes", "2", "--promise", "1", "--accept", "2"), 2, path, make)
 
 
-def try_journals_of(sweep, title, sizes, nodes):
-    journals, draw = Journals(sweep, sizes), random.Random(1)
+def try_journals_of(sweep, title, sizes, nodes, path, make):
+    if not any(sweep.wants(f"{title}, node {node}, {way}") for node in range(nodes) for way in ("cut", "changed")):
+        return
+    journals, draw = Journals(sweep, sizes, path, make), random.Random(1)
     for node in range(nodes):
-        data = content(os.path.join(journals.like, f"node{node}.cfj"))
+        data = content(path(journals.like, node))
         row = f"{title}, node {node}, cut"
         if sweep.wants(row):
             sweep.try_all(row, range(len(data)), lambda length: journals.over(node, data[:length], f"cut to {length}"))
@@ -515,15 +612,20 @@ def try_journals_of(sweep, title, sizes, nodes):
 
 class Case:
     """One case of files and streams: how it is called, which answers are right, what is made of a folder, the words, what runs them.
-    `mends` takes away what stood in the way; a build behind it must then be done. `most` is how many bytes of memory it may take."""
+    `mends` takes away what stood in the way; a build behind it must then be done. `most` is how many bytes of memory it may take. It
+    stands over a build that was done, with journals of the first version where it is aged, or over nothing."""
 
-    def __init__(self, title, right, prepare=None, words=None, around=None, mends=None, is_built=True, most=LIMITED):
+    def __init__(self, title, right, prepare=None, words=None, around=None, mends=None, is_built=True, is_aged=False, most=LIMITED):
         self.title, self.right, self.prepare, self.words = title, right, prepare, words
-        self.around, self.mends, self.is_built, self.most = around, mends, is_built, most
+        self.around, self.mends, self.is_built, self.is_aged, self.most = around, mends, is_built, is_aged, most
 
 
 def journal(folder, node=1):
-    return os.path.join(folder, f"node{node}.cfj")
+    return aged.new_in(folder, node)
+
+
+def old_journal(folder, node=1):
+    return aged.old_in(folder, node)
 
 
 def linked_in(folder):
@@ -532,6 +634,10 @@ def linked_in(folder):
 
 def lock_in(folder):
     return os.path.join(folder, "cfarm.lock")
+
+
+def aside_in(folder):
+    return os.path.join(folder, "aside")
 
 
 def replaced(make, path=journal):
@@ -546,10 +652,30 @@ def replaced(make, path=journal):
 
 
 def put_back(folder, path=journal):
-    """Puts back the file that was put aside. A node that has lost its journal has forgotten what it acknowledged, and need not come back."""
+    """Puts back the file that was put aside, if one was. A node that has lost its journal has forgotten what it acknowledged, and need not
+    come back."""
     if os.path.isdir(path(folder)):
         os.rmdir(path(folder))
-    os.replace(path(folder) + ".aside", path(folder))
+    if os.path.exists(path(folder) + ".aside"):
+        os.replace(path(folder) + ".aside", path(folder))
+    elif os.path.lexists(path(folder)):
+        os.remove(path(folder))
+
+
+def put_back_old(folder):
+    put_back(folder, old_journal)
+
+
+def linked_to(path):
+    """Makes a link to a file of the folder, which has to stay as it is, where a file of the build is wanted."""
+
+    def prepare(folder):
+        if os.path.exists(path(folder)):
+            os.remove(path(folder))
+        write(aside_in(folder), b"aside")
+        os.symlink("aside", path(folder))
+
+    return prepare
 
 
 def sparse(path):
@@ -600,6 +726,46 @@ def journal_cases():
     ]
 
 
+def old_journal_cases():
+    """A journal of the first version that is none: over such journals, and beside new ones, where it does not count."""
+    link = lambda target: replaced(lambda path: os.symlink(target, path), old_journal)
+    other = lambda make: replaced(make, old_journal)
+    case = lambda title, right, prepare, mends=put_back_old, **more: Case("old " + title, right, prepare, mends=mends, is_aged=True, **more)
+    beside = lambda title, right, prepare, mends=put_back_old, **more: Case("beside new, old " + title, right, prepare, mends=mends, **more)
+    kept = lambda folder: None
+    return [
+        Case("old journals", ("done",), is_aged=True, mends=kept),
+        Case("old journals, no turns", ("undecided",), words=lambda text, folder: ["build", text, "--turns", "0", "--dir", folder], is_aged=True, mends=kept),
+        case("journal is not there", ("done", "journal"), lambda folder: os.remove(old_journal(folder)), mends=None),
+        case("journal of 0 bytes", ("done", "journal"), other(lambda path: write(path, b"")), mends=None),
+        case("journal of 4 GB of zeros", ("journal", "memory"), other(sparse)),
+        case("journal of 64 MB of noise", ("journal",), other(noise), most=512 * MEGA),
+        case("journal is a folder", ("file",), other(os.mkdir)),
+        case("journal is a pipe", ("file",), other(os.mkfifo)),
+        case("journal is endless", ("file", "journal", "memory"), link("/dev/zero")),
+        case("journal is a full device", ("file", "journal", "memory"), link("/dev/full")),
+        case("journal is a link to nothing", ("file",), link("none/none")),
+        case("journal's new one is a folder", ("file",), lambda folder: os.mkdir(journal(folder)), mends=lambda folder: os.rmdir(journal(folder))),
+        case("journal's new one is a link to nothing", ("file",), lambda folder: os.symlink("none/none", journal(folder)), mends=lambda folder: os.remove(journal(folder))),
+        case("journal's new one is noise", ("done",), lambda folder: write(journal(folder), random.Random(1).randbytes(40)), mends=kept),
+        case("journals exchanged", ("journal",), swap_old, mends=swap_old),
+        beside("journal of 0 bytes", ("done",), other(lambda path: write(path, b""))),
+        beside("journal of 4 GB of zeros", ("done", "memory"), other(sparse)),
+        beside("journal that is spent", ("done",), lambda folder: write(old_journal(folder), b"\0FJ1")),
+        beside("journal of one byte that counts", ("journal",), lambda folder: write(old_journal(folder), b"C")),
+        beside("journal is a folder", ("file",), other(os.mkdir)),
+        beside("journal is a pipe", ("file",), other(os.mkfifo)),
+        beside("journal is no device", ("file", "done"), link("/dev/null")),
+        beside("journal is a link to nothing", ("file",), link("none/none")),
+    ]
+
+
+def swap_old(folder):
+    one, two = content(old_journal(folder, 0)), content(old_journal(folder, 1))
+    write(old_journal(folder, 0), two)
+    write(old_journal(folder, 1), one)
+
+
 def folder_cases():
     """Folders and files that are none."""
     no_folder = lambda text, folder: ["build", text, "--dir", os.path.join(folder, "none")]
@@ -619,11 +785,14 @@ def folder_cases():
         Case("linked.cfp.new is a folder", ("file",), lambda folder: os.mkdir(beside(folder)), mends=lambda folder: os.rmdir(beside(folder))),
         Case("linked.cfp.new is a pipe", ("file",), lambda folder: os.mkfifo(beside(folder)), mends=lambda folder: os.remove(beside(folder))),
         Case("linked.cfp.new is a link", ("done",), lambda folder: os.symlink("/dev/full", beside(folder)), mends=kept),
+        Case("linked.cfp.new is a link to a file", ("done",), linked_to(beside), mends=kept),
+        Case("linked.cfp.new is a link to nothing", ("done",), lambda folder: os.symlink("none/none", beside(folder)), mends=kept),
         Case("linked.cfp.new is a file", ("done",), lambda folder: write(beside(folder), b"old"), mends=kept),
         Case("cfarm.lock is a folder", ("file",), replaced(os.mkdir, lock_in), mends=lambda folder: put_back(folder, lock_in)),
         Case("cfarm.lock is a pipe", ("done", "file"), replaced(os.mkfifo, lock_in), mends=lambda folder: put_back(folder, lock_in)),
         Case("cfarm.lock is a link to nothing", ("done", "file"), replaced(lambda path: os.symlink("none/none", path), lock_in), mends=lambda folder: put_back(folder, lock_in)),
-        Case("linked.cfp.new is left", ("done",), lambda folder: write(beside(folder), b"left"), mends=kept),
+        Case("cfarm.lock is a link to a file", ("done",), linked_to(lock_in), mends=kept),
+        Case("cfarm.lock has bytes", ("done",), lambda folder: write(lock_in(folder), b"left"), mends=kept),
         Case("no turns", ("undecided",), words=lambda text, folder: ["build", text, "--turns", "0", "--dir", folder], is_built=False, mends=kept),
     ]
 
@@ -683,12 +852,20 @@ def forbidden_cases():
     other = 'exec setpriv --reuid 65534 --regid 65534 --clear-groups "$@"'
     allow = lambda folder: os.chmod(journal(folder), 0o666)
     allow_folder = lambda folder: os.chmod(folder, 0o777)
+    allow_old = lambda folder: os.chmod(old_journal(folder), 0o666)
+    allow_lock = lambda folder: os.chmod(lock_in(folder), 0o666)
+    only_read = lambda folder: (open_all(folder), os.chmod(old_journal(folder), 0o444))
     open_all = lambda folder: [os.chmod(os.path.join(folder, name), 0o666) for name in os.listdir(folder)]
+    only_read_of = lambda path: (write(path, b""), open_all(os.path.dirname(path)), os.chmod(path, 0o444))
     forbidden = lambda folder: (open_all(folder), forbid(folder))
     closed = lambda folder: (open_all(folder), forbid_folder(folder))
     return [
         Case("another user", ("done",), open_all, around=other, mends=lambda folder: None),
         Case("journal is forbidden", ("file",), forbidden, around=other, mends=allow),
+        Case("old journal may be read alone", ("file",), only_read, around=other, mends=allow_old, is_aged=True),
+        Case("another user, old journals", ("done",), open_all, around=other, mends=lambda folder: None, is_aged=True),
+        Case("cfarm.lock may be read alone", ("file",), lambda folder: only_read_of(lock_in(folder)), around=other, mends=allow_lock),
+        Case("linked.cfp.new may be read alone", ("done",), lambda folder: only_read_of(linked_in(folder) + ".new"), around=other, mends=lambda folder: None),
         Case("folder is forbidden", ("file",), closed, around=other, mends=allow_folder),
         Case("folder is forbidden, fresh", ("file",), forbid_folder, around=other, mends=allow_folder, is_built=False),
     ]
@@ -722,9 +899,11 @@ def try_case(sweep, case, building, built):
     """Tries one case: the name of its answer, and what was wrong."""
     folder = sweep.folder(built if case.is_built else None)
     try:
+        if case.is_aged:
+            aged.age(folder)
         if case.prepare:
             case.prepare(folder)
-        old = content(linked_in(folder))
+        old, before, others = content(linked_in(folder)), olds(folder), strangers(folder)
         words = case.words(building.text, folder) if case.words else building.words(folder)
         answer, millis, peak = sweep.measure(words, 60, LIMITED, case.around, folder)
         name, wrong = name_of(answer), []
@@ -736,6 +915,9 @@ def try_case(sweep, case, building, built):
         is_placed = old is None and name in ("done", "write 701", "no line")
         if content(linked_in(folder)) != old and not is_placed:
             wrong.append(f"linked.cfp is lost or another: {shown(answer)}")
+        wrong += old_faults(folder, before)
+        if strangers(folder) != others:
+            wrong.append("a file that is none of the build's is lost or another")
         if case.mends:
             now = content(linked_in(folder))
             case.mends(folder)
@@ -751,6 +933,7 @@ def try_files(sweep):
     sweep.run(building.words(built))
     groups = {
         "journals": journal_cases(),
+        "old journals": old_journal_cases(),
         "folders and files": folder_cases(),
         "streams and limits": stream_cases(),
         "texts": text_cases(sweep),
@@ -765,6 +948,47 @@ def try_files(sweep):
                 if not sweep.given.at or sweep.given.at == number:
                     tell(f"{row}: {case.title}")
                     sweep.count(row, *try_case(sweep, case, building, built))
+
+
+# Terminals.
+
+
+def shown_on_terminal(sweep, words):
+    """What a build shows on a terminal as its standard error."""
+    ours, theirs = pty.openpty()
+    with subprocess.Popen([sweep.program, *words], stdout=subprocess.DEVNULL, stdin=subprocess.DEVNULL, stderr=theirs) as run:
+        os.close(theirs)
+        found = b""
+        try:
+            while part := os.read(ours, 4096):
+                found += part
+        except OSError:
+            pass
+        run.wait()
+    os.close(ours)
+    return found.decode()
+
+
+def try_terminals(sweep):
+    """A build shows on a terminal how many journals it has migrated, once, and elsewhere nothing."""
+    text, done = sweep.file("shown.c", SMALL.encode()), sweep.folder()
+    building = Building(sweep, text)
+    sweep.run(building.words(done))
+    folders = (
+        ("fresh", sweep.folder(), None),
+        ("again", done, None),
+        ("first version", aged_folder(sweep, done), "migrated 3 of 3 journals\r\n"),
+        ("first version of node 1", aged_folder(sweep, done, (1,)), "migrated 1 of 3 journals\r\n"),
+    )
+    for title, folder, line in folders:
+        row = f"terminals, {title}"
+        if not sweep.wants(row):
+            continue
+        beside = sweep.folder(folder)
+        found = shown_on_terminal(sweep, building.words(folder))
+        answer = sweep.run(building.words(beside))
+        wrong = [f"shown: {found!r}"] if found.count("migrated") != (line is not None) or (line or "") not in found else []
+        sweep.count(row, name_of(answer), wrong + building.report(beside, answer))
 
 
 # Two builds at once.
@@ -784,11 +1008,20 @@ def try_pairs(sweep):
     text = sweep.file("pair.c", TEXT.encode())
     done = sweep.folder()
     sweep.run(Building(sweep, text).words(done))
-    for title, like in (("fresh", None), ("after a kill", killed_folder(sweep, text)), ("again", done)):
+    killed = killed_folder(sweep, text)
+    folders = (
+        ("fresh", None),
+        ("after a kill", killed),
+        ("again", done),
+        ("first version, after a kill", aged_folder(sweep, killed)),
+        ("first version, again", aged_folder(sweep, done)),
+    )
+    for title, like in folders:
         building = Building(sweep, text, like)
 
         def job(number):
             folder = sweep.folder(like)
+            before = olds(folder)
             busy = f"file {os.path.join(folder, 'cfarm.lock')}\n".encode()
             words = building.words(folder)
             first = started(sweep, words)
@@ -799,6 +1032,7 @@ def try_pairs(sweep):
             wrong += [] if len(refused) < 2 else ["both are refused"]
             for it in answers:
                 wrong += building.report(folder, it) if it.status == 0 else []
+            wrong += old_faults(folder, before)
             wrong += building.again(folder, content(os.path.join(folder, "linked.cfp")))
             sweep.leave(folder)
             return "one refused" if refused else "both done", [f"pair {number}: {one}" for one in wrong]
@@ -840,6 +1074,7 @@ def try_examples(sweep):
 PARTS = {
     "examples": try_examples,
     "files": try_files,
+    "terminals": try_terminals,
     "kills": try_kills,
     "pairs": try_pairs,
     "threads": try_threads,

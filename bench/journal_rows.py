@@ -11,6 +11,7 @@ ROOT = os.path.dirname(os.path.dirname(os.path.realpath(__file__)))
 FILE = os.path.join(ROOT, "crates", "worked_journals", "data", "changed.txt")
 FIRST = b"CFJ1" + bytes([3, 1]) + bytes(range(100, 132))
 SECOND = b"CFJF" + bytes([4, 3, 3, 1]) + bytes(range(100, 132))
+NEW = b"CFJ2" + bytes([4, 3, 3, 1]) + bytes(range(100, 132))
 
 
 def u16(number):
@@ -29,22 +30,28 @@ EACH = b"".join(map(block, (
     b"\x03" + u16(3) + u16(4) + b"\x01",
     b"\x05" + u16(258) + u16(1027) + b"\x02",
 ))) + b"\x00\x01\x00"
+SUMMED = block(b"\x06" + u16(2) + u16(5) + u16(1026) + u16(9) + b"\x03") + EACH
 
 
 def told(body):
     """A body in words, or none where it is of no form."""
-    if len(body) < 3 or not 1 <= body[0] <= 5:
+    if len(body) < 3 or not 1 <= body[0] <= 6:
         return None
     code, room, rest = body[0], int.from_bytes(body[1:3], "big"), body[3:]
     if code == 1:
         return f"1,{room},{len(rest)};"
-    if len(rest) != {2: 2, 3: 3, 4: 2, 5: 3}[code]:
+    if len(rest) != {2: 2, 3: 3, 4: 2, 5: 3, 6: 7}[code]:
         return None
+    if code == 6:
+        numbers = [int.from_bytes(rest[at:at + 2], "big") for at in (0, 2, 4)]
+        return ",".join(str(it) for it in (code, room, *numbers, rest[6])) + ";"
     return ",".join(str(it) for it in (code, room, int.from_bytes(rest[:2], "big"), *rest[2:])) + ";"
 
 
-def is_in_form(journal):
-    """Whether a journal begins with a header of either form, and a gate at least."""
+def is_in_form(header, journal):
+    """Whether a journal begins with a header of the asked one's version, in any of its forms, and a gate at least."""
+    if header[:4] == b"CFJ2":
+        return journal[:4] == b"CFJ2" and len(journal) >= 41
     if journal[:4] == b"CFJ1":
         return len(journal) >= 39
     if journal[:4] != b"CFJF" or len(journal) < 41:
@@ -55,7 +62,7 @@ def is_in_form(journal):
 
 def read(header, journal):
     """The records in words, or the name of the fault."""
-    if not is_in_form(journal):
+    if not is_in_form(header, journal):
         return "NotAJournal"
     if journal[:len(header)] != header:
         return "OtherSource"
@@ -65,6 +72,8 @@ def read(header, journal):
         body = journal[at + 5:at + 5 + size]
         record = told(body)
         if at + 5 > len(journal) or len(body) != size or record is None:
+            return "BadRecord"
+        if body[0] == 6 and header[:4] != b"CFJ2":
             return "BadRecord"
         records, at = records + record, at + 5 + size
     return f"[{records}]" if at < len(journal) else "BadRecord"
@@ -95,6 +104,8 @@ def rows():
         yield from rows_of(FIRST, behind, len(FIRST + behind))
     for behind in (EMPTY, EACH):
         yield from rows_of(SECOND, behind, len(SECOND) + 1)
+    for behind in (EMPTY, SUMMED):
+        yield from rows_of(NEW, behind, len(NEW + behind))
 
 
 def main():

@@ -27,7 +27,7 @@ from laid_out import LaidOut, ROOT
 
 LAID = LaidOut("journals.patch", "journaled: acceptor_log durable_model lang_base\n")
 PROGRAM = LAID.program
-HEADER = b"CFJ1\x03\x00" + b"\x07" * 32
+HEADER = b"CFJ2\x03\x02\x02\x00" + b"\x07" * 32
 
 SHIM = r"""
 #define _GNU_SOURCE
@@ -95,7 +95,7 @@ def kills(number, seed):
     choice = random.Random(seed)
     known, more, late, empty = 0, 0, 0, 0
     with tempfile.TemporaryDirectory(dir=ROOT) as room:
-        path = os.path.join(room, "node0.cfj")
+        path = os.path.join(room, "node0.cf2")
         for _ in range(number):
             words = [PROGRAM, "append", path, "100000", str(choice.choice((4, 60, 900, 9000)))]
             ran = subprocess.Popen(words, stdout=subprocess.PIPE, stderr=subprocess.PIPE)
@@ -129,7 +129,7 @@ def calls():
     """Three appends to no journal and to one, with each call of the system failing in turn."""
     answers = {}
     with tempfile.TemporaryDirectory(dir=ROOT) as room:
-        path, shim, count = (os.path.join(room, name) for name in ("node0.cfj", "shim.so", "count"))
+        path, shim, count = (os.path.join(room, name) for name in ("node0.cf2", "shim.so", "count"))
         with open(os.path.join(room, "shim.c"), "w", encoding="utf-8") as file:
             file.write(SHIM)
         subprocess.run(["cc", "-O2", "-shared", "-fPIC", "-w", "-o", shim, os.path.join(room, "shim.c"), "-ldl"], check=True)
@@ -201,7 +201,7 @@ def speed(runs):
     with tempfile.TemporaryDirectory(dir=ROOT) as room:
         print(f"{'opening (the process)':28} {'s':>8} {'of it log':>9} {'SHA-256':>8} {'times':>6}")
         for count, size in ((1000, 10_000), (2500, 10_000), (10_000, 10_000), (100_000, 1000), (1_000_000, 100)):
-            path = os.path.join(room, "open.cfj")
+            path = os.path.join(room, "open.cf2")
             with open(path, "wb") as file:
                 file.write(journal(count, size))
             plain = middle(runs, lambda: hashed(path))
@@ -214,7 +214,7 @@ def speed(runs):
         subprocess.run(["cc", "-O2", "-o", twin, f"{twin}.c"], check=True)
         print(f"{'append on a file':28} {'ours s':>8} {'C s':>8} {'times':>6}")
         for count, size in ((300, 100), (300, 10_000)):
-            path, ours, theirs = os.path.join(room, "append.cfj"), [], []
+            path, ours, theirs = os.path.join(room, "append.cf2"), [], []
             for _ in range(runs):
                 for kind in (ours, theirs):
                     with open(path, "wb") as file:

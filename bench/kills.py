@@ -5,6 +5,8 @@
     bench/kills.py --times 10      so many directories
     bench/kills.py --nodes 3       so many nodes (5)
     bench/kills.py --nodes 4 --promise 3 --accept 2
+    bench/kills.py --aged          behind the first kill the journals of some nodes are made into ones of the first version (bench/aged.py), which
+                                   the next builds migrate
     bench/kills.py --program PATH  this program
 
 In each directory a build of an example is killed (SIGKILL) one to five times, each at another moment, and then one goes on to its end.
@@ -21,6 +23,8 @@ import subprocess
 import sys
 import tempfile
 import time
+
+import aged
 
 ROOT = os.path.dirname(os.path.dirname(os.path.abspath(__file__)))
 PROGRAM = os.path.join(ROOT, "crates", "cfarm", "out", "cfarm")
@@ -43,8 +47,8 @@ def reported(out):
 class Kills:
     """What is killed, and what came of it."""
 
-    def __init__(self, program, sizes, draw):
-        self.program, self.sizes, self.draw = program, sizes, random.Random(draw)
+    def __init__(self, program, sizes, draw, is_aged=False):
+        self.program, self.sizes, self.draw, self.is_aged = program, sizes, random.Random(draw), is_aged
         self.kills = self.stood = self.told = 0
         self.wrong = []
 
@@ -88,9 +92,11 @@ class Kills:
         whole = self.lasted(words)
         with tempfile.TemporaryDirectory(dir=ROOT) as folder:
             linked, first = os.path.join(folder, "linked.cfp"), None
-            for _ in range(self.draw.randint(1, 5)):
+            for number in range(self.draw.randint(1, 5)):
                 told = self.kill([*words, folder], self.draw.uniform(0, 1.1 * whole))
                 first = self.behind(first, told, linked)
+                if number == 0 and self.is_aged:
+                    aged.age(folder, [node for node in range(7) if self.draw.random() < 0.8])
                 self.stood += os.path.exists(linked)
                 self.told += told is not None
             out, err, status = self.answer(*words, folder)
@@ -109,11 +115,12 @@ def main():
     ask.add_argument("--promise")
     ask.add_argument("--accept")
     ask.add_argument("--draw", type=int, default=1, help="what the moments are drawn from")
+    ask.add_argument("--aged", action="store_true")
     ask.add_argument("--program", default=PROGRAM)
     asked = ask.parse_args()
     given = (("--nodes", asked.nodes), ("--promise", asked.promise), ("--accept", asked.accept))
     sizes = [word for name, size in given if size is not None for word in (name, size)]
-    sweep = Kills(os.path.abspath(asked.program), sizes, asked.draw)
+    sweep = Kills(os.path.abspath(asked.program), sizes, asked.draw, asked.aged)
     for number in range(asked.times):
         before = len(sweep.wrong)
         sweep.directory(number)

@@ -1,13 +1,15 @@
 #!/usr/bin/env python3
 """Lists the bugs that are planted: crates/NAME/must-fail/*.edit, which the gate tries, and crates/NAME/planted/, which ./planted tries.
 
-    bench/planted_list.py               the counts, and the table of docs/PLANTED.md: a crate and the names of its bugs
+    bench/planted_list.py               how many there are in each crate, and the names of those that the gate and rows refuse, for docs/PLANTED.md
     bench/planted_list.py --write       writes them into docs/PLANTED.md
     bench/planted_list.py --text NAME.. of these crates each bug with what its text changes"""
 import argparse
 import glob
 import os
 import sys
+
+from floors import FLOORS
 
 ROOT = os.path.dirname(os.path.dirname(os.path.realpath(__file__)))
 PAGE = os.path.join(ROOT, "docs", "PLANTED.md")
@@ -24,14 +26,21 @@ def edits():
         yield crate, [(kind, os.path.basename(path).removesuffix(".edit"), path) for kind, path in found]
 
 
+def tried(found, kind):
+    return [name for it, name, _ in found if it == kind]
+
+
 def table():
-    rows, none = [it for it in edits() if it[1]], [crate for crate, found in edits() if not found]
-    told = [f"{sum(kind == it for _, found in rows for it, _, _ in found)} in `{KINDS[kind]}`" for kind in KINDS]
-    lines = [f"{'; '.join(told)}; {len(rows)} crates.", "", "Crate | Bugs", "---|---"]
-    for crate, found in rows:
-        names = [f"**{name}**" if kind == "must-fail" else f"*{name}*" if kind == "by_rows" else name for kind, name, _ in found]
-        lines.append(f"`{crate}` | {', '.join(names)}")
-    lines += ["", f"None: {', '.join(none)}."]
+    rows = {crate: found for crate, found in edits() if found}
+    told = [f"{sum(len(tried(found, kind)) for found in rows.values())} in `{KINDS[kind]}`" for kind in KINDS]
+    lines = [f"{'; '.join(told)}; {len(rows)} crates.", ""]
+    for kind in ("must-fail", "by_rows"):
+        named = [f"`{crate}` {', '.join(tried(found, kind))}" for crate, found in rows.items() if tried(found, kind)]
+        lines += [f"`{KINDS[kind]}`: {'; '.join(named)}.", ""]
+    lines += ["How many in `planted/*.edit`, by floor:", ""]
+    for floor, crates in FLOORS:
+        counted = [f"`{crate}` {len(tried(rows[crate], 'planted'))}" for crate in crates.split() if tried(rows.get(crate, []), "planted")]
+        lines += [f"- {floor.partition(':')[0]}: {', '.join(counted)}"] if counted else []
     return "".join(f"{line}\n" for line in lines)
 
 

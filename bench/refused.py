@@ -26,7 +26,7 @@ import shim
 LAID = LaidOut(
     "refused.patch",
     "refused may_wait=10: farm_nodes farm_nodes_node farm_nodes_passes acceptor_log acceptor_log_form rooms_numbered"
-    " rooms_hall rooms_seat rooms rooms_rule paxos_core durable_model parallel_validate offers linker lang linearize_check linear_language"
+    " rooms_hall rooms_seat rooms rooms_rule paxos_core durable_pair_memory durable_model parallel_validate offers linker lang linearize_check linear_language"
     " cminor_program_ranges c_checker_rules lang_base hex rand_pcg\n",
 )
 PROGRAM = LAID.program

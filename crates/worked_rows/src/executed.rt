@@ -1,12 +1,13 @@
 //! What `exec` tells of the bytes of a linked program.
 
 use crate::told::Told;
-use cfarm_commands::{Closing, exec, status_of};
+use cfarm_output::Paced;
+use cfarm_runs::{Closing, exec, status_of};
 use std::alloc::{AllocError, Global};
 
 /// What `exec` wrote, its closing line and its status.
 pub fn executed(alloc: Global, bytes: &[u8], limit: u32) -> Result<Told, AllocError> {
-    let mut output = Vec::new(alloc);
+    let mut output = Paced::over(Vec::new(alloc), false);
     let closing = match exec(alloc, bytes, u64::from(limit), &mut output) {
         Ok(shown) => {
             let line = Closing(shown);
@@ -18,5 +19,8 @@ pub fn executed(alloc: Global, bytes: &[u8], limit: u32) -> Result<Told, AllocEr
             format!(in alloc; "{fault}, status {status}")?
         }
     };
-    Ok(Told { output, closing })
+    Ok(Told {
+        output: output.taker,
+        closing,
+    })
 }

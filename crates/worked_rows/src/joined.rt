@@ -14,7 +14,7 @@
 use crate::linked::ran;
 use alloc_check::Alloc;
 use c_checker_rules::CProgram;
-use cfarm_commands::accept;
+use cfarm_runs::accept;
 use chains::{ExactBaselines, Offers};
 use cminor::lower;
 use constprop_check::ConstProp;

@@ -2,7 +2,7 @@
 
 use crate::told::Told;
 use c_checker_rules::CProgram;
-use cfarm_commands::Closing;
+use cfarm_runs::Closing;
 use chains::{Maker, compile};
 use lang_base::Program;
 use linear::run;

@@ -23,7 +23,7 @@ use crate::linked::linked;
 use crate::told::{Told, told_of};
 use crate::translated::translated;
 use c_checker_rules::CProgram;
-use cfarm_commands::accept;
+use cfarm_runs::accept;
 use chains::Maker;
 use program_rows::{Form, Row, row_of};
 use rand_pcg::Pcg32;

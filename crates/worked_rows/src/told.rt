@@ -1,6 +1,7 @@
 //! What the commands tell of a text.
 
-use cfarm_commands::{Closing, check_text, interpret};
+use cfarm_output::Paced;
+use cfarm_runs::{Closing, check_text, interpret};
 use std::alloc::{AllocError, Global};
 
 /// What a command wrote, and its last line.
@@ -25,12 +26,15 @@ fn checked(alloc: Global, text: &[u8]) -> Result<Told, AllocError> {
 
 /// What `interpret` tells.
 fn interpreted(alloc: Global, text: &[u8], depth: u32) -> Result<Told, AllocError> {
-    let mut output = Vec::new(alloc);
+    let mut output = Paced::over(Vec::new(alloc), false);
     let closing = match interpret(alloc, text, depth, &mut output) {
         Ok(shown) => Closing(shown).to_string(alloc)?,
         Err(fault) => fault.to_string(alloc)?,
     };
-    Ok(Told { output, closing })
+    Ok(Told {
+        output: output.taker,
+        closing,
+    })
 }
 
 /// What is told of a text with this bound, or where it is only checked.
