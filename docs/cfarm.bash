@@ -1,0 +1,54 @@
+# Completions of cfarm's command line for bash: `source docs/cfarm.bash`, or put it into bash-completion's folder as `cfarm`.
+
+# What a command takes beside its file.
+_cfarm_options() {
+    case $1 in
+    check) echo "--format --help" ;;
+    interpret) echo "--depth --help" ;;
+    build) echo "--nodes --promise --accept --turns --seed --optimise --dir --help" ;;
+    exec) echo "--limit --expect --help" ;;
+    settle | sim) echo "--help" ;;
+    *) echo "--help --version" ;;
+    esac
+}
+
+# The words of an option that takes one of some; nothing where it takes a number, which is typed.
+_cfarm_values() {
+    case $1 in
+    --format) echo "gcc" ;;
+    --nodes) echo "2 3 4 5 6 7" ;;
+    --optimise) echo "drawn speed" ;;
+    esac
+}
+
+_cfarm() {
+    local word=${COMP_WORDS[COMP_CWORD]} before=${COMP_WORDS[COMP_CWORD - 1]}
+    local commands="check interpret build exec settle sim help"
+    local command=
+    [ "$COMP_CWORD" -gt 1 ] && command=${COMP_WORDS[1]}
+    COMPREPLY=()
+    if [ -z "$command" ]; then
+        COMPREPLY=($(compgen -W "$commands $(_cfarm_options)" -- "$word"))
+        return
+    fi
+    if [ "$command" = help ]; then
+        [ "$COMP_CWORD" -eq 2 ] && COMPREPLY=($(compgen -W "$commands statuses" -- "$word"))
+        return
+    fi
+    # bash cuts `--nodes=3` into three words
+    [ "$word" = "=" ] && word=
+    [ "$before" = "=" ] && before=${COMP_WORDS[COMP_CWORD - 2]}
+    case $before in
+    --dir) COMPREPLY=($(compgen -d -- "$word")) ;;
+    --depth | --limit | --expect | --promise | --accept | --turns | --seed) ;;
+    --format | --nodes | --optimise) COMPREPLY=($(compgen -W "$(_cfarm_values "$before")" -- "$word")) ;;
+    *)
+        case $word in
+        -*) COMPREPLY=($(compgen -W "$(_cfarm_options "$command")" -- "$word")) ;;
+        *) COMPREPLY=($(compgen -f -- "$word")) ;;
+        esac
+        ;;
+    esac
+}
+
+complete -o filenames -F _cfarm cfarm ./cfarm
