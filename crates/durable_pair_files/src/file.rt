@@ -2,31 +2,34 @@
 
 ghost use Rattle.std.specs.Prelude.{◌≡◌, true, [], IsNone, IfOk};
 ghost use Rattle.durable_model.specs.Honest.{Only};
-ghost use Rattle.durable_pair_memory.specs.InMemory.{seen_new, may_leave_new, seen_old, may_leave_old, CanNoteMore, syncs_due};
+ghost use Rattle.durable_pair_held.specs.Past.{seen_new, may_leave_new, seen_old, may_leave_old};
+ghost use Rattle.durable_pair_held.specs.Held.{past_of, CanNoteMore, syncs_due};
 
-use crate::opening::{bytes_if_there, bytes_of, file_if_there, file_or_new};
+use crate::opening::{begins_with_c, bytes_of, new_found, old_found};
 use crate::unopened::Unopened;
 use durable_model::{Disk, DiskError, failed};
 use durable_model_writes::Call;
 use durable_pair::Pair;
-use durable_pair_memory::MemoryPair;
+use durable_pair_held::Held;
 use std::alloc::Global;
 use std::fs::File;
 use std::io;
 use std::io::ErrorKind;
 use std::os::unix::fs::FileExt;
 
-/// Two disks over files that nobody else writes, of which the old one need not be there: it is empty then, and is never
-/// made. It keeps beside the files what they must hold, and each call on either; a read of anything else is a failure of
-/// the device, and so is each sync of a file behind one that failed. So one premise is left, `WereHonest`: that a crash
-/// leaves of both files what the contract allows. A sync takes no memory: a write takes what the notes of the syncs behind it
-/// need, of both files.
+/// Two disks over files that nobody else writes, of which the old one need not be there, and is never made. An old file that
+/// counts no more is a disk of its first byte here: the rest is not read, and it is not written. The pair keeps beside the
+/// files what they must hold, and each call on either; a read of anything else of the new file is a failure of the device, and
+/// so is each sync of a file behind one that failed. The old file is read as it is opened, and not again. So one premise is
+/// left, `WereHonest`: that a crash leaves of both files what the contract allows. A sync takes no memory: a write takes what
+/// the notes of the syncs behind it need, of both files.
 #[derive(Drop)]
 pub struct FilePair {
     file: File,
+    /// The old file, where it was there and counted.
     old_file: Option<File>,
     /// What the files must hold, and what was done to them since they were opened.
-    held: MemoryPair,
+    held: Held,
     /// Nothing was written to the new file since its last sync, or since it was opened.
     is_settled: bool,
     is_old_settled: bool,
@@ -34,8 +37,8 @@ pub struct FilePair {
     is_loose: bool,
     is_old_loose: bool,
     failures: u64,
-    ghost rests: { is_settled ≡ true → Only (seen_new held) (may_leave_new held) },
-    ghost old_rests: { is_old_settled ≡ true → Only (seen_old held) (may_leave_old held) },
+    ghost rests: { is_settled ≡ true → Only (seen_new (past_of held)) (may_leave_new (past_of held)) },
+    ghost old_rests: { is_old_settled ≡ true → Only (seen_old (past_of held)) (may_leave_old (past_of held)) },
     ghost spare: { CanNoteMore (syncs_due is_settled is_old_settled) held },
 }
 
@@ -45,14 +48,14 @@ impl FilePair {
     ghost use Rattle.durable_pair_files.specs.OnFiles.{AreAsOpened, FilesDoNew, FilesDoOld, seen_in_file, seen_in_old_file, files_faults};
 
     /// Opens the old file, where there is one, and then the new one, which is made where there is none; syncs both, and reads
-    /// them whole.
+    /// them: the new one whole, and the old one where it counts.
     pub fn open(rt: &HostRuntime, path: &str, old_path: &str) -> Result<FilePair, Unopened>
         ensures opened { IfOk result AreAsOpened }
     {
         let alloc = rt.alloc();
         match old_found(rt, old_path) {
             Ok((old_file, old_bytes)) => match new_found(rt, path) {
-                Ok((file, bytes)) => FilePair::over(alloc, file, bytes, old_file, old_bytes),
+                Ok((file, bytes)) => Ok(FilePair::over(alloc, file, bytes, old_file, old_bytes)),
                 Err(fault) => Err(Unopened::New(fault)),
             },
             Err(fault) => Err(Unopened::Old(fault)),
@@ -66,23 +69,20 @@ impl FilePair {
         bytes: Vec<u8>,
         old_file: Option<File>,
         old_bytes: Vec<u8>,
-    ) -> Result<FilePair, Unopened>
-        ensures seen { IfOk result (λ pair. seen_in_file pair ≡ bytes.items) }
-        ensures old_seen { IfOk result (λ pair. seen_in_old_file pair ≡ old_bytes.items) }
-        ensures opened { IfOk result AreAsOpened }
+    ) -> FilePair
+        ensures seen { seen_in_file result ≡ bytes.items }
+        ensures old_seen { seen_in_old_file result ≡ old_bytes.items }
+        ensures opened { AreAsOpened result }
     {
-        match MemoryPair::holding(alloc, bytes, old_bytes, 0, 0) {
-            Ok(held) => Ok(FilePair {
-                file,
-                old_file,
-                held,
-                is_settled: true,
-                is_old_settled: true,
-                is_loose: false,
-                is_old_loose: false,
-                failures: 0,
-            }),
-            Err(_) => Err(Unopened::New(io::Error::from(ErrorKind::OutOfMemory))),
+        FilePair {
+            file,
+            old_file,
+            held: Held::holding(alloc, bytes, old_bytes),
+            is_settled: true,
+            is_old_settled: true,
+            is_loose: false,
+            is_old_loose: false,
+            failures: 0,
         }
     }
 
@@ -90,10 +90,7 @@ impl FilePair {
     pub fn old_counts(&self) -> bool
         ensures { IsTrue result ↔ (get_or (seen_in_old_file self.now) 0 0 ≡ 67) }
     {
-        match self.held.old_bytes().first() {
-            Some(byte) => *byte == 67,
-            None => false,
-        }
+        begins_with_c(self.held.old_bytes())
     }
 
     /// All the bytes of the new file, where they are those that it must hold.
@@ -108,15 +105,14 @@ impl FilePair {
         }
     }
 
+    /// All the bytes of the old file, as it was read and has been written since.
     fn read_old_file(&mut self, alloc: Global) -> Result<Vec<u8>, DiskError>
         ensures bytes { IfOk result (λ bytes. bytes.items ≡ seen_in_old_file self.old) }
         ensures left { FilesDoOld Call.Left [] self.old self.new }
         ensures failures { Counts result (files_faults self.old) (files_faults self.new) }
     {
-        match checked(bytes_if_there(alloc, &self.old_file), self.held.old_bytes()) {
-            Err(DiskError::Device) => Err(failed(&mut self.failures)),
-            read => read,
-        }
+        let bytes = self.held.old_bytes().to_vec(alloc)?;
+        Ok(bytes)
     }
 
     /// It is noted first, so that what finds no memory is not written. Where a byte that the file has is to be written and
@@ -144,7 +140,7 @@ impl FilePair {
         }
     }
 
-    /// An old file that is not there cannot be written: the device has failed.
+    /// An old file that is not there, or did not count as it was opened, is not written: the device has failed.
     fn write_old_file(&mut self, at: u64, bytes: &[u8]) -> Result<(), DiskError>
         ensures done { OnOk result (FilesDoOld (Call.Wrote at (length bytes.now)) bytes.now self.old self.new) }
         ensures tore { IsErrOf result DiskError.Device
@@ -175,14 +171,19 @@ impl FilePair {
         }
     }
 
-    /// The file is synced in each call, the sync noted where something was written since the last.
+    /// The file is synced where something was written since it was opened or synced: its opening synced it.
     fn sync_file(&mut self) -> Result<(), DiskError>
         ensures done { OnOk result (FilesDoNew Call.Synced [] self.old self.new) }
         ensures left { OnErr result (FilesDoNew Call.Left [] self.old self.new) }
         ensures memory { IsErrOf result DiskError.NoMemory → ⊥ }
         ensures failures { Counts result (files_faults self.old) (files_faults self.new) }
     {
-        if self.is_loose || self.file.sync_all().is_err() {
+        let fails = if self.is_settled {
+            false
+        } else {
+            self.file.sync_all().is_err()
+        };
+        if self.is_loose || fails {
             self.is_loose = true;
             return Err(failed(&mut self.failures));
         }
@@ -193,7 +194,7 @@ impl FilePair {
         Ok(())
     }
 
-    /// The file is synced where something was written since it was opened or synced: its opening synced it.
+    /// The same of the old file.
     fn sync_old_file(&mut self) -> Result<(), DiskError>
         ensures done { OnOk result (FilesDoOld Call.Synced [] self.old self.new) }
         ensures left { OnErr result (FilesDoOld Call.Left [] self.old self.new) }
@@ -270,7 +271,8 @@ impl FilePair {
 
 impl Disk for FilePair {
     ghost use Rattle.durable_pair_files.specs.OnFiles.{seen_in_file, files_moment, files_shown_since, files_may_show, files_faults, OldFileIsSpent, FilesDoNew};
-    ghost use Rattle.durable_pair_memory.specs.InMemory.{shows_as_kept, shows_count_now, shows_only_now};
+    ghost use Rattle.durable_pair_held.specs.Past.{shows_as_kept, shows_count_now, shows_only_now};
+    ghost use Rattle.durable_pair_held.specs.Held.{past_of};
 
     ghost is_honest = { OldFileIsSpent };
 
@@ -286,11 +288,11 @@ impl Disk for FilePair {
 
     ghost did = { FilesDoNew };
 
-    ghost left_as_seen = { λ p honest. shows_as_kept p.held honest };
+    ghost left_as_seen = { λ p honest. shows_as_kept (past_of p.held) honest };
 
-    ghost counts_now = { λ p t c _. shows_count_now p.held t c };
+    ghost counts_now = { λ p t c _. shows_count_now (past_of p.held) t c };
 
-    ghost only_now = { λ p c _. shows_only_now p.held c };
+    ghost only_now = { λ p c _. shows_only_now (past_of p.held) c };
 
     fn read(&mut self, alloc: Global) -> Result<Vec<u8>, DiskError> {
         self.read_new(alloc)
@@ -312,7 +314,8 @@ impl Disk for FilePair {
 impl Pair for FilePair {
     ghost use Rattle.std.specs.Prelude.{⊤};
     ghost use Rattle.durable_pair_files.specs.OnFiles.{file_may_leave_new, seen_in_old_file, file_may_leave_old, files_since};
-    ghost use Rattle.durable_pair_memory.specs.InMemory.{shown_is_new, new_is_shown, both_as_kept, both_count_now, both_only_now};
+    ghost use Rattle.durable_pair_held.specs.Past.{shown_is_new, new_is_shown, both_as_kept, both_count_now, both_only_now};
+    ghost use Rattle.durable_pair_held.specs.Held.{past_of};
 
     ghost is_whole = { λ _. ⊤ };
 
@@ -338,15 +341,15 @@ impl Pair for FilePair {
 
     ghost of_both = { λ _ _ _ left. left };
 
-    ghost only_new = { λ p c honest. shown_is_new p.held c honest };
+    ghost only_new = { λ p c honest. shown_is_new (past_of p.held) c honest };
 
-    ghost new_is_left = { λ p c honest. new_is_shown p.held c honest };
+    ghost new_is_left = { λ p c honest. new_is_shown (past_of p.held) c honest };
 
-    ghost both_as_seen = { λ p _. both_as_kept p.held };
+    ghost both_as_seen = { λ p _. both_as_kept (past_of p.held) };
 
-    ghost both_now = { λ p t im _. both_count_now p.held t im };
+    ghost both_now = { λ p t im _. both_count_now (past_of p.held) t im };
 
-    ghost both_only = { λ p im _. both_only_now p.held im };
+    ghost both_only = { λ p im _. both_only_now (past_of p.held) im };
 
     fn read_old(&mut self, alloc: Global) -> Result<Vec<u8>, DiskError> {
         self.read_old_file(alloc)
@@ -376,20 +379,4 @@ fn checked(found: io::Result<Vec<u8>>, held: &[u8]) -> Result<Vec<u8>, DiskError
         Err(fault) if fault.kind() == ErrorKind::OutOfMemory => Err(DiskError::NoMemory),
         Err(_) => Err(DiskError::Device),
     }
-}
-
-/// The old file, where there is one, and what it holds.
-fn old_found(rt: &HostRuntime, path: &str) -> io::Result<(Option<File>, Vec<u8>)>
-    ensures { IfOk result (λ found. IsNone found.0 → found.1.items ≡ []) }
-{
-    let file = file_if_there(rt, path)?;
-    let bytes = bytes_if_there(rt.alloc(), &file)?;
-    Ok((file, bytes))
-}
-
-/// The new file, and what it holds.
-fn new_found(rt: &HostRuntime, path: &str) -> io::Result<(File, Vec<u8>)> {
-    let file = file_or_new(rt, path)?;
-    let bytes = bytes_of(rt.alloc(), &file)?;
-    Ok((file, bytes))
 }

@@ -1,7 +1,7 @@
 //! Opening the files of a pair.
 
-ghost use Rattle.std.specs.Prelude.{◌≡◌, [], IsNone, IfOk};
-ghost use Rattle.durable_pair_files.specs.Opening.{OpensWhatIsThere};
+ghost use Rattle.std.specs.Prelude.{◌≡◌, ◌≤◌, ◌↔◌, length, get_or, IsTrue, IsNone, IfOk};
+ghost use Rattle.durable_pair_files.specs.Opening.{OpensWhatIsThere, AreSpent};
 
 use std::alloc::Global;
 use std::fs::{File, OpenOptions};
@@ -36,7 +36,7 @@ fn new_file(rt: &HostRuntime, path: &str) -> io::Result<File> {
 }
 
 /// A file that is there, or a new one.
-pub fn file_or_new(rt: &HostRuntime, path: &str) -> io::Result<File> {
+fn file_or_new(rt: &HostRuntime, path: &str) -> io::Result<File> {
     match file_there(rt, path) {
         Err(fault) if fault.kind() == ErrorKind::NotFound => new_file(rt, path),
         opened => opened,
@@ -44,7 +44,7 @@ pub fn file_or_new(rt: &HostRuntime, path: &str) -> io::Result<File> {
 }
 
 /// A file that is there; none where nothing of that name is there. A link to nothing is refused.
-pub fn file_if_there(rt: &HostRuntime, path: &str) -> io::Result<Option<File>> {
+fn file_if_there(rt: &HostRuntime, path: &str) -> io::Result<Option<File>> {
     match file_there(rt, path) {
         Ok(file) => Ok(Some(file)),
         Err(fault) if fault.kind() == ErrorKind::NotFound && is_nothing(rt, path) => Ok(None),
@@ -68,23 +68,61 @@ fn folder_of(path: &str) -> Path<'_> {
     }
 }
 
-/// All the bytes of a file. Where memory is refused the error's kind is `OutOfMemory`.
-pub fn bytes_of(alloc: Global, file: &File) -> io::Result<Vec<u8>> {
+/// The first bytes of a file, so many where it has them. Where memory is refused the error's kind is `OutOfMemory`.
+fn front_of(alloc: Global, file: &File, most: usize) -> io::Result<Vec<u8>>
+    ensures { IfOk result (λ bytes. length bytes.items ≤ most) }
+{
     let found = file.metadata()?;
+    let len = most.min(found.len() as usize);
     let mut bytes = Vec::new(alloc);
-    if bytes.resize(found.len() as usize, 0).is_err() {
+    if bytes.resize(len, 0).is_err() {
         return Err(io::Error::from(ErrorKind::OutOfMemory));
     }
     file.read_exact_at(&mut bytes, 0)?;
     Ok(bytes)
 }
 
-/// The same of a file that need not be there: then there are none.
-pub fn bytes_if_there(alloc: Global, file: &Option<File>) -> io::Result<Vec<u8>>
-    ensures { IsNone file.now → IfOk result (λ bytes. bytes.items ≡ []) }
+/// All the bytes of a file.
+pub fn bytes_of(alloc: Global, file: &File) -> io::Result<Vec<u8>> {
+    front_of(alloc, file, usize::MAX)
+}
+
+/// The new file, and what it holds.
+pub fn new_found(rt: &HostRuntime, path: &str) -> io::Result<(File, Vec<u8>)> {
+    let file = file_or_new(rt, path)?;
+    let bytes = bytes_of(rt.alloc(), &file)?;
+    Ok((file, bytes))
+}
+
+/// The old file and what it holds, where it is there and counts. Else no file, and its first byte, if it has one.
+pub fn old_found(rt: &HostRuntime, path: &str) -> io::Result<(Option<File>, Vec<u8>)>
+    ensures { IfOk result (λ found. IsNone found.0 → AreSpent found.1.items) }
 {
-    match file {
-        Some(there) => bytes_of(alloc, there),
-        None => Ok(Vec::new(alloc)),
+    match file_if_there(rt, path)? {
+        Some(file) => old_of(rt.alloc(), file),
+        None => Ok((None, Vec::new(rt.alloc()))),
+    }
+}
+
+/// The same of a file that is there.
+fn old_of(alloc: Global, file: File) -> io::Result<(Option<File>, Vec<u8>)>
+    ensures { IfOk result (λ found. IsNone found.0 → AreSpent found.1.items) }
+{
+    let first = front_of(alloc, &file, 1)?;
+    if begins_with_c(&first) {
+        let bytes = bytes_of(alloc, &file)?;
+        Ok((Some(file), bytes))
+    } else {
+        Ok((None, first))
+    }
+}
+
+/// Whether a journal's first byte stands there.
+pub fn begins_with_c(bytes: &[u8]) -> bool
+    ensures { IsTrue result ↔ (get_or bytes.now 0 0 ≡ 67) }
+{
+    match bytes.first() {
+        Some(byte) => *byte == b'C',
+        None => false,
     }
 }

@@ -1,11 +1,12 @@
-use Rattle.std.proofs.Common.{[]}
+use Rattle.std.proofs.Common.{[], ap}
 use Rattle.durable_model_writes.specs.declared.call.Call.TheVariants.{Left}
-use Rattle.durable_pair_files.proofs.Lifted.{new_stands, stand_so}
+use Rattle.durable_pair_files.proofs.Lifted.{new_stays}
+use Rattle.durable_pair_held.specs.Held.{past_of}
 use Rattle.durable_pair_files.proofs.AsFileDisk.{file_honest, file_time, file_left_unchanged}
 use Rattle.durable_pair_files.proofs.file.FilePair.read_new.Goals as goal
 
 pub returns-clause-does : goal.returns-clause-does
-returns-clause-does c = new_stands c.args.self.now _ (stand_so _ _ c.read_file.ensures.held)
+returns-clause-does c = new_stays c.args.self.now _ (ap past_of c.read_file.ensures.held)
 
 pub returns-clause-honest : goal.returns-clause-honest
 returns-clause-honest c = file_honest c.args.self.now _ Left [] (returns-clause-does c)

@@ -1,0 +1,3 @@
+mod Parts
+mod Undone
+pub mod Noting
