@@ -1,0 +1,4 @@
+pub mod Expressions
+pub mod Programs
+pub mod Statements
+pub mod Texts

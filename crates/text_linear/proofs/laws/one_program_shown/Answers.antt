@@ -1,0 +1,5 @@
+use Rattle.text_linear.proofs.laws.one_program_shown.Goals as goal
+use Rattle.text_linear.proofs.Programs.{one_program}
+
+pub returns : goal.returns
+returns c = one_program

@@ -1,0 +1,33 @@
+//! Functions: a first line, and a line for each instruction.
+
+ghost use Rattle.lang_base.specs.Texts.{Appends};
+ghost use Rattle.text_linear.specs.Shown.{shown_named, shown_under};
+
+use crate::instruction::Line;
+use lang_base::{Named, NoMemory};
+use linear_language::Function;
+use text_acts::Located;
+use text_words::{Key, WriteOne, end_line, push_count, push_each, push_head};
+
+/// Writes the text of a function under a name.
+pub fn push_named(out: &mut Vec<u8>, name: &[u8], function: &Function) -> Result<(), NoMemory>
+    ensures { Appends result (shown_under name.now function.now) out.old.items out.new.items }
+{
+    push_head::<Located>(out, name, function.parameters().as_slice())?;
+    push_count(out, Key::Slots, function.slots())?;
+    end_line(out)?;
+    push_each::<Line>(out, function.code().as_slice())
+}
+
+/// The text of a function and its name.
+pub(crate) struct Shown;
+
+impl WriteOne for Shown {
+    type Item = Named<Function>;
+
+    ghost text = { shown_named };
+
+    fn push(out: &mut Vec<u8>, item: &Named<Function>) -> Result<(), NoMemory> {
+        push_named(out, item.name.as_slice(), &item.function)
+    }
+}

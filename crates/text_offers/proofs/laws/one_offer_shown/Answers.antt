@@ -1,0 +1,5 @@
+use Rattle.text_offers.proofs.laws.one_offer_shown.Goals as goal
+use Rattle.text_offers.proofs.Files.{one_offer}
+
+pub returns : goal.returns
+returns c = one_offer

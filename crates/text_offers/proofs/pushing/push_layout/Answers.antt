@@ -1,0 +1,18 @@
+use Rattle.std.proofs.Common.{codes, subst}
+use Rattle.lang_base.specs.Texts.{Appends}
+use Rattle.text_words.proofs.Appending.{function_written}
+use Rattle.text_ltl.specs.Shown as ltl
+use Rattle.text_linear.specs.Shown as linear
+use Rattle.text_offers.specs.Lines.{order_line}
+use Rattle.text_offers.proofs.pushing.push_layout.Goals as goal
+
+pub returns : goal.returns
+returns c =
+    let p = c.args.parts.now in
+    let r = c.push_order.result in
+    let third = c.push_named-2.new.out.items in
+    let new = c.push_order.new.out.items in
+    function_written r (codes "offer pass 4\n") (ltl.shown_under (codes "input") p.input) (linear.shown_under (codes "output") p.output) (order_line p.certificate)
+    c.args.out.now.items c.push_bytes.new.out.items c.push_named.new.out.items third new
+    c.in_ok-push_bytes.ensures c.in_ok-push_named.ensures c.in_ok-push_named-2.ensures
+    (subst (λ l. Appends r (order_line l) third new) c.as_slice.ensures c.push_order.ensures)

@@ -1,0 +1,4 @@
+pub mod Functions
+pub mod Globals
+pub mod NameBytes
+pub mod Programs

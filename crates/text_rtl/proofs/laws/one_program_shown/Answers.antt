@@ -1,0 +1,5 @@
+use Rattle.text_rtl.proofs.laws.one_program_shown.Goals as goal
+use Rattle.text_rtl.proofs.Programs.{one_program}
+
+pub returns : goal.returns
+returns c = one_program

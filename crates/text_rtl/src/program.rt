@@ -1,0 +1,21 @@
+//! Whole programs.
+
+ghost use Rattle.lang_base.specs.Texts.{Appends};
+ghost use Rattle.text_rtl.specs.Shown.{shown_rtl};
+
+use crate::function::Shown;
+use lang_base::{NoMemory, Program};
+use rtl_language::Function;
+use text_programs::push_program;
+
+/// Writes the text of a program at the end of `out`; where memory runs out, a beginning of it is written.
+pub fn push_rtl(out: &mut Vec<u8>, program: &Program<Function>) -> Result<(), NoMemory>
+    ensures { Appends result (shown_rtl program.now) out.old.items out.new.items }
+{
+    push_program::<Shown>(
+        out,
+        b"rtl\n",
+        program.globals.as_slice(),
+        program.functions.as_slice(),
+    )
+}

@@ -1,0 +1,9 @@
+pub mod Appending
+pub mod Clear
+pub mod Counting
+pub mod Digits
+pub mod Keys
+pub mod Lines
+pub mod Names
+pub mod Reading
+pub mod Words

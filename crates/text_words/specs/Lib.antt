@@ -1,0 +1,5 @@
+pub mod Keys
+pub mod Lines
+pub mod Names
+pub mod Numbered
+pub mod Words
