@@ -1,0 +1,5 @@
+pub mod Blocks
+pub mod Compared
+pub mod OneBundle
+pub mod Readings
+pub mod Standings

@@ -1,0 +1,155 @@
+-- Offers that stand, function by function, and the first that does not.
+use Rattle.std.proofs.Common.{◌≡◌, ℕ, zero, suc, ◌<◌, List, [], ◌∷◌, length, take, get_or, All, Some, Result, Ok, Err, refl, sym, ap, ◌∙◌, subst, arith}
+use Rattle.std.specs.Prelude.{slice_get, OnOk, IfErr}
+use Rattle.std.specs.List.{AllByRecursion}
+use Rattle.std.proofs.lemmas.List.Elements.{All-nil, All-cons}
+use Rattle.lang_base.specs.declared.program.Named.{Named}
+use Rattle.rtl_language.specs.Function.{FunctionData}
+use Rattle.chains.specs.declared.offering.Offers.{Offers}
+use Rattle.chains.specs.Baselines.{AreAccepted}
+use Rattle.linker.specs.Chains.{names_of}
+use Rattle.chains.specs.Offered.{AllGoOn, GoOnFrom, ends_of}
+use Rattle.bundle_offers.specs.declared.four.Four.{Four}
+use Rattle.bundle_offers.specs.declared.fault.PassNumber.{PassNumber}
+use Rattle.bundle_offers.specs.declared.fault.OfferFault.{OfferFault}
+use Rattle.bundle_offers.specs.declared.fault.OfferFault.TheVariants.{NoMemory, Unchained, Refused}
+use Rattle.bundle_offers.specs.declared.fault.PassNumber.TheVariants.{First, Second, Third, Fourth}
+use Rattle.bundle_offers.specs.Read.{offers_of, offers_in}
+use Rattle.bundle_offers.specs.Standing.{AcceptedAt, AllStand, ChainedAt, Fails, FailsStep, FirstStands, IsFirstFault, IsJudgedAt, Judged, SecondStands, Stand, StandBefore, ThirdStands, WhyAt}
+
+-- an offer that does not stand behind those that do
+pub fails_at : (f : FunctionData) (o : Offers) (at : PassNumber) (fault : OfferFault) → StandBefore f o at → FailsStep at (ChainedAt f o at) (AcceptedAt o at) (WhyAt o at) fault → Fails f o fault
+fails_at f o at NoMemory before told = tt
+fails_at f o at (Unchained pass) before told =
+    subst (λ k. Fails f o (Unchained k)) (sym told.0) (before, told.1)
+fails_at f o at (Refused pass fault) before told =
+    subst (λ k. Fails f o (Refused k fault)) (sym told.0) (before, told.1, told.2, told.3)
+
+-- the last offer, behind those that stand
+pub last_judged : (f : FunctionData) (o : Offers) (told : Result (Unit {0}) OfferFault) → OnOk told (ChainedAt f o Fourth) → OnOk told (AcceptedAt o Fourth)
+    → IfErr told (FailsStep Fourth (ChainedAt f o Fourth) (AcceptedAt o Fourth) (WhyAt o Fourth)) → FirstStands f o → SecondStands o → ThirdStands o → Judged f o told
+last_judged f o (Ok done) chained accepted refused one two three = record { first = one; second = two; third = three; fourth = (chained, accepted) }
+last_judged f o (Err fault) chained accepted refused one two three = fails_at f o Fourth fault (one, two, three) refused
+
+some_is : {A : Type 0} (x y : A) → Some x ≡ Some y → x ≡ y
+some_is x y e = cc
+
+-- what stands at a place
+pub got : {A : Type 0} (xs : List A) (i : ℕ) (x d : A) → slice_get xs i ≡ Some x → (i < length xs) × (get_or xs i d ≡ x)
+got [] zero x d e = absurd cc
+got [] (suc i) x d e = absurd cc
+got (y ∷ xs) zero x d e = (omega arith, some_is y x e)
+got (y ∷ xs) (suc i) x d e = let rest = got xs i x d e in (omega (arith, rest.0), rest.1)
+
+-- the answer to the function of a number, by what stands there
+pub judged_at : (fs : List (Named FunctionData)) (fours : List Four) (n : ℕ) (f : Named FunctionData) (four : Four) (told : Result (Unit {0}) OfferFault)
+    → f ≡ get_or fs n f → four ≡ get_or fours n four → Judged f.function (offers_of four) told → IsJudgedAt fs fours n told
+judged_at fs fours n f four told at at' is g other e e' =
+    let same : f ≡ g = at ∙ (got fs n g f e).1 in
+    let same' : four ≡ other = at' ∙ (got fours n other four e').1 in
+    subst (λ x. Judged g.function (offers_of x) told) same' (subst (λ x. Judged x.function (offers_of four) told) same is)
+
+-- the same of what was read
+abbrev pub FoursStand : List (Named FunctionData) → List Four → Type 0
+FoursStand [] [] = Unit {0}
+FoursStand [] (o ∷ fours) = ⊥
+FoursStand (f ∷ functions) [] = ⊥
+FoursStand (f ∷ functions) (o ∷ fours) = Stand f.function (offers_of o) × FoursStand functions fours
+
+pub stand_next : (fs : List (Named FunctionData)) (fours : List Four) (n : ℕ) → n < length fs → n < length fours
+    → ((f : Named FunctionData) (four : Four) → slice_get fs n ≡ Some f → slice_get fours n ≡ Some four → Stand f.function (offers_of four))
+    → FoursStand (take n fs) (take n fours) → FoursStand (take (suc n) fs) (take (suc n) fours)
+stand_next [] fours n below below' one before = absurd (omega (arith, below))
+stand_next (f ∷ fs) [] n below below' one before = absurd (omega (arith, below'))
+stand_next (f ∷ fs) (x ∷ fours) zero below below' one before = (one f x refl refl, tt)
+stand_next (f ∷ fs) (x ∷ fours) (suc n) below below' one before =
+    (before.0, stand_next fs fours n (omega (arith, below)) (omega (arith, below')) (λ g y e e'. one g y e e') before.1)
+
+pub all_stand : (fs : List (Named FunctionData)) (fours : List Four) → FoursStand fs fours → AllStand fs (offers_in fours)
+all_stand [] [] are = tt
+all_stand [] (x ∷ fours) are = absurd are
+all_stand (f ∷ fs) [] are = absurd are
+all_stand (f ∷ fs) (x ∷ fours) are = (are.0, all_stand fs fours are.1)
+
+pub fault_at : (fs : List (Named FunctionData)) (fours : List Four) (n : ℕ) (fault : OfferFault) → n < length fs → n < length fours
+    → ((f : Named FunctionData) (four : Four) → slice_get fs n ≡ Some f → slice_get fours n ≡ Some four → Fails f.function (offers_of four) fault)
+    → FoursStand (take n fs) (take n fours) → IsFirstFault fs (offers_in fours) n fault
+fault_at [] fours n fault below below' one before = absurd (omega (arith, below))
+fault_at (f ∷ fs) [] n fault below below' one before = absurd (omega (arith, below'))
+fault_at (f ∷ fs) (x ∷ fours) zero fault below below' one before = one f x refl refl
+fault_at (f ∷ fs) (x ∷ fours) (suc n) fault below below' one before =
+    (before.0, fault_at fs fours n fault (omega (arith, below)) (omega (arith, below')) (λ g y e e'. one g y e e') before.1)
+
+-- offers that stand chain, and are accepted
+pub go_on : (fs : List (Named FunctionData)) (offers : List Offers) → AllStand fs offers → AllGoOn fs offers
+go_on [] [] are = tt
+go_on [] (o ∷ offers) are = absurd are
+go_on (f ∷ fs) [] are = absurd are
+go_on (f ∷ fs) (o ∷ offers) are =
+    (record { constants = are.0.first.0; expressions = are.0.second.0; allocation = are.0.third.0; order = are.0.fourth.0 }, go_on fs offers are.1)
+
+are_accepted : (f : FunctionData) (o : Offers) → Stand f o → AreAccepted o
+are_accepted f o is = record { constants = is.first.1; expressions = is.second.1; allocation = is.third.1; order = is.fourth.1 }
+
+pub accepted : (fs : List (Named FunctionData)) (offers : List Offers) → AllStand fs offers → AllByRecursion AreAccepted offers
+accepted [] [] are = tt
+accepted [] (o ∷ offers) are = absurd are
+accepted (f ∷ fs) [] are = absurd are
+accepted (f ∷ fs) (o ∷ offers) are = (are_accepted f.function o are.0, accepted fs offers are.1)
+
+pub all_accepted : (offers : List Offers) → AllByRecursion AreAccepted offers → All AreAccepted offers
+all_accepted [] are = All-nil _
+all_accepted (o ∷ offers) are = All-cons AreAccepted o offers are.0 (all_accepted offers are.1)
+
+-- ---- offers that chain and are accepted stand, and none of them has a fault
+
+one_stands : (f : FunctionData) (o : Offers) → GoOnFrom f o → AreAccepted o → Stand f o
+one_stands f o on are = record {
+  first = (on.constants, are.constants);
+  second = (on.expressions, are.expressions);
+  third = (on.allocation, are.allocation);
+  fourth = (on.order, are.order);
+}
+
+pub they_stand : (fs : List (Named FunctionData)) (offers : List Offers) → AllGoOn fs offers → AllByRecursion AreAccepted offers → AllStand fs offers
+they_stand [] [] on are = tt
+they_stand [] (o ∷ offers) on are = absurd on
+they_stand (f ∷ fs) [] on are = absurd on
+they_stand (f ∷ fs) (o ∷ offers) on are = (one_stands f.function o on.0 are.0, they_stand fs offers on.1 are.1)
+
+no_fault_of : (f : FunctionData) (o : Offers) (fault : OfferFault) → Stand f o → Fails f o fault → fault ≡ NoMemory
+no_fault_of f o NoMemory stand is = refl
+no_fault_of f o (Unchained First) stand is = absurd (is.1 stand.first.0)
+no_fault_of f o (Unchained Second) stand is = absurd (is.1 stand.second.0)
+no_fault_of f o (Unchained Third) stand is = absurd (is.1 stand.third.0)
+no_fault_of f o (Unchained Fourth) stand is = absurd (is.1 stand.fourth.0)
+no_fault_of f o (Refused First fault) stand is = absurd (is.2 stand.first.1)
+no_fault_of f o (Refused Second fault) stand is = absurd (is.2 stand.second.1)
+no_fault_of f o (Refused Third fault) stand is = absurd (is.2 stand.third.1)
+no_fault_of f o (Refused Fourth fault) stand is = absurd (is.2 stand.fourth.1)
+
+pub no_fault : (fs : List (Named FunctionData)) (offers : List Offers) (i : ℕ) (fault : OfferFault) → AllStand fs offers → IsFirstFault fs offers i fault → fault ≡ NoMemory
+no_fault [] offers i fault stand is = absurd is
+no_fault (f ∷ fs) [] i fault stand is = absurd is
+no_fault (f ∷ fs) (o ∷ offers) zero fault stand is = no_fault_of f.function o fault stand.0 is
+no_fault (f ∷ fs) (o ∷ offers) (suc i) fault stand is = no_fault fs offers i fault stand.1 is.1
+
+-- a function whose offers are the first that do not stand is one of them
+pub fault_below : (functions : List (Named FunctionData)) (offers : List Offers) (i : ℕ) (fault : OfferFault) → IsFirstFault functions offers i fault → i < length functions
+fault_below [] offers i fault is = absurd is
+fault_below (f ∷ functions) [] i fault is = absurd is
+fault_below (f ∷ functions) (o ∷ offers) zero fault is = omega arith
+fault_below (f ∷ functions) (o ∷ offers) (suc i) fault is = let less = fault_below functions offers i fault is.1 in omega (arith, less)
+
+-- offers that chain have the names and the number of the functions
+pub ends_names : (fs : List (Named FunctionData)) (offers : List Offers) → AllGoOn fs offers → names_of (ends_of fs offers) ≡ names_of fs
+ends_names [] [] on = refl
+ends_names [] (o ∷ offers) on = absurd on
+ends_names (f ∷ fs) [] on = absurd on
+ends_names (f ∷ fs) (o ∷ offers) on = ap (λ names. f.name ∷ names) (ends_names fs offers on.1)
+
+pub as_many : (fs : List (Named FunctionData)) (offers : List Offers) → AllGoOn fs offers → length offers ≡ length fs
+as_many [] [] on = refl
+as_many [] (o ∷ offers) on = absurd on
+as_many (f ∷ fs) [] on = absurd on
+as_many (f ∷ fs) (o ∷ offers) on = ap suc (as_many fs offers on.1)

@@ -1,0 +1,23 @@
+//! The offers of a bundle: what its texts spell, whether the offers stand, and the texts that are written of offers. Nobody is
+//! trusted: an offer is worth something once its pass has accepted it here, and where it goes on from the one before it.
+#![tactic(auto)]
+
+mod fault;
+mod four;
+mod judging;
+mod knowing;
+mod laws;
+mod reading;
+mod reasons;
+mod writing;
+
+pub use bundle_form::{Bundle, Texts};
+pub use chains::Offers;
+pub use fault::{OfferFault, PassNumber};
+pub use four::Four;
+pub use judging::{first_fault, judge_all, stands};
+pub use knowing::known_all;
+pub use laws::one_bundle;
+pub use reading::read_offers;
+pub use reasons::{PassReasons, Reasons};
+pub use writing::{texts_of, written};

@@ -1,0 +1,90 @@
+//! Why a pass does not accept.
+
+ghost use Rattle.std.specs.Prelude.{IfOk, MatchOption};
+ghost use Rattle.lang_base.specs.declared.fault.Fault.{Fault};
+
+use alloc_check::Alloc;
+use constprop_check::ConstProp;
+use cse_check::Cse;
+use lang_base::{Fault, Language, NoMemory, Pass};
+use linearize_check::{Linearize, Order};
+use std::alloc::Global;
+
+/// Who tells why a pass does not accept an output.
+pub trait Reasons<P: Pass> {
+    /// What is said of an input, an output and a certificate that are not accepted.
+    ghost tells: { P.In.Fun → P.Out.Fun → P.Cert → Fault → Type 0 };
+
+    /// What is wrong, if anything is.
+    fn reason(
+        alloc: Global,
+        input: &<P::In as Language>::Fun,
+        output: &<P::Out as Language>::Fun,
+        certificate: &P::Cert,
+    ) -> Result<Option<Fault>, NoMemory>
+        ensures { IfOk result (λ told. MatchOption told (P.accepts input.now output.now certificate.now)
+            (tells input.now output.now certificate.now)) };
+}
+
+/// The four passes' own reasons.
+pub struct PassReasons;
+
+impl Reasons<ConstProp> for PassReasons {
+    ghost use Rattle.bundle_offers.specs.Reasons.{WhyFirst};
+
+    ghost tells = { WhyFirst };
+
+    fn reason(
+        alloc: Global,
+        input: &rtl_language::Function,
+        output: &rtl_language::Function,
+        certificate: &constprop_check::FactLists,
+    ) -> Result<Option<Fault>, NoMemory> {
+        constprop_check::why(alloc, input, output, certificate)
+    }
+}
+
+impl Reasons<Cse> for PassReasons {
+    ghost use Rattle.bundle_offers.specs.Reasons.{WhySecond};
+
+    ghost tells = { WhySecond };
+
+    fn reason(
+        alloc: Global,
+        input: &rtl_language::Function,
+        output: &rtl_language::Function,
+        certificate: &cse_check::EquationLists,
+    ) -> Result<Option<Fault>, NoMemory> {
+        cse_check::why(alloc, input, output, certificate)
+    }
+}
+
+impl Reasons<Alloc> for PassReasons {
+    ghost use Rattle.bundle_offers.specs.Reasons.{WhyThird};
+
+    ghost tells = { WhyThird };
+
+    fn reason(
+        alloc: Global,
+        input: &rtl_language::Function,
+        output: &ltl::Function,
+        certificate: &alloc_check::EquationLists,
+    ) -> Result<Option<Fault>, NoMemory> {
+        alloc_check::why(alloc, input, output, certificate)
+    }
+}
+
+impl Reasons<Linearize> for PassReasons {
+    ghost use Rattle.bundle_offers.specs.Reasons.{WhyFourth};
+
+    ghost tells = { WhyFourth };
+
+    fn reason(
+        alloc: Global,
+        input: &ltl::Function,
+        output: &linear_language::Function,
+        certificate: &Order,
+    ) -> Result<Option<Fault>, NoMemory> {
+        linearize_check::why(alloc, input, output, certificate)
+    }
+}

@@ -1,0 +1,4 @@
+pub mod Bytes
+pub mod OfText
+pub mod Passing
+pub mod Under

@@ -1,0 +1,7 @@
+pub mod Bytes
+pub mod Judged
+pub mod Lines
+pub mod Passes
+pub mod Passing
+pub mod Told
+pub mod Under

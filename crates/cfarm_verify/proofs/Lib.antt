@@ -1,0 +1,5 @@
+pub mod Compared
+pub mod Exact
+pub mod Named
+pub mod Told
+pub mod Verified

@@ -1,0 +1,35 @@
+ghost use Rattle.std.specs.Prelude.{◌≡◌, ◌<◌, length, slice_get, Some, IfOk};
+ghost use Rattle.std.specs.List.{AllByRecursion};
+ghost use Rattle.std.specs.String.{string_bytes};
+ghost use Rattle.c_lexer_parts.specs.Lexemes.{IsName};
+ghost use Rattle.linker.specs.Chains.{names_of};
+
+use lang_base::{Named, NoMemory};
+use std::alloc::Global;
+
+/// A C name as text: it is letters, digits and underscores.
+fn text_of(name: Vec<u8>) -> String
+    requires { IsName name.items }
+    ensures { string_bytes result ≡ name.items }
+{
+    match String::from_utf8(name) {
+        Ok(text) => text,
+        Err(_) => unreachable!(),
+    }
+}
+
+/// The name of the function of this number.
+pub(crate) fn name_of<F>(
+    alloc: Global,
+    functions: &[Named<F>],
+    number: usize,
+) -> Result<String, NoMemory>
+    requires number { number < length functions.now }
+    requires names { AllByRecursion (λ f. IsName f.name) functions.now }
+    ensures { IfOk result (λ name. slice_get (names_of functions.now) number ≡ Some (string_bytes name)) }
+{
+    match functions[number].name.copied(alloc) {
+        Ok(name) => Ok(text_of(name.into_vec())),
+        Err(fault) => Err(fault),
+    }
+}
