@@ -64,11 +64,11 @@ was_sent sent i (Some m) k h e = subst (λ (o : Option NodeCall). WasSent sent (
     call_in None = On m
     call_in (Some c) = c.call
 
-abbrev WasCalled : List Msg → Option NodeCall → Type 0
+abbrev pub WasCalled : List Msg → Option NodeCall → Type 0
 WasCalled sent None = Unit {0}
 WasCalled sent (Some k) = WasSent sent k.call
 
-asked_was_sent : (sent : List Msg) (c : Command) (k : NodeCall) → asked sent c ≡ Some k → WasSent sent k.call
+pub asked_was_sent : (sent : List Msg) (c : Command) (k : NodeCall) → asked sent c ≡ Some k → WasSent sent k.call
 asked_was_sent sent (command.Offer i) k e = subst (λ (o : Option NodeCall). WasCalled sent o) e tt
 asked_was_sent sent (command.Start i) k e = subst (λ (o : Option NodeCall). WasCalled sent o) e tt
 asked_was_sent sent (command.Propose i) k e = subst (λ (o : Option NodeCall). WasCalled sent o) e tt
@@ -153,11 +153,11 @@ got_within [] k m e = absurd (cc)
 got_within (x ∷ xs) zero m e = omega arith
 got_within (x ∷ xs) (suc k) m e = let h = got_within xs k m e in omega arith
 
-abbrev node_in : ℕ → Option NodeCall → ℕ
+abbrev pub node_in : ℕ → Option NodeCall → ℕ
 node_in d None = d
 node_in d (Some k) = k.node
 
-delivered : (i : ℕ) (o : Option Msg) (k : NodeCall) → option_map (λ m. record { node = i; call = On m }) o ≡ Some k → (i ≡ k.node) × ((m : Msg) × (o ≡ Some m))
+pub delivered : (i : ℕ) (o : Option Msg) (k : NodeCall) → option_map (λ m. record { node = i; call = On m }) o ≡ Some k → (i ≡ k.node) × ((m : Msg) × (o ≡ Some m))
 delivered i None k e = absurd (cc)
 delivered i (Some m) k e = (ap (node_in i) e, (m, refl))
 

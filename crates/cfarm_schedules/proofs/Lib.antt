@@ -2,3 +2,4 @@ pub mod Moves
 pub mod Fresh
 pub mod Going
 pub mod Cut
+pub mod Noting

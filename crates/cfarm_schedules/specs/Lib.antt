@@ -1,5 +1,6 @@
 pub mod Told
 pub mod Rooms
+pub mod Noted
 pub mod Plays
 pub mod Lines
 pub use Rattle.cfarm_schedules_lines.specs.Commands

@@ -20,7 +20,7 @@ use std::alloc::Global;
 use std::io::Write;
 
 /// The first line of a text, and what stands behind it.
-fn next_line(text: &[u8]) -> (&[u8], &[u8])
+pub fn next_line(text: &[u8]) -> (&[u8], &[u8])
     ensures line { result.0.now ≡ first_line text.now }
     ensures text { IsLine text.now result.0.now result.1.now }
 {
@@ -28,7 +28,7 @@ fn next_line(text: &[u8]) -> (&[u8], &[u8])
 }
 
 /// Does what a command asks; none where its node is none, or its message was not sent yet.
-fn obey(room: &mut Room, command: Command) -> Result<Option<Told>, NoMemory>
+pub fn obey(room: &mut Room, command: Command) -> Result<Option<Told>, NoMemory>
     ensures some { IfOk result (λ told. IfSome told (Obeyed room.old command room.new)) }
     ensures none { IfOk result (λ told. IsNone told → Refuses room.old command) }
     ensures quorums { room.new.quorums ≡ room.old.quorums }
@@ -88,7 +88,7 @@ fn print<W: Write>(alloc: Global, told: Told, out: &mut W) -> Result<(), Schedul
 }
 
 /// The last line: what each node has learned.
-fn closing_of(alloc: Global, room: &Room) -> Result<String, NoMemory>
+pub fn closing_of(alloc: Global, room: &Room) -> Result<String, NoMemory>
     ensures { IfOk result (λ text. string_bytes text ≡ last_line room.now) }
 {
     let mut text = "learned:".to_string(alloc)?;

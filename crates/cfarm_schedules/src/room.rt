@@ -1,17 +1,19 @@
 ghost use Rattle.std.specs.Prelude.{◌≡◌, ◌<◌, ℕ, ◌+◌, ◌^◌, ◌++◌, ◌∷◌, [], IfOk, OnOk, IfSome, length, slice_get, Some};
 ghost use Rattle.paxos_core.specs.Call.{Offer, On, Proposal, Restart, Start};
 ghost use Rattle.cfarm_schedules.specs.declared.told.Told.TheVariants as Told;
+ghost use Rattle.cfarm_schedules.specs.Noted.{has_noted, has_vote};
+ghost use Rattle.paxos_core_law.specs.Learner.{is_under_way};
 ghost use Rattle.cfarm_schedules.specs.Rooms.{after_call_of, learning, node_at, room_of, start, told_at};
 
 use crate::told::Told;
 use lang_base::NoMemory;
-use paxos_core::{Msg, Node, Quorums};
+use paxos_core::{Msg, Node, Quorums, Vote};
 use std::alloc::Global;
 use std::marker::Model;
 
 /// The nodes of a room, and the messages that they sent, the oldest first.
 #[derive(Drop)]
-pub(crate) struct Room {
+pub struct Room {
     quorums: Quorums,
     nodes: Vec<Node>,
     sent: Vec<Msg>,
@@ -30,7 +32,7 @@ impl Model for Room {
 
 impl Room {
     /// A room with these quorums whose nodes have done nothing.
-    pub(crate) fn new(alloc: Global, quorums: Quorums) -> Result<Room, NoMemory>
+    pub fn new(alloc: Global, quorums: Quorums) -> Result<Room, NoMemory>
         ensures quorums { IfOk result (λ room. room.quorums ≡ quorums) }
         ensures start { IfOk result (λ room. room_of room ≡ start quorums) }
     {
@@ -46,7 +48,7 @@ impl Room {
     }
 
     /// How many nodes it has.
-    pub(crate) fn count(&self) -> u8
+    pub fn count(&self) -> u8
         ensures count { result ≡ self.now.quorums.nodes }
         ensures nodes { length self.now.nodes ≡ self.now.quorums.nodes }
     {
@@ -54,7 +56,7 @@ impl Room {
     }
 
     /// What the type keeps, for a caller's proof.
-    pub(crate) fn known(&self)
+    pub fn known(&self)
         ensures count { self.now.quorums.nodes < 256 }
         ensures sent { length self.now.sent < 2 ^ 64 }
     {
@@ -63,7 +65,7 @@ impl Room {
     }
 
     /// The message with this number, counted from 0.
-    pub(crate) fn message(&self, number: u64) -> Option<Msg>
+    pub fn message(&self, number: u64) -> Option<Msg>
         ensures { result ≡ slice_get self.now.sent number }
     {
         self.sent.get(number as usize).copied()
@@ -75,6 +77,19 @@ impl Room {
         ensures { result ≡ (node_at self.now node).learned }
     {
         self.nodes[usize::from(node)].learned()
+    }
+
+    /// Whether the node has noted the message, as it stands: a promise for the ballot that it has under way, or a vote.
+    pub fn has_noted(&self, node: u8, message: &Msg) -> bool
+        requires { node < self.now.quorums.nodes }
+        ensures { result ≡ has_noted (node_at self.now node) message.now }
+    {
+        let seen = &self.nodes[usize::from(node)];
+        match *message {
+            Msg::Promise(_, ballot, _) => is_under_way(seen.ballot(), ballot),
+            Msg::Accepted(from, ballot, value) => has_vote(seen, from, Vote { ballot, value }),
+            Msg::Prepare(_) | Msg::Propose(_, _) => false,
+        }
     }
 
     pub(crate) fn offer(&mut self, node: u8) -> Told
@@ -146,6 +161,23 @@ impl Room {
         self.sent.push(message)?;
         Ok(Told::Sent(number, node, message))
     }
+}
+
+/// Whether the ballot is the one under way.
+fn is_under_way(current: Option<u16>, ballot: u16) -> bool
+    ensures { result ≡ is_under_way current ballot }
+{
+    match current {
+        Some(current) => current == ballot,
+        None => false,
+    }
+}
+
+/// Whether just this vote of node `from` is noted.
+fn has_vote(node: &Node, from: u8, vote: Vote) -> bool
+    ensures { result ≡ has_vote node.now from vote }
+{
+    node.has_noted(from, vote)
 }
 
 /// What is told of a message that is not answered.
