@@ -33,6 +33,8 @@ FLOORS = [
     ("Languages: whole programs of any, Cminor, RTL, LTL, Linear",
      "lang locations machine lang_running_cells lang_running cminor_syntax cminor_form cminor_codec cminor_language rtl_parts "
      "rtl_language rtl_decoded rtl ltl linear_language linear_decoded linear_groups linear_fused linear_fusing linear"),
+    ("Texts: what is shown of a program",
+     "text_words text_programs text_acts text_linear text_rtl text_ltl text_cminor"),
     ("Lowerings: C to Cminor, Cminor to RTL",
      "cminor_lowering cminor_lowering_ranges cminor_program_ranges cminor rtlgen_definition rtlgen_code rtlgen"),
     ("Passes: the rules of each, that they keep the meaning, the check",
@@ -42,11 +44,11 @@ FLOORS = [
      "linearize_check_proof linearize_check_layout linearize_check"),
     ("Optimisers: they propose, and nothing is claimed of them",
      "oracle_graphs oracle_facts oracle_const oracle_alloc_blocks oracle_alloc oracle_cse oracle_webs oracle_alloc_speed oracle_order"),
-    ("Offers, chains of them, and the linked program", "offers offers_choice parallel_validate linker chains"),
+    ("Offers, chains of them, and the linked program", "offers offers_choice parallel_validate linker chains bundle_form bundle_offers"),
     ("Agreement: the protocol, rooms on shared words",
      "paxos_core_world paxos_core_invariant paxos_core_model paxos_core_law paxos_core_late_offers paxos_core_crash paxos_core "
      "rooms_rule rooms_table rooms_steps rooms_state rooms_rights rooms_met rooms_seat rooms_cells rooms_hall rooms rooms_function rooms_numbered"),
-    ("Journals", "durable_model_writes durable_model durable_pair durable_pair_turning durable_pair_memory durable_pair_files acceptor_log_form acceptor_log acceptor_log_old_form "
+    ("Journals", "durable_model_writes durable_model durable_pair durable_pair_turning durable_pair_memory durable_pair_held durable_pair_files acceptor_log_form acceptor_log_blocks acceptor_log acceptor_log_old_form "
      "acceptor_log_translating acceptor_log_migrating"),
     ("The farm",
      "farm_nodes_order farm_nodes_acting farm_nodes_leading farm_nodes_offers farm_nodes_playing farm_nodes_passes "
@@ -56,8 +58,8 @@ FLOORS = [
      "farm_nodes_seated farm_nodes_opened farm_nodes_rounds farm_nodes_workers farm_nodes_threads farm_nodes_source "
      "farm_nodes_compiling farm_nodes_linked farm_nodes"),
     ("The program",
-     "cfarm_files cfarm_options cfarm_explaining cfarm_output cfarm_runs cfarm_hints cfarm_meter cfarm_report cfarm_build_faults cfarm_build_linking cfarm_build cfarm_building cfarm_settle_nodes cfarm_commands cfarm_schedules_lines "
-     "cfarm_schedules cfarm_words cfarm_program cfarm"),
+     "cfarm_files cfarm_options cfarm_explaining cfarm_output cfarm_log_lines cfarm_log text_offers program_texts cfarm_runs cfarm_hints cfarm_meter cfarm_report cfarm_build_faults cfarm_build_linking cfarm_build cfarm_building cfarm_settle_nodes cfarm_commands cfarm_emitted cfarm_emit cfarm_verify cfarm_judge cfarm_schedules_lines "
+     "cfarm_schedules cfarm_drawing_parts cfarm_drawing cfarm_words_parts cfarm_words cfarm_telling cfarm_looking cfarm_program cfarm"),
     ("Tests",
      "program_rows paxos_reference worked_farm worked_commands worked_agreement worked_texts worked_forms worked_offers "
      "worked_rows worked_disk worked_journals worked_rooms worked_whole worked_hostile"),

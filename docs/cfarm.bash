@@ -7,7 +7,11 @@ _cfarm_options() {
     interpret) echo "--depth --help" ;;
     build) echo "--nodes --promise --accept --turns --seed --optimise --dir --help" ;;
     exec) echo "--limit --expect --help" ;;
-    settle | sim) echo "--help" ;;
+    sim) echo "--svg --help" ;;
+    verify) echo "--program --bundle --help" ;;
+    emit) echo "--of --seed --help" ;;
+    judge) echo "--function --offer --help" ;;
+    settle | show | log) echo "--help" ;;
     *) echo "--help --version" ;;
     esac
 }
@@ -18,12 +22,13 @@ _cfarm_values() {
     --format) echo "gcc" ;;
     --nodes) echo "2 3 4 5 6 7" ;;
     --optimise) echo "drawn speed" ;;
+    --of) echo "cminor rtl ltl linear bundle" ;;
     esac
 }
 
 _cfarm() {
     local word=${COMP_WORDS[COMP_CWORD]} before=${COMP_WORDS[COMP_CWORD - 1]}
-    local commands="check interpret build exec settle sim help"
+    local commands="check interpret build exec settle sim show log verify emit judge help"
     local command=
     [ "$COMP_CWORD" -gt 1 ] && command=${COMP_WORDS[1]}
     COMPREPLY=()
@@ -40,8 +45,9 @@ _cfarm() {
     [ "$before" = "=" ] && before=${COMP_WORDS[COMP_CWORD - 2]}
     case $before in
     --dir) COMPREPLY=($(compgen -d -- "$word")) ;;
-    --depth | --limit | --expect | --promise | --accept | --turns | --seed) ;;
-    --format | --nodes | --optimise) COMPREPLY=($(compgen -W "$(_cfarm_values "$before")" -- "$word")) ;;
+    --program | --bundle | --offer) COMPREPLY=($(compgen -f -- "$word")) ;;
+    --depth | --limit | --expect | --promise | --accept | --turns | --seed | --function) ;;
+    --format | --nodes | --optimise | --of) COMPREPLY=($(compgen -W "$(_cfarm_values "$before")" -- "$word")) ;;
     *)
         case $word in
         -*) COMPREPLY=($(compgen -W "$(_cfarm_options "$command")" -- "$word")) ;;

@@ -1,5 +1,5 @@
-pub mod Telling
 pub mod Outcomes
 pub mod Met
 pub mod Performed
 pub mod Runs
+pub use Rattle.cfarm_telling.specs.Telling

@@ -4,8 +4,8 @@ use Rattle.cfarm_building.specs.Compiled.{quorums_of}
 use Rattle.cfarm_building.specs.Quorum.{AreQuorums}
 use Rattle.cfarm_options.specs.Sizes.{sizes_of}
 use Rattle.cfarm_options.specs.declared.options.AskedSizes.{AskedSizes}
-use Rattle.cfarm_words.specs.declared.task.Task.{Task}
-use Rattle.cfarm_words.specs.declared.task.Task.TheVariants.{Check, Interpret, Build, Exec, Settle, Simulate}
+use Rattle.cfarm_words_parts.specs.declared.task.Task.{Task}
+use Rattle.cfarm_words_parts.specs.declared.task.Task.TheVariants.{Check, Interpret, Build, Exec, Settle, Simulate, Show, List, Verify, Emit, Judge}
 
 abbrev pub AreMet : Task → Type 0
 AreMet (Check format) = Unit {0}
@@ -13,7 +13,12 @@ AreMet (Interpret depth) = Unit {0}
 AreMet (Build options) = AreQuorums (quorums_of options)
 AreMet (Exec limit expected) = Unit {0}
 AreMet Settle = Unit {0}
-AreMet Simulate = Unit {0}
+AreMet (Simulate showing) = Unit {0}
+AreMet Show = Unit {0}
+AreMet List = Unit {0}
+AreMet (Verify paths) = Unit {0}
+AreMet (Emit emitted seed) = Unit {0}
+AreMet (Judge offer) = Unit {0}
 
 -- it asks for these sizes, with which they need not
 abbrev pub IsUnmet : Task → AskedSizes → Type 0
@@ -22,4 +27,9 @@ IsUnmet (Interpret depth) sizes = ⊥
 IsUnmet (Build options) sizes = (¬ AreQuorums (quorums_of options)) × (sizes ≡ sizes_of options)
 IsUnmet (Exec limit expected) sizes = ⊥
 IsUnmet Settle sizes = ⊥
-IsUnmet Simulate sizes = ⊥
+IsUnmet (Simulate showing) sizes = ⊥
+IsUnmet Show sizes = ⊥
+IsUnmet List sizes = ⊥
+IsUnmet (Verify paths) sizes = ⊥
+IsUnmet (Emit emitted seed) sizes = ⊥
+IsUnmet (Judge offer) sizes = ⊥

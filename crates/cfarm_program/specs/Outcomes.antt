@@ -19,6 +19,7 @@ use Rattle.cfarm_commands.specs.SettleStatuses as settle_status
 use Rattle.cfarm_schedules.specs.declared.error.ScheduleError.{ScheduleError}
 use Rattle.cfarm_schedules.specs.Lines as schedule
 use Rattle.cfarm_schedules.specs.Plays.{IsShown, IsStopped}
+use Rattle.cfarm_drawing.specs.Drawn.{IsDrawn, IsUndrawn}
 use Rattle.durable_model.specs.declared.disk.Disk as disks
 use Rattle.durable_pair.specs.declared.pair.Pair as pairs
 use Rattle.rooms_hall.specs.declared.hall.Naming as naming
@@ -27,9 +28,11 @@ use Rattle.cfarm_building.specs.Answers as building
 use Rattle.cfarm_building.specs.Done.{HasBuilt, IsNotBuilt}
 use Rattle.cfarm_building.specs.declared.error.BuildingError.{BuildingError}
 use Rattle.cfarm_options.specs.declared.options.BuildOptions.{BuildOptions}
-use Rattle.cfarm_words.specs.declared.task.Format.{Format}
-use Rattle.cfarm_words.specs.declared.task.Format.TheVariants.{Plain, Gcc}
-use Rattle.cfarm_program.specs.Telling.{Answer, quiet, told}
+use Rattle.cfarm_words_parts.specs.declared.task.Format.{Format}
+use Rattle.cfarm_words_parts.specs.declared.task.Format.TheVariants.{Plain, Gcc}
+use Rattle.cfarm_words_parts.specs.declared.task.Showing.{Showing}
+use Rattle.cfarm_words_parts.specs.declared.task.Showing.TheVariants.{Lines, Drawing}
+use Rattle.cfarm_telling.specs.Telling.{Answer, quiet, told}
 
 -- the answer after a run, and after each command that is not done
 abbrev pub closed : Shown → Answer
@@ -91,8 +94,19 @@ Settled bytes answer before after =
     ((seats : Seats) × HaveSettled bytes seats before after × (answer ≡ quiet))
     ⊎ ((fault : SettleError) × settled.IsRefused bytes fault before after × (answer ≡ settle_fault fault))
 
--- `sim`: what the lines of a schedule show is printed, or the first line that is none is told
-abbrev pub Simulated : List ℕ → Answer → Option (List ℕ) → Option (List ℕ) → Type 0
-Simulated bytes answer before after =
+-- what the lines of a schedule show is printed, or the first line that is none is told
+abbrev pub Lined : List ℕ → Answer → Option (List ℕ) → Option (List ℕ) → Type 0
+Lined bytes answer before after =
     (IsShown bytes before after × (answer ≡ quiet))
     ⊎ ((fault : ScheduleError) × IsStopped bytes fault before after × (answer ≡ schedule_fault fault))
+
+-- a drawing of it is printed, or the first line that is none is told, and then nothing is drawn
+abbrev pub Drawn : List ℕ → Answer → Option (List ℕ) → Option (List ℕ) → Type 0
+Drawn bytes answer before after =
+    (IsDrawn bytes before after × (answer ≡ quiet))
+    ⊎ ((fault : ScheduleError) × IsUndrawn bytes fault before after × (answer ≡ schedule_fault fault))
+
+-- `sim`: a schedule is shown as is asked for
+abbrev pub Simulated : Showing → List ℕ → Answer → Option (List ℕ) → Option (List ℕ) → Type 0
+Simulated Lines bytes answer before after = Lined bytes answer before after
+Simulated Drawing bytes answer before after = Drawn bytes answer before after

@@ -1,5 +1,5 @@
 -- What the program does that is asked for, with what its file is read as.
-use Rattle.std.specs.Prelude.{◌≡◌, ◌⊎◌, ℕ, List, ◌++◌, Bool, false, Option, Result, Ok, Err, codes}
+use Rattle.std.specs.Prelude.{◌≡◌, ◌⊎◌, ℕ, List, Bool, false, Option, Result, Ok, Err}
 use Rattle.durable_model.specs.declared.disk.Disk as disks
 use Rattle.durable_pair.specs.declared.pair.Pair as pairs
 use Rattle.rooms_hall.specs.declared.hall.Naming as naming
@@ -7,20 +7,21 @@ use Rattle.cfarm_output.specs.Errors.{ErrorsHeld}
 use Rattle.cfarm_files.specs.Placing.{Placed, Keeps}
 use Rattle.cfarm_files.specs.Reading.{IsKnownAs}
 use Rattle.cfarm_files.specs.declared.fault.FileFault.{FileFault}
-use Rattle.cfarm_files.specs.declared.fault.FileFault.TheVariants.{NoMemory, Refused}
 use Rattle.cfarm_options.specs.Sizes.{sizes_line}
 use Rattle.cfarm_options.specs.declared.options.AskedSizes.{AskedSizes}
-use Rattle.cfarm_words.specs.declared.task.Format.TheVariants.{Plain, Gcc}
-use Rattle.cfarm_words.specs.declared.task.Task.{Task}
-use Rattle.cfarm_words.specs.declared.task.Task.TheVariants.{Check, Interpret, Build, Exec, Settle, Simulate}
-use Rattle.cfarm_program.specs.Telling.{Answer, IsExplained, IsTold, no_memory, told}
+use Rattle.cfarm_words_parts.specs.declared.task.Format.TheVariants.{Plain, Gcc}
+use Rattle.cfarm_words_parts.specs.declared.task.Task.{Task}
+use Rattle.cfarm_words_parts.specs.declared.task.Task.TheVariants.{Check, Interpret, Build, Exec, Settle, Simulate, Show, Verify, Emit, Judge}
+use Rattle.cfarm_words_parts.specs.declared.task.Task.TheVariants as task
+use Rattle.cfarm_telling.specs.Reading.{unread}
+use Rattle.cfarm_telling.specs.Telling.{Answer, IsExplained, IsTold, told}
+use Rattle.cfarm_looking.specs.Showing.{Texted}
+use Rattle.cfarm_looking.specs.Listing.{Listed}
+use Rattle.cfarm_looking.specs.Verifying.{Verified}
+use Rattle.cfarm_looking.specs.Emitting.{Formed}
+use Rattle.cfarm_looking.specs.Judging.{Judged}
 use Rattle.cfarm_program.specs.Met.{AreMet, IsUnmet}
 use Rattle.cfarm_program.specs.Outcomes.{Builds, Checked, Executed, Interpreted, Settled, Simulated}
-
--- the answer where a file is not read
-abbrev pub unread : List ℕ → FileFault → Answer
-unread path NoMemory = no_memory
-unread path Refused = told 2 (codes "file " ++ path)
 
 -- the answer where quorums of these sizes need not meet
 abbrev pub unmet : AskedSizes → Answer
@@ -34,11 +35,17 @@ is_explained is_seen (Interpret depth) = is_seen
 is_explained is_seen (Build options) = is_seen
 is_explained is_seen (Exec limit expected) = is_seen
 is_explained is_seen Settle = is_seen
-is_explained is_seen Simulate = is_seen
+is_explained is_seen (Simulate showing) = is_seen
+is_explained is_seen Show = is_seen
+is_explained is_seen task.List = is_seen
+is_explained is_seen (Verify paths) = is_seen
+is_explained is_seen (Emit emitted seed) = is_seen
+is_explained is_seen (Judge offer) = is_seen
 
--- What is said of a run: over these disks and rooms, with the disks that may be given for each path, and what was put before and now.
+-- What is said of a run: over these disks and rooms, with the disks that may be given for each path, what each file is known to be read as,
+-- and what was put before and now.
 module _ {D : Type 0} (disk : disks.Ghosts D) (pair : pairs.Ghosts D) {H : Type 0} (h : naming.Ghosts H) (may_give : List ℕ → List ℕ → D → Type 0)
-    (placed now_placed : Option (List Placed)) (is_seen : Bool) where
+    (known : List ℕ → Option (Result (List ℕ) FileFault)) (placed now_placed : Option (List Placed)) (is_seen : Bool) where
   -- a task on the bytes of its file, with what it wrote and answers; a build alone puts a file
   abbrev pub Comes : Task → (path bytes : List ℕ) → Answer → Option (List ℕ) → Option (List ℕ) → Type 0
   Comes (Check format) path bytes answer before after = Keeps placed now_placed × Checked format path bytes answer before after
@@ -46,7 +53,14 @@ module _ {D : Type 0} (disk : disks.Ghosts D) (pair : pairs.Ghosts D) {H : Type 
   Comes (Build options) path bytes answer before after = Builds disk pair h may_give placed now_placed options bytes answer before after
   Comes (Exec limit expected) path bytes answer before after = Keeps placed now_placed × Executed bytes limit expected answer before after
   Comes Settle path bytes answer before after = Keeps placed now_placed × Settled bytes answer before after
-  Comes Simulate path bytes answer before after = Keeps placed now_placed × Simulated bytes answer before after
+  Comes (Simulate showing) path bytes answer before after = Keeps placed now_placed × Simulated showing bytes answer before after
+  Comes Show path bytes answer before after = Keeps placed now_placed × Texted bytes answer before after
+  Comes task.List path bytes answer before after = Keeps placed now_placed × Listed bytes answer before after
+  Comes (Verify paths) path bytes answer before after =
+      Keeps placed now_placed × Verified known paths.program.now paths.bundle.now bytes answer before after
+  Comes (Emit emitted seed) path bytes answer before after = Keeps placed now_placed × Formed bytes emitted seed answer before after
+  Comes (Judge offer) path bytes answer before after =
+      Keeps placed now_placed × Judged known offer.function.now offer.path.now bytes answer before after
 
   -- a task that was done: its status, and what both writers held and hold
   abbrev pub Performs : Task → (path bytes : List ℕ) → ℕ → (before after : Option (List ℕ)) (error_before error_after : ErrorsHeld) → Type 0
@@ -60,9 +74,9 @@ module _ {D : Type 0} (disk : disks.Ghosts D) (pair : pairs.Ghosts D) {H : Type 
       Keeps placed now_placed × (after ≡ before) × IsTold (unread path fault) status error_before error_after
 
   -- the file is read as it is known to be, and the task done
-  abbrev pub Reads : Option (Result (List ℕ) FileFault) → Task → List ℕ → ℕ → (before after : Option (List ℕ)) (error_before error_after : ErrorsHeld) → Type 0
-  Reads known task path status before after error_before error_after =
-      (read : Result (List ℕ) FileFault) × IsKnownAs known read × DoesRead task path read status before after error_before error_after
+  abbrev pub Reads : Task → List ℕ → ℕ → (before after : Option (List ℕ)) (error_before error_after : ErrorsHeld) → Type 0
+  Reads task path status before after error_before error_after =
+      (read : Result (List ℕ) FileFault) × IsKnownAs (known path) read × DoesRead task path read status before after error_before error_after
 
   -- a build whose quorums need not meet: their sizes are told, no file is read or put, and nothing printed
   abbrev pub Declines : Task → ℕ → (before after : Option (List ℕ)) (error_before error_after : ErrorsHeld) → Type 0
@@ -70,7 +84,7 @@ module _ {D : Type 0} (disk : disks.Ghosts D) (pair : pairs.Ghosts D) {H : Type 
       (sizes : AskedSizes) × IsUnmet task sizes × Keeps placed now_placed × (after ≡ before) × IsTold (unmet sizes) status error_before error_after
 
   -- that comes first, and then the file
-  abbrev pub Does : Option (Result (List ℕ) FileFault) → Task → List ℕ → ℕ → (before after : Option (List ℕ)) (error_before error_after : ErrorsHeld) → Type 0
-  Does known task path status before after error_before error_after =
+  abbrev pub Does : Task → List ℕ → ℕ → (before after : Option (List ℕ)) (error_before error_after : ErrorsHeld) → Type 0
+  Does task path status before after error_before error_after =
       Declines task status before after error_before error_after
-      ⊎ (AreMet task × Reads known task path status before after error_before error_after)
+      ⊎ (AreMet task × Reads task path status before after error_before error_after)

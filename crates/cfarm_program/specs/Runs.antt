@@ -9,11 +9,11 @@ use Rattle.rooms_hall.specs.declared.hall.Naming as naming
 use Rattle.cfarm_output.specs.Errors.{ErrorsHeld, HasFailed}
 use Rattle.cfarm_files.specs.Placing.{Placed, Keeps}
 use Rattle.cfarm_files.specs.declared.fault.FileFault.{FileFault}
-use Rattle.cfarm_words.specs.declared.choices.Choices.{Choices}
-use Rattle.cfarm_words.specs.declared.task.Task.{Task}
+use Rattle.cfarm_words_parts.specs.declared.choices.Choices.{Choices}
+use Rattle.cfarm_words_parts.specs.declared.task.Task.{Task}
 use Rattle.cfarm_program.specs.Performed.{Does}
-use Rattle.cfarm_program.specs.Telling.{Answer, IsTold, no_memory, told, unwritten}
-use Rattle.cfarm_words.specs.Words.{Asks, AsksNothing, farm}
+use Rattle.cfarm_telling.specs.Telling.{Answer, IsTold, no_memory, told, unwritten}
+use Rattle.cfarm_words_parts.specs.Words.{Asks, AsksNothing, farm}
 
 -- the words of the command line are not text
 abbrev pub no_text : Answer
@@ -45,7 +45,7 @@ module _ {D : Type 0} (disk : disks.Ghosts D) (pair : pairs.Ghosts D) {H : Type 
   abbrev pub DoesAsked : List (List ℕ) → (List ℕ → Option (Result (List ℕ) FileFault)) → ℕ → (before after : Option (List ℕ)) (error_before error_after : ErrorsHeld) → Type 0
   DoesAsked words known status before after error_before error_after =
       (task : Task) × (path : List ℕ) × Asks choices words task path × (fault_of (farm choices) words ≡ [])
-      × Does disk pair h may_give placed now_placed is_seen (known path) task path status before after error_before error_after
+      × Does disk pair h may_give known placed now_placed is_seen task path status before after error_before error_after
 
   -- What the program does: what its words ask for, or that they are refused, and then no file is put. Words at which nothing is wrong
   -- and that ask for nothing, of which `clap` leaves none, are answered by 2 alone.

@@ -19,7 +19,7 @@
 mod performing;
 mod program;
 mod running;
-mod telling;
+mod simulating;
 
+pub use cfarm_telling::tell_no_memory;
 pub use program::{run, tell_no_text};
-pub use telling::tell_no_memory;

@@ -4,23 +4,24 @@ ghost use Rattle.std.specs.Prelude.{◌≤◌};
 ghost use Rattle.cfarm_building.specs.Compiled.{quorums_of};
 ghost use Rattle.cfarm_building.specs.Quorum.{AreQuorums};
 ghost use Rattle.cfarm_program.specs.Met.{AreMet};
-ghost use Rattle.cfarm_program.specs.Telling.{Answer, IsExplained, IsTold};
-ghost use Rattle.cfarm_program.specs.Outcomes.{Builds, Checked, Executed, Interpreted, Settled, Simulated, checked_fault, text_fault};
+ghost use Rattle.cfarm_telling.specs.Telling.{Answer, IsExplained, IsTold};
+ghost use Rattle.cfarm_program.specs.Outcomes.{Builds, Checked, Executed, Interpreted, Settled, checked_fault, text_fault};
 ghost use Rattle.cfarm_program.specs.Performed.{Performs, is_explained};
-ghost use Rattle.cfarm_words.specs.declared.task.Task.TheVariants.{Check};
+ghost use Rattle.cfarm_words_parts.specs.declared.task.Task.TheVariants.{Check};
 
-use crate::telling::{tell, tell_among};
+use crate::simulating::play;
 use cfarm_building::{build_text, of_build, quorums_of};
 use cfarm_commands::settle;
 use cfarm_files::Files;
 use cfarm_hints::{is_amid, of_depth, of_limit, of_text};
+use cfarm_looking::{emit_form, judge_offer, list_records, show_text, verify_files};
 use cfarm_meter::Meter;
 use cfarm_options::BuildOptions;
 use cfarm_output::{ErrorLines, Paced};
 use cfarm_runs::{
     Closing, CommandError, PlacedError, check_text, exec, interpret, status_of, status_where,
 };
-use cfarm_schedules::simulate;
+use cfarm_telling::{tell, tell_among};
 use cfarm_words::{Format, Task};
 use rooms_hall::{Hall, Naming};
 use std::alloc::Global;
@@ -164,23 +165,6 @@ fn lay_out<R: Threads + Wait, W: Write, E: ErrorLines>(
     }
 }
 
-#[tactic(auto, using(crate::proofs::Tables::schedule_in_table))]
-fn play<W: Write, E: ErrorLines>(
-    alloc: Global,
-    schedule: &[u8],
-    out: &mut Paced<W>,
-    err: &mut E,
-) -> u8
-    ensures does { (answer : Answer) × Simulated schedule.now answer (W.contents out.old.taker) (W.contents out.new.taker)
-        × IsTold answer result (E.contents err.old) (E.contents err.new) }
-    ensures table { result ≤ 7 }
-{
-    match simulate(alloc, schedule, out) {
-        Ok(()) => 0,
-        Err(fault) => tell(err, fault, fault.status()),
-    }
-}
-
 #[tactic(auto, using(crate::proofs::Tables::building_in_table))]
 fn build<H: Naming + Send, R: Threads + Wait + Sync, F: Files, M: Meter, W: Write, E: ErrorLines>(
     rt: &R,
@@ -237,8 +221,8 @@ pub(crate) fn perform<
     err: &mut E,
 ) -> u8
     requires met { AreMet task }
-    ensures does { Performs F.Disk.Disk F.Disk.Pair.own H.Naming (F.may_give files.old) (F.placed files.old) (F.placed files.new) is_seen
-        task.entry path.now bytes.now result (W.contents out.old.taker) (W.contents out.new.taker) (E.contents err.old) (E.contents err.new) }
+    ensures does { Performs F.Disk.Disk F.Disk.Pair.own H.Naming (F.may_give files.old) (F.known files.old) (F.placed files.old)
+        (F.placed files.new) is_seen task.entry path.now bytes.now result (W.contents out.old.taker) (W.contents out.new.taker) (E.contents err.old) (E.contents err.new) }
     ensures table { result ≤ 7 }
 {
     match task {
@@ -249,6 +233,28 @@ pub(crate) fn perform<
         ),
         Task::Exec(limit, expected) => run_bytes(alloc, is_seen, bytes, limit, expected, out, err),
         Task::Settle => lay_out(rt, alloc, bytes, out, err),
-        Task::Simulate => play(alloc, bytes, out, err),
+        Task::Simulate(showing) => play(alloc, showing, bytes, out, err),
+        Task::Show => show_text(alloc, bytes, out, err),
+        Task::List => list_records(alloc, bytes, out, err),
+        Task::Verify(paths) => verify_files(
+            rt,
+            alloc,
+            &*files,
+            bytes,
+            paths.program,
+            paths.bundle,
+            out,
+            err,
+        ),
+        Task::Emit(emitted, seed) => emit_form(alloc, bytes, emitted, seed, out, err),
+        Task::Judge(offer) => judge_offer(
+            alloc,
+            &*files,
+            bytes,
+            offer.function,
+            offer.path,
+            out,
+            err,
+        ),
     }
 }

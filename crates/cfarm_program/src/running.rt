@@ -5,40 +5,21 @@ ghost use Rattle.cfarm_program.specs.Met.{AreMet, IsUnmet};
 ghost use Rattle.cfarm_program.specs.Performed.{Does, Reads};
 
 use crate::performing::perform;
-use crate::telling::{tell, tell_no_memory};
 use cfarm_building::quorums_of;
-use cfarm_files::{FileFault, Files};
+use cfarm_files::Files;
 use cfarm_meter::Meter;
 use cfarm_options::AskedSizes;
 use cfarm_output::{ErrorLines, Paced};
+use cfarm_telling::{tell, tell_unread};
 use cfarm_words::Task;
 use rooms_hall::{Hall, Naming};
 use std::alloc::Global;
-use std::fmt;
 use std::io::Write;
 use std::sync::Wait;
 use std::thread::Threads;
 
-/// The status for a file that cannot be read.
-const UNREADABLE: u8 = 2;
-
 /// The status for quorums that need not meet.
 const UNMET: u8 = 2;
-
-/// The line for a file that cannot be read.
-#[derive(Drop)]
-struct Unread<'a>(&'a str);
-
-impl fmt::Display for Unread<'_> {
-    ghost use Rattle.std.specs.Prelude.{Some, ◌++◌, codes};
-
-    ghost output = { λ file. Some (codes "file " ++ file.0.now) };
-
-    fn fmt<W: fmt::Write>(&self, f: &mut fmt::Formatter<W>) -> fmt::Result {
-        let path = self.0;
-        write!(f, "file {path}")
-    }
-}
 
 /// The sizes of the quorums that a task asks for, where these need not meet.
 fn unmet(task: Task<'_>) -> Option<AskedSizes>
@@ -76,8 +57,8 @@ fn read_and_perform<
     err: &mut E,
 ) -> u8
     requires met { AreMet task }
-    ensures does { Reads F.Disk.Disk F.Disk.Pair.own H.Naming (F.may_give files.old) (F.placed files.old) (F.placed files.new) is_seen
-        (F.known files.old path.now) task.entry path.now result (W.contents out.old.taker) (W.contents out.new.taker)
+    ensures does { Reads F.Disk.Disk F.Disk.Pair.own H.Naming (F.may_give files.old) (F.known files.old) (F.placed files.old)
+        (F.placed files.new) is_seen task.entry path.now result (W.contents out.old.taker) (W.contents out.new.taker)
         (E.contents err.old) (E.contents err.new) }
     ensures table { result ≤ 7 }
 {
@@ -85,8 +66,7 @@ fn read_and_perform<
         Ok(bytes) => perform(
             rt, alloc, hall, is_seen, task, path, &bytes, files, meter, out, err,
         ),
-        Err(FileFault::NoMemory) => tell_no_memory(err),
-        Err(FileFault::Refused) => tell(err, Unread(path), UNREADABLE),
+        Err(fault) => tell_unread(err, path, fault),
     }
 }
 
@@ -111,8 +91,8 @@ pub(crate) fn run_task<
     out: &mut Paced<W>,
     err: &mut E,
 ) -> u8
-    ensures does { Does F.Disk.Disk F.Disk.Pair.own H.Naming (F.may_give files.old) (F.placed files.old) (F.placed files.new) is_seen
-        (F.known files.old path.now) task.entry path.now result (W.contents out.old.taker) (W.contents out.new.taker)
+    ensures does { Does F.Disk.Disk F.Disk.Pair.own H.Naming (F.may_give files.old) (F.known files.old) (F.placed files.old)
+        (F.placed files.new) is_seen task.entry path.now result (W.contents out.old.taker) (W.contents out.new.taker)
         (E.contents err.old) (E.contents err.new) }
     ensures table { result ≤ 7 }
 {

@@ -1,1 +1,1 @@
-pub mod Words
+pub use Rattle.cfarm_words_parts.specs.Words

@@ -3,26 +3,16 @@
 ghost use Rattle.std.specs.Prelude.{◌≡◌, Some, codes, IfOk, IfSome, IsNone};
 ghost use Rattle.clap.specs.Words.{found_of, first_of, first_value, rows_of};
 ghost use Rattle.cfarm_options.specs.declared.options.BuildOptions.{BuildOptions};
-ghost use Rattle.cfarm_options.specs.declared.options.Nodes.{Nodes};
 ghost use Rattle.cfarm_options.specs.declared.options.Optimise.{Optimise};
-ghost use Rattle.cfarm_words.specs.Words.{AreOptions, IsArgument, IsCommand, Reads, ReadsPerhaps, build_app, folder_rule, node_word};
-ghost use Rattle.cfarm_words.specs.Words.{accept_rule, nodes_rule, optimise_rule, optimise_word, promise_rule, seed_rule, turns_rule};
+ghost use Rattle.cfarm_words_parts.specs.Words.{AreOptions, IsArgument, IsCommand, Reads, build_app};
+ghost use Rattle.cfarm_words_parts.specs.Words.{optimise_rule, optimise_word, seed_rule, turns_rule};
 
-use crate::choices::Choices;
-use crate::joining::{file, with_argument};
-use cfarm_options::{BuildOptions, Nodes, Optimise};
+use crate::size_words::{ACCEPT, FOLDER, PROMISE, accept, nodes, nodes_of, promise, size_of};
+use cfarm_options::{BuildOptions, Optimise};
+use cfarm_words_parts::{Choices, file, needed, with_argument};
 use clap::builder::ValueParser;
 use clap::{Arg, ArgMatches, Command};
 use std::alloc::{AllocError, Global};
-
-/// The option that says how many nodes there are.
-const NODES: &str = "nodes";
-
-/// The option with the size of a promise quorum.
-const PROMISE: &str = "promise";
-
-/// The option with the size of an accept quorum.
-const ACCEPT: &str = "accept";
 
 /// The option that bounds the turns of each node.
 const TURNS: &str = "turns";
@@ -33,50 +23,11 @@ const SEED: &str = "seed";
 /// The option that says how the optimisers choose.
 const OPTIMISE: &str = "optimise";
 
-/// The option with the folder.
-const FOLDER: &str = "dir";
-
-/// The greatest size of a quorum that is read; one that does not meet the other is told later.
-const MOST_SIZE: u64 = 255;
-
 /// The greatest bound of the turns of a node.
 const MOST_TURNS: u64 = 4_294_967_295;
 
 /// The greatest seed.
 const GREATEST_SEED: u64 = 9_223_372_036_854_775_807;
-
-fn nodes<'a>(alloc: Global, choices: Choices<'a>) -> Arg<'a>
-    ensures { IsArgument (nodes_rule choices.entry) result }
-{
-    Arg::new(alloc, NODES)
-        .long(NODES)
-        .value_name("N")
-        .help("How many nodes the farm has")
-        .value_parser(ValueParser::Names(choices.nodes))
-        .default_value("3")
-}
-
-fn promise<'a>(alloc: Global) -> Arg<'a>
-    ensures { IsArgument promise_rule result }
-{
-    Arg::new(alloc, PROMISE)
-        .long(PROMISE)
-        .value_name("N")
-        .help("How many promises a proposal rests on; more than half where none is given")
-        .value_parser(ValueParser::Unsigned(0, MOST_SIZE))
-}
-
-fn accept<'a>(alloc: Global) -> Arg<'a>
-    ensures { IsArgument accept_rule result }
-{
-    Arg::new(alloc, ACCEPT)
-        .long(ACCEPT)
-        .value_name("N")
-        .help(
-            "How many votes choose an offer; more than half where none is given.\nBoth numbers are together above that of the nodes",
-        )
-        .value_parser(ValueParser::Unsigned(0, MOST_SIZE))
-}
 
 fn turns<'a>(alloc: Global) -> Arg<'a>
     ensures { IsArgument turns_rule result }
@@ -111,17 +62,6 @@ fn optimise<'a>(alloc: Global, choices: Choices<'a>) -> Arg<'a>
         .default_value("drawn")
 }
 
-fn folder<'a>(alloc: Global) -> Arg<'a>
-    ensures { IsArgument folder_rule result }
-{
-    Arg::new(alloc, FOLDER)
-        .long(FOLDER)
-        .value_name("FOLDER")
-        .help("The folder of the journals and the linked program; it has to be there")
-        .value_parser(ValueParser::NonEmptyString)
-        .required(true)
-}
-
 /// The command, with these choices.
 pub(crate) fn build<'a>(alloc: Global, choices: Choices<'a>) -> Result<Command<'a>, AllocError>
     ensures { IfOk result (IsCommand (build_app choices.entry)) }
@@ -138,24 +78,15 @@ pub(crate) fn build<'a>(alloc: Global, choices: Choices<'a>) -> Result<Command<'
     let bounded = with_argument(accepted, turns(alloc));
     let seeded = with_argument(bounded, seed(alloc));
     let optimised = with_argument(seeded, optimise(alloc, choices));
-    with_argument(optimised, folder(alloc))
-}
-
-/// How many nodes there are to be.
-fn nodes_of(words: &ArgMatches<'_>) -> Option<Nodes>
-    ensures some { IfSome result (λ n. first_value (found_of words.now) (codes "nodes") ≡ Some (node_word n)) }
-    ensures none { IsNone result → (n : Nodes) →
-        first_value (found_of words.now) (codes "nodes") ≡ Some (node_word n) → ⊥ }
-{
-    match words.get_str(NODES) {
-        Some("2") => Some(Nodes::Two),
-        Some("3") => Some(Nodes::Three),
-        Some("4") => Some(Nodes::Four),
-        Some("5") => Some(Nodes::Five),
-        Some("6") => Some(Nodes::Six),
-        Some("7") => Some(Nodes::Seven),
-        _ => None,
-    }
+    with_argument(
+        optimised,
+        needed(
+            alloc,
+            FOLDER,
+            "FOLDER",
+            "The folder of the journals and the linked program; it has to be there",
+        ),
+    )
 }
 
 /// How the nodes' optimisers are to choose.
@@ -168,19 +99,6 @@ fn optimise_of(words: &ArgMatches<'_>) -> Option<Optimise>
         Some("drawn") => Some(Optimise::Drawn),
         Some("speed") => Some(Optimise::Speed),
         _ => None,
-    }
-}
-
-/// The size of a quorum, if this option says one.
-fn size_of(words: &ArgMatches<'_>, name: &str) -> Option<u8>
-    ensures { ReadsPerhaps 8 (first_of name.now (rows_of (found_of words.now))) result }
-{
-    match words.get_str(name) {
-        Some(text) => match text.parse() {
-            Ok(size) => Some(size),
-            Err(_) => None,
-        },
-        None => None,
     }
 }
 

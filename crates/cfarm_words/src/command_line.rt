@@ -3,15 +3,16 @@
 ghost use Rattle.std.specs.Prelude.{◌≡◌, Some, map, codes, string_bytes, IfOk, IfErr, IfSome, IsNone};
 ghost use Rattle.clap.specs.Words.{FailsBy, fault_of, first_value, found_of, rows_of};
 ghost use Rattle.clap.specs.Words.{subcommand_rows_of};
-ghost use Rattle.cfarm_words.specs.declared.task.Task.{Task};
-ghost use Rattle.cfarm_words.specs.Words.{Asks, AsksNothing, AsksNothingBy, IsAskedBy, IsRefusedRightly, IsTask};
-ghost use Rattle.cfarm_words.specs.Words.{IsCommand, farm, settle_app, sim_app, statuses_app, top_app};
+ghost use Rattle.cfarm_words_parts.specs.declared.task.Task.{Task};
+ghost use Rattle.cfarm_words_parts.specs.Words.{Asks, AsksNothing, AsksNothingBy, IsAskedBy, IsRefusedRightly, IsTask};
+ghost use Rattle.cfarm_words_parts.specs.Words.{IsCommand, farm, statuses_app, top_app};
 
 use crate::build_words::{build, options_of};
-use crate::choices::Choices;
-use crate::joining::{FILE, file, with_argument, with_command};
-use crate::run_words::{check, depth_of, exec, expected_of, format_of, interpret, limit_of};
-use crate::task::{Asked, Task};
+use cfarm_words_parts::{
+    Asked, Choices, FILE, Task, check, depth_of, emit, emit_seed_of, emitted_of, exec, expected_of,
+    format_of, interpret, judge, limit_of, list, offer_of, paths_of, settle, show, showing_of, sim,
+    verify, with_command,
+};
 use clap::{ArgMatches, Command};
 use std::alloc::{AllocError, Global};
 
@@ -24,7 +25,8 @@ const STATUSES: &str =
 
   0  done; after a run `ended R`
   1  the file is refused: `refused NUMBER Name at OFFSET` for a text, `refused NUMBER Name` for
-     bytes, `refused 240 TooManyNodes in NAME` for a function that is too large
+     bytes, `refused 240 TooManyNodes in NAME` for a function that is too large; of a bundle or an
+     offer also in which file or function, in which pass and at which node
   2  the command line, in words; `quorums N Q1 Q2`, which need not meet; `file PATH`;
      `schedule LINE`
   3  undecided: `undecided`, for want of turns; the same build again goes on from its journals
@@ -43,10 +45,10 @@ Numbers, by what is refused:
   225 BadMain       226 NotConstant   227 NoBody        228 Limit         229 StrayBreak    and
   230 ArrayUse                                                                              types
   240 TooManyNodes                                                                          size
-  301 Refused       an offer in a journal that its pass does not accept
+  301 Refused       an offer that its pass does not accept
   401 Device        402 NotAJournal   403 BadRecord     404 OtherSource   405 Stopped       journals
   406 Full          521 OtherRecords  522 CellRefused
-  601 Missing       602 Unchained     603 Names                                             links
+  601 Missing       602 Unchained     603 Names         604 OtherProgram                    links
 ";
 
 /// The program, before its commands.
@@ -72,35 +74,12 @@ fn command<'a>(alloc: Global, choices: Choices<'a>) -> Result<Command<'a>, Alloc
     let executing = with_command(building, exec(alloc));
     let settling = with_command(executing, settle(alloc));
     let playing = with_command(settling, sim(alloc));
-    with_command(playing, statuses(alloc))
-}
-
-fn settle<'a>(alloc: Global) -> Result<Command<'a>, AllocError>
-    ensures { IfOk result (IsCommand settle_app) }
-{
-    let plain = Command::new(alloc, "settle")
-        .about("Lays out one LTL function as Linear code in an order that three nodes agree on")
-        .after_help(
-            "Prints the agreed Linear code in lower case hex on one line, and then `agreed 3`.\n\nStatus: 0 done; 1 the bytes are refused, by number and name; 2 the command line or the file;\n3 undecided; 4 the output could not be written; 7 no memory.",
-        );
-    with_argument(Ok(plain), file(alloc, "The bytes of one LTL function"))
-}
-
-fn sim<'a>(alloc: Global) -> Result<Command<'a>, AllocError>
-    ensures { IfOk result (IsCommand sim_app) }
-{
-    let plain = Command::new(alloc, "sim")
-        .about("Plays a schedule of the nodes of one room, call by call")
-        .after_help(
-            "Prints a line for each command of the schedule, and at its end what each node has learned.\n\nStatus: 0 done; 2 the command line, the file or a line of the schedule, by its number;\n4 the output could not be written; 7 no memory.",
-        );
-    with_argument(
-        Ok(plain),
-        file(
-            alloc,
-            "A schedule: `nodes 3`, and then a command on each line",
-        ),
-    )
+    let showing = with_command(playing, show(alloc));
+    let listing = with_command(showing, list(alloc));
+    let verifying = with_command(listing, verify(alloc));
+    let emitting = with_command(verifying, emit(alloc, choices));
+    let judging = with_command(emitting, judge(alloc));
+    with_command(judging, statuses(alloc))
 }
 
 /// What `help statuses` shows. Alone it is a mistake, and shows the same.
@@ -133,7 +112,24 @@ fn task_of<'a>(name: &str, words: &ArgMatches<'a>) -> Option<Task<'a>>
         },
         "exec" => Some(Task::Exec(limit_of(words), expected_of(words))),
         "settle" => Some(Task::Settle),
-        "sim" => Some(Task::Simulate),
+        "sim" => match showing_of(words) {
+            Some(showing) => Some(Task::Simulate(showing)),
+            None => None,
+        },
+        "show" => Some(Task::Show),
+        "log" => Some(Task::List),
+        "verify" => match paths_of(words) {
+            Some(paths) => Some(Task::Verify(paths)),
+            None => None,
+        },
+        "emit" => match emitted_of(words) {
+            Some(emitted) => Some(Task::Emit(emitted, emit_seed_of(words))),
+            None => None,
+        },
+        "judge" => match offer_of(words) {
+            Some(offer) => Some(Task::Judge(offer)),
+            None => None,
+        },
         _ => None,
     }
 }

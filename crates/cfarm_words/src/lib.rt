@@ -1,14 +1,9 @@
-//! What the words of a command line ask for: `asked_for`, with the names of the commands and of their options, the bounds that stand
-//! where none are given, the greatest ones, and the help. How words are read is defined in `clap`.
+//! What the words of a command line ask for, by the port of `clap`: the commands with their options and their help.
 #![tactic(auto)]
 
 mod build_words;
-mod choices;
 mod command_line;
-mod joining;
-mod run_words;
-mod task;
+mod size_words;
 
-pub use choices::{Choices, offered};
+pub use cfarm_words_parts::{Asked, Choices, Format, OfferAt, Showing, Task, VerifyPaths, offered};
 pub use command_line::asked_for;
-pub use task::{Asked, Format, Task};

@@ -1,6 +1,6 @@
 use Rattle.std.proofs.Common.{refl, inl, inr}
 use Rattle.cfarm_program.specs.Outcomes.{checked_fault}
-use Rattle.cfarm_program.specs.Telling.{quiet}
+use Rattle.cfarm_telling.specs.Telling.{quiet}
 use Rattle.cfarm_program.proofs.performing.check.Goals as goal
 
 pub returns-in-Ok-clause-does : goal.returns-in-Ok-clause-does

@@ -1,8 +1,8 @@
 use Rattle.std.proofs.Common.{refl, inl, inr}
 use Rattle.cfarm_commands.specs.SettleLines.{settle_line}
 use Rattle.cfarm_program.specs.Outcomes.{settle_fault}
-use Rattle.cfarm_program.specs.Telling.{quiet}
-use Rattle.cfarm_program.proofs.Answering.{told_by}
+use Rattle.cfarm_telling.specs.Telling.{quiet}
+use Rattle.cfarm_telling.proofs.Answering.{told_by}
 use Rattle.cfarm_program.proofs.performing.lay_out.Goals as goal
 
 pub returns-in-Ok-clause-does : goal.returns-in-Ok-clause-does

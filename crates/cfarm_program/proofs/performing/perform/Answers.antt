@@ -1,6 +1,7 @@
 use Rattle.std.proofs.Common.{subst}
 use Rattle.cfarm_program.specs.Met.{AreMet}
-use Rattle.cfarm_program.proofs.Answering.{keeps_same, plainly}
+use Rattle.cfarm_telling.proofs.Answering.{plainly}
+use Rattle.cfarm_program.proofs.Placing.{keeps_same}
 use Rattle.cfarm_program.proofs.performing.perform.Goals as goal
 
 pub returns-in-Check-clause-does : goal.returns-in-Check-clause-does
@@ -30,3 +31,28 @@ returns-in-Simulate-clause-does g c =
 
 pub build-requires-clause-met : goal.build-requires-clause-met
 build-requires-clause-met g c κs within = subst AreMet c.in-Build.is c.requires.met
+
+pub returns-in-Show-clause-does : goal.returns-in-Show-clause-does
+returns-in-Show-clause-does g c =
+    let it = c.show_text.ensures.does in
+    rw c.in-Show.is (it.0, (keeps_same _, it.1), plainly c.args.is_seen it.0 _ _ _ it.2)
+
+pub returns-in-List-clause-does : goal.returns-in-List-clause-does
+returns-in-List-clause-does g c =
+    let it = c.list_records.ensures.does in
+    rw c.in-List.is (it.0, (keeps_same _, it.1), plainly c.args.is_seen it.0 _ _ _ it.2)
+
+pub returns-in-Verify-clause-does : goal.returns-in-Verify-clause-does
+returns-in-Verify-clause-does g c =
+    let it = c.verify_files.ensures.does in
+    rw c.in-Verify.is (it.0, (keeps_same _, it.1), plainly c.args.is_seen it.0 _ _ _ it.2)
+
+pub returns-in-Emit-clause-does : goal.returns-in-Emit-clause-does
+returns-in-Emit-clause-does g c =
+    let it = c.emit_form.ensures.does in
+    rw c.in-Emit.is (it.0, (keeps_same _, it.1), plainly c.args.is_seen it.0 _ _ _ it.2)
+
+pub returns-in-Judge-clause-does : goal.returns-in-Judge-clause-does
+returns-in-Judge-clause-does g c =
+    let it = c.judge_offer.ensures.does in
+    rw c.in-Judge.is (it.0, (keeps_same _, it.1), plainly c.args.is_seen it.0 _ _ _ it.2)

@@ -3,7 +3,7 @@ use Rattle.std.proofs.Common.{refl, inl, inr}
 use Rattle.cfarm_runs.specs.Closings.{closing_line}
 use Rattle.cfarm_runs.specs.ExecLines.{exec_line}
 use Rattle.cfarm_program.specs.Outcomes.{closed_where, exec_fault}
-use Rattle.cfarm_program.proofs.Answering.{among, never_amid}
+use Rattle.cfarm_telling.proofs.Answering.{among, never_amid}
 use Rattle.cfarm_program.proofs.performing.run_bytes.Goals as goal
 
 pub returns-in-Ok-clause-does : goal.returns-in-Ok-clause-does

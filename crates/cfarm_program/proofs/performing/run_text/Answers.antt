@@ -1,7 +1,7 @@
 use Rattle.std.proofs.Common.{refl, inl, inr}
 use Rattle.cfarm_runs.specs.Closings.{closing_line}
 use Rattle.cfarm_program.specs.Outcomes.{closed, text_fault}
-use Rattle.cfarm_program.proofs.Answering.{among, never_amid}
+use Rattle.cfarm_telling.proofs.Answering.{among, never_amid}
 use Rattle.cfarm_program.proofs.performing.run_text.Goals as goal
 
 pub returns-in-Ok-clause-does : goal.returns-in-Ok-clause-does

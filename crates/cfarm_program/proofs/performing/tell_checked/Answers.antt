@@ -1,7 +1,7 @@
 use Rattle.std.specs.Prelude.{false, codes}
 use Rattle.std.proofs.Common.{refl}
 use Rattle.cfarm_runs.specs.TextLines.{gcc_line}
-use Rattle.cfarm_program.proofs.Answering.{among}
+use Rattle.cfarm_telling.proofs.Answering.{among}
 use Rattle.cfarm_program.proofs.performing.tell_checked.Goals as goal
 
 pub returns-in-Plain-clause-told : goal.returns-in-Plain-clause-told

@@ -1,7 +1,7 @@
 use Rattle.std.specs.Prelude.{false}
 use Rattle.std.proofs.Common.{refl, ◌∙◌}
 use Rattle.cfarm_runs.specs.TextLines.{error_line}
-use Rattle.cfarm_program.proofs.Answering.{among}
+use Rattle.cfarm_telling.proofs.Answering.{among}
 use Rattle.cfarm_program.proofs.performing.tell_fault.Goals as goal
 
 pub returns-clause-told : goal.returns-clause-told

@@ -1,5 +1,5 @@
 use Rattle.std.proofs.Common.{refl, inl, inr}
-use Rattle.cfarm_program.proofs.Answering.{keeps_same}
+use Rattle.cfarm_program.proofs.Placing.{keeps_same}
 use Rattle.cfarm_program.proofs.running.run_task.Goals as goal
 
 pub returns-in-Some-clause-does : goal.returns-in-Some-clause-does

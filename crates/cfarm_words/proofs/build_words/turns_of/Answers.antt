@@ -2,8 +2,8 @@ use Rattle.std.specs.Prelude.{codes}
 use Rattle.std.proofs.Common.{refl, subst, ◌∙◌}
 use Rattle.clap.specs.Words.{found_of}
 use Rattle.clap.proofs.WalkLemmas.{first_value-rows}
-use Rattle.cfarm_words.specs.Words.{Reads}
-use Rattle.cfarm_words.proofs.Commands.{reads_of}
+use Rattle.cfarm_words_parts.specs.Words.{Reads}
+use Rattle.cfarm_words_parts.proofs.Commands.{reads_of}
 use Rattle.cfarm_words.proofs.build_words.turns_of.Goals as goal
 
 pub returns-in-Some : goal.returns-in-Some

@@ -1,5 +1,5 @@
 use Rattle.clap.specs.Words.{found_of}
-use Rattle.cfarm_words.proofs.Commands.{nothing_without_file}
+use Rattle.cfarm_words_parts.proofs.Commands.{nothing_without_file}
 use Rattle.cfarm_words.proofs.command_line.asked_in.Goals as goal
 
 pub returns-in_default-clause-none : goal.returns-in_default-clause-none

@@ -1,5 +1,5 @@
 use Rattle.clap.specs.Words.{found_of}
-use Rattle.cfarm_words.proofs.Commands.{asked_from, nothing_from, nothing_without}
+use Rattle.cfarm_words_parts.proofs.Commands.{asked_from, nothing_from, nothing_without}
 use Rattle.cfarm_words.proofs.command_line.asked_of.Goals as goal
 
 pub returns-in-Some-clause-some : goal.returns-in-Some-clause-some

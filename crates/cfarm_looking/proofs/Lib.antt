@@ -1,0 +1,5 @@
+pub mod EmitStatuses
+pub mod JudgeStatuses
+pub mod ListStatuses
+pub mod ShowStatuses
+pub mod VerifyStatuses

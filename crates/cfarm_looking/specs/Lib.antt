@@ -1,0 +1,5 @@
+pub mod Emitting
+pub mod Judging
+pub mod Listing
+pub mod Showing
+pub mod Verifying

@@ -1,0 +1,55 @@
+ghost use Rattle.std.specs.Prelude.{◌≤◌};
+ghost use Rattle.cfarm_looking.specs.Judging.{Accepted, Judged};
+ghost use Rattle.cfarm_telling.specs.Reading.{OnFile};
+ghost use Rattle.cfarm_telling.specs.Telling.{Answer, IsTold};
+
+use cfarm_files::Files;
+use cfarm_judge::{JudgeLine, judge};
+use cfarm_output::{ErrorLines, Paced};
+use cfarm_telling::{tell, tell_unread};
+use std::alloc::Global;
+use std::io::Write;
+
+/// Of the text and the offer.
+#[tactic(auto, using(crate::proofs::JudgeStatuses::in_table))]
+fn judge_bytes<W: Write, E: ErrorLines>(
+    alloc: Global,
+    text: &[u8],
+    name: &str,
+    path: &str,
+    offer: &[u8],
+    out: &mut Paced<W>,
+    err: &mut E,
+) -> u8
+    ensures does { (answer : Answer) × Accepted name.now path.now text.now offer.now answer (W.contents out.old.taker)
+        (W.contents out.new.taker) × IsTold answer result (E.contents err.old) (E.contents err.new) }
+    ensures table { result ≤ 7 }
+{
+    match judge(alloc, text, name.as_bytes(), offer, out) {
+        Ok(()) => 0,
+        Err(fault) => {
+            let status = fault.status();
+            tell(err, JudgeLine { fault, name, path }, status)
+        }
+    }
+}
+
+/// `judge`: reads the offer, and says whether its pass accepts it for the function of this name of the text.
+pub fn judge_offer<F: Files, W: Write, E: ErrorLines>(
+    alloc: Global,
+    files: &F,
+    text: &[u8],
+    name: &str,
+    path: &str,
+    out: &mut Paced<W>,
+    err: &mut E,
+) -> u8
+    ensures does { (answer : Answer) × Judged (F.known files.now) name.now path.now text.now answer (W.contents out.old.taker)
+        (W.contents out.new.taker) × IsTold answer result (E.contents err.old) (E.contents err.new) }
+    ensures table { result ≤ 7 }
+{
+    match files.read(path) {
+        Ok(offer) => judge_bytes(alloc, text, name, path, &offer, out, err),
+        Err(fault) => tell_unread(err, path, fault),
+    }
+}

@@ -1,0 +1,27 @@
+ghost use Rattle.std.specs.Prelude.{◌≤◌};
+ghost use Rattle.cfarm_looking.specs.Listing.{Listed};
+ghost use Rattle.cfarm_telling.specs.Telling.{Answer, IsTold};
+
+use cfarm_log::list_journal;
+use cfarm_output::{ErrorLines, Paced};
+use cfarm_telling::tell;
+use std::alloc::Global;
+use std::io::Write;
+
+/// `log`: prints the records of a journal, and tells its first fault.
+#[tactic(auto, using(crate::proofs::ListStatuses::in_table))]
+pub fn list_records<W: Write, E: ErrorLines>(
+    alloc: Global,
+    bytes: &[u8],
+    out: &mut Paced<W>,
+    err: &mut E,
+) -> u8
+    ensures does { (answer : Answer) × Listed bytes.now answer (W.contents out.old.taker) (W.contents out.new.taker)
+        × IsTold answer result (E.contents err.old) (E.contents err.new) }
+    ensures table { result ≤ 7 }
+{
+    match list_journal(alloc, bytes, out) {
+        Ok(()) => 0,
+        Err(fault) => tell(err, fault, fault.status()),
+    }
+}

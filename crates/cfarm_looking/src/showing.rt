@@ -1,0 +1,27 @@
+ghost use Rattle.std.specs.Prelude.{◌≤◌};
+ghost use Rattle.cfarm_looking.specs.Showing.{Texted};
+ghost use Rattle.cfarm_telling.specs.Telling.{Answer, IsTold};
+
+use cfarm_output::{ErrorLines, Paced};
+use cfarm_telling::tell;
+use program_texts::show;
+use std::alloc::Global;
+use std::io::Write;
+
+/// `show`: prints the text of the program that the bytes are, or tells why there is none.
+#[tactic(auto, using(crate::proofs::ShowStatuses::in_table))]
+pub fn show_text<W: Write, E: ErrorLines>(
+    alloc: Global,
+    bytes: &[u8],
+    out: &mut Paced<W>,
+    err: &mut E,
+) -> u8
+    ensures does { (answer : Answer) × Texted bytes.now answer (W.contents out.old.taker) (W.contents out.new.taker)
+        × IsTold answer result (E.contents err.old) (E.contents err.new) }
+    ensures table { result ≤ 7 }
+{
+    match show(alloc, bytes, out) {
+        Ok(()) => 0,
+        Err(fault) => tell(err, fault, fault.status()),
+    }
+}
