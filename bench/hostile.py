@@ -96,7 +96,7 @@ WAYED = ("memory", "threads", "calls")
 # The table of the program: the name under which an answer is counted, its status, and its line.
 TABLE = (
     ("done", 0, rb"(ended -?\d+\n)?"),
-    ("refused", 1, rb"refused \d+ \w+( at \d+| in \w+)?\n"),
+    ("refused", 1, rb"refused \d+ \w+( at \d+| in [^\n]+)?\n"),
     ("file", 2, rb"file [^\n]*\n"),
     ("schedule", 2, rb"schedule \d+\n"),
     ("quorums", 2, rb"quorums \d+ \d+ \d+\n"),
@@ -318,6 +318,9 @@ def readers(sweep):
     sweep.run(["build", text, "--dir", built])
     linked = shutil.copy(os.path.join(built, "linked.cfp"), os.path.join(sweep.scratch, "text.cfp"))
     example = os.path.join(ROOT, "examples", "")
+    journal = shutil.copy(aged.new_in(built, 0), os.path.join(sweep.scratch, "text.cf2"))
+    made = {of: sweep.file(f"text.{of}", sweep.run(["emit", text, "--of", of, "--seed", "1"]).out) for of in ("linear", "bundle")}
+    bundle = ["--bundle", made["bundle"]]
     return {
         "check": ["check", text],
         "check, refused": ["check", sweep.file("refused.c", b"int main(void){return x;}\n")],
@@ -327,6 +330,14 @@ def readers(sweep):
         "exec, bounded": ["exec", linked, "--limit", "20"],
         "settle": ["settle", example + "branch.ltl"],
         "sim": ["sim", example + "adoption.txt"],
+        "sim, drawn": ["sim", example + "adoption.txt", "--svg"],
+        "show": ["show", linked],
+        "log": ["log", journal],
+        "emit": ["emit", text, "--of", "bundle", "--seed", "1"],
+        "verify": ["verify", text, "--program", made["linear"], *bundle],
+        "verify, another program": ["verify", text, "--program", linked, *bundle],
+        "verify, no bundle": ["verify", text, "--program", linked, "--bundle", linked],
+        "judge, no offer": ["judge", text, "--function", "main", "--offer", made["bundle"]],
         "help": ["build", "--help"],
         "no command": ["chek", text],
     }

@@ -14,9 +14,12 @@ migration, as it is behind opening. Each is opened by `build --turns 0`; what su
 seconds. A journal that was migrated is compared with what it must become (bench/aged.py).
 
 The second table counts, by strace, the syncs and reads of the files of three nodes, and the bytes read of them: over new journals alone,
-and over the same with spent old ones beside. An old file is synced and read as it is opened, and again as the farm looks whether it
-counts. Its status is 1 where a migration took more than twice the processors' time of opening, or more than three times the memory that
-opening takes or the journal has bytes, above a build over empty journals, or where there were more calls than these."""
+and over the same with spent old ones beside, of each of which one byte is read.
+
+Its status is 1 where a bound is missed, and each that is missed is told: a migration takes at most twice the processors' time of opening,
+and at most three times the bytes of the journal in memory, both above a build over empty journals; and an old file that counts no more
+costs one sync and one read of one byte, and no more calls of the new file.
+"""
 import argparse
 import os
 import re
@@ -144,24 +147,26 @@ class Bench:
 
 
 def show_speed(bench, given):
-    """The first table; whether all is within its bounds."""
+    """The first table; what is missed of its bounds."""
     print(f"{'':20}{'seconds: open':>14}{'migrate':>9}{'again':>8}{'of processors':>15}{'migrate':>9}{'times':>7}{'MB: open':>10}{'migrate':>9}{'again':>7}{'of its size':>13}")
-    is_right = True
+    missed = []
     for title, blocks in (("ballots", ballots), ("offers", offers)):
         for size in given.sizes:
             opened, migrated, again = bench.row(blocks, int(size * 1e6))
-            times, megabytes = migrated[1] / opened[1], size * 1e6 / 2**20
-            is_right = is_right and times <= 2 and migrated[2] <= 3 * max(opened[2], megabytes)
+            name, times, memory = f"{size:g} MB of {title}", migrated[1] / opened[1], migrated[2] * 2**20 / (size * 1e6)
             print(
-                f"{f'{size:g} MB of {title}':20}{opened[0]:14.3f}{migrated[0]:9.3f}{again[0]:8.3f}{opened[1]:15.3f}{migrated[1]:9.3f}{times:7.2f}"
-                f"{opened[2]:10.0f}{migrated[2]:9.0f}{again[2]:7.0f}{migrated[2] / megabytes:13.2f}",
+                f"{name:20}{opened[0]:14.3f}{migrated[0]:9.3f}{again[0]:8.3f}{opened[1]:15.3f}{migrated[1]:9.3f}{times:7.2f}"
+                f"{opened[2]:10.0f}{migrated[2]:9.0f}{again[2]:7.0f}{memory:13.2f}",
                 flush=True,
             )
-    return is_right
+            for most, found, what in ((2, times, "the time of opening"), (3, memory, "its bytes in memory")):
+                if found > most:
+                    missed.append(f"{name}: migrating takes {found:.2f} times {what}, and not {most} at most")
+    return missed
 
 
 def show_calls(bench):
-    """The second table; whether a pair costs two syncs and two reads of its old file more at most."""
+    """The second table; what is missed of its bounds."""
     folder = bench.folder(aged.new_in(bench.empty, 0), False)
     alone = bench.calls(folder)
     for node in range(3):
@@ -170,11 +175,16 @@ def show_calls(bench):
             file.write(aged_bytes)
     beside = bench.calls(folder)
     print(f"{'three nodes':26}{'syncs':>9}{'reads':>11}{'bytes':>7}")
-    for title, found in (("new alone", alone), ("new and spent", beside)):
+    missed = []
+    for title, found, most in (
+        ("new alone", alone, {"cf2": alone["cf2"], "cfj": [0, 0, 0]}),
+        ("new and spent", beside, {"cf2": alone["cf2"], "cfj": [3, 3, 3]}),
+    ):
         for kind in ("cf2", "cfj"):
             print(f"{f'{title}, .{kind}':26}{found[kind][0]:9}{found[kind][1]:11}{found[kind][2]:7}")
-    most = [alone["cf2"], [0, 0, 0], alone["cf2"], [6, 6, 6 * 39]]
-    return all(a <= b for it, top in zip([*alone.values(), *beside.values()], most) for a, b in zip(it, top))
+            if any(a > b for a, b in zip(found[kind], most[kind])):
+                missed.append(f"{title}, .{kind}: more than {most[kind]}")
+    return missed
 
 
 def main():
@@ -188,10 +198,12 @@ def main():
         sys.exit("build the program first: ./cfarm --help")
     with tempfile.TemporaryDirectory(dir=given.folder) as scratch:
         bench = Bench(given, scratch)
-        is_right = show_speed(bench, given)
+        missed = show_speed(bench, given)
         if shutil.which("strace"):
-            is_right = show_calls(bench) and is_right
-    return 0 if is_right else 1
+            missed += show_calls(bench)
+    for it in missed:
+        print(f"missed: {it}")
+    return 1 if missed else 0
 
 
 if __name__ == "__main__":

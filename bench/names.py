@@ -109,10 +109,12 @@ def faults_of(document, text, plan, names, clauses):
 
 def options():
     """Of each option of the command line its name and what stands where it is not given."""
-    for kind, _, text in floors.files_of("cfarm_words"):
-        named = dict(re.findall(r'^const (\w+): &str = "(\w+)";', text, flags=re.M))
-        for constant, said in re.findall(r"Arg::new\(alloc, (\w+)\)(.*?)^\}", text, flags=re.M | re.S) if kind == "src" else []:
-            if ".long(" in said:
+    texts = [text for crate in ("cfarm_words", "cfarm_words_parts") for kind, _, text in floors.files_of(crate) if kind == "src"]
+    named = dict(it for text in texts for it in re.findall(r'^(?:pub\(crate\) )?const (\w+): &str = "(\w+)";', text, flags=re.M))
+    for text in texts:
+        yield from ((named[it], None) for it in re.findall(r"needed\(\s*alloc,\s*([A-Z]+)", text))
+        for constant, said in re.findall(r"Arg::new\(alloc, (\w+)\)(.*?)^\}", text, flags=re.M | re.S):
+            if ".long(" in said and constant in named:
                 standing = re.search(r'default_value\("(\w+)"\)', said)
                 yield named[constant], standing and standing.group(1)
 

@@ -1,0 +1,1 @@
+int g[2];int main(void){return 0;}
