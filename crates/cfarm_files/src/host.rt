@@ -21,6 +21,14 @@ pub(crate) fn fault_of(fault: &io::Error) -> FileFault {
     }
 }
 
+/// Whether nothing has that name.
+fn is_nothing(rt: &HostRuntime, path: &str) -> bool {
+    match fs::symlink_metadata(rt, path) {
+        Ok(_) => false,
+        Err(fault) => fault.kind() == ErrorKind::NotFound,
+    }
+}
+
 /// The same, where that is of the old file of a node, or of the new one.
 fn disk_fault_of(fault: &Unopened) -> DiskFault {
     let (told, which) = match fault {
@@ -45,6 +53,16 @@ impl Files for HostFiles<'_> {
         }
     }
 
+    fn read_if_there(&self, path: &str) -> Result<Option<Vec<u8>>, FileFault> {
+        match fs::read(self.0, path) {
+            Ok(bytes) => Ok(Some(bytes)),
+            Err(fault) if fault.kind() == ErrorKind::NotFound && is_nothing(self.0, path) => Ok(
+                None,
+            ),
+            Err(fault) => Err(fault_of(&fault)),
+        }
+    }
+
     fn lock(&mut self, _folder: &str, path: &str) -> Result<File, FileFault> {
         match locked(self.0, path) {
             Ok(lock) => Ok(lock),
@@ -64,6 +82,13 @@ impl Files for HostFiles<'_> {
     }
 
     fn put(&mut self, _lock: &File, path: &str, bytes: &[u8]) -> Result<(), FileFault> {
+        match place(self.0, path, bytes) {
+            Ok(()) => Ok(()),
+            Err(fault) => Err(fault_of(&fault)),
+        }
+    }
+
+    fn put_at(&mut self, path: &str, bytes: &[u8]) -> Result<(), FileFault> {
         match place(self.0, path, bytes) {
             Ok(()) => Ok(()),
             Err(fault) => Err(fault_of(&fault)),
