@@ -1,0 +1,3 @@
+mod Files
+mod Ready
+mod Statuses

@@ -1,0 +1,11 @@
+//! The command `fsck` over files: a text is made ready, the folder's lock is taken, the files of each node's journals are read, and what is found
+//! is told. No file is put, and none is made but that of the lock.
+#![tactic(auto)]
+
+mod asking;
+mod looking;
+mod reading;
+mod unread;
+
+pub use asking::asked_quorums;
+pub use looking::look_through;

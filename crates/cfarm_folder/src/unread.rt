@@ -1,0 +1,7 @@
+/// Why the files of a folder's journals are not read.
+#[derive(Debug, Drop)]
+pub(crate) enum Unread {
+    NoMemory,
+    /// The system refuses the file of this path, which is there.
+    File(String),
+}

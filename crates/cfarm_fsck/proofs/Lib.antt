@@ -1,0 +1,4 @@
+pub mod Begun
+pub mod Answered
+pub mod Opening
+pub mod Telling

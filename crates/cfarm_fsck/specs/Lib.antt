@@ -1,0 +1,3 @@
+pub mod Folder
+pub mod Telling
+pub mod Told

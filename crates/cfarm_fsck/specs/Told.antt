@@ -1,0 +1,63 @@
+-- What is answered of a folder.
+use Rattle.std.specs.Prelude.{◌≡◌, ◌⊎◌, ℕ, ◌<◌, List, length, Option}
+use Rattle.std.specs.Global.{Vec}
+use Rattle.std.specs.Io.KnownBytes.{Appends, Keeps}
+use Rattle.lang_base.specs.declared.program.Program.{Program}
+use Rattle.rtl_language.specs.declared.function.Function.{Function}
+use Rattle.paxos_core_world.specs.KeptPart.{KeptPart}
+use Rattle.paxos_core_world.specs.Quorum.{Sizes}
+use Rattle.acceptor_log_form.specs.declared.record.Record.{Record}
+use Rattle.acceptor_log_form.specs.declared.errors.LogError.{LogError}
+use Rattle.acceptor_log_form.specs.declared.errors.LogError.TheVariants as log
+use Rattle.farm_nodes_stored.specs.Nodes.{AreMade}
+use Rattle.farm_nodes_stored.specs.Read.{IsKeptPart}
+use Rattle.farm_nodes_functions.specs.Kept.{AreSettled}
+use Rattle.farm_nodes_seated.specs.Refused.{HasBadRecord, HasRefusedOffer, IsUnopened}
+use Rattle.farm_nodes_seated.specs.declared.fault.OpenFault.{OpenFault}
+use Rattle.farm_nodes_seated.specs.declared.fault.OpenFault.TheVariants as open_fault
+use Rattle.cfarm_output.specs.Begun.{IsBegun}
+use Rattle.cfarm_fsck_journals.specs.declared.files.NodeFiles.{NodeFiles}
+use Rattle.cfarm_fsck.specs.declared.error.FsckError.{FsckError}
+use Rattle.cfarm_fsck.specs.declared.error.FsckError.TheVariants.{Disks, NoMemory, Write}
+use Rattle.cfarm_fsck.specs.Folder.{IsJournalIn, IsRefusedFile}
+use Rattle.cfarm_fsck.specs.Telling.{folder_lines}
+
+module _ (q : Sizes) (digest : List ℕ) (program : Program Function) (files : List NodeFiles) where
+  -- A farm opens over the folder: its journals list these records, which leave these kept parts, and those are settled.
+  pub record Opens (journals : List (ℕ × Vec Record)) (kept : List (Vec KeptPart)) : Type 0 where
+    pub listed : AreMade (IsJournalIn q digest) files (length files) journals
+    pub are_kept : AreMade (IsKeptPart (length program.functions) (length journals)) journals (length journals) kept
+    pub settled : (f : ℕ) → f < length program.functions → AreSettled q kept f
+
+  -- so it does, and these are the lines
+  pub record AreTold (text : List ℕ) : Type 0 where
+    pub journals : List (ℕ × Vec Record)
+    pub kept : List (Vec KeptPart)
+    pub opens : Opens journals kept
+    pub lines : text ≡ folder_lines q.accept program.functions journals kept
+
+  abbrev pub IsTold : Option (List ℕ) → Option (List ℕ) → Type 0
+  IsTold before after = (text : List ℕ) × AreTold text × Appends before after text
+
+  -- the journals are listed, and so it is of them
+  abbrev pub OfListed : (List (ℕ × Vec Record) → Type 0) → Type 0
+  OfListed Holds = (journals : List (ℕ × Vec Record)) × AreMade (IsJournalIn q digest) files (length files) journals × Holds journals
+
+  -- the fault with which a farm over the folder is refused: a journal's, or of its records; an offer's; or a room's
+  abbrev pub IsFaultOf : OpenFault → Type 0
+  IsFaultOf open_fault.NoMemory = Unit {0}
+  IsFaultOf (open_fault.Journal node fault) =
+      IsRefusedFile q digest files node fault
+      ⊎ ((fault ≡ log.BadRecord) × OfListed (λ journals. HasBadRecord (length program.functions) journals node))
+  IsFaultOf (open_fault.Refused node) = OfListed (λ journals. HasRefusedOffer (length program.functions) journals node)
+  IsFaultOf (open_fault.Room room fault) = OfListed (λ journals. IsUnopened (length program.functions) journals q room fault)
+
+  -- a beginning of the lines was printed, and it may be nothing
+  abbrev pub IsToldInPart : Option (List ℕ) → Option (List ℕ) → Type 0
+  IsToldInPart before after = Keeps before after ⊎ ((text : List ℕ) × AreTold text × IsBegun text before after)
+
+  -- it is told why not: nothing is printed of a folder that is refused
+  abbrev pub IsNotTold : FsckError → Option (List ℕ) → Option (List ℕ) → Type 0
+  IsNotTold (Disks fault) before after = IsFaultOf fault × Keeps before after
+  IsNotTold NoMemory before after = IsToldInPart before after
+  IsNotTold Write before after = IsToldInPart before after

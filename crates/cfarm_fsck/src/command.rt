@@ -1,0 +1,91 @@
+//! The whole command.
+
+ghost use Rattle.std.specs.Prelude.{◌≡◌, ◌≤◌, length, OnOk, IfOk, IfErr};
+ghost use Rattle.cfarm_fsck.specs.Told.{IsFaultOf, IsNotTold, IsTold, Opens};
+
+use crate::error::FsckError;
+use crate::journals::journals_of;
+use crate::opened::kept_of_all;
+use crate::printing::print_folder;
+use acceptor_log::Record;
+use cfarm_fsck_journals::NodeFiles;
+use farm_nodes_seated::OpenFault;
+use lang_base::Program;
+use paxos_core::{Kept, Quorums};
+use rooms_hall::{Hall, Naming};
+use rtl_language::Function;
+use std::alloc::Global;
+use std::io::Write;
+use std::sync::Wait;
+use std::thread::Threads;
+
+/// How many functions there are.
+fn functions_of(program: &Program<Function>) -> u16
+    requires { length program.now.functions ≤ 64 }
+    ensures { result ≡ length program.now.functions }
+{
+    program.functions.len() as u16
+}
+
+/// The journals of a folder, and what each node has kept of each room.
+fn opened<H: Naming, R: Threads + Wait + Sync>(
+    rt: &R,
+    alloc: Global,
+    hall: &Hall<H>,
+    digest: &[u8; 32],
+    program: &Program<Function>,
+    quorums: Quorums,
+    files: &[NodeFiles],
+) -> Result<(Vec<(usize, Vec<Record>)>, Vec<Vec<Kept>>), OpenFault>
+    requires size { length files.now ≡ quorums.nodes }
+    requires functions { length program.now.functions ≤ 64 }
+    ensures opens { IfOk result (λ found. Opens quorums digest.now program.now files.now found.0.items found.1.items) }
+    ensures refused { IfErr result (IsFaultOf quorums digest.now program.now files.now) }
+{
+    let workers = usize::from(quorums.nodes());
+    let functions = functions_of(program);
+    let journals = match journals_of(alloc, digest, quorums, files) {
+        Ok(journals) => journals,
+        Err(fault) => return Err(fault),
+    };
+    let before = journals.as_slice();
+    match kept_of_all::<usize, H, R>(rt, alloc, hall, digest, functions, workers, before, quorums) {
+        Ok(kept) => Ok((journals, kept)),
+        Err(fault) => Err(fault),
+    }
+}
+
+/// Reads the journals of a folder as a farm with these quorums over this program would, whose text has this digest, and tells of each node how
+/// much its journal has, and of each room the vote that was chosen there, if an accept quorum's last votes show one. Offers are checked
+/// again, by as many threads as there are nodes. The caller buffers; all is flushed.
+pub fn fsck<H: Naming, R: Threads + Wait + Sync, W: Write>(
+    rt: &R,
+    alloc: Global,
+    hall: &Hall<H>,
+    digest: &[u8; 32],
+    program: &Program<Function>,
+    quorums: Quorums,
+    files: &[NodeFiles],
+    out: &mut W,
+) -> Result<(), FsckError>
+    requires size { length files.now ≡ quorums.nodes }
+    requires functions { length program.now.functions ≤ 64 }
+    ensures told { OnOk result
+        (IsTold quorums digest.now program.now files.now (W.contents out.old) (W.contents out.new)) }
+    ensures refused { IfErr result (λ e.
+        IsNotTold quorums digest.now program.now files.now e (W.contents out.old) (W.contents out.new)) }
+{
+    let (journals, kept) = match opened::<H, R>(rt, alloc, hall, digest, program, quorums, files) {
+        Ok(found) => found,
+        Err(fault) => return Err(FsckError::Disks(fault)),
+    };
+    let functions = program.functions.as_slice();
+    print_folder(
+        alloc,
+        functions,
+        quorums.accept(),
+        journals.as_slice(),
+        kept.as_slice(),
+        out,
+    )
+}

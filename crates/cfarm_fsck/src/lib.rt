@@ -1,0 +1,14 @@
+//! The command `fsck`: from the bytes of a folder's journals to lines on a writer. Nothing is written but those: the journals are read as a
+//! farm over the folder would read them, and are refused as that would refuse them; then the last votes of each room are told.
+#![tactic(auto)]
+
+mod command;
+mod error;
+mod journals;
+mod opened;
+mod parts;
+mod printing;
+
+pub use cfarm_fsck_journals::NodeFiles;
+pub use command::fsck;
+pub use error::FsckError;
