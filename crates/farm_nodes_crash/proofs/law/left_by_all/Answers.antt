@@ -1,0 +1,16 @@
+use Rattle.farm_nodes_crash.proofs.Journals.{left_journals_stand}
+use Rattle.farm_nodes_crash.proofs.Opened.{opened_rooms_stand}
+use Rattle.farm_nodes_crash.proofs.Reopening.{left_rooms_stand}
+use Rattle.farm_nodes_crash.proofs.law.left_by_all.Goals as goal
+
+pub returns-clause-journals : goal.returns-clause-journals
+returns-clause-journals g c =
+    left_journals_stand g.P.Disk g.P.Pair c.args.quorums g.met.P.Pair.honest_spent g.met.P.Pair.new_is_left
+
+pub returns-clause-rooms : goal.returns-clause-rooms
+returns-clause-rooms g c =
+    left_rooms_stand g.P.Disk g.P.Pair c.args.quorums g.met.P.Pair.honest_spent g.met.P.Pair.new_is_left
+
+pub returns-clause-opened : goal.returns-clause-opened
+returns-clause-opened g c =
+    opened_rooms_stand g.P.Disk g.P.Pair c.args.quorums g.met.P.Pair.honest_spent g.met.P.Pair.new_is_left c.nodes-count.ensures.sizes

@@ -1,0 +1,4 @@
+pub mod Left
+pub mod Rooms
+pub mod Stand
+pub mod Meeting

@@ -1,0 +1,48 @@
+-- Meetings of the nodes of a farm, one after another, with nothing between them but meetings.
+use Rattle.std.specs.Prelude.{◌≡◌, ◌≢◌, ℕ, ◌<◌, List, [], ◌∷◌, length, Some, slice_get}
+use Rattle.paxos_core_world.specs.Quorum.{Sizes}
+use Rattle.rooms_state.specs.Sound.{IsSound}
+use Rattle.rooms_seat.specs.Meeting.{HaveMet}
+use Rattle.rooms_crash.specs.Meetings.{AllMeet, IsSeatOf}
+use Rattle.farm_nodes_node.specs.Fours.{words_of, Four}
+use Rattle.farm_nodes_node.specs.Offers.{Constants, Expressions, Allocation, Order}
+use Rattle.farm_nodes_node.specs.Which.{Which}
+use Rattle.farm_nodes_crash.specs.Left.{NodeSeats}
+use Rattle.farm_nodes_crash.specs.Rooms.{RoomsRest}
+
+-- a node's seats in the rooms of one function
+abbrev pub FunctionSeats : Type 0
+FunctionSeats = Four Constants Expressions Allocation Order
+
+module _ (q : Sizes) (functions : ℕ) where
+  -- These two nodes meet in each room, which is one for both; the others are as they were.
+  pub record NodesMeet (i j : ℕ) (old new : ℕ → NodeSeats) : Type 0 where
+    pub two : i ≢ j
+    pub first : i < q.nodes
+    pub second : j < q.nodes
+    pub first_count : length (new i) ≡ functions
+    pub second_count : length (new j) ≡ functions
+    pub met : (f : ℕ) (pass : Which) (a b a' b' : FunctionSeats) → slice_get (old i) f ≡ Some a → slice_get (old j) f ≡ Some b
+        → slice_get (new i) f ≡ Some a' → slice_get (new j) f ≡ Some b'
+        → HaveMet (words_of a pass) (words_of b pass) (words_of a' pass) (words_of b' pass)
+    pub others : (k : ℕ) → k ≢ i → k ≢ j → new k ≡ old k
+
+  -- they meet in pairs, the newest first
+  abbrev pub NodesMeetings : List (ℕ × ℕ) → (ℕ → NodeSeats) → (ℕ → NodeSeats) → Type 0
+  NodesMeetings [] old new = (k : ℕ) → new k ≡ old k
+  NodesMeetings (p ∷ ps) old new = (between : ℕ → NodeSeats) × NodesMeetings ps old between × NodesMeet p.0 p.1 between new
+
+  -- each node has its seats in the rooms of so many functions
+  pub record AreSeats (seats : ℕ → NodeSeats) : Type 0 where
+    pub count : (i : ℕ) → i < q.nodes → length (seats i) ≡ functions
+    pub each : (i f : ℕ) (pass : Which) (s : FunctionSeats) → i < q.nodes → slice_get (seats i) f ≡ Some s → IsSeatOf q i (words_of s pass)
+
+  -- ---- the promise
+
+  -- Where each node meets node h, and meets it again, all rest in each room as they were before.
+  abbrev pub NodesThatMetRest : Type 0
+  NodesThatMetRest =
+      (h : ℕ) (first second : List (ℕ × ℕ)) (old between new : ℕ → NodeSeats) → h < q.nodes → AreSeats old
+      → NodesMeetings first old between → AllMeet first q.nodes h → NodesMeetings second between new → AllMeet second q.nodes h
+      → ((f : ℕ) (pass : Which) (s : FunctionSeats) → slice_get (new h) f ≡ Some s → IsSound (words_of s pass))
+      → RoomsRest q functions old

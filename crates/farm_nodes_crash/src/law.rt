@@ -1,0 +1,28 @@
+ghost use Rattle.std.specs.Prelude.{ℕ};
+ghost use Rattle.farm_nodes_crash.specs.Meeting.{NodesThatMetRest};
+ghost use Rattle.farm_nodes_crash.specs.Stand.{LeftJournalsStand, LeftRoomsStand, OpenedRoomsStand};
+
+use durable_pair::Pair;
+use paxos_core::Quorums;
+
+/// What a crash of all nodes of a farm leaves on their pairs of disks; it does nothing.
+pub fn left_by_all<P: Pair>(quorums: Quorums)
+    // A farm that opens over that is refused neither with 401 to 404, but for want of memory or where a device fails,
+    ensures journals { LeftJournalsStand P.Disk P.Pair.own quorums }
+
+    // nor with 510, where the nodes rest in each room: behind turns on threads that have come back, failures and restarts;
+    ensures rooms { LeftRoomsStand P.Disk P.Pair.own quorums }
+
+    // nor right after it has opened.
+    ensures opened { OpenedRoomsStand P.Disk P.Pair.own quorums }
+{
+    let _count = quorums.nodes();
+}
+
+/// What holds of nodes of a farm each of which has met one of them, and has met it again; it does nothing.
+pub fn rest_of_met(quorums: Quorums)
+    // They rest in each room as they were before the first of these meetings, which leave their journals as they are.
+    ensures { (functions : ℕ) → NodesThatMetRest quorums functions }
+{
+    let _count = quorums.nodes();
+}

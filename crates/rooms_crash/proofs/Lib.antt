@@ -1,0 +1,4 @@
+pub mod Holding
+pub mod Resting
+pub mod Looking
+pub mod Joining

@@ -1,0 +1,3 @@
+pub mod Held
+pub mod Rest
+pub mod Meetings
