@@ -13,7 +13,7 @@ use Rattle.cfarm_build_linking.specs.Lists.{HaveMetAll}
 use Rattle.cfarm_build_linking.specs.Seats.{Seats}
 use Rattle.cfarm_build_linking.proofs.Alike.{counted_now, keeps_through}
 use Rattle.cfarm_build.specs.Nodes.{AreCountedAt, AreMissed}
-use Rattle.cfarm_build.proofs.Zips.{as_long, zipped}
+use Rattle.cfarm_build_linking.proofs.Zips.{as_long, zipped}
 
 one_item : {S : Type 0} (o : Option S) (x y : S) → o ≡ Some x → o ≡ Some y → x ≡ y
 one_item o x y e e' = cc

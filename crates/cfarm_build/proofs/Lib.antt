@@ -3,4 +3,4 @@ mod Lowest
 mod Made
 mod Turning
 mod Unbuilt
-mod Zips
+pub use Rattle.cfarm_build_linking.proofs.Carrying

@@ -25,7 +25,7 @@ use Rattle.cfarm_build_linking.proofs.Alike.{keeps_none, keeps_through}
 use Rattle.cfarm_build_linking.proofs.Coming.{came_through}
 use Rattle.cfarm_build_linking.specs.Node.{Node, node}
 use Rattle.cfarm_build.specs.Nodes.{Begun, HasStayed, HaveMet, HaveRun, IsSound, JournalStays, TurnedInto, failed_of, lowest_failed}
-use Rattle.cfarm_build.proofs.Zips.{all_mapped, all_of, all_weaker, as_long, kept, map_twice, seen, through, written}
+use Rattle.cfarm_build_linking.proofs.Zips.{all_mapped, all_of, all_weaker, as_long, kept, map_twice, seen, through, written}
 
 -- A node is seen as its program, its journal, its seats and what stopped it.
 module _ {N G D : Type 0} (disk : disks.Ghosts D) (program : N → G) (log : N → Log D) (fours : N → List (Four Constants Expressions Allocation Order))

@@ -1,4 +1,4 @@
-ghost use Rattle.std.specs.Prelude.{◌≡◌, ◌≤◌, All, length, IfOk, IfErr};
+ghost use Rattle.std.specs.Prelude.{◌≡◌, ◌≤◌, All, false, is_some, length, IfOk, IfErr};
 ghost use Rattle.std.specs.Arc.{arc_value};
 ghost use Rattle.c_checker_rules.specs.Checked.{program_tree};
 ghost use Rattle.cminor_lowering.specs.Programs.{low};
@@ -20,8 +20,9 @@ use std::sync::Wait;
 use std::thread::Threads;
 
 /// Compiles a C text that was made ready by a farm with these quorums and a node for each pair of disks, a thread for each node, each of which
-/// takes so many turns at most. Then each two neighbours meet, and the program is linked. Between rounds of turns it is told how far they are.
-pub fn build<
+/// takes so many turns at most. Then each two neighbours meet, and the program is linked, with its bundle where that is asked for. Between
+/// rounds of turns it is told how far they are.
+pub fn build_bundled<
     D: Pair + Drop + Send,
     O: Oracles + Drop + Send,
     H: Naming + Send,
@@ -37,6 +38,7 @@ pub fn build<
     turns: u64,
     seed: u64,
     quorums: Quorums,
+    bundles: bool,
     meter: &mut M,
 ) -> Result<Built, BuildError>
     requires size { length disks.items ≡ quorums.nodes }
@@ -51,6 +53,9 @@ pub fn build<
     // Each two neighbours met, and all functions were counted. So every node has learned the same offers, and what each would link is one
     // program: the bytes are its text, it keeps the meaning of the C program, and the report tells the offers.
     ensures built { IfOk result (IsBuilt D.Disk D.Pair.own H.Naming quorums seed source disks.items) }
+
+    // There is a bundle where it is asked for: that of the offers of which the program is linked.
+    ensures asked { IfOk result (λ built. is_some built.bundle ≡ bundles) }
 
     // The disks come first, then the lowest node that failed, then what is not counted, or not linked.
     ensures refused { IfErr result (IsUnbuilt D.Disk D.Pair.own H.Naming quorums seed source disks.items) }
@@ -72,5 +77,39 @@ pub fn build<
     if !meet_neighbours(&mut nodes) {
         return Err(BuildError::Undecided);
     }
-    built_by(alloc, &source, &nodes)
+    built_by(alloc, &source, &nodes, bundles)
+}
+
+/// The same, with no bundle.
+pub fn build<
+    D: Pair + Drop + Send,
+    O: Oracles + Drop + Send,
+    H: Naming + Send,
+    R: Threads + Wait + Sync,
+    M: Meter,
+>(
+    rt: &R,
+    alloc: Global,
+    hall: &Hall<H>,
+    source: Source,
+    disks: Vec<D>,
+    oracles: Vec<O>,
+    turns: u64,
+    seed: u64,
+    quorums: Quorums,
+    meter: &mut M,
+) -> Result<Built, BuildError>
+    requires size { length disks.items ≡ quorums.nodes }
+    requires oracles { length oracles.items ≡ length disks.items }
+    requires translated { arc_value source.translated ≡ gen (low (program_tree source.program)) }
+    requires names { HaveNames (program_tree source.program) }
+    requires count { length (arc_value source.translated).functions ≤ 64 }
+    requires few { All HasFewNodes (low (program_tree source.program)).functions }
+    ensures built { IfOk result (IsBuilt D.Disk D.Pair.own H.Naming quorums seed source disks.items) }
+    ensures bare { IfOk result (λ built. is_some built.bundle ≡ false) }
+    ensures refused { IfErr result (IsUnbuilt D.Disk D.Pair.own H.Naming quorums seed source disks.items) }
+{
+    build_bundled(
+        rt, alloc, hall, source, disks, oracles, turns, seed, quorums, false, meter,
+    )
 }

@@ -7,7 +7,7 @@ mod failing;
 mod meeting;
 mod running;
 
-pub use building::build;
+pub use building::{build, build_bundled};
 pub use cfarm_build_linking::{
     BuildError, Built, LogError, OpenFault, Optimising, Quorums, SourceFault, optimisers_of,
 };

@@ -1,5 +1,5 @@
 -- What nodes make that link all functions.
-use Rattle.std.specs.Prelude.{◌≡◌, ℕ, suc, List, length, map, Option, Some, slice_get}
+use Rattle.std.specs.Prelude.{◌≡◌, ℕ, suc, List, length, map, Option, Some, IfSome, slice_get}
 use Rattle.std.specs.List.{AllByRecursion}
 use Rattle.std.specs.String.{string_bytes}
 use Rattle.sha2.specs.Sha256.{sha256}
@@ -20,6 +20,7 @@ use Rattle.farm_nodes_linked.specs.Seats.{Seats}
 use Rattle.farm_nodes_linked.specs.Alike.{HaveCounted}
 use Rattle.farm_nodes_linked.specs.Learned.{FourOffers, learned_by, IsUndecided}
 use Rattle.farm_nodes_linked.specs.Offered.{linked_offers}
+use Rattle.bundle_offers.specs.Linking.{BundleLinks}
 use Rattle.cfarm_report.specs.declared.function.FunctionRooms.{FunctionRooms}
 use Rattle.cfarm_report.specs.Report.{report_of}
 use Rattle.cfarm_build_linking.specs.Node.{Node}
@@ -47,6 +48,11 @@ pub record IsLinkedByAll {D : Type 0} {H : Type 0} {h : naming.Ghosts H} (source
   pub fits : IsProgram linear_function.IsFunction program
   pub text : bytes ≡ program_text 4 spelling program
 
+-- The bundle, where there is one, is that of the offers which this program is linked of: each is accepted by its pass, they go on from
+-- the text's translation, and the digest is the text's.
+abbrev pub IsBundledOf : Source → Program linear_function.FunctionData → List ℕ → Type 0
+IsBundledOf source program bytes = BundleLinks bytes source.digest (gen (low (program_tree source.program))) program
+
 -- the report of the program's functions, with what the node has learned, the digest of the bytes, and how many nodes there are
 pub record IsReportOf {H : Type 0} {h : naming.Ghosts H} (source : Source) (seats : List (Seats H h)) (bytes : List ℕ) (count : ℕ)
     (report : List ℕ) : Type 0 where
@@ -59,7 +65,8 @@ abbrev pub AllDecided : {D : Type 0} {H : Type 0} {h : naming.Ghosts H} → List
 AllDecided nodes = AllByRecursion (λ n. IsUndecided (learned_by n.seats) → ⊥) nodes
 
 -- Each two neighbours met, and all functions were counted. So all nodes have learned the offers of the first one, and link one program:
--- the bytes are its text. The report tells what the first has learned, and how many they are.
+-- the bytes are its text, and the bundle, where there is one, is that of those offers. The report tells what the first has learned, and how
+-- many they are.
 pub record IsBuiltBy {D : Type 0} {H : Type 0} {h : naming.Ghosts H} (source : Source) (nodes : List (Node D H h)) (built : Built) : Type 0 where
   pub counted : AllCounted nodes
   pub decided : AllDecided nodes
@@ -67,4 +74,5 @@ pub record IsBuiltBy {D : Type 0} {H : Type 0} {h : naming.Ghosts H} (source : S
   pub first : slice_get nodes 0 ≡ Some node
   pub same : AllLearned (learned_by node.seats) nodes
   pub linked : IsLinkedByAll source nodes built.program.items
+  pub bundled : IfSome built.bundle (λ bundle. IsBundledOf source linked.program bundle.items)
   pub report : IsReportOf source node.seats built.program.items (length nodes) (string_bytes built.report)

@@ -1,4 +1,5 @@
 pub mod Built
+pub mod Carried
 pub mod Node
 pub mod Refused
 pub mod Told

@@ -1,6 +1,6 @@
 //! What nodes that took their turns, and have met, make.
 
-ghost use Rattle.std.specs.Prelude.{◌≡◌, ◌<◌, ℕ, All, Some, IsTrue, length, map, IfOk, IfErr};
+ghost use Rattle.std.specs.Prelude.{◌≡◌, ◌<◌, ◌≤◌, ℕ, All, Some, IsTrue, is_some, length, map, IfOk, IfErr, IfSome};
 ghost use Rattle.std.specs.Arc.{arc_value};
 ghost use Rattle.std.specs.List.{AllByRecursion};
 ghost use Rattle.c_checker_rules.specs.Checked.{program_tree};
@@ -11,6 +11,7 @@ ghost use Rattle.rtlgen_definition.specs.Gen.{gen};
 ghost use Rattle.farm_nodes_linked.specs.Numbers.{function_of_link_error};
 ghost use Rattle.farm_nodes_linked.specs.Alike.{HaveCounted};
 ghost use Rattle.farm_nodes_linked.specs.Learned.{learned_by, IsUndecided};
+ghost use Rattle.farm_nodes_bundled.specs.Bundled.{LinksLearned};
 ghost use Rattle.cfarm_build_linking.specs.Built.{EachTwo, IsBuiltBy};
 ghost use Rattle.cfarm_build_linking.specs.Node.{node};
 ghost use Rattle.cfarm_build_linking.specs.Refused.{IsNotLinked, IsRefusedBy, IsToldOf};
@@ -21,7 +22,8 @@ use crate::writing::written;
 use c_checker_rules::CProgram;
 use cfarm_build_faults::{BuildError, Source};
 use cfarm_report::report;
-use farm_nodes_linked::{FarmNode, LinkError, LinkedError, linked};
+use farm_nodes_bundled::bundled;
+use farm_nodes_linked::{FarmNode, LinkError, LinkedError, Seats, linked};
 use lang_base::NoMemory;
 use rooms_hall::Naming;
 use std::alloc::Global;
@@ -57,20 +59,46 @@ fn unlinked(alloc: Global, program: &CProgram, fault: LinkError) -> BuildError
     }
 }
 
-/// The bytes of what the first of the nodes links, and the report with the numbers that it has learned. Each of them links all functions.
+/// The bundle of what a node links, where it is asked for.
+fn bundle_of<H: Naming>(
+    alloc: Global,
+    digest: &[u8; 32],
+    seats: &[Seats<H>],
+    is_asked: bool,
+) -> Result<Option<Vec<u8>>, NoMemory>
+    requires few { length seats.now ≤ 64 }
+    requires decided { IsUndecided (learned_by seats.now) → ⊥ }
+    ensures asked { IfOk result (λ bundle. is_some bundle ≡ is_asked) }
+    ensures links { IfOk result (λ bundle.
+        IfSome bundle (λ bytes. LinksLearned bytes.items digest.now (learned_by seats.now))) }
+{
+    if !is_asked {
+        return Ok(None);
+    }
+    match bundled(alloc, digest.as_slice(), seats) {
+        Ok(bytes) => Ok(Some(bytes)),
+        Err(fault) => Err(fault),
+    }
+}
+
+/// The bytes of what the first of the nodes links, the bundle of it where that is asked for, and the report with the numbers that it has
+/// learned. Each of them links all functions.
 fn made_by<D, O, H: Naming>(
     alloc: Global,
     source: &Source,
     nodes: &[FarmNode<D, O, H>],
+    bundles: bool,
 ) -> Result<Built, BuildError>
     requires some { 0 < length nodes.now }
     requires counted { EachTwo (λ n m. HaveCounted n.seats.items m.seats.items) nodes.now }
     requires decided { AllByRecursion (λ n. IsUndecided (learned_by n.seats.items) → ⊥) nodes.now }
     requires translated { arc_value source.now.translated ≡ gen (low (program_tree source.now.program)) }
     requires names { HaveNames (program_tree source.now.program) }
+    requires count { length (arc_value source.now.translated).functions ≤ 64 }
     requires few { All HasFewNodes (low (program_tree source.now.program)).functions }
     requires program { AllByRecursion (λ n. arc_value n.program ≡ arc_value source.now.translated) nodes.now }
     ensures built { IfOk result (IsBuiltBy source.now (map (λ n. node n.log n.seats.items n.halted) nodes.now)) }
+    ensures asked { IfOk result (λ built. is_some built.bundle ≡ bundles) }
     ensures refused { IfErr result
         (IsRefusedBy source.now (map (λ n. node n.log n.seats.items n.halted) nodes.now)) }
 {
@@ -83,36 +111,44 @@ fn made_by<D, O, H: Naming>(
     let Ok(bytes) = written(alloc, &program) else {
         return Err(BuildError::NoMemory);
     };
+    let Ok(bundle) = bundle_of(alloc, &source.digest, &first.seats, bundles) else {
+        return Err(BuildError::NoMemory);
+    };
     let Ok(functions) = numbers_of(alloc, &source.program, &first.seats) else {
         return Err(BuildError::NoMemory);
     };
     match report(alloc, &functions, &bytes, nodes.len()) {
         Ok(report) => Ok(Built {
             program: bytes,
+            bundle,
             report,
         }),
         Err(_) => Err(BuildError::NoMemory),
     }
 }
 
-/// What all the nodes link, each two neighbours of whom met, all functions being counted: the bytes of the one program, and the report.
+/// What all the nodes link, each two neighbours of whom met, all functions being counted: the bytes of the one program, its bundle
+/// where that is asked for, and the report.
 pub fn built_by<D, O, H: Naming>(
     alloc: Global,
     source: &Source,
     nodes: &[FarmNode<D, O, H>],
+    bundles: bool,
 ) -> Result<Built, BuildError>
     requires some { 0 < length nodes.now }
     requires counted { EachTwo (λ n m. HaveCounted n.seats.items m.seats.items) nodes.now }
     requires translated { arc_value source.now.translated ≡ gen (low (program_tree source.now.program)) }
     requires names { HaveNames (program_tree source.now.program) }
+    requires count { length (arc_value source.now.translated).functions ≤ 64 }
     requires few { All HasFewNodes (low (program_tree source.now.program)).functions }
     requires program { AllByRecursion (λ n. arc_value n.program ≡ arc_value source.now.translated) nodes.now }
     ensures built { IfOk result (IsBuiltBy source.now (map (λ n. node n.log n.seats.items n.halted) nodes.now)) }
+    ensures asked { IfOk result (λ built. is_some built.bundle ≡ bundles) }
     ensures refused { IfErr result
         (IsRefusedBy source.now (map (λ n. node n.log n.seats.items n.halted) nodes.now)) }
 {
     if !all_link(nodes) {
         return Err(BuildError::Undecided);
     }
-    made_by(alloc, source, nodes)
+    made_by(alloc, source, nodes, bundles)
 }

@@ -5,7 +5,7 @@ use Rattle.cfarm_build_linking.specs.Fours.{fours_of}
 use Rattle.cfarm_build_linking.specs.Learned.{learned_by}
 use Rattle.cfarm_build_linking.proofs.Kept.{first_keeps, second_keeps}
 use Rattle.cfarm_build.proofs.Counting.{all_counted, at_place, not_counted}
-use Rattle.cfarm_build.proofs.Zips.{all_back, all_front, all_get, append, one_set, set_first, set_second}
+use Rattle.cfarm_build_linking.proofs.Zips.{all_back, all_front, all_get, append, one_set, set_first, set_second}
 use Rattle.cfarm_build.proofs.Turning.{Meets, meets_none}
 use Rattle.cfarm_build.proofs.meeting.meet_at.Goals as goal
 

@@ -5,7 +5,7 @@ use Rattle.cfarm_build_linking.specs.Fours.{fours_of}
 use Rattle.cfarm_build_linking.specs.Learned.{learned_by}
 use Rattle.cfarm_build.specs.Nodes.{HasFewFunctions}
 use Rattle.cfarm_build.proofs.Counting.{all_there, none_back, one_back}
-use Rattle.cfarm_build.proofs.Zips.{all_same, as_long, kept}
+use Rattle.cfarm_build_linking.proofs.Zips.{all_same, as_long, kept}
 use Rattle.cfarm_build.proofs.Turning.{Meets, going_still, meets_none, meets_through}
 use Rattle.cfarm_build.proofs.meeting.meet_neighbours.Goals as goal
 

@@ -1,5 +1,5 @@
 -- The first of the nodes links what it has learned, or why not.
-use Rattle.std.proofs.Common.{◌≡◌, length, map, refl, sym, ap, subst, ◌∙◌}
+use Rattle.std.proofs.Common.{◌≡◌, length, map, refl, sym, ap, subst, ◌∙◌, arith}
 use Rattle.std.specs.Arc.{arc_value}
 use Rattle.std.specs.String.{string_bytes}
 use Rattle.std.proofs.lemmas.List.{length-map}
@@ -10,8 +10,11 @@ use Rattle.farm_nodes_linked.specs.Numbers.{function_of_link_error}
 use Rattle.farm_nodes_linked.specs.Learned.{learned_by, IsUndecided}
 use Rattle.farm_nodes_linked.specs.Offered.{linked_offers}
 use Rattle.farm_nodes_linked.specs.Refused.{IsRefused}
+use Rattle.farm_nodes_bundled.specs.Bundled.{LinksLearned}
 use Rattle.rtlgen_definition.specs.Gen.{gen}
+use Rattle.cfarm_build_linking.specs.Built.{IsBundledOf}
 use Rattle.cfarm_build_linking.specs.Node.{node}
+use Rattle.cfarm_build_linking.proofs.Bundling.{bundled_so, if_some}
 use Rattle.cfarm_build_linking.specs.Refused.{IsToldOf}
 use Rattle.cfarm_build_linking.specs.Told.{AreTold}
 use Rattle.cfarm_build_linking.proofs.Learning.{all_at, all_mapped, seen_at}
@@ -48,16 +51,27 @@ returns-in-Err-Link-clause-refused g c =
 pub written-requires : goal.written-requires
 written-requires g c = c.in-Ok.ensures.spelled c.requires.names
 
+pub bundle_of-requires-clause-few : goal.bundle_of-requires-clause-few
+bundle_of-requires-clause-few g c =
+    let x = c.index-nodes-0.result in
+    let here = all_at (λ n. arc_value n.program ≡ arc_value c.args.source.now.translated) c.args.nodes.now 0 x c.requires.program c.requires.some c.index-nodes-0.is in
+    omega (arith, ap (λ l. length l) c.deref.ensures.value, x.covers, ap (λ q. length q.functions) here, c.requires.count)
+
+pub bundle_of-requires-clause-decided : goal.bundle_of-requires-clause-decided
+bundle_of-requires-clause-decided g c =
+    subst (λ l. IsUndecided (learned_by l) → ⊥) (sym c.deref.ensures.value)
+    (all_at (λ n. IsUndecided (learned_by n.seats.items) → ⊥) c.args.nodes.now 0 c.index-nodes-0.result c.requires.decided c.requires.some c.index-nodes-0.is)
+
 pub numbers_of-requires-clause-count : goal.numbers_of-requires-clause-count
 numbers_of-requires-clause-count g c =
     let source = c.args.source.now in
     let x = c.index-nodes-0.result in
     let here = all_at (λ n. arc_value n.program ≡ arc_value source.translated) c.args.nodes.now 0 x c.requires.program c.requires.some c.index-nodes-0.is in
-    ap (λ l. length l) c.deref.ensures.value ∙ (x.covers ∙ (ap (λ q. length q.functions) (here ∙ c.requires.translated) ∙ as_many source.program.functions))
+    ap (λ l. length l) c.deref-2.ensures.value ∙ (x.covers ∙ (ap (λ q. length q.functions) (here ∙ c.requires.translated) ∙ as_many source.program.functions))
 
 pub numbers_of-requires-clause-decided : goal.numbers_of-requires-clause-decided
 numbers_of-requires-clause-decided g c =
-    subst (λ l. IsUndecided (learned_by l) → ⊥) (sym c.deref.ensures.value)
+    subst (λ l. IsUndecided (learned_by l) → ⊥) (sym c.deref-2.ensures.value)
     (all_at (λ n. IsUndecided (learned_by n.seats.items) → ⊥) c.args.nodes.now 0 c.index-nodes-0.result c.requires.decided c.requires.some c.index-nodes-0.is)
 
 pub returns-in-Ok-report-clause-built : goal.returns-in-Ok-report-clause-built
@@ -84,11 +98,16 @@ returns-in-Ok-report-clause-built g c =
         fits = c.in-Ok.ensures.spelled c.requires.names;
         text = c.in-Ok-written.ensures;
       };
+      bundled = if_some (λ b. LinksLearned b.items source.digest (learned_by c.deref.result.now))
+          (λ b. IsBundledOf source c.in-Ok.program b.items) c.in-Ok-bundle_of.bundle
+          (λ b links. bundled_so b.items source.digest (gen (low (program_tree source.program))) (learned_by c.deref.result.now) (learned_by x.seats.items)
+          c.in-Ok.program (ap (λ l. learned_by l) c.deref.ensures.value) c.in-Ok.ensures.chained c.in-Ok.ensures.ok links)
+          c.in-Ok-bundle_of.ensures.links;
       report = record {
         functions = functions;
-        told = subst (λ l. AreTold (map (λ f. f.name) source.program.functions) l functions) c.deref.ensures.value c.in-Ok-numbers_of.ensures;
-        text = firsts.report_text c.deref-2.result.now functions c.deref-3.result.now bytes (length c.args.nodes.now)
+        told = subst (λ l. AreTold (map (λ f. f.name) source.program.functions) l functions) c.deref-2.ensures.value c.in-Ok-numbers_of.ensures;
+        text = firsts.report_text c.deref-3.result.now functions c.deref-4.result.now bytes (length c.args.nodes.now)
             (length (map (λ n. node n.log n.seats.items n.halted) c.args.nodes.now)) (string_bytes c.in-Ok-report.report)
-            c.deref-2.ensures.value c.deref-3.ensures.value (sym count) c.in-Ok-report.ensures;
+            c.deref-3.ensures.value c.deref-4.ensures.value (sym count) c.in-Ok-report.ensures;
       };
     }

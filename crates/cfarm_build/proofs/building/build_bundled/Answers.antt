@@ -19,8 +19,8 @@ use Rattle.cfarm_build.proofs.Lowest.{all_going}
 use Rattle.cfarm_build.proofs.Unbuilt.{not_counted}
 use Rattle.cfarm_build.proofs.Made.{built_so, refused_so}
 use Rattle.cfarm_build.proofs.Turning.{Meets, Turns, failed_same, have_met_fit, meets_there, new_there, ran, share, share_met, share_such}
-use Rattle.cfarm_build.proofs.Zips.{as_long}
-use Rattle.cfarm_build.proofs.building.build.Goals as goal
+use Rattle.cfarm_build_linking.proofs.Zips.{as_long}
+use Rattle.cfarm_build.proofs.building.build_bundled.Goals as goal
 
 pub returns-in-Some-clause-refused : goal.returns-in-Some-clause-refused
 returns-in-Some-clause-refused g c = record {
@@ -76,6 +76,9 @@ built_by-requires-clause-counted g c =
     c.in-Ok-run_rounds.nodes.items c.deref_mut.result.now c.meet_neighbours.new.nodes c.deref-2.result.now c.deref_mut.ensures.value
     c.in-Ok-run_rounds.nodes.ok.0 c.deref-2.ensures.value c.meet_neighbours.ensures.stay in
     subst (λ l. EachTwo (λ n m. HaveCounted n.seats.items m.seats.items) l) (sym same) (c.meet_neighbours.ensures.counted c.if-not-meet_neighbours.false)
+
+pub built_by-requires-clause-count : goal.built_by-requires-clause-count
+built_by-requires-clause-count g c = subst (λ (s : Source). length (arc_value s.translated).functions ≤ 64) (sym c.in-Ok.ensures.source) c.requires.count
 
 pub built_by-requires-clause-few : goal.built_by-requires-clause-few
 built_by-requires-clause-few g c = subst (λ (s : Source). All HasFewNodes (low (program_tree s.program)).functions) (sym c.in-Ok.ensures.source) c.requires.few
