@@ -1,3 +1,4 @@
+mod Carrying
 mod Given
 mod Making
 mod Refusing

@@ -1,8 +1,9 @@
 -- Files that are made, one after another.
 use Rattle.std.proofs.Common.{◌≡◌, ℕ, List, [], ◌∷◌, ◌++◌, map, Option, None, Some, inl, inr, refl, sym, ap, subst, ◌∙◌}
 use Rattle.std.specs.List.{AllByRecursion}
+use Rattle.std.proofs.lemmas.List.{append_assoc, append-nil, map-append}
 use Rattle.cfarm_files.specs.Locking.{lock_path}
-use Rattle.cfarm_files.specs.Placing.{Placed, Keeps, Makes, made_at}
+use Rattle.cfarm_files.specs.Placing.{Placed, Keeps, Makes, Places, made_at}
 use Rattle.durable_model.specs.declared.disk.Disk as disks
 use Rattle.durable_pair.specs.declared.pair.Pair as pairs
 use Rattle.rooms_hall.specs.declared.hall.Naming as naming
@@ -14,20 +15,9 @@ use Rattle.cfarm_build.specs.BuildError.TheVariants.{NoMemory, NoThread, Source,
 use Rattle.cfarm_options.specs.Paths.{journal_path}
 use Rattle.cfarm_building.specs.Disks.{IsJournal, IsOwn, IsRefusedAt, IsRefusedAtEither}
 use Rattle.cfarm_building.specs.Left.{Leaves}
+use Rattle.cfarm_building.specs.Putting.{PlacesBundle}
 use Rattle.cfarm_building.specs.declared.error.BuildingError.{BuildingError}
 use Rattle.cfarm_building.specs.declared.error.BuildingError.TheVariants.{Build, File, Write}
-
-behind_none : {A : Type 0} (xs : List A) → xs ++ [] ≡ xs
-behind_none [] = refl
-behind_none (x ∷ xs) = ap (λ l. x ∷ l) (behind_none xs)
-
-behind_both : {A : Type 0} (xs ys zs : List A) → (xs ++ ys) ++ zs ≡ xs ++ (ys ++ zs)
-behind_both [] ys zs = refl
-behind_both (x ∷ xs) ys zs = ap (λ l. x ∷ l) (behind_both xs ys zs)
-
-map_both : {A B : Type 0} (f : A → B) (xs ys : List A) → map f (xs ++ ys) ≡ map f xs ++ map f ys
-map_both f [] ys = refl
-map_both f (x ∷ xs) ys = ap (λ l. f x ∷ l) (map_both f xs ys)
 
 all_both : {A : Type 0} (P : A → Type 0) (xs ys : List A) → AllByRecursion P xs → AllByRecursion P ys → AllByRecursion P (xs ++ ys)
 all_both P [] ys all more = more
@@ -40,13 +30,7 @@ all_weaker P Q so (x ∷ xs) all = (so x all.0, all_weaker P Q so xs all.1)
 module _ (IsSuch : List ℕ → Type 0) where
   pub makes_none : (o : Option (List Placed)) → Makes o o IsSuch
   makes_none None = tt
-  makes_none (Some before) = ([], ap (λ l. Some l) (sym (behind_none before)), tt)
-
-  -- what else stays as it is
-  pub makes_keeps : (a b c : Option (List Placed)) → Makes a b IsSuch → Keeps b c → Makes a c IsSuch
-  makes_keeps None b c makes keeps = tt
-  makes_keeps (Some before) None c makes keeps = absurd (cc makes.1)
-  makes_keeps (Some before) (Some mid) c makes keeps = (makes.0, keeps ∙ makes.1, makes.2)
+  makes_none (Some before) = ([], ap (λ l. Some l) (sym (append-nil before)), tt)
 
   pub makes_weaker : (IsOne : List ℕ → Type 0) (a b : Option (List Placed)) → ((path : List ℕ) → IsOne path → IsSuch path) → Makes a b IsOne → Makes a b IsSuch
   makes_weaker IsOne None b so makes = tt
@@ -58,10 +42,27 @@ module _ (IsSuch : List ℕ → Type 0) where
   makes_through (Some before) (Some mid) c one two =
       let same : mid ≡ before ++ map made_at one.0 = (let both : Some mid ≡ Some (before ++ map made_at one.0) = one.1 in cc both) in (
         one.0 ++ two.0,
-        two.1 ∙ ap (λ l. Some l) (ap (λ l. l ++ map made_at two.0) same ∙ (behind_both before (map made_at one.0) (map made_at two.0)
-            ∙ ap (λ l. before ++ l) (sym (map_both made_at one.0 two.0)))),
+        two.1 ∙ ap (λ l. Some l) (ap (λ l. l ++ map made_at two.0) same ∙ (append_assoc before (map made_at one.0) (map made_at two.0)
+            ∙ ap (λ l. before ++ l) (sym (map-append made_at one.0 two.0)))),
         all_both IsSuch one.0 two.0 one.2 two.2,
       )
+
+-- what is known of the files after a put, and after none
+pub keeps_through : (a b c : Option (List Placed)) → Keeps a b → Keeps b c → Keeps a c
+keeps_through None b c one two = tt
+keeps_through (Some before) None c one two = absurd (cc one)
+keeps_through (Some before) (Some mid) c one two = two ∙ one
+
+places_keeps : (a b c : Option (List Placed)) (path bytes : List ℕ) → Places a b path bytes → Keeps b c → Places a c path bytes
+places_keeps None b c path bytes puts keeps = tt
+places_keeps (Some before) None c path bytes puts keeps = absurd (cc puts)
+places_keeps (Some before) (Some mid) c path bytes puts keeps = keeps ∙ puts
+
+pub bundle_keeps : (path bundle : Option (List ℕ)) (a b c : Option (List Placed)) → PlacesBundle path bundle a b → Keeps b c
+    → PlacesBundle path bundle a c
+bundle_keeps None bundle a b c puts keeps = keeps_through a b c puts keeps
+bundle_keeps (Some path) None a b c puts keeps = puts
+bundle_keeps (Some path) (Some bytes) a b c puts keeps = places_keeps a b c path bytes puts keeps
 
 -- the journal of a node is one
 pub of_node : (folder : List ℕ) (node : ℕ) (a b : Option (List Placed)) → Makes a b (λ path. path ≡ journal_path folder node) → Makes a b (IsJournal folder)

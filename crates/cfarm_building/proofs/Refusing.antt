@@ -20,17 +20,20 @@ use Rattle.farm_nodes_source.specs.declared.fault.SourceFault.{SourceFault}
 use Rattle.cfarm_build.specs.Prepared.{IsSourceOf}
 use Rattle.cfarm_build.specs.Refused.{IsUnbuilt}
 use Rattle.cfarm_build.specs.Built.{Built}
+use Rattle.cfarm_build.specs.Carried.{bundle_of}
 use Rattle.cfarm_build.specs.BuildError.{BuildError}
 use Rattle.cfarm_build.specs.BuildError.TheVariants.{NoMemory, NoThread, Source as TextFault, Disks, Failed, Undecided, Unlinked, Names}
-use Rattle.cfarm_files.specs.Placing.{Placed, Keeps, Makes, Places}
+use Rattle.cfarm_files.specs.Placing.{Placed, Keeps, Makes}
 use Rattle.cfarm_files.specs.Locking.{lock_path}
 use Rattle.cfarm_options.specs.Sizes.{count_of}
-use Rattle.cfarm_options.specs.Paths.{linked_path}
 use Rattle.cfarm_options.specs.declared.options.BuildOptions.{BuildOptions}
 use Rattle.cfarm_building.specs.Compiled.{quorums_of, IsCompiled, IsUncompiled}
 use Rattle.cfarm_building.specs.Disks.{AreGiven, HasNoDisk, IsOwn, IsRefusedAt}
 use Rattle.cfarm_building.specs.Left.{Leaves}
 use Rattle.cfarm_building.specs.Done.{HasPut, IsNotBuilt}
+use Rattle.cfarm_building.specs.Putting.{bundle_path, IsUnbundled, PlacesBoth, PutsNoProgram}
+use Rattle.cfarm_build.proofs.Carrying.{carried}
+use Rattle.cfarm_building.proofs.Carrying.{carried_of}
 use Rattle.cfarm_building.specs.declared.error.BuildingError.{BuildingError}
 use Rattle.cfarm_building.specs.declared.error.BuildingError.TheVariants.{Build, File, Write}
 
@@ -105,14 +108,16 @@ module _ {D : Type 0} (disk : disks.Ghosts D) (pair : pairs.Ghosts D) {H : Type 
   -- what was put is what was built
   pub has_put : (placed now_placed : Option (List Placed)) (Is : Built → Type 0) (built : Built) → IsCompiled disk pair h may_give options text built
       → (so_far : Option (List Placed)) → Makes placed so_far (IsOwn options.folder.now)
-      → (program : List ℕ) → program ≡ built.program.items → Places so_far now_placed (linked_path options.folder.now) program
+      → (program : List ℕ) → program ≡ built.program.items → PlacesBoth options (bundle_of built) so_far now_placed program
       → Is built → HasPut disk pair h may_give options text placed now_placed Is
   has_put placed now_placed Is built compiled so_far made program same put so = record {
     built = built;
     compiled = compiled;
     so_far = so_far;
     made = made;
-    put = subst (λ p. Places so_far now_placed (linked_path options.folder.now) p) same put;
+    put = subst (λ p. PlacesBoth options (bundle_of built) so_far now_placed p) same put;
+    carried = carried_of text compiled.source compiled.is built.program.items (bundle_of built)
+        (carried compiled.source compiled.so.so.nodes built compiled.so.so.is);
     so = so;
   }
 
@@ -120,13 +125,25 @@ module _ {D : Type 0} (disk : disks.Ghosts D) (pair : pairs.Ghosts D) {H : Type 
     -- nothing was put and nothing printed
     pub not_compiled : (e : BuildingError) → IsUncompiled disk pair h may_give options text e → Leaves options.folder.now placed now_placed e → after ≡ before
         → IsNotBuilt disk pair h may_give options text placed now_placed e before after
-    not_compiled (Build f) un leaves same = record { why = inl un; files = leaves; printed = same }
-    not_compiled (File path) un leaves same = record { why = inl un; files = leaves; printed = same }
+    not_compiled (Build f) un leaves same = record { why = inl (record { why = un; files = leaves }); printed = same }
+    not_compiled (File path) un leaves same = record { why = inl (record { why = un; files = leaves }); printed = same }
     not_compiled Write un leaves same = absurd un
 
-    pub not_placed : (built : Built) → IsCompiled disk pair h may_give options text built → (e : BuildingError)
-        → IsRefusedAt (linked_path options.folder.now) e → Leaves options.folder.now placed now_placed e → after ≡ before
+    -- the output is not refused before it is written to
+    never_write : (path : Option (List ℕ)) → IsUnbundled path Write → ⊥
+    never_write None is = is
+    never_write (Some path) is = is
+
+    write_last : (bundle : Option (List ℕ)) (so_far : Option (List Placed)) → PutsNoProgram options bundle so_far now_placed Write → ⊥
+    write_last bundle so_far (inl none) = never_write (bundle_path options) none.refused
+    write_last bundle so_far (inr alone) = alone.refused
+
+    pub not_placed : (built : Built) → IsCompiled disk pair h may_give options text built
+        → (so_far : Option (List Placed)) → Makes placed so_far (IsOwn options.folder.now) → (e : BuildingError)
+        → PutsNoProgram options (bundle_of built) so_far now_placed e → after ≡ before
         → IsNotBuilt disk pair h may_give options text placed now_placed e before after
-    not_placed built compiled (Build f) un leaves same = record { why = inr (built, compiled, un); files = leaves; printed = same }
-    not_placed built compiled (File path) un leaves same = record { why = inr (built, compiled, un); files = leaves; printed = same }
-    not_placed built compiled Write un leaves same = absurd un
+    not_placed built compiled so_far made (Build f) stopped same =
+        record { why = inr (record { built = built; compiled = compiled; so_far = so_far; made = made; stopped = stopped }); printed = same }
+    not_placed built compiled so_far made (File path) stopped same =
+        record { why = inr (record { built = built; compiled = compiled; so_far = so_far; made = made; stopped = stopped }); printed = same }
+    not_placed built compiled so_far made Write stopped same = absurd (write_last (bundle_of built) so_far stopped)

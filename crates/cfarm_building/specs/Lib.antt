@@ -1,8 +1,10 @@
 pub mod Answers
+pub mod Carried
 pub mod Compiled
 pub mod Disks
 pub mod Done
 pub mod Left
+pub mod Putting
 pub use Rattle.cfarm_build.specs.BuildError
 pub use Rattle.cfarm_build.specs.Numbers
 pub use Rattle.cfarm_build.specs.Quorum

@@ -7,7 +7,7 @@ ghost use Rattle.cfarm_building.specs.Done.{HasBuilt, IsNotBuilt};
 
 use crate::compiling::compiled;
 use crate::error::BuildingError;
-use crate::placing::place;
+use crate::placing::place_both;
 use cfarm_build::{BuildError, Built, Quorums};
 use cfarm_files::Files;
 use cfarm_meter::Meter;
@@ -31,8 +31,8 @@ fn line_of(report: String) -> Result<String, AllocError>
 }
 
 /// Builds a C text in the folder by a farm with the quorums that are asked for. The folder's lock is held from the text's acceptance on to
-/// the end: the linked program is put in its file, and then the report is printed on one line and flushed. What
-/// is shown while the farm runs is taken away before.
+/// the end: the bundle is put in its file, where one is asked for, then the linked program in its own, and then the report is printed on one
+/// line and flushed. What is shown while the farm runs is taken away before.
 pub fn build_text<H: Naming + Send, R: Threads + Wait + Sync, F: Files, M: Meter, W: Write>(
     rt: &R,
     alloc: Global,
@@ -46,11 +46,13 @@ pub fn build_text<H: Naming + Send, R: Threads + Wait + Sync, F: Files, M: Meter
 ) -> Result<(), BuildingError>
     requires { quorums ≡ quorums_of options }
 
-    // Exactly one file is put, and its bytes are the text of a program that keeps the meaning of the C program. The report is printed.
+    // The last file that is put holds the text of a program that keeps the meaning of the C program. Where a bundle is asked for it is put
+    // before, and nothing else is: `verify` says yes of the text and these two. The report is printed.
     ensures built { OnOk result (HasBuilt F.Disk.Disk F.Disk.Pair.own H.Naming (F.may_give files.old) options.entry text.now
         (F.placed files.old) (F.placed files.new) (W.contents out.old) (W.contents out.new)) }
 
-    // What is refused puts nothing and prints nothing, and a refused text makes no file. The output is the last that can be refused.
+    // What is refused puts no program and prints nothing, and a refused text makes no file. Only where the program's file is refused was the
+    // bundle put. The output is the last that can be refused.
     ensures refused { IfErr result (λ fault. IsNotBuilt F.Disk.Disk F.Disk.Pair.own H.Naming (F.may_give files.old) options.entry
         text.now (F.placed files.old) (F.placed files.new) fault (W.contents out.old) (W.contents out.new)) }
 {
@@ -58,11 +60,15 @@ pub fn build_text<H: Naming + Send, R: Threads + Wait + Sync, F: Files, M: Meter
         Ok(made) => made,
         Err(fault) => return Err(fault),
     };
-    let Built { program, report } = built;
+    let Built {
+        program,
+        bundle,
+        report,
+    } = built;
     let Ok(line) = line_of(report) else {
         return Err(BuildingError::Build(BuildError::NoMemory));
     };
-    match place(alloc, options.folder, files, &lock, &program) {
+    match place_both(alloc, options, files, &lock, &program, &bundle) {
         Ok(()) => {}
         Err(fault) => return Err(fault),
     }

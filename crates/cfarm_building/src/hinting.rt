@@ -2,11 +2,10 @@
 
 ghost use Rattle.std.specs.Prelude.{◌≡◌, [], false, string_bytes};
 
-use crate::differing::difference_of;
 use crate::error::BuildingError;
 use cfarm_build::{BuildError, LogError, OpenFault, SourceFault};
 use cfarm_files::Files;
-use cfarm_hints::explained;
+use cfarm_hints::{difference_of, explained};
 use cfarm_options::BuildOptions;
 use cfarm_runs::TextError;
 use std::alloc::{AllocError, Global};

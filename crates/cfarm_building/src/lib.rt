@@ -6,7 +6,6 @@
 mod asking;
 mod building;
 mod compiling;
-mod differing;
 mod error;
 mod hinting;
 mod locking;

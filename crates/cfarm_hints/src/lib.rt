@@ -1,7 +1,9 @@
 //! What a user is shown beside the line of a command over a text or a program: nothing where standard error is no terminal. A refused text is
-//! explained, and where a bound was reached the option that raises it is told.
+//! explained, where a bound was reached the option that raises it is told, and of a journal of another build in what it is another.
 #![tactic(auto)]
 
+mod differing;
 mod hints;
 
+pub use differing::difference_of;
 pub use hints::{explained, is_amid, of_depth, of_limit, of_text};

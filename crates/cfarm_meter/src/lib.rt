@@ -1,5 +1,9 @@
-//! Where a user sees how far a build is.
+//! Where a user sees how far a build is, and what it did not use.
 #![tactic(auto)]
+
+mod ignored;
+
+pub use ignored::Ignored;
 
 /// Where a user sees how far a build is, while it runs. Nothing that is built depends on it.
 pub trait Meter {
@@ -14,4 +18,8 @@ pub trait Meter {
 
     /// Takes away what was shown, before anything else is written.
     fn clear(&mut self);
+
+    /// This file of an offer was not used. It is told at the end of a build, behind `clear`, for each such file. Nothing is shown where
+    /// that is not said.
+    fn ignored(&mut self, _told: Ignored<'_>) {}
 }

@@ -14,3 +14,8 @@ old_journal_path folder node = path_join folder (codes "node" ++ (decimal node +
 -- the linked program
 abbrev pub linked_path : List ℕ → List ℕ
 linked_path folder = path_join folder (codes "linked.cfp")
+
+-- in a folder of offers that were made outside, that of a pass for a node and for the function of this name
+abbrev pub offer_path : List ℕ → ℕ → List ℕ → ℕ → List ℕ
+offer_path folder node name pass =
+    path_join folder (codes "node" ++ (decimal node ++ (codes "/" ++ (name ++ (codes ".pass" ++ decimal pass)))))

@@ -5,4 +5,4 @@ mod options;
 mod paths;
 
 pub use options::{AskedSizes, BuildOptions, Nodes, Optimise};
-pub use paths::{journal_path, linked_path, old_journal_path};
+pub use paths::{journal_path, linked_path, offer_path, old_journal_path};

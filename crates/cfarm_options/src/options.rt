@@ -79,6 +79,10 @@ pub struct BuildOptions<'a> {
     pub optimise: Optimise,
     /// The folder of the journals and of the linked program, which is not made.
     pub folder: &'a str,
+    /// The file of the bundle of the linked offers, as it is given, where one is to be written.
+    pub bundle: Option<&'a str>,
+    /// The folder of offers that were made outside, where the nodes are given some.
+    pub offers: Option<&'a str>,
 }
 
 /// The size that is asked for, else more than half of the nodes.

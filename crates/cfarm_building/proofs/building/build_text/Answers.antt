@@ -2,9 +2,7 @@ use Rattle.std.proofs.Common.{refl, subst, ◌∙◌}
 use Rattle.std.specs.Io.KnownBytes.{Appends}
 use Rattle.cfarm_output.specs.Begun.{IsBegun}
 use Rattle.cfarm_building.specs.Done.{report_line}
-use Rattle.cfarm_building.proofs.Making.{left_at, makes_keeps}
 use Rattle.cfarm_building.proofs.Refusing.{has_put, not_compiled, not_placed}
-use Rattle.cfarm_building.specs.Disks.{IsOwn}
 use Rattle.cfarm_building.proofs.building.build_text.Goals as goal
 
 -- the farm builds nothing
@@ -13,13 +11,13 @@ returns-in-Err-clause-refused g c =
     not_compiled g.F.Disk.Disk g.F.Disk.Pair g.H.Naming (g.F.Files.may_give c.args.files.now) c.args.options c.args.text.now _ _ _ _
     c.in-Err.fault c.in-Err.ensures.refused c.in-Err.ensures.left refl
 
--- the file of the program is refused
-pub returns-in-Err-place-clause-refused : goal.returns-in-Err-place-clause-refused
-returns-in-Err-place-clause-refused g c =
-    not_placed g.F.Disk.Disk g.F.Disk.Pair g.H.Naming (g.F.Files.may_give c.args.files.now) c.args.options c.args.text.now _ _ _ _
-    c.in-Ok.made.0 c.in-Ok.ensures.built c.in-Err-place.fault c.in-Err-place.ensures.refused
-    (left_at c.args.options.folder.now _ _ _ c.in-Err-place.fault c.in-Err-place.ensures.refused
-    (makes_keeps (IsOwn c.args.options.folder.now) _ _ _ c.in-Ok.ensures.made c.in-Err-place.ensures.kept)) refl
+-- the file of the bundle is refused, or that of the program
+pub returns-in-Err-place_both-clause-refused : goal.returns-in-Err-place_both-clause-refused
+returns-in-Err-place_both-clause-refused g c =
+    not_placed g.F.Disk.Disk g.F.Disk.Pair g.H.Naming (g.F.Files.may_give c.args.files.now) c.args.options c.args.text.now
+    (g.F.Files.placed c.args.files.now) (g.F.Files.placed c.place_both.new.files) _ _
+    c.in-Ok.made.0 c.in-Ok.ensures.built (g.F.Files.placed c.compiled.new.files) c.in-Ok.ensures.made
+    c.in-Err-place_both.fault c.in-Err-place_both.ensures.refused refl
 
 -- the report is printed
 pub returns-in-Ok-print_whole-clause-built : goal.returns-in-Ok-print_whole-clause-built
@@ -27,8 +25,8 @@ returns-in-Ok-print_whole-clause-built g c =
     let before = g.W.Write.contents c.args.out.now in
     let after = g.W.Write.contents c.print_whole.new.out in
     has_put g.F.Disk.Disk g.F.Disk.Pair g.H.Naming (g.F.Files.may_give c.args.files.now) c.args.options c.args.text.now
-    (g.F.Files.placed c.args.files.now) (g.F.Files.placed c.place.new.files) (λ built. Appends before after (report_line built))
-    c.in-Ok.made.0 c.in-Ok.ensures.built (g.F.Files.placed c.compiled.new.files) c.in-Ok.ensures.made c.deref.result.now c.deref.ensures.value c.in-Ok-place.ensures.put
+    (g.F.Files.placed c.args.files.now) (g.F.Files.placed c.place_both.new.files) (λ built. Appends before after (report_line built))
+    c.in-Ok.made.0 c.in-Ok.ensures.built (g.F.Files.placed c.compiled.new.files) c.in-Ok.ensures.made c.deref.result.now c.deref.ensures.value c.in-Ok-place_both.ensures.put
     (subst (λ bytes. Appends before after bytes) (c.as_bytes.ensures.value ∙ c.in-Ok-line_of.ensures) c.in-Ok-print_whole.ensures.printed)
 
 -- a beginning of it is
@@ -37,8 +35,6 @@ returns-clause-refused g c =
     let before = g.W.Write.contents c.args.out.now in
     let after = g.W.Write.contents c.print_whole.new.out in
     has_put g.F.Disk.Disk g.F.Disk.Pair g.H.Naming (g.F.Files.may_give c.args.files.now) c.args.options c.args.text.now
-    (g.F.Files.placed c.args.files.now) (g.F.Files.placed c.place.new.files) (λ built. IsBegun (report_line built) before after)
-    c.in-Ok.made.0 c.in-Ok.ensures.built (g.F.Files.placed c.compiled.new.files) c.in-Ok.ensures.made c.deref.result.now c.deref.ensures.value c.in-Ok-place.ensures.put
+    (g.F.Files.placed c.args.files.now) (g.F.Files.placed c.place_both.new.files) (λ built. IsBegun (report_line built) before after)
+    c.in-Ok.made.0 c.in-Ok.ensures.built (g.F.Files.placed c.compiled.new.files) c.in-Ok.ensures.made c.deref.result.now c.deref.ensures.value c.in-Ok-place_both.ensures.put
     (subst (λ bytes. IsBegun bytes before after) (c.as_bytes.ensures.value ∙ c.in-Ok-line_of.ensures) c.in-Err-print_whole.ensures.begun)
-
--- there is no memory for the line

@@ -24,16 +24,16 @@ returns-in-Err-open_disks-clause-refused g c =
     (ready _ _ made.accepted made.translated made.keeps made.names made.count made.digest) c.in-Err-open_disks.fault
     (refused_before _ _ c.in-Ok-locked.ensures.others c.args.options.folder.now (count_of c.args.options.nodes) c.in-Err-open_disks.fault c.in-Err-open_disks.ensures.refused)
 
-pub build-requires-clause-size : goal.build-requires-clause-size
-build-requires-clause-size g c κs within =
+pub build_bundled-requires-clause-size : goal.build_bundled-requires-clause-size
+build_bundled-requires-clause-size g c κs within =
     c.in-Ok-open_disks.ensures.given.count_is ∙ sym (ap (λ (q : Sizes). q.nodes) c.requires)
 
-pub build-requires-clause-oracles : goal.build-requires-clause-oracles
-build-requires-clause-oracles g c κs within =
-    omega (arith, c.in-Ok-optimisers_of.ensures, c.from.ensures, c.nodes-nodes.ensures.value, ap (λ (q : Sizes). q.nodes) c.requires, c.in-Ok-open_disks.ensures.given.count_is)
+pub build_bundled-requires-clause-oracles : goal.build_bundled-requires-clause-oracles
+build_bundled-requires-clause-oracles g c κs within =
+    omega (arith, c.in-Ok-outside_of.ensures, c.in-Ok-optimisers_of.ensures, c.from.ensures, c.nodes-nodes.ensures.value, ap (λ (q : Sizes). q.nodes) c.requires, c.in-Ok-open_disks.ensures.given.count_is)
 
-pub returns-in-Ok-build-clause-built : goal.returns-in-Ok-build-clause-built
-returns-in-Ok-build-clause-built g c =
+pub returns-in-Ok-build_bundled-clause-built : goal.returns-in-Ok-build_bundled-clause-built
+returns-in-Ok-build_bundled-clause-built g c =
     let made = c.in-Ok.ensures in
     let disks = c.in-Ok-open_disks.disks.items in
     record {
@@ -42,19 +42,19 @@ returns-in-Ok-build-clause-built g c =
       so = record {
         given = disks;
         are = given_before _ _ c.in-Ok-locked.ensures.others c.args.options.folder.now (count_of c.args.options.nodes) disks c.in-Ok-open_disks.ensures.given;
-        so = subst (λ (q : Sizes). IsBuilt g.F.Disk.Disk g.F.Disk.Pair g.H.Naming q c.args.options.seed c.in-Ok.source disks c.in-Ok-build.built) c.requires c.in-Ok-build.ensures.built;
+        so = subst (λ (q : Sizes). IsBuilt g.F.Disk.Disk g.F.Disk.Pair g.H.Naming q c.args.options.seed c.in-Ok.source disks c.in-Ok-build_bundled.built) c.requires c.in-Ok-build_bundled.ensures.built;
       };
     }
 
-pub returns-in-Err-build-clause-refused : goal.returns-in-Err-build-clause-refused
-returns-in-Err-build-clause-refused g c =
+pub returns-in-Err-build_bundled-clause-refused : goal.returns-in-Err-build_bundled-clause-refused
+returns-in-Err-build_bundled-clause-refused g c =
     let made = c.in-Ok.ensures in
     not_built g.F.Disk.Disk g.F.Disk.Pair g.H.Naming (g.F.Files.may_give c.args.files.now) c.args.options c.args.text.now c.in-Ok.source
     (ready _ _ made.accepted made.translated made.keeps made.names made.count made.digest)
     c.in-Ok-open_disks.disks.items
     (given_before _ _ c.in-Ok-locked.ensures.others c.args.options.folder.now (count_of c.args.options.nodes) c.in-Ok-open_disks.disks.items c.in-Ok-open_disks.ensures.given)
-    c.in-Err-build.fault
-    (subst (λ (q : Sizes). IsUnbuilt g.F.Disk.Disk g.F.Disk.Pair g.H.Naming q c.args.options.seed c.in-Ok.source c.in-Ok-open_disks.disks.items c.in-Err-build.fault) c.requires c.in-Err-build.ensures.refused)
+    c.in-Err-build_bundled.fault
+    (subst (λ (q : Sizes). IsUnbuilt g.F.Disk.Disk g.F.Disk.Pair g.H.Naming q c.args.options.seed c.in-Ok.source c.in-Ok-open_disks.disks.items c.in-Err-build_bundled.fault) c.requires c.in-Err-build_bundled.ensures.refused)
 
 -- A refused text makes nothing; behind it the lock's file and journals may have been made.
 pub returns-in-Err-clause-left : goal.returns-in-Err-clause-left
@@ -68,12 +68,18 @@ pub returns-in-Err-open_disks-clause-left : goal.returns-in-Err-open_disks-claus
 returns-in-Err-open_disks-clause-left g c = left_either c.args.options.folder.now _ _ _ _ c.in-Err-open_disks.fault c.in-Err-open_disks.ensures.refused.refused
     (of_both c.args.options.folder.now _ _ _ c.in-Ok-locked.ensures.made c.in-Err-open_disks.ensures.made)
 
-pub returns-in-Ok-build-clause-made : goal.returns-in-Ok-build-clause-made
-returns-in-Ok-build-clause-made g c = of_both c.args.options.folder.now _ _ _ c.in-Ok-locked.ensures.made c.in-Ok-open_disks.ensures.made
+pub returns-in-Ok-build_bundled-clause-made : goal.returns-in-Ok-build_bundled-clause-made
+returns-in-Ok-build_bundled-clause-made g c = of_both c.args.options.folder.now _ _ _ c.in-Ok-locked.ensures.made c.in-Ok-open_disks.ensures.made
 
-pub returns-in-Err-build-clause-left : goal.returns-in-Err-build-clause-left
-returns-in-Err-build-clause-left g c = left_built c.args.options.folder.now _ _ _ _ _ _ _ _ _ c.in-Err-build.fault c.in-Err-build.ensures.refused
+pub returns-in-Err-build_bundled-clause-left : goal.returns-in-Err-build_bundled-clause-left
+returns-in-Err-build_bundled-clause-left g c = left_built c.args.options.folder.now _ _ _ _ _ _ _ _ _ c.in-Err-build_bundled.fault c.in-Err-build_bundled.ensures.refused
     (of_both c.args.options.folder.now _ _ _ c.in-Ok-locked.ensures.made c.in-Ok-open_disks.ensures.made)
 
 pub returns-in_default-clause-left : goal.returns-in_default-clause-left
 returns-in_default-clause-left g c = of_both c.args.options.folder.now _ _ _ c.in-Ok-locked.ensures.made c.in-Ok-open_disks.ensures.made
+
+pub returns-in-Err-given_in-clause-left : goal.returns-in-Err-given_in-clause-left
+returns-in-Err-given_in-clause-left g c = of_lock c.args.options.folder.now _ _ c.in-Ok-locked.ensures.made
+
+pub returns-in_default-outside_of-clause-left : goal.returns-in_default-outside_of-clause-left
+returns-in_default-outside_of-clause-left g c = of_both c.args.options.folder.now _ _ _ c.in-Ok-locked.ensures.made c.in-Ok-open_disks.ensures.made

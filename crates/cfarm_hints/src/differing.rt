@@ -84,7 +84,7 @@ fn difference_at<F: Files>(
 }
 
 /// In what the journal of the node of this number is that of another build than of this text; nothing where that is not known.
-pub(crate) fn difference_of<F: Files>(
+pub fn difference_of<F: Files>(
     alloc: Global,
     options: BuildOptions<'_>,
     text: &[u8],
