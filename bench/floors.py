@@ -47,7 +47,7 @@ FLOORS = [
     ("Offers, chains of them, and the linked program", "offers offers_choice parallel_validate linker chains bundle_form bundle_offers"),
     ("Agreement: the protocol, rooms on shared words",
      "paxos_core_world paxos_core_invariant paxos_core_model paxos_core_law paxos_core_late_offers paxos_core_crash paxos_core "
-     "rooms_rule rooms_table rooms_steps rooms_state rooms_rights rooms_met rooms_seat rooms_cells rooms_hall rooms rooms_function rooms_numbered"),
+     "rooms_rule rooms_table rooms_steps rooms_state rooms_rights rooms_met rooms_crash rooms_seat rooms_cells rooms_hall rooms rooms_function rooms_numbered"),
     ("Journals", "durable_model_writes durable_model durable_pair durable_pair_turning durable_pair_memory durable_pair_held durable_pair_files acceptor_log_form acceptor_log_blocks acceptor_log acceptor_log_old_form "
      "acceptor_log_translating acceptor_log_migrating"),
     ("The farm",
@@ -56,10 +56,10 @@ FLOORS = [
      "farm_nodes_restart_records farm_nodes_restart farm_nodes_pairs farm_nodes_returning farm_nodes_disks farm_nodes_records "
      "farm_nodes_stored farm_nodes_lists farm_nodes_opening farm_nodes_functions farm_nodes_joining "
      "farm_nodes_seated farm_nodes_opened farm_nodes_rounds farm_nodes_workers farm_nodes_threads farm_nodes_source "
-     "farm_nodes_compiling farm_nodes_linked farm_nodes"),
+     "farm_nodes_compiling farm_nodes_linked farm_nodes_bundled farm_nodes_crash farm_nodes"),
     ("The program",
-     "cfarm_files cfarm_options cfarm_explaining cfarm_output cfarm_log_lines cfarm_log text_offers program_texts cfarm_runs cfarm_hints cfarm_meter cfarm_report cfarm_build_faults cfarm_build_linking cfarm_build cfarm_building cfarm_settle_nodes cfarm_commands cfarm_emitted cfarm_emit cfarm_verify cfarm_judge cfarm_schedules_lines "
-     "cfarm_schedules cfarm_drawing_parts cfarm_drawing cfarm_words_parts cfarm_words cfarm_telling cfarm_looking cfarm_program cfarm"),
+     "cfarm_files cfarm_options cfarm_explaining cfarm_output cfarm_log_lines cfarm_log cfarm_fsck_lines cfarm_fsck_journals cfarm_fsck text_offers program_texts cfarm_runs cfarm_hints cfarm_meter cfarm_report cfarm_build_faults cfarm_build_linking cfarm_build cfarm_offered cfarm_building cfarm_settle_nodes cfarm_commands cfarm_emitted cfarm_emit cfarm_verify cfarm_judge cfarm_schedules_lines "
+     "cfarm_schedules cfarm_drawing_parts cfarm_drawing cfarm_words_parts cfarm_words cfarm_telling cfarm_looking cfarm_folder cfarm_program cfarm"),
     ("Tests",
      "program_rows paxos_reference worked_farm worked_commands worked_agreement worked_texts worked_forms worked_offers "
      "worked_rows worked_disk worked_journals worked_rooms worked_whole worked_hostile"),

@@ -5,7 +5,8 @@ _cfarm_options() {
     case $1 in
     check) echo "--format --help" ;;
     interpret) echo "--depth --help" ;;
-    build) echo "--nodes --promise --accept --turns --seed --optimise --dir --help" ;;
+    build) echo "--nodes --promise --accept --turns --seed --optimise --dir --bundle --offers --help" ;;
+    fsck) echo "--nodes --promise --accept --dir --help" ;;
     exec) echo "--limit --expect --help" ;;
     sim) echo "--svg --help" ;;
     verify) echo "--program --bundle --help" ;;
@@ -28,7 +29,7 @@ _cfarm_values() {
 
 _cfarm() {
     local word=${COMP_WORDS[COMP_CWORD]} before=${COMP_WORDS[COMP_CWORD - 1]}
-    local commands="check interpret build exec settle sim show log verify emit judge help"
+    local commands="check interpret build exec settle sim show log fsck verify emit judge help"
     local command=
     [ "$COMP_CWORD" -gt 1 ] && command=${COMP_WORDS[1]}
     COMPREPLY=()
@@ -44,7 +45,7 @@ _cfarm() {
     [ "$word" = "=" ] && word=
     [ "$before" = "=" ] && before=${COMP_WORDS[COMP_CWORD - 2]}
     case $before in
-    --dir) COMPREPLY=($(compgen -d -- "$word")) ;;
+    --dir | --offers) COMPREPLY=($(compgen -d -- "$word")) ;;
     --program | --bundle | --offer) COMPREPLY=($(compgen -f -- "$word")) ;;
     --depth | --limit | --expect | --promise | --accept | --turns | --seed | --function) ;;
     --format | --nodes | --optimise | --of) COMPREPLY=($(compgen -W "$(_cfarm_values "$before")" -- "$word")) ;;

@@ -1,6 +1,6 @@
 //! Where a user sees how far a build is.
 
-use cfarm_meter::Meter;
+use cfarm_meter::{Ignored, Meter};
 use std::io;
 use std::io::{IsTerminal, Write};
 use std::time::{Duration, Instant};
@@ -9,7 +9,8 @@ use std::time::{Duration, Instant};
 const SHOWN: u64 = 100;
 
 /// A line on standard error that is written again and again, ten times a second at most, where that is a terminal; else nothing is
-/// written. Above it stands a line that stays where journals were migrated. The terminal cuts each where it ends. A line that cannot be written is left out.
+/// written but the lines of files that were not used. Above it stands a line that stays where journals were migrated. The terminal cuts each where it
+/// ends. A line that cannot be written is left out.
 #[derive(Drop)]
 pub struct Screen<'a> {
     rt: &'a HostRuntime,
@@ -87,5 +88,13 @@ impl Meter for Screen<'_> {
             let _ = write!(line, "\r\x1b[K");
             let _ = line.flush();
         }
+    }
+
+    /// It is told where standard error is no terminal too.
+    fn ignored(&mut self, told: Ignored<'_>) {
+        let standard_error = self.rt.stderr();
+        let mut line = io::writer(&standard_error);
+        let _ = write!(line, "{told}\n");
+        let _ = line.flush();
     }
 }

@@ -1,11 +1,12 @@
--- Whether the quorums meet that a task asks for. A build alone asks for any.
+-- Whether the quorums meet that a task asks for. A build and `fsck` alone ask for any.
 use Rattle.std.specs.Prelude.{◌≡◌}
 use Rattle.cfarm_building.specs.Compiled.{quorums_of}
 use Rattle.cfarm_building.specs.Quorum.{AreQuorums}
+use Rattle.cfarm_folder.specs.Asked.{asked_quorums}
 use Rattle.cfarm_options.specs.Sizes.{sizes_of}
 use Rattle.cfarm_options.specs.declared.options.AskedSizes.{AskedSizes}
 use Rattle.cfarm_words_parts.specs.declared.task.Task.{Task}
-use Rattle.cfarm_words_parts.specs.declared.task.Task.TheVariants.{Check, Interpret, Build, Exec, Settle, Simulate, Show, List, Verify, Emit, Judge}
+use Rattle.cfarm_words_parts.specs.declared.task.Task.TheVariants.{Check, Interpret, Build, Exec, Settle, Simulate, Show, List, Verify, Emit, Judge, Fsck}
 
 abbrev pub AreMet : Task → Type 0
 AreMet (Check format) = Unit {0}
@@ -19,6 +20,7 @@ AreMet List = Unit {0}
 AreMet (Verify paths) = Unit {0}
 AreMet (Emit emitted seed) = Unit {0}
 AreMet (Judge offer) = Unit {0}
+AreMet (Fsck options) = AreQuorums (asked_quorums options.sizes)
 
 -- it asks for these sizes, with which they need not
 abbrev pub IsUnmet : Task → AskedSizes → Type 0
@@ -33,3 +35,4 @@ IsUnmet List sizes = ⊥
 IsUnmet (Verify paths) sizes = ⊥
 IsUnmet (Emit emitted seed) sizes = ⊥
 IsUnmet (Judge offer) sizes = ⊥
+IsUnmet (Fsck options) sizes = (¬ AreQuorums (asked_quorums options.sizes)) × (sizes ≡ options.sizes)

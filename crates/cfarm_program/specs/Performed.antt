@@ -11,7 +11,7 @@ use Rattle.cfarm_options.specs.Sizes.{sizes_line}
 use Rattle.cfarm_options.specs.declared.options.AskedSizes.{AskedSizes}
 use Rattle.cfarm_words_parts.specs.declared.task.Format.TheVariants.{Plain, Gcc}
 use Rattle.cfarm_words_parts.specs.declared.task.Task.{Task}
-use Rattle.cfarm_words_parts.specs.declared.task.Task.TheVariants.{Check, Interpret, Build, Exec, Settle, Simulate, Show, Verify, Emit, Judge}
+use Rattle.cfarm_words_parts.specs.declared.task.Task.TheVariants.{Check, Interpret, Build, Exec, Settle, Simulate, Show, Verify, Emit, Judge, Fsck}
 use Rattle.cfarm_words_parts.specs.declared.task.Task.TheVariants as task
 use Rattle.cfarm_telling.specs.Reading.{unread}
 use Rattle.cfarm_telling.specs.Telling.{Answer, IsExplained, IsTold, told}
@@ -20,6 +20,8 @@ use Rattle.cfarm_looking.specs.Listing.{Listed}
 use Rattle.cfarm_looking.specs.Verifying.{Verified}
 use Rattle.cfarm_looking.specs.Emitting.{Formed}
 use Rattle.cfarm_looking.specs.Judging.{Judged}
+use Rattle.cfarm_folder.specs.Asked.{asked_quorums}
+use Rattle.cfarm_folder.specs.Looking.{Looked}
 use Rattle.cfarm_program.specs.Met.{AreMet, IsUnmet}
 use Rattle.cfarm_program.specs.Outcomes.{Builds, Checked, Executed, Interpreted, Settled, Simulated}
 
@@ -41,12 +43,14 @@ is_explained is_seen task.List = is_seen
 is_explained is_seen (Verify paths) = is_seen
 is_explained is_seen (Emit emitted seed) = is_seen
 is_explained is_seen (Judge offer) = is_seen
+is_explained is_seen (Fsck options) = is_seen
 
--- What is said of a run: over these disks and rooms, with the disks that may be given for each path, what each file is known to be read as,
--- and what was put before and now.
+-- What is said of a run: over these disks and rooms, with the disks that may be given for each path, what each file is known to be read as
+-- before and now, and what was put before and now.
 module _ {D : Type 0} (disk : disks.Ghosts D) (pair : pairs.Ghosts D) {H : Type 0} (h : naming.Ghosts H) (may_give : List ℕ → List ℕ → D → Type 0)
-    (known : List ℕ → Option (Result (List ℕ) FileFault)) (placed now_placed : Option (List Placed)) (is_seen : Bool) where
-  -- a task on the bytes of its file, with what it wrote and answers; a build alone puts a file
+    (known now_known : List ℕ → Option (Result (List ℕ) FileFault)) (placed now_placed : Option (List Placed)) (is_seen : Bool) where
+  -- a task on the bytes of its file, with what it wrote and answers; a build alone puts a file, and `fsck`
+  -- makes that of its folder's lock, behind which it reads
   abbrev pub Comes : Task → (path bytes : List ℕ) → Answer → Option (List ℕ) → Option (List ℕ) → Type 0
   Comes (Check format) path bytes answer before after = Keeps placed now_placed × Checked format path bytes answer before after
   Comes (Interpret depth) path bytes answer before after = Keeps placed now_placed × Interpreted bytes depth answer before after
@@ -61,6 +65,8 @@ module _ {D : Type 0} (disk : disks.Ghosts D) (pair : pairs.Ghosts D) {H : Type 
   Comes (Emit emitted seed) path bytes answer before after = Keeps placed now_placed × Formed bytes emitted seed answer before after
   Comes (Judge offer) path bytes answer before after =
       Keeps placed now_placed × Judged known offer.function.now offer.path.now bytes answer before after
+  Comes (Fsck options) path bytes answer before after =
+      Looked now_known placed now_placed options.folder.now (asked_quorums options.sizes) bytes answer before after
 
   -- a task that was done: its status, and what both writers held and hold
   abbrev pub Performs : Task → (path bytes : List ℕ) → ℕ → (before after : Option (List ℕ)) (error_before error_after : ErrorsHeld) → Type 0
@@ -78,7 +84,7 @@ module _ {D : Type 0} (disk : disks.Ghosts D) (pair : pairs.Ghosts D) {H : Type 
   Reads task path status before after error_before error_after =
       (read : Result (List ℕ) FileFault) × IsKnownAs (known path) read × DoesRead task path read status before after error_before error_after
 
-  -- a build whose quorums need not meet: their sizes are told, no file is read or put, and nothing printed
+  -- a task whose quorums need not meet: their sizes are told, no file is read or put, and nothing printed
   abbrev pub Declines : Task → ℕ → (before after : Option (List ℕ)) (error_before error_after : ErrorsHeld) → Type 0
   Declines task status before after error_before error_after =
       (sizes : AskedSizes) × IsUnmet task sizes × Keeps placed now_placed × (after ≡ before) × IsTold (unmet sizes) status error_before error_after

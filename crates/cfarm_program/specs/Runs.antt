@@ -42,15 +42,15 @@ pub record DoesRefused (choices : Choices) (words : List (List ℕ)) (status : �
 module _ {D : Type 0} (disk : disks.Ghosts D) (pair : pairs.Ghosts D) {H : Type 0} (h : naming.Ghosts H) (may_give : List ℕ → List ℕ → D → Type 0)
     (placed now_placed : Option (List Placed)) (is_seen : Bool) (choices : Choices) where
   -- The words, at which nothing is wrong, ask for a task on a file, which is read and done.
-  abbrev pub DoesAsked : List (List ℕ) → (List ℕ → Option (Result (List ℕ) FileFault)) → ℕ → (before after : Option (List ℕ)) (error_before error_after : ErrorsHeld) → Type 0
-  DoesAsked words known status before after error_before error_after =
+  abbrev pub DoesAsked : List (List ℕ) → (known now_known : List ℕ → Option (Result (List ℕ) FileFault)) → ℕ → (before after : Option (List ℕ)) (error_before error_after : ErrorsHeld) → Type 0
+  DoesAsked words known now_known status before after error_before error_after =
       (task : Task) × (path : List ℕ) × Asks choices words task path × (fault_of (farm choices) words ≡ [])
-      × Does disk pair h may_give known placed now_placed is_seen task path status before after error_before error_after
+      × Does disk pair h may_give known now_known placed now_placed is_seen task path status before after error_before error_after
 
   -- What the program does: what its words ask for, or that they are refused, and then no file is put. Words at which nothing is wrong
   -- and that ask for nothing, of which `clap` leaves none, are answered by 2 alone.
-  abbrev pub Runs : List (List ℕ) → (List ℕ → Option (Result (List ℕ) FileFault)) → ℕ → (before after : Option (List ℕ)) (error_before error_after : ErrorsHeld) → Type 0
-  Runs words known status before after error_before error_after =
-      DoesAsked words known status before after error_before error_after
+  abbrev pub Runs : List (List ℕ) → (known now_known : List ℕ → Option (Result (List ℕ) FileFault)) → ℕ → (before after : Option (List ℕ)) (error_before error_after : ErrorsHeld) → Type 0
+  Runs words known now_known status before after error_before error_after =
+      DoesAsked words known now_known status before after error_before error_after
       ⊎ (Keeps placed now_placed × DoesRefused choices words status before after error_before error_after)
       ⊎ (Keeps placed now_placed × AsksNothing choices words × (status ≡ 2) × (after ≡ before) × (error_after ≡ error_before))

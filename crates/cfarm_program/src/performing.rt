@@ -3,6 +3,8 @@
 ghost use Rattle.std.specs.Prelude.{◌≤◌};
 ghost use Rattle.cfarm_building.specs.Compiled.{quorums_of};
 ghost use Rattle.cfarm_building.specs.Quorum.{AreQuorums};
+ghost use Rattle.cfarm_folder.specs.Asked.{asked_quorums};
+ghost use Rattle.cfarm_folder.specs.Looking.{Looked};
 ghost use Rattle.cfarm_program.specs.Met.{AreMet};
 ghost use Rattle.cfarm_telling.specs.Telling.{Answer, IsExplained, IsTold};
 ghost use Rattle.cfarm_program.specs.Outcomes.{Builds, Checked, Executed, Interpreted, Settled, checked_fault, text_fault};
@@ -13,6 +15,7 @@ use crate::simulating::play;
 use cfarm_building::{build_text, of_build, quorums_of};
 use cfarm_commands::settle;
 use cfarm_files::Files;
+use cfarm_folder::{asked_quorums, look_through};
 use cfarm_hints::{is_amid, of_depth, of_limit, of_text};
 use cfarm_looking::{emit_form, judge_offer, list_records, show_text, verify_files};
 use cfarm_meter::Meter;
@@ -22,7 +25,7 @@ use cfarm_runs::{
     Closing, CommandError, PlacedError, check_text, exec, interpret, status_of, status_where,
 };
 use cfarm_telling::{tell, tell_among};
-use cfarm_words::{Format, Task};
+use cfarm_words::{Format, FsckOptions, Task};
 use rooms_hall::{Hall, Naming};
 use std::alloc::Global;
 use std::io::Write;
@@ -198,6 +201,38 @@ fn build<H: Naming + Send, R: Threads + Wait + Sync, F: Files, M: Meter, W: Writ
     }
 }
 
+fn look<H: Naming, R: Threads + Wait + Sync, F: Files, W: Write, E: ErrorLines>(
+    rt: &R,
+    alloc: Global,
+    hall: &Hall<H>,
+    options: FsckOptions<'_>,
+    text: &[u8],
+    files: &mut F,
+    out: &mut Paced<W>,
+    err: &mut E,
+) -> u8
+    requires met { AreQuorums (asked_quorums options.sizes) }
+    ensures does { (answer : Answer) × Looked (F.known files.new) (F.placed files.old) (F.placed files.new) options.entry.folder.now
+        (asked_quorums options.entry.sizes) text.now answer (W.contents out.old.taker) (W.contents out.new.taker)
+        × IsTold answer result (E.contents err.old) (E.contents err.new) }
+    ensures table { result ≤ 7 }
+{
+    let Some(quorums) = asked_quorums(options.sizes) else {
+        unreachable!();
+    };
+    look_through(
+        rt,
+        alloc,
+        hall,
+        text,
+        quorums,
+        options.folder,
+        files,
+        out,
+        err,
+    )
+}
+
 /// Does the task on the bytes of its file: writes the output, tells a line on standard error where there is one, and
 /// gives the exit status. Where a user sees standard error the line is explained. `rt` starts the threads of the nodes that settle or build, and `hall` gives the rooms of a build their numbers.
 pub(crate) fn perform<
@@ -221,8 +256,8 @@ pub(crate) fn perform<
     err: &mut E,
 ) -> u8
     requires met { AreMet task }
-    ensures does { Performs F.Disk.Disk F.Disk.Pair.own H.Naming (F.may_give files.old) (F.known files.old) (F.placed files.old)
-        (F.placed files.new) is_seen task.entry path.now bytes.now result (W.contents out.old.taker) (W.contents out.new.taker) (E.contents err.old) (E.contents err.new) }
+    ensures does { Performs F.Disk.Disk F.Disk.Pair.own H.Naming (F.may_give files.old) (F.known files.old) (F.known files.new)
+        (F.placed files.old) (F.placed files.new) is_seen task.entry path.now bytes.now result (W.contents out.old.taker) (W.contents out.new.taker) (E.contents err.old) (E.contents err.new) }
     ensures table { result ≤ 7 }
 {
     match task {
@@ -256,5 +291,6 @@ pub(crate) fn perform<
             out,
             err,
         ),
+        Task::Fsck(options) => look(rt, alloc, hall, options, bytes, files, out, err),
     }
 }

@@ -64,8 +64,8 @@ fn tell_refused<W: Write, E: ErrorLines>(fault: &clap::Error, out: &mut Paced<W>
 }
 
 /// Does what the words of a command line ask for, the first of which is the program's name: says where the quorums of a build need not
-/// meet, and else reads the file, writes the output, tells a line on standard error where there is one, and gives the exit status. `rt` starts threads for `settle` and `build`,
-/// `hall` gives the rooms of a build their numbers, and `meter` shows how far it is. `is_seen` says that a user sees standard error, where a line is then
+/// meet, and else reads the file, writes the output, tells a line on standard error where there is one, and gives the exit status. `rt` starts threads for `settle`, `build`,
+/// `verify` and `fsck`, `hall` gives the rooms of a build their numbers, and `meter` shows how far it is. `is_seen` says that a user sees standard error, where a line is then
 /// explained; whether one sees the output, the output knows.
 pub fn run<H: Naming + Send, R: Threads + Wait + Sync, F: Files, M: Meter, W: Write, E: ErrorLines>(
     rt: &R,
@@ -79,8 +79,8 @@ pub fn run<H: Naming + Send, R: Threads + Wait + Sync, F: Files, M: Meter, W: Wr
     err: &mut E,
 ) -> u8
     ensures does { (choices : Choices) × AreChoices choices × Runs F.Disk.Disk F.Disk.Pair.own H.Naming (F.may_give files.old)
-        (F.placed files.old) (F.placed files.new) is_seen choices (map string_bytes words.now) (F.known files.old) result
-        (W.contents out.old.taker) (W.contents out.new.taker) (E.contents err.old) (E.contents err.new) }
+        (F.placed files.old) (F.placed files.new) is_seen choices (map string_bytes words.now) (F.known files.old)
+        (F.known files.new) result (W.contents out.old.taker) (W.contents out.new.taker) (E.contents err.old) (E.contents err.new) }
     ensures table { result ≤ 7 }
 {
     let choices = offered();

@@ -7,6 +7,7 @@ ghost use Rattle.cfarm_program.specs.Performed.{Does, Reads};
 use crate::performing::perform;
 use cfarm_building::quorums_of;
 use cfarm_files::Files;
+use cfarm_folder::asked_quorums;
 use cfarm_meter::Meter;
 use cfarm_options::AskedSizes;
 use cfarm_output::{ErrorLines, Paced};
@@ -30,6 +31,10 @@ fn unmet(task: Task<'_>) -> Option<AskedSizes>
         Task::Build(options) => match quorums_of(options) {
             Some(_quorums) => None,
             None => Some(options.sizes()),
+        },
+        Task::Fsck(options) => match asked_quorums(options.sizes) {
+            Some(_quorums) => None,
+            None => Some(options.sizes),
         },
         _ => None,
     }
@@ -57,8 +62,8 @@ fn read_and_perform<
     err: &mut E,
 ) -> u8
     requires met { AreMet task }
-    ensures does { Reads F.Disk.Disk F.Disk.Pair.own H.Naming (F.may_give files.old) (F.known files.old) (F.placed files.old)
-        (F.placed files.new) is_seen task.entry path.now result (W.contents out.old.taker) (W.contents out.new.taker)
+    ensures does { Reads F.Disk.Disk F.Disk.Pair.own H.Naming (F.may_give files.old) (F.known files.old) (F.known files.new)
+        (F.placed files.old) (F.placed files.new) is_seen task.entry path.now result (W.contents out.old.taker) (W.contents out.new.taker)
         (E.contents err.old) (E.contents err.new) }
     ensures table { result ≤ 7 }
 {
@@ -91,8 +96,8 @@ pub(crate) fn run_task<
     out: &mut Paced<W>,
     err: &mut E,
 ) -> u8
-    ensures does { Does F.Disk.Disk F.Disk.Pair.own H.Naming (F.may_give files.old) (F.known files.old) (F.placed files.old)
-        (F.placed files.new) is_seen task.entry path.now result (W.contents out.old.taker) (W.contents out.new.taker)
+    ensures does { Does F.Disk.Disk F.Disk.Pair.own H.Naming (F.may_give files.old) (F.known files.old) (F.known files.new)
+        (F.placed files.old) (F.placed files.new) is_seen task.entry path.now result (W.contents out.old.taker) (W.contents out.new.taker)
         (E.contents err.old) (E.contents err.new) }
     ensures table { result ≤ 7 }
 {

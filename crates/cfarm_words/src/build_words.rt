@@ -4,8 +4,8 @@ ghost use Rattle.std.specs.Prelude.{◌≡◌, Some, codes, IfOk, IfSome, IsNone
 ghost use Rattle.clap.specs.Words.{found_of, first_of, first_value, rows_of};
 ghost use Rattle.cfarm_options.specs.declared.options.BuildOptions.{BuildOptions};
 ghost use Rattle.cfarm_options.specs.declared.options.Optimise.{Optimise};
-ghost use Rattle.cfarm_words_parts.specs.Words.{AreOptions, IsArgument, IsCommand, Reads, build_app};
-ghost use Rattle.cfarm_words_parts.specs.Words.{optimise_rule, optimise_word, seed_rule, turns_rule};
+ghost use Rattle.cfarm_words_parts.specs.Words.{AreOptions, IsArgument, IsCommand, IsPath, Reads, build_app};
+ghost use Rattle.cfarm_words_parts.specs.Words.{optimise_rule, optimise_word, path_rule, seed_rule, turns_rule};
 
 use crate::size_words::{ACCEPT, FOLDER, PROMISE, accept, nodes, nodes_of, promise, size_of};
 use cfarm_options::{BuildOptions, Optimise};
@@ -22,6 +22,12 @@ const SEED: &str = "seed";
 
 /// The option that says how the optimisers choose.
 const OPTIMISE: &str = "optimise";
+
+/// The option with the file of the bundle.
+const BUNDLE: &str = "bundle";
+
+/// The option with the folder of offers that were made outside.
+const OFFERS: &str = "offers";
 
 /// The greatest bound of the turns of a node.
 const MOST_TURNS: u64 = 4_294_967_295;
@@ -62,6 +68,17 @@ fn optimise<'a>(alloc: Global, choices: Choices<'a>) -> Arg<'a>
         .default_value("drawn")
 }
 
+/// An option with a path, which is not empty.
+fn path<'a>(alloc: Global, name: &'a str, value: &'a str, help: &'a str) -> Arg<'a>
+    ensures { IsArgument (path_rule name.entry.now) result }
+{
+    Arg::new(alloc, name)
+        .long(name)
+        .value_name(value)
+        .help(help)
+        .value_parser(ValueParser::NonEmptyString)
+}
+
 /// The command, with these choices.
 pub(crate) fn build<'a>(alloc: Global, choices: Choices<'a>) -> Result<Command<'a>, AllocError>
     ensures { IfOk result (IsCommand (build_app choices.entry)) }
@@ -78,13 +95,31 @@ pub(crate) fn build<'a>(alloc: Global, choices: Choices<'a>) -> Result<Command<'
     let bounded = with_argument(accepted, turns(alloc));
     let seeded = with_argument(bounded, seed(alloc));
     let optimised = with_argument(seeded, optimise(alloc, choices));
-    with_argument(
+    let placed = with_argument(
         optimised,
         needed(
             alloc,
             FOLDER,
             "FOLDER",
             "The folder of the journals and the linked program; it has to be there",
+        ),
+    );
+    let bundled = with_argument(
+        placed,
+        path(
+            alloc,
+            BUNDLE,
+            "PATH",
+            "Also write the bundle of its offers there, for `verify`",
+        ),
+    );
+    with_argument(
+        bundled,
+        path(
+            alloc,
+            OFFERS,
+            "DIR",
+            "First offer what stands there: DIR/nodeI/NAME.passK",
         ),
     )
 }
@@ -120,6 +155,13 @@ fn seed_of(words: &ArgMatches<'_>) -> u64
     }
 }
 
+/// The path that this option says, if it says one.
+fn path_of<'a>(words: &ArgMatches<'a>, name: &str) -> Option<&'a str>
+    ensures { IsPath (rows_of (found_of words.now)) name.now result }
+{
+    words.get_str(name)
+}
+
 /// What was found of a build; none where there is no folder, no number of nodes that a farm can have or no known way to optimise, which
 /// `clap` refuses.
 pub(crate) fn options_of<'a>(words: &ArgMatches<'a>) -> Option<BuildOptions<'a>>
@@ -143,5 +185,7 @@ pub(crate) fn options_of<'a>(words: &ArgMatches<'a>) -> Option<BuildOptions<'a>>
         seed: seed_of(words),
         optimise,
         folder,
+        bundle: path_of(words, BUNDLE),
+        offers: path_of(words, OFFERS),
     })
 }

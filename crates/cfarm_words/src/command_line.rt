@@ -8,6 +8,7 @@ ghost use Rattle.cfarm_words_parts.specs.Words.{Asks, AsksNothing, AsksNothingBy
 ghost use Rattle.cfarm_words_parts.specs.Words.{IsCommand, farm, statuses_app, top_app};
 
 use crate::build_words::{build, options_of};
+use crate::fsck_words::{fsck, fsck_options_of};
 use cfarm_words_parts::{
     Asked, Choices, FILE, Task, check, depth_of, emit, emit_seed_of, emitted_of, exec, expected_of,
     format_of, interpret, judge, limit_of, list, offer_of, paths_of, settle, show, showing_of, sim,
@@ -76,7 +77,8 @@ fn command<'a>(alloc: Global, choices: Choices<'a>) -> Result<Command<'a>, Alloc
     let playing = with_command(settling, sim(alloc));
     let showing = with_command(playing, show(alloc));
     let listing = with_command(showing, list(alloc));
-    let verifying = with_command(listing, verify(alloc));
+    let looking = with_command(listing, fsck(alloc, choices));
+    let verifying = with_command(looking, verify(alloc));
     let emitting = with_command(verifying, emit(alloc, choices));
     let judging = with_command(emitting, judge(alloc));
     with_command(judging, statuses(alloc))
@@ -118,6 +120,10 @@ fn task_of<'a>(name: &str, words: &ArgMatches<'a>) -> Option<Task<'a>>
         },
         "show" => Some(Task::Show),
         "log" => Some(Task::List),
+        "fsck" => match fsck_options_of(words) {
+            Some(options) => Some(Task::Fsck(options)),
+            None => None,
+        },
         "verify" => match paths_of(words) {
             Some(paths) => Some(Task::Verify(paths)),
             None => None,

@@ -3,7 +3,10 @@
 
 mod build_words;
 mod command_line;
+mod fsck_words;
 mod size_words;
 
-pub use cfarm_words_parts::{Asked, Choices, Format, OfferAt, Showing, Task, VerifyPaths, offered};
+pub use cfarm_words_parts::{
+    Asked, Choices, Format, FsckOptions, OfferAt, Showing, Task, VerifyPaths, offered,
+};
 pub use command_line::asked_for;

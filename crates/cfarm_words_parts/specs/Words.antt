@@ -1,6 +1,6 @@
 -- What the words of a command line ask for. How words are read is defined in `clap`: here stand the commands, and what is
 -- asked for by what is found.
-use Rattle.std.specs.Prelude.{◌≡◌, ◌<◌, ◌^◌, ℕ, ℤ, pos, negsuc, FitsSigned, List, [], ◌∷◌, Option, Some, None, map, true, false, codes}
+use Rattle.std.specs.Prelude.{◌≡◌, ◌<◌, ◌^◌, ℕ, ℤ, pos, negsuc, FitsSigned, List, [], ◌∷◌, Option, Some, None, map, option_map, true, false, codes}
 use Rattle.std.specs.Int.{w32}
 use Rattle.std.specs.Borrow.{Bor}
 use Rattle.std.specs.Str.Parse.{IsNumeral, digits_value, signed_digits_value, without_leading_plus, without_leading_sign}
@@ -15,6 +15,8 @@ use Rattle.clap.specs.Simple.{on_top}
 use Rattle.clap.specs.declared.builder.value_parser.ValueParser.TheVariants.{Names, NonEmptyString, Signed, Unsigned}
 use Rattle.cfarm_emitted.specs.declared.Emitted.{Emitted}
 use Rattle.cfarm_emitted.specs.declared.Emitted.TheVariants.{Cminor, Rtl, Ltl, Linear, Bundle}
+use Rattle.cfarm_options.specs.Sizes.{count_of, size_of}
+use Rattle.cfarm_options.specs.declared.options.AskedSizes.{AskedSizes}
 use Rattle.cfarm_options.specs.declared.options.BuildOptions.{BuildOptions}
 use Rattle.cfarm_options.specs.declared.options.Nodes.{Nodes}
 use Rattle.cfarm_options.specs.declared.options.Nodes.TheVariants.{Two, Three, Four, Five, Six, Seven}
@@ -26,8 +28,9 @@ use Rattle.cfarm_words_parts.specs.declared.task.Format.TheVariants.{Plain, Gcc}
 use Rattle.cfarm_words_parts.specs.declared.task.Showing.{Showing}
 use Rattle.cfarm_words_parts.specs.declared.task.Showing.TheVariants.{Lines, Drawing}
 use Rattle.cfarm_words_parts.specs.declared.task.Task.{Task}
-use Rattle.cfarm_words_parts.specs.declared.task.Task.TheVariants.{Check, Interpret, Build, Exec, Settle, Simulate, Show, Verify, Emit, Judge}
+use Rattle.cfarm_words_parts.specs.declared.task.Task.TheVariants.{Check, Interpret, Build, Exec, Settle, Simulate, Show, Verify, Emit, Judge, Fsck}
 use Rattle.cfarm_words_parts.specs.declared.task.Task.TheVariants as task
+use Rattle.cfarm_words_parts.specs.declared.task.FsckOptions.{FsckOptions}
 use Rattle.cfarm_words_parts.specs.declared.task.OfferAt.{OfferAt}
 use Rattle.cfarm_words_parts.specs.declared.task.VerifyPaths.{VerifyPaths}
 
@@ -106,9 +109,21 @@ optimise_rule choices = record (choice_rule (codes "optimise") choices.optimise)
 abbrev pub folder_rule : Rule
 folder_rule = needed_rule (codes "dir")
 
+-- an option with a path, which need not be given and is not empty
+abbrev pub path_rule : Text → Rule
+path_rule name = record (new_rule name) { long = Some name; value_names = 1; parser = Some NonEmptyString }
+
+-- where the bundle of a build is put
+abbrev pub bundle_path_rule : Rule
+bundle_path_rule = path_rule (codes "bundle")
+
+-- where the offers of others stand
+abbrev pub offers_path_rule : Rule
+offers_path_rule = path_rule (codes "offers")
+
 abbrev pub build_app : Choices → App
-build_app choices = with_rule (with_rule (with_rule (with_rule (with_rule (with_rule (with_rule (with_rule (new_app (codes "build")) file_rule) (nodes_rule choices))
-    promise_rule) accept_rule) turns_rule) seed_rule) (optimise_rule choices)) folder_rule
+build_app choices = with_rule (with_rule (with_rule (with_rule (with_rule (with_rule (with_rule (with_rule (with_rule (with_rule (new_app (codes "build")) file_rule) (nodes_rule choices))
+    promise_rule) accept_rule) turns_rule) seed_rule) (optimise_rule choices)) folder_rule) bundle_path_rule) offers_path_rule
 
 abbrev pub exec_app : App
 exec_app = with_rule (with_rule (with_rule (new_app (codes "exec")) file_rule) limit_rule) expect_rule
@@ -157,6 +172,10 @@ offer_rule = needed_rule (codes "offer")
 abbrev pub judge_app : App
 judge_app = with_rule (with_rule (with_rule (new_app (codes "judge")) file_rule) function_rule) offer_rule
 
+abbrev pub fsck_app : Choices → App
+fsck_app choices = with_rule (with_rule (with_rule (with_rule (with_rule (new_app (codes "fsck")) file_rule) (nodes_rule choices)) promise_rule) accept_rule)
+    folder_rule
+
 -- it has help alone
 abbrev pub statuses_app : App
 statuses_app = on_top (λ s. record s { arg_required_else_help = true }) (new_app (codes "statuses"))
@@ -170,10 +189,11 @@ abbrev pub and : App → App → App
 and app inner = with_subcommand app inner.top
 
 abbrev pub farm : Choices → App
-farm choices = and (and (and (and (and (and (and (and (and (and (and (and top_app
+farm choices = and (and (and (and (and (and (and (and (and (and (and (and (and top_app
     (check_app choices)) interpret_app) (build_app choices)) exec_app) settle_app) sim_app)
     show_app)
     list_app)
+    (fsck_app choices))
     verify_app)
     (emit_app choices))
     judge_app)
@@ -231,6 +251,18 @@ abbrev pub showing_word : Showing → Text
 showing_word Lines = codes "false"
 showing_word Drawing = codes "true"
 
+-- the sizes that these words say
+abbrev pub sizes_among : Nodes → (promise accept : Option ℕ) → AskedSizes
+sizes_among nodes promise accept = record {
+  nodes = count_of nodes;
+  promise = size_of (count_of nodes) promise;
+  accept = size_of (count_of nodes) accept;
+}
+
+-- what is found of an option with a path
+abbrev pub IsPath : List Row → Text → Option (Bor Text) → Type 0
+IsPath rows name path = first_of name rows ≡ option_map (λ p. p.now) path
+
 -- what is found of a build's options
 pub record AreOptions (rows : List Row) (options : BuildOptions) : Type 0 where
   pub nodes : first_of (codes "nodes") rows ≡ Some (node_word options.nodes)
@@ -240,6 +272,8 @@ pub record AreOptions (rows : List Row) (options : BuildOptions) : Type 0 where
   pub seed : Reads 64 (first_of (codes "seed") rows) options.seed
   pub optimise : first_of (codes "optimise") rows ≡ Some (optimise_word options.optimise)
   pub folder : first_of (codes "dir") rows ≡ Some options.folder.now
+  pub bundle : IsPath rows (codes "bundle") options.bundle
+  pub offers : IsPath rows (codes "offers") options.offers
 
 -- the word for a form of a program
 abbrev pub form_word : Emitted → Text
@@ -259,6 +293,17 @@ pub record IsOfferAt (rows : List Row) (offer : OfferAt) : Type 0 where
   pub function : first_of (codes "function") rows ≡ Some offer.function.now
   pub path : first_of (codes "offer") rows ≡ Some offer.path.now
 
+-- what is found of a folder that is looked through
+pub record AreFsckOptions (rows : List Row) (options : FsckOptions) : Type 0 where
+  pub nodes : Nodes
+  pub promise : Option ℕ
+  pub accept : Option ℕ
+  pub named : first_of (codes "nodes") rows ≡ Some (node_word nodes)
+  pub promised : ReadsPerhaps 8 (first_of (codes "promise") rows) promise
+  pub accepted : ReadsPerhaps 8 (first_of (codes "accept") rows) accept
+  pub sizes : options.sizes ≡ sizes_among nodes promise accept
+  pub folder : first_of (codes "dir") rows ≡ Some options.folder.now
+
 -- the command of this name, with what is found of its arguments, is this task
 abbrev pub IsTask : Text → List Row → Task → Type 0
 IsTask name rows (Check format) = (name ≡ codes "check") × (first_of (codes "format") rows ≡ format_word format)
@@ -271,6 +316,7 @@ IsTask name rows Show = name ≡ codes "show"
 IsTask name rows task.List = name ≡ codes "log"
 IsTask name rows (Verify paths) = (name ≡ codes "verify") × ArePaths rows paths
 IsTask name rows (Judge offer) = (name ≡ codes "judge") × IsOfferAt rows offer
+IsTask name rows (Fsck options) = (name ≡ codes "fsck") × AreFsckOptions rows options
 IsTask name rows (Emit emitted seed) = (name ≡ codes "emit") × (first_of (codes "of") rows ≡ Some (form_word emitted)) × ReadsPerhaps 64 (first_of (codes "seed") rows) seed
 
 -- what is found of a command asks for this task on the file of this path

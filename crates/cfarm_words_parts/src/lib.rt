@@ -1,4 +1,4 @@
-//! The words of each command but `build`: its arguments and options, with their help, and what is found of them. What a command
+//! The words of each command but `build` and `fsck`: its arguments and options, with their help, and what is found of them. What a command
 //! line can ask for is the type `Task`; the grammar of all commands stands once, in the definitions.
 #![tactic(auto)]
 
@@ -23,5 +23,5 @@ pub use run_words::{check, depth_of, exec, expected_of, format_of, interpret, li
 pub use settle_words::settle;
 pub use show_words::show;
 pub use sim_words::{showing_of, sim};
-pub use task::{Asked, Format, OfferAt, Showing, Task, VerifyPaths};
+pub use task::{Asked, Format, FsckOptions, OfferAt, Showing, Task, VerifyPaths};
 pub use verify_words::{paths_of, verify};

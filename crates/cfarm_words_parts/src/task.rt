@@ -1,7 +1,7 @@
 //! What a command line can ask for.
 
 use cfarm_emitted::Emitted;
-use cfarm_options::BuildOptions;
+use cfarm_options::{AskedSizes, BuildOptions};
 
 /// How a refused text is told.
 #[derive(Clone, Copy, Debug, PartialEq, Eq)]
@@ -39,6 +39,15 @@ pub struct OfferAt<'a> {
     pub path: &'a str,
 }
 
+/// The journals that are looked through.
+#[derive(Clone, Copy, Debug)]
+pub struct FsckOptions<'a> {
+    /// Of a farm of so many nodes, with such quorums.
+    pub sizes: AskedSizes,
+    /// The folder that they are in.
+    pub folder: &'a str,
+}
+
 /// What is to be done with a file.
 #[derive(Clone, Copy, Debug)]
 pub enum Task<'a> {
@@ -56,6 +65,7 @@ pub enum Task<'a> {
     /// In this form, by the optimisers with a seed, where one is said.
     Emit(Emitted, Option<u64>),
     Judge(OfferAt<'a>),
+    Fsck(FsckOptions<'a>),
 }
 
 /// What a command line asks for.

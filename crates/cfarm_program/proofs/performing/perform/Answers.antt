@@ -56,3 +56,11 @@ pub returns-in-Judge-clause-does : goal.returns-in-Judge-clause-does
 returns-in-Judge-clause-does g c =
     let it = c.judge_offer.ensures.does in
     rw c.in-Judge.is (it.0, (keeps_same _, it.1), plainly c.args.is_seen it.0 _ _ _ it.2)
+
+pub look-requires-clause-met : goal.look-requires-clause-met
+look-requires-clause-met g c κs within = subst AreMet c.in-Fsck.is c.requires.met
+
+pub returns-in-Fsck-clause-does : goal.returns-in-Fsck-clause-does
+returns-in-Fsck-clause-does g c =
+    let it = c.look.ensures.does in
+    rw c.in-Fsck.is (it.0, it.1, plainly c.args.is_seen it.0 _ _ _ it.2)

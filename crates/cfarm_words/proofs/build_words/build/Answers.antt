@@ -2,7 +2,7 @@ use Rattle.std.specs.Prelude.{codes}
 use Rattle.std.proofs.Common.{ap, ◌∙◌}
 use Rattle.clap.specs.Words.{new_app}
 use Rattle.clap.specs.Simple.{app_of_fields}
-use Rattle.cfarm_words_parts.specs.Words.{accept_rule, file_rule, folder_rule, nodes_rule, optimise_rule, promise_rule, seed_rule, turns_rule}
+use Rattle.cfarm_words_parts.specs.Words.{accept_rule, file_rule, folder_rule, nodes_rule, optimise_rule, bundle_path_rule, offers_path_rule, promise_rule, seed_rule, turns_rule}
 use Rattle.cfarm_words.proofs.build_words.build.Goals as goal
 
 pub returns : goal.returns
@@ -18,4 +18,6 @@ returns c =
     let bounded = c.with_argument-bounded.ensures _ turns_rule accepted c.turns.ensures in
     let seeded = c.with_argument-seeded.ensures _ seed_rule bounded c.seed.ensures in
     let optimised = c.with_argument-optimised.ensures _ (optimise_rule c.args.choices) seeded c.optimise.ensures in
-    c.with_argument.ensures _ folder_rule optimised c.needed.ensures
+    let placed = c.with_argument-placed.ensures _ folder_rule optimised c.needed.ensures in
+    let bundled = c.with_argument-bundled.ensures _ bundle_path_rule placed c.path.ensures in
+    c.with_argument.ensures _ offers_path_rule bundled c.path-2.ensures

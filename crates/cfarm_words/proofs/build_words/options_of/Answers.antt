@@ -26,4 +26,6 @@ returns-clause-some c = record {
   seed = c.seed_of.ensures;
   optimise = sym (first_value-rows (found_of c.args.words.now) (codes "optimise")) ∙ c.in-Some-optimise_of.ensures.some;
   folder = sym (c.in-Some-get_str.ensures ∙ first_value-rows (found_of c.args.words.now) (codes "dir"));
+  bundle = c.path_of.ensures;
+  offers = c.path_of-2.ensures;
 }
