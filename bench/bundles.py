@@ -3,7 +3,7 @@
 product; and what `verify`, `emit` and `judge` have to say of what it makes.
 
     bench/bundles.py --program PATH                 all of it, of this program
-    bench/bundles.py --program PATH --only changes  one part of it: examples, changes, exchanged, lengths, judged
+    bench/bundles.py --program PATH --only changes  one part of it: examples, drawn, changes, exchanged, lengths, judged
     bench/bundles.py rows FOLDER                    writes the files of a few rows into the folder, and prints the rows: command lines, what
                                                     they print and their status, by the rules alone
     bench/bundles.py make TEXT RTL PROGRAM BUNDLE   of a C text and what `emit TEXT --of rtl` wrote: a linked program and its bundle
@@ -12,6 +12,8 @@ Each register lies in a slot, nothing is improved, and blocks come in the order 
 rules are read here as the product reads them, and it has to be what `emit` writes where no seed is given.
 
 examples: of each example, what is made here, by `emit` with seeds and by `build --bundle` is verified, and no bundle by another program.
+drawn: the same of a hundred drawn programs, with the offers of two functions exchanged, an accepted offer in the place of another, each
+form of one seed emitted twice, and the program of another seed.
 changes: each byte of a small bundle, of its program and of its text is changed in three ways, and each is cut at each length: a refusal by
 name, or yes where the byte is one of a certificate. exchanged: the offers of two functions exchanged, an offer replaced by another that
 its pass accepts, offers of a pass left out or refused, another text, other names, other globals. lengths: numbers that promise more bytes
@@ -465,6 +467,41 @@ def examples(runs, texts):
                         runs.faults.append(f"{name}, the bundle of {what} with the program of {whose}: {found}")
 
 
+def drawn_texts(count):
+    """The first programs of those that are drawn for the rows."""
+    with open(f"{ROOT}/crates/worked_rows/data/drawn.txt", encoding="utf-8") as rows:
+        lines = [line.split("\t") for line in rows if line.strip() and not line.startswith("#")]
+    return [line[1].encode() + b"\n" for line in lines[:count]]
+
+
+def drawn_one(runs, at, text):
+    """One drawn program, by itself: the names of its files begin with its number."""
+    name = f"drawn{at}"
+    path = runs.put(f"{name}.c", text)
+    made = Made(text, runs.emit(path, "rtl"))
+    pairs = [(made.program(), made.bundle())] + [(runs.emit(path, "linear", seed), runs.emit(path, "bundle", seed)) for seed in (None, 3, 4)]
+    runs.expect(f"{name}: the baselines", pairs[1], pairs[0])
+    runs.expect(f"{name}: one seed twice", (runs.emit(path, "linear", 3), runs.emit(path, "bundle", 3)), pairs[2])
+    for which, (program, bundle) in enumerate(pairs):
+        p, b = runs.put(f"{name}.{which}.cfp", program), runs.put(f"{name}.{which}.cfb", bundle)
+        runs.expect(f"{name}.{which}", runs.verify(path, p, b), (0, f"verified {len(made.names)} functions {sha(program)}\n", ""))
+    if pairs[2][0] != pairs[0][0]:
+        status, out, err = runs.verify(path, f"{name}.2.cfp", f"{name}.0.cfb")
+        runs.expect(f"{name}: the program of a seed", (status, out, bool(re.fullmatch(r"refused 604 OtherProgram in \w+\n", err))), (1, "", True))
+    others = [(i, j) for j in range(len(made.offers)) for i in range(j) if made.functions[i][1] != made.functions[j][1]]
+    many = [number for number, function in enumerate(made.functions) if len(reached(function[4], function[5])) > 2]
+    if others:
+        for what, data, line in bad_bundles(text, runs.emit(path, "rtl")) if many else ():
+            if what.startswith(("exchanged", "another order", "an order")):
+                wrong = runs.put(f"{name}.wrong.cfb", data)
+                runs.expect(f"{name}: {what}", runs.verify(path, f"{name}.0.cfp", wrong), (1, "", f"refused {line.replace('%', wrong)}\n"))
+
+
+def drawn(runs, count):
+    with concurrent.futures.ThreadPoolExecutor(os.cpu_count()) as pool:
+        list(pool.map(lambda job: drawn_one(runs, *job), enumerate(drawn_texts(count))))
+
+
 def is_refusal(line, bundle):
     """A line that names a fault of the forms, or of the offers."""
     form = re.fullmatch(r"refused (10[1-4]) (\w+) in (.+)\n", line)
@@ -617,6 +654,8 @@ def all_runs(program, only, rows):
             examples(runs, texts + [("three.c", THREE)])
             for name, text, rtl in SMALL:
                 runs.expect(f"{name}: its RTL", runs.emit(runs.put(name, text), "rtl"), rtl)
+        if only in (None, "drawn"):
+            drawn(runs, 100)
         if only in (None, "changes"):
             changes(runs, THREE, THREE_RTL)
         if only in (None, "exchanged"):
@@ -693,7 +732,7 @@ def rows(folder):
 def main():
     ask = argparse.ArgumentParser(description=__doc__, formatter_class=argparse.RawDescriptionHelpFormatter)
     ask.add_argument("--program", metavar="PATH")
-    ask.add_argument("--only", choices=("examples", "changes", "exchanged", "lengths", "judged"))
+    ask.add_argument("--only", choices=("examples", "drawn", "changes", "exchanged", "lengths", "judged"))
     ask.add_argument("--vectors", metavar="PATH", help="written offers with what is told of them, a line each, for `judged`")
     ask.add_argument("words", nargs="*", metavar="WORD", help="rows FOLDER, or make TEXT RTL PROGRAM BUNDLE")
     given = ask.parse_args()

@@ -1,15 +1,19 @@
 #!/usr/bin/env python3
-"""What `cfarm log` must print, from docs/FORMATS.md alone, and whether a program prints that.
+"""What `cfarm log` and `cfarm fsck` must print, from docs/FORMATS.md alone, and whether a program prints that.
 
-    bench/looks.py --program PATH [--quick]   tries the program over made journals
-    bench/looks.py --log FILE                 prints what `log` must print of a journal, and its status
+    bench/looks.py --program PATH [--only log|fsck] [--quick]   tries the program over made journals and folders
+    bench/looks.py --log FILE                                   prints what `log` must print of a journal, and its status
+    bench/looks.py --fsck NAME,NAME.. FOLDER [--sizes N,Q,Q]    the same for `fsck`, of a folder that `build` does not refuse, and these functions
 
-Journals of all forms, each record in them, each cut at each length and a small one with each byte changed."""
+Journals of all forms, each record in them, each cut at each length and a small one with each byte changed; folders that the program's own `build` leaves
+after few turns and many, journals of the first version among them, some of them broken. Of a folder that is refused the line and the status must be
+those of `build`, and the files must be as they were."""
 import argparse
 import hashlib
 import itertools
 import os
 import random
+import shutil
 import subprocess
 import sys
 import tempfile
@@ -18,7 +22,13 @@ from concurrent.futures import ThreadPoolExecutor
 sys.path.insert(0, os.path.dirname(os.path.realpath(__file__)))
 import aged
 
-TEXT = "int main(void){return 7;}"
+SEVEN = "int main(void){return 7;}"
+THREE = """int putchar(int);
+int twice(int x) { return x + x; }
+int cube(int x) { int y; y = twice(x); return x * x * x + y - y; }
+int main(void) { int i = 0; int s = 0; while (i < 3) { int r; r = cube(i); s = s + r; i = i + 1; } putchar('0' + s); return s; }
+"""
+FUNCTIONS = {SEVEN: ["main"], THREE: ["twice", "cube", "main"]}
 NAMES = {402: "NotAJournal", 403: "BadRecord", 404: "OtherSource"}
 
 
@@ -80,6 +90,49 @@ def logged(data):
 
 # ---- a folder that is not refused
 
+def journal_of(folder, node, header):
+    """The bodies of a node's journal and its size to the closed gate and with it, as `fsck` reads it."""
+    new, old = (read(path(folder, node)) for path in (aged.new_in, aged.old_in))
+    if old[:1] == b"C":
+        new = aged.migrated(header, old)
+    elif not new and not old:
+        return [], 0
+    bodies, gate, _ = front_of(new, aged.HEAD, 6)
+    return bodies, gate + 1
+
+
+def votes_of(bodies):
+    """The last vote of each room, with its ballot."""
+    votes = {}
+    for body in bodies:
+        if body[0] == 5:
+            votes[aged.u16(body, 1)] = (aged.u16(body, 3), body[5])
+        elif body[0] == 6 and aged.u16(body, 7):
+            votes[aged.u16(body, 1)] = (aged.u16(body, 7), body[9])
+    return votes
+
+
+def room_told(accept, votes):
+    for vote in votes:
+        by = [node for node, it in enumerate(votes) if vote and it and it[0] == vote[0]]
+        if vote and len(by) >= accept:
+            return f"chosen {vote[1]} ballot {vote[0]} by {' '.join(map(str, by))}"
+    return "open"
+
+
+def looked(folder, functions, sizes, digest):
+    """The output of `fsck` over a folder that `build` does not refuse."""
+    nodes, promise, accept = sizes
+    found = [journal_of(folder, node, (nodes, promise, accept, node, digest)) for node in range(nodes)]
+    lines = [f"node {node} {len(bodies)} records {size} bytes\n" for node, (bodies, size) in enumerate(found)]
+    votes = [votes_of(bodies) for bodies, _ in found]
+    for number, name in enumerate(functions):
+        for place in range(4):
+            told = room_told(accept, [it.get(4 * number + place) for it in votes])
+            lines.append(f"{name} pass {place + 1} {told}\n")
+    return "".join(lines) + "ok\n"
+
+
 def read(path):
     try:
         with open(path, "rb") as file:
@@ -107,7 +160,7 @@ def bodies_made(draw, most):
 
 def heads():
     """Headers of each form, some of which no farm has."""
-    digest = hashlib.sha256(TEXT.encode()).digest()
+    digest = hashlib.sha256(SEVEN.encode()).digest()
     for nodes, promise, accept, node in ((3, 2, 2, 0), (4, 3, 2, 3), (1, 1, 1, 0), (7, 4, 4, 255), (255, 128, 128, 9), (0, 0, 0, 0), (5, 1, 1, 4)):
         numbers = bytes([nodes, promise, accept, node])
         yield b"CFJ2" + numbers + digest, 6
@@ -118,7 +171,7 @@ def heads():
 def journals(is_quick):
     """Journals, whole and broken."""
     draw = random.Random(1)
-    yield from (b"", b"C", b"CFJ2", b"CFJ1", b"CFJF", b"CFJ3" + bytes(60), bytes(60), b"cfj2" + bytes(60), TEXT.encode() * 3)
+    yield from (b"", b"C", b"CFJ2", b"CFJ1", b"CFJF", b"CFJ3" + bytes(60), bytes(60), b"cfj2" + bytes(60), SEVEN.encode() * 3)
     for head, most in heads():
         for kinds in ([], *([it] for it in bodies_made(draw, 6)), bodies_made(draw, most), bodies_made(draw, 6) * 2):
             for end in (b"\x00", b"", b"\x02", b"\x01", b"\xff\x01", b"\x00" + aged.block(b"\x02\x00\x00\x00\x03") + b"\x00"):
@@ -168,20 +221,123 @@ class Tries:
         self.judge("log of no file", self.run(["log", path]), (2, "", f"file {path}\n"))
         print(f"log: {self.agree} of {self.all} agree", flush=True)
 
+    # ---- fsck
+
+    def words(self, text, folder, sizes):
+        nodes, promise, accept = sizes
+        file = os.path.join(self.room, f"{hashlib.sha256(text.encode()).hexdigest()[:8]}.c")
+        write(file, text.encode())
+        return [file, "--dir", folder, "--nodes", str(nodes), "--promise", str(promise), "--accept", str(accept)]
+
+    def copy(self, folder):
+        there = tempfile.mkdtemp(dir=self.room)
+        shutil.copytree(folder, there, dirs_exist_ok=True)
+        return there
+
+    def refusal(self, text, folder, sizes):
+        """The status and the line with which `build` refuses a copy of the folder, if it does."""
+        there = self.copy(folder)
+        status, _, line = self.run(["build", *self.words(text, there, sizes), "--turns", "0"])
+        shutil.rmtree(there)
+        return None if status in (0, 3) else (status, "", line.replace(there, folder))
+
+    def fsck(self, what, text, folder, sizes):
+        before = {it: read(os.path.join(folder, it)) for it in sorted(os.listdir(folder))}
+        wanted = self.refusal(text, folder, sizes)
+        if wanted is None:
+            wanted = (0, looked(folder, FUNCTIONS[text], sizes, hashlib.sha256(text.encode()).digest()), "")
+        self.judge(what, self.run(["fsck", *self.words(text, folder, sizes)]), wanted)
+        after = {it: read(os.path.join(folder, it)) for it in sorted(os.listdir(folder))}
+        before.setdefault("cfarm.lock", b"")
+        self.judge(f"{what}: files", sorted(after.items()), sorted(before.items()))
+        return wanted[1]
+
+    def built(self, text, sizes, turns, seed):
+        folder = tempfile.mkdtemp(dir=self.room)
+        self.run(["build", *self.words(text, folder, sizes), "--seed", str(seed), *(["--turns", str(turns)] if turns is not None else [])])
+        return folder
+
+    def broken(self, folder, sizes, draw):
+        """Copies of a folder: a node's journal gone, aged, cut by records, changed, another node's, with records more."""
+        nodes = sizes[0]
+        for node in range(nodes):
+            path, old = aged.new_in(folder, node), aged.old_in(folder, node)
+            data = read(path)
+            bodies, gate, _ = front_of(data, aged.HEAD, 6)
+            head = data[:aged.HEAD]
+            yield f"no node {node}", {path: b""}
+            if all(aged.is_of_form(it, 5) for it in bodies):
+                yield f"old node {node}", {path: b"", old: aged.aged(data)}
+                yield f"old node {node} beside the new one", {old: aged.aged(data)}
+                yield f"spent node {node}", {old: aged.spent(aged.aged(data))}
+            yield f"only spent node {node}", {path: b"", old: aged.spent(data)}
+            for count in sorted({0, 1, len(bodies) // 2, max(0, len(bodies) - 1), *(draw.randrange(len(bodies) + 1) for _ in range(3))}):
+                yield f"node {node}, {count} records", {path: head + b"".join(map(aged.block, bodies[:count])) + b"\x00"}
+            for body in (b"\x04\x00\x00\xff\xf0", b"\x05\x00\x01\xff\xf0\x00", b"\x05\x00\x03\x00\x01\x01", b"\x06\x00\x02" + bytes(7), b"\x06\xff\x00\x00\x00\x00\x09\x00\x00\x00", b"\x01\x00\x05offer"):
+                yield f"node {node}, and {body.hex()}", {path: head + b"".join(map(aged.block, [*bodies, body])) + b"\x00"}
+                yield f"node {node}, only {body.hex()}", {path: head + aged.block(body) + b"\x00"}
+            yield f"node {node}, summed up", {path: aged.migrated(aged.header_of(data), aged.aged(data)) if all(aged.is_of_form(it, 5) for it in bodies) else data}
+            yield f"node {node} is another's", {path: read(aged.new_in(folder, (node + 1) % nodes))}
+            for _ in range(4):
+                place = draw.randrange(len(data))
+                yield f"node {node}, byte {place}", {path: data[:place] + bytes([data[place] ^ (1 << draw.randrange(8))]) + data[place + 1:]}
+                yield f"node {node}, cut to {place}", {path: data[:place]}
+
+    def try_folders(self, is_quick):
+        before, agree, draw = self.all, self.agree, random.Random(2)
+        seen = {"open": 0, "chosen": 0}
+        for text, sizes in itertools.product(FUNCTIONS, ((3, 2, 2), (2, 1, 2), (4, 3, 2), (7, 4, 4))):
+            for turns, seed in ((None, 1), (0, 1), *((it, it) for it in ((8, 30) if is_quick else (1, 3, 8, 14, 20, 30, 45, 70)))):
+                folder = self.built(text, sizes, turns, seed)
+                what = f"fsck of {FUNCTIONS[text]}, sizes {sizes}, turns {turns}"
+                told = self.fsck(what, text, folder, sizes)
+                for word in seen:
+                    seen[word] += told.count(f" {word}")
+                cases = list(self.broken(folder, sizes, draw))
+                if is_quick or turns is not None:
+                    cases = draw.sample(cases, min(len(cases), 8))
+                for name, files in cases:
+                    there = self.copy(folder)
+                    for path, data in files.items():
+                        path = path.replace(folder, there)
+                        if data:
+                            write(path, data)
+                        elif os.path.exists(path):
+                            os.remove(path)
+                    self.fsck(f"{what}, {name}", text, there, sizes)
+                    shutil.rmtree(there)
+                shutil.rmtree(folder)
+        folder = self.built(SEVEN, (3, 2, 2), None, 1)
+        for text, sizes in ((THREE, (3, 2, 2)), (SEVEN, (5, 3, 3)), (SEVEN, (2, 1, 2)), (SEVEN, (4, 1, 2)), ("int main(void){return x;}", (3, 2, 2))):
+            wanted = self.refusal(text, folder, sizes)
+            self.judge(f"fsck by another {text}, {sizes}", self.run(["fsck", *self.words(text, folder, sizes)]), wanted)
+        for words in (["fsck", "none.c", "--dir", folder], ["fsck", self.words(SEVEN, folder, (3, 2, 2))[0], "--dir", folder + "/none"]):
+            self.judge(" ".join(words), self.run(words), self.run(["build", *words[1:]]))
+        print(f"fsck: {self.agree - agree} of {self.all - before} agree; rooms {seen}", flush=True)
+
 
 def main():
     ask = argparse.ArgumentParser(description=__doc__, formatter_class=argparse.RawDescriptionHelpFormatter)
-    for name in ("--program", "--log"):
+    ask.add_argument("folder", nargs="?")
+    for name in ("--program", "--only", "--log", "--fsck", "--text"):
         ask.add_argument(name)
+    ask.add_argument("--sizes", default="3,2,2")
     ask.add_argument("--quick", action="store_true")
     said = ask.parse_args()
     if said.log:
         status, out, line = logged(read(said.log))
         sys.stdout.write(out + line + f"status {status}\n")
         return 0
+    if said.fsck:
+        sizes = tuple(map(int, said.sizes.split(",")))
+        sys.stdout.write(looked(said.folder, said.fsck.split(","), sizes, hashlib.sha256(read(said.text) if said.text else SEVEN.encode()).digest()))
+        return 0
     with tempfile.TemporaryDirectory(prefix="looks-") as room:
         tries = Tries(os.path.realpath(said.program), room)
-        tries.try_logs(said.quick)
+        if said.only != "fsck":
+            tries.try_logs(said.quick)
+        if said.only != "log":
+            tries.try_folders(said.quick)
     return int(tries.agree != tries.all)
 
 

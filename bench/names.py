@@ -112,7 +112,7 @@ def options():
     texts = [text for crate in ("cfarm_words", "cfarm_words_parts") for kind, _, text in floors.files_of(crate) if kind == "src"]
     named = dict(it for text in texts for it in re.findall(r'^(?:pub\(crate\) )?const (\w+): &str = "(\w+)";', text, flags=re.M))
     for text in texts:
-        yield from ((named[it], None) for it in re.findall(r"needed\(\s*alloc,\s*([A-Z]+)", text))
+        yield from ((named[it], None) for it in re.findall(r"(?:needed|path)\(\s*alloc,\s*([A-Z]+)", text))
         for constant, said in re.findall(r"Arg::new\(alloc, (\w+)\)(.*?)^\}", text, flags=re.M | re.S):
             if ".long(" in said and constant in named:
                 standing = re.search(r'default_value\("(\w+)"\)', said)

@@ -37,10 +37,8 @@ def table():
     for kind in ("must-fail", "by_rows"):
         named = [f"`{crate}` {', '.join(tried(found, kind))}" for crate, found in rows.items() if tried(found, kind)]
         lines += [f"`{KINDS[kind]}`: {'; '.join(named)}.", ""]
-    lines += ["How many in `planted/*.edit`, by floor:", ""]
-    for floor, crates in FLOORS:
-        counted = [f"`{crate}` {len(tried(rows[crate], 'planted'))}" for crate in crates.split() if tried(rows.get(crate, []), "planted")]
-        lines += [f"- {floor.partition(':')[0]}: {', '.join(counted)}"] if counted else []
+    floors = [(floor.partition(':')[0], sum(len(tried(rows.get(crate, []), "planted")) for crate in crates.split())) for floor, crates in FLOORS]
+    lines += [f"`{KINDS['planted']}` by floor: {', '.join(f'{floor} {count}' for floor, count in floors if count)}."]
     return "".join(f"{line}\n" for line in lines)
 
 

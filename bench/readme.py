@@ -41,6 +41,7 @@ def pattern(printed):
     found = re.escape(printed)
     found = re.sub(r"^\\\.\\\.\\\.\\\n", "(.*\\\\n)*?", found, flags=re.M)
     found = re.sub(r'"linked":"\w+\\\.\\\.\w+"', r'"linked":"[0-9a-f]{64}"', found)
+    found = re.sub(r"functions\\ \w+\\\.\\\.\w+", "functions [0-9a-f]{64}", found)
     return re.sub(r"\\\[(\d,)+\d\\\]", r"\\[\\d(,\\d)*\\]", found)
 
 

@@ -17,7 +17,7 @@ pub struct Put {
     pub bytes: Vec<u8>,
 }
 
-/// The one file that can be read, and what was put. Journals are empty, unless their folder says otherwise.
+/// The one file that is there, and what was put. Journals are empty, unless their folder says otherwise.
 #[derive(Drop)]
 pub struct Given<'a> {
     pub alloc: Global,
@@ -26,6 +26,19 @@ pub struct Given<'a> {
 }
 
 impl<'a> Given<'a> {
+    /// What was put at this path.
+    fn put_as(&self, path: &str) -> Result<Vec<u8>, FileFault> {
+        for put in self.put.as_slice() {
+            if put.path.as_str() == path {
+                return match put.bytes.as_slice().to_vec(self.alloc) {
+                    Ok(bytes) => Ok(bytes),
+                    Err(_) => Err(FileFault::NoMemory),
+                };
+            }
+        }
+        Err(FileFault::Refused)
+    }
+
     pub fn of(alloc: Global, text: &'a [u8]) -> Given<'a> {
         Given {
             alloc,
@@ -55,10 +68,10 @@ fn disk_of(
     }
 }
 
-/// What the name of a folder spells for the node with this new file: where a number and `=` stand in front, nothing for another node.
+/// What the name of a folder spells for the node with this file: where a number and `=` stand in front, nothing for another node.
 fn spelled<'a>(folder: &'a str, name: &str) -> &'a str {
     let number = name.strip_prefix("node").unwrap_or("");
-    let number = number.strip_suffix(".cf2").unwrap_or("");
+    let (number, _) = number.split_once('.').unwrap_or((number, ""));
     match folder.split_once('=') {
         Some((meant, rest)) if meant == number => rest,
         Some(_) => "",
@@ -66,10 +79,15 @@ fn spelled<'a>(folder: &'a str, name: &str) -> &'a str {
     }
 }
 
-/// Disks whose bytes are spelled: behind `%` those of the old one, behind `&` those of the new one.
-fn disk_spelled(alloc: Global, text: &str) -> Result<MemoryPair, DiskFault> {
+/// The bytes that are spelled, in hex: behind `%` those of the old one, behind `&` those of the new one.
+fn parts_spelled(text: &str) -> (&str, &str) {
     let (old, new) = text.split_once('&').unwrap_or((text, ""));
-    let old = old.strip_prefix("%").unwrap_or("");
+    (old.strip_prefix("%").unwrap_or(""), new)
+}
+
+/// Disks whose bytes are spelled.
+fn disk_spelled(alloc: Global, text: &str) -> Result<MemoryPair, DiskFault> {
+    let (old, new) = parts_spelled(text);
     let (Some(bytes), Some(old_bytes)) = (bytes_of(alloc, new), bytes_of(alloc, old)) else {
         return Err(DiskFault::New);
     };
@@ -86,6 +104,27 @@ fn disk_in(alloc: Global, folder: &str, name: &str) -> Result<MemoryPair, DiskFa
         "broken" => disk_of(alloc, CALLS, 1, &[], &[]),
         "worn" => disk_of(alloc, 14, 0, &[], &[]),
         _ => disk_spelled(alloc, spelled(folder, name)),
+    }
+}
+
+/// The file of a folder whose bytes are spelled; none where they are none.
+fn file_spelled(alloc: Global, text: &str, name: &str) -> Result<Option<Vec<u8>>, FileFault> {
+    let (old, new) = parts_spelled(text);
+    let hex = if name.ends_with(".cfj") { old } else { new };
+    match bytes_of(alloc, hex) {
+        Some(bytes) if bytes.is_empty() => Ok(None),
+        Some(bytes) => Ok(Some(bytes)),
+        None => Err(FileFault::Refused),
+    }
+}
+
+/// The file of a folder, where it is there.
+fn file_in(alloc: Global, folder: &str, name: &str) -> Result<Option<Vec<u8>>, FileFault> {
+    match folder {
+        "behind" if name == "node1.cf2" => Err(FileFault::Refused),
+        "barred" if name == "node1.cfj" => Err(FileFault::Refused),
+        "scarce" => Err(FileFault::NoMemory),
+        _ => file_spelled(alloc, spelled(folder, name), name),
     }
 }
 
@@ -113,8 +152,13 @@ impl Files for Given<'_> {
                 Err(_) => Err(FileFault::NoMemory),
             },
             "big" => Err(FileFault::NoMemory),
-            _ => Err(FileFault::Refused),
+            _ => self.put_as(path),
         }
+    }
+
+    fn read_if_there(&self, path: &str) -> Result<Option<Vec<u8>>, FileFault> {
+        let (folder, name) = path.rsplit_once('/').unwrap_or(("", path));
+        file_in(self.alloc, folder, name)
     }
 
     fn disk(&mut self, _lock: &Held, path: &str, _old_path: &str) -> Result<MemoryPair, DiskFault> {
@@ -127,6 +171,10 @@ impl Files for Given<'_> {
     }
 
     fn put(&mut self, _lock: &Held, path: &str, bytes: &[u8]) -> Result<(), FileFault> {
+        self.put_at(path, bytes)
+    }
+
+    fn put_at(&mut self, path: &str, bytes: &[u8]) -> Result<(), FileFault> {
         if path.starts_with("full/") {
             return Err(FileFault::Refused);
         }

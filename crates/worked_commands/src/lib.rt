@@ -9,22 +9,25 @@
 //! | `failing WORDS < TEXT` | the bytes of the output and of standard error, where the program answers 4 with a writer that fails at any of them |
 //! | `unflushed WORDS < TEXT`, `untold WORDS < TEXT` | the same as `run`, where the output, or standard error, cannot be flushed |
 //! | `linked WORDS < TEXT` | the same as `run`, without what the program does that was put |
+//! | `bundled WORDS < TEXT` | the same as `linked`, with the paths of all files that were put; and where these are a bundle and a program, what `verify` says of them |
 //! | `here WORDS` | the same as `run`, with the files of the machine |
 //! | `bytes PATH` | the bytes of a file of the machine, in hex; `none` where none is there |
 //! | `twice FOLDER WORDS` | the same, of a build in the folder, and the same of `exec --limit 1000` on its `linked.cfp`; and `same` where a second build answers the same and leaves the same file |
+//! | `proved FOLDER WORDS` | the same as `linked`, of a build in the folder, and what `verify` says of its `linked.cfp` and `linked.cfb` |
 //!
-//! The words have blanks between; `''` is an empty one. The file `f` has the text, for `big` there is no memory, and no
-//! other can be read. A text that begins with `%` is in hex; in another a number and a text between
+//! The words have blanks between; `''` is an empty one. The file `f` has the text, for `big` there is no memory, and of the
+//! others those can be read that were put. A text that begins with `%` is in hex; in another a number and a text between
 //! backquotes stand for so many copies of it. An end of line is shown as `\n`; of a text that goes on behind an
 //! empty line only what stands before that is shown, with `..` behind it. In a report `v` is shown for a number of a node, and `H` for the
 //! SHA-256 of the file that was put; of a program that was put and is still running, one byte that it writes again and again is shown once.
 //!
-//! Journals are disks in memory, which are empty in most folders. The folder `missing` has none, `behind` not the new one of node 1, and `barred`
+//! Journals are disks in memory, which are empty in most folders, and files for `fsck`. The folder `missing` has none, `behind` not the new one of node 1, and `barred`
 //! not its old one; there is no memory for those in `scarce`. They fail at the first call in `broken`, and after the fourteenth in `worn`. In a folder
 //! whose name is `%` and hex digits each old one holds these bytes; behind `&` stand those of each new one; a number and `=` in front mean the disks of
 //! that node alone. No file can be put in `full`, and for one in `tight` there is no memory.
 #![tactic(auto)]
 
+mod bundled;
 mod failing;
 mod given;
 mod held;

@@ -1,5 +1,6 @@
 //! Runs over the files of the machine.
 
+use crate::bundled::verified;
 use crate::held::Held;
 use crate::runs::{Here, Ran, executed, run_over, told, words_of};
 use cfarm_files::HostFiles;
@@ -67,4 +68,24 @@ pub fn answer_twice<H: Naming + Send, R: Threads + Wait + Sync>(
     let does = executed(here, &linked)?;
     let again = if is_same { "same" } else { "other" };
     format!(in alloc; "{told} {does} {again}").ok()
+}
+
+/// The same of a build in this folder that writes `linked.cfb` there, and what `verify` says of that and of `linked.cfp`.
+pub fn answer_proved<H: Naming + Send, R: Threads + Wait + Sync>(
+    rt: &HostRuntime,
+    here: &Here<'_, H, R>,
+    rest: &str,
+) -> Option<String> {
+    let alloc = here.alloc;
+    let (folder, line) = rest.split_once(' ')?;
+    let words = words_of(alloc, line)?;
+    let text = words.as_slice().get(2)?;
+    let program = format!(in alloc; "{folder}/linked.cfp").ok()?;
+    let bundle = format!(in alloc; "{folder}/linked.cfb").ok()?;
+    let ran = ran_here(rt, here, &words);
+    let bytes = fs::read(rt, program.as_str()).ok()?;
+    let told = told(alloc, &ran, &bytes)?;
+    let mut files = HostFiles(rt);
+    let says = verified(here, &mut files, text, &program, &bundle, &bytes)?;
+    format!(in alloc; "{told} {says}").ok()
 }

@@ -1,12 +1,15 @@
-//! A meter that shows nothing.
+//! A meter that shows no progress.
 
-use cfarm_meter::Meter;
+use cfarm_meter::{Ignored, Meter};
+use std::alloc::Global;
 
-/// Counts how often it was told and cleared.
+/// Counts how often it was told and cleared, and keeps the lines of files that were not used.
 #[derive(Drop)]
 pub struct Quiet {
     pub told: u64,
     pub cleared: u64,
+    pub alloc: Global,
+    pub ignored: Vec<u8>,
 }
 
 impl Meter for Quiet {
@@ -20,5 +23,11 @@ impl Meter for Quiet {
 
     fn clear(&mut self) {
         self.cleared = self.cleared.saturating_add(1);
+    }
+
+    fn ignored(&mut self, told: Ignored<'_>) {
+        if let Ok(line) = format!(in self.alloc; "{told}\n") {
+            let _ = self.ignored.extend_from_slice(line.as_bytes());
+        }
     }
 }

@@ -2,9 +2,10 @@
 
 ghost use Rattle.std.specs.Prelude.{◌≡◌};
 
+use crate::bundled::bundled;
 use crate::failing::failing;
 use crate::held::Held;
-use crate::machine_files::{answer_here, answer_twice, bytes_here};
+use crate::machine_files::{answer_here, answer_proved, answer_twice, bytes_here};
 use crate::runs::{Here, answer, linked, words_of};
 use crate::texts::text_of;
 use program_rows::{agrees, parts_of_row};
@@ -34,6 +35,7 @@ fn told<H: Naming + Send, R: Threads + Wait + Sync>(
         "untold" => (Held::ample(alloc), Held::stuck(alloc)),
         "failing" => return failing(here, &words, &text),
         "linked" => return linked(here, &words, &text),
+        "bundled" => return bundled(here, &words, &text),
         _ => return None,
     };
     answer(here, &words, &text, out, err)
@@ -50,6 +52,7 @@ fn asked<H: Naming + Send, R: Threads + Wait + Sync>(
         "here" => answer_here(rt, here, rest),
         "bytes" => bytes_here(rt, rest),
         "twice" => answer_twice(rt, here, rest),
+        "proved" => answer_proved(rt, here, rest),
         _ => {
             let (line, text) = rest.split_once(" <").unwrap_or((rest, ""));
             let here = Here {

@@ -45,7 +45,7 @@ pub fn words_of(alloc: Global, line: &str) -> Option<Vec<String>> {
     Some(words)
 }
 
-/// Runs the program over these files, with these writers.
+/// Runs the program over these files, with these writers. Lines of files that were not used stand in front of standard error.
 pub fn run_over<H: Naming + Send, R: Threads + Wait + Sync, F: Files>(
     here: &Here<'_, H, R>,
     words: &[String],
@@ -56,6 +56,8 @@ pub fn run_over<H: Naming + Send, R: Threads + Wait + Sync, F: Files>(
     let mut quiet = Quiet {
         told: 0,
         cleared: 0,
+        alloc: here.alloc,
+        ignored: Vec::new(here.alloc),
     };
     let mut out = Paced::over(out, here.is_seen);
     let mut lines = ErrorWriter::over(err);
@@ -70,10 +72,12 @@ pub fn run_over<H: Naming + Send, R: Threads + Wait + Sync, F: Files>(
         &mut out,
         &mut lines,
     );
+    let mut err = quiet.ignored;
+    let _ = err.extend_from_slice(&lines.into_writer().bytes);
     Ran {
         status,
         out: out.taker.bytes,
-        err: lines.into_writer().bytes,
+        err,
     }
 }
 
