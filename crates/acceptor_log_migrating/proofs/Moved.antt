@@ -1,19 +1,17 @@
 -- What the old journal and the new text stand for.
-use Rattle.std.proofs.Common.{◌≡◌, ◌≢◌, inl, inr, ⊎_elim, ℕ, Result, Ok, Err, List, [], ◌∷◌, ◌++◌, length, get_or, Some, refl, sym, ◌∙◌, ap, subst, append_assoc, arith}
-use Rattle.std.specs.Prelude.{All, OnOk, IfOk, IsErrOf}
-use Rattle.durable_model_writes.specs.declared.call.Call.TheVariants.{Left}
+use Rattle.std.proofs.Common.{◌≡◌, ◌≢◌, inl, inr, ⊎_elim, ℕ, Result, Err, List, [], ◌∷◌, ◌++◌, length, get_or, Some, refl, sym, ◌∙◌, ap, subst, append_assoc, arith}
+use Rattle.std.specs.Prelude.{All, IsErrOf}
 use Rattle.durable_model.specs.declared.error.DiskError.{DiskError}
 use Rattle.durable_model.specs.declared.error.DiskError.TheVariants as disk
 use Rattle.durable_model.specs.Writes.{overwritten}
 use Rattle.durable_model.specs.Honest.{Only}
-use Rattle.durable_model.specs.Moments.{LeavesOnly, started, goes_on, composed}
+use Rattle.durable_model.specs.Moments.{LeavesOnly, started}
 use Rattle.durable_pair.specs.Images.{Both}
-use Rattle.durable_pair.specs.Does.{Does}
-use Rattle.durable_pair_turning.proofs.Turned.{begins_with}
+use Rattle.durable_pair_turning.proofs.Turned.{weaker, begins_with}
 use Rattle.acceptor_log_form.specs.declared.errors.LogError.{LogError}
 use Rattle.acceptor_log_form.specs.declared.errors.LogError.TheVariants as log
 use Rattle.acceptor_log.specs.Faults.{log_fault}
-use Rattle.acceptor_log_migrating.specs.Stands.{CanMigrate, HasOld}
+use Rattle.acceptor_log_migrating.specs.Stands.{CanMigrate, IsNotMigrated, HasOld}
 use Rattle.std.proofs.lemmas.List.{get_or-take}
 use Rattle.durable_pair.specs.Images.{Images}
 use Rattle.acceptor_log_form.specs.declared.header.Header.{Header}
@@ -24,7 +22,9 @@ use Rattle.acceptor_log_old_form.specs.OldText.{old_header_size, OldStandsFor}
 use Rattle.acceptor_log_old_form.proofs.OldHeaders.{either_form, text-first, text-second, size-first, size-second}
 use Rattle.acceptor_log_old_form.proofs.OldTexts.{old_listed-stands}
 use Rattle.durable_pair_turning.specs.Turning.{BeginsWith, Turns}
+use Rattle.acceptor_log_translating.specs.declared.translating.Text.{Text}
 use Rattle.acceptor_log_translating.specs.Migrated.{migrated}
+use Rattle.acceptor_log_translating.specs.Translating.{IsMigratedText}
 use Rattle.acceptor_log_migrating.specs.Stands.{IsMigrating}
 
 -- what begins with a journal's text stands for its records
@@ -69,42 +69,46 @@ pub record IsMade (h : Header) (old text : List ℕ) (rs : List Record) : Type 0
   pub head : length (header_text h) ≡ header_size
   pub fits : All Fits (migrated rs)
 
-module _ {D : Type 0} (moment : D → ℕ) (both_since : D → ℕ → Images → Type 0) (new_may old_may : D → List ℕ → Type 0) (seen old_seen : D → List ℕ) (p q : D)
-    (start : (im : Images) → both_since p (moment p) im → Both new_may old_may p im) (only : Only (old_seen p) (old_may p))
-    (does : Does moment both_since (Both new_may old_may) old_seen old_may seen new_may Left [] p q) where
-  -- while the old journal is read
-  pub read-has_old : LeavesOnly moment both_since p q (HasOld (old_seen p))
-  read-has_old =
-      goes_on moment both_since p p q (HasOld (old_seen p)) (Both new_may old_may)
-      (started moment both_since p (HasOld (old_seen p)) (λ im left. only im.1 (start im left).1)) does.time
-      (λ im now. only im.1 (does.left im.1 now.1))
+pub made_for : (h : Header) (old lent bytes : List ℕ) (text : Text) (rs : List Record) → lent ≡ old → CanMigrate h rs lent → IsMigratedText h (migrated rs) text → bytes ≡ text.bytes.items
+    → IsMade h old bytes rs
+made_for h old lent bytes text rs same can made is =
+    record { can = subst (CanMigrate h rs) same can; is = is ∙ made.bytes_are; head = made.head; fits = made.fits }
 
-  still_only : Only (old_seen q) (old_may q)
-  still_only d left = only d (does.left d left) ∙ sym does.sees
+module _ {D : Type 0} (moment : D → ℕ) (both_since : D → ℕ → Images → Type 0) (new_may old_may : D → List ℕ → Type 0) (old_seen : D → List ℕ) (p : D)
+    (start : (im : Images) → both_since p (moment p) im → Both new_may old_may p im) (only : Only (old_seen p) (old_may p)) where
+  -- while the old journal is looked at
+  pub looks : LeavesOnly moment both_since p p (HasOld (old_seen p))
+  looks = started moment both_since p (HasOld (old_seen p)) (λ im left. only im.1 (start im left).1)
 
   -- and while the pair turns to the new one
   pub moves : (r : D) (h : Header) (rs made : List Record) (text : List ℕ) → CanMigrate h rs (old_seen p) → IsMade h (old_seen p) text made
-      → (Only (old_seen q) (old_may q) → get_or (old_seen q) 0 0 ≡ 67 → LeavesOnly moment both_since q r (Turns text (old_seen q)))
-      → LeavesOnly moment both_since p r (IsMigrating h rs (old_seen p))
+      → (get_or (old_seen p) 0 0 ≡ 67 → LeavesOnly moment both_since p r (Turns text (old_seen p))) → LeavesOnly moment both_since p r (IsMigrating h rs (old_seen p))
   moves r h rs made text can of turned =
       let same : made ≡ rs = same_old h made rs (old_seen p) of.can.stands can.stands in
-      let counts : get_or (old_seen q) 0 0 ≡ 67 = ap (λ (l : List ℕ). get_or l 0 0) does.sees ∙ old-counts h rs (old_seen p) can.stands in
       let text_is : text ≡ journal_text h (migrated rs) = of.is ∙ ap (λ l. journal_text h (migrated l)) same in
       let fit : All Fits (migrated rs) = subst (λ l. All Fits (migrated l)) same of.fits in
-      composed moment both_since p q r (HasOld (old_seen p)) (Turns text (old_seen q)) (IsMigrating h rs (old_seen p)) read-has_old (turned still_only counts)
-      (λ im has. inl has)
-      (λ im turns. turns-migrating h rs (old_seen p) text text_is of.head fit im (subst (λ (o : List ℕ). Turns text o im) does.sees turns))
+      weaker (turned (old-counts h rs (old_seen p) can.stands)) (λ im turns. turns-migrating h rs (old_seen p) text text_is of.head fit im turns)
 
 -- what stands for the records once the text is laid
 pub laid-stands : (h : Header) (rs : List Record) (old text was now : List ℕ) → IsMade h old text rs → now ≡ overwritten was 0 text → StandsFor h (migrated rs) now
 laid-stands h rs old text was now of is =
     begins-stands h (migrated rs) now of.head of.fits (subst (λ (l : List ℕ). BeginsWith l now) of.is (begins_with was text now is))
 
-pub ok_both : {T E P : Type 0} {Q R : T → Type 0} (r : Result T E) → OnOk r P → IfOk r Q → (P → (x : T) → Q x → R x) → IfOk r R
-ok_both (Ok x) p q join = join p x q
-ok_both (Err e) p q join = tt
-
 -- a call that failed for another reason than the device was out of memory
 pub told_memory : {T : Type 0} (r : Result T DiskError) (fault : DiskError) (e : LogError) → r ≡ Err fault → e ≡ log_fault fault → e ≢ log.Device → IsErrOf r disk.NoMemory
 told_memory r disk.NoMemory e is told other = subst (λ x. IsErrOf x disk.NoMemory) (sym is) refl
 told_memory r disk.Device e is told other = absurd (other told)
+
+-- no old journal is refused for the device
+not_for_device : (h : Header) (old : List ℕ) → IsNotMigrated h old log.Device → ⊥
+not_for_device h old why = elim why [
+  | inl fault ↦ fault
+  | inr other ↦ elim other [
+    | inl broken ↦ (let bad = broken.2 in absurd cc)
+    | inr long ↦ (let bad = long.2 in absurd cc)
+  ]
+]
+
+pub never_device : (h : Header) (old : List ℕ) (e : LogError) → (e ≢ log.NoMemory → IsNotMigrated h old e) → e ≡ log.Device → ⊥
+never_device h old e refused is =
+    not_for_device h old (subst (IsNotMigrated h old) is (refused (λ memory. (let both = sym is ∙ memory in absurd cc))))

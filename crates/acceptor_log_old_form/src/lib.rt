@@ -8,4 +8,4 @@ mod reading;
 
 pub use header::{belongs_to_first, has_first_form, old_size};
 pub use laws::{even_nodes, no_old_fault, one_old_fault, one_old_header, one_old_list};
-pub use reading::read_old;
+pub use reading::{behind_header, read_old};

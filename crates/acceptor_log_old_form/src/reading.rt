@@ -51,7 +51,7 @@ fn is_no_summary(entry: &Record) -> bool
 }
 
 /// What stands behind the header. The first bytes tell the form, whatever the header's own is.
-fn behind_header<'a>(header: &Header, bytes: &'a [u8]) -> Result<&'a [u8], LogError>
+pub fn behind_header<'a>(header: &Header, bytes: &'a [u8]) -> Result<&'a [u8], LogError>
     ensures form { OnOk result (IsInOldForm bytes.now) }
     ensures header { OnOk result (take (old_header_size header.now) bytes.now ≡ old_header_text header.now) }
     ensures behind { IfOk result (λ behind. behind.now ≡ drop (old_header_size header.now) bytes.now) }

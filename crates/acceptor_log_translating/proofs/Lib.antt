@@ -1,7 +1,4 @@
-pub mod Kept
-pub mod Well
-pub mod InOrder
-pub mod Rooms
-pub mod Offers
-pub mod Places
 pub mod Written
+pub mod FoundNext
+pub mod Writable
+pub mod OldRead

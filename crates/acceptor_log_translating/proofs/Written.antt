@@ -1,17 +1,16 @@
 -- Texts of records, one behind the other.
-use Rattle.std.proofs.Common.{◌≡◌, ◌≢◌, inl, inr, ℕ, ◌+◌, ◌-◌, ◌<◌, ◌≤◌, suc, false, cond, get_or, List, [], ◌∷◌, ◌++◌, length, refl, sym, ◌∙◌, ap, subst, arith, append-nil, append_assoc}
+use Rattle.std.proofs.Common.{◌≡◌, ◌≢◌, ℕ, ◌+◌, ◌<◌, ◌≤◌, suc, false, cond, Option, Some, None, List, [], ◌∷◌, ◌++◌, length, refl, sym, ◌∙◌, ap, subst, arith, append-nil, append_assoc}
 use Rattle.std.specs.Prelude.{All, ◌==◌, ◌&&◌, ◌^◌}
-use Rattle.std.proofs.lemmas.Option.{slice_get_within, get_or_from_slice_get}
 use Rattle.std.proofs.lemmas.List.{length-append}
-use Rattle.std.proofs.lemmas.List.Elements.{All-append, All-nil, All-cons, All-get_or}
+use Rattle.std.proofs.lemmas.List.Elements.{All-append, All-nil, All-cons}
 use Rattle.acceptor_log_form.specs.declared.header.Header.{Header}
 use Rattle.acceptor_log_form.specs.declared.record.Record.{Record}
-use Rattle.acceptor_log_form.specs.declared.record.Record.TheVariants.{Offered, Summary}
+use Rattle.acceptor_log_form.specs.declared.record.Record.TheVariants.{Summary}
 use Rattle.acceptor_log_form.specs.Text.{body_text, block_text, blocks, journal_text, header_text, header_size, Fits, FitsWidths}
 use Rattle.acceptor_log.proofs.Crash.{length-blocks}
 use Rattle.paxos_core_world.specs.KeptPart.{KeptPart}
-use Rattle.acceptor_log_translating.specs.Migrated.{offer_in, offered, summary_of, told, of_room, migrated_below}
-use Rattle.acceptor_log_translating.specs.Translating.{IsAdded, IsPlace}
+use Rattle.acceptor_log_migrated.specs.Migrated.{offered, summary_of, told, of_room, migrated_below}
+use Rattle.acceptor_log_translating.specs.Translating.{IsAdded}
 
 blocks-append : (xs ys : List Record) → blocks (xs ++ ys) ≡ blocks xs ++ blocks ys
 blocks-append [] ys = refl
@@ -39,19 +38,19 @@ both_added before mid after xs ys n m one two = record {
 pub gate_added : (h : Header) (bytes all : List ℕ) (rs : List Record) (n : ℕ) → IsAdded (header_text h) bytes rs n → all ≡ bytes ++ 0 ∷ [] → all ≡ journal_text h rs
 gate_added h bytes all rs n added is = is ∙ ap (λ (l : List ℕ). l ++ 0 ∷ []) added.text ∙ append_assoc (header_text h) (blocks rs) (0 ∷ [])
 
--- the offer that stands at a place
-pub offer_added : (records : List Record) (room place : ℕ) (r : Record) (before gate after : List ℕ) → place ≢ 0 → IsPlace records records room place → All Fits records
-    → r ≡ get_or records (place - 1) r → gate ≡ before ++ 1 ∷ [] → after ≡ gate ++ block_text r → IsAdded before after (offered room (offer_in records room)) 1
-offer_added records room place r before gate after some place_is fits read pushed written = elim place_is [
-  | inl none ↦ absurd (some none.0)
-  | inr found ↦
-      let offer = found.0 in
-      let here : get_or records (place - 1) r ≡ Offered room offer = get_or_from_slice_get records (place - 1) (Offered room offer) r found.2 in
-      let fit : Fits (get_or records (place - 1) r) = All-get_or Fits records (place - 1) r (slice_get_within records (place - 1) (Offered room offer) found.2) fits in
-      let is : r ≡ Offered room offer = read ∙ here in
-      subst (λ o. IsAdded before after (offered room o) 1) (sym found.3)
-      (one_added before gate after (Offered room offer) pushed (written ∙ ap (λ x. gate ++ block_text x) is) (subst Fits here fit))
-]
+-- the offer whose block stands there, if there is one
+pub offer_added : (m : ℕ) (o : Option (List ℕ)) (block before after : List ℕ) → block ≡ blocks (offered m o) → block ≢ [] → All Fits (offered m o) → after ≡ before ++ block
+    → IsAdded before after (offered m o) 1
+offer_added m None block before after is some fits written = absurd (some is)
+offer_added m (Some offer) block before after is some fits written = record { text = written ∙ ap (λ (l : List ℕ). before ++ l) is; counted = refl; fits = fits }
+
+pub no_offer_added : (m : ℕ) (o : Option (List ℕ)) (block before : List ℕ) → block ≡ blocks (offered m o) → block ≡ [] → IsAdded before before (offered m o) 0
+no_offer_added m None block before is none = nothing_added before
+no_offer_added m (Some offer) block before is none = absurd (omega (arith, ap length is, ap length none))
+
+-- what was written is no shorter than the records are many
+pub grown_by : (before after : List ℕ) (rs : List Record) (n : ℕ) → IsAdded before after rs n → length before + n ≤ length after
+grown_by before after rs n added = omega (arith, added.counted, ap length added.text, length-append before (blocks rs), length-blocks rs)
 
 summary_short : (room s p : ℕ) (x : ℕ × ℕ) → length (body_text (Summary room s p x)) < 2 ^ 32
 summary_short room s p x = omega arith
@@ -63,6 +62,9 @@ summary_added room k r before gate after some is fits pushed written =
     let one : Record = Summary room k.started k.promised (told k.accepted) in
     subst (λ t. IsAdded before after (cond t [] (one ∷ [])) 1) (sym some)
     (one_added before gate after one pushed (written ∙ ap (λ x. gate ++ block_text x) is) (subst FitsWidths is fits, summary_short room k.started k.promised (told k.accepted)))
+
+pub summary_same : (before after : List ℕ) (room : ℕ) (k j : KeptPart) (n : ℕ) → k ≡ j → IsAdded before after (summary_of room k) n → IsAdded before after (summary_of room j) n
+summary_same before after room k j n same added = subst (λ (p : KeptPart). IsAdded before after (summary_of room p) n) same added
 
 -- a room more
 pub room_added : (head bytes more : List ℕ) (rs : List Record) (room next count n : ℕ) → next ≡ room + 1 → IsAdded head bytes (migrated_below rs room) count → IsAdded bytes more (of_room rs room) n

@@ -1,2 +1,6 @@
-pub mod Migrated
+pub use Rattle.acceptor_log_migrated.specs.Migrated
 pub mod Translating
+pub mod Found
+pub mod Noted
+pub mod Texts
+pub mod Old

@@ -1,9 +1,9 @@
-//! What an old journal's records are translated to: of each room that they name, its offer and all that is kept of it, room
-//! by room, as the text of a new journal. The kept parts, the offers and the order of the records stay as they were.
+//! An old journal's bytes, translated to the text of the new journal: the records are read one by one, and what they leave of
+//! each room is kept, so memory is taken for the rooms and for the text.
 #![tactic(auto)]
 
-mod laws;
+mod finding;
+mod stepping;
 mod translating;
 
-pub use laws::{same_kept, same_offers, still_in_order};
 pub use translating::{Text, translate};

@@ -1,17 +1,15 @@
 //! The journal of one node, as opening reads it.
 
-ghost use Rattle.std.specs.Prelude.{◌≡◌, ◌≢◌, ◌<◌, All, [], IfOk, IfErr, MatchBool, length};
+ghost use Rattle.std.specs.Prelude.{◌≢◌, ◌<◌, [], IfOk, IfErr, MatchBool};
 ghost use Rattle.durable_pair.specs.Images.{IsSpent};
-ghost use Rattle.acceptor_log_form.specs.Text.{Fits, StandsFor};
+ghost use Rattle.acceptor_log_form.specs.Text.{StandsFor};
 ghost use Rattle.acceptor_log_form.specs.Fault.{HasFault};
-ghost use Rattle.acceptor_log_old_form.specs.OldText.{OldStandsFor};
-ghost use Rattle.acceptor_log_old_form.specs.OldFault.{HasOldFault};
+ghost use Rattle.acceptor_log_form.specs.declared.errors.LogError.TheVariants.{NoMemory};
 ghost use Rattle.acceptor_log_migrating.specs.Stands.{IsNotMigrated};
 ghost use Rattle.cfarm_fsck_journals.specs.Listed.{AreListedIn, AreRefusedIn, HasSize, IsSizeOf, WereMigrated};
 
 use crate::files::NodeFiles;
 use acceptor_log::{Header, Listed, LogError, Record, one_list, read, text_stands};
-use acceptor_log_old_form::read_old;
 use acceptor_log_translating::translate;
 use std::alloc::Global;
 
@@ -45,18 +43,6 @@ fn new_journal(
     }
 }
 
-/// The records of an old journal.
-fn old_records(alloc: Global, header: &Header, bytes: &[u8]) -> Result<Vec<Record>, LogError>
-    ensures stands { IfOk result (λ records. OldStandsFor header.now records.items bytes.now) }
-    ensures fit { IfOk result (λ records. All Fits records.items) }
-    ensures refused { IfErr result (λ e. e ≢ LogError.NoMemory → HasOldFault header.now bytes.now e) }
-{
-    match read_old(alloc, header, bytes) {
-        Ok(records) => Ok(records),
-        Err(fault) => Err(fault),
-    }
-}
-
 /// Those of the journal that migration would make of an old one.
 fn old_journal(
     alloc: Global,
@@ -70,11 +56,7 @@ fn old_journal(
 {
     text_stands();
     one_list();
-    let records = match old_records(alloc, header, bytes) {
-        Ok(records) => records,
-        Err(fault) => return Err(fault),
-    };
-    let text = match translate(alloc, header, &records) {
+    let text = match translate(alloc, header, bytes) {
         Ok(text) => text,
         Err(fault) => return Err(fault),
     };
@@ -136,7 +118,7 @@ pub fn journal_of(
     requires { 0 < header.now.nodes }
     ensures listed { IfOk result (λ found. AreListedIn header.now files.now.new.items files.now.old.items found.1.items) }
     ensures size { IfOk result (λ found. HasSize files.now.new.items files.now.old.items found.1.items found.0) }
-    ensures refused { IfErr result (λ e. e ≢ LogError.NoMemory
+    ensures refused { IfErr result (λ e. e ≢ NoMemory
         → AreRefusedIn header.now files.now.new.items files.now.old.items e) }
 {
     journal_in(alloc, header, &files.new, &files.old)

@@ -30,6 +30,14 @@ pub trait Pair: Disk {
     /// What a crash at one moment from that one on might have left of both.
     ghost both_since: { Self → ℕ → Images → Type 0 };
 
+    /// The bytes that a read of the new disk gives, lent: no device is asked for them, and they take no memory.
+    fn lent(&self) -> &[u8]
+        ensures { is_whole self.now → result.now ≡ Self.seen self.now };
+
+    /// The bytes that a read of the old disk gives, lent.
+    fn lent_old(&self) -> &[u8]
+        ensures { is_whole self.now → result.now ≡ old_seen self.now };
+
     /// All the bytes of the old disk.
     fn read_old(&mut self, alloc: Global) -> Result<Vec<u8>, DiskError>
         ensures whole { is_whole self.new ↔ is_whole self.old }

@@ -1,6 +1,8 @@
 -- What a pair of disks over real files stands for: what is kept beside the files.
 use Rattle.std.specs.Prelude.{◌≡◌, ℕ, List, []}
 use Rattle.durable_model_writes.specs.declared.call.Call.{Call}
+use Rattle.durable_model_writes.specs.Writes.{Torn}
+use Rattle.durable_model.specs.Honest.{Follows}
 use Rattle.durable_pair_files.specs.declared.file.FilePair.{FilePair}
 use Rattle.durable_pair.specs.Images.{Images, Both}
 use Rattle.durable_pair.specs.Does.{Does}
@@ -51,6 +53,10 @@ FilesDoNew = Does files_moment files_since (Both file_may_leave_new file_may_lea
 abbrev pub FilesDoOld : Call → List ℕ → FilePair → FilePair → Type 0
 FilesDoOld = Does files_moment files_since (Both file_may_leave_new file_may_leave_old) seen_in_old_file file_may_leave_old
     seen_in_file file_may_leave_new
+
+-- as one disk, where the old file counts no more, a write of n bytes leaves what may have been left, torn by it
+abbrev pub FilesTear : ℕ → ℕ → FilePair → FilePair → Type 0
+FilesTear at n old new = OldFileIsSpent old → Follows (Torn at n) (files_may_show old) (files_may_show new)
 
 -- no call was made, and a crash leaves what was read as the files were opened
 pub record AreAsOpened (pair : FilePair) : Type 0 where

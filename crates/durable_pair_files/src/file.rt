@@ -221,8 +221,8 @@ impl FilePair {
 impl FilePair {
     ghost use Rattle.std.specs.Prelude.{◌≡◌, ◌↔◌, [], length, IfOk, OnOk, OnErr, IsErrOf};
     ghost use Rattle.durable_model_writes.specs.Writes.{overwritten, Torn};
-    ghost use Rattle.durable_model.specs.Honest.{Only, Follows, Unchanged, Elapses, MayWantMemory, Counts};
-    ghost use Rattle.durable_pair_files.specs.OnFiles.{FilesDoNew, seen_in_file, files_moment, files_may_show, files_shown_since, files_faults, OldFileIsSpent};
+    ghost use Rattle.durable_model.specs.Honest.{Only, Unchanged, Elapses, MayWantMemory, Counts};
+    ghost use Rattle.durable_pair_files.specs.OnFiles.{FilesDoNew, FilesTear, seen_in_file, files_moment, files_may_show, files_shown_since, files_faults, OldFileIsSpent};
 
     fn read_new(&mut self, alloc: Global) -> Result<Vec<u8>, DiskError>
         ensures bytes { IfOk result (λ bytes. bytes.items ≡ seen_in_file self.old) }
@@ -243,8 +243,7 @@ impl FilePair {
         ensures honest { OldFileIsSpent self.new ↔ OldFileIsSpent self.old }
         ensures written { OnOk result (seen_in_file self.new ≡ overwritten (seen_in_file self.old) at bytes.now) }
         ensures others { Torn at (length bytes.now) (seen_in_file self.old) (seen_in_file self.new) }
-        ensures crash { OldFileIsSpent self.old
-            → Follows (Torn at (length bytes.now)) (files_may_show self.old) (files_may_show self.new) }
+        ensures crash { FilesTear at (length bytes.now) self.old self.new }
         ensures time { Elapses files_moment files_shown_since files_may_show self.old self.new }
         ensures memory { IsErrOf result DiskError.NoMemory
             → MayWantMemory at (length bytes.now) (seen_in_file self.old) }
@@ -350,6 +349,14 @@ impl Pair for FilePair {
     ghost both_now = { λ p t im _. both_count_now (past_of p.held) t im };
 
     ghost both_only = { λ p im _. both_only_now (past_of p.held) im };
+
+    fn lent(&self) -> &[u8] {
+        self.held.bytes()
+    }
+
+    fn lent_old(&self) -> &[u8] {
+        self.held.old_bytes()
+    }
 
     fn read_old(&mut self, alloc: Global) -> Result<Vec<u8>, DiskError> {
         self.read_old_file(alloc)

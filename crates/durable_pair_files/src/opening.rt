@@ -31,8 +31,14 @@ fn file_there(rt: &HostRuntime, path: &str) -> io::Result<File> {
 fn new_file(rt: &HostRuntime, path: &str) -> io::Result<File> {
     let file = File::create_new(rt, path)?;
     file.sync_all()?;
-    File::open(rt, folder_of(path))?.sync_all()?;
+    sync_folder(rt, path)?;
     Ok(file)
+}
+
+/// Syncs the folder that a file's name stands in.
+fn sync_folder(rt: &HostRuntime, path: &str) -> io::Result<()> {
+    let folder = File::open(rt, folder_of(path))?;
+    folder.sync_all()
 }
 
 /// A file that is there, or a new one.

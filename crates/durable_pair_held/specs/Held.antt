@@ -15,6 +15,13 @@ past_of held = record {
 abbrev pub CanNoteMore : ℕ → Held → Type 0
 CanNoteMore n held = vec_len held.notes + n ≤ vec_capacity held.notes
 
+-- it has space for a byte that a write to the new file writes over, or one to the old file
+abbrev pub HasByte : Held → Type 0
+HasByte held = vec_len held.lost + 1 ≤ vec_capacity held.lost
+
+abbrev pub HasOldByte : Held → Type 0
+HasOldByte held = vec_len held.old_lost + 1 ≤ vec_capacity held.old_lost
+
 -- how many syncs are to be noted yet, of two files that are settled or not
 abbrev pub syncs_due : Bool → Bool → ℕ
 syncs_due settled old_settled = (if settled then 0 else 1) + (if old_settled then 0 else 1)

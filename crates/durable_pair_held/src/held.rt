@@ -1,6 +1,6 @@
 //! What the two files must hold.
 
-ghost use Rattle.std.specs.Prelude.{◌≡◌, ◌↔◌, ◌≤◌, ◌+◌, ℕ, [], length, take, drop, vec_len, vec_capacity, ◌++◌, IsTrue, OnOk, OnErr, IfOk};
+ghost use Rattle.std.specs.Prelude.{true, ◌≡◌, ◌↔◌, ◌≤◌, ◌+◌, ℕ, [], length, take, drop, vec_len, vec_capacity, ◌++◌, IsTrue, OnOk, OnErr, IfOk};
 ghost use Rattle.durable_model_writes.specs.Writes.{Lengthens, overwritten};
 ghost use Rattle.durable_model_writes.specs.declared.call.Call.TheVariants.{Wrote, Synced};
 ghost use Rattle.durable_pair_held.specs.Past.{seen_new, seen_old, PutsOver, DoesNew, DoesOld};
@@ -23,7 +23,7 @@ pub struct Held {
 }
 
 impl Held {
-    ghost use Rattle.durable_pair_held.specs.Held.{past_of, CanNoteMore};
+    ghost use Rattle.durable_pair_held.specs.Held.{past_of, CanNoteMore, HasByte, HasOldByte};
 
     /// Files that hold these bytes, all of them synced. It takes no memory.
     pub fn holding(alloc: Global, bytes: Vec<u8>, old_bytes: Vec<u8>) -> Held
@@ -70,7 +70,7 @@ impl Held {
     }
 
     /// Writes to the new file, and notes the write. It makes space for the note, for one of a sync of each file behind it, and if
-    /// told so for a write of one byte more and its sync. Where it finds no memory nothing was written.
+    /// told so for a write of one byte more to either file and its sync. Where it finds no memory nothing was written.
     pub fn note_write(
         &mut self,
         at: usize,
@@ -80,11 +80,13 @@ impl Held {
         ensures done { OnOk result (DoesNew (Wrote at (length bytes.now)) bytes.now (past_of self.old) (past_of self.new)) }
         ensures stands { OnErr result (past_of self.new ≡ past_of self.old) }
         ensures spare { OnOk result (CanNoteMore 2 self.new) }
+        ensures byte { for_a_byte_more ≡ true → OnOk result (HasOldByte self.new) }
         ensures no_less { OnErr result ((n : ℕ) → CanNoteMore n self.old → CanNoteMore n self.new) }
     {
         match write_over(
             &mut self.bytes,
             &mut self.lost,
+            &mut self.old_lost,
             &mut self.notes,
             at,
             bytes,
@@ -108,11 +110,13 @@ impl Held {
         ensures done { OnOk result (DoesOld (Wrote at (length bytes.now)) bytes.now (past_of self.old) (past_of self.new)) }
         ensures stands { OnErr result (past_of self.new ≡ past_of self.old) }
         ensures spare { OnOk result (CanNoteMore 2 self.new) }
+        ensures byte { for_a_byte_more ≡ true → OnOk result (HasByte self.new) }
         ensures no_less { OnErr result ((n : ℕ) → CanNoteMore n self.old → CanNoteMore n self.new) }
     {
         match write_over(
             &mut self.old_bytes,
             &mut self.old_lost,
+            &mut self.lost,
             &mut self.notes,
             at,
             bytes,
@@ -153,10 +157,12 @@ fn is_lengthened(bytes: &[u8], at: u64, n: usize) -> bool
     n != 0 && (len < at || len - at < n as u64)
 }
 
-/// Writes over bytes, and keeps those that were there. It makes space for three notes, and for two more where it is told so.
+/// Writes over bytes, and keeps those that were there. It makes space for three notes, and where it is told so for two more and
+/// for a byte of either file.
 fn write_over(
     file: &mut Vec<u8>,
     lost: &mut Vec<u8>,
+    other_lost: &mut Vec<u8>,
     notes: &mut Vec<Noted>,
     at: usize,
     bytes: &[u8],
@@ -165,8 +171,10 @@ fn write_over(
     ensures done { IfOk result (λ s. PutsOver at bytes.now file.old.items lost.old.items s file.new.items
         lost.new.items) }
     ensures space { OnOk result (vec_len notes.new + 3 ≤ vec_capacity notes.new) }
+    ensures byte { for_a_byte_more ≡ true → OnOk result (vec_len other_lost.new + 1 ≤ vec_capacity other_lost.new) }
     ensures stays { OnErr result (file.new.items ≡ file.old.items) }
     ensures lost_stays { OnErr result (lost.new.items ≡ lost.old.items) }
+    ensures other_stays { other_lost.new.items ≡ other_lost.old.items }
     ensures notes { notes.new.items ≡ notes.old.items }
     ensures len { vec_len notes.new ≡ vec_len notes.old }
     ensures capacity { vec_capacity notes.old ≤ vec_capacity notes.new }
@@ -174,6 +182,9 @@ fn write_over(
     let len = file.len();
     let over = part(file.as_slice(), at, bytes.len()).len();
     make_space(lost, notes, over, for_a_byte_more)?;
+    if for_a_byte_more {
+        other_lost.reserve(1)?;
+    }
     put_over(file, lost, at, bytes)?;
     Ok(Step::Write(at, bytes.len(), len))
 }

@@ -190,35 +190,3 @@ pub moves_lockstep : (call : Call) (bytes : List ℕ) (this other this_now other
     → Moves call bytes this other this_now other_now → length (history this_now) ≡ length (history other_now)
 moves_lockstep call bytes this other this_now other_now same (inl steps) = steps_lockstep call bytes this other this_now other_now same steps
 moves_lockstep call bytes this other this_now other_now same (inr stays) = stays_lockstep this other this_now other_now same stays
-
--- a call after more space was made
-pub grown_steps : (call : Call) (bytes : List ℕ) (this other this_mid other_mid this_now other_now : MemoryDisk) → NotesNothing this other this_mid other_mid
-    → Steps call bytes this_mid other_mid this_now other_now → Steps call bytes this other this_now other_now
-grown_steps call bytes this other this_mid other_mid this_now other_now stays steps = record {
-  notes = record {
-    history_is = steps.notes.history_is ∙ ap (λ (h : Calls). (call, bytes) ∷ h) (history_same this this_mid stays.same);
-    first_is = steps.notes.first_is ∙ stays.same.first_is;
-  };
-  beside = record {
-    history_is = steps.beside.history_is ∙ ap (λ (h : Calls). (Left, []) ∷ h) (history_same other other_mid stays.beside_same);
-    first_is = steps.beside.first_is ∙ stays.beside_same.first_is;
-  };
-}
-
-stands_on : (old mid new : MemoryDisk) → StandsAs old mid → StandsAs mid new → StandsAs old new
-stands_on old mid new one two = record {
-  calls_are = two.calls_are ∙ one.calls_are;
-  written_are = two.written_are ∙ one.written_are;
-  first_is = two.first_is ∙ one.first_is;
-  bytes_are = two.bytes_are ∙ one.bytes_are;
-}
-
-pub stays_on : (this other this_mid other_mid this_now other_now : MemoryDisk) → NotesNothing this other this_mid other_mid
-    → NotesNothing this_mid other_mid this_now other_now → NotesNothing this other this_now other_now
-stays_on this other this_mid other_mid this_now other_now one two = record {
-  same = stands_on this this_mid this_now one.same two.same;
-  beside_same = stands_on other other_mid other_now one.beside_same two.beside_same;
-}
-
-pub other_way : (this other this_now other_now : MemoryDisk) → NotesNothing this other this_now other_now → NotesNothing other this other_now this_now
-other_way this other this_now other_now stays = record { same = stays.beside_same; beside_same = stays.same }

@@ -1,5 +1,5 @@
 -- What a pair of disks in memory stands for.
-use Rattle.std.specs.Prelude.{◌≡◌, ◌≢◌, ◌≤◌, ◌<◌, ◌+◌, ◌⊎◌, ℕ, List, [], refl, Bool, if◌then◌else◌}
+use Rattle.std.specs.Prelude.{◌≡◌, ◌≤◌, ◌+◌, ◌⊎◌, ℕ, List, [], refl}
 use Rattle.std.proofs.Common.{inl, inr, subst, sym}
 use Rattle.durable_model_writes.specs.declared.call.Call.{Call}
 use Rattle.durable_model.specs.declared.memory.MemoryDisk.{MemoryDisk}
@@ -76,19 +76,6 @@ pub record NotesNothing (this other this_now other_now : MemoryDisk) : Type 0 wh
 abbrev pub Moves : Call → List ℕ → MemoryDisk → MemoryDisk → MemoryDisk → MemoryDisk → Type 0
 Moves call bytes this other this_now other_now =
     Steps call bytes this other this_now other_now ⊎ NotesNothing this other this_now other_now
-
--- both have space for the notes of so many calls more
-pub record CanNoteMore (n : ℕ) (pair : MemoryPair) : Type 0 where
-  pub fresh_more : calls_made pair.fresh + n ≤ pair.fresh.call_capacity
-  pub former_more : calls_made pair.former + n ≤ pair.former.call_capacity
-
--- how many syncs are to be noted yet, of two disks that are settled or not
-abbrev pub syncs_due : Bool → Bool → ℕ
-syncs_due settled old_settled = (if settled then 0 else 1) + (if old_settled then 0 else 1)
-
--- nothing was noted on either of the two
-abbrev pub StandAs : MemoryPair → MemoryPair → Type 0
-StandAs old new = NotesNothing old.fresh old.former new.fresh new.former
 
 -- no call was made on either, and a crash leaves what reads give
 pub record AreSettled (pair : MemoryPair) : Type 0 where

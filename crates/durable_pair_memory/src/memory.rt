@@ -3,13 +3,13 @@
 ghost use Rattle.std.specs.Prelude.{◌≡◌, ◌≤◌, length};
 ghost use Rattle.durable_model.specs.Memory.{history};
 
-use crate::noting::{note_sync_beside, note_write_beside, read_one, sync_one, write_one};
+use crate::noting::{read_one, sync_one, write_one};
 use durable_model::{Disk, DiskError, MemoryDisk};
 use durable_model_writes::Call;
 use durable_pair::Pair;
 use lang_base::NoMemory;
 use rand_pcg::Pcg32;
-use std::alloc::{AllocError, Global};
+use std::alloc::Global;
 
 /// An honest pair of disks in memory. Each call is noted on both disks, so that what a crash at any past moment might have
 /// left of both is known. As one disk it is honest while the old one counts no more.
@@ -196,12 +196,10 @@ impl MemoryPair {
     }
 }
 
-/// What a pair over real files keeps beside them.
+/// What reads give, lent.
 impl MemoryPair {
-    ghost use Rattle.std.specs.Prelude.{◌≡◌, ◌↔◌, ◌+◌, ℕ, [], length, IsTrue, OnOk, OnErr};
-    ghost use Rattle.durable_model_writes.specs.Writes.{Lengthens};
-    ghost use Rattle.durable_model.specs.Memory.{bytes_noted};
-    ghost use Rattle.durable_pair_memory.specs.InMemory.{seen_new, seen_old, DoesNew, DoesOld, CanNoteMore, StandAs};
+    ghost use Rattle.std.specs.Prelude.{◌≡◌};
+    ghost use Rattle.durable_pair_memory.specs.InMemory.{seen_new, seen_old};
 
     /// What a read of the new disk gives.
     pub fn bytes(&self) -> &[u8]
@@ -215,103 +213,6 @@ impl MemoryPair {
         ensures { result.now ≡ seen_old self.now }
     {
         self.former.bytes()
-    }
-
-    /// A write of so many bytes would make the new disk longer.
-    pub fn is_lengthened_by(&self, at: u64, n: usize) -> bool
-        ensures { IsTrue result ↔ Lengthens at n (seen_new self.now) }
-    {
-        self.fresh.is_lengthened_by(at, n)
-    }
-
-    /// A write of so many bytes would make the old disk longer.
-    pub fn is_old_lengthened_by(&self, at: u64, n: usize) -> bool
-        ensures { IsTrue result ↔ Lengthens at n (seen_old self.now) }
-    {
-        self.former.is_lengthened_by(at, n)
-    }
-
-    /// Makes its capacity suffice for so many calls more, and for so many bytes more in the writes to each disk.
-    fn grow(&mut self, calls: usize, bytes: usize, old_bytes: usize) -> Result<(), AllocError>
-        ensures stands { StandAs self.old self.new }
-        ensures no_less { (n : ℕ) → CanNoteMore n self.old → CanNoteMore n self.new }
-        ensures calls { OnOk result (CanNoteMore calls self.new) }
-        ensures bytes { OnOk result (bytes_noted self.new.fresh + bytes ≤ self.new.fresh.byte_capacity) }
-        ensures old_bytes { OnOk result (bytes_noted self.new.former + old_bytes ≤ self.new.former.byte_capacity) }
-    {
-        match self.fresh.grow(calls, bytes) {
-            Ok(()) => self.former.grow(calls, old_bytes),
-            Err(e) => Err(e),
-        }
-    }
-
-    /// Writes to the new disk, and notes the write. It makes space for the note, for one of a sync of each disk behind it,
-    /// and if told so for a write of one byte more and its sync. Where it finds no memory nothing was written.
-    pub fn note_write(
-        &mut self,
-        at: usize,
-        bytes: &[u8],
-        for_a_byte_more: bool,
-    ) -> Result<(), AllocError>
-        ensures done { OnOk result (DoesNew (Call.Wrote at (length bytes.now)) bytes.now self.old self.new) }
-        ensures stands { OnErr result (StandAs self.old self.new) }
-        ensures spare { OnOk result (CanNoteMore 2 self.new) }
-        ensures no_less { OnErr result ((n : ℕ) → CanNoteMore n self.old → CanNoteMore n self.new) }
-    {
-        let (calls, most) = space_for(bytes.len(), for_a_byte_more);
-        match self.grow(calls, most, 0) {
-            Ok(()) => note_write_beside(&mut self.fresh, &mut self.former, at, bytes),
-            Err(e) => Err(e),
-        }
-    }
-
-    /// The same to the old disk.
-    pub fn note_old_write(
-        &mut self,
-        at: usize,
-        bytes: &[u8],
-        for_a_byte_more: bool,
-    ) -> Result<(), AllocError>
-        ensures done { OnOk result (DoesOld (Call.Wrote at (length bytes.now)) bytes.now self.old self.new) }
-        ensures stands { OnErr result (StandAs self.old self.new) }
-        ensures spare { OnOk result (CanNoteMore 2 self.new) }
-        ensures no_less { OnErr result ((n : ℕ) → CanNoteMore n self.old → CanNoteMore n self.new) }
-    {
-        let (calls, most) = space_for(bytes.len(), for_a_byte_more);
-        match self.grow(calls, 0, most) {
-            Ok(()) => note_write_beside(&mut self.former, &mut self.fresh, at, bytes),
-            Err(e) => Err(e),
-        }
-    }
-
-    /// Notes a sync of the new disk.
-    pub fn note_sync(&mut self)
-        requires { CanNoteMore 1 self.old }
-        ensures does { DoesNew Call.Synced [] self.old self.new }
-        ensures spare { (n : ℕ) → CanNoteMore (n + 1) self.old → CanNoteMore n self.new }
-    {
-        note_sync_beside(&mut self.fresh, &mut self.former)
-    }
-
-    /// Notes a sync of the old disk.
-    pub fn note_old_sync(&mut self)
-        requires { CanNoteMore 1 self.old }
-        ensures does { DoesOld Call.Synced [] self.old self.new }
-        ensures spare { (n : ℕ) → CanNoteMore (n + 1) self.old → CanNoteMore n self.new }
-    {
-        note_sync_beside(&mut self.former, &mut self.fresh)
-    }
-}
-
-/// How many calls and how many bytes a write of so many needs space for.
-fn space_for(n: usize, for_a_byte_more: bool) -> (usize, usize)
-    ensures calls { 3 ≤ result.0 }
-    ensures bytes { n ≤ result.1 }
-{
-    if for_a_byte_more {
-        (5, n.saturating_add(1))
-    } else {
-        (3, n)
     }
 }
 
@@ -432,6 +333,14 @@ impl Pair for MemoryPair {
     ghost both_now = { λ p t im _. both_count_now p t im };
 
     ghost both_only = { λ p im _. both_only_now p im };
+
+    fn lent(&self) -> &[u8] {
+        self.fresh.bytes()
+    }
+
+    fn lent_old(&self) -> &[u8] {
+        self.former.bytes()
+    }
 
     fn read_old(&mut self, alloc: Global) -> Result<Vec<u8>, DiskError>
         ensures bytes { IfOk result (λ bytes. bytes.items ≡ seen_old self.old) }

@@ -2,7 +2,9 @@
 
 ghost use Rattle.std.specs.Prelude.{◌≡◌, ◌<◌, ◌≤◌, ◌↔◌, ◌+◌, ◌⊎◌, [], false, length, IsTrue, IfOk, OnOk, OnErr, IsErrOf};
 ghost use Rattle.durable_model_writes.specs.Writes.{Lengthens};
+ghost use Rattle.durable_model_writes.specs.declared.call.Call.TheVariants.{Tore};
 ghost use Rattle.durable_model_writes.specs.History.{size_of};
+ghost use Rattle.durable_model.specs.declared.error.DiskError.TheVariants.{Device};
 ghost use Rattle.durable_model.specs.Honest.{Counts};
 ghost use Rattle.durable_model.specs.Memory.{seen_by_memory, calls_made, bytes_noted, IsPastCapacity};
 ghost use Rattle.durable_pair_memory.specs.InMemory.{Steps, NotesNothing, Moves, MustFailBeside};
@@ -34,7 +36,7 @@ pub fn note_beside(this: &mut MemoryDisk, other: &mut MemoryDisk, call: Call)
 }
 
 /// Writes, and notes the write. Where it finds no memory nothing was written.
-pub fn note_write_beside(
+fn note_write_beside(
     this: &mut MemoryDisk,
     other: &mut MemoryDisk,
     at: usize,
@@ -46,10 +48,6 @@ pub fn note_write_beside(
     ensures done { OnOk result (Steps (Call.Wrote at (length bytes.now)) bytes.now this.old other.old this.new other.new) }
     ensures stays { OnErr result (NotesNothing this.old other.old this.new other.new) }
     ensures memory { OnErr result (Lengthens at (length bytes.now) (seen_by_memory this.old)) }
-    ensures counted { calls_made this.new ≤ calls_made this.old + 1 }
-    ensures beside_counted { calls_made other.new ≤ calls_made other.old + 1 }
-    ensures capacity { this.new.call_capacity ≡ this.old.call_capacity }
-    ensures beside_capacity { other.new.call_capacity ≡ other.old.call_capacity }
 {
     this.note_write(at, bytes)?;
     other.note_call(Call::Left);
@@ -57,14 +55,10 @@ pub fn note_write_beside(
 }
 
 /// Notes a sync.
-pub fn note_sync_beside(this: &mut MemoryDisk, other: &mut MemoryDisk)
+fn note_sync_beside(this: &mut MemoryDisk, other: &mut MemoryDisk)
     requires capacity { calls_made this.old < this.old.call_capacity }
     requires beside { calls_made other.old < other.old.call_capacity }
     ensures steps { Steps Call.Synced [] this.old other.old this.new other.new }
-    ensures counted { calls_made this.new ≤ calls_made this.old + 1 }
-    ensures beside_counted { calls_made other.new ≤ calls_made other.old + 1 }
-    ensures capacity { this.new.call_capacity ≡ this.old.call_capacity }
-    ensures beside_capacity { other.new.call_capacity ≡ other.old.call_capacity }
 {
     this.note_sync();
     other.note_call(Call::Left);
@@ -103,8 +97,8 @@ pub fn write_one(
     bytes: &[u8],
 ) -> Result<(), DiskError>
     ensures done { OnOk result (Steps (Call.Wrote at (length bytes.now)) bytes.now this.old other.old this.new other.new) }
-    ensures tore { IsErrOf result DiskError.Device
-        → Moves (Call.Tore at (length bytes.now)) [] this.old other.old this.new other.new }
+    ensures tore { IsErrOf result Device
+        → Moves (Tore at (length bytes.now)) [] this.old other.old this.new other.new }
     ensures stays { IsErrOf result DiskError.NoMemory → NotesNothing this.old other.old this.new other.new }
     ensures memory { IsErrOf result DiskError.NoMemory → Lengthens at (length bytes.now) (seen_by_memory this.old) }
     ensures failures { Counts result failures.old failures.new }

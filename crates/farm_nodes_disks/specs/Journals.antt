@@ -1,9 +1,8 @@
 -- Journals that are opened on pairs of disks, and one that is refused.
-use Rattle.std.specs.Prelude.{◌≡◌, ◌≢◌, ◌⊎◌, ◌↔◌, ◌+◌, ℕ, true, List, [], ◌∷◌, length, drop, Option, Some, None, slice_get}
+use Rattle.std.specs.Prelude.{◌≡◌, ◌≢◌, ◌⊎◌, ◌↔◌, ◌+◌, ℕ, true, List, [], length, drop, Option, Some, None, Result, slice_get, MatchResult}
 use Rattle.std.specs.Global.{Vec}
 use Rattle.durable_model.specs.Honest.{Risen}
 use Rattle.durable_model.specs.Moments.{LeavesOnly}
-use Rattle.durable_model.specs.Writes.{overwritten}
 use Rattle.durable_model.specs.declared.disk.Disk as disks
 use Rattle.durable_pair.specs.declared.pair.Pair as pairs
 use Rattle.durable_pair.specs.Images.{Images, Both}
@@ -17,6 +16,9 @@ use Rattle.acceptor_log.specs.Acknowledged.{acknowledged, IsSound}
 use Rattle.acceptor_log.specs.declared.log.Log.{Log}
 use Rattle.acceptor_log_migrating.specs.Migrated.{migrated}
 use Rattle.acceptor_log_migrating.specs.Stands.{CanMigrate, IsMigrating, IsNotMigrated}
+use Rattle.acceptor_log_migrating.specs.Moving.{IsTurned}
+use Rattle.farm_nodes_disks.specs.declared.refused.RefusedPair.{RefusedPair}
+use Rattle.std.specs.Vec.Iter.{into_iter_items}
 use Rattle.paxos_core_world.specs.Quorum.{Sizes}
 use Rattle.farm_nodes_pairs.specs.OnPairs.{HasOld, HasNone, HasNew, MayShow, IsShown, IsUntouched}
 
@@ -37,7 +39,7 @@ module _ {P : Type 0} (disk : disks.Ghosts P) (pair : pairs.Ghosts P) where
     pub old : List Record
     pub can : CanMigrate header old (pair.old_seen given)
     pub records_are : records ≡ migrated old
-    pub turned : pair.old_seen log.disk ≡ overwritten (pair.old_seen given) 0 (0 ∷ [])
+    pub turned : IsTurned pair given log.disk
     pub any_moment : LeavesOnly disk.moment pair.both_since given log.disk (MayTurn header old given)
 
   -- The new journal's bytes stand for what is listed. It is as it was, and a crash at any moment of it shows what one
@@ -71,7 +73,7 @@ module _ {P : Type 0} (disk : disks.Ghosts P) (pair : pairs.Ghosts P) where
     pub old : List Record
     pub can : CanMigrate header old (pair.old_seen given)
     pub stands : StandsFor header (migrated old) (disk.seen back)
-    pub turned : pair.old_seen back ≡ overwritten (pair.old_seen given) 0 (0 ∷ [])
+    pub turned : IsTurned pair given back
 
   -- It is the pair that was given, and the journal on it has the fault; or memory or the device failed. Its old journal
   -- may have been migrated; but for that nothing was written, where the device did not fail.
@@ -88,6 +90,11 @@ module _ {P : Type 0} (disk : disks.Ghosts P) (pair : pairs.Ghosts P) where
     pub failed : fault ≡ Device → Risen (disk.faults given) (disk.faults back)
     pub unfailed : fault ≢ Device → disk.faults back ≡ disk.faults given
 
+  -- the one or the other
+  abbrev pub Opens : Header → P → Result (Log P × Vec Record) (P × LogError) → Type 0
+  Opens header given result = MatchResult result (λ opened. IsOpened header given opened.0 opened.1.items)
+      (λ refused. IsRefused header given refused.0 refused.1)
+
   module _ (q : Sizes) (digest : List ℕ) (given : List P) where
     -- the journals of the first nodes, on their pairs
     pub record AreOpened (so_far : ℕ) (opened : List (Log P × Vec Record)) : Type 0 where
@@ -102,3 +109,12 @@ module _ {P : Type 0} (disk : disks.Ghosts P) (pair : pairs.Ghosts P) where
       pub none : back ≡ None → (fault ≡ NoMemory) × (node ≡ 0) × (behind ≡ given)
       pub some : (b : P) → back ≡ Some b → (p : P) × (slice_get given node ≡ Some p) × IsRefused (header_of q digest node) p b fault
           × (behind ≡ drop (node + 1) given)
+
+    -- the journals of all nodes
+    abbrev pub AreAllOpened : List (Log P × Vec Record) → Type 0
+    AreAllOpened opened = AreOpened (length given) opened
+
+    -- or what comes back where one is refused
+    abbrev pub IsRefusedOf : RefusedPair P → Type 0
+    IsRefusedOf refused =
+        IsRefusedAt refused.node refused.fault refused.opened.items refused.pair (into_iter_items refused.behind)

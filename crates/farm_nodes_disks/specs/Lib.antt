@@ -1,2 +1,3 @@
 pub mod Journals
+pub mod Steps
 pub use Rattle.farm_nodes_pairs.specs.OnPairs

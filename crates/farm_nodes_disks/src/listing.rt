@@ -1,49 +1,34 @@
 //! The records of a journal that is open.
 
-ghost use Rattle.std.specs.Prelude.{◌≡◌, ◌≢◌, ◌≤◌, ◌+◌, ◌↔◌, [], true, length, Err, IfOk, IfErr, MatchResult};
-ghost use Rattle.durable_model.specs.Honest.{Risen, Unchanged};
-ghost use Rattle.durable_model_writes.specs.declared.call.Call.TheVariants.{Left};
+ghost use Rattle.std.specs.Prelude.{◌≡◌, ◌≢◌, ◌≤◌, ◌+◌, true, length, IfOk, IfErr, MatchResult};
 ghost use Rattle.acceptor_log_form.specs.Text.{StandsFor, blocks, header_size};
 ghost use Rattle.acceptor_log_form.specs.Fault.{HasFault};
-ghost use Rattle.acceptor_log.specs.Acknowledged.{acknowledged, IsReady};
+ghost use Rattle.acceptor_log_form.specs.declared.errors.LogError.TheVariants.{NoMemory};
+ghost use Rattle.acceptor_log.specs.Acknowledged.{acknowledged};
+ghost use Rattle.farm_nodes_disks.specs.Steps.{IsReadyOn};
 
 use acceptor_log::{Header, Listed, Log, LogError, Record, no_fault, one_list, read};
-use durable_model::{Disk, DiskError};
+use durable_pair::Pair;
 use std::alloc::Global;
 
-/// The journal, and the records that it has acknowledged. Where they are not read the disk comes back.
-pub(crate) fn list<D: Disk>(
+/// The journal, and the records that it has acknowledged. No call is made of the pair. Where they are not listed it comes back.
+pub(crate) fn list<P: Pair>(
     alloc: Global,
-    log: Log<D>,
-) -> Result<(Log<D>, Vec<Record>), (D, LogError)>
+    log: Log<P>,
+) -> Result<(Log<P>, Vec<Record>), (P, LogError)>
     ensures ok { IfOk result (λ listed. (listed.0.going ≡ true) × (listed.0.header ≡ log.header)) }
-    ensures honest { MatchResult result (λ listed. D.is_honest listed.0.disk ↔ D.is_honest log.disk)
-        (λ refused. D.is_honest refused.0 ↔ D.is_honest log.disk) }
-    ensures ready { IsReady D.is_honest D.seen D.may_leave log
-        → IfOk result (λ listed. IsReady D.is_honest D.seen D.may_leave listed.0) }
-    ensures acknowledged { IsReady D.is_honest D.seen D.may_leave log
-        → IfOk result (λ listed. acknowledged D.seen listed.0 ≡ listed.1.items) }
-    ensures records { IsReady D.is_honest D.seen D.may_leave log
-        → IfOk result (λ listed. listed.1.items ≡ acknowledged D.seen log) }
-    ensures did { MatchResult result (λ listed. D.did Left [] log.disk listed.0.disk)
-        (λ refused. D.did Left [] log.disk refused.0) }
-    ensures unchanged { D.is_honest log.disk → MatchResult result
-        (λ listed. Unchanged D.seen D.may_leave log.disk listed.0.disk)
-        (λ refused. Unchanged D.seen D.may_leave log.disk refused.0) }
-    ensures faults { IsReady D.is_honest D.seen D.may_leave log
-        → IfErr result (λ refused. refused.1 ≢ LogError.Device → refused.1 ≡ LogError.NoMemory) }
-    ensures failed { IfErr result (λ refused. refused.1 ≡ LogError.Device
-        → Risen (D.faults log.disk) (D.faults refused.0)) }
-    ensures later { MatchResult result (λ listed. D.faults log.disk ≤ D.faults listed.0.disk)
-        (λ refused. D.faults log.disk ≤ D.faults refused.0) }
-    ensures unfailed { MatchResult result (λ listed. D.faults listed.0.disk ≡ D.faults log.disk)
-        (λ refused. refused.1 ≢ LogError.Device → D.faults refused.0 ≡ D.faults log.disk) }
+    ensures same { MatchResult result (λ listed. listed.0.disk ≡ log.disk) (λ refused. refused.0 ≡ log.disk) }
+    ensures ready { IsReadyOn P.Disk log → IfOk result (λ listed. IsReadyOn P.Disk listed.0) }
+    ensures acknowledged { IsReadyOn P.Disk log → IfOk result (λ it. acknowledged P.seen it.0 ≡ it.1.items) }
+    ensures records { IsReadyOn P.Disk log → IfOk result (λ listed. listed.1.items ≡ acknowledged P.seen log) }
+    ensures faults { IsReadyOn P.Disk log → IfErr result (λ refused. refused.1 ≡ LogError.NoMemory) }
+    ensures never { IfErr result (λ refused. refused.1 ≢ LogError.Device) }
 {
     one_list();
     no_fault();
     let header = *log.header();
-    let mut disk = log.into_disk();
-    match read_again(alloc, &header, &mut disk) {
+    let disk = log.into_disk();
+    match read_lent(alloc, &header, &disk) {
         Ok(found) => {
             let Listed { records, gate } = found;
             let log = Log::resting(alloc, disk, &header, records.len() as u64, gate as u64);
@@ -53,24 +38,15 @@ pub(crate) fn list<D: Disk>(
     }
 }
 
-/// What the bytes on a disk stand for.
-fn read_again<D: Disk>(alloc: Global, header: &Header, disk: &mut D) -> Result<Listed, LogError>
-    ensures honest { D.is_honest disk.new ↔ D.is_honest disk.old }
-    ensures stands { D.is_honest disk.old
-        → IfOk result (λ found. StandsFor header.now found.records.items (D.seen disk.old)) }
+/// What the bytes on the new disk stand for.
+fn read_lent<P: Pair>(alloc: Global, header: &Header, pair: &P) -> Result<Listed, LogError>
+    ensures stands { P.is_whole pair.now
+        → IfOk result (λ it. StandsFor header.now it.records.items (P.seen pair.now)) }
     ensures gate { IfOk result (λ found. found.gate ≡ header_size + length (blocks found.records.items)) }
     ensures fewer { IfOk result (λ found. length found.records.items ≤ found.gate) }
-    ensures did { D.did Left [] disk.old disk.new }
-    ensures unchanged { D.is_honest disk.old → Unchanged D.seen D.may_leave disk.old disk.new }
-    ensures refused { D.is_honest disk.old → IfErr result (λ e.
-        e ≢ LogError.NoMemory → e ≢ LogError.Device → HasFault header.now (D.seen disk.old) e) }
-    ensures failed { result ≡ Err LogError.Device → Risen (D.faults disk.old) (D.faults disk.new) }
-    ensures unfailed { result ≢ Err LogError.Device → D.faults disk.new ≡ D.faults disk.old }
-    ensures later { D.faults disk.old ≤ D.faults disk.new }
+    ensures refused { P.is_whole pair.now
+        → IfErr result (λ e. e ≢ NoMemory → HasFault header.now (P.seen pair.now) e) }
+    ensures never { IfErr result (λ e. e ≢ LogError.Device) }
 {
-    match disk.read(alloc) {
-        Ok(bytes) => read(alloc, header, bytes.as_slice()),
-        Err(DiskError::Device) => Err(LogError::Device),
-        Err(DiskError::NoMemory) => Err(LogError::NoMemory),
-    }
+    read(alloc, header, pair.lent())
 }

@@ -1,6 +1,5 @@
 ghost use Rattle.std.specs.Prelude.{◌≡◌, length, IfOk, IfErr};
-ghost use Rattle.std.specs.Vec.Iter.{into_iter_items};
-ghost use Rattle.farm_nodes_disks.specs.Journals.{header_of, AreOpened, IsRefusedAt};
+ghost use Rattle.farm_nodes_disks.specs.Journals.{header_of, AreAllOpened, IsRefusedOf};
 
 use crate::pair::open_pair;
 use crate::refused::RefusedPair;
@@ -31,10 +30,8 @@ pub fn open_journals<P: Pair + Drop>(
     quorums: Quorums,
 ) -> Result<Vec<(Log<P>, Vec<Record>)>, RefusedPair<P>>
     requires { length pairs.items ≡ quorums.nodes }
-    ensures opened { IfOk result (λ found. AreOpened P.Disk P.Pair.own quorums digest.now pairs.items
-        (length pairs.items) found.items) }
-    ensures refused { IfErr result (λ refused. IsRefusedAt P.Disk P.Pair.own quorums digest.now pairs.items
-        refused.node refused.fault refused.opened.items refused.pair (into_iter_items refused.behind)) }
+    ensures opened { IfOk result (λ it. AreAllOpened P.Disk P.Pair.own quorums digest.now pairs.items it.items) }
+    ensures refused { IfErr result (IsRefusedOf P.Disk P.Pair.own quorums digest.now pairs.items) }
 {
     let count = quorums.nodes();
     let mut behind = pairs.into_iter();

@@ -1,14 +1,11 @@
 //! The journal of a node on its pair of disks.
 
-ghost use Rattle.std.specs.Prelude.{◌≡◌, ◌≢◌, ◌⊎◌, ◌<◌, ◌≤◌, ◌↔◌, [], ◌∷◌, true, List, IfOk, IfErr, MatchResult};
-ghost use Rattle.durable_model.specs.Honest.{Only, Risen};
-ghost use Rattle.durable_model.specs.Moments.{LeavesOnly};
-ghost use Rattle.durable_model.specs.Writes.{overwritten};
-ghost use Rattle.acceptor_log_form.specs.declared.record.Record.{Record};
+ghost use Rattle.std.specs.Prelude.{◌≡◌, ◌≢◌, ◌<◌, ◌≤◌, ◌↔◌, true, IfOk, IfErr};
+ghost use Rattle.durable_model.specs.Honest.{Risen};
 ghost use Rattle.acceptor_log.specs.Acknowledged.{acknowledged, IsSound};
-ghost use Rattle.acceptor_log_migrating.specs.Migrated.{migrated};
-ghost use Rattle.acceptor_log_migrating.specs.Stands.{CanMigrate, IsMigrating, IsNotMigrated};
-ghost use Rattle.farm_nodes_disks.specs.Journals.{IsOpened, IsRefused, WasMigrated};
+ghost use Rattle.acceptor_log_migrating.specs.Moving.{IsRefusedFor, IsTurned, Moves};
+ghost use Rattle.farm_nodes_disks.specs.Journals.{Opens};
+ghost use Rattle.farm_nodes_disks.specs.Steps.{returned, AreMigrated, IsSameOrMigrated};
 
 use crate::journal::open_journal;
 use crate::listing::list;
@@ -26,8 +23,7 @@ pub(crate) fn open_pair<P: Pair>(
     header: &Header,
 ) -> Result<(Log<P>, Vec<Record>), (P, LogError)>
     requires { 0 < header.now.nodes }
-    ensures { MatchResult result (λ opened. IsOpened P.Disk P.Pair.own header.now pair opened.0 opened.1.items)
-        (λ refused. IsRefused P.Disk P.Pair.own header.now pair refused.0 refused.1) }
+    ensures { Opens P.Disk P.Pair.own header.now pair result }
 {
     let mut pair = pair;
     match old_disk(alloc, &mut pair) {
@@ -55,31 +51,23 @@ fn open_old<P: Pair>(
 ) -> Result<(Log<P>, Vec<Record>), (P, LogError)>
     requires { 0 < header.now.nodes }
     ensures ok { IfOk result (λ opened. (opened.0.going ≡ true) × (opened.0.header ≡ header.now)) }
-    ensures whole { MatchResult result (λ opened. P.is_whole opened.0.disk ↔ P.is_whole pair)
-        (λ refused. P.is_whole refused.0 ↔ P.is_whole pair) }
+    ensures whole { P.is_whole (returned result) ↔ P.is_whole pair }
     ensures sound { IfOk result (λ opened. IsSound P.is_honest P.seen P.may_leave opened.0) }
     ensures honest { P.is_whole pair → IfOk result (λ opened. P.is_honest opened.0.disk) }
     ensures acknowledged { P.is_whole pair
         → IfOk result (λ opened. acknowledged P.seen opened.0 ≡ opened.1.items) }
-    ensures moved { P.is_whole pair → IfOk result (λ opened. (rs : List Record)
-        × CanMigrate header.now rs (P.old_seen pair) × (opened.1.items ≡ migrated rs)) }
-    ensures turned { P.is_whole pair
-        → IfOk result (λ opened. P.old_seen opened.0.disk ≡ overwritten (P.old_seen pair) 0 (0 ∷ [])) }
-    ensures any_moment { P.is_whole pair → Only (P.old_seen pair) (P.old_may pair) → (rs : List Record)
-        → CanMigrate header.now rs (P.old_seen pair) → MatchResult result
-        (λ opened. LeavesOnly P.moment P.both_since pair opened.0.disk (IsMigrating header.now rs (P.old_seen pair)))
-        (λ refused. LeavesOnly P.moment P.both_since pair refused.0 (IsMigrating header.now rs (P.old_seen pair))) }
-    ensures refused { P.is_whole pair → IfErr result (λ refused. refused.1 ≢ LogError.NoMemory
-        → refused.1 ≢ LogError.Device → IsNotMigrated header.now (P.old_seen pair) refused.1) }
-    ensures unwritten { P.is_whole pair → IfErr result (λ refused. refused.1 ≢ LogError.Device
-        → ((P.seen refused.0 ≡ P.seen pair) × (P.old_seen refused.0 ≡ P.old_seen pair))
-        ⊎ WasMigrated P.Disk P.Pair.own header.now pair refused.0) }
+    ensures moved { P.is_whole pair → IfOk result (λ opened. AreMigrated P.Pair.own header.now pair opened.1.items) }
+    ensures turned { P.is_whole pair → IfOk result (λ opened. IsTurned P.Pair.own pair opened.0.disk) }
+    ensures any_moment { P.is_whole pair → Moves P.Disk P.Pair.own header.now pair (returned result) }
+    ensures refused { P.is_whole pair → IfErr result (λ refused. IsRefusedFor header.now (P.old_seen pair) refused.1) }
+    ensures unwritten { P.is_whole pair
+        → IfErr result (λ r. IsSameOrMigrated P.Disk P.Pair.own header.now pair r.0 r.1) }
     ensures failed { IfErr result (λ refused. refused.1 ≡ LogError.Device
         → Risen (P.faults pair) (P.faults refused.0)) }
-    ensures later { MatchResult result (λ opened. P.faults pair ≤ P.faults opened.0.disk)
-        (λ refused. P.faults pair ≤ P.faults refused.0) }
-    ensures unfailed { MatchResult result (λ opened. P.faults opened.0.disk ≡ P.faults pair)
-        (λ refused. refused.1 ≢ LogError.Device → P.faults refused.0 ≡ P.faults pair) }
+    ensures later { P.faults pair ≤ P.faults (returned result) }
+    ensures unfailed { IfOk result (λ opened. P.faults opened.0.disk ≡ P.faults pair) }
+    ensures unfailed_refused { IfErr result (λ refused. refused.1 ≢ LogError.Device
+        → P.faults refused.0 ≡ P.faults pair) }
 {
     match migrate(alloc, pair, header) {
         Ok(log) => match list(alloc, log) {

@@ -1,45 +1,44 @@
--- What is found of the rooms that are named is all there is.
-use Rattle.std.proofs.Common.{◌≡◌, ◌<◌, ℕ, inr, length, refl, sym, ap, subst, ◌∙◌, arith}
-use Rattle.std.specs.Prelude.{◌^◌}
-use Rattle.acceptor_log_form.specs.Leaves.{kept_in}
-use Rattle.acceptor_log_translating.specs.Migrated.{migrated, migrated_below}
-use Rattle.acceptor_log_translating.specs.Translating.{IsMigratedText}
-use Rattle.acceptor_log_translating.proofs.Well.{well-in_order, well-byte}
-use Rattle.acceptor_log_translating.proofs.Rooms.{in_order-wider, migrated-rooms}
+-- What is found of an old journal is found of one list of records, or that is broken.
+use Rattle.std.proofs.Common.{inl, sym, subst}
+use Rattle.acceptor_log_translating.specs.Found.{AreFound}
+use Rattle.acceptor_log_translating.proofs.OldRead.{not_read, is_broken, can_migrate, made_of, too_long}
 use Rattle.acceptor_log_translating.proofs.translating.translate.Goals as goal
 
-pub written-requires-clause-votes : goal.written-requires-clause-votes
-written-requires-clause-votes c m less =
-    let h = c.args.header.now in
-    let rs = c.args.records.now in
-    let few : h.nodes < 256 = subst (λ (n : ℕ). n < 256) c.nodes_of-nodes.ensures.is c.nodes_of-nodes.ensures.few in
-    let k = kept_in rs m in
-    well-byte h.nodes k.promised k.accepted few (well-in_order h.nodes h.node c.rooms_named-rooms.result rs c.in_ok-kept.ensures.in_order m).1
+pub returns-in-Err-clause-refused : goal.returns-in-Err-clause-refused
+returns-in-Err-clause-refused c memory = inl c.in-Err.ensures.refused.1
 
-pub returns-then-len-gt-MOST_BYTES-clause-refused : goal.returns-then-len-gt-MOST_BYTES-clause-refused
-returns-then-len-gt-MOST_BYTES-clause-refused c memory =
-    let h = c.args.header.now in
-    let rs = c.args.records.now in
-    let rooms = c.rooms_named-rooms.result in
-    let long : length c.deref.result.now ≡ rooms = ap length c.deref.ensures.value ∙ c.in_ok-kept.ensures.rooms in
-    let are = ap (λ (m : ℕ). migrated_below rs m) long ∙ sym (migrated-rooms rs rooms c.rooms_named-rooms.ensures.all c.rooms_named-rooms.ensures.most) in
-    let made : IsMigratedText h (migrated rs) c.in_ok-text.text = subst (λ l. IsMigratedText h l c.in_ok-text.text) are c.in_ok-text.ensures.text in
-    inr (
-      refl,
-      in_order-wider h.nodes h.node rooms (2 ^ 16) rs c.rooms_named-rooms.ensures.most c.in_ok-kept.ensures.in_order,
-      omega (arith, c.if-len-gt-MOST_BYTES.true, c.len.ensures, c.in_ok-text.text.bytes.ok.0, ap length made.bytes_are),
-    )
+pub returns-in-Err-find-clause-refused : goal.returns-in-Err-find-clause-refused
+returns-in-Err-find-clause-refused c memory =
+    let behind = c.in-Ok.ensures in
+    let refused = c.in-Err-find.ensures.refused memory in
+    not_read c.args.header.now c.args.bytes.now c.in-Ok.behind.now _ refused.0 behind.form behind.header behind.behind refused.1
 
-pub returns-clause-in_order : goal.returns-clause-in_order
-returns-clause-in_order c =
-    let h = c.args.header.now in
-    in_order-wider h.nodes h.node c.rooms_named-rooms.result (2 ^ 16) c.args.records.now c.rooms_named-rooms.ensures.most c.in_ok-kept.ensures.in_order
+pub returns-then-not-are_sound-clause-refused : goal.returns-then-not-are_sound-clause-refused
+returns-then-not-are_sound-clause-refused c memory =
+    let behind = c.in-Ok.ensures in
+    let found = c.in-Ok-find.ensures.found in
+    is_broken c.args.header.now c.args.bytes.now c.in-Ok.behind.now found.0 behind.form behind.header behind.behind found.1 (found.2.broken cc)
 
-pub returns-clause-text : goal.returns-clause-text
-returns-clause-text c =
+pub text_of-requires : goal.text_of-requires
+text_of-requires c =
     let h = c.args.header.now in
-    let rs = c.args.records.now in
-    let rooms = c.rooms_named-rooms.result in
-    let long : length c.deref.result.now ≡ rooms = ap length c.deref.ensures.value ∙ c.in_ok-kept.ensures.rooms in
-    let are = ap (λ (m : ℕ). migrated_below rs m) long ∙ sym (migrated-rooms rs rooms c.rooms_named-rooms.ensures.all c.rooms_named-rooms.ensures.most) in
-    subst (λ l. IsMigratedText h l c.in_ok-text.text) are c.in_ok-text.ensures.text
+    let found = c.in-Ok-find.ensures.found in
+    (found.0, subst (AreFound h.nodes h.node c.in-Ok.behind.now found.0) (sym c.deref.ensures.value) (found.2.sound cc))
+
+pub returns-clause-made : goal.returns-clause-made
+returns-clause-made c =
+    let h = c.args.header.now in
+    let behind = c.in-Ok.ensures in
+    let found = c.in-Ok-find.ensures.found in
+    let are = found.2.sound cc in
+    made_of h c.args.bytes.now c.in-Ok.behind.now c.deref.result.now found.0 c.text_of.result (can_migrate h c.args.bytes.now c.in-Ok.behind.now found.0 behind.header behind.behind found.1 are.plain are.in_order)
+    (subst (AreFound h.nodes h.node c.in-Ok.behind.now found.0) (sym c.deref.ensures.value) are) c.text_of.ensures.made
+
+pub returns-clause-refused : goal.returns-clause-refused
+returns-clause-refused c =
+    let h = c.args.header.now in
+    let behind = c.in-Ok.ensures in
+    let found = c.in-Ok-find.ensures.found in
+    let are = found.2.sound cc in
+    too_long h c.args.bytes.now c.in-Ok.behind.now c.deref.result.now found.0 c.text_of.result (can_migrate h c.args.bytes.now c.in-Ok.behind.now found.0 behind.header behind.behind found.1 are.plain are.in_order)
+    (subst (AreFound h.nodes h.node c.in-Ok.behind.now found.0) (sym c.deref.ensures.value) are) c.text_of.ensures.refused

@@ -1,40 +1,25 @@
-use Rattle.std.proofs.Common.{◌≡◌, ℕ, ◌+◌, length, refl, sym, ap, ◌∙◌, subst, arith}
+use Rattle.std.proofs.Common.{◌≡◌, ℕ, List, length, sym, ap, ◌∙◌, subst, arith}
 use Rattle.acceptor_log_form.specs.Text.{header_text, header_size}
-use Rattle.acceptor_log_translating.specs.Migrated.{migrated_below}
+use Rattle.acceptor_log_migrated.specs.Migrated.{migrated_below}
 use Rattle.acceptor_log_translating.specs.Translating.{IsAdded}
-use Rattle.acceptor_log_translating.proofs.Written.{room_added, gate_added, gate_at, no_more}
+use Rattle.acceptor_log_translating.proofs.Written.{gate_added, gate_at}
 use Rattle.acceptor_log_translating.proofs.translating.written.Goals as goal
 
-pub loop-room-preserved : goal.loop-room-preserved
-loop-room-preserved c =
-    let i = c.loop-room.invariant in
-    record {
-      added = room_added (header_text c.args.header.now) c.loop-room.bytes.items c.write_room.new.out.items c.args.records.now c.loop-room.room (c.loop-room.room + 1) c.loop-room.count c.in_ok-count.field-0
-          refl i.added c.in_ok-count.ensures.added;
-      most = omega (arith, i.most, c.in_ok-count.ensures.most);
-    }
-
 pub returns-clause-text : goal.returns-clause-text
-returns-clause-text c =
+returns-clause-text c rs each =
     let h = c.args.header.now in
-    let bytes = c.loop-room.bytes.items in
-    let long : length (header_text h) ≡ header_size = sym (ap length c.in_ok-bytes.ensures.text) ∙ c.in_ok-bytes.ensures.len in
-    let all_rooms : c.loop-room.room ≡ length c.args.kept.now = omega arith in
-    let added : IsAdded (header_text h) bytes (migrated_below c.args.records.now (length c.args.kept.now)) c.loop-room.count =
-    subst (λ (m : ℕ). IsAdded (header_text h) bytes (migrated_below c.args.records.now m) c.loop-room.count) all_rooms c.loop-room.invariant.added in
+    let text = c.write_rooms.new.out.items in
+    let all = migrated_below rs (length c.args.rooms.now) in
+    let count = c.in_ok-count.count in
+    let long : length (header_text h) ≡ header_size = sym (ap length c.in_ok-text.ensures.text) ∙ c.in_ok-text.ensures.len in
+    let added : IsAdded (header_text h) text all count = subst (λ (l : List ℕ). IsAdded l text all count) c.in_ok-text.ensures.text (c.in_ok-count.ensures.added rs each) in
     record {
-      bytes_are = gate_added h bytes c.push.new.self.items (migrated_below c.args.records.now (length c.args.kept.now)) c.loop-room.count added c.in_ok-push.ensures.items;
+      bytes_are = gate_added h text c.push.new.self.items all count added c.in_ok-push.ensures.items;
       head = long;
       fits = added.fits;
       counted = added.counted;
-      at_gate = omega (arith, c.len-gate.ensures, c.loop-room.bytes.ok.0, gate_at h bytes (migrated_below c.args.records.now (length c.args.kept.now)) c.loop-room.count long added);
+      at_gate = omega (arith, c.len-gate.ensures, c.write_rooms.new.out.ok.0, gate_at h text all count long added);
     }
 
 pub returns-clause-fewer : goal.returns-clause-fewer
-returns-clause-fewer c =
-    omega (
-      arith,
-      c.len-gate.ensures,
-      c.loop-room.bytes.ok.0,
-      no_more c.args.header.now c.loop-room.bytes.items (migrated_below c.args.records.now c.loop-room.room) c.loop-room.count c.loop-room.invariant.added,
-    )
+returns-clause-fewer c = omega (arith, c.len-gate.ensures, c.write_rooms.new.out.ok.0, c.in_ok-count.ensures.grown)

@@ -30,7 +30,7 @@ returns-in-Err-open_old g c =
     (λ p is. g.met.P.Pair.honest_whole p is) (λ is. c.old_disk.ensures.any_moment is) (λ is. c.in-Ok-Counts.ensures.synced is)
     (λ is. subst (λ (found : OldDisk). IsOldDisk (g.P.Pair.old_seen c.args.pair) found) c.in-Ok-Counts.field-0-is (c.in-Ok-Counts.ensures.told is))
     (c.old_disk.ensures.unfailed (λ bad. let both = sym c.in-Ok-Counts.is ∙ bad in absurd (cc)))
-    c.in-Err-open_old.refused.0 c.in-Err-open_old.refused.1 o.whole o.refused o.unwritten o.any_moment o.failed o.unfailed
+    c.in-Err-open_old.refused.0 c.in-Err-open_old.refused.1 o.whole o.refused o.unwritten o.any_moment o.failed o.unfailed_refused
 
 pub returns-in-Ok-open_journal : goal.returns-in-Ok-open_journal
 returns-in-Ok-open_journal g c =
@@ -69,7 +69,7 @@ returns-in-Err-open_journal g c =
     (g.P.Disk.seen c.old_disk.new.pair ≢ []) (λ is new some. new.1 (sym (same is).new_same ∙ some, none is))
     c.in-Err-open_journal.refused.0 c.in-Err-open_journal.refused.1 o.honest
     (λ is memory device both. (o.refused (honest is) memory device).0 ((same is).new_same ∙ both.0))
-    (λ is memory device. (o.refused is memory device).1) (λ is device. (o.unwritten is device).same) (λ is some. (o.any_moment is some)) o.failed o.unfailed
+    (λ is memory device. (o.refused is memory device).1) (λ is device. (o.unwritten is device).same) (λ is some. (o.any_moment is some)) o.failed o.unfailed_refused
 
 pub returns-in-Ok-open : goal.returns-in-Ok-open
 returns-in-Ok-open g c =

@@ -10,9 +10,9 @@ returns-in-Ok-clause-done c =
     let old = c.args.self.now in
     let f : Content = (c.write_over.new.file.items, c.write_over.new.lost.items) in
     let notes = last_first old.notes.items c.write_over.new.notes.items c.push_reserved.new.self.items (Old c.in-Ok.step) c.write_over.ensures.notes c.push_reserved.ensures.items in
-    old_wrote (past_of old) _ c.in-Ok.step f c.args.at c.args.bytes.now (λ i. record { notes = notes i; new = (old.bytes.items, old.lost.items); old = (c.write_over.new.file.items, c.write_over.new.lost.items) }) c.in-Ok.ensures.done
+    old_wrote (past_of old) _ c.in-Ok.step f c.args.at c.args.bytes.now (λ i. record { notes = notes i; new = (old.bytes.items, c.write_over.ensures.other_stays i); old = (c.write_over.new.file.items, c.write_over.new.lost.items) }) c.in-Ok.ensures.done
 
 pub returns-in-Err-clause-stands : goal.returns-in-Err-clause-stands
 returns-in-Err-clause-stands c =
     let old = c.args.self.now in
-    λ i. record { notes = reverse (c.write_over.ensures.notes i); new = (old.bytes.items, old.lost.items); old = (c.in-Err.ensures.stays i, c.in-Err.ensures.lost_stays i) }
+    λ i. record { notes = reverse (c.write_over.ensures.notes i); new = (old.bytes.items, c.write_over.ensures.other_stays i); old = (c.in-Err.ensures.stays i, c.in-Err.ensures.lost_stays i) }
