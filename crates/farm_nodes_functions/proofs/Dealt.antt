@@ -1,5 +1,5 @@
 -- What is dealt out in the rooms of a function are the seats of each room as it opens.
-use Rattle.std.proofs.Common.{◌≡◌, ℕ, ◌<◌, List, length, map, Option, sym, ap, subst, ◌∙◌}
+use Rattle.std.proofs.Common.{◌≡◌, ℕ, ◌<◌, List, length, map, Option, refl, sym, ap, subst, ◌∙◌}
 use Rattle.std.specs.Global.{Vec}
 use Rattle.std.proofs.lemmas.List.{length-map}
 use Rattle.paxos_core_world.specs.KeptPart.{KeptPart}
@@ -22,30 +22,31 @@ use Rattle.farm_nodes_opening.proofs.OneRoom.{as_given, as_many, map-map, one_fu
 use Rattle.farm_nodes_functions.specs.Function.{Offered, AreHere, IsOpenFunction}
 use Rattle.farm_nodes_functions.proofs.Outcomes.{kept_first, kept_second, kept_third, kept_fourth}
 
-pub as_opened : {T : Type 0} (table : RoomAt) (q : Sizes) (kept : List KeptPart) (offers : List (Option T)) (seats : List (SeatValue T)) → AreDealt table (opening_of q kept) offers seats → AreOpened q kept offers seats
+abbrev pub as_opened : {T : Type 0} (table : RoomAt) (q : Sizes) (kept : List KeptPart) (offers : List (Option T)) (seats : List (SeatValue T)) → AreDealt table (opening_of q kept) offers seats → AreOpened q kept offers seats
 as_opened table q kept offers seats d = record { table = table; cells = d.cells; size = d.size; seats_are = d.seats_are }
 
-module _ (q : Sizes) (kept : List (List KeptPart)) (offers : FunctionOffers) (seats : List FunctionSeat) (are : AreSeatsOf q kept offers seats) where
-  first_opened : AreOpened q (kept_in 0 kept) offers.first.items (map (λ s. s.first) seats)
+module _ (number : ℕ) (q : Sizes) (kept : List (List KeptPart)) (offers : FunctionOffers) (seats : List FunctionSeat) (are : AreSeatsOf number q kept offers seats) where
+  abbrev first_opened : AreOpened q (kept_in 0 kept) offers.first.items (map (λ s. s.first) seats)
   first_opened = as_opened _ q (kept_in 0 kept) offers.first.items (map (λ s. s.first) seats) are.first
 
-  second_opened : AreOpened q (kept_in 1 kept) offers.second.items (map (λ s. s.second) seats)
+  abbrev second_opened : AreOpened q (kept_in 1 kept) offers.second.items (map (λ s. s.second) seats)
   second_opened = as_opened _ q (kept_in 1 kept) offers.second.items (map (λ s. s.second) seats) are.second
 
-  third_opened : AreOpened q (kept_in 2 kept) offers.third.items (map (λ s. s.third) seats)
+  abbrev third_opened : AreOpened q (kept_in 2 kept) offers.third.items (map (λ s. s.third) seats)
   third_opened = as_opened _ q (kept_in 2 kept) offers.third.items (map (λ s. s.third) seats) are.third
 
-  fourth_opened : AreOpened q (kept_in 3 kept) offers.fourth.items (map (λ s. s.fourth) seats)
+  abbrev fourth_opened : AreOpened q (kept_in 3 kept) offers.fourth.items (map (λ s. s.fourth) seats)
   fourth_opened = as_opened _ q (kept_in 3 kept) offers.fourth.items (map (λ s. s.fourth) seats) are.fourth
 
   -- they are all of one function
-  pub all_one : AreOfOneFunction seats
+  pub all_one : AreOfOneFunction number seats
   all_one =
-      one_function _ _ _ _ _ _ _ _ seats
+      one_function number first_opened.table second_opened.table third_opened.table fourth_opened.table first_opened.cells second_opened.cells third_opened.cells fourth_opened.cells seats
       (one_room q (kept_in 0 kept) offers.first.items (map (λ s. s.first) seats) first_opened)
       (one_room q (kept_in 1 kept) offers.second.items (map (λ s. s.second) seats) second_opened)
       (one_room q (kept_in 2 kept) offers.third.items (map (λ s. s.third) seats) third_opened)
       (one_room q (kept_in 3 kept) offers.fourth.items (map (λ s. s.fourth) seats) fourth_opened)
+      (refl, (refl, (refl, (refl, tt))))
 
   -- as many as the nodes
   pub all_count : length seats ≡ q.nodes
@@ -66,15 +67,15 @@ module _ {H : Type 0} {h : naming.Ghosts H} where
       (opened_pairs q given here (λ (n : Seats H h). seat n.seat) (λ (n : Seats H h). n.claim) nodes (map seat seats)
       (sym (map-map seat (λ (n : Seats H h). n.seat) nodes) ∙ ap (λ ss. map seat ss) en) one (as_opened table q given here (map seat seats) d))
 
-  pub open_function_is : (q : Sizes) (kept : List (Vec KeptPart)) (f : ℕ) (offers : Offered) (parts : List (List KeptPart)) (here : FunctionOffers) (seats : List FunctionSeat) (nodes : List (Seats H h))
-      → parts ≡ parts_of kept f → AreHere f offers here → AreSeatsOf q parts here seats → map (λ n. n.seat) nodes ≡ seats → HaveOneClaim (map (λ n. n.claim) nodes) → AreSettled q kept f
+  pub open_function_is : (number : ℕ) (q : Sizes) (kept : List (Vec KeptPart)) (f : ℕ) (offers : Offered) (parts : List (List KeptPart)) (here : FunctionOffers) (seats : List FunctionSeat) (nodes : List (Seats H h))
+      → parts ≡ parts_of kept f → AreHere f offers here → AreSeatsOf number q parts here seats → map (λ n. n.seat) nodes ≡ seats → HaveOneClaim (map (λ n. n.claim) nodes) → AreSettled q kept f
       → length kept ≡ q.nodes → IsOpenFunction q kept f offers nodes
-  open_function_is q kept f offers parts here seats nodes ep are is en one settled size =
+  open_function_is number q kept f offers parts here seats nodes ep are is en one settled size =
       record {
         first = numbered_room _ q (kept_of kept (room_at f First)) (kept_in 0 parts) (offers_of (rows_of offers.first.items) f) here.first.items (λ s. s.first) nodes seats (ap (λ ps. kept_in 0 ps) ep ∙ kept_first kept f) are.first en one is.first;
         second = numbered_room _ q (kept_of kept (room_at f Second)) (kept_in 1 parts) (offers_of (rows_of offers.second.items) f) here.second.items (λ s. s.second) nodes seats (ap (λ ps. kept_in 1 ps) ep ∙ kept_second kept f) are.second en one is.second;
         third = numbered_room _ q (kept_of kept (room_at f Third)) (kept_in 2 parts) (offers_of (rows_of offers.third.items) f) here.third.items (λ s. s.third) nodes seats (ap (λ ps. kept_in 2 ps) ep ∙ kept_third kept f) are.third en one is.third;
         fourth = numbered_room _ q (kept_of kept (room_at f Fourth)) (kept_in 3 parts) (offers_of (rows_of offers.fourth.items) f) here.fourth.items (λ s. s.fourth) nodes seats (ap (λ ps. kept_in 3 ps) ep ∙ kept_fourth kept f) are.fourth en one is.fourth;
-        count = sym (length-map nodes (λ n. n.seat)) ∙ (ap length en ∙ (all_count q parts here seats is ∙ sym size));
+        count = sym (length-map nodes (λ n. n.seat)) ∙ (ap length en ∙ (all_count number q parts here seats is ∙ sym size));
         settled = settled;
       }

@@ -1,9 +1,10 @@
-ghost use Rattle.std.specs.Prelude.{◌≡◌, ◌+◌, ◌*◌, ◌<◌, ◌≤◌, length, IfOk, OnOk, IfErr};
+ghost use Rattle.std.specs.Prelude.{◌≡◌, ◌+◌, ◌*◌, ◌<◌, ◌≤◌, ◌⊎◌, length, IfOk, OnOk, IfErr};
 ghost use Rattle.rooms.specs.Opened.{AreOffersOf};
 ghost use Rattle.farm_nodes_opening.specs.Numbers.{room_at};
 ghost use Rattle.farm_nodes_opening.specs.Which.TheVariants as which;
 ghost use Rattle.farm_nodes_lists.specs.Rows.{offers_of, rows_of};
 ghost use Rattle.farm_nodes_opening.specs.Kept.{kept_of};
+ghost use Rattle.farm_nodes_opening.specs.declared.fault.RoomFault.TheVariants as fault;
 ghost use Rattle.farm_nodes_functions.specs.Function.{room_fault, AreHere, AreTaken, IsOpenFunction, IsTold};
 
 use constprop_check::ConstProp;
@@ -16,7 +17,7 @@ use offers::Offer;
 use paxos_core::{Kept, Quorums};
 use rooms::RoomError;
 use rooms_function::{Alloc, FunctionOffers, FunctionRoom};
-use rooms_hall::{Hall, Naming};
+use rooms_hall::{DrawError, Drawn, Hall, Naming};
 use std::alloc::Global;
 
 /// The offers that the nodes of a farm have made, pass by pass: node by node, for each function at most one.
@@ -61,15 +62,36 @@ pub(crate) fn open_function<H: Naming>(
         Ok(here) => here,
         Err(NoMemory) => return Err(Unopened::no_memory(4 * function)),
     };
-    let seats = match FunctionRoom::open(alloc, parts.as_slice(), here, quorums) {
+    let drawn = match drawn_for(hall, function) {
+        Ok(drawn) => drawn,
+        Err(unopened) => return Err(unopened),
+    };
+    let number = drawn.number();
+    let seats = match FunctionRoom::open(alloc, number, parts.as_slice(), here, quorums) {
         Ok(seats) => seats,
         Err(unopened) => return Err(told(function, unopened)),
     };
-    match numbered(alloc, hall, seats) {
+    match numbered(alloc, drawn, seats) {
         Ok(nodes) => Ok(nodes),
         Err(fault) => Err(Unopened {
             room: 4 * function,
             fault,
+        }),
+    }
+}
+
+/// Draws the number with which the table of a function's rooms opens.
+fn drawn_for<H: Naming>(hall: &Hall<H>, function: u16) -> Result<Drawn<H>, Unopened>
+    requires { function < 16384 }
+    ensures room { IfErr result (λ e. e.room ≡ 4 * function) }
+    ensures fault { IfErr result (λ e. (e.fault ≡ fault.NoMemory) ⊎ (e.fault ≡ fault.Spent)) }
+{
+    match hall.draw() {
+        Ok(drawn) => Ok(drawn),
+        Err(DrawError::NoMemory) => Err(Unopened::no_memory(4 * function)),
+        Err(DrawError::Spent) => Err(Unopened {
+            room: 4 * function,
+            fault: RoomFault::Spent,
         }),
     }
 }

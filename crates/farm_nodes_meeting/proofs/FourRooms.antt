@@ -1,10 +1,12 @@
 -- The four rooms of a function together.
-use Rattle.std.proofs.Common.{◌≡◌, ◌≢◌, ◌↔◌, Bool, true, false, ◌&&◌, Option, Some, None, IfSome, is_some, refl, sym, ap, ◌∙◌}
+use Rattle.std.proofs.Common.{◌≡◌, ◌≢◌, ◌↔◌, ℕ, Bool, true, false, ◌&&◌, Option, Some, None, IfSome, is_some, refl, sym, ap, ◌∙◌, inl, inr}
+use Rattle.std.proofs.lemmas.Bool.{cases_eq}
 use Rattle.std.specs.Prelude.{IsSome, IsTrue}
 use Rattle.rooms_hall.specs.Claimed.{Claimed}
 use Rattle.farm_nodes_passes.specs.FunctionMeeting.{FunctionMeeting}
 use Rattle.farm_nodes_passes.specs.FunctionSeat.{FunctionSeat}
-use Rattle.farm_nodes_passes.specs.FunctionOf.{AreAsBefore, HaveMetIn, IsSameFunction}
+use Rattle.farm_nodes_passes.specs.FunctionOf.{AreAsBefore, AreStrangers, HaveMetIn}
+use Rattle.farm_nodes_passes.specs.Met.{IsOneFunction}
 use Rattle.farm_nodes_passes.specs.Offers.{Constants, Expressions, Allocation, Order}
 use Rattle.farm_nodes_meeting.specs.Held.{Held, held}
 use Rattle.farm_nodes_meeting.specs.Learned.{learned_offer}
@@ -82,37 +84,42 @@ has_all_told c a p q r x early late told ip iq ir ix ee el et =
       λ h. all.1 ((h.first, h.second), (h.third, h.fourth)),
     )
 
+-- numbers that are not two are one
+one_number : (n m : ℕ) → (n ≢ m → ⊥) → n ≡ m
+one_number n m never = elim (cases_eq n m) [ inl e ↦ e | inr apart ↦ absurd (never apart) ]
+
 module _ (c d c' d' : Claimed) (a b a' b' : FunctionSeat) (ec : c' ≡ c) (ed : d' ≡ d) where
   -- they have met in each room, or are as they were
-  pub met_in : (m : Option FunctionMeeting) → (m ≡ None → c.number ≢ d.number) → AreAsBefore m a b a' b'
-      → IfSome m (λ x. IsSameFunction c a d b) → IfSome m (λ x. HaveMetIn x a b a' b') → MetIn (held_with c a) (held_with d b) (held_with c' a') (held_with d' b')
-  met_in None away same is met =
+  pub met_in : (m : Option FunctionMeeting) → (m ≡ None → AreStrangers a b) → ((m ≡ None) ↔ (c.number ≢ d.number)) → AreAsBefore m a b a' b'
+      → IfSome m (λ x. IsOneFunction a b) → IfSome m (λ x. HaveMetIn x a b a' b') → MetIn (held_with c a) (held_with d b) (held_with c' a') (held_with d' b')
+  met_in None away two same is met =
       let ea : a' ≡ a = (same refl).0 in
       let eb : b' ≡ b = (same refl).1 in
       record {
-        first = met_apart c d c' d' a.first b.first a'.first b'.first ec ed (away refl) (ap (λ (s : FunctionSeat). s.first) ea) (ap (λ (s : FunctionSeat). s.first) eb);
-        second = met_apart c d c' d' a.second b.second a'.second b'.second ec ed (away refl) (ap (λ (s : FunctionSeat). s.second) ea) (ap (λ (s : FunctionSeat). s.second) eb);
-        third = met_apart c d c' d' a.third b.third a'.third b'.third ec ed (away refl) (ap (λ (s : FunctionSeat). s.third) ea) (ap (λ (s : FunctionSeat). s.third) eb);
-        fourth = met_apart c d c' d' a.fourth b.fourth a'.fourth b'.fourth ec ed (away refl) (ap (λ (s : FunctionSeat). s.fourth) ea) (ap (λ (s : FunctionSeat). s.fourth) eb);
+        first = met_apart c d c' d' a.first b.first a'.first b'.first ec ed (away refl).first (two.0 refl) (ap (λ (s : FunctionSeat). s.first) ea) (ap (λ (s : FunctionSeat). s.first) eb);
+        second = met_apart c d c' d' a.second b.second a'.second b'.second ec ed (away refl).second (two.0 refl) (ap (λ (s : FunctionSeat). s.second) ea) (ap (λ (s : FunctionSeat). s.second) eb);
+        third = met_apart c d c' d' a.third b.third a'.third b'.third ec ed (away refl).third (two.0 refl) (ap (λ (s : FunctionSeat). s.third) ea) (ap (λ (s : FunctionSeat). s.third) eb);
+        fourth = met_apart c d c' d' a.fourth b.fourth a'.fourth b'.fourth ec ed (away refl).fourth (two.0 refl) (ap (λ (s : FunctionSeat). s.fourth) ea) (ap (λ (s : FunctionSeat). s.fourth) eb);
       }
-  met_in (Some x) away same is have =
+  met_in (Some x) away two same is have =
+      let one : c.number ≡ d.number = one_number c.number d.number (λ apart. let bad : Some x ≡ None = two.1 apart in cc) in
       record {
-        first = met_there c d c' d' a.first b.first a'.first b'.first ec ed x.first record { room = is.rooms.first; number = is.number } have.first;
-        second = met_there c d c' d' a.second b.second a'.second b'.second ec ed x.second record { room = is.rooms.second; number = is.number } have.second;
-        third = met_there c d c' d' a.third b.third a'.third b'.third ec ed x.third record { room = is.rooms.third; number = is.number } have.third;
-        fourth = met_there c d c' d' a.fourth b.fourth a'.fourth b'.fourth ec ed x.fourth record { room = is.rooms.fourth; number = is.number } have.fourth;
+        first = met_there c d c' d' a.first b.first a'.first b'.first ec ed x.first is.first one have.first;
+        second = met_there c d c' d' a.second b.second a'.second b'.second ec ed x.second is.second one have.second;
+        third = met_there c d c' d' a.third b.third a'.third b'.third ec ed x.third is.third one have.third;
+        fourth = met_there c d c' d' a.fourth b.fourth a'.fourth b'.fourth ec ed x.fourth is.fourth one have.fourth;
       }
 
   -- it is told whether they are of the same rooms
-  pub one_told : (m : Option FunctionMeeting) → (m ≡ None → c.number ≢ d.number) → IfSome m (λ x. IsSameFunction c a d b)
+  pub one_told : (m : Option FunctionMeeting) → (m ≡ None → AreStrangers a b) → IfSome m (λ x. IsOneFunction a b)
       → IsTrue (is_some m) ↔ AreOne (held_with c a) (held_with d b)
-  one_told None away is = (λ e. absurd (cc e), λ one. absurd (away refl one.first.number))
+  one_told None away is = (λ e. absurd (cc e), λ one. absurd ((away refl).first one.first))
   one_told (Some x) away is = (
     λ _. record {
-      first = record { room = is.rooms.first; number = is.number };
-      second = record { room = is.rooms.second; number = is.number };
-      third = record { room = is.rooms.third; number = is.number };
-      fourth = record { room = is.rooms.fourth; number = is.number };
+      first = is.first;
+      second = is.second;
+      third = is.third;
+      fourth = is.fourth;
     },
     λ _. refl,
   )

@@ -7,7 +7,7 @@ use Rattle.std.proofs.lemmas.Option.{slice_get-get_or, slice_get_within}
 use Rattle.farm_nodes_meeting.specs.Counts.{IsCount}
 use Rattle.farm_nodes_meeting.specs.Functions.{BothLink, MetIn, HasMet}
 use Rattle.farm_nodes_meeting.specs.Held.{Held}
-use Rattle.farm_nodes_meeting.specs.Lists.{IsAt, LinkAt, HaveMetAll}
+use Rattle.farm_nodes_meeting.specs.Lists.{IsAt, IsOneAt, LinkAt, AreAll, AreOfTwoFarms, HaveMetAll}
 use Rattle.farm_nodes_meeting.proofs.Counts.{count_next, most_next, each_counted, none_counted}
 use Rattle.farm_nodes_meeting.proofs.FourRooms.{same_held, same_rooms}
 
@@ -97,6 +97,12 @@ module _ {S : Type 0} (Met : S → S → S → S → Type 0) (Links : S → S �
 pub there : {S : Type 0} (xs ys : List S) (k : ℕ) (x : S) → length ys ≡ length xs → slice_get ys k ≡ Some x → slice_get xs k ≡ Some (get_or xs k x)
 there xs ys k x long e = let within : k < length ys = slice_get_within ys k x e in slice_get-get_or xs k x (omega (arith, within, long))
 
+-- what stands at a place within
+found : {S : Type 0} (xs : List S) (k : ℕ) → k < length xs → (x : S) × (slice_get xs k ≡ Some x)
+found [] k within = absurd (omega (arith, within))
+found (x ∷ xs) zero within = (x, refl)
+found (x ∷ xs) (suc k) within = found xs k (omega (arith, within))
+
 module _ {S T1 T2 T3 T4 : Type 0} (view : S → Held T1 T2 T3 T4) where
   abbrev pub Met : S → S → S → S → Type 0
   Met a b a' b' = MetIn (view a) (view b) (view a') (view b')
@@ -127,25 +133,40 @@ module _ {S T1 T2 T3 T4 : Type 0} (view : S → Held T1 T2 T3 T4) where
     all = λ e. absurd (other e);
     same = λ e. absurd (other e);
     none = λ never. refl;
+    strangers = λ apart. refl;
   }
+
+  -- where the numbers are two the rooms are not the same
+  pub none_one : (xs ys xs' ys' : List S) → length xs ≡ length ys → AreAll Met xs ys xs' ys' → AreOfTwoFarms view xs ys → (k : ℕ) → k < length xs → IsOneAt view xs ys k → ⊥
+  none_one xs ys xs' ys' long all apart k below one =
+      let a = found xs k below in
+      let b = found ys k (omega (arith, below, long)) in
+      let a' = found xs' k (omega (arith, below, all.first)) in
+      let b' = found ys' k (omega (arith, below, long, all.second)) in
+      let met : Met a.0 b.0 a'.0 b'.0 = all.each k a.0 b.0 a'.0 b'.0 a.1 b.1 a'.1 b'.1 in
+      apart k below a.0 b.0 a.1 b.1 (met.first.number.0 (one a.0 b.0 a.1 b.1).first)
 
   pub met_all : (xs ys xs' ys' : List S) (n count : ℕ) → length xs ≡ length ys → n ≡ length xs → MetBefore Met Links xs ys xs' ys' n count → HaveMetAll xs ys xs' ys' count view
   met_all xs ys xs' ys' n count long end before =
       let counted : IsCount (LinkAt view xs' ys') (length xs) count = subst (λ l. IsCount (LinkAt view xs' ys') l count) end before.counted in
       let each : (k : ℕ) (a b a' b' : S) → slice_get xs k ≡ Some a → slice_get ys k ≡ Some b → slice_get xs' k ≡ Some a' → slice_get ys' k ≡ Some b' → Met a b a' b' =
       λ k a b a' b' ea eb ea' eb'. before.each k a b a' b' (let within : k < length xs = slice_get_within xs k a ea in omega (arith, within, end)) ea eb ea' eb' in
+      let all_met : AreAll Met xs ys xs' ys' = record { first = before.first; second = before.second; each = each } in
+      let none : ((k : ℕ) → k < length xs → IsOneAt view xs ys k → ⊥) → count ≡ 0 =
+      λ never. none_counted (LinkAt view xs' ys') (length xs) count counted (λ k below link. never k below (λ a b ea eb.
+      let ea' : slice_get xs' k ≡ Some (get_or xs' k a) = there xs' xs k a (sym before.first) ea in
+      let eb' : slice_get ys' k ≡ Some (get_or ys' k b) = there ys' ys k b (sym before.second) eb in
+      same_rooms (view a) (view b) (view (get_or xs' k a)) (view (get_or ys' k b)) (each k a b (get_or xs' k a) (get_or ys' k b) ea eb ea' eb')
+      (link (get_or xs' k a) (get_or ys' k b) ea' eb'))) in
       record {
         unlike = λ no. absurd (no long);
-        met = λ e. record { first = before.first; second = before.second; each = each };
+        met = λ e. all_met;
         counted = λ e. counted;
         all = λ e all. each_counted (LinkAt view xs' ys') (length xs) count counted all;
         same = λ e k link a' b' ea' eb'.
             let ea : slice_get xs k ≡ Some (get_or xs k a') = there xs xs' k a' before.first ea' in
             let eb : slice_get ys k ≡ Some (get_or ys k b') = there ys ys' k b' before.second eb' in
             same_held (view (get_or xs k a')) (view (get_or ys k b')) (view a') (view b') (each k (get_or xs k a') (get_or ys k b') a' b' ea eb ea' eb') (link a' b' ea' eb');
-        none = λ never. none_counted (LinkAt view xs' ys') (length xs) count counted (λ k below link. never k below (λ a b ea eb.
-            let ea' : slice_get xs' k ≡ Some (get_or xs' k a) = there xs' xs k a (sym before.first) ea in
-            let eb' : slice_get ys' k ≡ Some (get_or ys' k b) = there ys' ys k b (sym before.second) eb in
-            same_rooms (view a) (view b) (view (get_or xs' k a)) (view (get_or ys' k b)) (each k a b (get_or xs' k a) (get_or ys' k b) ea eb ea' eb')
-            (link (get_or xs' k a) (get_or ys' k b) ea' eb')));
+        none = none;
+        strangers = λ apart. none (none_one xs ys xs' ys' long all_met apart);
       }

@@ -7,10 +7,9 @@ use Rattle.rooms_seat.specs.Meeting.{Remains, meeting_of}
 use Rattle.rooms_seat.specs.declared.meeting.Meeting.{Meeting}
 use Rattle.rooms_seat.specs.declared.meeting.Meeting.TheVariants.{Same}
 use Rattle.rooms_state.specs.SeatState.{SeatState}
-use Rattle.rooms.specs.SeatValue.{SeatValue, offer_of}
+use Rattle.rooms.specs.SeatValue.{IsOneRoom, SeatValue, offer_of}
 use Rattle.rooms.specs.SeatValue as seats
 use Rattle.farm_nodes_passes.specs.Met.{Met}
-use Rattle.farm_nodes_passes.specs.RoomOf.{IsSameRoom}
 use Rattle.farm_nodes_meeting.specs.Held.{Numbered, numbered}
 use Rattle.farm_nodes_meeting.specs.Learned.{learned_offer}
 use Rattle.farm_nodes_meeting.specs.Rooms.{LinkIn, MetIn}
@@ -30,14 +29,12 @@ remains_same s t e = record {
 }
 
 module _ {T : Type 0} (c d c' d' : Claimed) (a b a' b' : SeatValue T) (ec : c' ≡ c) (ed : d' ≡ d) where
-  moved : a'.words.table ≡ a.words.table → b'.words.table ≡ b.words.table → a'.sights ≡ a.sights → b'.sights ≡ b.sights → IsSameRoom c a d b ↔ IsSameRoom c' a' d' b'
+  moved : a'.words.table ≡ a.words.table → b'.words.table ≡ b.words.table → a'.sights ≡ a.sights → b'.sights ≡ b.sights → IsOneRoom a b ↔ IsOneRoom a' b'
   moved ta tb sa sb =
       let na : names_of a'.sights ≡ names_of a.sights = ap (λ (xs : List (SightOf T)). names_of xs) sa in
-      let nb : names_of b'.sights ≡ names_of b.sights = ap (λ (xs : List (SightOf T)). names_of xs) sb in
-      let mc : c'.number ≡ c.number = ap (λ (x : Claimed). x.number) ec in
-      let md : d'.number ≡ d.number = ap (λ (x : Claimed). x.number) ed in (
-        λ is. record { room = record { table = ta ∙ is.room.table ∙ sym tb; cells = na ∙ is.room.cells ∙ sym nb }; number = mc ∙ is.number ∙ sym md },
-        λ is. record { room = record { table = sym ta ∙ is.room.table ∙ tb; cells = sym na ∙ is.room.cells ∙ nb }; number = sym mc ∙ is.number ∙ md },
+      let nb : names_of b'.sights ≡ names_of b.sights = ap (λ (xs : List (SightOf T)). names_of xs) sb in (
+        λ is. record { table = ta ∙ is.table ∙ sym tb; cells = na ∙ is.cells ∙ sym nb },
+        λ is. record { table = sym ta ∙ is.table ∙ tb; cells = sym na ∙ is.cells ∙ nb },
       )
 
   -- where both have learned and seen, they hold one offer
@@ -51,9 +48,9 @@ module _ {T : Type 0} (c d c' d' : Claimed) (a b a' b' : SeatValue T) (ec : c' �
       let holds : seats.HoldSame (Same p.value) a' b' = subst (λ w. seats.HoldSame w a' b') answer met.offer in
       holds x y p.seen (ap (λ (j : ℕ). offer_of b' j) same ∙ q.seen))
 
-  -- seats of other numbers are as they were
-  pub met_apart : c.number ≢ d.number → a' ≡ a → b' ≡ b → MetIn (numbered c a) (numbered d b) (numbered c' a') (numbered d' b')
-  met_apart away ea eb =
+  -- seats of two rooms are as they were
+  pub met_apart : (¬ IsOneRoom a b) → c.number ≢ d.number → a' ≡ a → b' ≡ b → MetIn (numbered c a) (numbered d b) (numbered c' a') (numbered d' b')
+  met_apart away two ea eb =
       let wa : a'.words ≡ a.words = ap (λ (s : SeatValue T). s.words) ea in
       let wb : b'.words ≡ b.words = ap (λ (s : SeatValue T). s.words) eb in
       let sa : a'.sights ≡ a.sights = ap (λ (s : SeatValue T). s.sights) ea in
@@ -66,14 +63,15 @@ module _ {T : Type 0} (c d c' d' : Claimed) (a b a' b' : SeatValue T) (ec : c' �
         first_remains = remains_same a.words a'.words wa;
         second_remains = remains_same b.words b'.words wb;
         room = moved (ap (λ (s : SeatState). s.table) wa) (ap (λ (s : SeatState). s.table) wb) sa sb;
+        number = (λ is. absurd (away is), λ e. absurd (two e));
         apart = λ no. (ea, eb);
-        met = λ is. absurd (away is.number);
-        one = λ is. absurd (away is.number);
+        met = λ is. absurd (away is);
+        one = λ is. absurd (away is);
       }
 
   -- those of one room have met
-  pub met_there : (m : Meeting) → IsSameRoom c a d b → Met m a b a' b' → MetIn (numbered c a) (numbered d b) (numbered c' a') (numbered d' b')
-  met_there m is met =
+  pub met_there : (m : Meeting) → IsOneRoom a b → c.number ≡ d.number → Met m a b a' b' → MetIn (numbered c a) (numbered d b) (numbered c' a') (numbered d' b')
+  met_there m is one met =
       record {
         first_number = ec;
         second_number = ed;
@@ -82,6 +80,7 @@ module _ {T : Type 0} (c d c' d' : Claimed) (a b a' b' : SeatValue T) (ec : c' �
         first_remains = met.met.first;
         second_remains = met.met.second;
         room = moved met.met.first.table met.met.second.table met.first_sights met.second_sights;
+        number = (λ _. one, λ _. is);
         apart = λ no. absurd (no is);
         met = λ _. met.met;
         one = λ _. record { value = met.same; offer = one_offer m met };

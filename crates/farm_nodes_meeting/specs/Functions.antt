@@ -1,5 +1,5 @@
 -- The seats of two nodes in the four rooms of a function, which have met.
-use Rattle.std.specs.Prelude.{◌≡◌, ◌↔◌, Bool, IsSome, IsTrue}
+use Rattle.std.specs.Prelude.{◌≡◌, ◌≢◌, ◌↔◌, Bool, IsSome, IsTrue}
 use Rattle.farm_nodes_meeting.specs.Held.{Held}
 use Rattle.farm_nodes_meeting.specs.Learned.{learned_offer}
 use Rattle.farm_nodes_meeting.specs.Rooms as room
@@ -11,6 +11,10 @@ module _ {T1 T2 T3 T4 : Type 0} where
     pub second : room.AreOne s.second t.second
     pub third : room.AreOne s.third t.third
     pub fourth : room.AreOne s.fourth t.fourth
+
+  -- the number of the one is another than that of the other
+  abbrev pub HaveTwoNumbers : Held T1 T2 T3 T4 → Held T1 T2 T3 T4 → Type 0
+  HaveTwoNumbers s t = s.first.claim.number ≢ t.first.claim.number
 
   -- both link the function, with all four offers seen
   pub record BothLink (s t : Held T1 T2 T3 T4) : Type 0 where

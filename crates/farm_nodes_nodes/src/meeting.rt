@@ -3,7 +3,7 @@ ghost use Rattle.farm_nodes_meeting.specs.Fours.{fours_of};
 ghost use Rattle.farm_nodes_node.specs.Held.{IsSoundNode};
 ghost use Rattle.farm_nodes_node.specs.Waiting.{IsWaiting};
 ghost use Rattle.farm_nodes_meeting.specs.Held.{held_of};
-ghost use Rattle.farm_nodes_meeting.specs.Lists.{HaveMetAll};
+ghost use Rattle.farm_nodes_meeting.specs.Lists.{AreOfTwoFarms, HaveMetAll};
 
 use durable_model::Disk;
 use farm_nodes_meeting::meet_all;
@@ -24,6 +24,9 @@ pub fn meet<D: Disk, O, H: Naming>(
     ensures met { first.old.halted ≡ None → second.old.halted ≡ None → HaveMetAll
         first.old.seats.items second.old.seats.items first.new.seats.items second.new.seats.items result
         held_of }
+
+    // Nodes of two farms, each of whose functions' rooms have two numbers, link nothing.
+    ensures strangers { AreOfTwoFarms held_of first.old.seats.items second.old.seats.items → result ≡ 0 }
 
     // Of a node nothing but its seats changes, and those stand for what its journal holds as they did.
     ensures first_stays { (first.new.log ≡ first.old.log) × (first.new.program ≡ first.old.program)

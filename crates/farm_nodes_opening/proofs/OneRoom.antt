@@ -7,7 +7,7 @@ use Rattle.paxos_core_world.specs.KeptPart.{KeptPart}
 use Rattle.paxos_core_world.specs.Quorum.{AreQuorums, Sizes}
 use Rattle.rooms_cells.specs.Seen.{SightOf, names_of, nothing_seen, sight_at, unseen}
 use Rattle.rooms_hall.specs.Claimed.{Claimed}
-use Rattle.rooms_hall.specs.RoomId.{RoomId}
+use Rattle.rooms_hall.specs.RoomId.{AreNumbered, RoomId}
 use Rattle.rooms_rule.specs.declared.view.Opening.{Opening}
 use Rattle.rooms_state.specs.SeatState.{opening_of}
 use Rattle.rooms.specs.Opened.{offer_at, opened, opened_first, with_seen, AreOffersOf, AreOpened}
@@ -70,14 +70,22 @@ module _ {T : Type 0} (q : Sizes) (kept : List KeptPart) (offers : List (Option 
   some_seat sizes = omega (arith, sizes.least, as_many)
 
 -- a claim of the rooms of one of them is one of each one's rooms
-pub claimed_by_all : (seats : List FunctionSeat) (one : FunctionSeat) (claimed : RoomId) → AreOfOneFunction seats → 0 < length seats → one ≡ get_or seats 0 one → claimed ≡ function_of one → All (λ s. function_of s ≡ claimed) seats
-claimed_by_all seats one claimed are some is named =
+pub claimed_by_all : (number : ℕ) (seats : List FunctionSeat) (one : FunctionSeat) (claimed : RoomId) → AreOfOneFunction number seats → 0 < length seats → one ≡ get_or seats 0 one
+    → claimed ≡ function_of one → All (λ s. function_of s ≡ claimed) seats
+claimed_by_all number seats one claimed are some is named =
     let Here : FunctionSeat → Type 0 = λ s. function_of s ≡ are.rooms in
     let here : function_of one ≡ are.rooms = ap function_of is ∙ All-get_or Here seats 0 one some are.each in
     All-weaker Here (λ s. function_of s ≡ claimed) (λ s e. e ∙ sym here ∙ sym named) seats are.each
 
+-- the rooms of one of them have the number
+pub numbered_there : (number : ℕ) (seats : List FunctionSeat) (one : FunctionSeat) → AreOfOneFunction number seats → 0 < length seats → one ≡ get_or seats 0 one
+    → AreNumbered number (function_of one).places
+numbered_there number seats one are some is =
+    let here : function_of one ≡ are.rooms = ap function_of is ∙ All-get_or (λ s. function_of s ≡ are.rooms) seats 0 one some are.each in
+    subst (λ (r : RoomId). AreNumbered number r.places) (sym here) are.numbered
+
 -- seats of one room in each pass are of one function
-module _ (p1 p2 p3 p4 : RoomAt) (c1 c2 c3 c4 : List ℕ) where
+module _ (number : ℕ) (p1 p2 p3 p4 : RoomAt) (c1 c2 c3 c4 : List ℕ) where
   abbrev rooms : RoomId
   rooms = record { places = p1 ∷ p2 ∷ p3 ∷ p4 ∷ []; cells = c1 ∷ c2 ∷ c3 ∷ c4 ∷ [] }
 
@@ -95,8 +103,8 @@ module _ (p1 p2 p3 p4 : RoomAt) (c1 c2 c3 c4 : List ℕ) where
       (All-tail (here_is p3 c3) s.third (map (λ t. t.third) ss) c) (All-tail (here_is p4 c4) s.fourth (map (λ t. t.fourth) ss) d))
 
   pub one_function : (seats : List FunctionSeat) → All (here_is p1 c1) (map (λ s. s.first) seats) → All (here_is p2 c2) (map (λ s. s.second) seats)
-      → All (here_is p3 c3) (map (λ s. s.third) seats) → All (here_is p4 c4) (map (λ s. s.fourth) seats) → AreOfOneFunction seats
-  one_function seats a b c d = record { rooms = rooms; each = all_rooms seats a b c d }
+      → All (here_is p3 c3) (map (λ s. s.third) seats) → All (here_is p4 c4) (map (λ s. s.fourth) seats) → AreNumbered number rooms.places → AreOfOneFunction number seats
+  one_function seats a b c d numbered = record { rooms = rooms; each = all_rooms seats a b c d; numbered = numbered }
 
 -- seats and claims side by side
 pub opened_pairs : {T N : Type 0} (q : Sizes) (kept : List KeptPart) (offers : List (Option T)) (seat : N → SeatValue T) (claim : N → Claimed) (found : List N) (seats : List (SeatValue T)) → map seat found ≡ seats → HaveOneClaim (map claim found) → AreOpened q kept offers seats → IsOpenedRoom q kept offers (map (λ n. (seat n, claim n)) found)

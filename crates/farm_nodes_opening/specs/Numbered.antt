@@ -1,18 +1,19 @@
 -- Seats of one function, each with its claim.
-use Rattle.std.specs.Prelude.{◌≡◌, List, Option, All, map}
+use Rattle.std.specs.Prelude.{◌≡◌, ℕ, List, Option, All, map}
 use Rattle.paxos_core_world.specs.KeptPart.{KeptPart}
 use Rattle.paxos_core_world.specs.Quorum.{Sizes}
 use Rattle.rooms_hall.specs.Claimed.{Claimed}
-use Rattle.rooms_hall.specs.RoomId.{RoomId}
+use Rattle.rooms_hall.specs.RoomId.{AreNumbered, RoomId}
 use Rattle.rooms.specs.Opened.{AreOpened}
 use Rattle.rooms.specs.SeatValue.{SeatValue}
 use Rattle.farm_nodes_passes.specs.FunctionSeat.{FunctionSeat}
 use Rattle.farm_nodes_passes.specs.FunctionOf.{function_of}
 
--- the seats are all of these rooms
-pub record AreOfOneFunction (seats : List FunctionSeat) : Type 0 where
+-- the seats are all of these rooms, whose table was opened with this number
+pub record AreOfOneFunction (number : ℕ) (seats : List FunctionSeat) : Type 0 where
   pub rooms : RoomId
   pub each : All (λ s. function_of s ≡ rooms) seats
+  pub numbered : AreNumbered number rooms.places
 
 -- all of them claim one number for the same rooms
 pub record HaveOneClaim (claims : List Claimed) : Type 0 where

@@ -1,4 +1,4 @@
-//! Opening the rooms of a function: what the nodes have kept of them, side by side, and the one number that the function's rooms draw. A
+//! Opening the rooms of a function: what the nodes have kept of them, side by side, and the one number that the function's rooms have. A
 //! room that cannot be opened is named.
 #![tactic(auto)]
 

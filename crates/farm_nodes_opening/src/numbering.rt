@@ -1,28 +1,24 @@
-ghost use Rattle.std.specs.Prelude.{◌≡◌, ◌<◌, ◌⊎◌, length, map, IfOk, IfErr};
+ghost use Rattle.std.specs.Prelude.{◌≡◌, ◌<◌, length, map, IfOk, IfErr};
 ghost use Rattle.farm_nodes_opening.specs.Numbered.{AreOfOneFunction, HaveOneClaim};
 
 use crate::fault::RoomFault;
 use farm_nodes_passes::{FunctionSeat, Seats};
-use rooms_hall::{DrawError, Hall, Naming};
+use rooms_hall::{Drawn, Naming};
 use std::alloc::Global;
 
-/// The seats of one function, each with the number that its rooms draw.
+/// The seats of one function, each with the claim of its rooms, whose table was opened with the number that was drawn.
 pub fn numbered<H: Naming>(
     alloc: Global,
-    hall: &Hall<H>,
+    drawn: Drawn<H>,
     seats: Vec<FunctionSeat>,
 ) -> Result<Vec<Seats<H>>, RoomFault>
     requires some { 0 < length seats.items }
-    requires rooms { AreOfOneFunction seats.items }
+    requires rooms { AreOfOneFunction drawn seats.items }
     ensures seats { IfOk result (λ found. map (λ n. n.seat) found.items ≡ seats.items) }
     ensures one { IfOk result (λ found. HaveOneClaim (map (λ n. n.claim) found.items)) }
-    ensures refused { IfErr result (λ e. (e ≡ RoomFault.NoMemory) ⊎ (e ≡ RoomFault.Spent)) }
+    ensures refused { IfErr result (λ e. e ≡ RoomFault.NoMemory) }
 {
-    let mut claim = match Seats::<H>::draw(hall, &seats[0]) {
-        Ok(claim) => claim,
-        Err(DrawError::Spent) => return Err(RoomFault::Spent),
-        Err(DrawError::NoMemory) => return Err(RoomFault::NoMemory),
-    };
+    let mut claim = Seats::<H>::claim_of(drawn, &seats[0]);
     let mut found = Vec::new(alloc);
     for seat in seats {
         let Ok(one) = Seats::of(seat, &mut claim) else {

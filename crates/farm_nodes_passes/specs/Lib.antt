@@ -10,7 +10,6 @@ pub use Rattle.rooms_numbered.specs.AllocPass
 pub use Rattle.rooms_numbered.specs.FunctionSeat
 pub use Rattle.rooms_numbered.specs.FunctionMeeting
 pub use Rattle.rooms_numbered.specs.Met
-pub use Rattle.rooms_numbered.specs.RoomOf
 pub use Rattle.farm_nodes_offers.specs.Halted
 pub use Rattle.farm_nodes_offers.specs.declared.halt.Fault
 pub use Rattle.farm_nodes_offers.specs.declared.halt.Halt

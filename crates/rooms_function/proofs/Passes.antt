@@ -72,16 +72,16 @@ module _ (q : Sizes) (kept : List (List KeptPart)) where
   settled_row pass n row e size most s = subst (λ (k : List KeptPart). Settled q (nodes_of k)) (sym (row_is kept pass n row e size most)) s
 
 -- they are the dealers of the rooms of these kept parts
-pub dealers_ok : {E : Type 0} (q : Sizes) (kept : List (List KeptPart)) (r : Result FourDealers E) (a b c d : List KeptPart) → a ≡ kept_in 0 kept → b ≡ kept_in 1 kept → c ≡ kept_in 2 kept → d ≡ kept_in 3 kept
-    → IfOk r (λ all. all.first ≡ room_opened all.first.table.table 4 0 q a) → IfOk r (λ all. all.second ≡ room_opened all.first.table.table 4 1 q b)
-    → IfOk r (λ all. all.third ≡ room_opened all.first.table.table 4 2 q c) → IfOk r (λ all. all.fourth ≡ room_opened all.first.table.table 4 3 q d) → IfOk r (λ all. AreDealersOf q kept all)
-dealers_ok q kept (Err x) a b c d ea eb ec ed first second third fourth = tt
-dealers_ok q kept (Ok all) a b c d ea eb ec ed first second third fourth =
+pub dealers_ok : {E : Type 0} (number : ℕ) (q : Sizes) (kept : List (List KeptPart)) (r : Result FourDealers E) (a b c d : List KeptPart) → a ≡ kept_in 0 kept → b ≡ kept_in 1 kept → c ≡ kept_in 2 kept → d ≡ kept_in 3 kept
+    → IfOk r (λ all. all.first ≡ room_opened all.first.table.table number 4 0 q a) → IfOk r (λ all. all.second ≡ room_opened all.first.table.table number 4 1 q b)
+    → IfOk r (λ all. all.third ≡ room_opened all.first.table.table number 4 2 q c) → IfOk r (λ all. all.fourth ≡ room_opened all.first.table.table number 4 3 q d) → IfOk r (λ all. AreDealersOf number q kept all)
+dealers_ok number q kept (Err x) a b c d ea eb ec ed first second third fourth = tt
+dealers_ok number q kept (Ok all) a b c d ea eb ec ed first second third fourth =
     record {
-      first = first ∙ ap (λ (k : List KeptPart). room_opened all.first.table.table 4 0 q k) ea;
-      second = second ∙ ap (λ (k : List KeptPart). room_opened all.first.table.table 4 1 q k) eb;
-      third = third ∙ ap (λ (k : List KeptPart). room_opened all.first.table.table 4 2 q k) ec;
-      fourth = fourth ∙ ap (λ (k : List KeptPart). room_opened all.first.table.table 4 3 q k) ed;
+      first = first ∙ ap (λ (k : List KeptPart). room_opened all.first.table.table number 4 0 q k) ea;
+      second = second ∙ ap (λ (k : List KeptPart). room_opened all.first.table.table number 4 1 q k) eb;
+      third = third ∙ ap (λ (k : List KeptPart). room_opened all.first.table.table number 4 2 q k) ec;
+      fourth = fourth ∙ ap (λ (k : List KeptPart). room_opened all.first.table.table number 4 3 q k) ed;
     }
 
 -- ---- what is dealt
@@ -100,8 +100,8 @@ dealt_same {T} table o offers seats others e d = subst (λ (ss : List (SeatValue
 
 -- ---- from kept parts to seats
 
-module _ (q : Sizes) (kept : List (List KeptPart)) (offers : FunctionOffers) (all : FourDealers) (are : AreDealersOf q kept all) (nodes : length kept ≡ q.nodes) where
-  fit : {T : Type 0} (room : ℕ) (parts : List KeptPart) (os : List (Option T)) (d : Dealing) → d ≡ room_opened all.first.table.table 4 room q parts → length parts ≡ length kept
+module _ (number : ℕ) (q : Sizes) (kept : List (List KeptPart)) (offers : FunctionOffers) (all : FourDealers) (are : AreDealersOf number q kept all) (nodes : length kept ≡ q.nodes) where
+  fit : {T : Type 0} (room : ℕ) (parts : List KeptPart) (os : List (Option T)) (d : Dealing) → d ≡ room_opened all.first.table.table number 4 room q parts → length parts ≡ length kept
       → AreOffersOf parts os → AreFit d.opening os
   fit {T} room parts os d e size of = fit_offers {T = T} q parts os d.opening (size ∙ nodes) (ap (λ (x : Dealing). x.opening) e) of
 
@@ -130,11 +130,11 @@ module _ (q : Sizes) (kept : List (List KeptPart)) (offers : FunctionOffers) (al
         fit4 = fit 3 (kept_in 3 kept) offers.fourth.items all.fourth are.fourth (many kept 3) o4;
       }
 
-  dealt_at : {T : Type 0} (room : ℕ) (parts : List KeptPart) (os : List (Option T)) (d : Dealing) (seats : List (SeatValue T)) → d ≡ room_opened all.first.table.table 4 room q parts
-      → AreDealt d.table d.opening os seats → AreDealt (place all.first.table.table room) (opening_of q parts) os seats
+  dealt_at : {T : Type 0} (room : ℕ) (parts : List KeptPart) (os : List (Option T)) (d : Dealing) (seats : List (SeatValue T)) → d ≡ room_opened all.first.table.table number 4 room q parts
+      → AreDealt d.table d.opening os seats → AreDealt (place all.first.table.table number room) (opening_of q parts) os seats
   dealt_at {T} room parts os d seats e h = subst (λ (x : Dealing). AreDealt x.table x.opening os seats) e h
 
-  pub seats_are : (seats : List FunctionSeat) → AreDealtBy all offers seats → AreSeatsOf q kept offers seats
+  pub seats_are : (seats : List FunctionSeat) → AreDealtBy all offers seats → AreSeatsOf number q kept offers seats
   seats_are seats h =
       record {
         table = all.first.table.table;

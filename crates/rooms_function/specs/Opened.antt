@@ -60,24 +60,24 @@ pub record IsUnopened (q : Sizes) (kept : List (List KeptPart)) (offers : Functi
   pub here : error ≡ Unsettled → (other : ℕ) → other + 1 ≡ pass → ¬ IsSettledIn q kept other
   pub refused : error ≡ CellRefused → IsOfferedIn offers pass
 
--- a room of a table of four
-abbrev pub place : TableId → ℕ → RoomAt
-place table room = record { table = table; rooms = 4; room = room }
+-- a room of a table of four, which has this number
+abbrev pub place : TableId → ℕ → ℕ → RoomAt
+place table number room = record { table = table; rooms = 4; room = room; number = number }
 
--- they are the nodes' seats, and in each pass those of the room of that pass in one table
-pub record AreSeatsOf (q : Sizes) (kept : List (List KeptPart)) (offers : FunctionOffers) (seats : List FunctionSeat) : Type 0 where
+-- they are the nodes' seats, and in each pass those of the room of that pass in one table, which has this number
+pub record AreSeatsOf (number : ℕ) (q : Sizes) (kept : List (List KeptPart)) (offers : FunctionOffers) (seats : List FunctionSeat) : Type 0 where
   pub table : TableId
-  pub first : AreDealt (place table 0) (opening_of q (kept_in 0 kept)) offers.first.items (map (λ s. s.first) seats)
-  pub second : AreDealt (place table 1) (opening_of q (kept_in 1 kept)) offers.second.items (map (λ s. s.second) seats)
-  pub third : AreDealt (place table 2) (opening_of q (kept_in 2 kept)) offers.third.items (map (λ s. s.third) seats)
-  pub fourth : AreDealt (place table 3) (opening_of q (kept_in 3 kept)) offers.fourth.items (map (λ s. s.fourth) seats)
+  pub first : AreDealt (place table number 0) (opening_of q (kept_in 0 kept)) offers.first.items (map (λ s. s.first) seats)
+  pub second : AreDealt (place table number 1) (opening_of q (kept_in 1 kept)) offers.second.items (map (λ s. s.second) seats)
+  pub third : AreDealt (place table number 2) (opening_of q (kept_in 2 kept)) offers.third.items (map (λ s. s.third) seats)
+  pub fourth : AreDealt (place table number 3) (opening_of q (kept_in 3 kept)) offers.fourth.items (map (λ s. s.fourth) seats)
 
--- they deal the seats of rooms that were opened so, in one table
-pub record AreDealersOf (q : Sizes) (kept : List (List KeptPart)) (all : FourDealers) : Type 0 where
-  pub first : all.first ≡ room_opened all.first.table.table 4 0 q (kept_in 0 kept)
-  pub second : all.second ≡ room_opened all.first.table.table 4 1 q (kept_in 1 kept)
-  pub third : all.third ≡ room_opened all.first.table.table 4 2 q (kept_in 2 kept)
-  pub fourth : all.fourth ≡ room_opened all.first.table.table 4 3 q (kept_in 3 kept)
+-- they deal the seats of rooms that were opened so, in one table, which has this number
+pub record AreDealersOf (number : ℕ) (q : Sizes) (kept : List (List KeptPart)) (all : FourDealers) : Type 0 where
+  pub first : all.first ≡ room_opened all.first.table.table number 4 0 q (kept_in 0 kept)
+  pub second : all.second ≡ room_opened all.first.table.table number 4 1 q (kept_in 1 kept)
+  pub third : all.third ≡ room_opened all.first.table.table number 4 2 q (kept_in 2 kept)
+  pub fourth : all.fourth ≡ room_opened all.first.table.table number 4 3 q (kept_in 3 kept)
 
 -- none has dealt a seat, and each pass has so many nodes, and as many offers: those of the nodes that have made one
 pub record AreFresh (all : FourDealers) (offers : FunctionOffers) : Type 0 where

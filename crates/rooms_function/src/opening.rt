@@ -38,9 +38,10 @@ pub struct Unopened {
 
 impl FunctionRoom {
     /// The seats of the nodes of a function, which have kept these parts in the rooms of the four passes and made these offers. Each
-    /// room has these quorums.
+    /// room has these quorums. The rooms' table has this number for good: no call changes that of a seat.
     pub fn open(
         alloc: Global,
+        number: u64,
         kept: &[[Kept; 4]],
         offers: FunctionOffers,
         quorums: Quorums,
@@ -50,11 +51,11 @@ impl FunctionRoom {
         requires second { AreOffersOf (kept_in 1 kept.now) offers.second.items }
         requires third { AreOffersOf (kept_in 2 kept.now) offers.third.items }
         requires fourth { AreOffersOf (kept_in 3 kept.now) offers.fourth.items }
-        ensures ok { IfOk result (λ seats. AreSeatsOf quorums kept.now offers seats.items) }
+        ensures ok { IfOk result (λ seats. AreSeatsOf number quorums kept.now offers seats.items) }
         ensures settled { OnOk result (AreSettled quorums kept.now) }
         ensures told { IfErr result (λ e. IsUnopened quorums kept.now offers e.pass e.error) }
     {
-        match dealers_of(alloc, kept, quorums) {
+        match dealers_of(alloc, number, kept, quorums) {
             Ok(dealers) => seats_of_all(alloc, dealers, offers),
             Err(unopened) => Err(unopened),
         }
@@ -62,9 +63,14 @@ impl FunctionRoom {
 }
 
 /// Deals the seats in the rooms of the four passes, where what was kept in each is settled.
-fn dealers_of(alloc: Global, kept: &[[Kept; 4]], quorums: Quorums) -> Result<FourDealers, Unopened>
+fn dealers_of(
+    alloc: Global,
+    number: u64,
+    kept: &[[Kept; 4]],
+    quorums: Quorums,
+) -> Result<FourDealers, Unopened>
     requires { length kept.now ≡ quorums.nodes }
-    ensures ok { IfOk result (λ all. AreDealersOf quorums kept.now all) }
+    ensures ok { IfOk result (λ all. AreDealersOf number quorums kept.now all) }
     ensures settled { OnOk result (AreSettled quorums kept.now) }
     ensures told { IfErr result (λ e. IsUndealt quorums kept.now e.pass e.error) }
 {
@@ -74,7 +80,7 @@ fn dealers_of(alloc: Global, kept: &[[Kept; 4]], quorums: Quorums) -> Result<Fou
             error: RoomError::Unsettled,
         });
     }
-    match four_dealers(alloc, kept, quorums) {
+    match four_dealers(alloc, number, kept, quorums) {
         Ok(dealers) => Ok(dealers),
         Err(_) => Err(no_memory()),
     }
@@ -107,12 +113,13 @@ fn is_settled_in(kept: &[[Kept; 4]], pass: u8, quorums: Quorums) -> bool
 /// The dealers of the rooms of the four passes in one table.
 fn four_dealers(
     alloc: Global,
+    number: u64,
     kept: &[[Kept; 4]],
     quorums: Quorums,
 ) -> Result<FourDealers, AllocError>
     requires size { length kept.now ≡ quorums.nodes }
     requires settled { AreSettled quorums kept.now }
-    ensures { IfOk result (λ all. AreDealersOf quorums kept.now all) }
+    ensures { IfOk result (λ all. AreDealersOf number quorums kept.now all) }
 {
     let nodes = usize::from(quorums.nodes());
     let first = parts_in(kept, 0);
@@ -121,6 +128,7 @@ fn four_dealers(
     let fourth = parts_in(kept, 3);
     open_four(
         alloc,
+        number,
         &first[..nodes],
         &second[..nodes],
         &third[..nodes],

@@ -1,8 +1,8 @@
--- A claim.
+-- A claim, and a number that no room has yet.
 use Rattle.std.specs.Prelude.{◌≡◌, ℕ, List, [], ◌∷◌}
 use Rattle.atomic_table.specs.Seated.{TableId}
-use Rattle.rooms_hall.specs.RoomId.{RoomId, nowhere}
-use Rattle.rooms_hall.specs.Rule.{knows}
+use Rattle.rooms_hall.specs.RoomId.{AreNumbered, RoomId, nowhere}
+use Rattle.rooms_hall.specs.Rule.{drew, knows}
 use Rattle.rooms_hall.specs.declared.view.Given.{Given}
 use Rattle.rooms_hall.specs.declared.view.View.{View}
 
@@ -19,9 +19,17 @@ room_in (c ∷ cs) = c.room
 abbrev pub room_of : View → RoomId
 room_of v = room_in v.claims
 
--- the claim is one of this hall, and knows of its own number alone
+-- the number was drawn from this hall, and its holder knows of nothing else
+pub record IsDrawn (hall board table : TableId) (number : ℕ) (v : View) : Type 0 where
+  pub shared : board ≡ hall
+  pub mine : table ≡ hall
+  pub words : hall.words ≡ 1
+  pub view : v ≡ drew number
+
+-- the claim is one of this hall, and knows of its own number alone, with which the tables of its room were opened
 pub record IsClaim (hall board table : TableId) (number : ℕ) (v : View) : Type 0 where
   pub shared : board ≡ hall
   pub mine : table ≡ hall
   pub words : hall.words ≡ 1
   pub view : v ≡ knows record { number = number; room = room_of v }
+  pub numbered : AreNumbered number (room_of v).places

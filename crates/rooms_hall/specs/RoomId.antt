@@ -1,5 +1,5 @@
 -- Which rooms they are that share a number: a room alone, or the four of a function.
-use Rattle.std.specs.Prelude.{ℕ, List, [], refl}
+use Rattle.std.specs.Prelude.{◌≡◌, ℕ, List, [], ◌∷◌, refl}
 use Rattle.std.specs.Coded.{Coded, code_by, coded×, coded_ℕ, coded_list}
 use Rattle.atomic_table.specs.Seated.{TableId}
 use Rattle.rooms_table.specs.RoomAt.{RoomAt, room_at_coded}
@@ -8,6 +8,11 @@ use Rattle.rooms_table.specs.RoomAt.{RoomAt, room_at_coded}
 pub record RoomId : Type 0 where
   pub places : List RoomAt
   pub cells : List (List ℕ)
+
+-- each stands in a table that was opened with this number
+abbrev pub AreNumbered : ℕ → List RoomAt → Type 0
+AreNumbered number [] = Unit {0}
+AreNumbered number (place ∷ places) = (place.number ≡ number) × AreNumbered number places
 
 -- it is stored as the pair of its fields
 abbrev pub room_id_coded : Coded RoomId

@@ -13,7 +13,7 @@ impl TableRule<(), View, ()> for HallLaw {
     ghost first = { λ k. nothing };
 }
 
-/// Names the room that draws a number. Each call that draws picks it.
+/// Names the room that a number is given to. Each call that gives one picks it.
 pub trait Claiming {
     ghost use Rattle.rooms_hall.specs.RoomId.{RoomId};
 
@@ -36,14 +36,23 @@ impl Play<(), View> for Enters {
 }
 
 /// A try to take the next number.
-pub struct Draws<C: Claiming> {
+pub struct Draws;
+
+impl Play<(), View> for Draws {
+    ghost use Rattle.rooms_hall.specs.Steps.{Drew};
+
+    ghost then = { λ s v n w. Drew s v n w };
+}
+
+/// A load by which the number that was drawn is given to a room.
+pub struct Names<C: Claiming> {
     of: PhantomData<C>,
 }
 
-impl<C: Claiming> Play<(), View> for Draws<C> {
-    ghost use Rattle.rooms_hall.specs.Steps.{Drew};
+impl<C: Claiming> Play<(), View> for Names<C> {
+    ghost use Rattle.rooms_hall.specs.Steps.{Named};
 
-    ghost then = { λ s v n w. Drew C.room s v n w };
+    ghost then = { λ s v n w. Named C.room s v n w };
 }
 
 /// A claim makes a witness of what it knows, and another claim takes that in.

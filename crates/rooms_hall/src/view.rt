@@ -15,14 +15,16 @@ impl Model for Room {
     ghost view = { λ r. nowhere };
 }
 
-/// A number that was given, and the room that drew it. No value of it is made.
+/// A number that was given, and the room that has it. No value of it is made.
 pub struct Given {
     pub number: u64,
     pub room: Room,
 }
 
-/// What a claim knows of its hall. No value of it is made.
+/// What a seat knows of its hall. No value of it is made.
 pub struct View {
     /// The numbers that it knows of, its own first.
     pub claims: LinkedList<Given>,
+    /// The number that it has drawn and that no room has yet, if there is one.
+    pub drawn: LinkedList<u64>,
 }

@@ -16,9 +16,9 @@ use Rattle.rooms_rights.specs.Openings.{Openings}
 pub some_node : (q : Sizes) → AreQuorums q → 0 < q.nodes
 some_node q are = let least : 2 ≤ q.nodes = are.least in omega arith
 
--- rooms that stand in the row of a table's rooms
-abbrev pub openings : ℕ → Opening → Opening → Opening → Opening → Openings
-openings rooms a b c d = record { rooms = rooms; each = a ∷ b ∷ c ∷ d ∷ [] }
+-- rooms that stand in the row of a table's rooms, and the table's number
+abbrev pub openings : ℕ → ℕ → Opening → Opening → Opening → Opening → Openings
+openings number rooms a b c d = record { rooms = rooms; each = a ∷ b ∷ c ∷ d ∷ []; number = number }
 
 none : {A : Type 0} (n : ℕ) → suc n < 1 → A
 none n lt = absurd (omega arith)
@@ -26,52 +26,53 @@ none n lt = absurd (omega arith)
 no_fifth : {A : Type 0} (n : ℕ) → suc (suc (suc (suc n))) < 4 → A
 no_fifth n lt = absurd (omega arith)
 
-pub one_opens : (o : Opening) → CanOpen o → CanOpenAll (openings 1 o o o o)
-one_opens o can =
+pub one_opens : (number : ℕ) (o : Opening) → CanOpen o → CanOpenAll (openings number 1 o o o o)
+one_opens number o can =
     record { some = omega arith; few = omega arith; most = can.sizes.most; row = refl; rows = rows; same = same; sizes = sizes; settled = settled }
   where
-    rows : (r : ℕ) → r < 1 → length (opening_in (openings 1 o o o o) r).kept ≡ 7
+    rows : (r : ℕ) → r < 1 → length (opening_in (openings number 1 o o o o) r).kept ≡ 7
     rows zero lt = can.row
     rows (suc r) lt = none r lt
 
-    same : (r : ℕ) → r < 1 → (opening_in (openings 1 o o o o) r).quorums.nodes ≡ o.quorums.nodes
+    same : (r : ℕ) → r < 1 → (opening_in (openings number 1 o o o o) r).quorums.nodes ≡ o.quorums.nodes
     same zero lt = refl
     same (suc r) lt = none r lt
 
-    sizes : (r : ℕ) → r < 1 → AreQuorums (opening_in (openings 1 o o o o) r).quorums
+    sizes : (r : ℕ) → r < 1 → AreQuorums (opening_in (openings number 1 o o o o) r).quorums
     sizes zero lt = can.sizes
     sizes (suc r) lt = none r lt
 
-    settled : (r : ℕ) → r < 1 → Settled (opening_in (openings 1 o o o o) r).quorums (nodes_of (opening_in (openings 1 o o o o) r).kept)
+    settled : (r : ℕ) → r < 1 → Settled (opening_in (openings number 1 o o o o) r).quorums (nodes_of (opening_in (openings number 1 o o o o) r).kept)
     settled zero lt = can.settled
     settled (suc r) lt = none r lt
 
-pub four_open : (a b c d : Opening) → CanOpen a → CanOpen b → CanOpen c → CanOpen d → b.quorums.nodes ≡ a.quorums.nodes → c.quorums.nodes ≡ a.quorums.nodes → d.quorums.nodes ≡ a.quorums.nodes → CanOpenAll (openings 4 a b c d)
-four_open a b c d ka kb kc kd eb ec ed =
+pub four_open : (number : ℕ) (a b c d : Opening) → CanOpen a → CanOpen b → CanOpen c → CanOpen d → b.quorums.nodes ≡ a.quorums.nodes → c.quorums.nodes ≡ a.quorums.nodes
+    → d.quorums.nodes ≡ a.quorums.nodes → CanOpenAll (openings number 4 a b c d)
+four_open number a b c d ka kb kc kd eb ec ed =
     record { some = omega arith; few = omega arith; most = ka.sizes.most; row = refl; rows = rows; same = same; sizes = sizes; settled = settled }
   where
-    rows : (r : ℕ) → r < 4 → length (opening_in (openings 4 a b c d) r).kept ≡ 7
+    rows : (r : ℕ) → r < 4 → length (opening_in (openings number 4 a b c d) r).kept ≡ 7
     rows zero lt = ka.row
     rows (suc zero) lt = kb.row
     rows (suc (suc zero)) lt = kc.row
     rows (suc (suc (suc zero))) lt = kd.row
     rows (suc (suc (suc (suc r)))) lt = no_fifth r lt
 
-    same : (r : ℕ) → r < 4 → (opening_in (openings 4 a b c d) r).quorums.nodes ≡ a.quorums.nodes
+    same : (r : ℕ) → r < 4 → (opening_in (openings number 4 a b c d) r).quorums.nodes ≡ a.quorums.nodes
     same zero lt = refl
     same (suc zero) lt = eb
     same (suc (suc zero)) lt = ec
     same (suc (suc (suc zero))) lt = ed
     same (suc (suc (suc (suc r)))) lt = no_fifth r lt
 
-    sizes : (r : ℕ) → r < 4 → AreQuorums (opening_in (openings 4 a b c d) r).quorums
+    sizes : (r : ℕ) → r < 4 → AreQuorums (opening_in (openings number 4 a b c d) r).quorums
     sizes zero lt = ka.sizes
     sizes (suc zero) lt = kb.sizes
     sizes (suc (suc zero)) lt = kc.sizes
     sizes (suc (suc (suc zero))) lt = kd.sizes
     sizes (suc (suc (suc (suc r)))) lt = no_fifth r lt
 
-    settled : (r : ℕ) → r < 4 → Settled (opening_in (openings 4 a b c d) r).quorums (nodes_of (opening_in (openings 4 a b c d) r).kept)
+    settled : (r : ℕ) → r < 4 → Settled (opening_in (openings number 4 a b c d) r).quorums (nodes_of (opening_in (openings number 4 a b c d) r).kept)
     settled zero lt = ka.settled
     settled (suc zero) lt = kb.settled
     settled (suc (suc zero)) lt = kc.settled

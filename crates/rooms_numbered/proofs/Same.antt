@@ -1,14 +1,17 @@
 -- Seats with one claim are of the same rooms.
-use Rattle.std.proofs.Common.{◌≡◌, ℕ, zero, suc, List, [], ◌∷◌, refl, ap}
+use Rattle.std.proofs.Common.{◌≡◌, ◌≢◌, ◌↔◌, ℕ, zero, suc, Bool, true, false, List, [], ◌∷◌, Option, None, Some, refl, sym, ap, subst, ◌∙◌}
+use Rattle.std.specs.Prelude.{MatchBool}
 use Rattle.rooms_table.specs.RoomAt.{RoomAt}
 use Rattle.rooms_function.specs.SeatValue.{SeatValue, IsOneRoom}
-use Rattle.rooms_hall.specs.RoomId.{RoomId, no_table}
+use Rattle.rooms_hall.specs.Claimed.{Claimed}
+use Rattle.rooms_hall.specs.RoomId.{AreNumbered, RoomId, no_table}
+use Rattle.rooms_function.specs.declared.meeting.FunctionMeeting.{FunctionMeeting}
 use Rattle.rooms_function.specs.declared.seat.FunctionSeat.{FunctionSeat}
 use Rattle.rooms_function.specs.Met.{IsOneFunction}
-use Rattle.rooms_numbered.specs.FunctionOf.{function_of}
+use Rattle.rooms_numbered.specs.FunctionOf.{function_of, AreStrangers}
 
 abbrev no_place : RoomAt
-no_place = record { table = no_table; rooms = 0; room = 0 }
+no_place = record { table = no_table; rooms = 0; room = 0; number = 0 }
 
 -- what stands at a place of a list
 abbrev nth : {A : Type 0} → A → ℕ → List A → A
@@ -40,3 +43,26 @@ function_is a b h =
 
 pub same_room : {T : Type 0} (s : SeatValue T) → IsOneRoom s s
 same_room s = record { table = refl; cells = refl }
+
+-- and those with claims to two numbers are strangers: their tables were opened with these
+pub strangers : (c d : Claimed) (a b : FunctionSeat) → c.room ≡ function_of a → d.room ≡ function_of b → AreNumbered c.number c.room.places → AreNumbered d.number d.room.places
+    → c.number ≢ d.number → AreStrangers a b
+strangers c d a b ec ed nc nd away =
+    let na : AreNumbered c.number (function_of a).places = subst (λ (r : RoomId). AreNumbered c.number r.places) ec nc in
+    let nb : AreNumbered d.number (function_of b).places = subst (λ (r : RoomId). AreNumbered d.number r.places) ed nd in
+    record {
+      first = λ one. away (sym na.0 ∙ (ap (λ (p : RoomAt). p.number) one.table ∙ nb.0));
+      second = λ one. away (sym na.1.0 ∙ (ap (λ (p : RoomAt). p.number) one.table ∙ nb.1.0));
+      third = λ one. away (sym na.1.1.0 ∙ (ap (λ (p : RoomAt). p.number) one.table ∙ nb.1.1.0));
+      fourth = λ one. away (sym na.1.1.1.0 ∙ (ap (λ (p : RoomAt). p.number) one.table ∙ nb.1.1.1.0));
+    }
+
+-- what is told by two claims: they have two numbers, or are one
+module _ (c d : Claimed) (told : Bool) where
+  pub told_apart : told ≡ false → MatchBool told (c ≡ d) (c.number ≢ d.number) → (◌≡◌ {A = Option FunctionMeeting} None None) ↔ (c.number ≢ d.number)
+  told_apart e h = (λ _. subst (λ (b : Bool). MatchBool b (c ≡ d) (c.number ≢ d.number)) e h, λ _. refl)
+
+  pub told_one : (m : FunctionMeeting) → told ≡ true → MatchBool told (c ≡ d) (c.number ≢ d.number) → (Some m ≡ None) ↔ (c.number ≢ d.number)
+  told_one m e h =
+      let one : c ≡ d = subst (λ (b : Bool). MatchBool b (c ≡ d) (c.number ≢ d.number)) e h in
+      (λ is. absurd (cc is), λ away. absurd (away (ap (λ (x : Claimed). x.number) one)))

@@ -1,11 +1,11 @@
 -- Which rooms a function's seat is of, and what two such seats tell when they meet.
-use Rattle.std.specs.Prelude.{◌≡◌, ◌↔◌, [], ◌∷◌, Option, None}
+use Rattle.std.specs.Prelude.{◌≡◌, [], ◌∷◌, Option, None}
 use Rattle.rooms_cells.specs.Seen.{names_of}
-use Rattle.rooms_hall.specs.Claimed.{Claimed}
 use Rattle.rooms_hall.specs.RoomId.{RoomId}
 use Rattle.rooms_function.specs.declared.meeting.FunctionMeeting.{FunctionMeeting}
 use Rattle.rooms_function.specs.declared.seat.FunctionSeat.{FunctionSeat}
-use Rattle.rooms_function.specs.Met.{IsOneFunction, Met}
+use Rattle.rooms_function.specs.Met.{Met}
+use Rattle.rooms_function.specs.SeatValue.{IsOneRoom}
 
 -- pass by pass, where its words are, and the names of its cells
 abbrev pub function_of : FunctionSeat → RoomId
@@ -15,14 +15,12 @@ function_of s =
       cells = names_of s.first.sights ∷ names_of s.second.sights ∷ names_of s.third.sights ∷ names_of s.fourth.sights ∷ [];
     }
 
--- two seats with these claims are of one function: the same words and cells in each pass, and one number, which its rooms drew
-pub record IsSameFunction (c : Claimed) (a : FunctionSeat) (d : Claimed) (b : FunctionSeat) : Type 0 where
-  pub rooms : IsOneFunction a b
-  pub number : c.number ≡ d.number
-
--- they are told to be of two functions exactly where they are not of one
-abbrev pub TellsApart : Option FunctionMeeting → Claimed → FunctionSeat → Claimed → FunctionSeat → Type 0
-TellsApart m c a d b = (m ≡ None) ↔ (¬ IsSameFunction c a d b)
+-- in no pass are they of one room
+pub record AreStrangers (a b : FunctionSeat) : Type 0 where
+  pub first : ¬ IsOneRoom a.first b.first
+  pub second : ¬ IsOneRoom a.second b.second
+  pub third : ¬ IsOneRoom a.third b.third
+  pub fourth : ¬ IsOneRoom a.fourth b.fourth
 
 -- those of two functions are left as they were
 abbrev pub AreAsBefore : Option FunctionMeeting → FunctionSeat → FunctionSeat → FunctionSeat → FunctionSeat → Type 0

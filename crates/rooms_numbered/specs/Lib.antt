@@ -1,4 +1,3 @@
-pub mod RoomOf
 pub mod FunctionOf
 pub use Rattle.rooms_function.specs.Met
 pub use Rattle.rooms_function.specs.declared.meeting.FunctionMeeting

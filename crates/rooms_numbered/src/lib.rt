@@ -1,5 +1,6 @@
-//! A node's seats in the four rooms of a function, which have drawn one number from a hall. Those of two nodes meet without anybody's
-//! knowing whether they are of one function: seats of two functions are told to be strangers.
+//! A node's seats in the four rooms of a function, whose table was opened with a number that was drawn from a hall. Those of two nodes
+//! meet without anybody's knowing whether they are of one function: strangers are told, and only of two functions, since one table has
+//! one number.
 #![tactic(auto)]
 
 mod meeting;

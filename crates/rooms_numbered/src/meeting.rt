@@ -1,19 +1,20 @@
-ghost use Rattle.std.specs.Prelude.{◌≡◌, ◌≢◌, None, IfSome};
-ghost use Rattle.rooms_numbered.specs.FunctionOf.{AreAsBefore, HaveMetIn, IsSameFunction, TellsApart};
+ghost use Rattle.std.specs.Prelude.{◌≡◌, ◌≢◌, ◌↔◌, None, IfSome};
+ghost use Rattle.rooms_function.specs.Met.{IsOneFunction};
+ghost use Rattle.rooms_numbered.specs.FunctionOf.{AreAsBefore, AreStrangers, HaveMetIn};
 
 use crate::seats::Seats;
 use rooms_function::FunctionMeeting;
 use rooms_hall::Naming;
 
-/// Two seats of functions meet, and nobody need know whether they are of one function: `None` is answered of two functions, of which
-/// no word is loaded; of one, each loads every word of its table once, pass by pass, and tells the other what it has seen, after
+/// Two seats of functions meet, and nobody need know whether they are of one function: `None` is answered of two functions, which
+/// have two numbers, and no word is loaded; of one, each loads every word of its table once, pass by pass, and tells the other what it has seen, after
 /// three loads of the hall's word.
 #[tactic(auto, using(crate::proofs::Same::same_function))]
 pub fn meet<H: Naming>(first: &mut Seats<H>, second: &mut Seats<H>) -> Option<FunctionMeeting>
-    ensures strangers { TellsApart result first.old.claim first.old.seat second.old.claim second.old.seat }
-    ensures numbers { result ≡ None → first.old.claim.number ≢ second.old.claim.number }
+    ensures strangers { result ≡ None → AreStrangers first.old.seat second.old.seat }
+    ensures numbers { (result ≡ None) ↔ (first.old.claim.number ≢ second.old.claim.number) }
     ensures apart { AreAsBefore result first.old.seat second.old.seat first.new.seat second.new.seat }
-    ensures same { IfSome result (λ m. IsSameFunction first.old.claim first.old.seat second.old.claim second.old.seat) }
+    ensures same { IfSome result (λ m. IsOneFunction first.old.seat second.old.seat) }
     ensures met { IfSome result (λ m. HaveMetIn m first.old.seat second.old.seat first.new.seat second.new.seat) }
     ensures first_number { first.new.claim ≡ first.old.claim }
     ensures second_number { second.new.claim ≡ second.old.claim }

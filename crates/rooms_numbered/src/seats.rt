@@ -1,12 +1,13 @@
 ghost use Rattle.std.specs.Prelude.{◌≡◌, IfOk};
+ghost use Rattle.rooms_hall.specs.RoomId.{AreNumbered};
 ghost use Rattle.rooms_numbered.specs.FunctionOf.{function_of};
 
 use rooms_function::FunctionSeat;
-use rooms_hall::{Claim, Claiming, DrawError, Hall, Naming};
+use rooms_hall::{Claim, Claiming, Drawn, Naming};
 use std::alloc::AllocError;
 use std::marker::Brand;
 
-/// A node's seats in the four rooms of a function, and the number that the rooms have drawn together. All calls of them may be made
+/// A node's seats in the four rooms of a function, and the number with which their table was opened. All calls of them may be made
 /// of them as they stand here: each leaves them in their rooms.
 #[derive(Drop)]
 pub struct Seats<H: Naming> {
@@ -16,11 +17,21 @@ pub struct Seats<H: Naming> {
 }
 
 impl<H: Naming> Seats<H> {
-    /// Draws a number for the rooms of this seat. Whoever opens a function's rooms draws it once, and gives it to each of its seats.
-    pub fn draw(hall: &Hall<H>, seat: &FunctionSeat) -> Result<Claim<H>, DrawError>
-        ensures { IfOk result (λ claim. claim.room ≡ function_of seat.now) }
+    /// Gives the number to the rooms of this seat, whose table was opened with it. Whoever opens a function's rooms draws a number, opens
+    /// them with it, and gives it to them, once; each of their seats then gets the claim.
+    pub fn claim_of(drawn: Drawn<H>, seat: &FunctionSeat) -> Claim<H>
+        requires { AreNumbered drawn (function_of seat.now).places }
+        ensures { result ≡ record { number = drawn; room = function_of seat.now } }
     {
-        draw_for::<H, Brand>(hall, seat)
+        claim_for::<H, Brand>(drawn, seat)
+    }
+
+    /// The number, with which the table of its rooms was opened. Seats with two numbers are of two functions.
+    pub fn number(&self) -> u64
+        ensures value { result ≡ self.now.claim.number }
+        ensures tables { AreNumbered result (function_of self.now.seat).places }
+    {
+        self.claim.number()
     }
 
     /// The seat with its rooms' number.
@@ -37,14 +48,12 @@ impl<H: Naming> Seats<H> {
     }
 }
 
-/// Draws a number for the rooms that `C` names, which are those of the seat.
-fn draw_for<H: Naming, C: Claiming>(
-    hall: &Hall<H>,
-    seat: &FunctionSeat,
-) -> Result<Claim<H>, DrawError>
-    requires { C.room ≡ function_of seat.now }
-    ensures { IfOk result (λ claim. claim.room ≡ function_of seat.now) }
+/// Gives the number to the rooms that `C` names, which are those of the seat.
+fn claim_for<H: Naming, C: Claiming>(drawn: Drawn<H>, seat: &FunctionSeat) -> Claim<H>
+    requires named { C.room ≡ function_of seat.now }
+    requires numbered { AreNumbered drawn C.room.places }
+    ensures { result ≡ record { number = drawn; room = function_of seat.now } }
 {
     let _seat = seat.first.me();
-    hall.draw::<C>()
+    drawn.claim::<C>()
 }

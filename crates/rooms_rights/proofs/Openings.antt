@@ -96,11 +96,12 @@ rooms_all o n = record { rooms = tabulated n (λ room. dealing (opening_in o roo
 pub all_is : (o : Openings) (n : ℕ) (v : Views) → o.rooms ≡ n → v ≡ dealing_all o → v ≡ rooms_all o n
 all_is o n v er ev = ev ∙ ap (λ (m : ℕ). record { rooms = tabulated m (λ room. dealing (opening_in o room) 0) }) er
 
-one_alone : (o : Openings) (board table : TableId) → table ≡ board → HasRights board record { table = table; rooms = 1; room = 0 } (rooms_all o 1)
-one_alone o board table same = record { same = same; number = omega arith; rooms = refl; quiet = λ other lt away. absurd (away (omega arith)) }
+one_alone : (o : Openings) (board table : TableId) (number : ℕ) → table ≡ board → HasRights board record { table = table; rooms = 1; room = 0; number = number } (rooms_all o 1)
+one_alone o board table number same = record { same = same; number = omega arith; rooms = refl; quiet = λ other lt away. absurd (away (omega arith)) }
 
-pub one_has_rights : (o : Openings) (board table : TableId) (v : Views) → table ≡ board → v ≡ rooms_all o 1 → HasRights board record { table = table; rooms = 1; room = 0 } v
-one_has_rights o board table v same ev = subst (λ (x : Views). HasRights board record { table = table; rooms = 1; room = 0 } x) (sym ev) (one_alone o board table same)
+pub one_has_rights : (o : Openings) (board table : TableId) (number : ℕ) (v : Views) → table ≡ board → v ≡ rooms_all o 1 → HasRights board record { table = table; rooms = 1; room = 0; number = number } v
+one_has_rights o board table number v same ev =
+    subst (λ (x : Views). HasRights board record { table = table; rooms = 1; room = 0; number = number } x) (sym ev) (one_alone o board table number same)
 
 -- ---- four rooms
 
@@ -147,9 +148,10 @@ view_only v (suc (suc (suc zero))) lt = refl
 view_only v (suc (suc (suc (suc r)))) lt = absurd (omega arith)
 
 -- the token of a room of four, and what is left
-pub one_of_four : (board table : TableId) (v : Views) (x : View) (room : ℕ) → room < 4 → table ≡ board → v ≡ only x room → HasRights board record { table = table; rooms = 4; room = room } v
-one_of_four board table v x room lt same ev =
-    subst (λ (w : Views). HasRights board record { table = table; rooms = 4; room = room } w) (sym ev)
+pub one_of_four : (board table : TableId) (number : ℕ) (v : Views) (x : View) (room : ℕ) → room < 4 → table ≡ board → v ≡ only x room
+    → HasRights board record { table = table; rooms = 4; room = room; number = number } v
+one_of_four board table number v x room lt same ev =
+    subst (λ (w : Views). HasRights board record { table = table; rooms = 4; room = room; number = number } w) (sym ev)
     record { same = same; number = lt; rooms = length_only x room; quiet = λ other ol away. quiet_but x room other lt away }
 
 -- what the first token knows, and each cut
@@ -188,12 +190,12 @@ module _ (o : Openings) (v : Views) (e : v ≡ rooms_all o 4) where
 
 pub is_opened : (o : Openings) (can : CanOpenAll o) (n : ℕ) → o.rooms ≡ n → (table u : TableId) → u ≡ table → (room : ℕ) → room < o.rooms → u.words ≡ 2 * (count_of o * o.rooms)
     → (id : ℕ) (m : Me (Unit {0}) Views) → view_in m.0 room ≡ dealing (opening_in o room) 0 → m.1 ≡ []
-    → IsOpened o table room record { at = record { table = u; rooms = n; room = room }; id = id; me = (view_in m.0 room, m.1) }
+    → IsOpened o table room record { at = record { table = u; rooms = n; room = room; number = o.number }; id = id; me = (view_in m.0 room, m.1) }
 is_opened o can n er table u eu room lt ew id m ev ec =
     record {
-      at = λ k. record { table = eu k; rooms = sym er k; room = room };
+      at = λ k. record { table = eu k; rooms = sym er k; room = room; number = o.number };
       me = λ k. (ev k, ec k);
-      words = has_words o can record { table = u; rooms = n; room = room } room lt (sym er) ew;
+      words = has_words o can record { table = u; rooms = n; room = room; number = o.number } room lt (sym er) ew;
     }
 
 -- the view of a room in which alone there are rights

@@ -57,7 +57,7 @@ module _ (board : TableId) (at : RoomAt) (id : ℕ) (me : Me (Unit {0}) Views) (
         subst (λ (u : TableId). T (step u.slots word first second none) (view_in me.0 at.room, me.1) n (view_in after.0 at.room, after.1)) (sym same) (told_here t.slots n after told).there
 
     pub rights_after : (slots n : ℕ) (after : Me (Unit {0}) Views) → InRoom T (step slots place first second none) me n after → (u : TableId) → u ≡ at.table
-        → HasRights board record { table = u; rooms = at.rooms; room = at.room } after.0
+        → HasRights board record { table = u; rooms = at.rooms; room = at.room; number = at.number } after.0
     rights_after slots n after told u is =
         let here = told_here slots n after told in
         record {
@@ -99,7 +99,7 @@ module _ (board : TableId) (at : RoomAt) (id : ℕ) (me : Me (Unit {0}) Views) (
     seat_live x true e = absurd (cc)
     seat_live x false e = refl
 
-    pub rights_of_seat : (u : TableId) → u ≡ at.table → HasRights board record { table = u; rooms = at.rooms; room = at.room } (first_node me.0)
+    pub rights_of_seat : (u : TableId) → u ≡ at.table → HasRights board record { table = u; rooms = at.rooms; room = at.room; number = at.number } (first_node me.0)
     rights_of_seat u is =
         record {
           same = is ∙ rights.same;
@@ -110,7 +110,7 @@ module _ (board : TableId) (at : RoomAt) (id : ℕ) (me : Me (Unit {0}) Views) (
               ∙ seat_live (view_in me.0 other) (view_in me.0 other).live (rights.quiet other lt away);
         }
 
-    pub rights_of_rest : (u : TableId) → u ≡ at.table → HasRights board record { table = u; rooms = at.rooms; room = at.room } (other_nodes me.0)
+    pub rights_of_rest : (u : TableId) → u ≡ at.table → HasRights board record { table = u; rooms = at.rooms; room = at.room; number = at.number } (other_nodes me.0)
     rights_of_rest u is =
         record {
           same = is ∙ rights.same;
@@ -153,7 +153,7 @@ module _ (board : TableId) (at : RoomAt) (id : ℕ) (me : Me (Unit {0}) Views) (
   informed_live v w true = refl
   informed_live v w false = refl
 
-  pub rights_informed : (w : Views) (u : TableId) → u ≡ at.table → HasRights board record { table = u; rooms = at.rooms; room = at.room } (all_informed me.0 w)
+  pub rights_informed : (w : Views) (u : TableId) → u ≡ at.table → HasRights board record { table = u; rooms = at.rooms; room = at.room; number = at.number } (all_informed me.0 w)
   rights_informed w u is =
       record {
         same = is ∙ rights.same;
@@ -169,7 +169,7 @@ pub heard : (board : TableId) (at : RoomAt) (id : ℕ) (me : Me (Unit {0}) Views
     → (board2 : TableId) (at2 : RoomAt) (id2 : ℕ) (me2 : Me (Unit {0}) Views) (rights2 : HasRights board2 at2 me2.0)
     → at ≡ at2 → (view_in me2.0 at2.room).live ≡ true → (w : Me (Unit {0}) Views) → w ≡ (witnesses me2.0, [])
     → (new : Me (Unit {0}) Views) → new ≡ (all_informed me.0 w.0, me.1) → (u : TableId) → u ≡ at.table → (i : ℕ) → i ≡ id
-    → ◌≡◌ {A = Held} record { at = record { table = u; rooms = at.rooms; room = at.room }; id = i; me = (view_in new.0 at.room, new.1) }
+    → ◌≡◌ {A = Held} record { at = record { table = u; rooms = at.rooms; room = at.room; number = at.number }; id = i; me = (view_in new.0 at.room, new.1) }
     record { at = at; id = id; me = (informed (view_in me.0 at.room) (view_in me2.0 at2.room), me.1) }
 heard board at id me rights board2 at2 id2 me2 rights2 same lives w ew new en u eu i ei =
     let seen : view_in w.0 at.room ≡ witness (view_in me2.0 at2.room) =
@@ -178,7 +178,7 @@ heard board at id me rights board2 at2 id2 me2 rights2 same lives w ew new en u 
     ap (λ (m : Me (Unit {0}) Views). view_in m.0 at.room) en
     ∙ (informed_here board at id me rights w.0 (ap (λ (v : View). v.live) seen ∙ lives) ∙ ap (λ (v : View). informed (view_in me.0 at.room) v) seen) in
     λ k. record {
-      at = record { table = eu k; rooms = at.rooms; room = at.room };
+      at = record { table = eu k; rooms = at.rooms; room = at.room; number = at.number };
       id = ei k;
       me = (views k, ap (λ (m : Me (Unit {0}) Views). m.1) en k);
     }

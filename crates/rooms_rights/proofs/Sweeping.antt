@@ -37,7 +37,7 @@ high_word j n lt = omega arith
 
 module _ (board : TableId) (h : Held) (count : ℕ) where
   abbrev at : TableId → RoomAt
-  at table = record { table = table; rooms = h.at.rooms; room = h.at.room }
+  at table = record { table = table; rooms = h.at.rooms; room = h.at.room; number = h.at.number }
 
   -- what the holder of a token knows of the room
   abbrev seen_by : Me (Unit {0}) Views → View
@@ -193,10 +193,10 @@ module _ (board x : TableId) (same : x ≡ board) (g h : Held) (is : g ≡ h) (c
             row = row;
           }
 
-  pub rights_left : (table : TableId) (me : Me (Unit {0}) Views) → MayLook x h count table me → HasRights board record { table = table; rooms = g.at.rooms; room = g.at.room } me.0
+  pub rights_left : (table : TableId) (me : Me (Unit {0}) Views) → MayLook x h count table me → HasRights board record { table = table; rooms = g.at.rooms; room = g.at.room; number = g.at.number } me.0
   rights_left table me may =
-      subst (λ (k : Held). HasRights board record { table = table; rooms = k.at.rooms; room = k.at.room } me.0) (sym is)
-      (subst (λ (b : TableId). HasRights b record { table = table; rooms = h.at.rooms; room = h.at.room } me.0) same may.rights)
+      subst (λ (k : Held). HasRights board record { table = table; rooms = k.at.rooms; room = k.at.room; number = k.at.number } me.0) (sym is)
+      (subst (λ (b : TableId). HasRights b record { table = table; rooms = h.at.rooms; room = h.at.room; number = h.at.number } me.0) same may.rights)
 
   -- what was told of the view that it has of the room
   pub told_of : (P : View → Type 0) (me : Me (Unit {0}) Views) → P (view_in me.0 h.at.room) → P (view_in me.0 g.at.room)

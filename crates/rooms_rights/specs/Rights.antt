@@ -34,7 +34,7 @@ pub record MayStep (h : Held) (word : ℕ) (f : ℕ → ℕ) (then : ℕ → Me 
 
 -- the rights of all nodes of a room that has just been opened, in this table
 pub record IsOpened (o : Openings) (table : TableId) (room : ℕ) (h : Held) : Type 0 where
-  pub at : h.at ≡ record { table = table; rooms = o.rooms; room = room }
+  pub at : h.at ≡ record { table = table; rooms = o.rooms; room = room; number = o.number }
   pub me : h.me ≡ (dealing (opening_in o room) 0, [])
   pub words : HasWords h.at (opening_in o room).quorums.nodes
 

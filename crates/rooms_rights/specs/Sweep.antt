@@ -16,9 +16,9 @@ use Rattle.rooms_rights.specs.declared.seen.SeenWords.{SeenWords}
 
 -- the holder of a token of this table, which knows this, may look at the words of the nodes of a room
 pub record MayLook (board : TableId) (h : Held) (count : ℕ) (table : TableId) (me : Me (Unit {0}) Views) : Type 0 where
-  pub rights : HasRights board record { table = table; rooms = h.at.rooms; room = h.at.room } me.0
+  pub rights : HasRights board record { table = table; rooms = h.at.rooms; room = h.at.room; number = h.at.number } me.0
   pub seated : IsSeated (view_in me.0 h.at.room)
-  pub words : HasWords record { table = table; rooms = h.at.rooms; room = h.at.room } (view_in me.0 h.at.room).opening.quorums.nodes
+  pub words : HasWords record { table = table; rooms = h.at.rooms; room = h.at.room; number = h.at.number } (view_in me.0 h.at.room).opening.quorums.nodes
   pub nodes : (view_in me.0 h.at.room).opening.quorums.nodes ≡ count
 
 -- it may look at the words at this place, a node's

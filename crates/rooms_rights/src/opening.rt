@@ -38,6 +38,7 @@ pub fn open_one(alloc: Global, openings: &Openings) -> Result<Rights, AllocError
         token,
         rooms: 1,
         room: 0,
+        number: openings.number,
     })
 }
 
@@ -65,24 +66,28 @@ pub fn open_four(alloc: Global, openings: &Openings) -> Result<FourRights, Alloc
             token: token0,
             rooms: 4,
             room: 0,
+            number: openings.number,
         },
         second: Rights {
             board: board1,
             token: token1,
             rooms: 4,
             room: 1,
+            number: openings.number,
         },
         third: Rights {
             board: board2,
             token: token2,
             rooms: 4,
             room: 2,
+            number: openings.number,
         },
         fourth: Rights {
             board: board3,
             token,
             rooms: 4,
             room: 3,
+            number: openings.number,
         },
     })
 }

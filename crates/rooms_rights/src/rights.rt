@@ -30,6 +30,8 @@ pub struct Rights {
     pub(crate) token: Token<(), Views>,
     pub(crate) rooms: u8,
     pub(crate) room: u8,
+    /// The number with which the table was opened.
+    pub(crate) number: u64,
 }
 
 impl Model for Rights {
@@ -40,13 +42,13 @@ impl Model for Rights {
     ghost Value = { Held };
 
     ghost view = { λ r. record {
-      at = record { table = r.token.table_id; rooms = r.rooms; room = r.room };
+      at = record { table = r.token.table_id; rooms = r.rooms; room = r.room; number = r.number };
       id = r.token.id;
       me = (view_in r.token.me.0 r.room, r.token.me.1);
     } };
 
     ghost invariant = { λ r. HasRights (arc_value r.board).shared.table_id
-        record { table = r.token.table_id; rooms = r.rooms; room = r.room } r.token.me.0 };
+        record { table = r.token.table_id; rooms = r.rooms; room = r.room; number = r.number } r.token.me.0 };
 }
 
 impl Rights {
@@ -129,6 +131,7 @@ impl Rights {
             token,
             rooms: self.rooms,
             room: self.room,
+            number: self.number,
         })
     }
 

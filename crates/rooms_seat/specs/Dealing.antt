@@ -21,10 +21,10 @@ pub record IsDealing (v : View) (s : Dealing) : Type 0 where
   pub view : v ≡ dealing s.opening s.next
   pub can : CanOpen s.opening
 
--- a room of this table that has just been opened with these quorums from these kept parts
-abbrev pub room_opened : TableId → ℕ → ℕ → Sizes → List KeptPart → Dealing
-room_opened table rooms room q kept =
-    record { table = record { table = table; rooms = rooms; room = room }; opening = opening_of q kept; next = 0 }
+-- a room of this table, which has this number, that has just been opened with these quorums from these kept parts
+abbrev pub room_opened : TableId → ℕ → ℕ → ℕ → Sizes → List KeptPart → Dealing
+room_opened table number rooms room q kept =
+    record { table = record { table = table; rooms = rooms; room = room; number = number }; opening = opening_of q kept; next = 0 }
 
 -- four rooms have so many nodes
 pub record AreAsMany (n : ℕ) (a b c d : List KeptPart) : Type 0 where

@@ -46,8 +46,8 @@ pub struct FourDealers {
 }
 
 impl Dealer {
-    /// A room whose nodes have kept these parts, in their order, alone in its table: no seat is dealt yet. The words show the
-    /// parts, and no proposal.
+    /// A room whose nodes have kept these parts, in their order, alone in its table, which has the number 0: no seat is dealt yet. The
+    /// words show the parts, and no proposal.
     pub fn open(alloc: Global, kept: &[Kept], quorums: Quorums) -> Result<Dealer, AllocError>
         requires size { length kept.now ≡ quorums.nodes }
         requires settled { Settled quorums (nodes_of kept.now) }
@@ -58,6 +58,7 @@ impl Dealer {
         let openings = Openings {
             rooms: 1,
             each: [opening, opening, opening, opening],
+            number: 0,
         };
         let rights = open_one(alloc, &openings)?;
         Ok(Dealer::of(rights, &opening))
@@ -91,9 +92,10 @@ impl Dealer {
     }
 }
 
-/// Four rooms of the same nodes in one table, from what the nodes have kept of each: no seat is dealt yet.
+/// Four rooms of the same nodes in one table of this number, from what the nodes have kept of each: no seat is dealt yet.
 pub fn open_four(
     alloc: Global,
+    number: u64,
     first: &[Kept],
     second: &[Kept],
     third: &[Kept],
@@ -105,10 +107,10 @@ pub fn open_four(
     requires second { Settled quorums (nodes_of second.now) }
     requires third { Settled quorums (nodes_of third.now) }
     requires fourth { Settled quorums (nodes_of fourth.now) }
-    ensures first { IfOk result (λ all. all.first ≡ room_opened all.first.table.table 4 0 quorums first.now) }
-    ensures second { IfOk result (λ all. all.second ≡ room_opened all.first.table.table 4 1 quorums second.now) }
-    ensures third { IfOk result (λ all. all.third ≡ room_opened all.first.table.table 4 2 quorums third.now) }
-    ensures fourth { IfOk result (λ all. all.fourth ≡ room_opened all.first.table.table 4 3 quorums fourth.now) }
+    ensures first { IfOk result (λ all. all.first ≡ room_opened all.first.table.table number 4 0 quorums first.now) }
+    ensures second { IfOk result (λ all. all.second ≡ room_opened all.first.table.table number 4 1 quorums second.now) }
+    ensures third { IfOk result (λ all. all.third ≡ room_opened all.first.table.table number 4 2 quorums third.now) }
+    ensures fourth { IfOk result (λ all. all.fourth ≡ room_opened all.first.table.table number 4 3 quorums fourth.now) }
 {
     let opening1 = opening_of(first, quorums);
     let opening2 = opening_of(second, quorums);
@@ -117,6 +119,7 @@ pub fn open_four(
     let openings = Openings {
         rooms: 4,
         each: [opening1, opening2, opening3, opening4],
+        number,
     };
     let rights = rooms_met::open_four(alloc, &openings)?;
     Ok(FourDealers {

@@ -7,6 +7,8 @@ pub struct Openings {
     /// How many rooms there are: those from here on count for nothing.
     pub rooms: u8,
     pub each: [Opening; 4],
+    /// The number of the table, which all its rooms share.
+    pub number: u64,
 }
 
 /// What a seat knows of each room of its table. No value of it is made: it stands in proofs alone.

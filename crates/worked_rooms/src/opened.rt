@@ -107,7 +107,7 @@ pub fn function_seats(alloc: Global) -> Vec<FunctionSeat> {
     let Some(quorums) = Quorums::majorities(3) else {
         return Vec::new(alloc);
     };
-    match FunctionRoom::open(alloc, &[fresh, fresh, fresh], offers, quorums) {
+    match FunctionRoom::open(alloc, 0, &[fresh, fresh, fresh], offers, quorums) {
         Ok(seats) => seats,
         Err(_) => Vec::new(alloc),
     }

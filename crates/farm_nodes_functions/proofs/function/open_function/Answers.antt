@@ -1,5 +1,5 @@
 -- The rooms of a function open from what the nodes have kept of them.
-use Rattle.std.proofs.Common.{List, length, refl, ap, subst, ◌∙◌}
+use Rattle.std.proofs.Common.{ℕ, List, length, refl, ap, subst, ◌∙◌}
 use Rattle.std.specs.Global.{Vec}
 use Rattle.std.proofs.lemmas.List.{length-map}
 use Rattle.paxos_core_world.specs.KeptPart.{KeptPart}
@@ -9,6 +9,7 @@ use Rattle.farm_nodes_opening.specs.Numbers.{room_at}
 use Rattle.farm_nodes_opening.specs.Which.TheVariants.{First, Second, Third, Fourth}
 use Rattle.farm_nodes_lists.specs.Rows.{offers_of, rows_of}
 use Rattle.farm_nodes_opening.specs.Kept.{four_kept, kept_of}
+use Rattle.farm_nodes_opening.specs.Numbered.{AreOfOneFunction}
 use Rattle.farm_nodes_opening.proofs.OneRoom.{offers_as_given}
 use Rattle.farm_nodes_functions.proofs.Dealt.{all_one, open_function_is, some_of_all}
 use Rattle.farm_nodes_functions.proofs.Outcomes.{kept_first, kept_second, kept_third, kept_fourth, settled_all, told_pass}
@@ -33,14 +34,16 @@ open-requires g c =
 pub numbered-requires : goal.numbered-requires
 numbered-requires g c =
     record {
-      some = some_of_all c.args.quorums c.as_slice.result.now c.in-Ok-offers_for.here c.in-Ok-open.seats.items c.in-Ok-open.ensures.ok c.nodes-nodes.ensures.sizes;
-      rooms = all_one c.args.quorums c.as_slice.result.now c.in-Ok-offers_for.here c.in-Ok-open.seats.items c.in-Ok-open.ensures.ok;
+      some = some_of_all c.number-number.result c.args.quorums c.as_slice.result.now c.in-Ok-offers_for.here c.in-Ok-open.seats.items c.in-Ok-open.ensures.ok c.nodes-nodes.ensures.sizes;
+      rooms =
+          subst (λ (n : ℕ). AreOfOneFunction n c.in-Ok-open.seats.items) c.number-number.ensures
+          (all_one c.number-number.result c.args.quorums c.as_slice.result.now c.in-Ok-offers_for.here c.in-Ok-open.seats.items c.in-Ok-open.ensures.ok);
     }
 
 pub returns-in-Ok-numbered-clause-opened : goal.returns-in-Ok-numbered-clause-opened
 returns-in-Ok-numbered-clause-opened g c =
     let is = c.as_slice.ensures.value ∙ c.in-Ok.ensures in
-    open_function_is c.args.quorums c.args.kept.now c.args.function c.args.offers.now c.as_slice.result.now c.in-Ok-offers_for.here c.in-Ok-open.seats.items c.in-Ok-numbered.nodes.items
+    open_function_is c.number-number.result c.args.quorums c.args.kept.now c.args.function c.args.offers.now c.as_slice.result.now c.in-Ok-offers_for.here c.in-Ok-open.seats.items c.in-Ok-numbered.nodes.items
     is c.in-Ok-offers_for.ensures.here c.in-Ok-open.ensures.ok c.in-Ok-numbered.ensures.seats c.in-Ok-numbered.ensures.one
     (settled_all c.args.kept.now c.args.function c.args.quorums (subst (λ (ps : List (List KeptPart)). by_pass.AreSettled c.args.quorums ps) is c.in-Ok-open.ensures.settled))
     c.requires.size

@@ -30,6 +30,12 @@ returns-then-is_some-clause-first_waiting g c is = is
 pub returns-then-is_some-clause-second_waiting : goal.returns-then-is_some-clause-second_waiting
 returns-then-is_some-clause-second_waiting g c is = is
 
+pub returns-then-is_some-clause-strangers : goal.returns-then-is_some-clause-strangers
+returns-then-is_some-clause-strangers g c apart = refl
+
+pub returns-then-is_some-2-clause-strangers : goal.returns-then-is_some-2-clause-strangers
+returns-then-is_some-2-clause-strangers g c apart = refl
+
 pub returns-then-is_some-2-clause-met : goal.returns-then-is_some-2-clause-met
 returns-then-is_some-2-clause-met g c none none' = absurd (not_none c.args.second.now.halted (sym c.is_some-2.ensures ∙ c.if-is_some-2.true) none')
 
@@ -69,6 +75,7 @@ returns g c =
         | inr stops ↦ absurd (stops other)
       ];
       met = λ none none'. met;
+      strangers = met.strangers;
       first_stays = (refl, refl, refl, refl, refl);
       second_stays = (refl, refl, refl, refl, refl);
       first_sound =

@@ -37,7 +37,7 @@ returns c =
     let size = c.requires.size ∙ sym nodes in
     let kept = c.args.kept.now in
     let n = c.from-nodes.result in
-    dealers_ok c.args.quorums kept c.open_four.result (take n c.parts_in-first.result) (take n c.parts_in-second.result) (take n c.parts_in-third.result) (take n c.parts_in-fourth.result)
+    dealers_ok c.args.number c.args.quorums kept c.open_four.result (take n c.parts_in-first.result) (take n c.parts_in-second.result) (take n c.parts_in-third.result) (take n c.parts_in-fourth.result)
     (row_is kept 0 n c.parts_in-first.result c.parts_in-first.ensures size most) (row_is kept 1 n c.parts_in-second.result c.parts_in-second.ensures size most)
     (row_is kept 2 n c.parts_in-third.result c.parts_in-third.ensures size most) (row_is kept 3 n c.parts_in-fourth.result c.parts_in-fourth.ensures size most)
     c.open_four.ensures.first c.open_four.ensures.second c.open_four.ensures.third c.open_four.ensures.fourth

@@ -53,25 +53,25 @@ invariant_of-result c =
     let table = c.in_ok-table.ensures in
     let all = all_is c.args.openings.now 4 c.in_ok-table.token.me.0 c.requires.rooms (ap (λ (m : Me (Unit {0}) Views). m.0) table.4) in
     let at = table.2 ∙ ap (λ b. b.shared.table_id) (sym (c.in_ok-board0.ensures.first ∙ c.in_ok-board.ensures.ok)) in
-    one_of_four _ _ _ _ 0 (omega arith) (c.split_seat-token0.ensures.3 ∙ at) (ap (λ (m : Me (Unit {0}) Views). m.0) c.split_seat-token0.ensures.4 ∙ cut_first c.args.openings.now c.in_ok-table.token.me.0 all)
+    one_of_four _ _ _ _ _ 0 (omega arith) (c.split_seat-token0.ensures.3 ∙ at) (ap (λ (m : Me (Unit {0}) Views). m.0) c.split_seat-token0.ensures.4 ∙ cut_first c.args.openings.now c.in_ok-table.token.me.0 all)
 
 pub invariant_of-result-2 : goal.invariant_of-result-2
 invariant_of-result-2 c =
     let table = c.in_ok-table.ensures in
     let all = all_is c.args.openings.now 4 c.in_ok-table.token.me.0 c.requires.rooms (ap (λ (m : Me (Unit {0}) Views). m.0) table.4) in
     let at = table.2 ∙ ap (λ b. b.shared.table_id) (sym (c.in_ok-board0.ensures.second ∙ c.in_ok-board.ensures.ok)) in
-    one_of_four _ _ _ _ 1 (omega arith) (c.split_seat-token1.ensures.3 ∙ (c.split_seat-token0.ensures.0 ∙ at)) (ap (λ (m : Me (Unit {0}) Views). m.0) c.split_seat-token1.ensures.4 ∙ (ap (λ (m : Me (Unit {0}) Views). first_room m.0) c.split_seat-token0.ensures.2 ∙ cut_second c.args.openings.now c.in_ok-table.token.me.0 all))
+    one_of_four _ _ _ _ _ 1 (omega arith) (c.split_seat-token1.ensures.3 ∙ (c.split_seat-token0.ensures.0 ∙ at)) (ap (λ (m : Me (Unit {0}) Views). m.0) c.split_seat-token1.ensures.4 ∙ (ap (λ (m : Me (Unit {0}) Views). first_room m.0) c.split_seat-token0.ensures.2 ∙ cut_second c.args.openings.now c.in_ok-table.token.me.0 all))
 
 pub invariant_of-result-3 : goal.invariant_of-result-3
 invariant_of-result-3 c =
     let table = c.in_ok-table.ensures in
     let all = all_is c.args.openings.now 4 c.in_ok-table.token.me.0 c.requires.rooms (ap (λ (m : Me (Unit {0}) Views). m.0) table.4) in
     let at = table.2 ∙ ap (λ b. b.shared.table_id) (sym (c.in_ok-board0.ensures.third ∙ c.in_ok-board.ensures.ok)) in
-    one_of_four _ _ _ _ 2 (omega arith) (c.split_seat-token2.ensures.3 ∙ (c.split_seat-token1.ensures.0 ∙ (c.split_seat-token0.ensures.0 ∙ at))) (ap (λ (m : Me (Unit {0}) Views). m.0) c.split_seat-token2.ensures.4 ∙ (ap (λ (m : Me (Unit {0}) Views). first_room m.0) c.split_seat-token1.ensures.2 ∙ (ap (λ (m : Me (Unit {0}) Views). first_room (other_rooms m.0)) c.split_seat-token0.ensures.2 ∙ cut_third c.args.openings.now c.in_ok-table.token.me.0 all)))
+    one_of_four _ _ _ _ _ 2 (omega arith) (c.split_seat-token2.ensures.3 ∙ (c.split_seat-token1.ensures.0 ∙ (c.split_seat-token0.ensures.0 ∙ at))) (ap (λ (m : Me (Unit {0}) Views). m.0) c.split_seat-token2.ensures.4 ∙ (ap (λ (m : Me (Unit {0}) Views). first_room m.0) c.split_seat-token1.ensures.2 ∙ (ap (λ (m : Me (Unit {0}) Views). first_room (other_rooms m.0)) c.split_seat-token0.ensures.2 ∙ cut_third c.args.openings.now c.in_ok-table.token.me.0 all)))
 
 pub invariant_of-result-4 : goal.invariant_of-result-4
 invariant_of-result-4 c =
     let table = c.in_ok-table.ensures in
     let all = all_is c.args.openings.now 4 c.in_ok-table.token.me.0 c.requires.rooms (ap (λ (m : Me (Unit {0}) Views). m.0) table.4) in
     let at = table.2 ∙ ap (λ b. b.shared.table_id) (sym (c.in_ok-board0.ensures.fourth ∙ c.in_ok-board.ensures.ok)) in
-    one_of_four _ _ _ _ 3 (omega arith) (c.split_seat-token2.ensures.0 ∙ (c.split_seat-token1.ensures.0 ∙ (c.split_seat-token0.ensures.0 ∙ at))) (ap (λ (m : Me (Unit {0}) Views). m.0) c.split_seat-token2.ensures.2 ∙ (ap (λ (m : Me (Unit {0}) Views). other_rooms m.0) c.split_seat-token1.ensures.2 ∙ (ap (λ (m : Me (Unit {0}) Views). other_rooms (other_rooms m.0)) c.split_seat-token0.ensures.2 ∙ cut_rest c.args.openings.now c.in_ok-table.token.me.0 all)))
+    one_of_four _ _ _ _ _ 3 (omega arith) (c.split_seat-token2.ensures.0 ∙ (c.split_seat-token1.ensures.0 ∙ (c.split_seat-token0.ensures.0 ∙ at))) (ap (λ (m : Me (Unit {0}) Views). m.0) c.split_seat-token2.ensures.2 ∙ (ap (λ (m : Me (Unit {0}) Views). other_rooms m.0) c.split_seat-token1.ensures.2 ∙ (ap (λ (m : Me (Unit {0}) Views). other_rooms (other_rooms m.0)) c.split_seat-token0.ensures.2 ∙ cut_rest c.args.openings.now c.in_ok-table.token.me.0 all)))

@@ -11,7 +11,7 @@ open_four-requires c =
     let fourth = c.opening_of-opening4.ensures in
     let one = ap (λ (o : Opening). o.quorums.nodes) first.same in
     record {
-      can = four_open c.opening_of-opening1.result c.opening_of-opening2.result c.opening_of-opening3.result c.opening_of-opening4.result first.can second.can third.can fourth.can
+      can = four_open c.args.number c.opening_of-opening1.result c.opening_of-opening2.result c.opening_of-opening3.result c.opening_of-opening4.result first.can second.can third.can fourth.can
           (ap (λ (o : Opening). o.quorums.nodes) second.same ∙ sym one)
           (ap (λ (o : Opening). o.quorums.nodes) third.same ∙ sym one)
           (ap (λ (o : Opening). o.quorums.nodes) fourth.same ∙ sym one);

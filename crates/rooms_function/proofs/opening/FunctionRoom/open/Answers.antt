@@ -3,7 +3,7 @@ use Rattle.rooms_function.proofs.opening.FunctionRoom.open.Goals as goal
 
 pub seats_of_all-requires : goal.seats_of_all-requires
 seats_of_all-requires c =
-    fresh c.args.quorums c.args.kept.now c.args.offers c.in-Ok.dealers c.in-Ok.ensures.ok c.requires.size
+    fresh c.args.number c.args.quorums c.args.kept.now c.args.offers c.in-Ok.dealers c.in-Ok.ensures.ok c.requires.size
     c.requires.first c.requires.second c.requires.third c.requires.fourth
 
 pub returns-in-Err-clause-told : goal.returns-in-Err-clause-told

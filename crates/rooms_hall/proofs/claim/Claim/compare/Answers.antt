@@ -16,7 +16,7 @@ split_seat-witness-requires g c =
     let some_word : 0 < g.H.Naming.hall.words = let words : g.H.Naming.hall.words ≡ 1 = h.words in omega arith in (
       h.mine ∙ at,
       subst (λ (t : TableId). 0 < t.words) at some_word,
-      splits c.other.inside.token.id c.other.inside.token.me.0,
+      splits c.other.inside.token.id c.other.inside.token.me.0 (ap (λ (v : View). v.drawn) h.view),
     )
 
 pub join_seat-requires : goal.join_seat-requires
@@ -49,7 +49,7 @@ invariant_of-self g c =
     let told : c.join_seat.new.seat.me.0 ≡ both c.self.inside.token.me.0 c.split_seat-witness.result.me.0 = ap (λ (m : Me (Unit {0}) View). m.0) c.join_seat.ensures.2 in
     subst (λ (v : View). IsClaim g.H.Naming.hall (arc_value c.self.inside.board).shared.table_id c.load-found.new.seat.table_id c.self.inside.number v)
     (sym (compared c.self.inside.number c.self.inside.token.me.0 c.split_seat-witness.result.me.0 c.join_seat.new.seat.me.0 c.load-found.new.seat.me.0 h.view told found.2.after))
-    record { shared = h.shared; mine = found.0 ∙ (c.join_seat.ensures.0 ∙ h.mine); words = h.words; view = h.view }
+    record { shared = h.shared; mine = found.0 ∙ (c.join_seat.ensures.0 ∙ h.mine); words = h.words; view = h.view; numbered = h.numbered }
 
 pub returns-clause-told : goal.returns-clause-told
 returns-clause-told g c =

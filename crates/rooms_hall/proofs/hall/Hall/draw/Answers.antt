@@ -25,6 +25,6 @@ compare_exchange-found-requires g c =
       c.loop-tried.invariant ∙ (first ∙ at),
       subst (λ (t : TableId). 0 < t.words) at some_word,
       subst (λ (m : ℕ). Allows {S = Unit {0}} HallRule c.deref-in-loop-tried.result.now.shared.table_id.slots c.loop-tried.token.id c.loop-tried.token.me 0 (λ n. either (n == c.loop-tried.found) m n)
-          (Drew {S = Unit {0}} g.C.Claiming.room (step {S = Unit {0}} c.deref-in-loop-tried.result.now.shared.table_id.slots 0 c.loop-tried.found m none) c.loop-tried.token.me)) (sym next)
-          (draws c.deref-in-loop-tried.result.now.shared.table_id.slots c.loop-tried.token.id c.loop-tried.token.me c.loop-tried.found g.C.Claiming.room),
+          (Drew {S = Unit {0}} (step {S = Unit {0}} c.deref-in-loop-tried.result.now.shared.table_id.slots 0 c.loop-tried.found m none) c.loop-tried.token.me)) (sym next)
+          (draws c.deref-in-loop-tried.result.now.shared.table_id.slots c.loop-tried.token.id c.loop-tried.token.me c.loop-tried.found),
     )
