@@ -1,7 +1,7 @@
 //! Readers of a bundle's parts, and of a whole one. Each says the value and the bytes behind it, or the first fault.
 
-ghost use Rattle.std.specs.Prelude.{◌≡◌, ◌≢◌, IfOk, IfErr};
-ghost use Rattle.lang_base.specs.Reading.{Reads};
+ghost use Rattle.std.specs.Prelude.{◌≡◌, ◌≢◌, [], IfOk, IfErr};
+ghost use Rattle.lang_base.specs.Reading.{Reads, byte, more};
 ghost use Rattle.bundle_form.specs.Form.{bundle_text, IsBundle};
 ghost use Rattle.bundle_form.specs.Reading.{block, texts, functions, body, bundle, whole, Tells};
 ghost use Rattle.bundle_form.specs.declared.bundle.Bundle.{Bundle};
@@ -11,13 +11,26 @@ use lang_base::{FormError, Row, read_byte, read_count, read_u32};
 use lang_parts::{Byte, ReadOne, are_bytes, read_so_many};
 use std::alloc::Global;
 
+/// So many bytes, in one copy. Where fewer are there, nothing is copied.
+fn read_bytes(alloc: Global, count: u32, bytes: &mut &[u8]) -> Result<Row<u8>, FormError>
+    ensures { Reads (more (λ before. byte) [] count bytes.old.now) result bytes.new.now }
+{
+    let count = count as usize;
+    if bytes.len() < count {
+        return Err(FormError::Short);
+    }
+    let (block, behind) = bytes.split_at(count);
+    let block = Vec::from_slice(alloc, block)?;
+    *bytes = behind;
+    Ok(Row::from_vec(block))
+}
+
 /// An offer's bytes, behind their number.
 fn read_block(alloc: Global, bytes: &mut &[u8]) -> Result<Row<u8>, FormError>
     ensures { Reads (block bytes.old.now) result bytes.new.now }
 {
     let count = read_u32(bytes)?;
-    let block = read_so_many(alloc, Byte, count, bytes)?;
-    Ok(Row::from_vec(block))
+    read_bytes(alloc, count, bytes)
 }
 
 /// The four offers of a function.

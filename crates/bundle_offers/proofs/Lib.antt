@@ -1,5 +1,4 @@
 pub mod Blocks
 pub mod Compared
 pub mod OneBundle
-pub mod Readings
 pub mod Standings

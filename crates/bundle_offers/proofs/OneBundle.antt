@@ -14,7 +14,7 @@ use Rattle.alloc_check_verdict.specs.Text as allocation
 use Rattle.linearize_check.specs.OrderForm as order
 use Rattle.chains.specs.declared.offering.Offers.{Offers}
 use Rattle.bundle_form.proofs.Forms.{bundle_form}
-use Rattle.bundle_offers.specs.Texts.{HasOneBundle, OffersFit, bundle_with, first_text, fourth_text, second_text, texts_of, third_text}
+use Rattle.bundle_reading.specs.Texts.{HasOneBundle, OffersFit, bundle_with, first_text, fourth_text, second_text, texts_of, third_text}
 
 same_text : {A : Type 0} (Fits : A → Type 0) (text : A → List ℕ) → HasOneText Fits text → (a b : A) → Fits a → Fits b → text a ≡ text b → a ≡ b
 same_text Fits text one a b fits fits' e = (one a b [] [] fits fits' (ap (λ l. l ++ []) e)).0

@@ -3,19 +3,27 @@ use Rattle.std.proofs.Common.{◌≡◌, ℕ, zero, suc, ◌<◌, List, [], ◌�
 use Rattle.std.specs.Prelude.{slice_get, OnOk, IfErr}
 use Rattle.std.specs.List.{AllByRecursion}
 use Rattle.std.proofs.lemmas.List.Elements.{All-nil, All-cons}
+use Rattle.lang_base.specs.declared.fault.Fault.{Fault}
 use Rattle.lang_base.specs.declared.program.Named.{Named}
 use Rattle.rtl_language.specs.Function.{FunctionData}
 use Rattle.chains.specs.declared.offering.Offers.{Offers}
 use Rattle.chains.specs.Baselines.{AreAccepted}
 use Rattle.linker.specs.Chains.{names_of}
 use Rattle.chains.specs.Offered.{AllGoOn, GoOnFrom, ends_of}
-use Rattle.bundle_offers.specs.declared.four.Four.{Four}
+use Rattle.bundle_reading.specs.declared.four.Four.{Four}
 use Rattle.bundle_offers.specs.declared.fault.PassNumber.{PassNumber}
 use Rattle.bundle_offers.specs.declared.fault.OfferFault.{OfferFault}
 use Rattle.bundle_offers.specs.declared.fault.OfferFault.TheVariants.{NoMemory, Unchained, Refused}
 use Rattle.bundle_offers.specs.declared.fault.PassNumber.TheVariants.{First, Second, Third, Fourth}
-use Rattle.bundle_offers.specs.Read.{offers_of, offers_in}
-use Rattle.bundle_offers.specs.Standing.{AcceptedAt, AllStand, ChainedAt, Fails, FailsStep, FirstStands, IsFirstFault, IsJudgedAt, Judged, SecondStands, Stand, StandBefore, ThirdStands, WhyAt}
+use Rattle.bundle_reading.specs.Read.{offers_of, offers_in}
+use Rattle.bundle_reading.proofs.Places.{got}
+use Rattle.bundle_offers.specs.Standing.{AcceptedAt, AllStand, ChainedAt, Fails, FailsCheck, FailsStep, IsAlone, IsAloneAt, IsFirstFault, IsJudgedAt, IsJudgedPass, Judged, Stand, StandBefore, WhyAt, first_of}
+
+-- an offer that chains and is not accepted does not stand
+pub fails_step : (at : PassNumber) (Chained Accepted : Type 0) (Why : Fault → Type 0) (fault : OfferFault) → Chained → FailsCheck at Accepted Why fault → FailsStep at Chained Accepted Why fault
+fails_step at Chained Accepted Why NoMemory chained told = tt
+fails_step at Chained Accepted Why (Unchained pass) chained told = absurd told
+fails_step at Chained Accepted Why (Refused pass fault) chained told = (told.0, chained, told.1, told.2)
 
 -- an offer that does not stand behind those that do
 pub fails_at : (f : FunctionData) (o : Offers) (at : PassNumber) (fault : OfferFault) → StandBefore f o at → FailsStep at (ChainedAt f o at) (AcceptedAt o at) (WhyAt o at) fault → Fails f o fault
@@ -25,21 +33,21 @@ fails_at f o at (Unchained pass) before told =
 fails_at f o at (Refused pass fault) before told =
     subst (λ k. Fails f o (Refused k fault)) (sym told.0) (before, told.1, told.2, told.3)
 
--- the last offer, behind those that stand
-pub last_judged : (f : FunctionData) (o : Offers) (told : Result (Unit {0}) OfferFault) → OnOk told (ChainedAt f o Fourth) → OnOk told (AcceptedAt o Fourth)
-    → IfErr told (FailsStep Fourth (ChainedAt f o Fourth) (AcceptedAt o Fourth) (WhyAt o Fourth)) → FirstStands f o → SecondStands o → ThirdStands o → Judged f o told
-last_judged f o (Ok done) chained accepted refused one two three = record { first = one; second = two; third = three; fourth = (chained, accepted) }
-last_judged f o (Err fault) chained accepted refused one two three = fails_at f o Fourth fault (one, two, three) refused
+-- of four answers the first fault is that of the offers
+pub judged_of : (f : FunctionData) (o : Offers) (first second third fourth : Result (Unit {0}) OfferFault)
+    → IsJudgedPass f o First first → IsJudgedPass f o Second second → IsJudgedPass f o Third third → IsJudgedPass f o Fourth fourth
+    → Judged f o (first_of first second third fourth)
+judged_of f o (Err fault) second third fourth one two three four = fails_at f o First fault tt one
+judged_of f o (Ok done) (Err fault) third fourth one two three four = fails_at f o Second fault one two
+judged_of f o (Ok done) (Ok done') (Err fault) fourth one two three four = fails_at f o Third fault (one, two) three
+judged_of f o (Ok done) (Ok done') (Ok done'') (Err fault) one two three four = fails_at f o Fourth fault (one, two, three) four
+judged_of f o (Ok done) (Ok done') (Ok done'') (Ok last) one two three four = record { first = one; second = two; third = three; fourth = four }
 
-some_is : {A : Type 0} (x y : A) → Some x ≡ Some y → x ≡ y
-some_is x y e = cc
-
--- what stands at a place
-pub got : {A : Type 0} (xs : List A) (i : ℕ) (x d : A) → slice_get xs i ≡ Some x → (i < length xs) × (get_or xs i d ≡ x)
-got [] zero x d e = absurd cc
-got [] (suc i) x d e = absurd cc
-got (y ∷ xs) zero x d e = (omega arith, some_is y x e)
-got (y ∷ xs) (suc i) x d e = let rest = got xs i x d e in (omega (arith, rest.0), rest.1)
+-- what is found of an offer is what is answered of it
+pub judged_pass : (f : FunctionData) (o : Offers) (at : PassNumber) (told : Result (Unit {0}) OfferFault) → OnOk told (ChainedAt f o at) → OnOk told (AcceptedAt o at)
+    → IfErr told (FailsStep at (ChainedAt f o at) (AcceptedAt o at) (WhyAt o at)) → IsJudgedPass f o at told
+judged_pass f o at (Ok done) chained accepted refused = (chained, accepted)
+judged_pass f o at (Err fault) chained accepted refused = refused
 
 -- the answer to the function of a number, by what stands there
 pub judged_at : (fs : List (Named FunctionData)) (fours : List Four) (n : ℕ) (f : Named FunctionData) (four : Four) (told : Result (Unit {0}) OfferFault)
@@ -48,6 +56,24 @@ judged_at fs fours n f four told at at' is g other e e' =
     let same : f ≡ g = at ∙ (got fs n g f e).1 in
     let same' : four ≡ other = at' ∙ (got fours n other four e').1 in
     subst (λ x. Judged g.function (offers_of x) told) same' (subst (λ x. Judged x.function (offers_of four) told) same is)
+
+-- what stands at a place that is there
+pub placed : (fours : List Four) (n : ℕ) (four : Four) → four ≡ get_or fours n four → n < length fours → slice_get fours n ≡ Some four
+placed [] n four is below = absurd (omega (arith, below))
+placed (x ∷ fours) zero four is below = ap (λ y. Some y) (sym is)
+placed (x ∷ fours) (suc n) four is below = placed fours n four is (omega (arith, below))
+
+-- the answer to the offers of a number by themselves
+pub alone_at : (fours : List Four) (n : ℕ) (four : Four) (told : Result (Unit {0}) OfferFault)
+    → four ≡ get_or fours n four → IsAlone four told → IsAloneAt fours n told
+alone_at fours n four told at is other e =
+    let same : four ≡ other = at ∙ (got fours n other four e).1 in
+    subst (λ x. IsAlone x told) same is
+
+-- the answer to offers by themselves is one to the function that the first goes on from, and to another there is a fault
+pub judged_from : (f : FunctionData) (four : Four) (told : Result (Unit {0}) OfferFault) → four.constants.input ≡ f → IsAlone four told
+    → Judged f (offers_of four) told
+judged_from f four told same is = subst (λ h. Judged h (offers_of four) told) same is
 
 -- the same of what was read
 abbrev pub FoursStand : List (Named FunctionData) → List Four → Type 0

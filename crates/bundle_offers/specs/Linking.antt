@@ -6,7 +6,7 @@ use Rattle.linear_language.specs.Function as linear
 use Rattle.chains.specs.declared.offering.Offers.{Offers}
 use Rattle.chains.specs.Baselines.{AreAccepted}
 use Rattle.chains.specs.Offered.{AllGoOn, linked_offers}
-use Rattle.bundle_offers.specs.Texts.{IsBundleOf}
+use Rattle.bundle_reading.specs.Texts.{IsBundleOf}
 
 -- The bytes are the bundle of this digest and of the offers of all functions: each is accepted by its pass, each goes on from the
 -- one before it, the first from the function, and the program is what they link.

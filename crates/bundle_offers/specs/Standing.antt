@@ -9,12 +9,12 @@ use Rattle.cse_check_rules.specs.Rules.{IsEliminated}
 use Rattle.alloc_check_filled.specs.Allocated.{IsAllocated}
 use Rattle.linearize_check_proof.specs.Rules.{IsLaidOut}
 use Rattle.chains.specs.declared.offering.Offers.{Offers}
-use Rattle.bundle_offers.specs.declared.four.Four.{Four}
+use Rattle.bundle_reading.specs.declared.four.Four.{Four}
 use Rattle.bundle_offers.specs.declared.fault.PassNumber.{PassNumber}
 use Rattle.bundle_offers.specs.declared.fault.PassNumber.TheVariants.{First, Second, Third, Fourth}
 use Rattle.bundle_offers.specs.declared.fault.OfferFault.{OfferFault}
 use Rattle.bundle_offers.specs.declared.fault.OfferFault.TheVariants.{NoMemory, Unchained, Refused}
-use Rattle.bundle_offers.specs.Read.{offers_of}
+use Rattle.bundle_reading.specs.Read.{offers_of}
 use Rattle.bundle_offers.specs.Reasons.{WhyFirst, WhySecond, WhyThird, WhyFourth}
 
 abbrev pub number_of : PassNumber → ℕ
@@ -28,6 +28,12 @@ abbrev pub FailsStep : PassNumber → Type 0 → Type 0 → (Fault → Type 0) �
 FailsStep at Chained Accepted Why NoMemory = Unit {0}
 FailsStep at Chained Accepted Why (Unchained pass) = (pass ≡ at) × (Chained → ⊥)
 FailsStep at Chained Accepted Why (Refused pass fault) = (pass ≡ at) × Chained × (Accepted → ⊥) × Why fault
+
+-- the same of an offer that chains
+abbrev pub FailsCheck : PassNumber → Type 0 → (Fault → Type 0) → OfferFault → Type 0
+FailsCheck at Accepted Why NoMemory = Unit {0}
+FailsCheck at Accepted Why (Unchained pass) = ⊥
+FailsCheck at Accepted Why (Refused pass fault) = (pass ≡ at) × (Accepted → ⊥) × Why fault
 
 -- ---- the offers of a function, pass by pass
 
@@ -110,6 +116,18 @@ abbrev pub Judged : FunctionData → Offers → Result (Unit {0}) OfferFault →
 Judged f o (Ok done) = Stand f o
 Judged f o (Err fault) = Fails f o fault
 
+-- what is answered of the offer of one pass
+abbrev pub IsJudgedPass : FunctionData → Offers → PassNumber → Result (Unit {0}) OfferFault → Type 0
+IsJudgedPass f o at (Ok done) = ChainedAt f o at × AcceptedAt o at
+IsJudgedPass f o at (Err fault) = FailsStep at (ChainedAt f o at) (AcceptedAt o at) (WhyAt o at) fault
+
+-- the first fault of four answers
+abbrev pub first_of : Result (Unit {0}) OfferFault → Result (Unit {0}) OfferFault → Result (Unit {0}) OfferFault → Result (Unit {0}) OfferFault → Result (Unit {0}) OfferFault
+first_of (Err fault) second third fourth = Err fault
+first_of (Ok done) (Err fault) third fourth = Err fault
+first_of (Ok done) (Ok done') (Err fault) fourth = Err fault
+first_of (Ok done) (Ok done') (Ok done'') fourth = fourth
+
 -- ---- the offers of all functions
 
 -- function by function, and no more offers than functions
@@ -125,6 +143,19 @@ IsFirstFault [] offers i fault = ⊥
 IsFirstFault (f ∷ functions) [] i fault = ⊥
 IsFirstFault (f ∷ functions) (o ∷ offers) zero fault = Fails f.function o fault
 IsFirstFault (f ∷ functions) (o ∷ offers) (suc i) fault = Stand f.function o × IsFirstFault functions offers i fault
+
+-- the answer to offers by themselves: the first goes on from its own input
+abbrev pub IsAlone : Four → Result (Unit {0}) OfferFault → Type 0
+IsAlone four told = Judged four.constants.input (offers_of four) told
+
+-- the same of those of this number
+abbrev pub IsAloneAt : List Four → ℕ → Result (Unit {0}) OfferFault → Type 0
+IsAloneAt fours i told = (four : Four) → slice_get fours i ≡ Some four → IsAlone four told
+
+-- an answer to each function's offers by themselves, in order
+pub record AreAlone (fours : List Four) (alone : List (Result (Unit {0}) OfferFault)) : Type 0 where
+  pub count : length alone ≡ length fours
+  pub each : (i : ℕ) (told : Result (Unit {0}) OfferFault) → slice_get alone i ≡ Some told → IsAloneAt fours i told
 
 -- the answer to the function of this number
 abbrev pub IsJudgedAt : List (Named FunctionData) → List Four → ℕ → Result (Unit {0}) OfferFault → Type 0

@@ -2,14 +2,14 @@
 
 ghost use Rattle.std.specs.Prelude.{◌≡◌, ◌<◌, ℕ, length, slice_get, Some, IfOk, IfErr, OnOk, OnErr, MatchOption};
 ghost use Rattle.lang_base.specs.declared.fault.Fault.{Fault};
-ghost use Rattle.bundle_offers.specs.Read.{offers_in, offers_of};
-ghost use Rattle.bundle_offers.specs.Standing.{AllStand, AreJudged, FailsStep, IsFirstFault, IsJudgedAt, Judged};
+ghost use Rattle.bundle_reading.specs.Read.{offers_in, offers_of};
+ghost use Rattle.bundle_offers.specs.Standing.{AllStand, AreAlone, AreJudged, FailsCheck, FailsStep, IsAlone, IsAloneAt, IsFirstFault, IsJudgedAt, IsJudgedPass, Judged, first_of};
 ghost use Rattle.bundle_offers.specs.declared.fault.PassNumber.{PassNumber};
 
 use crate::fault::{OfferFault, PassNumber};
-use crate::four::Four;
 use crate::reasons::{PassReasons, Reasons};
 use alloc_check::Alloc;
+use bundle_reading::Four;
 use constprop_check::ConstProp;
 use cse_check::Cse;
 use lang_base::{Language, Named, NoMemory, Pass};
@@ -17,7 +17,26 @@ use linearize_check::Linearize;
 use offers::PartsOf;
 use rtl_language::Function;
 use std::alloc::Global;
-use std::thread::{Threads, map_indices};
+use std::thread::{Threads, join, map_indices};
+
+/// Whether the pass accepts an offer, or why not.
+fn accepted<P: Pass, S: Reasons<P>>(
+    alloc: Global,
+    at: PassNumber,
+    parts: &PartsOf<P>,
+) -> Result<(), OfferFault>
+    ensures ok { OnOk result (P.accepts parts.now.input parts.now.output parts.now.certificate) }
+    ensures refused { IfErr result (FailsCheck at (P.accepts parts.now.input parts.now.output parts.now.certificate)
+        (S.tells parts.now.input parts.now.output parts.now.certificate)) }
+{
+    if P::check(alloc, &parts.input, &parts.output, &parts.certificate)? {
+        return Ok(());
+    }
+    match S::reason(alloc, &parts.input, &parts.output, &parts.certificate)? {
+        Some(fault) => Err(OfferFault::Refused(at, fault)),
+        None => unreachable!(),
+    }
+}
 
 /// Whether an offer goes on from this function and its pass accepts it, or what is wrong with it, the chain first.
 pub fn stands<P: Pass, S: Reasons<P>>(
@@ -35,62 +54,157 @@ pub fn stands<P: Pass, S: Reasons<P>>(
     if &parts.input != before {
         return Err(OfferFault::Unchained(at));
     }
-    if P::check(alloc, &parts.input, &parts.output, &parts.certificate)? {
-        return Ok(());
-    }
-    match S::reason(alloc, &parts.input, &parts.output, &parts.certificate)? {
-        Some(fault) => Err(OfferFault::Refused(at, fault)),
-        None => unreachable!(),
+    match accepted::<P, S>(alloc, at, parts) {
+        Ok(()) => Ok(()),
+        Err(fault) => Err(fault),
     }
 }
 
-/// Whether the four offers of a function stand, or the first that does not.
-fn judge(alloc: Global, function: &Function, four: &Four) -> Result<(), OfferFault>
+/// Whether the offer of one pass stands: `function` is what the first goes on from, and each other one from the output before it.
+fn judge_pass(
+    alloc: Global,
+    function: &Function,
+    four: &Four,
+    at: PassNumber,
+) -> Result<(), OfferFault>
+    ensures { IsJudgedPass function.now (offers_of four.now) at result }
+{
+    match at {
+        PassNumber::First => {
+            stands::<ConstProp, PassReasons>(alloc, PassNumber::First, function, &four.constants)
+        }
+        PassNumber::Second => {
+            let before = &four.constants.output;
+            stands::<Cse, PassReasons>(alloc, PassNumber::Second, before, &four.expressions)
+        }
+        PassNumber::Third => {
+            let before = &four.expressions.output;
+            stands::<Alloc, PassReasons>(alloc, PassNumber::Third, before, &four.allocation)
+        }
+        PassNumber::Fourth => {
+            let before = &four.allocation.output;
+            stands::<Linearize, PassReasons>(alloc, PassNumber::Fourth, before, &four.order)
+        }
+    }
+}
+
+/// The first fault of four answers, in the order of the passes.
+fn in_order(
+    first: Result<(), OfferFault>,
+    second: Result<(), OfferFault>,
+    third: Result<(), OfferFault>,
+    fourth: Result<(), OfferFault>,
+) -> Result<(), OfferFault>
+    ensures { result ≡ first_of first second third fourth }
+{
+    match (first, second, third) {
+        (Err(fault), _, _) => Err(fault),
+        (Ok(()), Err(fault), _) => Err(fault),
+        (Ok(()), Ok(()), Err(fault)) => Err(fault),
+        (Ok(()), Ok(()), Ok(())) => fourth,
+    }
+}
+
+/// The same of the first two passes, side by side.
+fn judge_front<R: Threads + Sync>(
+    rt: &R,
+    alloc: Global,
+    function: &Function,
+    four: &Four,
+) -> (Result<(), OfferFault>, Result<(), OfferFault>)
+    ensures first { IsJudgedPass function.now (offers_of four.now) PassNumber.First result.0 }
+    ensures second { IsJudgedPass function.now (offers_of four.now) PassNumber.Second result.1 }
+{
+    join(
+        rt,
+        || -> Result<(), OfferFault>
+            ensures { IsJudgedPass function.entry.now (offers_of four.entry.now) PassNumber.First result }
+        { judge_pass(alloc, function, four, PassNumber::First) },
+        || -> Result<(), OfferFault>
+            ensures { IsJudgedPass function.entry.now (offers_of four.entry.now) PassNumber.Second result }
+        { judge_pass(alloc, function, four, PassNumber::Second) },
+    )
+}
+
+/// The same of the last two.
+fn judge_back<R: Threads + Sync>(
+    rt: &R,
+    alloc: Global,
+    function: &Function,
+    four: &Four,
+) -> (Result<(), OfferFault>, Result<(), OfferFault>)
+    ensures third { IsJudgedPass function.now (offers_of four.now) PassNumber.Third result.0 }
+    ensures fourth { IsJudgedPass function.now (offers_of four.now) PassNumber.Fourth result.1 }
+{
+    join(
+        rt,
+        || -> Result<(), OfferFault>
+            ensures { IsJudgedPass function.entry.now (offers_of four.entry.now) PassNumber.Third result }
+        { judge_pass(alloc, function, four, PassNumber::Third) },
+        || -> Result<(), OfferFault>
+            ensures { IsJudgedPass function.entry.now (offers_of four.entry.now) PassNumber.Fourth result }
+        { judge_pass(alloc, function, four, PassNumber::Fourth) },
+    )
+}
+
+/// Whether the four offers of a function stand, or the first that does not: each pass in a thread of its own, since a bundle holds
+/// what each begins with.
+fn judge<R: Threads + Sync>(
+    rt: &R,
+    alloc: Global,
+    function: &Function,
+    four: &Four,
+) -> Result<(), OfferFault>
     ensures { Judged function.now (offers_of four.now) result }
 {
-    stands::<ConstProp, PassReasons>(alloc, PassNumber::First, function, &four.constants)?;
-    let before = &four.constants.output;
-    stands::<Cse, PassReasons>(alloc, PassNumber::Second, before, &four.expressions)?;
-    let before = &four.expressions.output;
-    stands::<Alloc, PassReasons>(alloc, PassNumber::Third, before, &four.allocation)?;
-    let before = &four.allocation.output;
-    stands::<Linearize, PassReasons>(alloc, PassNumber::Fourth, before, &four.order)
+    let (front, back) = join(
+        rt,
+        || -> (Result<(), OfferFault>, Result<(), OfferFault>)
+            ensures { IsJudgedPass function.entry.now (offers_of four.entry.now) PassNumber.First result.0
+                × IsJudgedPass function.entry.now (offers_of four.entry.now) PassNumber.Second result.1 }
+        { judge_front(rt, alloc, function, four) },
+        || -> (Result<(), OfferFault>, Result<(), OfferFault>)
+            ensures { IsJudgedPass function.entry.now (offers_of four.entry.now) PassNumber.Third result.0
+                × IsJudgedPass function.entry.now (offers_of four.entry.now) PassNumber.Fourth result.1 }
+        { judge_back(rt, alloc, function, four) },
+    );
+    in_order(front.0, front.1, back.0, back.1)
 }
 
-/// The same of the function of this number.
-fn judge_at(
+/// The same of the function's offers of this number by themselves: the first of them goes on from its own input.
+fn judge_alone_at<R: Threads + Sync>(
+    rt: &R,
     alloc: Global,
-    functions: &[Named<Function>],
     fours: &[Four],
     number: usize,
 ) -> Result<(), OfferFault>
-    ensures { IsJudgedAt functions.now fours.now number result }
+    ensures { IsAloneAt fours.now number result }
 {
-    if number >= functions.len() || number >= fours.len() {
+    if number >= fours.len() {
         return Err(OfferFault::NoMemory);
     }
-    judge(alloc, &functions[number].function, &fours[number])
+    let four = &fours[number];
+    judge(rt, alloc, &four.constants.input, four)
 }
 
-/// Whether the four offers of each function stand, in order: each function in a thread of its own. A thread that cannot be made
-/// costs no answer.
-pub fn judge_all<R: Threads + Sync>(
+/// Whether the four offers of each function stand by themselves, whatever function the first of them goes on from, in order: each of them
+/// in a thread of its own. No text is needed for it. A thread that cannot be made costs no answer.
+pub fn judge_alone<R: Threads + Sync>(
     rt: &R,
     alloc: Global,
-    functions: &[Named<Function>],
     fours: &[Four],
 ) -> Result<Vec<Result<(), OfferFault>>, NoMemory>
-    ensures { IfOk result (λ judged. AreJudged functions.now fours.now judged.items) }
+    ensures { IfOk result (λ alone. AreAlone fours.now alone.items) }
 {
-    let judged = map_indices(
+    let alone = map_indices(
         rt,
         alloc,
         fours.len(),
         &|number: usize| -> Result<(), OfferFault>
-            ensures { IsJudgedAt functions.entry.now fours.entry.now number result }
-        { judge_at(alloc, functions, fours, number) },
+            ensures { IsAloneAt fours.entry.now number result }
+        { judge_alone_at(rt, alloc, fours, number) },
     )?;
-    Ok(judged)
+    Ok(alone)
 }
 
 fn told_at(judged: &[Result<(), OfferFault>], number: usize) -> Result<(), OfferFault>
@@ -98,6 +212,77 @@ fn told_at(judged: &[Result<(), OfferFault>], number: usize) -> Result<(), Offer
     ensures { slice_get judged.now number ≡ Some result }
 {
     judged[number]
+}
+
+/// Whether an offer goes on from this function.
+fn goes_on<P: Pass>(
+    at: PassNumber,
+    before: &<P::In as Language>::Fun,
+    parts: &PartsOf<P>,
+) -> Result<(), OfferFault>
+    ensures chained { OnOk result (parts.now.input ≡ before.now) }
+    ensures refused { IfErr result (λ e. (e ≡ OfferFault.Unchained at) × (parts.now.input ≡ before.now → ⊥)) }
+{
+    if &parts.input != before {
+        return Err(OfferFault::Unchained(at));
+    }
+    Ok(())
+}
+
+/// Whether the four offers of a function stand, by what is answered of them by themselves.
+fn judge_from(
+    function: &Function,
+    four: &Four,
+    alone: Result<(), OfferFault>,
+) -> Result<(), OfferFault>
+    ensures { IsAlone four.now alone → Judged function.now (offers_of four.now) result }
+{
+    match goes_on::<ConstProp>(PassNumber::First, function, &four.constants) {
+        Ok(()) => alone,
+        Err(fault) => Err(fault),
+    }
+}
+
+/// The same of the function of this number.
+fn judge_at(
+    functions: &[Named<Function>],
+    fours: &[Four],
+    alone: &[Result<(), OfferFault>],
+    number: usize,
+) -> Result<(), OfferFault>
+    ensures { AreAlone fours.now alone.now → IsJudgedAt functions.now fours.now number result }
+{
+    if number >= functions.len() || number >= fours.len() || number >= alone.len() {
+        return Err(OfferFault::NoMemory);
+    }
+    judge_from(
+        &functions[number].function,
+        &fours[number],
+        told_at(alone, number),
+    )
+}
+
+/// Whether the four offers of each function stand, in order, by what is answered of them by themselves: each function is compared with the
+/// input of its first offer in a thread of its own. A thread that cannot be made costs no answer.
+pub fn judge_all<R: Threads + Sync>(
+    rt: &R,
+    alloc: Global,
+    functions: &[Named<Function>],
+    fours: &[Four],
+    alone: &[Result<(), OfferFault>],
+) -> Result<Vec<Result<(), OfferFault>>, NoMemory>
+    requires { AreAlone fours.now alone.now }
+    ensures { IfOk result (λ judged. AreJudged functions.now fours.now judged.items) }
+{
+    let judged = map_indices(
+        rt,
+        alloc,
+        fours.len(),
+        &|number: usize| -> Result<(), OfferFault>
+            ensures { AreAlone fours.entry.now alone.entry.now → IsJudgedAt functions.entry.now fours.entry.now number result }
+        { judge_at(functions, fours, alone, number) },
+    )?;
+    Ok(judged)
 }
 
 /// The first fault of all, by function and then by pass, with the function's number; or that all offers stand.

@@ -1,6 +1,6 @@
 //! What a bundle's bytes say, as the contract of a call that does nothing else.
 
-ghost use Rattle.bundle_offers.specs.Texts.{HasOneBundle};
+ghost use Rattle.bundle_reading.specs.Texts.{HasOneBundle};
 
 use alloc_check::Alloc;
 use constprop_check::ConstProp;

@@ -3,21 +3,17 @@
 #![tactic(auto)]
 
 mod fault;
-mod four;
 mod judging;
 mod knowing;
 mod laws;
-mod reading;
 mod reasons;
 mod writing;
 
-pub use bundle_form::{Bundle, Texts};
+pub use bundle_reading::{Bundle, Four, Texts, read_offers};
 pub use chains::Offers;
 pub use fault::{OfferFault, PassNumber};
-pub use four::Four;
-pub use judging::{first_fault, judge_all, stands};
+pub use judging::{first_fault, judge_all, judge_alone, stands};
 pub use knowing::known_all;
 pub use laws::one_bundle;
-pub use reading::read_offers;
 pub use reasons::{PassReasons, Reasons};
 pub use writing::{texts_of, written};

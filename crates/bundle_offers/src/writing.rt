@@ -6,7 +6,7 @@ ghost use Rattle.offers.specs.Text.{text_of, PartsFit};
 ghost use Rattle.chains.specs.Baselines.{AreAccepted};
 ghost use Rattle.bundle_form.specs.Form.{bundle_text, AreBytes, BlockFits, IsBundle, IsShort, TextsFit};
 ghost use Rattle.bundle_offers.specs.Lent.{lent_offers};
-ghost use Rattle.bundle_offers.specs.Texts.{texts_of, OffersFit};
+ghost use Rattle.bundle_reading.specs.Texts.{texts_of, OffersFit};
 
 use alloc_check::Alloc;
 use bundle_form::{Bundle, Texts, write};

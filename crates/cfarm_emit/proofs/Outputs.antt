@@ -11,7 +11,7 @@ use Rattle.bundle_form.specs.declared.bundle.Bundle.{Bundle}
 use Rattle.bundle_form.specs.declared.bundle.Texts.{Texts}
 use Rattle.bundle_form.specs.Form.{bundle_text, IsBundle}
 use Rattle.bundle_offers.specs.Lent.{lent_offers}
-use Rattle.bundle_offers.specs.Texts.{IsBundleOf, OffersFit, bundle_with, texts_of}
+use Rattle.bundle_reading.specs.Texts.{IsBundleOf, OffersFit, bundle_with, texts_of}
 use Rattle.cfarm_emit.specs.Made.{thirds_of}
 
 abbrev third_of : Named rtl.FunctionData → Offers → Named ltl.FunctionData

@@ -22,7 +22,7 @@ use Rattle.linear_language.specs.Spelling as linear_spelling
 use Rattle.chains.specs.declared.offering.Offers.{Offers}
 use Rattle.chains.specs.Baselines.{AreAccepted, AreBaselines}
 use Rattle.chains.specs.Offered.{AllGoOn, linked_offers}
-use Rattle.bundle_offers.specs.Texts.{IsBundleOf}
+use Rattle.bundle_reading.specs.Texts.{IsBundleOf}
 use Rattle.cfarm_emitted.specs.declared.Emitted.{Emitted}
 use Rattle.cfarm_emitted.specs.declared.Emitted.TheVariants as form
 

@@ -2,7 +2,7 @@
 
 ghost use Rattle.std.specs.Prelude.{◌≡◌, None, map, IfOk, OnOk};
 ghost use Rattle.std.specs.List.{AllByRecursion};
-ghost use Rattle.bundle_offers.specs.Texts.{texts_of, OffersFit};
+ghost use Rattle.bundle_reading.specs.Texts.{texts_of, OffersFit};
 ghost use Rattle.bundle_form.specs.Form.{TextsFit};
 ghost use Rattle.cfarm_emit.specs.Made.{AreMade};
 

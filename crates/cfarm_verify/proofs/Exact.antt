@@ -23,11 +23,11 @@ use Rattle.farm_nodes_source.specs.declared.fault.SourceFault.TheVariants as sou
 use Rattle.chains.specs.declared.offering.Offers.{Offers}
 use Rattle.chains.specs.Baselines.{AreAccepted}
 use Rattle.chains.specs.Offered.{AllGoOn, linked_offers}
-use Rattle.bundle_offers.specs.Texts.{HasNoBundle, HasOneBundle, IsBundleOf, OffersFit}
+use Rattle.bundle_reading.specs.Texts.{HasNoBundle, HasOneBundle, IsBundleOf, OffersFit}
 use Rattle.bundle_offers.proofs.Standings.{as_many, ends_names, no_fault, they_stand}
 use Rattle.cfarm_verify.specs.Checked.{AreChecked, IsUnchecked}
-use Rattle.cfarm_verify.specs.Compared.{IsFirstOther}
-use Rattle.cfarm_verify.specs.Spelled.{IsNoProgram, IsSpelled}
+use Rattle.cfarm_verify_comparing.specs.Compared.{IsFirstOther}
+use Rattle.cfarm_verify_reading.specs.Spelled.{IsNoProgram, IsSpelled}
 use Rattle.cfarm_verify.specs.Told.{IsVerified, IsWant, rtl_of}
 use Rattle.cfarm_verify.specs.declared.error.VerifyError.{VerifyError}
 use Rattle.cfarm_verify.specs.declared.error.VerifyError.TheVariants as verify

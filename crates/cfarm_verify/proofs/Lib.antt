@@ -1,4 +1,4 @@
-pub mod Compared
+mod Answered
 pub mod Exact
 pub mod Named
 pub mod Told

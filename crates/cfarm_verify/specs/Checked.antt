@@ -11,7 +11,7 @@ use Rattle.chains.specs.declared.offering.Offers.{Offers}
 use Rattle.chains.specs.Offered.{linked_offers}
 use Rattle.bundle_offers.specs.Standing.{AllStand, IsFirstFault}
 use Rattle.bundle_offers.specs.declared.fault.OfferFault.{OfferFault}
-use Rattle.cfarm_verify.specs.Compared.{IsFirstOther}
+use Rattle.cfarm_verify_comparing.specs.Compared.{IsFirstOther}
 use Rattle.cfarm_verify.specs.declared.error.VerifyError.{VerifyError}
 use Rattle.cfarm_verify.specs.declared.error.VerifyError.TheVariants.{NoMemory, OtherSource, ProgramNames, BundleNames, Offer, OtherFunction, OtherGlobals}
 

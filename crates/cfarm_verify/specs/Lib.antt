@@ -1,5 +1,4 @@
+pub mod Answered
 pub mod Checked
-pub mod Compared
 pub mod Lines
-pub mod Spelled
 pub mod Told

@@ -16,10 +16,13 @@ use Rattle.bundle_offers.specs.declared.fault.OfferFault.TheVariants as offer
 use Rattle.cfarm_verify.specs.declared.error.VerifyError.{VerifyError}
 use Rattle.cfarm_verify.specs.declared.error.VerifyError.TheVariants as verify
 
+-- so many functions, and the digits of a hash
+abbrev pub line_with : ℕ → List ℕ → List ℕ
+line_with functions digits = codes "verified " ++ (decimal functions ++ (codes " functions " ++ (digits ++ codes "\n")))
+
 -- so many functions, and the SHA-256 of the program's bytes
 abbrev pub verified_line : ℕ → List ℕ → List ℕ
-verified_line functions program =
-    codes "verified " ++ (decimal functions ++ (codes " functions " ++ (encode_lower (sha256 program) ++ codes "\n")))
+verified_line functions program = line_with functions (encode_lower (sha256 program))
 
 abbrev pub form_line_in : FormError → List ℕ → List ℕ
 form_line_in form.NoMemory path = codes "memory"

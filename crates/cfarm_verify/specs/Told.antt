@@ -22,11 +22,11 @@ use Rattle.cfarm_output.specs.Begun.{IsBegun}
 use Rattle.chains.specs.declared.offering.Offers.{Offers}
 use Rattle.chains.specs.Baselines.{AreAccepted}
 use Rattle.chains.specs.Offered.{AllGoOn, linked_offers}
-use Rattle.bundle_offers.specs.Texts.{HasNoBundle, IsBundleOf}
+use Rattle.bundle_reading.specs.Texts.{HasNoBundle, IsBundleOf}
 use Rattle.bundle_offers.specs.declared.fault.OfferFault.TheVariants as offer
 use Rattle.cfarm_verify.specs.Checked.{IsUnchecked}
 use Rattle.cfarm_verify.specs.Lines.{verified_line}
-use Rattle.cfarm_verify.specs.Spelled.{IsNoProgram, IsSpelled}
+use Rattle.cfarm_verify_reading.specs.Spelled.{IsNoProgram, IsSpelled}
 use Rattle.cfarm_verify.specs.declared.error.VerifyError.{VerifyError}
 use Rattle.cfarm_verify.specs.declared.error.VerifyError.TheVariants.{NoMemory, Source, Program, Bundle, Offer, Write}
 

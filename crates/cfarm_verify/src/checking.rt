@@ -7,15 +7,15 @@ ghost use Rattle.c_lexer_parts.specs.Lexemes.{IsName};
 ghost use Rattle.linear_language.specs.Meaning as linear;
 ghost use Rattle.rtl_language.specs.Meaning as rtl;
 ghost use Rattle.linker.specs.Chains.{names_of};
-ghost use Rattle.bundle_offers.specs.Read.{offers_in};
-ghost use Rattle.bundle_offers.specs.Standing.{AllStand};
+ghost use Rattle.bundle_reading.specs.Read.{offers_in};
+ghost use Rattle.bundle_offers.specs.Standing.{AllStand, AreAlone};
 ghost use Rattle.cfarm_verify.specs.Checked.{AreChecked, IsFaulty, IsNamedFault, IsUnchecked};
 
-use crate::comparing::same_names;
 use crate::error::VerifyError;
 use crate::linking::links_to;
 use crate::naming::name_of;
 use bundle_offers::{Four, OfferFault, first_fault, judge_all};
+use cfarm_verify_comparing::same_names;
 use lang_base::{Named, NoMemory, Program};
 use linear_language::Function;
 use std::alloc::Global;
@@ -33,19 +33,21 @@ fn faulty<F>(alloc: Global, functions: &[Named<F>], number: usize, fault: OfferF
     }
 }
 
-/// Whether the offers of all functions stand, or the first fault.
+/// Whether the offers of all functions stand, or the first fault, by what is answered of them by themselves.
 fn all_stand<R: Threads + Sync>(
     rt: &R,
     alloc: Global,
     functions: &[Named<rtl_language::Function>],
     fours: &[Four],
+    alone: &[Result<(), OfferFault>],
 ) -> Result<(), VerifyError>
+    requires alone { AreAlone fours.now alone.now }
     requires many { length functions.now ≡ length fours.now }
     requires names { AllByRecursion (λ f. IsName f.name) functions.now }
     ensures stand { OnOk result (AllStand functions.now (offers_in fours.now)) }
     ensures refused { IfErr result (IsFaulty functions.now (offers_in fours.now)) }
 {
-    let judged = match judge_all(rt, alloc, functions, fours) {
+    let judged = match judge_all(rt, alloc, functions, fours, alone) {
         Ok(judged) => judged,
         Err(NoMemory) => return Err(VerifyError::NoMemory),
     };
@@ -61,8 +63,7 @@ fn is_digest(digest: &[u8], hash: &[u8]) -> bool
     digest == hash
 }
 
-/// Whether the bundle of this digest and of these parts is of the text whose digest and RTL these are, and comes to the program. All
-/// offers are checked side by side.
+/// Whether the bundle of this digest and of these parts is of the text whose digest and RTL these are, and comes to the program.
 pub(crate) fn checked<R: Threads + Sync>(
     rt: &R,
     alloc: Global,
@@ -71,7 +72,9 @@ pub(crate) fn checked<R: Threads + Sync>(
     program: &Program<Function>,
     digest: &[u8],
     fours: Vec<Four>,
+    alone: &[Result<(), OfferFault>],
 ) -> Result<(), VerifyError>
+    requires alone { AreAlone fours.items alone.now }
     requires names { AllByRecursion (λ f. IsName f.name) begun.now.functions }
     ensures checked { OnOk result (AreChecked hash.now begun.now program.now digest.now (offers_in fours.items)) }
     ensures keeps { OnOk result (Keeps (rtl.run begun.now) (linear.run program.now)) }
@@ -86,7 +89,7 @@ pub(crate) fn checked<R: Threads + Sync>(
     if fours.len() != begun.functions.len() {
         return Err(VerifyError::BundleNames);
     }
-    match all_stand(rt, alloc, begun.functions.as_slice(), &fours) {
+    match all_stand(rt, alloc, begun.functions.as_slice(), &fours, alone) {
         Ok(()) => {}
         Err(fault) => return Err(fault),
     }

@@ -4,12 +4,10 @@
 #![tactic(auto)]
 
 mod checking;
-mod comparing;
 mod error;
 mod line;
 mod linking;
 mod naming;
-mod reading;
 mod verifying;
 
 pub use error::VerifyError;

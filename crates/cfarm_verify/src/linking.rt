@@ -8,14 +8,14 @@ ghost use Rattle.linear_language.specs.Meaning as linear;
 ghost use Rattle.rtl_language.specs.Meaning as rtl;
 ghost use Rattle.linker.specs.Chains.{names_of};
 ghost use Rattle.chains.specs.Offered.{linked_offers};
-ghost use Rattle.bundle_offers.specs.Read.{offers_in};
+ghost use Rattle.bundle_reading.specs.Read.{offers_in};
 ghost use Rattle.bundle_offers.specs.Standing.{AllStand};
 ghost use Rattle.cfarm_verify.specs.Checked.{IsNamedOther, IsOther};
 
-use crate::comparing::{first_other, same_globals};
 use crate::error::VerifyError;
 use crate::naming::name_of;
 use bundle_offers::{Four, known_all};
+use cfarm_verify_comparing::{first_other, same_globals};
 use chains::link_offers;
 use lang_base::{Named, NoMemory, Program};
 use linear_language::Function;

@@ -2,24 +2,65 @@
 
 ghost use Rattle.std.specs.Prelude.{◌≡◌, ℕ, OnOk, IfOk, IfErr};
 ghost use Rattle.std.specs.String.{string_bytes};
-ghost use Rattle.cfarm_verify.specs.Lines.{verified_line};
+ghost use Rattle.hex.specs.Hex.{encode_lower};
+ghost use Rattle.bundle_reading.specs.Read.{offers_in};
+ghost use Rattle.bundle_reading.specs.Texts.{IsBundleOf};
+ghost use Rattle.bundle_offers.specs.Standing.{AreAlone};
+ghost use Rattle.sha2.specs.Sha256.{sha256};
+ghost use Rattle.cfarm_verify_reading.specs.Found.{IsSourceOf};
+ghost use Rattle.cfarm_verify.specs.Answered.{IsAnswer, IsLineFor};
+ghost use Rattle.cfarm_verify.specs.Lines.{line_with};
+ghost use Rattle.cfarm_verify_reading.specs.Spelled.{IsSpelled};
 ghost use Rattle.cfarm_verify.specs.Told.{HasVerified, IsTold, IsVerified, IsWant, Printed};
 
 use crate::checking::checked;
 use crate::error::VerifyError;
-use crate::reading::read_linear;
-use bundle_offers::{one_bundle, read_offers};
+use bundle_offers::{Four, OfferFault, one_bundle};
 use cfarm_output::print_whole;
-use farm_nodes_source::prepare;
+use cfarm_verify_reading::{Bundled, read_all};
+use farm_nodes_source::Source;
 use lang::one_program;
-use lang_base::keeps_composes;
-use linear_language::Linear;
+use lang_base::{Program, keeps_composes};
+use linear_language::{Function, Linear};
 use sha2::{Digest, Sha256};
 use std::alloc::{AllocError, Global};
 use std::io::Write;
-use std::thread::Threads;
+use std::thread::{Threads, join};
 
-/// How many functions there are, where the program is verified.
+/// How many functions there are, where the offers of the bundle come to the program.
+fn settled<R: Threads + Sync>(
+    rt: &R,
+    alloc: Global,
+    text: &[u8],
+    program: &[u8],
+    bundle: &[u8],
+    source: &Source,
+    linear: &Program<Function>,
+    digest: &[u8],
+    fours: Vec<Four>,
+    alone: &[Result<(), OfferFault>],
+) -> Result<usize, VerifyError>
+    requires source { IsSourceOf text.now source.now }
+    requires spelled { IsSpelled program.now linear.now }
+    requires bundled { IsBundleOf bundle.now digest.now (offers_in fours.items) }
+    requires alone { AreAlone fours.items alone.now }
+    ensures verified { IfOk result (IsVerified text.now program.now bundle.now) }
+    ensures refused { IfErr result (IsTold text.now program.now bundle.now) }
+    ensures only { (n : ℕ) → IsVerified text.now program.now bundle.now n → IfErr result IsWant }
+{
+    keeps_composes();
+    one_program::<Linear>();
+    one_bundle();
+    let functions = fours.len();
+    let (hash, begun) = (source.digest.as_slice(), &*source.translated);
+    match checked(rt, alloc, hash, begun, linear, digest, fours, alone) {
+        Ok(()) => Ok(functions),
+        Err(fault) => Err(fault),
+    }
+}
+
+/// How many functions there are, where the program is verified. The text, the program and the bundle are read side by side,
+/// and the bundle's offers checked.
 fn verified<R: Threads + Sync>(
     rt: &R,
     alloc: Global,
@@ -31,35 +72,92 @@ fn verified<R: Threads + Sync>(
     ensures refused { IfErr result (IsTold text.now program.now bundle.now) }
     ensures only { (n : ℕ) → IsVerified text.now program.now bundle.now n → IfErr result IsWant }
 {
-    keeps_composes();
-    one_program::<Linear>();
-    one_bundle();
-    let source = match prepare(alloc, text) {
+    let (source, (linear, found)) = read_all(rt, alloc, text, program, bundle);
+    let source = match source {
         Ok(source) => source,
         Err(fault) => return Err(VerifyError::Source(fault)),
     };
-    let linear = match read_linear(alloc, program) {
+    let linear = match linear {
         Ok(linear) => linear,
         Err(fault) => return Err(VerifyError::Program(fault)),
     };
-    let (digest, fours) = match read_offers(alloc, bundle) {
-        Ok(found) => found,
-        Err(fault) => return Err(VerifyError::Bundle(fault)),
-    };
-    let functions = fours.len();
-    let (hash, begun) = (source.digest.as_slice(), &*source.translated);
-    match checked(rt, alloc, hash, begun, &linear, digest.as_slice(), fours) {
-        Ok(()) => Ok(functions),
-        Err(fault) => Err(fault),
+    match found {
+        Ok(
+            Bundled {
+                digest,
+                fours,
+                alone,
+            },
+        ) => settled(
+            rt,
+            alloc,
+            text,
+            program,
+            bundle,
+            &source,
+            &linear,
+            digest.as_slice(),
+            fours,
+            alone.as_slice(),
+        ),
+        Err(fault) => Err(VerifyError::Bundle(fault)),
     }
 }
 
-/// The answer, with the end of the line.
-fn line_of(alloc: Global, functions: usize, program: &[u8]) -> Result<String, AllocError>
-    ensures { IfOk result (λ line. string_bytes line ≡ verified_line functions program.now) }
+/// The SHA-256 of the program's bytes, in digits.
+fn digits_of(alloc: Global, program: &[u8]) -> Result<String, AllocError>
+    ensures { IfOk result (λ digits. string_bytes digits ≡ encode_lower (sha256 program.now)) }
 {
-    let digits = hex::encode(alloc, Sha256::digest(program).as_slice())?;
+    hex::encode(alloc, Sha256::digest(program).as_slice())
+}
+
+/// The answer, with the end of the line.
+fn line_of(alloc: Global, functions: usize, digits: &str) -> Result<String, AllocError>
+    ensures { IfOk result (λ line. string_bytes line ≡ line_with functions digits.now) }
+{
     format!(in alloc; "verified {functions} functions {digits}\n")
+}
+
+/// The answer of so many functions, with the digits of a hash, or why there is none.
+fn line_for(
+    alloc: Global,
+    digits: Result<String, AllocError>,
+    found: Result<usize, VerifyError>,
+) -> Result<String, VerifyError>
+    ensures { IsLineFor string_bytes found digits result }
+{
+    let functions = match found {
+        Ok(functions) => functions,
+        Err(fault) => return Err(fault),
+    };
+    let digits = match digits {
+        Ok(digits) => digits,
+        Err(_) => return Err(VerifyError::NoMemory),
+    };
+    match line_of(alloc, functions, digits.as_str()) {
+        Ok(line) => Ok(line),
+        Err(_) => Err(VerifyError::NoMemory),
+    }
+}
+
+/// The answer of what was found of the three, with the digits of the program's hash.
+fn answer_of(
+    alloc: Global,
+    text: &[u8],
+    program: &[u8],
+    bundle: &[u8],
+    digits: Result<String, AllocError>,
+    found: Result<usize, VerifyError>,
+) -> Result<String, VerifyError>
+    requires digits { IfOk digits (λ digits. string_bytes digits ≡ encode_lower (sha256 program.now)) }
+    requires verified { IfOk found (IsVerified text.now program.now bundle.now) }
+    requires refused { IfErr found (IsTold text.now program.now bundle.now) }
+    requires only { (n : ℕ) → IsVerified text.now program.now bundle.now n → IfErr found IsWant }
+    ensures answer { IfOk result (λ line. IsAnswer text.now program.now bundle.now (string_bytes line)) }
+    ensures refused { IfErr result (IsTold text.now program.now bundle.now) }
+    ensures only { (n : ℕ) → IsVerified text.now program.now bundle.now n → IfErr result IsWant }
+{
+    line_for(alloc, digits, found)
 }
 
 /// Whether the program's bytes are those of a linked program that keeps the C text's meaning, by the offers of the bundle: prints
@@ -81,12 +179,20 @@ pub fn verify<R: Threads + Sync, W: Write>(
     // A program that is verified by the bundle is refused only where memory is, or where the answer cannot be written.
     ensures only { (n : ℕ) → IsVerified text.now program.now bundle.now n → IfErr result IsWant }
 {
-    let functions = match verified(rt, alloc, text, program, bundle) {
-        Ok(functions) => functions,
+    let (digits, found) = join(
+        rt,
+        || -> Result<String, AllocError>
+            ensures { IfOk result (λ digits. string_bytes digits ≡ encode_lower (sha256 program.entry.now)) }
+        { digits_of(alloc, program) },
+        || -> Result<usize, VerifyError>
+            ensures verified { IfOk result (IsVerified text.entry.now program.entry.now bundle.entry.now) }
+            ensures refused { IfErr result (IsTold text.entry.now program.entry.now bundle.entry.now) }
+            ensures only { (n : ℕ) → IsVerified text.entry.now program.entry.now bundle.entry.now n → IfErr result IsWant }
+        { verified(rt, alloc, text, program, bundle) },
+    );
+    let line = match answer_of(alloc, text, program, bundle, digits, found) {
+        Ok(line) => line,
         Err(fault) => return Err(fault),
-    };
-    let Ok(line) = line_of(alloc, functions, program) else {
-        return Err(VerifyError::NoMemory);
     };
     match print_whole(out, line.as_bytes()) {
         Ok(()) => Ok(()),

@@ -15,7 +15,7 @@ use Rattle.bundle_form.specs.declared.bundle.Texts.{Texts}
 use Rattle.bundle_form.specs.Form.{IsBundle, TextsFit, bundle_text}
 use Rattle.bundle_offers.specs.Lent.{lent_offers}
 use Rattle.bundle_offers.specs.Linking.{BundleLinks}
-use Rattle.bundle_offers.specs.Texts.{texts_of, OffersFit, IsBundleOf, bundle_with}
+use Rattle.bundle_reading.specs.Texts.{texts_of, OffersFit, IsBundleOf, bundle_with}
 use Rattle.farm_nodes_linked.specs.Learned.{FourOffers, IsUndecided}
 use Rattle.farm_nodes_linked.specs.Lent as lending
 use Rattle.farm_nodes_linked.specs.Offered.{linked_offers, ends_of, AllGoOn}

@@ -7,7 +7,7 @@ use Rattle.chains.specs.Baselines.{AreAccepted}
 use Rattle.bundle_form.specs.declared.bundle.Texts.{Texts}
 use Rattle.bundle_form.specs.Form.{TextsFit}
 use Rattle.bundle_offers.specs.Linking.{BundleLinks}
-use Rattle.bundle_offers.specs.Texts.{texts_of, OffersFit}
+use Rattle.bundle_reading.specs.Texts.{texts_of, OffersFit}
 use Rattle.farm_nodes_linked.specs.Learned.{FourOffers}
 use Rattle.farm_nodes_linked.specs.Offered.{linked_offers, AllGoOn}
 

@@ -8,5 +8,5 @@ mod source;
 mod translating;
 
 pub use fault::SourceFault;
-pub use preparing::prepare;
-pub use source::Source;
+pub use preparing::{begin, prepare};
+pub use source::{Begun, Source};

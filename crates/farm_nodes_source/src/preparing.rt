@@ -16,7 +16,7 @@ ghost use Rattle.sha2.specs.Sha256.{sha256};
 ghost use Rattle.farm_nodes_source.specs.Refused.{IsOnlyTooLarge, IsUnprepared};
 
 use crate::fault::SourceFault;
-use crate::source::Source;
+use crate::source::{Begun, Source};
 use crate::translating::translated;
 use c_texts::accept;
 use cminor_program_ranges::accepted_has_names;
@@ -25,13 +25,12 @@ use sha2::{Digest, Sha256};
 use std::alloc::Global;
 use std::sync::Arc;
 
-/// The program of a C text, made ready for the first pass. The time is linear in the text.
-pub fn prepare(alloc: Global, text: &[u8]) -> Result<Source, SourceFault>
+/// The program of a C text, made ready for the first pass, without the text's digest. The time is linear in the text.
+pub fn begin(alloc: Global, text: &[u8]) -> Result<Begun, SourceFault>
     // The text is accepted; this is its program, and what it is translated to.
     ensures accepted { IfOk result (λ s. (u : UnitTree) × IsAccepted text.now u × IsProgramOf u s.program) }
     ensures translated { IfOk result (λ s. arc_value s.translated ≡ gen (low (program_tree s.program))) }
     ensures keeps { IfOk result (λ s. Keeps (crun (program_tree s.program)) (rtl.run (arc_value s.translated))) }
-    ensures digest { IfOk result (λ s. s.digest ≡ sha256 text.now) }
 
     // The functions stand in the order of the text, each under its C name, and are 64 at most. What they are translated to
     // has a spelling, and each has so few nodes and registers that no pass refuses it.
@@ -59,12 +58,50 @@ pub fn prepare(alloc: Global, text: &[u8]) -> Result<Source, SourceFault>
         Err(fault) => return Err(fault),
     };
     match shared(alloc, begun) {
-        Ok(translated) => Ok(Source {
+        Ok(translated) => Ok(Begun {
+            program,
+            translated,
+        }),
+        Err(NoMemory) => Err(SourceFault::NoMemory),
+    }
+}
+
+/// The same with the text's digest.
+pub fn prepare(alloc: Global, text: &[u8]) -> Result<Source, SourceFault>
+    // The text is accepted; this is its program, and what it is translated to.
+    ensures accepted { IfOk result (λ s. (u : UnitTree) × IsAccepted text.now u × IsProgramOf u s.program) }
+    ensures translated { IfOk result (λ s. arc_value s.translated ≡ gen (low (program_tree s.program))) }
+    ensures keeps { IfOk result (λ s. Keeps (crun (program_tree s.program)) (rtl.run (arc_value s.translated))) }
+    ensures digest { IfOk result (λ s. s.digest ≡ sha256 text.now) }
+
+    // The functions stand in the order of the text, each under its C name, and are 64 at most. What they are translated to
+    // has a spelling, and each has so few nodes and registers that no pass refuses it.
+    ensures names { IfOk result (λ s. HaveNames (program_tree s.program)) }
+    ensures same_names { IfOk result (λ s.
+        map (λ f. f.name) (arc_value s.translated).functions ≡ map (λ f. f.name) s.program.functions) }
+    ensures count { IfOk result (λ s. length (arc_value s.translated).functions ≤ 64) }
+    ensures fits { IfOk result (λ s. IsProgram IsFunction (arc_value s.translated)) }
+    ensures few { IfOk result (λ s. All HasFewNodes (low (program_tree s.program)).functions) }
+    ensures small { IfOk result (λ s. All (λ f. f.function.registers ≤ 2048) (arc_value s.translated).functions) }
+
+    // The first fault of the text, or its first function that needs too many nodes, unless memory was refused. A text that
+    // is accepted is refused for nothing else.
+    ensures refused { IfErr result (IsUnprepared text.now) }
+    ensures only { (u : UnitTree) → IsAccepted text.now u →
+        MatchResult result (λ s. IsProgramOf u s.program) (IsOnlyTooLarge u) }
+{
+    match begin(alloc, text) {
+        Ok(
+            Begun {
+                program,
+                translated,
+            },
+        ) => Ok(Source {
             program,
             translated,
             digest: Sha256::digest(text),
         }),
-        Err(NoMemory) => Err(SourceFault::NoMemory),
+        Err(fault) => Err(fault),
     }
 }
 

@@ -1,7 +1,7 @@
 -- The answers, each at its number.
 use Rattle.std.proofs.Common.{◌≡◌, ◌<◌, length, subst, arith}
 use Rattle.bundle_offers.specs.Standing.{IsJudgedAt}
-use Rattle.bundle_offers.proofs.Standings.{got}
+use Rattle.bundle_reading.proofs.Places.{got}
 use Rattle.bundle_offers.proofs.judging.judge_all.Goals as goal
 
 pub returns : goal.returns
@@ -13,6 +13,6 @@ returns g c =
       each = λ i told e.
           let it = got made.items i told told e in
           let below : i < length c.args.fours.now = omega (arith, it.0, count) in
-          let is = (c.in_ok-judged.ensures.each i told below).1.met in
+          let is = (c.in_ok-judged.ensures.each i told below).1.met c.requires in
           subst (λ t. IsJudgedAt c.args.functions.now c.args.fours.now i t) it.1 is;
     }

@@ -1,5 +1,5 @@
 -- The first fault is told by its function's name.
-use Rattle.bundle_offers.specs.Read.{offers_in}
+use Rattle.bundle_reading.specs.Read.{offers_in}
 use Rattle.bundle_offers.proofs.Standings.{fault_below}
 use Rattle.cfarm_verify.proofs.Told.{named_fault}
 use Rattle.cfarm_verify.proofs.checking.all_stand.Goals as goal

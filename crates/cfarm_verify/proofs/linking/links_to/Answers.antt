@@ -5,11 +5,11 @@ use Rattle.rtl_language.specs.Meaning as rtl
 use Rattle.linear_language.specs.Meaning as linear
 use Rattle.linker.specs.Chains.{names_of}
 use Rattle.chains.specs.Offered.{linked_offers}
-use Rattle.bundle_offers.specs.Read.{offers_in}
+use Rattle.bundle_reading.specs.Read.{offers_in}
 use Rattle.bundle_offers.proofs.Standings.{accepted}
-use Rattle.cfarm_verify.specs.Compared.{IsFirstOther}
+use Rattle.cfarm_verify_comparing.specs.Compared.{IsFirstOther}
 use Rattle.bundle_offers.proofs.Compared.{as_many}
-use Rattle.cfarm_verify.proofs.Compared.{other_below}
+use Rattle.cfarm_verify_comparing.proofs.Compared.{other_below}
 use Rattle.cfarm_verify.proofs.linking.links_to.Goals as goal
 
 pub known_all-requires : goal.known_all-requires

@@ -1,10 +1,22 @@
--- A beginning of the answer.
+-- The answer, or a beginning of it.
 use Rattle.std.proofs.Common.{subst, ◌∙◌}
+use Rattle.std.specs.Io.KnownBytes.{Appends}
 use Rattle.cfarm_output.specs.Begun.{IsBegun}
 use Rattle.cfarm_verify.proofs.verifying.verify.Goals as goal
 
+pub returns-in-Err-clause-only : goal.returns-in-Err-clause-only
+returns-in-Err-clause-only g c = c.in-Err.ensures.only
+
+pub returns-in-Ok-print_whole-clause-verified : goal.returns-in-Ok-print_whole-clause-verified
+returns-in-Ok-print_whole-clause-verified g c =
+    let answer = c.in-Ok.ensures.answer in
+    let before = g.W.Write.contents c.args.out.now in
+    let after = g.W.Write.contents c.print_whole.new.out in
+    (answer.0, answer.1, subst (λ l. Appends before after l) (c.as_bytes.ensures.value ∙ answer.2) c.in-Ok-print_whole.ensures.printed)
+
 pub returns-clause-printed : goal.returns-clause-printed
 returns-clause-printed g c =
-    let line = c.as_bytes.ensures.value ∙ c.in-Ok-line_of.ensures in
-    let begun = subst (λ l. IsBegun l (g.W.Write.contents c.args.out.now) (g.W.Write.contents c.print_whole.new.out)) line c.in-Err-print_whole.ensures.begun in
-    (c.in-Ok.functions, c.in-Ok.ensures.verified, begun)
+    let answer = c.in-Ok.ensures.answer in
+    let before = g.W.Write.contents c.args.out.now in
+    let after = g.W.Write.contents c.print_whole.new.out in
+    (answer.0, answer.1, subst (λ l. IsBegun l before after) (c.as_bytes.ensures.value ∙ answer.2) c.in-Err-print_whole.ensures.begun)

@@ -1,0 +1,9 @@
+//! The parts of a bundle's offers: what its texts spell, whether the passes accept the parts or not. All texts are read side by side.
+#![tactic(auto)]
+
+mod four;
+mod reading;
+
+pub use bundle_form::{Bundle, Texts};
+pub use four::Four;
+pub use reading::read_offers;

@@ -1,6 +1,0 @@
-use Rattle.std.proofs.Common.{◌≡◌, length, take}
-use Rattle.cfarm_verify.proofs.comparing.first_other.Given as goal
-
--- as many functions, and the first ones are the same
-abbrev pub invariant-loop-number : goal.invariant-loop-number
-invariant-loop-number l = (length l.others ≡ length l.functions) × (take l.number l.others ≡ take l.number l.functions)

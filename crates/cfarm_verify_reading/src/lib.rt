@@ -1,0 +1,10 @@
+//! What `verify` finds of each of its files by itself, side by side: the C text, made ready for the first pass, the linked program, and the
+//! bundle, with whether its offers stand.
+#![tactic(auto)]
+
+mod bundled;
+mod preparing;
+mod reading;
+
+pub use bundled::Bundled;
+pub use reading::{Forms, read_all};
