@@ -1,5 +1,7 @@
 //! The files of a folder of offers, each read once.
 
+ghost use Rattle.std.specs.Prelude.{◌≡◌, length, IfOk};
+
 use crate::fault::GivenFault;
 use crate::given::{Given, NodeOffers, PassOffers};
 use cfarm_files::{FileFault, Files};
@@ -208,7 +210,9 @@ pub fn read_given<F: Files>(
     folder: &str,
     nodes: usize,
     functions: &[Named<Function>],
-) -> Result<Vec<NodeOffers>, NoMemory> {
+) -> Result<Vec<NodeOffers>, NoMemory>
+    ensures { IfOk result (λ made. length made.items ≡ nodes) }
+{
     let mut made = Vec::new(alloc);
     for node in 0..nodes {
         match node_given(alloc, files, folder, node, functions) {

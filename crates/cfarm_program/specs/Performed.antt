@@ -54,7 +54,7 @@ module _ {D : Type 0} (disk : disks.Ghosts D) (pair : pairs.Ghosts D) {H : Type 
   abbrev pub Comes : Task → (path bytes : List ℕ) → Answer → Option (List ℕ) → Option (List ℕ) → Type 0
   Comes (Check format) path bytes answer before after = Keeps placed now_placed × Checked format path bytes answer before after
   Comes (Interpret depth) path bytes answer before after = Keeps placed now_placed × Interpreted bytes depth answer before after
-  Comes (Build options) path bytes answer before after = Builds disk pair h may_give placed now_placed options bytes answer before after
+  Comes (Build options) path bytes answer before after = Builds disk pair h may_give placed now_placed options path bytes answer before after
   Comes (Exec limit expected) path bytes answer before after = Keeps placed now_placed × Executed bytes limit expected answer before after
   Comes Settle path bytes answer before after = Keeps placed now_placed × Settled bytes answer before after
   Comes (Simulate showing) path bytes answer before after = Keeps placed now_placed × Simulated showing bytes answer before after

@@ -1,30 +1,31 @@
 //! The commands, with what each tells.
 
-ghost use Rattle.std.specs.Prelude.{◌≤◌};
+ghost use Rattle.std.specs.Prelude.{◌≡◌, ◌≤◌, false, true, IfSome, IsNone, Some, option_copied};
 ghost use Rattle.cfarm_building.specs.Compiled.{quorums_of};
 ghost use Rattle.cfarm_building.specs.Quorum.{AreQuorums};
 ghost use Rattle.cfarm_folder.specs.Asked.{asked_quorums};
 ghost use Rattle.cfarm_folder.specs.Looking.{Looked};
+ghost use Rattle.cfarm_options.specs.Names.{is_given_taken, is_taken};
 ghost use Rattle.cfarm_program.specs.Met.{AreMet};
 ghost use Rattle.cfarm_telling.specs.Telling.{Answer, IsExplained, IsTold};
-ghost use Rattle.cfarm_program.specs.Outcomes.{Builds, Checked, Executed, Interpreted, Settled, checked_fault, text_fault};
+ghost use Rattle.cfarm_program.specs.Outcomes.{Builds, BuildsApart, Checked, Executed, Interpreted, Settled, checked_fault, text_fault};
 ghost use Rattle.cfarm_program.specs.Performed.{Performs, is_explained};
 ghost use Rattle.cfarm_words_parts.specs.declared.task.Task.TheVariants.{Check};
 
 use crate::simulating::play;
 use cfarm_building::{build_text, of_build, quorums_of};
 use cfarm_commands::settle;
-use cfarm_files::Files;
+use cfarm_files::{FileFault, Files};
 use cfarm_folder::{asked_quorums, look_through};
 use cfarm_hints::{is_amid, of_depth, of_limit, of_text};
 use cfarm_looking::{emit_form, judge_offer, list_records, show_text, verify_files};
 use cfarm_meter::Meter;
-use cfarm_options::BuildOptions;
+use cfarm_options::{BuildOptions, is_taken};
 use cfarm_output::{ErrorLines, Paced};
 use cfarm_runs::{
     Closing, CommandError, PlacedError, check_text, exec, interpret, status_of, status_where,
 };
-use cfarm_telling::{tell, tell_among};
+use cfarm_telling::{tell, tell_among, tell_unread};
 use cfarm_words::{Format, FsckOptions, Task};
 use rooms_hall::{Hall, Naming};
 use std::alloc::Global;
@@ -168,7 +169,66 @@ fn lay_out<R: Threads + Wait, W: Write, E: ErrorLines>(
     }
 }
 
+/// Builds the text of the file of this path; no bundle is put in the place of a file of the build's.
 #[tactic(auto, using(crate::proofs::Tables::building_in_table))]
+fn build_apart<
+    H: Naming + Send,
+    R: Threads + Wait + Sync,
+    F: Files,
+    M: Meter,
+    W: Write,
+    E: ErrorLines,
+>(
+    rt: &R,
+    alloc: Global,
+    hall: &Hall<H>,
+    is_seen: bool,
+    options: BuildOptions<'_>,
+    path: &str,
+    text: &[u8],
+    files: &mut F,
+    meter: &mut M,
+    out: &mut Paced<W>,
+    err: &mut E,
+) -> u8
+    requires met { AreQuorums (quorums_of options) }
+    ensures does { (answer : Answer) × BuildsApart F.Disk.Disk F.Disk.Pair.own H.Naming (F.may_give files.old) (F.placed files.old)
+        (F.placed files.new) options.entry text.now answer (W.contents out.old.taker) (W.contents out.new.taker)
+        × IsExplained is_seen answer result (E.contents err.old) (E.contents err.new) }
+    ensures table { result ≤ 7 }
+{
+    let Some(quorums) = quorums_of(options) else {
+        unreachable!();
+    };
+    match build_text(rt, alloc, hall, text, options, quorums, files, meter, out) {
+        Ok(()) => 0,
+        Err(fault) => {
+            let status = fault.status();
+            let behind = of_build(alloc, is_seen, options, path, text, &*files, &fault);
+            tell_among(err, false, fault, status, behind.as_str())
+        }
+    }
+}
+
+/// The path of the bundle, where a file of the build of the text of this path may stand.
+fn taken_bundle<'a>(path: &str, options: BuildOptions<'a>) -> Option<&'a str>
+    ensures some { IfSome result (λ bundle. option_copied options.entry.bundle ≡ Some bundle.now) }
+    ensures taken { IfSome result (λ bundle. is_taken path.now bundle.now ≡ true) }
+    ensures none { IsNone result → is_given_taken path.now (option_copied options.entry.bundle) ≡ false }
+{
+    match options.bundle {
+        Some(bundle) => {
+            if is_taken(path, bundle) {
+                Some(bundle)
+            } else {
+                None
+            }
+        }
+        None => None,
+    }
+}
+
+/// The same, or tells that the bundle is to be put in the place of such a file.
 fn build<H: Naming + Send, R: Threads + Wait + Sync, F: Files, M: Meter, W: Write, E: ErrorLines>(
     rt: &R,
     alloc: Global,
@@ -184,20 +244,15 @@ fn build<H: Naming + Send, R: Threads + Wait + Sync, F: Files, M: Meter, W: Writ
 ) -> u8
     requires met { AreQuorums (quorums_of options) }
     ensures does { (answer : Answer) × Builds F.Disk.Disk F.Disk.Pair.own H.Naming (F.may_give files.old) (F.placed files.old)
-        (F.placed files.new) options.entry text.now answer (W.contents out.old.taker) (W.contents out.new.taker)
+        (F.placed files.new) options.entry path.now text.now answer (W.contents out.old.taker) (W.contents out.new.taker)
         × IsExplained is_seen answer result (E.contents err.old) (E.contents err.new) }
     ensures table { result ≤ 7 }
 {
-    let Some(quorums) = quorums_of(options) else {
-        unreachable!();
-    };
-    match build_text(rt, alloc, hall, text, options, quorums, files, meter, out) {
-        Ok(()) => 0,
-        Err(fault) => {
-            let status = fault.status();
-            let behind = of_build(alloc, is_seen, options, path, text, &*files, &fault);
-            tell_among(err, false, fault, status, behind.as_str())
-        }
+    match taken_bundle(path, options) {
+        Some(bundle) => tell_unread(err, bundle, FileFault::Refused),
+        None => build_apart(
+            rt, alloc, hall, is_seen, options, path, text, files, meter, out, err,
+        ),
     }
 }
 

@@ -1,19 +1,19 @@
-use Rattle.std.specs.Prelude.{false}
-use Rattle.std.proofs.Common.{refl, inl, inr, ◌∙◌}
-use Rattle.cfarm_building.specs.Answers.{building_line}
-use Rattle.cfarm_program.specs.Outcomes.{building_fault}
-use Rattle.cfarm_telling.specs.Telling.{quiet}
-use Rattle.cfarm_telling.proofs.Answering.{among}
+use Rattle.std.proofs.Common.{refl, inl, inr, subst, sym}
+use Rattle.cfarm_files.specs.declared.fault.FileFault.TheVariants.{Refused}
+use Rattle.cfarm_telling.specs.Reading.{unread}
+use Rattle.cfarm_telling.proofs.Answering.{plainly}
+use Rattle.cfarm_program.specs.Outcomes.{IsTakenAt}
+use Rattle.cfarm_program.proofs.Placing.{keeps_same}
 use Rattle.cfarm_program.proofs.performing.build.Goals as goal
 
-pub returns-in-Ok-clause-does : goal.returns-in-Ok-clause-does
-returns-in-Ok-clause-does g c = (quiet, inl (c.in-Ok.ensures.built, refl), (refl, refl))
-
-pub returns-in-Err-clause-does : goal.returns-in-Err-clause-does
-returns-in-Err-clause-does g c =
-    let fault = c.in-Err.fault in (
-      building_fault fault,
-      inr (fault, c.in-Err.ensures.refused, refl),
-      among c.args.is_seen false _ _ _ (building_line fault) _ _ _ c.status-status.ensures (λ unseen. refl)
-          (λ unseen. c.as_str.ensures.value ∙ c.of_build-behind.ensures unseen) (c.tell_among.ensures.told (building_line fault) refl),
+pub returns-in-Some-clause-does : goal.returns-in-Some-clause-does
+returns-in-Some-clause-does g c =
+    let answer = unread c.in-Some.bundle.now Refused in (
+      answer,
+      inl (subst (λ o. IsTakenAt c.args.path.now o answer) (sym c.in-Some.ensures.some) (c.in-Some.ensures.taken, refl), keeps_same _, refl),
+      plainly c.args.is_seen answer _ _ _ c.tell_unread.ensures.told,
     )
+
+pub returns-in-None-clause-does : goal.returns-in-None-clause-does
+returns-in-None-clause-does g c =
+    let it = c.build_apart.ensures.does in (it.0, inr (c.in-None.ensures.none refl, it.1), it.2)
