@@ -7,7 +7,7 @@ ghost use Rattle.cfarm_options.specs.declared.options.Optimise.{Optimise};
 ghost use Rattle.cfarm_words_parts.specs.Words.{AreOptions, IsArgument, IsCommand, IsPath, Reads, build_app};
 ghost use Rattle.cfarm_words_parts.specs.Words.{optimise_rule, optimise_word, path_rule, seed_rule, turns_rule};
 
-use crate::size_words::{ACCEPT, FOLDER, PROMISE, accept, nodes, nodes_of, promise, size_of};
+use crate::size_words::{ACCEPT, FOLDER, PROMISE, nodes_of, size_of, sized};
 use cfarm_options::{BuildOptions, Optimise};
 use cfarm_words_parts::{Choices, file, needed, with_argument};
 use clap::builder::ValueParser;
@@ -89,10 +89,8 @@ pub(crate) fn build<'a>(alloc: Global, choices: Choices<'a>) -> Result<Command<'
             "Writes `linked.cfp` in the folder, and prints the report, one line of JSON: of each function the\nnodes whose offers were learned in its four rooms, the SHA-256 of `linked.cfp`, and how many nodes\nthere are. Nodes go on from the journals `node0.cf2` and so on that they find in the folder; those\nof the first version, `node0.cfj` and so on, are migrated to these.\n\nStatus: 0 done; 1 the text is refused, by number, name and byte offset or function; 2 the command\nline or a file; 3 undecided; 4 a journal is refused or failed, or the output could not be written;\n7 no memory or no thread.",
         );
     let named = with_argument(Ok(plain), file(alloc, "A C text"));
-    let counted = with_argument(named, nodes(alloc, choices));
-    let promised = with_argument(counted, promise(alloc));
-    let accepted = with_argument(promised, accept(alloc));
-    let bounded = with_argument(accepted, turns(alloc));
+    let counted = sized(alloc, named, choices);
+    let bounded = with_argument(counted, turns(alloc));
     let seeded = with_argument(bounded, seed(alloc));
     let optimised = with_argument(seeded, optimise(alloc, choices));
     let placed = with_argument(

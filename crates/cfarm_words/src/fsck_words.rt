@@ -6,7 +6,7 @@ ghost use Rattle.cfarm_options.specs.Sizes.{size_of};
 ghost use Rattle.cfarm_words_parts.specs.declared.task.FsckOptions.{FsckOptions};
 ghost use Rattle.cfarm_words_parts.specs.Words.{AreFsckOptions, IsCommand, fsck_app, sizes_among};
 
-use crate::size_words::{ACCEPT, FOLDER, PROMISE, accept, nodes, nodes_of, promise, size_of};
+use crate::size_words::{ACCEPT, FOLDER, PROMISE, nodes_of, size_of, sized};
 use cfarm_options::{AskedSizes, Nodes};
 use cfarm_words_parts::{Choices, FsckOptions, file, needed, with_argument};
 use clap::{ArgMatches, Command};
@@ -22,11 +22,9 @@ pub(crate) fn fsck<'a>(alloc: Global, choices: Choices<'a>) -> Result<Command<'a
             "Prints of each node how much its journal has, and of each room of the text's functions the vote\nthat was chosen there, or `open`; then `ok`. Writes nothing, and makes `cfarm.lock` where there is\nnone.\n\nStatus: 0 done; 1 the text is refused, by number, name and byte offset or function; 2 the command\nline or a file; 4 a journal is refused, as a build would refuse it, or the output could not be\nwritten; 7 no memory or no thread.",
         );
     let named = with_argument(Ok(plain), file(alloc, "A C text"));
-    let counted = with_argument(named, nodes(alloc, choices));
-    let promised = with_argument(counted, promise(alloc));
-    let accepted = with_argument(promised, accept(alloc));
+    let counted = sized(alloc, named, choices);
     with_argument(
-        accepted,
+        counted,
         needed(alloc, FOLDER, "FOLDER", "The folder of the journals"),
     )
 }

@@ -1,15 +1,16 @@
 //! What the command line says of a farm's nodes, quorums and folder.
 
-ghost use Rattle.std.specs.Prelude.{◌≡◌, Some, codes, IfSome, IsNone};
-ghost use Rattle.clap.specs.Words.{found_of, first_of, first_value, rows_of};
+ghost use Rattle.std.specs.Prelude.{◌≡◌, Some, codes, IfOk, IfSome, IsNone};
+ghost use Rattle.clap.specs.Words.{App, found_of, first_of, first_value, rows_of};
 ghost use Rattle.cfarm_options.specs.declared.options.Nodes.{Nodes};
-ghost use Rattle.cfarm_words_parts.specs.Words.{IsArgument, ReadsPerhaps, accept_rule, node_word, nodes_rule, promise_rule};
+ghost use Rattle.cfarm_words_parts.specs.Words.{IsArgument, IsCommand, ReadsPerhaps, accept_rule, node_word, nodes_rule, promise_rule};
+ghost use Rattle.cfarm_words.specs.Sized.{with_sizes};
 
 use cfarm_options::Nodes;
-use cfarm_words_parts::Choices;
+use cfarm_words_parts::{Choices, with_argument};
 use clap::builder::ValueParser;
-use clap::{Arg, ArgMatches};
-use std::alloc::Global;
+use clap::{Arg, ArgMatches, Command};
+use std::alloc::{AllocError, Global};
 
 /// The option that says how many nodes there are.
 const NODES: &str = "nodes";
@@ -26,7 +27,7 @@ pub(crate) const FOLDER: &str = "dir";
 /// The greatest size of a quorum that is read; one that does not meet the other is told later.
 const MOST_SIZE: u64 = 255;
 
-pub(crate) fn nodes<'a>(alloc: Global, choices: Choices<'a>) -> Arg<'a>
+fn nodes<'a>(alloc: Global, choices: Choices<'a>) -> Arg<'a>
     ensures { IsArgument (nodes_rule choices.entry) result }
 {
     Arg::new(alloc, NODES)
@@ -37,7 +38,7 @@ pub(crate) fn nodes<'a>(alloc: Global, choices: Choices<'a>) -> Arg<'a>
         .default_value("3")
 }
 
-pub(crate) fn promise<'a>(alloc: Global) -> Arg<'a>
+fn promise<'a>(alloc: Global) -> Arg<'a>
     ensures { IsArgument promise_rule result }
 {
     Arg::new(alloc, PROMISE)
@@ -47,7 +48,7 @@ pub(crate) fn promise<'a>(alloc: Global) -> Arg<'a>
         .value_parser(ValueParser::Unsigned(0, MOST_SIZE))
 }
 
-pub(crate) fn accept<'a>(alloc: Global) -> Arg<'a>
+fn accept<'a>(alloc: Global) -> Arg<'a>
     ensures { IsArgument accept_rule result }
 {
     Arg::new(alloc, ACCEPT)
@@ -57,6 +58,20 @@ pub(crate) fn accept<'a>(alloc: Global) -> Arg<'a>
             "How many votes choose an offer; more than half where none is given.\nBoth numbers are together above that of the nodes",
         )
         .value_parser(ValueParser::Unsigned(0, MOST_SIZE))
+}
+
+/// The command with the options that say how many nodes the farm has, and of what sizes its quorums are.
+pub(crate) fn sized<'a>(
+    alloc: Global,
+    command: Result<Command<'a>, AllocError>,
+    choices: Choices<'a>,
+) -> Result<Command<'a>, AllocError>
+    ensures { (app : App) → IfOk command.entry (IsCommand app) → IfOk result
+        (IsCommand (with_sizes app choices.entry)) }
+{
+    let counted = with_argument(command, nodes(alloc, choices));
+    let promised = with_argument(counted, promise(alloc));
+    with_argument(promised, accept(alloc))
 }
 
 /// How many nodes there are to be.

@@ -3,7 +3,7 @@
 ghost use Rattle.cfarm_words_parts.specs.Words.{AreChoices};
 
 /// The words that options offer.
-#[derive(Clone, Copy, Debug)]
+#[derive(Clone, Copy)]
 pub struct Choices<'a> {
     /// The numbers of nodes that a farm can have.
     pub nodes: &'a [&'a str],

@@ -4,7 +4,7 @@ use cfarm_emitted::Emitted;
 use cfarm_options::{AskedSizes, BuildOptions};
 
 /// How a refused text is told.
-#[derive(Clone, Copy, Debug, PartialEq, Eq)]
+#[derive(Clone, Copy)]
 pub enum Format {
     /// By number, name and byte offset.
     Plain,
@@ -13,7 +13,7 @@ pub enum Format {
 }
 
 /// How a schedule that was played is shown.
-#[derive(Clone, Copy, Debug, PartialEq, Eq)]
+#[derive(Clone, Copy)]
 pub enum Showing {
     /// A line for each command.
     Lines,
@@ -22,7 +22,7 @@ pub enum Showing {
 }
 
 /// The files beside a text that is verified.
-#[derive(Clone, Copy, Debug, PartialEq, Eq)]
+#[derive(Clone, Copy)]
 pub struct VerifyPaths<'a> {
     /// The linked program.
     pub program: &'a str,
@@ -31,7 +31,7 @@ pub struct VerifyPaths<'a> {
 }
 
 /// A written offer that is judged.
-#[derive(Clone, Copy, Debug, PartialEq, Eq)]
+#[derive(Clone, Copy)]
 pub struct OfferAt<'a> {
     /// The name of the function that it is for.
     pub function: &'a str,
@@ -40,7 +40,7 @@ pub struct OfferAt<'a> {
 }
 
 /// The journals that are looked through.
-#[derive(Clone, Copy, Debug)]
+#[derive(Clone, Copy)]
 pub struct FsckOptions<'a> {
     /// Of a farm of so many nodes, with such quorums.
     pub sizes: AskedSizes,
@@ -49,7 +49,7 @@ pub struct FsckOptions<'a> {
 }
 
 /// What is to be done with a file.
-#[derive(Clone, Copy, Debug)]
+#[derive(Clone, Copy)]
 pub enum Task<'a> {
     Check(Format),
     /// With so many turns of loops and calls in one another.
@@ -69,7 +69,7 @@ pub enum Task<'a> {
 }
 
 /// What a command line asks for.
-#[derive(Clone, Copy, Debug)]
+#[derive(Clone, Copy)]
 pub struct Asked<'a> {
     pub task: Task<'a>,
     /// The file that it is about.

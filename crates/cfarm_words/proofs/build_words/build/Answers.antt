@@ -2,7 +2,7 @@ use Rattle.std.specs.Prelude.{codes}
 use Rattle.std.proofs.Common.{ap, ◌∙◌}
 use Rattle.clap.specs.Words.{new_app}
 use Rattle.clap.specs.Simple.{app_of_fields}
-use Rattle.cfarm_words_parts.specs.Words.{accept_rule, file_rule, folder_rule, nodes_rule, optimise_rule, bundle_path_rule, offers_path_rule, promise_rule, seed_rule, turns_rule}
+use Rattle.cfarm_words_parts.specs.Words.{file_rule, folder_rule, optimise_rule, bundle_path_rule, offers_path_rule, seed_rule, turns_rule}
 use Rattle.cfarm_words.proofs.build_words.build.Goals as goal
 
 pub returns : goal.returns
@@ -12,10 +12,8 @@ returns c =
       ap (λ f. f.has_globals) c.after_help-plain.ensures ∙ ap (λ f. f.has_globals) c.about.ensures ∙ c.new.ensures.local,
     )
     c.file.ensures in
-    let counted = c.with_argument-counted.ensures _ (nodes_rule c.args.choices) named c.nodes.ensures in
-    let promised = c.with_argument-promised.ensures _ promise_rule counted c.promise.ensures in
-    let accepted = c.with_argument-accepted.ensures _ accept_rule promised c.accept.ensures in
-    let bounded = c.with_argument-bounded.ensures _ turns_rule accepted c.turns.ensures in
+    let counted = c.sized-counted.ensures _ named in
+    let bounded = c.with_argument-bounded.ensures _ turns_rule counted c.turns.ensures in
     let seeded = c.with_argument-seeded.ensures _ seed_rule bounded c.seed.ensures in
     let optimised = c.with_argument-optimised.ensures _ (optimise_rule c.args.choices) seeded c.optimise.ensures in
     let placed = c.with_argument-placed.ensures _ folder_rule optimised c.needed.ensures in
