@@ -10,6 +10,7 @@ use c_program::Term;
 
 /// What an expression is worth among these locals and globals: none where it goes wrong. An operator between
 /// constants and locals is done here, where no call needs registers to be saved.
+#[inline(always)]
 pub fn evaluate(term: &Term, scope: &Scope) -> Option<u32>
     ensures { result ≡ value (variables_of scope.now) (term_tree term.now) }
 {
