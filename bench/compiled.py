@@ -103,7 +103,7 @@ def built(folder, name, text, way, seed, given):
     place = os.path.join(folder, f"{name}.{way}.{seed}")
     os.mkdir(place)
     words = ["build", text, "--dir", place, "--nodes", str(given.nodes), "--seed", str(seed), "--optimise", way]
-    subprocess.run([given.cfarm, *words], stdout=subprocess.DEVNULL, check=True)
+    subprocess.run([given.cfarm, *words], stdin=subprocess.DEVNULL, stdout=subprocess.DEVNULL, check=True)
     return os.path.join(place, "linked.cfp")
 
 
@@ -134,7 +134,7 @@ def commands(folder, name, given):
 def timed(command):
     """A process's own seconds, and what it prints."""
     with tempfile.TemporaryFile() as out:
-        process = subprocess.Popen(command, stdout=out, stderr=subprocess.DEVNULL)
+        process = subprocess.Popen(command, stdin=subprocess.DEVNULL, stdout=out, stderr=subprocess.DEVNULL)
         _, _, used = os.wait4(process.pid, 0)
         process.returncode = 0
         out.seek(0)

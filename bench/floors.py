@@ -44,11 +44,11 @@ FLOORS = [
      "linearize_check_proof linearize_check_layout linearize_check"),
     ("Optimisers: they propose, and nothing is claimed of them",
      "oracle_graphs oracle_facts oracle_const oracle_alloc_blocks oracle_alloc oracle_cse oracle_webs oracle_alloc_speed oracle_order"),
-    ("Offers, chains of them, and the linked program", "offers offers_choice parallel_validate linker chains bundle_form bundle_offers"),
+    ("Offers, chains of them, and the linked program", "offers offers_choice parallel_validate linker chains bundle_form bundle_reading bundle_offers"),
     ("Agreement: the protocol, rooms on shared words",
      "paxos_core_world paxos_core_invariant paxos_core_model paxos_core_law paxos_core_late_offers paxos_core_crash paxos_core "
      "rooms_rule rooms_table rooms_steps rooms_state rooms_rights rooms_met rooms_crash rooms_seat rooms_cells rooms_hall rooms rooms_function rooms_numbered"),
-    ("Journals", "durable_model_writes durable_model durable_pair durable_pair_turning durable_pair_memory durable_pair_held durable_pair_files acceptor_log_form acceptor_log_blocks acceptor_log acceptor_log_old_form "
+    ("Journals", "durable_model_writes durable_model durable_pair durable_pair_turning durable_pair_memory durable_pair_held durable_pair_files acceptor_log_form acceptor_log_blocks acceptor_log acceptor_log_old_form acceptor_log_migrated "
      "acceptor_log_translating acceptor_log_migrating"),
     ("The farm",
      "farm_nodes_order farm_nodes_acting farm_nodes_leading farm_nodes_offers farm_nodes_playing farm_nodes_passes "
@@ -58,7 +58,7 @@ FLOORS = [
      "farm_nodes_seated farm_nodes_opened farm_nodes_rounds farm_nodes_workers farm_nodes_threads farm_nodes_source "
      "farm_nodes_compiling farm_nodes_linked farm_nodes_bundled farm_nodes_crash farm_nodes"),
     ("The program",
-     "cfarm_files cfarm_options cfarm_explaining cfarm_output cfarm_log_lines cfarm_log cfarm_fsck_lines cfarm_fsck_journals cfarm_fsck text_offers program_texts cfarm_runs cfarm_hints cfarm_meter cfarm_report cfarm_build_faults cfarm_build_linking cfarm_build cfarm_offered cfarm_building cfarm_settle_nodes cfarm_commands cfarm_emitted cfarm_emit cfarm_verify cfarm_judge cfarm_schedules_lines "
+     "cfarm_files cfarm_options cfarm_explaining cfarm_output cfarm_log_lines cfarm_log cfarm_fsck_lines cfarm_fsck_journals cfarm_fsck text_offers program_texts cfarm_runs cfarm_hints cfarm_meter cfarm_report cfarm_build_faults cfarm_build_linking cfarm_build cfarm_offered cfarm_building cfarm_settle_nodes cfarm_commands cfarm_emitted cfarm_emit cfarm_verify_reading cfarm_verify_comparing cfarm_verify cfarm_judge cfarm_schedules_lines "
      "cfarm_schedules cfarm_drawing_parts cfarm_drawing cfarm_words_parts cfarm_words cfarm_telling cfarm_looking cfarm_folder cfarm_program cfarm"),
     ("Tests",
      "program_rows paxos_reference worked_farm worked_commands worked_agreement worked_texts worked_forms worked_offers "
@@ -93,14 +93,15 @@ CHANGES = [
     ("the journal's form",
      "[`acceptor_log`](acceptor_log/README.md): `acceptor_log_form`",
      "`acceptor_log`, `acceptor_log_translating`; a new record: `farm_nodes_order`, `farm_nodes_acting`, `farm_nodes_restart_records`, "
-     "`farm_nodes_records`; the header: `farm_nodes_disks`, `cfarm_building`"),
+     "`farm_nodes_records`; the header: `farm_nodes_disks`, `cfarm_hints`"),
     ("which sizes of quorums meet, and how many a quorum has",
      "[`paxos_core`](paxos_core/README.md): `paxos_core_world` (`quorum.rt`, `specs/Quorum`, `proofs/Quorums`)",
-     "who tests a quorum: `paxos_core`, `paxos_core_model`; what is told of it: `rooms_state` (`proofs/Told`); what a build asks for: `cfarm_words`, `cfarm_options`, `cfarm_building`; where sizes are written: "
+     "who tests a quorum: `paxos_core`, `paxos_core_model`; what is told of it: `rooms_state` (`proofs/Told`); what a command asks for: `cfarm_words`, `cfarm_options`, `cfarm_building` (`asking.rt`), `cfarm_folder` (`asking.rt`); where sizes are written: "
      "`acceptor_log_form`, `cfarm_schedules_lines`; the three nodes of `settle`: `cfarm_settle_nodes`"),
     ("an option, a command, help",
      "[`cfarm`](cfarm/README.md): `cfarm_words`",
-     "a build's option: `cfarm_options`, `cfarm_building`; one of another command: `cfarm_runs`; all: `cfarm_program`, docs/cfarm.1, docs/cfarm.bash"),
+     "a build's option: `cfarm_options`, `cfarm_building`; one of another command: `cfarm_words_parts`, and the crate that does it; all: `cfarm_program`, docs/cfarm.1, "
+     "docs/cfarm.bash"),
     ("a line, a status, the order of refusals",
      "[`cfarm`](cfarm/README.md): `cfarm_program`",
      "`cfarm_runs`, `cfarm_build_faults`, `cfarm_building`, `cfarm_commands`, `cfarm_schedules`; rows of `worked_rows`"),
@@ -219,6 +220,20 @@ def face_of(crate):
     return max((it for it in FACES if crate == it or crate.startswith(f"{it}_")), key=len, default=None)
 
 
+def crates_in(told):
+    """The crates that a text names between backticks."""
+    return set(re.findall(r"`([a-z]+(?:_[a-z]+)*)`", told)) & set(ORDER)
+
+
+def above(crates):
+    """The crates that stand on one of these, by crates.txt."""
+    found, plan = set(crates), read_plan()
+    for crate in ORDER:
+        if found & set(plan.get(crate, ([], []))[1]):
+            found.add(crate)
+    return found - set(crates)
+
+
 def index():
     """The text of crates/README.md."""
     told = [
@@ -228,8 +243,9 @@ def index():
         "with a face's is a part of it, and what callers need of it the face passes on; the others are shared by several faces. Behind each: what",
         "it mostly is, its lines of code, definitions and proofs, and what it is for. A face with many parts has a README of its own.",
     ]
-    told += ["", "## Where to change what", "", "| To change | Begin in | Touched then |", "|---|---|---|"]
-    told += [f"| {what} | {first} | {then} |" for what, first, then in CHANGES]
+    told += ["", "## Where to change what", "", "The last column: how many crates stand above those to begin in, and are proved again.", ""]
+    told += ["| To change | Begin in | Touched then | Above |", "|---|---|---|---:|"]
+    told += [f"| {what} | {first} | {then} | {len(above(crates_in(first)))} |" for what, first, then in CHANGES]
     for name, crates in FLOORS:
         told += ["", f"## {name}", "", "| Crate | Kind | Code | Definitions | Proofs | What it is |", "|---|---|---:|---:|---:|---|"]
         for crate in crates.split():
