@@ -15,7 +15,7 @@ use Rattle.paxos_core_law.specs.Takes.{AreStepsOf}
 use Rattle.paxos_core_law.specs.Would.{would, kept_by}
 use Rattle.paxos_core_law.specs.declared.step.Act.{Act}
 use Rattle.paxos_core_law.specs.declared.step.Act.TheVariants as act
-use Rattle.paxos_core_late_offers.specs.LateOffer.{BelongsButOffer}
+use Rattle.paxos_core_late_offers.specs.LateOffer.{BelongsWithLateOffer}
 
 -- node i's journal holds this: what i keeps in the world, once it has taken steps of its own that it may take there
 pub record IsRecorded (q : Sizes) (w : World) (i : ℕ) (holds : KeptPart) : Type 0 where
@@ -74,5 +74,5 @@ CrashesLearnAsBefore =
 -- what the journal of a node of the world holds, whatever the node has recorded and not done
 abbrev pub JournalsAreRecorded : Type 0
 JournalsAreRecorded =
-    (q : Sizes) (w : World) (s : NodeState) (waiting : Waiting) → IsReached q w → BelongsButOffer q w s → WasSent w waiting
+    (q : Sizes) (w : World) (s : NodeState) (waiting : Waiting) → IsReached q w → BelongsWithLateOffer q w s → WasSent w waiting
     → IsRecorded q w s.me (journal_of s waiting)

@@ -12,7 +12,7 @@ use Rattle.paxos_core_world.specs.declared.vote.Vote.{Vote}
 use Rattle.paxos_core_law.proofs.Reopens.{reached-append, run_append}
 use Rattle.paxos_core_law.specs.Acceptor.{promises, accepts}
 use Rattle.paxos_core_law.specs.Belongs.{Belongs}
-use Rattle.paxos_core_late_offers.specs.LateOffer.{unoffered, BelongsButOffer, proposes_own, owes_offer, taken_late_by_propose, TakesLate, TakesStepsLate, OffersMayBeLate, OthersLeaveIt}
+use Rattle.paxos_core_late_offers.specs.LateOffer.{unoffered, BelongsWithLateOffer, proposes_own, owes_offer, taken_late_by_propose, TakesLate, TakesStepsLate, OffersMayBeLate, OthersLeaveIt}
 use Rattle.paxos_core_law.specs.Learner.{notes_promise, notes_vote}
 use Rattle.paxos_core_law.specs.Message.{reply, after_message}
 use Rattle.paxos_core_law.specs.NodeState.{NodeState, offered, restarted}
@@ -38,7 +38,7 @@ but_offer {z} {w} {ls} {m} t u e h =
 kept_as : (k : KeptPart) (t : Bool) → k.offered ≡ t → k ≡ record { offered = t; started = k.started; promised = k.promised; accepted = k.accepted }
 kept_as k t e = ap {B = KeptPart} (λ o. record { offered = o; started = k.started; promised = k.promised; accepted = k.accepted }) e
 
-offer_by : (t : Bool) (z : Sizes) (w : World) (s : NodeState) → s.kept.offered ≡ t → BelongsButOffer z w s → BelongsButOffer z w (offered s)
+offer_by : (t : Bool) (z : Sizes) (w : World) (s : NodeState) → s.kept.offered ≡ t → BelongsWithLateOffer z w s → BelongsWithLateOffer z w (offered s)
 offer_by t z w s e (inr h) = inr h
 offer_by true z w s e (inl h) = inl (belongs_kept z w s (with_offer s.kept) h (kept_as s.kept true e))
 offer_by false z w s e (inl h) = inr (belongs_kept z w s (without_offer s.kept) h (kept_as s.kept false e))
@@ -80,7 +80,7 @@ taken_unoffered s (Propose b v) = refl
 taken_unoffered s (Promise a b report) = refl
 taken_unoffered s (Accepted a b v) = refl
 
-message_late : (s : NodeState) (m : Msg) (z : Sizes) (w : World) → IsReached z w → BelongsButOffer z w s → Has m w.sent → TakesLate z w (taken_on s m) (after_message s m) (reply s m)
+message_late : (s : NodeState) (m : Msg) (z : Sizes) (w : World) → IsReached z w → BelongsWithLateOffer z w s → Has m w.sent → TakesLate z w (taken_on s m) (after_message s m) (reply s m)
 message_late s m z w r (inl h) k = late (on_takes s m z w r h k)
 message_late s m z w r (inr h) k =
     but_offer (after_message s m) _ (message_unoffered s m)
@@ -154,7 +154,7 @@ module _ (z : Sizes) (w : World) (s : NodeState) (r : IsReached z w) where
       (subst (λ (p : Option (ℕ × ℕ)). Takes z w (proposes (propose_message p)) (after_answer (unoffered s) (propose_message p)) (propose_message p)) same
       (propose_anywhere (unoffered s) z w h))
 
-  propose_by : (t : Bool) → owes_offer w s ≡ t → BelongsButOffer z w s → TakesLate z w (cond t (taken_by_propose s ++ Offers s.me ∷ []) (taken_by_propose s)) (after_proposal s) (proposal s)
+  propose_by : (t : Bool) → owes_offer w s ≡ t → BelongsWithLateOffer z w s → TakesLate z w (cond t (taken_by_propose s ++ Offers s.me ∷ []) (taken_by_propose s)) (after_proposal s) (proposal s)
   propose_by false e (inl h) = late (propose_anywhere s z w h)
   propose_by false e (inr h) = without h (and_false (proposes_own s) (subst (λ (k : KeptPart). (proposes_own s && not k.offered) ≡ false) h.kept e))
   propose_by true e (inl h) =

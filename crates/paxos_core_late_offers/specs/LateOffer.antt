@@ -22,8 +22,8 @@ abbrev pub unoffered : NodeState → NodeState
 unoffered s = record s { kept = without_offer s.kept }
 
 -- the node belongs to the world, but that its offer, if it has made one, may not stand there yet
-abbrev pub BelongsButOffer : Sizes → World → NodeState → Type 0
-BelongsButOffer q w s = Belongs q w s ⊎ Belongs q w (unoffered s)
+abbrev pub BelongsWithLateOffer : Sizes → World → NodeState → Type 0
+BelongsWithLateOffer q w s = Belongs q w s ⊎ Belongs q w (unoffered s)
 
 -- the node proposes its own number: no promise reports a vote
 abbrev pub proposes_own : NodeState → Bool
@@ -41,12 +41,12 @@ taken_late_by_propose w s = if owes_offer w s then taken_by_propose s ++ Offers 
 pub record TakesLate (q : Sizes) (w : World) (labels : List Label) (s : NodeState) (answer : Option Msg) : Type 0 where
   pub run : IsRun q w labels
   pub own : AreStepsOf q.nodes s.me labels
-  pub belongs : BelongsButOffer q (reached w labels) s
+  pub belongs : BelongsWithLateOffer q (reached w labels) s
   pub sent : IfSome answer (λ m. Has m (reached w labels).sent)
 
 -- a call that makes the node t of s takes these steps, in every world that can come about and to which s belongs but for its offer
 abbrev pub TakesStepsLate : NodeState → NodeState → (World → List Label) → Option Msg → Type 0
-TakesStepsLate s t labels answer = (q : Sizes) (w : World) → IsReached q w → BelongsButOffer q w s → TakesLate q w (labels w) t answer
+TakesStepsLate s t labels answer = (q : Sizes) (w : World) → IsReached q w → BelongsWithLateOffer q w s → TakesLate q w (labels w) t answer
 
 -- ---- the promises
 
@@ -54,14 +54,14 @@ TakesStepsLate s t labels answer = (q : Sizes) (w : World) → IsReached q w →
 abbrev pub OthersLeaveIt : Type 0
 OthersLeaveIt =
     (q : Sizes) (w : World) (l : Label) (s : NodeState) (j : ℕ) → IsStepOf q.nodes j l → s.me ≢ j
-    → (Belongs q w s → Belongs q (after w l) s) × (BelongsButOffer q w s → BelongsButOffer q (after w l) s)
+    → (Belongs q w s → Belongs q (after w l) s) × (BelongsWithLateOffer q w s → BelongsWithLateOffer q (after w l) s)
 
 -- each call, where the run has the node's offer at the latest with the proposal of its own number
 pub record OffersMayBeLate : Type 0 where
   pub offer : (s : NodeState) → TakesStepsLate s (offered s) (λ _. []) None
   pub start : (s : NodeState) → next_ballot s ≤ 65535 → TakesStepsLate s (started s) (λ _. taken_by_start s) (Some (Prepare (next_ballot s)))
   pub propose : (s : NodeState) → TakesStepsLate s (after_proposal s) (λ w. taken_late_by_propose w s) (proposal s)
-  pub message : (s : NodeState) (m : Msg) (q : Sizes) (w : World) → IsReached q w → BelongsButOffer q w s → Has m w.sent
+  pub message : (s : NodeState) (m : Msg) (q : Sizes) (w : World) → IsReached q w → BelongsWithLateOffer q w s → Has m w.sent
       → TakesLate q w (taken_on s m) (after_message s m) (reply s m)
   pub forget : (s : NodeState) → TakesStepsLate s (restarted s s.kept) (λ _. taken_by_restart s) None
   pub restart : (s : NodeState) (k : KeptPart) (q : Sizes) (w : World) → s.me < q.nodes → s.quorums ≡ q → (w.nodes s.me ≡ k) ⊎ (w.nodes s.me ≡ without_offer k)

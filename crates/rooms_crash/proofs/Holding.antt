@@ -13,17 +13,16 @@ use Rattle.paxos_core_law.specs.Reached.{IsReached}
 use Rattle.paxos_core_law.specs.Would.{kept_by, next_promise, next_vote}
 use Rattle.paxos_core_law.specs.declared.step.Act.TheVariants as core_act
 use Rattle.paxos_core_law.specs.declared.step.Step.TheVariants as step
-use Rattle.paxos_core_late_offers.specs.LateOffer.{BelongsButOffer}
+use Rattle.paxos_core_late_offers.specs.LateOffer.{BelongsWithLateOffer}
 use Rattle.paxos_core_crash.specs.Crash.{IsRecorded, Nothing, ToOffer, ToDo}
 use Rattle.paxos_core_crash.proofs.JournalLemmas.{journals_are_recorded}
 use Rattle.rooms_state.specs.declared.act.Act.{Act}
 use Rattle.rooms_state.specs.declared.act.Act.TheVariants as act
 use Rattle.rooms_state.specs.SeatState.{SeatState, proposer_of, seen_world, vote_by}
-use Rattle.rooms_state.specs.Sound.{IsSound}
 use Rattle.rooms_state.specs.Would.{would, IsAmong}
-use Rattle.rooms_state.proofs.Moves.{nodes_are}
 use Rattle.rooms_state.proofs.RunLemmas.{legal_reached}
-use Rattle.rooms_crash.specs.Held.{HeldIsRecorded, IsOfferMade, MayHold}
+use Rattle.rooms_crash.specs.Held.{HeldIsRecorded, MayHold}
+use Rattle.rooms_crash.specs.OfRun.{StandsInRun}
 
 abbrev with_kept : NodeState → KeptPart → NodeState
 with_kept n k = record n { kept = k }
@@ -32,15 +31,15 @@ kept_as : (k : KeptPart) → k.offered ≡ true → k ≡ with_offer k
 kept_as k e = ap {B = KeptPart} (λ o. record { offered = o; started = k.started; promised = k.promised; accepted = k.accepted }) e
 
 -- a node that is held as if it had offered is itself one of the world, where an offer that stands there was made
-as_it_is : (q : Sizes) (w : World) (n : NodeState) → BelongsButOffer q w (offered n) → (IsTrue (w.nodes n.me).offered → IsTrue n.kept.offered) → (t : Bool) → n.kept.offered ≡ t
-    → BelongsButOffer q w n
-as_it_is q w n h made true e = subst (λ (x : NodeState). BelongsButOffer q w x) (ap (λ (k : KeptPart). with_kept n k) (sym (kept_as n.kept e))) h
+as_it_is : (q : Sizes) (w : World) (n : NodeState) → BelongsWithLateOffer q w (offered n) → (IsTrue (w.nodes n.me).offered → IsTrue n.kept.offered) → (t : Bool) → n.kept.offered ≡ t
+    → BelongsWithLateOffer q w n
+as_it_is q w n h made true e = subst (λ (x : NodeState). BelongsWithLateOffer q w x) (ap (λ (k : KeptPart). with_kept n k) (sym (kept_as n.kept e))) h
 as_it_is q w n (inl h) made false e =
     let there : n.kept.offered ≡ true = made (ap (λ (k : KeptPart). k.offered) h.kept) in
     let bad : true ≡ false = sym there ∙ e in absurd (cc)
 as_it_is q w n (inr h) made false e = inr h
 
-module _ (q : Sizes) (w : World) (n : NodeState) (r : IsReached q w) (h : BelongsButOffer q w n) where
+module _ (q : Sizes) (w : World) (n : NodeState) (r : IsReached q w) (h : BelongsWithLateOffer q w n) where
   abbrev Recorded : KeptPart → Type 0
   Recorded k = IsRecorded q w n.me k
 
@@ -65,29 +64,29 @@ module _ (q : Sizes) (w : World) (n : NodeState) (r : IsReached q w) (h : Belong
   with_vote_of b None sent = idle
   with_vote_of b (Some v) sent = with_vote_if (is_given (vote b v) n.kept.accepted) b v (sent v refl)
 
-module _ (s : SeatState) (sound : IsSound s) (made : IsOfferMade s) where
+module _ (s : SeatState) (stands : StandsInRun s) where
   abbrev q : Sizes
   q = s.view.opening.quorums
 
   reached : IsReached q (seen_world s)
-  reached = legal_reached s.view.opening s.view.seen sound.legal
+  reached = legal_reached s.view.opening s.view.seen stands.legal
 
-  belongs : BelongsButOffer q (seen_world s) s.node
+  belongs : BelongsWithLateOffer q (seen_world s) s.node
   belongs =
-      as_it_is q (seen_world s) s.node (subst (λ (x : NodeState). BelongsButOffer q (seen_world s) x) sound.node sound.belongs) made
+      as_it_is q (seen_world s) s.node (subst (λ (x : NodeState). BelongsWithLateOffer q (seen_world s) x) stands.node stands.belongs) stands.made
       s.node.kept.offered refl
 
   among : (j : ℕ) → j < s.node.quorums.nodes → j < q.nodes
-  among j lt = subst (λ (k : ℕ). j < k) (nodes_are s sound) lt
+  among j lt = subst (λ (k : ℕ). j < k) (ap (λ (x : Sizes). x.nodes) stands.quorums) lt
 
   asked : (a : Act) → IsAmong s.node.quorums.nodes a → IsRecorded q (seen_world s) s.node.me (kept_by (would s a) s.node.kept)
   asked act.Start lt = journals_are_recorded q (seen_world s) s.node (ToDo core_act.Start) reached belongs tt
   asked (act.Promise j) lt =
-      with_promise_of q (seen_world s) s.node reached belongs (proposer_of s j).started (sound.proposers j (among j lt)).prepare
+      with_promise_of q (seen_world s) s.node reached belongs (proposer_of s j).started (stands.proposers j (among j lt)).prepare
   asked act.Propose lt = journals_are_recorded q (seen_world s) s.node (ToDo core_act.Propose) reached belongs tt
   asked (act.Accept j) lt =
       with_vote_of q (seen_world s) s.node reached belongs (proposer_of s j).started (proposer_of s j).proposed
-      (sound.proposers j (among j lt)).propose
+      (stands.proposers j (among j lt)).propose
 
   held : (k : KeptPart) → MayHold s k → IsRecorded q (seen_world s) s.node.me k
   held k (inl e) = subst (λ (x : KeptPart). IsRecorded q (seen_world s) s.node.me x) (sym e) (idle q (seen_world s) s.node reached belongs)
@@ -97,4 +96,4 @@ module _ (s : SeatState) (sound : IsSound s) (made : IsOfferMade s) where
   held k (inr (inr h)) = subst (λ (x : KeptPart). IsRecorded q (seen_world s) s.node.me x) (sym h.2) (asked h.0 h.1)
 
 pub held_is_recorded : HeldIsRecorded
-held_is_recorded s k sound made holds = held s sound made k holds
+held_is_recorded s k stands holds = held s stands k holds

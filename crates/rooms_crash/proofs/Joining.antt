@@ -6,11 +6,9 @@ use Rattle.paxos_core_world.specs.World.{Has}
 use Rattle.paxos_core_law.specs.NodeState.{NodeState}
 use Rattle.rooms_state.specs.Event.{Event}
 use Rattle.rooms_state.specs.Events.{labels_of}
-use Rattle.rooms_state.specs.Opening.{Opening}
 use Rattle.rooms_state.specs.SeatState.{SeatState}
-use Rattle.rooms_state.specs.Sound.{IsSound}
 use Rattle.rooms_state.specs.Views.{BeginsWith, IsLegal}
-use Rattle.rooms_state.proofs.RunLemmas.{begins_through, legal_before}
+use Rattle.rooms_state.proofs.RunLemmas.{begins_through}
 use Rattle.rooms_met.specs.Met.{HaveMet}
 use Rattle.rooms_crash.specs.Meetings.{AllMeet, IsSeatOf, Meetings, Meets, MeetsIn, MeetingsJoin}
 use Rattle.rooms_crash.specs.Rest.{Rests, Spare}
@@ -82,7 +80,7 @@ module _ (q : Sizes) (h : ℕ) (first second : List (ℕ × ℕ)) (old between n
   own_spare : (i : ℕ) → i < q.nodes → (ls : List Event) → Spare (old i).view.opening.quorums.nodes (old i).view.node.me (labels_of ls)
       → Spare (old i).view.opening.quorums.nodes (old i).node.me (labels_of ls)
   own_spare i lt ls spare =
-      subst (λ (m : ℕ). Spare (old i).view.opening.quorums.nodes m (labels_of ls)) (ap (λ (n : NodeState). n.me) (seats i lt).sound.node) spare
+      subst (λ (m : ℕ). Spare (old i).view.opening.quorums.nodes m (labels_of ls)) (ap (λ (n : NodeState). n.me) (seats i lt).stands.node) spare
 
   hub_rests : h < q.nodes → Rests run (old h)
   hub_rests lt =
@@ -101,23 +99,17 @@ module _ (q : Sizes) (h : ℕ) (first second : List (ℕ × ℕ)) (old between n
   rests_of i lt (inr d) = other_rests i lt d
 
   quorums_of : (i : ℕ) → i < q.nodes → (old i).view.opening.quorums ≡ q
-  quorums_of i lt = sym (seats i lt).sound.quorums ∙ (seats i lt).quorums
+  quorums_of i lt = sym (seats i lt).stands.quorums ∙ (seats i lt).quorums
 
-  run_legal : IsSound (new h) → IsLegal (old h).view.opening run
-  run_legal sound =
-      let look = meetings_look second h between new behind in
-      let opening = look.opening ∙ (meetings_look first h old between before).opening in
-      legal_before (old h).view.opening look.behind run
-      (subst (λ (r : List Event). IsLegal (old h).view.opening r) look.seen
-      (subst (λ (o : Opening). IsLegal o (new h).view.seen) opening sound.legal))
+  run_legal : h < q.nodes → IsLegal (old h).view.opening run
+  run_legal lt = (meetings_look first h old between before).legal (seats h lt).stands.legal
 
 pub meetings_join : MeetingsJoin
-meetings_join q h first second old between new lt before all behind again seats sound = record {
+meetings_join q h first second old between new lt before all behind again seats = record {
   quorums = quorums_of q h first second old between new before all behind again seats h lt;
-  legal = run_legal q h first second old between new before all behind again seats sound;
+  legal = run_legal q h first second old between new before all behind again seats lt;
   opening = λ i low. opening_of q h first second old between new before all behind again seats i low (cases_eq i h);
   me = λ i low. (seats i low).me;
-  sound = λ i low. (seats i low).sound;
-  made = λ i low. (seats i low).made;
+  stands = λ i low. (seats i low).stands;
   rests = λ i low. rests_of q h first second old between new before all behind again seats i low (cases_eq i h);
 }

@@ -1,3 +1,5 @@
+pub mod Offering
+pub mod Keeping
 pub mod Holding
 pub mod Resting
 pub mod Looking

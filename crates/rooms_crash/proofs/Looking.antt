@@ -14,7 +14,7 @@ use Rattle.rooms_state.specs.Opening.{Opening}
 use Rattle.rooms_state.specs.SeatState.{SeatState}
 use Rattle.rooms_state.specs.Steps.{Advances}
 use Rattle.rooms_state.specs.View.{View}
-use Rattle.rooms_state.specs.Views.{AreStepsOfOthers, BeginsWith}
+use Rattle.rooms_state.specs.Views.{AreStepsOfOthers, BeginsWith, IsLegal}
 use Rattle.rooms_state.proofs.HearLemmas.{me_hearing}
 use Rattle.rooms_state.proofs.RunLemmas.{labels_of-append, labels_of-events}
 use Rattle.rooms_met.specs.Met.{told_by, HaveMet, LookedAtBoth, LookedAtFirst}
@@ -50,9 +50,10 @@ pub record OnlyLooked (v w : View) : Type 0 where
   pub spare : Spare v.opening.quorums.nodes v.node.me (labels_of behind)
   pub me : w.node.me ≡ v.node.me
   pub opening : w.opening ≡ v.opening
+  pub legal : IsLegal v.opening v.seen → IsLegal v.opening w.seen
 
 pub looked_never : (v : View) → OnlyLooked v v
-looked_never v = record { behind = []; seen = refl; spare = tt; me = refl; opening = refl }
+looked_never v = record { behind = []; seen = refl; spare = tt; me = refl; opening = refl; legal = λ l. l }
 
 pub looked_on : (u v w : View) → OnlyLooked u v → OnlyLooked v w → OnlyLooked u w
 looked_on u v w h k = record {
@@ -63,6 +64,9 @@ looked_on u v w h k = record {
       (spare_both u.opening.quorums.nodes u.node.me (labels_of k.behind) (labels_of h.behind) later h.spare);
   me = k.me ∙ h.me;
   opening = k.opening ∙ h.opening;
+  legal = λ l.
+      subst (λ (o : Opening). IsLegal o w.seen) h.opening
+      (k.legal (subst (λ (o : Opening). IsLegal o v.seen) (sym h.opening) (h.legal l)));
 }
   where
     later : Spare u.opening.quorums.nodes u.node.me (labels_of k.behind)
@@ -82,6 +86,7 @@ looked_once v steps t w a me spare = record {
       (others_spare v.opening.quorums.nodes v.node.me (labels_of a.between) a.others));
   me = ap (λ (x : View). x.node.me) a.stays ∙ me;
   opening = ap (λ (x : View). x.opening) a.stays;
+  legal = λ l. a.legal;
 }
 
 looked_both : (j : ℕ) (old new : SeatState) → LookedAtBoth j old new → OnlyLooked old.view new.view
@@ -99,7 +104,7 @@ looked_first zero old new e = subst (λ (z : SeatState). OnlyLooked old.view z.v
 looked_first (suc k) old new (m, h, both) = looked_on old.view m.view new.view (looked_first k old m h) (looked_both k m new both)
 
 looked_told : (a b c : SeatState) → OnlyLooked (told_by b a).view c.view → OnlyLooked a.view c.view
-looked_told a b c h = record { behind = h.behind; seen = h.seen; spare = h.spare; me = h.me; opening = h.opening }
+looked_told a b c h = record { behind = h.behind; seen = h.seen; spare = h.spare; me = h.me; opening = h.opening; legal = h.legal }
 
 -- two seats that met have looked
 pub first_looked : (a b a' b' : SeatState) → HaveMet a b a' b' → OnlyLooked a.view a'.view

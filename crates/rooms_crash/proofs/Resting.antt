@@ -15,9 +15,9 @@ use Rattle.rooms_state.specs.Events.{labels_of}
 use Rattle.rooms_state.specs.Opening.{Opening}
 use Rattle.rooms_state.specs.SeatState.{SeatState, seen_world}
 use Rattle.rooms_state.specs.Views.{IsLegal, IsStepOfOther, world_after}
-use Rattle.rooms_state.proofs.Opened.{opened_sound}
 use Rattle.rooms_state.proofs.RunLemmas.{legal_reached, world_after-append}
 use Rattle.rooms_crash.proofs.Holding.{held_is_recorded}
+use Rattle.rooms_crash.proofs.Keeping.{opened_of_run}
 use Rattle.rooms_crash.specs.Rest.{IsNote, LearnsAgain, OpenedRest, RestLeaves, Rests, Spare}
 
 note_spares : (n i : ℕ) (w v : World) (l : Label) → IsNote l → IsAheadBut n i w v → IsAheadBut n i w (after v l)
@@ -69,7 +69,7 @@ rest_leaves q o run seats left h holds = record {
     recorded i lt =
         subst (λ (p : Sizes). IsRecorded p (seen_world (seats i)) i (left i)) (sizes i lt)
         (subst (λ k. IsRecorded (seats i).view.opening.quorums (seen_world (seats i)) k (left i)) (h.me i lt)
-        (held_is_recorded (seats i) (left i) (h.sound i lt) (h.made i lt) (holds i lt)))
+        (held_is_recorded (seats i) (left i) (h.stands i lt) (holds i lt)))
 
     at : (i : ℕ) → i < q.nodes → Rests run (seats i) → IsRecorded q (world_after o run) i (left i)
     at i lt r =
@@ -78,13 +78,12 @@ rest_leaves q o run seats left h holds = record {
         r.spare (recorded i lt)
 
 pub opened_rest : OpenedRest
-opened_rest table o words can = record {
+opened_rest table o can = record {
   quorums = refl;
   legal = record { sizes = can.sizes; settled = can.settled; run = tt };
   opening = λ i lt. refl;
   me = λ i lt. refl;
-  sound = λ i lt. opened_sound table o i words can lt;
-  made = λ i lt offered. offered;
+  stands = λ i lt. (opened_of_run table o i can lt).stands;
   rests = λ i lt. record { behind = []; run_is = refl; spare = tt };
 }
 

@@ -1,12 +1,12 @@
 -- What the journal of a seat's node may hold of its room.
-use Rattle.std.specs.Prelude.{◌≡◌, ◌⊎◌, IsTrue}
+use Rattle.std.specs.Prelude.{◌≡◌, ◌⊎◌}
 use Rattle.paxos_core_world.specs.KeptPart.{KeptPart, with_offer}
 use Rattle.paxos_core_law.specs.Would.{kept_by}
 use Rattle.paxos_core_crash.specs.Crash.{IsRecorded}
 use Rattle.rooms_state.specs.declared.act.Act.{Act}
 use Rattle.rooms_state.specs.SeatState.{SeatState, seen_world}
-use Rattle.rooms_state.specs.Sound.{IsSound}
 use Rattle.rooms_state.specs.Would.{would, IsAmong}
+use Rattle.rooms_crash.specs.OfRun.{StandsInRun}
 
 -- what its node keeps; or that with the record of its offer, or of the step that it would take if it were asked this of a node of the room
 abbrev pub MayHold : SeatState → KeptPart → Type 0
@@ -14,15 +14,10 @@ MayHold s k =
     (k ≡ s.node.kept) ⊎ (k ≡ with_offer s.node.kept)
     ⊎ ((a : Act) × IsAmong s.node.quorums.nodes a × (k ≡ kept_by (would s a) s.node.kept))
 
--- An offer of the node that stands in the world that its seat has seen was made. The run has it at the latest with the step that proposes it,
--- so the offer may be made, and not stand there yet.
-abbrev pub IsOfferMade : SeatState → Type 0
-IsOfferMade s = IsTrue ((seen_world s).nodes s.node.me).offered → IsTrue s.node.kept.offered
-
 -- ---- the promise
 
 -- what its journal may hold is what its node may have recorded in the world that it has seen
 abbrev pub HeldIsRecorded : Type 0
 HeldIsRecorded =
-    (s : SeatState) (k : KeptPart) → IsSound s → IsOfferMade s → MayHold s k
+    (s : SeatState) (k : KeptPart) → StandsInRun s → MayHold s k
     → IsRecorded s.view.opening.quorums (seen_world s) s.node.me k

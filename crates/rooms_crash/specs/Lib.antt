@@ -1,3 +1,5 @@
+pub mod OfRun
 pub mod Held
 pub mod Rest
 pub mod Meetings
+pub mod Calls

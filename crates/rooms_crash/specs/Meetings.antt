@@ -3,9 +3,8 @@ use Rattle.std.specs.Prelude.{◌≡◌, ◌≢◌, ℕ, ◌<◌, ◌⊎◌, Lis
 use Rattle.paxos_core_world.specs.Quorum.{Sizes}
 use Rattle.paxos_core_world.specs.World.{Has}
 use Rattle.rooms_state.specs.SeatState.{SeatState}
-use Rattle.rooms_state.specs.Sound.{IsSound}
 use Rattle.rooms_met.specs.Met.{HaveMet}
-use Rattle.rooms_crash.specs.Held.{IsOfferMade}
+use Rattle.rooms_crash.specs.OfRun.{StandsInRun}
 use Rattle.rooms_crash.specs.Rest.{AreAtRest}
 
 -- the seats of these two nodes meet, and the others are as they were
@@ -29,10 +28,9 @@ AllMeet ps n h = (i : ℕ) → i < n → i ≢ h → MeetsIn ps h i
 
 -- it is the seat of node i of a room with quorums of these sizes
 pub record IsSeatOf (q : Sizes) (i : ℕ) (s : SeatState) : Type 0 where
-  pub sound : IsSound s
+  pub stands : StandsInRun s
   pub me : s.node.me ≡ i
   pub quorums : s.node.quorums ≡ q
-  pub made : IsOfferMade s
 
 -- ---- the promise
 
@@ -41,5 +39,5 @@ abbrev pub MeetingsJoin : Type 0
 MeetingsJoin =
     (q : Sizes) (h : ℕ) (first second : List (ℕ × ℕ)) (old between new : ℕ → SeatState) → h < q.nodes
     → Meetings first old between → AllMeet first q.nodes h → Meetings second between new → AllMeet second q.nodes h
-    → ((i : ℕ) → i < q.nodes → IsSeatOf q i (old i)) → IsSound (new h)
+    → ((i : ℕ) → i < q.nodes → IsSeatOf q i (old i))
     → AreAtRest q (old h).view.opening (between h).view.seen old

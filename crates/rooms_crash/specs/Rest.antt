@@ -9,11 +9,11 @@ use Rattle.rooms_state.specs.Event.{Event}
 use Rattle.rooms_state.specs.Events.{labels_of}
 use Rattle.rooms_state.specs.Opening.{Opening}
 use Rattle.rooms_state.specs.SeatState.{SeatState, CanOpen, opened_seat}
-use Rattle.rooms_state.specs.Sound.{IsSound}
 use Rattle.rooms_state.specs.Views.{IsLegal, IsStepOfOther, world_after}
 use Rattle.rooms_met.specs.Met.{IsKnown}
-use Rattle.rooms_met.specs.RoomAt.{HasWords, RoomAt}
-use Rattle.rooms_crash.specs.Held.{IsOfferMade, MayHold}
+use Rattle.rooms_met.specs.RoomAt.{RoomAt}
+use Rattle.rooms_crash.specs.Held.{MayHold}
+use Rattle.rooms_crash.specs.OfRun.{StandsInRun}
 
 -- somebody learns or comes back: nobody keeps anything else then
 abbrev pub IsNote : Label → Type 0
@@ -36,15 +36,13 @@ pub record Rests (run : List Event) (s : SeatState) : Type 0 where
   pub run_is : run ≡ behind ++ s.view.seen
   pub spare : Spare s.view.opening.quorums.nodes s.node.me (labels_of behind)
 
--- The nodes of a room with quorums of these sizes rest in this run of it, each at its seat; offers that stand in the worlds that they have
--- seen were made.
+-- The nodes of a room with quorums of these sizes rest in this run of it, each at its seat, which is of the run that it has seen.
 pub record AreAtRest (q : Sizes) (o : Opening) (run : List Event) (seats : ℕ → SeatState) : Type 0 where
   pub quorums : o.quorums ≡ q
   pub legal : IsLegal o run
   pub opening : (i : ℕ) → i < q.nodes → (seats i).view.opening ≡ o
   pub me : (i : ℕ) → i < q.nodes → (seats i).node.me ≡ i
-  pub sound : (i : ℕ) → i < q.nodes → IsSound (seats i)
-  pub made : (i : ℕ) → i < q.nodes → IsOfferMade (seats i)
+  pub stands : (i : ℕ) → i < q.nodes → StandsInRun (seats i)
   pub rests : (i : ℕ) → i < q.nodes → Rests run (seats i)
 
 -- ---- the promises
@@ -58,7 +56,7 @@ RestLeaves =
 -- as a room opens, its nodes rest in the run without steps
 abbrev pub OpenedRest : Type 0
 OpenedRest =
-    (table : RoomAt) (o : Opening) → HasWords table o.quorums.nodes → CanOpen o → AreAtRest o.quorums o [] (λ i. opened_seat table o i)
+    (table : RoomAt) (o : Opening) → CanOpen o → AreAtRest o.quorums o [] (λ i. opened_seat table o i)
 
 -- Where a room opens again from what they may hold, what is learned there is what was learned before.
 abbrev pub LearnsAgain : Type 0

@@ -1,4 +1,5 @@
 ghost use Rattle.rooms_crash.specs.Rest.{LearnsAgain, OpenedRest, RestLeaves};
+ghost use Rattle.rooms_crash.specs.Calls.{CallsKeepRun};
 ghost use Rattle.rooms_crash.specs.Held.{HeldIsRecorded};
 ghost use Rattle.rooms_crash.specs.Meetings.{MeetingsJoin};
 
@@ -21,4 +22,10 @@ pub fn seats_at_rest()
 pub fn seats_that_met()
     // There is a run in which their nodes rest as they were before the first of these meetings.
     ensures { MeetingsJoin }
+{}
+
+/// What the calls of a seat leave of the run that it has seen; it does nothing.
+pub fn seats_of_runs()
+    // A seat holds what stands in its run, and whoever has a ballot under way has offered: as a room opens, and after each call.
+    ensures { CallsKeepRun }
 {}

@@ -4,4 +4,4 @@
 
 mod law;
 
-pub use law::{seats_at_rest, seats_that_met};
+pub use law::{seats_at_rest, seats_of_runs, seats_that_met};

@@ -5,7 +5,7 @@ use Rattle.std.proofs.lemmas.List.{length-map, map-set, set-get_or}
 use Rattle.rooms_rights.specs.NodeState.{NodeState}
 use Rattle.rooms_rights.specs.RoomAt.{RoomAt}
 use Rattle.rooms_rights.specs.declared.seen.SeenWords.{SeenWords}
-use Rattle.rooms_rights.specs.Sweep.{none_seen, seen_of, with_proposer, LookedAtNode, StoppedAt, Swept}
+use Rattle.rooms_rights.specs.Sweep.{none_seen, seen_of, with_proposer, LookedAtNode, FoundChanged, FoundUnchanged}
 use Rattle.rooms_state.specs.AcceptorWord.{AcceptorWord}
 use Rattle.rooms_state.specs.ProposerWord.{ProposerWord}
 use Rattle.rooms_state.specs.View.{View}
@@ -193,7 +193,7 @@ module _ (table : RoomAt) (p : Option ℕ) where
   length_shown : (r : List SeenWords) → length (proposers_shown r) ≡ length r
   length_shown r = length-map r proposer_shown
 
-  pub swept_on : (heard : ℕ) (v : View) (node : NodeState) (s : List SeenWords) → IsKept heard (seat_of table v node p s) → node.quorums.nodes ≤ heard → (j : ℕ) → j ≤ node.quorums.nodes → (w : View) (t : List SeenWords) → Swept j v s w t → SweptOn v node s j w t
+  pub swept_on : (heard : ℕ) (v : View) (node : NodeState) (s : List SeenWords) → IsKept heard (seat_of table v node p s) → node.quorums.nodes ≤ heard → (j : ℕ) → j ≤ node.quorums.nodes → (w : View) (t : List SeenWords) → FoundUnchanged j v s w t → SweptOn v node s j w t
   swept_on heard v node s kept all zero most w t h =
       record {
         sound = subst (λ (z : View). IsSound (seat_of table z node p t)) (sym h.0) (subst (λ (xs : List SeenWords). IsSound (seat_of table v node p xs)) (sym h.1) kept.sound);
@@ -214,7 +214,7 @@ module _ (table : RoomAt) (p : Option ℕ) where
       }
 
   -- all nodes were looked at
-  pub all_swept : (heard : ℕ) (v : View) (node : NodeState) (s : List SeenWords) → IsKept heard (seat_of table v node p s) → node.quorums.nodes ≤ heard → (w : View) (t : List SeenWords) → Swept node.quorums.nodes v s w t
+  pub all_swept : (heard : ℕ) (v : View) (node : NodeState) (s : List SeenWords) → IsKept heard (seat_of table v node p s) → node.quorums.nodes ≤ heard → (w : View) (t : List SeenWords) → FoundUnchanged node.quorums.nodes v s w t
       → IsKept heard (seat_of table w node p t) × LookedAtFirst node.quorums.nodes (seat_of table v node p s) (seat_of table w node p t)
   all_swept heard v node s kept all w t h =
       let on = swept_on heard v node s kept all node.quorums.nodes (omega arith) w t h in (
@@ -223,7 +223,7 @@ module _ (table : RoomAt) (p : Option ℕ) where
       )
 
   -- it stopped at a node, and heard what was found
-  pub swept_until : (heard : ℕ) (v : View) (node : NodeState) (s : List SeenWords) → IsKept heard (seat_of table v node p s) → node.quorums.nodes ≤ heard → (j number : ℕ) (w : View) (t : List SeenWords) → StoppedAt j number node.quorums.nodes v s w t
+  pub swept_until : (heard : ℕ) (v : View) (node : NodeState) (s : List SeenWords) → IsKept heard (seat_of table v node p s) → node.quorums.nodes ≤ heard → (j number : ℕ) (w : View) (t : List SeenWords) → FoundChanged j number node.quorums.nodes v s w t
       → (hears : NodeState) → hears ≡ after_hearing node j (promised_in number) (accepted_in number) → (r : List SeenWords) → r ≡ with_acceptor t j number
       → IsKept heard (seat_of table w hears p r) × LookedAtFirst (suc j) (seat_of table v node p s) (seat_of table w hears p r)
   swept_until heard v node s kept all j number w t h hears eh r er =

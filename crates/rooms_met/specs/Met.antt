@@ -5,7 +5,7 @@ use Rattle.paxos_core_world.specs.KeptPart.{IsWithinPromise}
 use Rattle.paxos_core_world.specs.Quorum.{AreQuorums}
 use Rattle.paxos_core_world.specs.World.{Has}
 use Rattle.paxos_core_world.specs.declared.vote.Vote.{Vote}
-use Rattle.rooms_rights.specs.LateOffer.{BelongsButOffer}
+use Rattle.rooms_rights.specs.LateOffer.{BelongsWithLateOffer}
 use Rattle.rooms_rights.specs.Proposer.{next_proposal}
 use Rattle.rooms_state.specs.Views.{IsLegal, BeginsWith}
 use Rattle.rooms_rights.specs.AcceptorWord.{AcceptorWord}
@@ -19,7 +19,7 @@ use Rattle.rooms_state.specs.SeatState.{SeatState, seen_world, acceptor_of, prop
 -- there yet, and what it has learned is learned there
 pub record IsKnown (s : SeatState) : Type 0 where
   pub legal : IsLegal s.view.opening s.view.seen
-  pub belongs : BelongsButOffer s.view.opening.quorums (seen_world s) s.view.node
+  pub belongs : BelongsWithLateOffer s.view.opening.quorums (seen_world s) s.view.node
   pub learned : (v : ℕ) → s.node.learned ≡ Some v → Has (s.node.me, v) (seen_world s).learned
 
 -- its numbers: its quorums meet, its node is one of the room, a vote is within the promise, what was seen started is that node's own, and the

@@ -4,10 +4,10 @@
 #![tactic(auto)]
 
 mod meeting;
-mod seats;
+mod seat;
 
 pub use meeting::meet;
 pub use rooms_function::{
     Alloc, ConstProp, Cse, EquationLists, FactLists, FunctionSeat, PlaceLists,
 };
-pub use seats::Seats;
+pub use seat::NumberedSeat;

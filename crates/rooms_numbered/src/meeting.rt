@@ -2,7 +2,7 @@ ghost use Rattle.std.specs.Prelude.{◌≡◌, ◌≢◌, ◌↔◌, None, IfSom
 ghost use Rattle.rooms_function.specs.Met.{IsOneFunction};
 ghost use Rattle.rooms_numbered.specs.FunctionOf.{AreAsBefore, AreStrangers, HaveMetIn};
 
-use crate::seats::Seats;
+use crate::seat::NumberedSeat;
 use rooms_function::FunctionMeeting;
 use rooms_hall::Naming;
 
@@ -10,7 +10,10 @@ use rooms_hall::Naming;
 /// have two numbers, and no word is loaded; of one, each loads every word of its table once, pass by pass, and tells the other what it has seen, after
 /// three loads of the hall's word.
 #[tactic(auto, using(crate::proofs::Same::same_function))]
-pub fn meet<H: Naming>(first: &mut Seats<H>, second: &mut Seats<H>) -> Option<FunctionMeeting>
+pub fn meet<H: Naming>(
+    first: &mut NumberedSeat<H>,
+    second: &mut NumberedSeat<H>,
+) -> Option<FunctionMeeting>
     ensures strangers { result ≡ None → AreStrangers first.old.seat second.old.seat }
     ensures numbers { (result ≡ None) ↔ (first.old.claim.number ≢ second.old.claim.number) }
     ensures apart { AreAsBefore result first.old.seat second.old.seat first.new.seat second.new.seat }

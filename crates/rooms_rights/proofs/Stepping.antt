@@ -10,7 +10,7 @@ use Rattle.rooms_table.specs.Deal.{all_informed, first_node, nowhere, other_node
 use Rattle.rooms_table.specs.Family.{rooms_in, view_in, FamilyRule}
 use Rattle.rooms_table.specs.Places.{place_of}
 use Rattle.rooms_table.specs.RoomAt.{RoomAt}
-use Rattle.rooms_table.specs.Steps.{InRoom, ToldIn}
+use Rattle.rooms_table.specs.Steps.{StepsInItsRoom, StepsInRoom}
 use Rattle.rooms_table.specs.declared.view.Openings.{Openings}
 use Rattle.rooms_table.specs.declared.view.Views.{Views}
 use Rattle.rooms_table.proofs.Dealing.{deals_nodes, hears, informed_in, rooms_informed, tells, witness_in}
@@ -38,25 +38,25 @@ module _ (board : TableId) (at : RoomAt) (id : ℕ) (me : Me (Unit {0}) Views) (
     pub may_in_table : (f number : ℕ → ℕ)
         → MayStep record { at = at; id = id; me = (view_in me.0 at.room, me.1) } word f (λ n. T (step at.table.slots word first second none) (view_in me.0 at.room, me.1) (number n))
         → (o : Openings) (t : TableId) → at.table ≡ t
-        → (place < t.words) × Allows (FamilyRule o) t.slots id me place f (λ n. InRoom T (step t.slots place first second none) me (number n))
+        → (place < t.words) × Allows (FamilyRule o) t.slots id me place f (λ n. StepsInItsRoom T (step t.slots place first second none) me (number n))
     may_in_table f number may o t same =
-        subst (λ (u : TableId). (place < u.words) × Allows (FamilyRule o) u.slots id me place f (λ n. InRoom T (step u.slots place first second none) me (number n))) same (
+        subst (λ (u : TableId). (place < u.words) × Allows (FamilyRule o) u.slots id me place f (λ n. StepsInItsRoom T (step u.slots place first second none) me (number n))) same (
           subst (λ (n : ℕ). place < n) (sym may.words.words)
               (subst (λ (p : ℕ). p < 2 * ((view_in me.0 at.room).opening.quorums.nodes * at.rooms)) (sym stands) (place_below at.rooms at.room (view_in me.0 at.room).opening.quorums.nodes word rights.number may.below)),
-          subst (λ (p : ℕ). Allows (FamilyRule o) at.table.slots id me p f (λ n. InRoom T (step at.table.slots p first second none) me (number n))) place_is
+          subst (λ (p : ℕ). Allows (FamilyRule o) at.table.slots id me p f (λ n. StepsInItsRoom T (step at.table.slots p first second none) me (number n))) place_is
               (plays o at.table.slots id me at.room word f number first second none T is_room may.below may.seated may.allowed),
         )
 
-    told_here : (slots n : ℕ) (after : Me (Unit {0}) Views) → InRoom T (step slots place first second none) me n after → ToldIn T at.room word (step slots place first second none) me n after
+    told_here : (slots n : ℕ) (after : Me (Unit {0}) Views) → StepsInItsRoom T (step slots place first second none) me n after → StepsInRoom T at.room word (step slots place first second none) me n after
     told_here slots n after told = told at.room word (sym place_is) is_room
 
     -- it is told as if the room were alone
-    pub told_alone : (t : TableId) (n : ℕ) (after : Me (Unit {0}) Views) → at.table ≡ t → InRoom T (step t.slots place first second none) me n after
+    pub told_alone : (t : TableId) (n : ℕ) (after : Me (Unit {0}) Views) → at.table ≡ t → StepsInItsRoom T (step t.slots place first second none) me n after
         → T (step at.table.slots word first second none) (view_in me.0 at.room, me.1) n (view_in after.0 at.room, after.1)
     told_alone t n after same told =
         subst (λ (u : TableId). T (step u.slots word first second none) (view_in me.0 at.room, me.1) n (view_in after.0 at.room, after.1)) (sym same) (told_here t.slots n after told).there
 
-    pub rights_after : (slots n : ℕ) (after : Me (Unit {0}) Views) → InRoom T (step slots place first second none) me n after → (u : TableId) → u ≡ at.table
+    pub rights_after : (slots n : ℕ) (after : Me (Unit {0}) Views) → StepsInItsRoom T (step slots place first second none) me n after → (u : TableId) → u ≡ at.table
         → HasRights board record { table = u; rooms = at.rooms; room = at.room; number = at.number } after.0
     rights_after slots n after told u is =
         let here = told_here slots n after told in

@@ -15,12 +15,12 @@ use Rattle.rooms_steps.proofs.Looks.{looks_at_acceptor, looks_at_proposer}
 use Rattle.rooms_table.specs.Family.{view_in, FamilyRule}
 use Rattle.rooms_table.specs.Places.{pair_of, place_of}
 use Rattle.rooms_table.specs.RoomAt.{HasWords, RoomAt}
-use Rattle.rooms_table.specs.Steps.{InRoom}
+use Rattle.rooms_table.specs.Steps.{StepsInItsRoom}
 use Rattle.rooms_table.specs.declared.view.Openings.{Openings}
 use Rattle.rooms_table.specs.declared.view.Views.{Views}
 use Rattle.rooms_table.proofs.Places.{acceptor_place, proposer_place}
 use Rattle.rooms_rights.specs.Rights.{HasRights, Held}
-use Rattle.rooms_rights.specs.Sweep.{none_seen, seen_of, with_proposer, Found, LookedAtNode, MayLook, MaySweep, StoppedAt, Swept}
+use Rattle.rooms_rights.specs.Sweep.{none_seen, seen_of, with_proposer, Found, LookedAtNode, MayLook, MaySweep, FoundChanged, FoundUnchanged}
 use Rattle.rooms_rights.specs.declared.seen.SeenWords.{SeenWords}
 use Rattle.rooms_rights.proofs.Openings.{any_default}
 use Rattle.rooms_rights.proofs.Stepping.{may_in_table, rights_after, told_alone}
@@ -69,7 +69,7 @@ module _ (board : TableId) (h : Held) (count : ℕ) where
     -- ---- its proposer's word
 
     pub may_look_proposer : (id : ℕ) (o : Openings) (t : TableId) → board ≡ t
-        → (table ≡ t) × (place < t.words) × Allows (FamilyRule o) t.slots id me place (λ n. n) (λ n. InRoom {S = Unit {0}} ProposerLook (step t.slots place 0 0 none) me n)
+        → (table ≡ t) × (place < t.words) × Allows (FamilyRule o) t.slots id me place (λ n. n) (λ n. StepsInItsRoom {S = Unit {0}} ProposerLook (step t.slots place 0 0 none) me n)
     may_look_proposer id o t same =
         let both = may_in_table board (at table) id me may.rights (2 * j) place 0 0 ProposerLook first_place (λ n. n) (λ n. n)
         record {
@@ -80,7 +80,7 @@ module _ (board : TableId) (h : Held) (count : ℕ) where
         } o t (may.rights.same ∙ same) in
         (may.rights.same ∙ same, both.0, both.1)
 
-    module _ (t : TableId) (same : board ≡ t) (n : ℕ) (after : Me (Unit {0}) Views) (told : InRoom {S = Unit {0}} ProposerLook (step t.slots place 0 0 none) me n after) where
+    module _ (t : TableId) (same : board ≡ t) (n : ℕ) (after : Me (Unit {0}) Views) (told : StepsInItsRoom {S = Unit {0}} ProposerLook (step t.slots place 0 0 none) me n after) where
       pub looked_proposer : LooksAtProposer j n (seen_by me) (seen_by after)
       looked_proposer = told_alone board (at table) 0 me may.rights (2 * j) place 0 0 ProposerLook first_place t n after (may.rights.same ∙ same) told j refl below
 
@@ -92,7 +92,7 @@ module _ (board : TableId) (h : Held) (count : ℕ) where
     -- ---- its acceptor's
 
     pub may_look_acceptor : (id : ℕ) (o : Openings) (t : TableId) → board ≡ t
-        → (table ≡ t) × (place + 1 < t.words) × Allows (FamilyRule o) t.slots id me (place + 1) (λ n. n) (λ n. InRoom {S = Unit {0}} AcceptorLook (step t.slots (place + 1) 0 0 none) me n)
+        → (table ≡ t) × (place + 1 < t.words) × Allows (FamilyRule o) t.slots id me (place + 1) (λ n. n) (λ n. StepsInItsRoom {S = Unit {0}} AcceptorLook (step t.slots (place + 1) 0 0 none) me n)
     may_look_acceptor id o t same =
         let both = may_in_table board (at table) id me may.rights (2 * j + 1) (place + 1) 0 0 AcceptorLook second_place (λ n. n) (λ n. n)
         record {
@@ -103,7 +103,7 @@ module _ (board : TableId) (h : Held) (count : ℕ) where
         } o t (may.rights.same ∙ same) in
         (may.rights.same ∙ same, both.0, both.1)
 
-    module _ (t : TableId) (same : board ≡ t) (n : ℕ) (after : Me (Unit {0}) Views) (told : InRoom {S = Unit {0}} AcceptorLook (step t.slots (place + 1) 0 0 none) me n after) where
+    module _ (t : TableId) (same : board ≡ t) (n : ℕ) (after : Me (Unit {0}) Views) (told : StepsInItsRoom {S = Unit {0}} AcceptorLook (step t.slots (place + 1) 0 0 none) me n after) where
       pub looked_acceptor : LooksAtAcceptor j n (seen_by me) (seen_by after)
       looked_acceptor = told_alone board (at table) 0 me may.rights (2 * j + 1) (place + 1) 0 0 AcceptorLook second_place t n after (may.rights.same ∙ same) told j refl below
 
@@ -117,7 +117,7 @@ module _ (board : TableId) (h : Held) (count : ℕ) where
   -- it has looked at the first j nodes, and may go on
   pub record SoFar (s : List SeenWords) (j : ℕ) (table : TableId) (me : Me (Unit {0}) Views) (t : List SeenWords) : Type 0 where
     pub may : MayLook board h count table me
-    pub swept : Swept j h.me.0 s (view_in me.0 h.at.room) t
+    pub swept : FoundUnchanged j h.me.0 s (view_in me.0 h.at.room) t
     pub row : length t ≡ 7
 
   -- one node more
@@ -157,12 +157,12 @@ module _ (board : TableId) (h : Held) (count : ℕ) where
     one_more d e =
         record {
           may = may_then;
-          swept = subst (λ (k : ℕ). Swept k h.me.0 s (seen_by after) (set t j put)) (sym (add-one j))
+          swept = subst (λ (k : ℕ). FoundUnchanged k h.me.0 s (seen_by after) (set t j put)) (sym (add-one j))
               (seen_by me, t, so.swept, subst (λ (k : ℕ). LookedAtNode j k (seen_by me) t (seen_by after) (set t j put)) (e ∙ there d) looked_at);
           row = length-set t j put ∙ so.row;
         }
 
-    pub stopped : (d : SeenWords) → n ≢ (get_or (set t j put) j d).acceptor → StoppedAt j n count h.me.0 s (seen_by after) (set t j put)
+    pub stopped : (d : SeenWords) → n ≢ (get_or (set t j put) j d).acceptor → FoundChanged j n count h.me.0 s (seen_by after) (set t j put)
     stopped d away =
         record {
           node = lt;

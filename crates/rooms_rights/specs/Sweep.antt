@@ -9,7 +9,7 @@ use Rattle.rooms_rule.specs.declared.view.View.{View}
 use Rattle.rooms_table.specs.Family.{view_in}
 use Rattle.rooms_table.specs.Places.{pair_of}
 use Rattle.rooms_table.specs.RoomAt.{HasWords}
-use Rattle.rooms_table.specs.Steps.{InRoom}
+use Rattle.rooms_table.specs.Steps.{StepsInItsRoom}
 use Rattle.rooms_table.specs.declared.view.Views.{Views}
 use Rattle.rooms_rights.specs.Rights.{HasRights, Held}
 use Rattle.rooms_rights.specs.declared.seen.SeenWords.{SeenWords}
@@ -33,8 +33,8 @@ pub record CanLook (board table : TableId) (me : Me (Unit {0}) Views) (place : �
 -- it looked at both words of a node, and these numbers are what it found of its proposer's and then of its acceptor's
 pub record Found (slots place : ℕ) (v : Me (Unit {0}) Views) (proposer acceptor : ℕ) (w : Me (Unit {0}) Views) : Type 0 where
   pub between : Me (Unit {0}) Views
-  pub first : InRoom {S = Unit {0}} ProposerLook (step slots place 0 0 none) v proposer between
-  pub second : InRoom {S = Unit {0}} AcceptorLook (step slots (place + 1) 0 0 none) between acceptor w
+  pub first : StepsInItsRoom {S = Unit {0}} ProposerLook (step slots place 0 0 none) v proposer between
+  pub second : StepsInItsRoom {S = Unit {0}} AcceptorLook (step slots (place + 1) 0 0 none) between acceptor w
 
 -- it may sweep the words of so many nodes, the room's
 pub record MaySweep (h : Held) (n : ℕ) : Type 0 where
@@ -63,20 +63,20 @@ pub record LookedAtNode (j number : ℕ) (v : View) (s : List SeenWords) (w : Vi
   pub put : t ≡ with_proposer s j found
 
 -- it looked so at the first nodes, one after another, and found each acceptor's number as it was seen last
-abbrev pub Swept : ℕ → View → List SeenWords → View → List SeenWords → Type 0
-Swept zero v s w t = (w ≡ v) × (t ≡ s)
-Swept (suc j) v s w t = (u : View) × (r : List SeenWords) × Swept j v s u r × LookedAtNode j (seen_of r j).acceptor u r w t
+abbrev pub FoundUnchanged : ℕ → View → List SeenWords → View → List SeenWords → Type 0
+FoundUnchanged zero v s w t = (w ≡ v) × (t ≡ s)
+FoundUnchanged (suc j) v s w t = (u : View) × (r : List SeenWords) × FoundUnchanged j v s u r × LookedAtNode j (seen_of r j).acceptor u r w t
 
 -- it stopped at node j, where it found another number of the acceptor's
-pub record StoppedAt (j number count : ℕ) (v : View) (s : List SeenWords) (w : View) (t : List SeenWords) : Type 0 where
+pub record FoundChanged (j number count : ℕ) (v : View) (s : List SeenWords) (w : View) (t : List SeenWords) : Type 0 where
   pub node : j < count
   pub before : View
   pub seen : List SeenWords
-  pub swept : Swept j v s before seen
+  pub swept : FoundUnchanged j v s before seen
   pub looked : LookedAtNode j number before seen w t
   pub other : number ≢ (seen_of seen j).acceptor
 
 -- it looked at all of so many nodes, or stopped at one
 abbrev pub SweptTo : Option (ℕ × ℕ) → ℕ → View → List SeenWords → View → List SeenWords → Type 0
-SweptTo None count v s w t = Swept count v s w t
-SweptTo (Some stop) count v s w t = StoppedAt stop.0 stop.1 count v s w t
+SweptTo None count v s w t = FoundUnchanged count v s w t
+SweptTo (Some stop) count v s w t = FoundChanged stop.0 stop.1 count v s w t

@@ -11,7 +11,7 @@ use Rattle.paxos_core.specs.Msg.{Msg}
 use Rattle.paxos_core.specs.NodeState.{NodeState}
 use Rattle.paxos_core.specs.Reached.{IsReached}
 use Rattle.paxos_core.specs.Takes.{AreStepsOf}
-use Rattle.paxos_core.specs.LateOffer.{BelongsButOffer, TakesLate}
+use Rattle.paxos_core.specs.LateOffer.{BelongsWithLateOffer, TakesLate}
 use Rattle.rooms_rule.specs.declared.event.Event.{Event}
 use Rattle.rooms_rule.specs.declared.view.Opening.{Opening}
 use Rattle.rooms_rule.specs.declared.view.View.{View}
@@ -42,7 +42,7 @@ module _ {S : Type 0} (s : State S View) (id : ℕ) (v : View) (rule : RoomRule 
   world = world_after v.opening rule.run
 
   -- its node belongs to the world, which is reached by a run
-  pub belongs_now : BelongsButOffer v.opening.quorums (world_after v.opening rule.run) v.node
+  pub belongs_now : BelongsWithLateOffer v.opening.quorums (world_after v.opening rule.run) v.node
   belongs_now = (rule.views id v at).belongs (seated_mine v seated)
 
   pub reached_now : IsReached v.opening.quorums (world_after v.opening rule.run)
@@ -55,8 +55,8 @@ module _ {S : Type 0} (s : State S View) (id : ℕ) (v : View) (rule : RoomRule 
     own : AreStepsOf v.opening.quorums.nodes v.node.me steps
     own = subst (λ (i : ℕ). AreStepsOf v.opening.quorums.nodes i steps) me takes.own
 
-    belongs : BelongsButOffer v.opening.quorums (world_after v.opening (events_of steps ++ rule.run)) t
-    belongs = subst (λ (x : World). BelongsButOffer v.opening.quorums x t) (sym (world_after-events v.opening steps rule.run)) takes.belongs
+    belongs : BelongsWithLateOffer v.opening.quorums (world_after v.opening (events_of steps ++ rule.run)) t
+    belongs = subst (λ (x : World). BelongsWithLateOffer v.opening.quorums x t) (sym (world_after-events v.opening steps rule.run)) takes.belongs
 
     legal : IsLegal v.opening (events_of steps ++ rule.run)
     legal = legal_more v.opening steps rule.run rule.legal takes.run
@@ -100,7 +100,7 @@ module _ {S : Type 0} (s : State S View) (id : ℕ) (v : View) (rule : RoomRule 
           told = begins_longer (events_of steps) rule.run u.told h.told;
           told_by = h.told_by;
           belongs = λ mine.
-              subst (λ (x : World). BelongsButOffer v.opening.quorums x u.node) (sym (world_after-events v.opening steps rule.run))
+              subst (λ (x : World). BelongsWithLateOffer v.opening.quorums x u.node) (sym (world_after-events v.opening steps rule.run))
               (others_leave v.opening.quorums (world_after v.opening rule.run) u.node steps (others_of_own v.opening.quorums.nodes u.node.me v.node.me steps own (apart u.node.me mine)) (h.belongs mine));
         }
 

@@ -14,7 +14,7 @@ use Rattle.paxos_core.specs.Msg.{Msg}
 use Rattle.paxos_core.specs.Vote.{Vote}
 use Rattle.paxos_core.specs.NodeState.{node_with}
 use Rattle.paxos_core.proofs.BelongsLemmas.{belongs_with}
-use Rattle.paxos_core.specs.LateOffer.{BelongsButOffer}
+use Rattle.paxos_core.specs.LateOffer.{BelongsWithLateOffer}
 use Rattle.paxos_core.proofs.LateLemmas.{offers_may_be_late}
 use Rattle.rooms_rule.specs.Words.{IsProposerWord}
 use Rattle.rooms_rule.specs.declared.event.Event.{Event}
@@ -98,7 +98,7 @@ module _ {S : Type 0} (o : Opening) (id : ℕ) (v left right : View)
           ]
 
 -- a node belongs to its room as it opens, and as long as others alone take steps
-pub opens_with : (o : Opening) (i : ℕ) → AreQuorums o.quorums → Settled o.quorums (nodes_of o.kept) → i < o.quorums.nodes → BelongsButOffer o.quorums (world_after o []) (dealt_node o i)
+pub opens_with : (o : Opening) (i : ℕ) → AreQuorums o.quorums → Settled o.quorums (nodes_of o.kept) → i < o.quorums.nodes → BelongsWithLateOffer o.quorums (world_after o []) (dealt_node o i)
 opens_with o i sizes settled lt =
     (offers_may_be_late.offer (node_with i o.quorums (nodes_of o.kept i)) o.quorums (world_after o []) (legal_reached o [] record { sizes = sizes; settled = settled; run = tt })
     (inl (belongs_with o.quorums (world_after o []) i (nodes_of o.kept i) lt refl))).belongs
@@ -115,7 +115,7 @@ dealt_fits o k e i end run legal h low high most =
       belongs = λ mine.
           let here : i < end = mine.1 in
           let world : world_after o run ≡ reached (world_after o []) (labels_of h.later) = ap (λ (r : List Event). world_after o r) h.seen ∙ world_after-append o h.later [] in
-          subst (λ (x : World). BelongsButOffer o.quorums x (dealt_node o i)) (sym world)
+          subst (λ (x : World). BelongsWithLateOffer o.quorums x (dealt_node o i)) (sym world)
           (others_leave o.quorums (world_after o []) (dealt_node o i) (labels_of h.later) (h.quiet i (wider i mine)) (opens_with o i legal.sizes legal.settled (omega arith)));
     }
   where

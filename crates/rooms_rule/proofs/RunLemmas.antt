@@ -13,7 +13,7 @@ use Rattle.paxos_core.specs.Agreement.{world_of}
 use Rattle.paxos_core.specs.NodeState.{NodeState}
 use Rattle.paxos_core.specs.Reached.{IsReached}
 use Rattle.paxos_core.specs.Takes.{AreStepsOf}
-use Rattle.paxos_core.specs.LateOffer.{BelongsButOffer}
+use Rattle.paxos_core.specs.LateOffer.{BelongsWithLateOffer}
 use Rattle.paxos_core.proofs.LateLemmas.{others_leave_it}
 use Rattle.rooms_rule.specs.declared.event.Event.{Event}
 use Rattle.rooms_rule.specs.declared.view.Opening.{Opening}
@@ -100,7 +100,7 @@ pub others_of_own : (n i j : ℕ) (ls : List Label) → AreStepsOf n j ls → i 
 others_of_own n i j [] h d = tt
 others_of_own n i j (l ∷ ls) h d = ((j, h.0, d), others_of_own n i j ls h.1 d)
 
-pub others_leave : (q : Sizes) (w : World) (s : NodeState) (ls : List Label) → AreStepsOfOthers q.nodes s.me ls → BelongsButOffer q w s → BelongsButOffer q (reached w ls) s
+pub others_leave : (q : Sizes) (w : World) (s : NodeState) (ls : List Label) → AreStepsOfOthers q.nodes s.me ls → BelongsWithLateOffer q w s → BelongsWithLateOffer q (reached w ls) s
 others_leave q w s [] o h = h
 others_leave q w s (l ∷ ls) o h =
     let first = o.0 in
@@ -131,6 +131,6 @@ started_own q w i r h =
 -- ---- what stands in the world of a node that belongs to it
 
 -- a part of what is kept, that is not the offer, is the node's
-pub kept_of : {A : Type 0} (q : Sizes) (w : World) (s : NodeState) (f : KeptPart → A) → ((k : KeptPart) → f (without_offer k) ≡ f k) → BelongsButOffer q w s → f (w.nodes s.me) ≡ f s.kept
+pub kept_of : {A : Type 0} (q : Sizes) (w : World) (s : NodeState) (f : KeptPart → A) → ((k : KeptPart) → f (without_offer k) ≡ f k) → BelongsWithLateOffer q w s → f (w.nodes s.me) ≡ f s.kept
 kept_of q w s f same (inl h) = ap f h.kept
 kept_of q w s f same (inr h) = ap f h.kept ∙ same s.kept

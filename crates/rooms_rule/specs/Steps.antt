@@ -8,7 +8,7 @@ use Rattle.paxos_core.specs.Takes.{AreStepsOf}
 use Rattle.paxos_core.specs.Would.{after_act, taken_by_act}
 use Rattle.paxos_core.specs.Act.{Act}
 use Rattle.paxos_core.specs.Act.TheVariants as act
-use Rattle.paxos_core.specs.LateOffer.{BelongsButOffer}
+use Rattle.paxos_core.specs.LateOffer.{BelongsWithLateOffer}
 use Rattle.rooms_rule.specs.Words.{promised_in, accepted_in}
 use Rattle.rooms_rule.specs.declared.event.Event.{Event}
 use Rattle.rooms_rule.specs.declared.view.View.{View}
@@ -28,7 +28,7 @@ pub record Advances (v : View) (steps : List Label) (t : NodeState) (w : View) :
   pub told : BeginsWith w.seen v.told
   pub told_by : v.told_by ≡ v.opening
   pub stays : w ≡ record v { seen = w.seen; node = t }
-  pub belongs : BelongsButOffer v.opening.quorums (world_after v.opening w.seen) t
+  pub belongs : BelongsWithLateOffer v.opening.quorums (world_after v.opening w.seen) t
 
 -- the steps of an act of the node: its own and, with a proposal of its own number, at most its offer before it
 abbrev pub AreTakenBy : NodeState → Act → List Label → Type 0

@@ -4,7 +4,7 @@ use Rattle.paxos_core.specs.Step.{Label}
 use Rattle.paxos_core.specs.World.{World, nodes_of}
 use Rattle.paxos_core.specs.Agreement.{IsSettledRun, world_of}
 use Rattle.paxos_core.specs.Takes.{IsStepOf}
-use Rattle.paxos_core.specs.LateOffer.{BelongsButOffer}
+use Rattle.paxos_core.specs.LateOffer.{BelongsWithLateOffer}
 use Rattle.rooms_rule.specs.declared.event.Event.{Event}
 use Rattle.rooms_rule.specs.declared.view.Opening.{Opening}
 use Rattle.rooms_rule.specs.declared.view.View.{View}
@@ -50,4 +50,4 @@ pub record Fits (o : Opening) (run : List Event) (v : View) : Type 0 where
   pub quiet : (i : ℕ) → IsMine v i → AreStepsOfOthers o.quorums.nodes i (labels_of later)
   pub told : BeginsWith run v.told
   pub told_by : v.live ≡ true → v.told_by ≡ o
-  pub belongs : IsMine v v.node.me → BelongsButOffer o.quorums (world_after o run) v.node
+  pub belongs : IsMine v v.node.me → BelongsWithLateOffer o.quorums (world_after o run) v.node

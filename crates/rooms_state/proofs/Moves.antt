@@ -12,7 +12,7 @@ use Rattle.paxos_core_law.specs.Learner.{after_promise, notes_promise, notes_vot
 use Rattle.paxos_core_law.specs.NodeState.{NodeState, offered, restarted}
 use Rattle.paxos_core_law.specs.Reached.{IsReached}
 use Rattle.paxos_core_law.specs.Taken.{taken_by_restart}
-use Rattle.rooms_steps.specs.LateOffer.{BelongsButOffer}
+use Rattle.rooms_steps.specs.LateOffer.{BelongsWithLateOffer}
 use Rattle.rooms_steps.specs.Words.{started_in, proposed_in, promised_in, accepted_in}
 use Rattle.rooms_steps.specs.AcceptorWord.{AcceptorWord}
 use Rattle.rooms_steps.specs.ProposerWord.{ProposerWord}
@@ -38,11 +38,11 @@ use Rattle.rooms_state.specs.Did.{LookedAtAcceptor, LookedAtProposer, Forgotten}
 use Rattle.rooms_state.specs.SeatState.{SeatState, no_proposer, no_acceptor, proposer_of, acceptor_of, own_words, seen_world}
 use Rattle.rooms_state.specs.Sound.{IsSound}
 
-pub number_below : (q : Sizes) (w : World) (s : NodeState) → BelongsButOffer q w s → s.me < q.nodes
+pub number_below : (q : Sizes) (w : World) (s : NodeState) → BelongsWithLateOffer q w s → s.me < q.nodes
 number_below q w s (inl h) = h.number
 number_below q w s (inr h) = h.number
 
-quorums_are : (q : Sizes) (w : World) (s : NodeState) → BelongsButOffer q w s → s.quorums ≡ q
+quorums_are : (q : Sizes) (w : World) (s : NodeState) → BelongsWithLateOffer q w s → s.quorums ≡ q
 quorums_are q w s (inl h) = h.quorums
 quorums_are q w s (inr h) = h.quorums
 

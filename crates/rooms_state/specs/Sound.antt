@@ -2,7 +2,7 @@
 use Rattle.std.specs.Prelude.{◌≡◌, ℕ, ◌<◌, ◌≤◌, ◌⊎◌, length}
 use Rattle.paxos_core_world.specs.Ballot.{Owns}
 use Rattle.paxos_core_law.specs.NodeState.{offered}
-use Rattle.rooms_steps.specs.LateOffer.{BelongsButOffer}
+use Rattle.rooms_steps.specs.LateOffer.{BelongsWithLateOffer}
 use Rattle.rooms_steps.specs.Words.{proposed_in}
 use Rattle.rooms_steps.specs.Sight.{ProposerSeen, AcceptorSeen}
 use Rattle.rooms_steps.specs.Views.{IsLegal, IsSeated}
@@ -21,7 +21,7 @@ pub record IsSound (s : SeatState) : Type 0 where
   pub seated : IsSeated s.view
   pub node : s.view.node ≡ offered s.node
   pub legal : IsLegal s.view.opening s.view.seen
-  pub belongs : BelongsButOffer s.view.opening.quorums (seen_world s) s.view.node
+  pub belongs : BelongsWithLateOffer s.view.opening.quorums (seen_world s) s.view.node
   pub own_word : ℕ
   pub own : IsProposerOf (seen_world s) s.node.me own_word
   pub proposed : proposed_in own_word ≡ s.proposed

@@ -12,7 +12,7 @@ use Rattle.rooms_rule.specs.Acceptor.{is_vote}
 use Rattle.rooms_rule.specs.Learner.{is_report, is_under_way, notes_promise, after_promise, notes_vote}
 use Rattle.rooms_rule.specs.NodeState.{NodeState}
 use Rattle.rooms_rule.specs.Reached.{IsReached}
-use Rattle.rooms_rule.specs.LateOffer.{BelongsButOffer, TakesLate}
+use Rattle.rooms_rule.specs.LateOffer.{BelongsWithLateOffer, TakesLate}
 use Rattle.rooms_rule.proofs.LateLemmas.{offers_may_be_late}
 use Rattle.rooms_rule.specs.Heard.{after_shown_vote, taken_on_vote, after_hearing, taken_by_hearing}
 
@@ -41,16 +41,16 @@ not_own_ballot n b (Some x) v e h =
     ballot_of : (x y : Vote) → ◌≡◌ {A = Option Vote} (Some x) (Some y) → x.ballot ≡ y.ballot
     ballot_of x y e = cc
 
-begun_of : (q : Sizes) (w : World) (s : NodeState) (b : ℕ) → BelongsButOffer q w s → s.ballot ≡ Some b → Has b w.begun
+begun_of : (q : Sizes) (w : World) (s : NodeState) (b : ℕ) → BelongsWithLateOffer q w s → s.ballot ≡ Some b → Has b w.begun
 begun_of q w s b (inl h) e = (h.ballot b e).begun
 begun_of q w s b (inr h) e = (h.ballot b e).begun
 
-belongs_unless : (q : Sizes) (w : World) (t : Bool) (u s : NodeState) → t ≡ false → BelongsButOffer q w s → BelongsButOffer q w (cond t u s)
+belongs_unless : (q : Sizes) (w : World) (t : Bool) (u s : NodeState) → t ≡ false → BelongsWithLateOffer q w s → BelongsWithLateOffer q w (cond t u s)
 belongs_unless q w true u s e h = absurd (cc)
 belongs_unless q w false u s e h = h
 
 module _ (q : Sizes) (w : World) (r : IsReached q w) (j : ℕ) (lt : j < q.nodes) where
-  promise_by : (s : NodeState) → BelongsButOffer q w s → (t : Bool) → notes_promise s j (w.nodes j).promised (w.nodes j).accepted ≡ t → BelongsButOffer q w (after_promise s j (w.nodes j).promised (w.nodes j).accepted)
+  promise_by : (s : NodeState) → BelongsWithLateOffer q w s → (t : Bool) → notes_promise s j (w.nodes j).promised (w.nodes j).accepted ≡ t → BelongsWithLateOffer q w (after_promise s j (w.nodes j).promised (w.nodes j).accepted)
   promise_by s h false e = belongs_unless q w (notes_promise s j (w.nodes j).promised (w.nodes j).accepted) _ s e h
   promise_by s h true e =
       let parts = noted_parts _ _ (is_report s.quorums.nodes (w.nodes j).promised (w.nodes j).accepted) (is_under_way s.ballot (w.nodes j).promised) e in
@@ -60,12 +60,12 @@ module _ (q : Sizes) (w : World) (r : IsReached q w) (j : ℕ) (lt : j < q.nodes
         | inr own ↦ absurd (not_own_ballot s.quorums.nodes (w.nodes j).promised (w.nodes j).accepted own.0 own.1 parts.0)
       ]
 
-  vote_by : (s : NodeState) → BelongsButOffer q w s → (x : Option Vote) → (w.nodes j).accepted ≡ x → TakesLate q w (taken_on_vote s j x) (after_shown_vote s j x) None
+  vote_by : (s : NodeState) → BelongsWithLateOffer q w s → (x : Option Vote) → (w.nodes j).accepted ≡ x → TakesLate q w (taken_on_vote s j x) (after_shown_vote s j x) None
   vote_by s h None e = record { run = tt; own = tt; belongs = h; sent = tt }
   vote_by s h (Some x) e = offers_may_be_late.message s (Accepted j x.ballot x.value) q w r h ((invariant_of q w r).kept j x lt e)
 
   -- a look at node j's acceptor, in the world in which its word is found
-  pub hearing_takes : (s : NodeState) → BelongsButOffer q w s → TakesLate q w (taken_by_hearing s j (w.nodes j).promised (w.nodes j).accepted) (after_hearing s j (w.nodes j).promised (w.nodes j).accepted) None
+  pub hearing_takes : (s : NodeState) → BelongsWithLateOffer q w s → TakesLate q w (taken_by_hearing s j (w.nodes j).promised (w.nodes j).accepted) (after_hearing s j (w.nodes j).promised (w.nodes j).accepted) None
   hearing_takes s h =
       vote_by (after_promise s j (w.nodes j).promised (w.nodes j).accepted)
       (promise_by s h (notes_promise s j (w.nodes j).promised (w.nodes j).accepted) refl) (w.nodes j).accepted refl

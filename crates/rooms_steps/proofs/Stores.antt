@@ -24,7 +24,7 @@ use Rattle.rooms_rule.specs.Would.{after_act, taken_by_act}
 use Rattle.rooms_rule.specs.Act.{Act}
 use Rattle.rooms_rule.specs.Act.TheVariants as act
 use Rattle.rooms_rule.proofs.WorldLemmas.{grows_by}
-use Rattle.rooms_rule.specs.LateOffer.{unoffered, BelongsButOffer, TakesLate, owes_offer, taken_late_by_propose}
+use Rattle.rooms_rule.specs.LateOffer.{unoffered, BelongsWithLateOffer, TakesLate, owes_offer, taken_late_by_propose}
 use Rattle.rooms_rule.proofs.LateLemmas.{offers_may_be_late}
 use Rattle.rooms_rule.specs.Words.{promised_in, accepted_in, IsProposerWord, IsAcceptorWord}
 use Rattle.rooms_rule.specs.declared.event.Event.{Event}
@@ -40,7 +40,7 @@ use Rattle.rooms_steps.proofs.OfferLemmas.{message_offered, proposal_offered}
 use Rattle.rooms_rule.proofs.RunLemmas.{world_after-events, world_after-append, others_of_own, kept_of}
 use Rattle.rooms_rule.proofs.WordLemmas.{KeepsProposers, proposer_kept, acceptor_kept, proposer_of_others, acceptor_of_others, shows_acceptor, shows_proposer}
 
-below_count : (q : Sizes) (w : World) (s : NodeState) → BelongsButOffer q w s → s.me < q.nodes
+below_count : (q : Sizes) (w : World) (s : NodeState) → BelongsWithLateOffer q w s → s.me < q.nodes
 below_count q w s (inl h) = h.number
 below_count q w s (inr h) = h.number
 
@@ -112,7 +112,7 @@ module _ {S : Type 0} (o : Opening) (slots id : ℕ) (me : Me S View) (number : 
               };
         })
       where
-        here_is : (q : Sizes) (x : World) → BelongsButOffer q x (after_message me.0.node m) → IsAcceptorOf x me.0.node.me number
+        here_is : (q : Sizes) (x : World) → BelongsWithLateOffer q x (after_message me.0.node m) → IsAcceptorOf x me.0.node.me number
         here_is q x h =
             subst (λ (i : ℕ). IsAcceptorWord number (x.nodes i).promised (x.nodes i).accepted) same_me
             (subst (λ (p : ℕ). IsAcceptorWord number p (x.nodes (after_message me.0.node m).me).accepted) (sym (kept_of q x (after_message me.0.node m) (λ (k : KeptPart). k.promised) (λ k. refl) h))
@@ -176,11 +176,11 @@ none_under b (Propose c v ∷ ms) h = other (eqb c b) refl (none_under b ms (λ 
 unproposed_here : (q : Sizes) (w : World) (s : NodeState) (b : ℕ) → Belongs q w s → s.ballot ≡ Some b → s.proposed ≡ false → (s.kept.started ≡ b) × (proposed_under b w.sent ≡ None)
 unproposed_here q w s b h e f = (h.started b e, none_under b w.sent ((h.ballot b e).unproposed f))
 
-fresh_here : (q : Sizes) (w : World) (s : NodeState) (b : ℕ) → BelongsButOffer q w s → s.ballot ≡ Some b → s.proposed ≡ false → (s.kept.started ≡ b) × (proposed_under b w.sent ≡ None)
+fresh_here : (q : Sizes) (w : World) (s : NodeState) (b : ℕ) → BelongsWithLateOffer q w s → s.ballot ≡ Some b → s.proposed ≡ false → (s.kept.started ≡ b) × (proposed_under b w.sent ≡ None)
 fresh_here q w s b (inl h) e f = unproposed_here q w s b h e f
 fresh_here q w s b (inr h) e f = unproposed_here q w (unoffered s) b h e f
 
-started_here : (q : Sizes) (w : World) (s : NodeState) (b : ℕ) → BelongsButOffer q w s → s.ballot ≡ Some b → s.kept.started ≡ b
+started_here : (q : Sizes) (w : World) (s : NodeState) (b : ℕ) → BelongsWithLateOffer q w s → s.ballot ≡ Some b → s.kept.started ≡ b
 started_here q w s b (inl h) e = h.started b e
 started_here q w s b (inr h) e = h.started b e
 
@@ -189,8 +189,8 @@ module _ {S : Type 0} (o : Opening) (slots id : ℕ) (me : Me S View) (number : 
     (t : NodeState) (same_me : t.me ≡ me.0.node.me) (same_after : t ≡ after_act me.0.node a)
     (steps : World → List Label) (taken : (w : World) → AreTakenBy me.0.node a (steps w))
     (quiet : (w : World) (i k : ℕ) → IsAcceptorOf w i k → IsAcceptorOf (reached w (steps w)) i k)
-    (takes : (w : World) → IsReached me.0.opening.quorums w → BelongsButOffer me.0.opening.quorums w me.0.node → TakesLate me.0.opening.quorums w (steps w) t answer)
-    (here : (w : World) → BelongsButOffer me.0.opening.quorums w me.0.node → BelongsButOffer me.0.opening.quorums (reached w (steps w)) t → IsProposerOf (reached w (steps w)) me.0.node.me number)
+    (takes : (w : World) → IsReached me.0.opening.quorums w → BelongsWithLateOffer me.0.opening.quorums w me.0.node → TakesLate me.0.opening.quorums w (steps w) t answer)
+    (here : (w : World) → BelongsWithLateOffer me.0.opening.quorums w me.0.node → BelongsWithLateOffer me.0.opening.quorums (reached w (steps w)) t → IsProposerOf (reached w (steps w)) me.0.node.me number)
   where
     stores_proposer : Allows (RoomRule o) slots id me (proposer_at me.0.node.me) (λ _. number) (λ _ w. StoresProposer a number me.0 w.0)
     stores_proposer =
@@ -246,7 +246,7 @@ module _ {S : Type 0} (o : Opening) (slots id : ℕ) (me : Me S View) (number : 
       left : leb (next_ballot me.0.node) 65535 ≡ true
       left = le-leb (next_ballot me.0.node) 65535 low
 
-      is_here : (x : World) → BelongsButOffer me.0.opening.quorums x (started me.0.node) → IsProposerOf x me.0.node.me number
+      is_here : (x : World) → BelongsWithLateOffer me.0.opening.quorums x (started me.0.node) → IsProposerOf x me.0.node.me number
       is_here x h =
           let fresh = fresh_here me.0.opening.quorums x (started me.0.node) (next_ballot me.0.node) h refl refl in
           let at : (x.nodes me.0.node.me).started ≡ next_ballot me.0.node = kept_of me.0.opening.quorums x (started me.0.node) (λ (k : KeptPart). k.started) (λ k. refl) h in
@@ -261,7 +261,7 @@ module _ {S : Type 0} (o : Opening) (slots id : ℕ) (me : Me S View) (number : 
       stores_proposer o slots id me number act.Propose (proposal me.0.node) seated (after_proposal me.0.node) same_me refl (λ w. taken_late_by_propose w me.0.node)
       (λ w. taken_if (owes_offer w me.0.node)) (λ w i k h. quiet_if (owes_offer w me.0.node) w i k h)
       (λ w r h. offers_may_be_late.propose me.0.node me.0.opening.quorums w r h)
-      (λ w before h. is_here (owes_offer w me.0.node) w before (subst (λ (x : NodeState). BelongsButOffer me.0.opening.quorums (reached w (taken_late_by_propose w me.0.node)) x) refl h))
+      (λ w before h. is_here (owes_offer w me.0.node) w before (subst (λ (x : NodeState). BelongsWithLateOffer me.0.opening.quorums (reached w (taken_late_by_propose w me.0.node)) x) refl h))
     where
       own : next_proposal me.0.node ≡ Some (b, v)
       own = ap next_proposal tie ∙ proposal_offered s (b, v) is
@@ -284,8 +284,8 @@ module _ {S : Type 0} (o : Opening) (slots id : ℕ) (me : Me S View) (number : 
       under true w = subst (λ (ls : List Label). proposed_under b (reached w (ls ++ Offers me.0.node.me ∷ [])).sent ≡ Some v) (sym labels) (cond-true (eqb b b) (Some v) (proposed_under b w.sent) (eq-eqb b b refl))
       under false w = subst (λ (ls : List Label). proposed_under b (reached w ls).sent ≡ Some v) (sym labels) (cond-true (eqb b b) (Some v) (proposed_under b w.sent) (eq-eqb b b refl))
 
-      is_here : (t : Bool) (w : World) → BelongsButOffer me.0.opening.quorums w me.0.node
-          → BelongsButOffer me.0.opening.quorums (reached w (cond t (taken_by_propose me.0.node ++ Offers me.0.node.me ∷ []) (taken_by_propose me.0.node))) (after_proposal me.0.node)
+      is_here : (t : Bool) (w : World) → BelongsWithLateOffer me.0.opening.quorums w me.0.node
+          → BelongsWithLateOffer me.0.opening.quorums (reached w (cond t (taken_by_propose me.0.node ++ Offers me.0.node.me ∷ []) (taken_by_propose me.0.node))) (after_proposal me.0.node)
           → IsProposerOf (reached w (cond t (taken_by_propose me.0.node ++ Offers me.0.node.me ∷ []) (taken_by_propose me.0.node))) me.0.node.me number
       is_here t w before h =
           let x : World = reached w (cond t (taken_by_propose me.0.node ++ Offers me.0.node.me ∷ []) (taken_by_propose me.0.node)) in

@@ -14,7 +14,7 @@ use Rattle.rooms_rule.specs.WordsOf.{ShowsWorld}
 use Rattle.rooms_table.specs.Deal.{nowhere}
 use Rattle.rooms_table.specs.Family.{count_of, opening_in, room_in, rooms_in, view_in, words_in, FamilyRule}
 use Rattle.rooms_table.specs.Places.{place_of}
-use Rattle.rooms_table.specs.Steps.{views_with, InRoom, ToldIn}
+use Rattle.rooms_table.specs.Steps.{views_with, StepsInItsRoom, StepsInRoom}
 use Rattle.rooms_table.specs.declared.view.Openings.{Openings}
 use Rattle.rooms_table.specs.declared.view.Views.{Views}
 use Rattle.rooms_table.proofs.Places.{place_below, same_place}
@@ -144,13 +144,13 @@ pub plays : {S : Type 0} (o : Openings) (slots id : ℕ) (me : Me S Views) (room
     (T : Step S → Me S View → ℕ → Me S View → Type 0)
     → room < rooms_in me.0 → k < 2 * (view_in me.0 room).opening.quorums.nodes → IsSeated (view_in me.0 room)
     → ((p : Opening) → Allows (RoomRule p) slots id (view_in me.0 room, me.1) k f (λ n. T (step slots k first second said) (view_in me.0 room, me.1) (number n)))
-    → Allows (FamilyRule o) slots id me (place_of (rooms_in me.0) room k) f (λ n. InRoom T (step slots (place_of (rooms_in me.0) room k) first second said) me (number n))
+    → Allows (FamilyRule o) slots id me (place_of (rooms_in me.0) room k) f (λ n. StepsInItsRoom T (step slots (place_of (rooms_in me.0) room k) first second said) me (number n))
 plays {S} o slots id me room k f number first second said T lt low seated allowed s rule len at bound =
     lifted o slots id me room k f lt low seated (λ n. T (step slots k first second said) (view_in me.0 room, me.1) (number n))
-    (λ n. InRoom T (step slots (place_of (rooms_in me.0) room k) first second said) me (number n)) told allowed s rule len at bound
+    (λ n. StepsInItsRoom T (step slots (place_of (rooms_in me.0) room k) first second said) me (number n)) told allowed s rule len at bound
   where
     here : (n : ℕ) (w : View) (c : List (ℕ × S)) → T (step slots k first second said) (view_in me.0 room, me.1) (number n) (w, c)
-        → ToldIn T room k (step slots (place_of (rooms_in me.0) room k) first second said) me (number n) (views_with me.0 room w, c)
+        → StepsInRoom T room k (step slots (place_of (rooms_in me.0) room k) first second said) me (number n) (views_with me.0 room w, c)
     here n w c h =
         record {
           there = subst (λ (v : View). T (step slots k first second said) (view_in me.0 room, me.1) (number n) (v, c)) (sym (get_or-set_same me.0.rooms room w nobody lt)) h;
@@ -159,11 +159,11 @@ plays {S} o slots id me room k f number first second said T lt low seated allowe
         }
 
     told : (n : ℕ) (w : View) (c : List (ℕ × S)) → T (step slots k first second said) (view_in me.0 room, me.1) (number n) (w, c)
-        → InRoom T (step slots (place_of (rooms_in me.0) room k) first second said) me (number n) (views_with me.0 room w, c)
+        → StepsInItsRoom T (step slots (place_of (rooms_in me.0) room k) first second said) me (number n) (views_with me.0 room w, c)
     told n w c h other j e ol =
         let same = same_place (rooms_in me.0) room k other j lt ol e in
-        subst (λ (r : ℕ). ToldIn T r j (step slots (place_of (rooms_in me.0) room k) first second said) me (number n) (views_with me.0 room w, c)) same.0
-        (subst (λ (i : ℕ). ToldIn T room i (step slots (place_of (rooms_in me.0) room k) first second said) me (number n) (views_with me.0 room w, c)) same.1 (here n w c h))
+        subst (λ (r : ℕ). StepsInRoom T r j (step slots (place_of (rooms_in me.0) room k) first second said) me (number n) (views_with me.0 room w, c)) same.0
+        (subst (λ (i : ℕ). StepsInRoom T room i (step slots (place_of (rooms_in me.0) room k) first second said) me (number n) (views_with me.0 room w, c)) same.1 (here n w c h))
 
 -- ---- a token that is cut, and one that is taken in
 

@@ -12,12 +12,12 @@ views_with v room w = record { rooms = slice_set v.rooms room w }
 
 module _ {S : Type 0} (then : Step S → Me S View → ℕ → Me S View → Type 0) where
   -- in the room, on its word k, it is what such a step tells; of the other rooms the seat knows what it knew
-  pub record ToldIn (room k : ℕ) (s : Step S) (v : Me S Views) (n : ℕ) (w : Me S Views) : Type 0 where
+  pub record StepsInRoom (room k : ℕ) (s : Step S) (v : Me S Views) (n : ℕ) (w : Me S Views) : Type 0 where
     pub there : then (step s.slots k s.first s.second s.said) (view_in v.0 room, v.1) n (view_in w.0 room, w.1)
     pub rooms : rooms_in w.0 ≡ rooms_in v.0
     pub others : (other : ℕ) → other ≢ room → view_in w.0 other ≡ view_in v.0 other
 
   -- so it is of the room whose word is at that place
-  abbrev pub InRoom : Step S → Me S Views → ℕ → Me S Views → Type 0
-  InRoom s v n w =
-      (room k : ℕ) → s.word ≡ place_of (rooms_in v.0) room k → room < rooms_in v.0 → ToldIn room k s v n w
+  abbrev pub StepsInItsRoom : Step S → Me S Views → ℕ → Me S Views → Type 0
+  StepsInItsRoom s v n w =
+      (room k : ℕ) → s.word ≡ place_of (rooms_in v.0) room k → room < rooms_in v.0 → StepsInRoom room k s v n w

@@ -9,7 +9,7 @@ pub struct In<M> {
 }
 
 impl<M: Play<(), View>> Play<(), Views> for In<M> {
-    ghost use Rattle.rooms_table.specs.Steps.{InRoom};
+    ghost use Rattle.rooms_table.specs.Steps.{StepsInItsRoom};
 
-    ghost then = { λ s v n w. InRoom M.then s v n w };
+    ghost then = { λ s v n w. StepsInItsRoom M.then s v n w };
 }

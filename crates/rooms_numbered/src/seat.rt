@@ -10,13 +10,13 @@ use std::marker::Brand;
 /// A node's seats in the four rooms of a function, and the number with which their table was opened. All calls of them may be made
 /// of them as they stand here: each leaves them in their rooms.
 #[derive(Drop)]
-pub struct Seats<H: Naming> {
+pub struct NumberedSeat<H: Naming> {
     pub seat: FunctionSeat,
     pub claim: Claim<H>,
     pub ghost named: { claim.room ≡ function_of seat },
 }
 
-impl<H: Naming> Seats<H> {
+impl<H: Naming> NumberedSeat<H> {
     /// Gives the number to the rooms of this seat, whose table was opened with it. Whoever opens a function's rooms draws a number, opens
     /// them with it, and gives it to them, once; each of their seats then gets the claim.
     pub fn claim_of(drawn: Drawn<H>, seat: &FunctionSeat) -> Claim<H>
@@ -35,14 +35,14 @@ impl<H: Naming> Seats<H> {
     }
 
     /// The seat with its rooms' number.
-    pub fn of(seat: FunctionSeat, claim: &mut Claim<H>) -> Result<Seats<H>, AllocError>
+    pub fn of(seat: FunctionSeat, claim: &mut Claim<H>) -> Result<NumberedSeat<H>, AllocError>
         requires { claim.old.room ≡ function_of seat }
         ensures seat { IfOk result (λ numbered. numbered.seat ≡ seat) }
         ensures number { IfOk result (λ numbered. numbered.claim ≡ claim.old) }
         ensures kept { claim.new ≡ claim.old }
     {
         match claim.again() {
-            Ok(claim) => Ok(Seats { seat, claim }),
+            Ok(claim) => Ok(NumberedSeat { seat, claim }),
             Err(fault) => Err(fault),
         }
     }

@@ -1,7 +1,7 @@
 use Rattle.std.proofs.Common.{◌≡◌, ℕ, sym, subst}
 use Rattle.rooms_hall.specs.RoomId.{AreNumbered, RoomId}
 use Rattle.rooms_numbered.specs.FunctionOf.{function_of}
-use Rattle.rooms_numbered.proofs.seats.Seats.number.Goals as goal
+use Rattle.rooms_numbered.proofs.seat.NumberedSeat.number.Goals as goal
 
 pub returns-clause-tables : goal.returns-clause-tables
 returns-clause-tables g c =

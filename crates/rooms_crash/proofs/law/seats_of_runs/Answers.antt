@@ -1,0 +1,5 @@
+use Rattle.rooms_crash.proofs.Keeping.{calls_keep_run}
+use Rattle.rooms_crash.proofs.law.seats_of_runs.Goals as goal
+
+pub returns : goal.returns
+returns c = calls_keep_run
