@@ -1,5 +1,3 @@
 mod Fit
 mod One
 pub use Rattle.farm_nodes_threads.proofs.Coming
-pub use Rattle.farm_nodes_source.proofs.Names
-pub use Rattle.farm_nodes_source.proofs.Numbered

@@ -14,14 +14,14 @@ use Rattle.rooms_hall.specs.declared.hall.Naming as naming
 use Rattle.farm_nodes_linked.specs.Alike.{HaveCounted}
 use Rattle.farm_nodes_linked.specs.Learned.{learned_by}
 use Rattle.farm_nodes_linked.specs.Offered.{linked_offers}
-use Rattle.farm_nodes_linked.specs.Seats.{Seats}
+use Rattle.farm_nodes_linked.specs.NumberedSeat.{NumberedSeat}
 use Rattle.farm_nodes_linked.specs.declared.errors.LinkedError.{LinkedError}
 use Rattle.farm_nodes_linked.proofs.Alike.{one_learned}
 use Rattle.farm_nodes_source.specs.declared.source.Source.{Source}
 use Rattle.farm_nodes.specs.OneProgram.{IsOneProgram}
 use Rattle.farm_nodes.specs.Prepared.{IsSourceOf}
 
-pub one_program : {H : Type 0} {h : naming.Ghosts H} (text : List ℕ) (source : Source) → IsSourceOf text source → (first second : List (Seats H h))
+pub one_program : {H : Type 0} {h : naming.Ghosts H} (text : List ℕ) (source : Source) → IsSourceOf text source → (first second : List (NumberedSeat H h))
     → HaveCounted first second → (r : Result (Program linear_function.FunctionData) LinkedError)
     → IfOk r (λ made. made ≡ linked_offers (gen (low (program_tree source.program))) (learned_by first))
     → IfOk r (λ made. Keeps (crun (program_tree source.program)) (linear.run made))

@@ -14,11 +14,11 @@ use Rattle.rtlgen_definition.specs.Gen.{gen}
 use Rattle.rooms_hall.specs.declared.hall.Naming as naming
 use Rattle.farm_nodes_linked.specs.Learned.{learned_by}
 use Rattle.farm_nodes_linked.specs.Offered.{linked_offers}
-use Rattle.farm_nodes_linked.specs.Seats.{Seats}
+use Rattle.farm_nodes_linked.specs.NumberedSeat.{NumberedSeat}
 use Rattle.farm_nodes_source.specs.declared.source.Source.{Source}
 
 -- The text is accepted, and the source is of it. What both link is this one program, which does exactly what the text's C program does.
-pub record IsOneProgram {H : Type 0} {h : naming.Ghosts H} (text : List ℕ) (source : Source) (first second : List (Seats H h))
+pub record IsOneProgram {H : Type 0} {h : naming.Ghosts H} (text : List ℕ) (source : Source) (first second : List (NumberedSeat H h))
     (made : Program linear_function.FunctionData) : Type 0 where
   pub tree : UnitTree
   pub accepted : IsAccepted text tree

@@ -11,7 +11,7 @@ use Rattle.farm_nodes_opened.specs.Nodes.{AreMade}
 use Rattle.farm_nodes_opened.specs.RoomFault.{RoomFault}
 use Rattle.farm_nodes_opened.specs.Back.{IsBack}
 use Rattle.farm_nodes_opened.specs.Refused.{IsRefusedJournal, OfJournals}
-use Rattle.farm_nodes_seated.specs.Refused.{HasBadRecord, HasRefusedOffer, IsUnopened}
+use Rattle.farm_nodes_seated.specs.Refused.{HasBadRecord, HasRefusedOffer, IsRoomUnopened}
 use Rattle.farm_nodes_seated.specs.declared.fault.OpenFault.{OpenFault}
 use Rattle.farm_nodes_seated.specs.declared.fault.OpenFault.TheVariants.{Journal, Refused, Room}
 use Rattle.farm_nodes.specs.Prepared.{IsSourceOf}
@@ -29,7 +29,7 @@ pub record AreRefusedOver {D : Type 0} (disk : disks.Ghosts D) (pair : pairs.Gho
       (λ journals. HasRefusedOffer (length (arc_value source.translated).functions) journals node)
   -- a room is not opened
   pub unopened : (room : ℕ) (told : RoomFault) → fault ≡ Room room told → OfJournals disk pair q source.digest given
-      (λ journals. IsUnopened (length (arc_value source.translated).functions) journals q room told)
+      (λ journals. IsRoomUnopened (length (arc_value source.translated).functions) journals q room told)
 
 pub record AreRefused {D : Type 0} (disk : disks.Ghosts D) (pair : pairs.Ghosts D) (q : Sizes) (text : List ℕ) (given back : List D) (fault : OpenFault) : Type 0 where
   pub source : Source

@@ -7,7 +7,7 @@ ghost use Rattle.farm_nodes_opened.specs.Waiting.{IsWaiting};
 ghost use Rattle.farm_nodes_opened.specs.Nodes.{AreMade};
 ghost use Rattle.farm_nodes_opened.specs.Words.{generators};
 ghost use Rattle.farm_nodes_opened.specs.Back.{IsJournalOn};
-ghost use Rattle.farm_nodes_opened.specs.Opened.{AreOpenFrom};
+ghost use Rattle.farm_nodes_opened.specs.Opened.{AreOpenFromJournals};
 ghost use Rattle.farm_nodes_source.specs.declared.fault.SourceFault.{SourceFault};
 ghost use Rattle.farm_nodes_source.specs.Refused.{IsUnprepared};
 ghost use Rattle.farm_nodes.specs.Prepared.{IsSourceOf};
@@ -64,7 +64,7 @@ impl<P: Pair + Drop, O: Drop, H: Naming> Farm<P, O, H> {
         ensures fit { IfOk result (λ farm. AllByRecursion (λ n.
             IsSoundNode P.is_honest P.seen P.may_leave n.log (fours_of n.seats.items) n.halted
             × IsWaiting n.seats.items n.halted) farm.nodes.items) }
-        ensures rooms { IfOk result (λ farm. AreOpenFrom P.is_honest P.seen quorums
+        ensures rooms { IfOk result (λ farm. AreOpenFromJournals P.is_honest P.seen quorums
             (length (arc_value farm.source.translated).functions)
             (map (λ n. n.log) farm.nodes.items) (map (λ n. n.seats.items) farm.nodes.items)) }
 
@@ -116,7 +116,7 @@ impl<P: Pair + Drop, O: Drop, H: Naming> Farm<P, O, H> {
         ensures fit { IfOk result (λ farm. AllByRecursion (λ n.
             IsSoundNode P.is_honest P.seen P.may_leave n.log (fours_of n.seats.items) n.halted
             × IsWaiting n.seats.items n.halted) farm.nodes.items) }
-        ensures rooms { IfOk result (λ farm. AreOpenFrom P.is_honest P.seen quorums
+        ensures rooms { IfOk result (λ farm. AreOpenFromJournals P.is_honest P.seen quorums
             (length (arc_value farm.source.translated).functions)
             (map (λ n. n.log) farm.nodes.items) (map (λ n. n.seats.items) farm.nodes.items)) }
 

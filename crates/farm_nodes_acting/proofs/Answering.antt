@@ -1,5 +1,5 @@
 -- What is left to answer of a node, and what answering leaves of a seat.
-use Rattle.std.proofs.Common.{◌≡◌, ◌≢◌, ◌⊎◌, inl, inr, ℕ, ◌<◌, ◌≤◌, ◌%◌, Bool, true, false, cond, ◌&&◌, leb, ltb, eqb, List, set, get_or, get_or-set_other, Option, Some, None, IfSome, option_map, refl, sym, ap, ◌∙◌, subst, arith}
+use Rattle.std.proofs.Common.{◌≡◌, ◌≢◌, ◌⊎◌, inl, inr, ℕ, ◌<◌, ◌≤◌, ◌%◌, Bool, true, false, cond, ◌&&◌, leb, ltb, eqb, List, set, get_or, get_or-set_other, Option, Some, None, IfSome, option_map, refl, sym, ap, ◌∙◌, subst, arith, Result, Ok, Err, IfOk, OnErr, is_some}
 use Rattle.std.proofs.lemmas.Bool.{and_parts, ltb-true, ltb-false, le-ltb, leb-true, leb-false, lt-leb, le-leb, eq-eqb, eqb-true}
 use Rattle.paxos_core_world.specs.Ballot.{Owns}
 use Rattle.paxos_core_world.specs.KeptPart.{KeptPart, vote, with_vote, with_promise, IsWithinPromise}
@@ -22,6 +22,7 @@ use Rattle.rooms_seat.specs.Would.{would, act_of, proposed_by_step, Acted}
 use Rattle.rooms_seat.proofs.Acts.{may_promise, vote_seen}
 use Rattle.rooms_seat.proofs.Told.{notes_of}
 use Rattle.rooms_seat.specs.Meeting.{IsBounded}
+use Rattle.rooms_crash.proofs.Keeping.{goes_acting, goes_looking_at_acceptor, goes_looking_at_proposer, goes_same, goes_through}
 use Rattle.farm_nodes_acting.specs.Quiet.{IsQuiet, HasHeard}
 
 -- ---- the same in plain words
@@ -296,7 +297,7 @@ quiet_voted i j s t bounds other in_i in_j acted done quiet =
 -- ---- what hearing leaves
 
 pub heard_same : (s : SeatState) → HasHeard s s
-heard_same s = record { table = refl; me = refl; quorums = refl; offered = refl; started = refl; ballot = refl; promised = omega arith; learned = λ v e. e }
+heard_same s = record { table = refl; me = refl; quorums = refl; offered = refl; started = refl; ballot = refl; promised = omega arith; learned = λ v e. e; run = goes_same s }
 
 pub heard_through : (a b c : SeatState) → HasHeard a b → HasHeard b c → HasHeard a c
 heard_through a b c h k = record {
@@ -308,6 +309,7 @@ heard_through a b c h k = record {
   ballot = k.ballot ∙ h.ballot;
   promised = omega (arith, h.promised, k.promised);
   learned = λ v e. k.learned v (h.learned v e);
+  run = goes_through a b c h.run k.run;
 }
 
 pub heard_voted : (j : ℕ) (s t : SeatState) → Acted (act.Accept j) s t → HasHeard s t
@@ -323,6 +325,7 @@ heard_voted j s t acted =
         ballot = done.way;
         promised = subst (λ (k : KeptPart). s.node.kept.promised ≤ k.promised) (sym done.kept) done.above;
         learned = λ v e. acted.learned ∙ e;
+        run = goes_acting (act.Accept j) s t acted tt;
       }
     ]
 
@@ -339,11 +342,30 @@ heard_promised j s t acted =
         ballot = done.way;
         promised = subst (λ (k : KeptPart). s.node.kept.promised ≤ k.promised) (sym done.kept) (omega (arith, done.above));
         learned = λ v e. acted.learned ∙ e;
+        run = goes_acting (act.Promise j) s t acted tt;
       }
     ]
 
+-- asked to promise, whether its record stands or not
+pub heard_promising : {E : Type 0} (j : ℕ) (s t : SeatState) (r : Result Bool E)
+    → IfOk r (λ (moved : Bool). (moved ≡ is_some (would s (act.Promise j))) × Acted (act.Promise j) s t) → OnErr r (t ≡ s) → HasHeard s t
+heard_promising j s t (Ok moved) ok err = heard_promised j s t ok.1
+heard_promising j s t (Err e) ok err = subst (λ (u : SeatState). HasHeard s u) (sym err) (heard_same s)
+
 pub heard_proposer : (j : ℕ) (x : ProposerWord) (s t : SeatState) → LookedAtProposer j x s t → HasHeard s t
-heard_proposer j x s t look = subst (λ (u : SeatState). HasHeard s u) (sym look.after) (record { table = refl; me = refl; quorums = refl; offered = refl; started = refl; ballot = refl; promised = omega arith; learned = λ v e. e })
+heard_proposer j x s t look =
+    let after = look.after in
+    record {
+      table = ap (λ (u : SeatState). u.table) after;
+      me = ap (λ (u : SeatState). u.node.me) after;
+      quorums = ap (λ (u : SeatState). u.node.quorums) after;
+      offered = ap (λ (u : SeatState). u.node.kept.offered) after;
+      started = ap (λ (u : SeatState). u.node.kept.started) after;
+      ballot = ap (λ (u : SeatState). u.node.ballot) after;
+      promised = subst (λ (u : SeatState). s.node.kept.promised ≤ u.node.kept.promised) (sym after) (omega arith);
+      learned = λ v e. ap (λ (u : SeatState). u.node.learned) after ∙ e;
+      run = goes_looking_at_proposer j x s t look;
+    }
 
 pub quiet_proposer : (i j : ℕ) (x : ProposerWord) (s t : SeatState) → i ≢ j → LookedAtProposer j x s t → IsQuiet i s → IsQuiet i t
 quiet_proposer i j x s t other look quiet =
@@ -362,6 +384,7 @@ heard_acceptor j x s t look =
       ballot = notes.ballot;
       promised = subst (λ (k : KeptPart). s.node.kept.promised ≤ k.promised) (sym notes.kept) (omega arith);
       learned = notes.learned;
+      run = goes_looking_at_acceptor j x s t look;
     }
 
 pub quiet_acceptor : (i j : ℕ) (x : AcceptorWord) (s t : SeatState) → LookedAtAcceptor j x s t → IsQuiet i s → IsQuiet i t

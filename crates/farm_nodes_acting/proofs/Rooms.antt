@@ -7,7 +7,7 @@ use Rattle.acceptor_log_form.specs.declared.record.Record.{Record}
 use Rattle.acceptor_log_form.specs.Leaves.{left_from}
 use Rattle.acceptor_log_form.specs.Order.{AreInOrder}
 use Rattle.acceptor_log_form.specs.Text.{room_of}
-use Rattle.farm_nodes_acting.specs.Advances.{AreOf}
+use Rattle.farm_nodes_acting.specs.JournalAdvances.{AreOf}
 
 -- they are of so many rooms
 pub of_rooms : (count node rooms : ℕ) (rs : List Record) → AreInOrder count node rooms rs → AreOf rooms rs

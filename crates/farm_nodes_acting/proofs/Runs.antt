@@ -14,7 +14,7 @@ use Rattle.acceptor_log.specs.declared.log.Log.{Log}
 use Rattle.acceptor_log.specs.Acknowledged.{acknowledged, IsReady}
 use Rattle.acceptor_log.proofs.Runs.{weaker}
 use Rattle.rooms_seat.specs.SeatState.{SeatState}
-use Rattle.farm_nodes_acting.specs.Advances.{Advances, AreOf}
+use Rattle.farm_nodes_acting.specs.JournalAdvances.{JournalAdvances, AreOf}
 use Rattle.farm_nodes_order.specs.Ordered.{AreOrdered, IsUnproposed}
 use Rattle.farm_nodes_order.proofs.Orders.{Follows, IsSameNode, in_order_at, more_in_order, more_ordered, ordered_at, same_turned}
 use Rattle.farm_nodes_order.proofs.Records.{kept_own, kept_other, proposed_other}
@@ -44,7 +44,7 @@ nothing_pending n i rooms rs order = subst (λ (l : List Record). AreInOrder n i
 
 module _ {D : Type 0} (seen : D → List ℕ) (may_leave : D → List ℕ → Type 0) (moment : D → ℕ) (left_since : D → ℕ → List ℕ → Type 0) where
   abbrev pub Goes : Log D → Log D → ℕ → SeatState → SeatState → List Record → List Record → Type 0
-  Goes old new room s t upto pending = Advances seen may_leave moment left_since old new room s t upto pending
+  Goes old new room s t upto pending = JournalAdvances seen may_leave moment left_since old new room s t upto pending
 
   -- what a crash leaves of a journal at rest
   rest : (is_honest : D → Type 0) (log : Log D) → IsReady is_honest seen may_leave log → (c : List ℕ) → may_leave log.disk c → Between log.header (acknowledged seen log) (acknowledged seen log ++ []) c

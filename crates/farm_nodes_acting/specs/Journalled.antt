@@ -6,14 +6,14 @@ use Rattle.acceptor_log.specs.Acknowledged.{acknowledged, IsReady}
 use Rattle.rooms_seat.specs.SeatState.{SeatState}
 use Rattle.farm_nodes_acting.specs.declared.stop.Stop.{Stop}
 use Rattle.farm_nodes_acting.specs.Noted.{pending_of}
-use Rattle.farm_nodes_acting.specs.Advances.{Advances}
+use Rattle.farm_nodes_acting.specs.JournalAdvances.{JournalAdvances}
 
 -- The journal may go on and stands for what the node keeps, and the node moved where there are more records.
 pub record HasGrown {D : Type 0} (is_honest : D → Type 0) (seen : D → List ℕ) (may_leave : D → List ℕ → Type 0)
     (moment : D → ℕ) (left_since : D → ℕ → List ℕ → Type 0) (old new : Log D) (room : ℕ) (s t : SeatState)
     (answer : Bool) : Type 0 where
   pub ready : IsReady is_honest seen may_leave new
-  pub advances : Advances seen may_leave moment left_since old new room s t (acknowledged seen new) []
+  pub advances : JournalAdvances seen may_leave moment left_since old new room s t (acknowledged seen new) []
   pub moved : answer ≡ nat_lt (length (acknowledged seen old)) (length (acknowledged seen new))
 
 -- Where the node was stopped, the pending record is that of what it has not done.
@@ -23,4 +23,4 @@ Journalled is_honest seen may_leave moment left_since old new room s t (Ok moved
     HasGrown is_honest seen may_leave moment left_since old new room s t moved
 Journalled is_honest seen may_leave moment left_since old new room s t (Err stop) =
     (upto : List Record)
-    × Advances seen may_leave moment left_since old new room s t upto (pending_of room t stop.pending)
+    × JournalAdvances seen may_leave moment left_since old new room s t upto (pending_of room t stop.pending)

@@ -1,6 +1,6 @@
 pub mod Noted
 pub mod Served
-pub mod Advances
+pub mod JournalAdvances
 pub mod Journalled
 pub mod Cause
 pub mod Quiet

@@ -56,7 +56,7 @@ pub fn act<D: Disk>(
 }
 
 /// The record of a step.
-fn record_of(room: u16, step: Step) -> Record
+pub fn record_of(room: u16, step: Step) -> Record
     requires { IsByte step }
     ensures { result ≡ record_of room step }
 {

@@ -6,6 +6,6 @@ mod acting;
 mod hearing;
 mod stop;
 
-pub use acting::act;
+pub use acting::{act, record_of};
 pub use hearing::{hear, hear_all};
 pub use stop::{Pending, Stop};

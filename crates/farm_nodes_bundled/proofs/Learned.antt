@@ -1,9 +1,8 @@
 -- Offers that are learned, their texts, and the program that they link.
-use Rattle.std.proofs.Common.{◌≡◌, ℕ, zero, suc, ◌<◌, List, [], ◌∷◌, ◌++◌, length, map, take, get_or, All, Option, Some, None, Result, Ok, Err, refl, sym, ap, ◌∙◌, subst, arith}
-use Rattle.std.specs.Prelude.{IfOk, IsSome, option_map, slice_get}
+use Rattle.std.proofs.Common.{◌≡◌, ℕ, zero, suc, List, [], ◌∷◌, ◌++◌, length, map, take, All, Option, Some, None, Result, Ok, Err, refl, ap, ◌∙◌, subst}
+use Rattle.std.specs.Prelude.{IfOk, IsSome, slice_get}
 use Rattle.std.specs.List.{AllByRecursion}
 use Rattle.std.proofs.lemmas.List.Elements.{All-nil, All-cons}
-use Rattle.std.proofs.lemmas.Option.{slice_get-get_or, slice_get-map}
 use Rattle.lang_base.specs.declared.program.Named.{Named}
 use Rattle.lang_base.specs.declared.program.Program.{Program}
 use Rattle.rtl_language.specs.Function as rtl
@@ -16,7 +15,7 @@ use Rattle.bundle_form.specs.Form.{IsBundle, TextsFit, bundle_text}
 use Rattle.bundle_offers.specs.Lent.{lent_offers}
 use Rattle.bundle_offers.specs.Linking.{BundleLinks}
 use Rattle.bundle_reading.specs.Texts.{texts_of, OffersFit, IsBundleOf, bundle_with}
-use Rattle.farm_nodes_linked.specs.Learned.{FourOffers, IsUndecided}
+use Rattle.farm_nodes_linked.specs.Learned.{FourOffers}
 use Rattle.farm_nodes_linked.specs.Lent as lending
 use Rattle.farm_nodes_linked.specs.Offered.{linked_offers, ends_of, AllGoOn}
 use Rattle.farm_nodes_bundled.specs.Bundled.{offers_in, offers_of, AreTexts, AreTextsAt, AreTextsOf, LinksLearned}
@@ -37,15 +36,6 @@ texts_told o chain (Ok t) e text blocks accepted fit = texts_lent o chain t e (r
 texts_told o chain (Err fault) e text blocks accepted fit = tt
 
 -- ---- function by function
-
--- what is at a place
-pub seen_at : {S T : Type 0} (v : S → T) (seats : List S) (n : ℕ) (s : S) → n < length seats → s ≡ get_or seats n s → slice_get (map v seats) n ≡ Some (v s)
-seen_at v seats n s within is = slice_get-map v seats n ∙ ap (λ o. option_map v o) (slice_get-get_or seats n s within ∙ ap (λ t. Some t) (sym is))
-
--- at each place something is learned where none is wanting
-pub some_at : (learned : List (Option FourOffers)) (n : ℕ) (o : Option FourOffers) → (IsUndecided learned → ⊥) → slice_get learned n ≡ Some o → IsSome o
-some_at learned n None decided here = absurd (decided (record { function = n; wanting = here }))
-some_at learned n (Some x) decided here = refl
 
 pub texts_next : (learned : List (Option FourOffers)) (ts : List Texts) (n : ℕ) (o : Option FourOffers) (t : Texts) → slice_get learned n ≡ Some o → AreTextsOf (take n learned) ts
     → AreTextsAt o t → AreTextsOf (take (suc n) learned) (ts ++ t ∷ [])

@@ -2,44 +2,17 @@
 
 ghost use Rattle.std.specs.Prelude.{◌≡◌, ◌≤◌, length, IfOk, IsSome};
 ghost use Rattle.farm_nodes_linked.specs.Learned.{learned_by, learned_four, IsUndecided};
-ghost use Rattle.farm_nodes_linked.specs.Lent.{lent};
 ghost use Rattle.bundle_reading.specs.Texts.{IsBundleOf};
 ghost use Rattle.farm_nodes_bundled.specs.Bundled.{offers_in, AreTextsAt, AreTextsOf, LinksLearned};
 
 use bundle_offers::{Texts, texts_of, written};
-use farm_nodes_linked::Seats;
-use farm_nodes_meeting::learned_offer;
+use farm_nodes_linked::{NumberedSeat, chain_of};
 use lang_base::NoMemory;
-use linker::Chain;
 use rooms_hall::Naming;
 use std::alloc::Global;
 
-/// The four offers of a function that the node has learned, where it has learned and seen all four. They are lent.
-fn chain_of<H: Naming>(seats: &Seats<H>) -> Option<Chain<'_>>
-    ensures { lent result ≡ learned_four seats.now }
-{
-    let Some(first) = learned_offer(&seats.seat.first) else {
-        return None;
-    };
-    let Some(second) = learned_offer(&seats.seat.second) else {
-        return None;
-    };
-    let Some(third) = learned_offer(&seats.seat.third) else {
-        return None;
-    };
-    let Some(fourth) = learned_offer(&seats.seat.fourth) else {
-        return None;
-    };
-    Some(Chain {
-        first,
-        second,
-        third,
-        fourth,
-    })
-}
-
 /// The texts of the four offers of a function, all of which are learned and seen.
-fn texts_at<H: Naming>(alloc: Global, seats: &Seats<H>) -> Result<Texts, NoMemory>
+fn texts_at<H: Naming>(alloc: Global, seats: &NumberedSeat<H>) -> Result<Texts, NoMemory>
     requires { IsSome (learned_four seats.now) }
     ensures { IfOk result (AreTextsAt (learned_four seats.now)) }
 {
@@ -50,7 +23,7 @@ fn texts_at<H: Naming>(alloc: Global, seats: &Seats<H>) -> Result<Texts, NoMemor
 }
 
 /// The texts of the offers of all functions.
-fn all_texts<H: Naming>(alloc: Global, seats: &[Seats<H>]) -> Result<Vec<Texts>, NoMemory>
+fn all_texts<H: Naming>(alloc: Global, seats: &[NumberedSeat<H>]) -> Result<Vec<Texts>, NoMemory>
     requires { IsUndecided (learned_by seats.now) → ⊥ }
     ensures { IfOk result (λ texts. AreTextsOf (learned_by seats.now) texts.items) }
 {
@@ -66,7 +39,7 @@ fn all_texts<H: Naming>(alloc: Global, seats: &[Seats<H>]) -> Result<Vec<Texts>,
 pub fn bundled<H: Naming>(
     alloc: Global,
     digest: &[u8],
-    seats: &[Seats<H>],
+    seats: &[NumberedSeat<H>],
 ) -> Result<Vec<u8>, NoMemory>
     requires digest { length digest.now ≡ 32 }
     requires few { length seats.now ≤ 64 }

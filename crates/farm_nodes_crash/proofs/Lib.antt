@@ -5,3 +5,5 @@ pub mod Journals
 pub mod Reopening
 pub mod Opened
 pub mod Meeting
+pub mod AtRest
+pub mod Again

@@ -5,8 +5,7 @@ use Rattle.std.proofs.lemmas.Bool.{cases_eq}
 use Rattle.paxos_core_world.specs.Quorum.{Sizes}
 use Rattle.rooms_seat.specs.SeatState.{SeatState}
 use Rattle.rooms_seat.specs.Meeting.{HaveMet}
-use Rattle.rooms_state.specs.Sound.{IsSound}
-use Rattle.rooms_crash.specs.Meetings.{AllMeet, IsSeatOf, Meetings, Meets}
+use Rattle.rooms_crash.specs.Meetings.{IsSeatOf, Meetings, Meets}
 use Rattle.rooms_crash.proofs.Joining.{meetings_join}
 use Rattle.farm_nodes_node.specs.Fours.{words_of}
 use Rattle.farm_nodes_node.specs.Numbers.{room_at}
@@ -14,7 +13,7 @@ use Rattle.farm_nodes_node.specs.Which.{Which}
 use Rattle.farm_nodes_restart_records.proofs.Rooms.{function_at, pass_at_room}
 use Rattle.farm_nodes_seated.proofs.Lists.{found_at}
 use Rattle.farm_nodes_crash.specs.Left.{NodeSeats}
-use Rattle.farm_nodes_crash.specs.Meeting.{AreSeats, FunctionSeats, NodesMeet, NodesMeetings, NodesThatMetRest}
+use Rattle.farm_nodes_crash.specs.Meeting.{AreSeats, FunctionSeats, MeetTwice, NodesMeet, NodesMeetings, NodesThatMetRest}
 use Rattle.farm_nodes_crash.specs.Rooms.{RestIn, RoomsRest}
 
 -- the seat of a pass, where there is one
@@ -80,17 +79,14 @@ module _ (q : Sizes) (functions : ℕ) where
     all [] old new h count = λ k. ap (λ (s : NodeSeats). pick d pass (slice_get s f)) (h k)
     all (p ∷ ps) old new h count = (seats_at h.0, all ps old h.0 h.1 count, one p.0 p.1 h.0 new h.2 (counted ps old h.0 h.1 count))
 
-  module _ (h : ℕ) (first second : List (ℕ × ℕ)) (old between new : ℕ → NodeSeats) (lt : h < q.nodes) (seats : AreSeats q functions old)
-      (before : NodesMeetings q functions first old between) (met : AllMeet first q.nodes h)
-      (behind : NodesMeetings q functions second between new) (again : AllMeet second q.nodes h)
-      (sound : (f : ℕ) (pass : Which) (s : FunctionSeats) → slice_get (new h) f ≡ Some s → IsSound (words_of s pass)) where
+  module _ (h : ℕ) (old : ℕ → NodeSeats) (seats : AreSeats q functions old) (twice : MeetTwice q functions h old) where
     rest : RoomsRest q functions old
-    rest f pass low = at_one (words_of (found_at (old h) f (omega (arith, low, seats.count h lt))).0 pass)
+    rest f pass low = at_one (words_of (found_at (old h) f (omega (arith, low, seats.count h twice.hub))).0 pass)
       where
         at_one : SeatState → RestIn q (room_at f pass) old
         at_one d = record {
           opening = (seats_at d f pass low old h).view.opening;
-          run = (seats_at d f pass low between h).view.seen;
+          run = (seats_at d f pass low twice.between h).view.seen;
           words = seats_at d f pass low old;
           are = λ i il.
               let s = there d f pass low old seats.count i il in (
@@ -98,16 +94,13 @@ module _ (q : Sizes) (functions : ℕ) where
                 ap (λ (n : ℕ). slice_get (old i) n) (function_at f pass) ∙ s.1,
                 ap (λ (w : Which). words_of s.0 w) (pass_at_room f pass) ∙ sym (ap (λ (o : Option FunctionSeats). pick d pass o) s.1),
               );
-          rest = meetings_join q h first second (seats_at d f pass low old) (seats_at d f pass low between) (seats_at d f pass low new) lt
-              (all d f pass low first old between before seats.count) met
-              (all d f pass low second between new behind (counted first old between before seats.count)) again
+          rest = meetings_join q h twice.first twice.second (seats_at d f pass low old) (seats_at d f pass low twice.between) (seats_at d f pass low twice.new) twice.hub
+              (all d f pass low twice.first old twice.between twice.met seats.count) twice.all
+              (all d f pass low twice.second twice.between twice.new twice.met_again (counted twice.first old twice.between twice.met seats.count)) twice.all_again
               (λ i il.
               let s = there d f pass low old seats.count i il in
-              subst (λ (o : Option FunctionSeats). IsSeatOf q i (pick d pass o)) (sym s.1) (seats.each i f pass s.0 il s.1))
-              (let s = there d f pass low new (counted second between new behind (counted first old between before seats.count)) h lt in
-              subst (λ (o : Option FunctionSeats). IsSound (pick d pass o)) (sym s.1) (sound f pass s.0 s.1));
+              subst (λ (o : Option FunctionSeats). IsSeatOf q i (pick d pass o)) (sym s.1) (seats.each i f pass s.0 il s.1));
         }
 
 pub nodes_that_met_rest : (q : Sizes) (functions : ℕ) → NodesThatMetRest q functions
-nodes_that_met_rest q functions h first second old between new lt seats before met behind again sound =
-    rest q functions h first second old between new lt seats before met behind again sound
+nodes_that_met_rest q functions h old seats twice = rest q functions h old seats twice

@@ -1,4 +1,5 @@
 pub mod Left
 pub mod Rooms
-pub mod Stand
 pub mod Meeting
+pub mod Stand
+pub mod Again

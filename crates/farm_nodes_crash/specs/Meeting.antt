@@ -1,7 +1,6 @@
 -- Meetings of the nodes of a farm, one after another, with nothing between them but meetings.
 use Rattle.std.specs.Prelude.{◌≡◌, ◌≢◌, ℕ, ◌<◌, List, [], ◌∷◌, length, Some, slice_get}
 use Rattle.paxos_core_world.specs.Quorum.{Sizes}
-use Rattle.rooms_state.specs.Sound.{IsSound}
 use Rattle.rooms_seat.specs.Meeting.{HaveMet}
 use Rattle.rooms_crash.specs.Meetings.{AllMeet, IsSeatOf}
 use Rattle.farm_nodes_node.specs.Fours.{words_of, Four}
@@ -32,17 +31,25 @@ module _ (q : Sizes) (functions : ℕ) where
   NodesMeetings [] old new = (k : ℕ) → new k ≡ old k
   NodesMeetings (p ∷ ps) old new = (between : ℕ → NodeSeats) × NodesMeetings ps old between × NodesMeet p.0 p.1 between new
 
-  -- each node has its seats in the rooms of so many functions
+  -- each node has its seats in the rooms of so many functions, each of the run that it has seen
   pub record AreSeats (seats : ℕ → NodeSeats) : Type 0 where
     pub count : (i : ℕ) → i < q.nodes → length (seats i) ≡ functions
     pub each : (i f : ℕ) (pass : Which) (s : FunctionSeats) → i < q.nodes → slice_get (seats i) f ≡ Some s → IsSeatOf q i (words_of s pass)
+
+  -- each other node meets node h, and meets it again, with nothing but meetings between
+  pub record MeetTwice (h : ℕ) (old : ℕ → NodeSeats) : Type 0 where
+    pub hub : h < q.nodes
+    pub first : List (ℕ × ℕ)
+    pub second : List (ℕ × ℕ)
+    pub between : ℕ → NodeSeats
+    pub new : ℕ → NodeSeats
+    pub met : NodesMeetings first old between
+    pub all : AllMeet first q.nodes h
+    pub met_again : NodesMeetings second between new
+    pub all_again : AllMeet second q.nodes h
 
   -- ---- the promise
 
   -- Where each node meets node h, and meets it again, all rest in each room as they were before.
   abbrev pub NodesThatMetRest : Type 0
-  NodesThatMetRest =
-      (h : ℕ) (first second : List (ℕ × ℕ)) (old between new : ℕ → NodeSeats) → h < q.nodes → AreSeats old
-      → NodesMeetings first old between → AllMeet first q.nodes h → NodesMeetings second between new → AllMeet second q.nodes h
-      → ((f : ℕ) (pass : Which) (s : FunctionSeats) → slice_get (new h) f ≡ Some s → IsSound (words_of s pass))
-      → RoomsRest q functions old
+  NodesThatMetRest = (h : ℕ) (old : ℕ → NodeSeats) → AreSeats old → MeetTwice h old → RoomsRest q functions old

@@ -14,9 +14,10 @@ use Rattle.farm_nodes_functions.specs.Kept.{AreSettled}
 use Rattle.farm_nodes_functions.specs.RoomFault.TheVariants.{Unsettled}
 use Rattle.farm_nodes_stored.specs.Nodes.{AreMade}
 use Rattle.farm_nodes_stored.specs.Read.{AreKept}
-use Rattle.farm_nodes_seated.specs.Refused.{HasBadRecord, IsUnopened}
+use Rattle.farm_nodes_seated.specs.Refused.{HasBadRecord, IsRoomUnopened}
 use Rattle.farm_nodes_opened.specs.Refused.{IsRefusedJournal, OfJournals}
-use Rattle.farm_nodes_crash.specs.Left.{AreLeftOf, NodeSeats}
+use Rattle.farm_nodes_crash.specs.Left.{AreLeftOf, IsNode, NodeSeats}
+use Rattle.farm_nodes_crash.specs.Meeting.{MeetTwice}
 use Rattle.farm_nodes_crash.specs.Rooms.{RoomsRest}
 
 module _ {D : Type 0} (disk : disks.Ghosts D) (pair : pairs.Ghosts D) (q : Sizes) where
@@ -32,7 +33,7 @@ module _ {D : Type 0} (disk : disks.Ghosts D) (pair : pairs.Ghosts D) (q : Sizes
 
     -- no room is unsettled
     abbrev pub RoomsStand : Type 0
-    RoomsStand = (room : ℕ) → OfJournals disk pair q digest given (λ journals. IsUnopened functions journals q room Unsettled) → ⊥
+    RoomsStand = (room : ℕ) → OfJournals disk pair q digest given (λ journals. IsRoomUnopened functions journals q room Unsettled) → ⊥
 
   -- What the journals have acknowledged leaves settled parts of each room. So it is as a farm opens.
   pub record AreSettledFrom (functions : ℕ) (logs : List (Log D)) : Type 0 where
@@ -63,7 +64,14 @@ module _ {D : Type 0} (disk : disks.Ghosts D) (pair : pairs.Ghosts D) (q : Sizes
       → AreLeftOf disk pair q digest functions logs seats halted given → RoomsRest q functions seats
       → RoomsStand digest functions given
 
-  -- they do right after the farm has opened, before a node takes a turn
+  -- they rest where each has met one of them, and has met it again, whatever they did before
+  abbrev pub MetNodesRest : Type 0
+  MetNodesRest =
+      (digest : List ℕ) (functions : ℕ) (logs : ℕ → Log D) (seats : ℕ → NodeSeats) (halted : ℕ → Option Halted)
+      → ((i : ℕ) → i < q.nodes → IsNode disk pair q digest functions i (logs i) (seats i) (halted i))
+      → (h : ℕ) → MeetTwice q functions h seats → RoomsRest q functions seats
+
+  -- and the rooms stand right after the farm has opened, before a node takes a turn
   abbrev pub OpenedRoomsStand : Type 0
   OpenedRoomsStand =
       (digest : List ℕ) (functions : ℕ) (logs : ℕ → Log D) (seats : ℕ → NodeSeats) (halted : ℕ → Option Halted) (given : List D)

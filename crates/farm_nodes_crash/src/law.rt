@@ -1,6 +1,7 @@
 ghost use Rattle.std.specs.Prelude.{ℕ};
+ghost use Rattle.farm_nodes_crash.specs.Again.{LearnedAgain};
 ghost use Rattle.farm_nodes_crash.specs.Meeting.{NodesThatMetRest};
-ghost use Rattle.farm_nodes_crash.specs.Stand.{LeftJournalsStand, LeftRoomsStand, OpenedRoomsStand};
+ghost use Rattle.farm_nodes_crash.specs.Stand.{LeftJournalsStand, LeftRoomsStand, MetNodesRest, OpenedRoomsStand};
 
 use durable_pair::Pair;
 use paxos_core::Quorums;
@@ -10,11 +11,17 @@ pub fn left_by_all<P: Pair>(quorums: Quorums)
     // A farm that opens over that is refused neither with 401 to 404, but for want of memory or where a device fails,
     ensures journals { LeftJournalsStand P.Disk P.Pair.own quorums }
 
-    // nor with 510, where the nodes rest in each room: behind turns on threads that have come back, failures and restarts;
+    // nor with 510, where the nodes rest in each room,
     ensures rooms { LeftRoomsStand P.Disk P.Pair.own quorums }
+
+    // as they do where each has met one of them, and has met it again: behind any turns on threads that have come back, failures and restarts;
+    ensures met { MetNodesRest P.Disk P.Pair.own quorums }
 
     // nor right after it has opened.
     ensures opened { OpenedRoomsStand P.Disk P.Pair.own quorums }
+
+    // What was learned is learned again.
+    ensures learned { LearnedAgain P.Disk P.Pair.own quorums }
 {
     let _count = quorums.nodes();
 }

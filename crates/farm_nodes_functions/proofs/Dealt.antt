@@ -12,13 +12,13 @@ use Rattle.rooms.specs.SeatValue.{SeatValue}
 use Rattle.rooms_function.specs.Opened.{kept_in, AreSeatsOf}
 use Rattle.rooms_function.specs.declared.opening.FunctionOffers.{FunctionOffers}
 use Rattle.rooms_function.specs.declared.seat.FunctionSeat.{FunctionSeat}
-use Rattle.farm_nodes_opening.specs.Seats.{Seats}
-use Rattle.farm_nodes_opening.specs.Numbers.{room_at}
-use Rattle.farm_nodes_opening.specs.Which.TheVariants.{First, Second, Third, Fourth}
+use Rattle.farm_nodes_function_rooms.specs.NumberedSeat.{NumberedSeat}
+use Rattle.farm_nodes_function_rooms.specs.Numbers.{room_at}
+use Rattle.farm_nodes_function_rooms.specs.Which.TheVariants.{First, Second, Third, Fourth}
 use Rattle.farm_nodes_lists.specs.Rows.{offers_of, rows_of}
-use Rattle.farm_nodes_opening.specs.Kept.{kept_of, parts_of, AreSettled}
-use Rattle.farm_nodes_opening.specs.Numbered.{AreOfOneFunction, HaveOneClaim, IsOpenedRoom}
-use Rattle.farm_nodes_opening.proofs.OneRoom.{as_given, as_many, map-map, one_function, one_room, opened_pairs, some_seat}
+use Rattle.farm_nodes_function_rooms.specs.Kept.{kept_of, parts_of, AreSettled}
+use Rattle.farm_nodes_function_rooms.specs.Numbered.{AreOfOneFunction, HaveOneClaim, IsOpenedRoom}
+use Rattle.farm_nodes_function_rooms.proofs.OneRoom.{as_given, as_many, map-map, one_function, one_room, opened_pairs, some_seat}
 use Rattle.farm_nodes_functions.specs.Function.{Offered, AreHere, IsOpenFunction}
 use Rattle.farm_nodes_functions.proofs.Outcomes.{kept_first, kept_second, kept_third, kept_fourth}
 
@@ -59,15 +59,15 @@ module _ (number : ℕ) (q : Sizes) (kept : List (List KeptPart)) (offers : Func
 
 -- with the number of the function
 module _ {H : Type 0} {h : naming.Ghosts H} where
-  numbered_room : {T : Type 0} (table : RoomAt) (q : Sizes) (kept given : List KeptPart) (offers here : List (Option T)) (seat : FunctionSeat → SeatValue T) (nodes : List (Seats H h)) (seats : List FunctionSeat)
+  numbered_room : {T : Type 0} (table : RoomAt) (q : Sizes) (kept given : List KeptPart) (offers here : List (Option T)) (seat : FunctionSeat → SeatValue T) (nodes : List (NumberedSeat H h)) (seats : List FunctionSeat)
       → given ≡ kept → here ≡ offers → map (λ n. n.seat) nodes ≡ seats → HaveOneClaim (map (λ n. n.claim) nodes) → AreDealt table (opening_of q given) here (map seat seats)
       → IsOpenedRoom q kept offers (map (λ n. (seat n.seat, n.claim)) nodes)
   numbered_room table q kept given offers here seat nodes seats eg eh en one d =
       as_given q kept given offers here (map (λ n. (seat n.seat, n.claim)) nodes) eg eh
-      (opened_pairs q given here (λ (n : Seats H h). seat n.seat) (λ (n : Seats H h). n.claim) nodes (map seat seats)
-      (sym (map-map seat (λ (n : Seats H h). n.seat) nodes) ∙ ap (λ ss. map seat ss) en) one (as_opened table q given here (map seat seats) d))
+      (opened_pairs q given here (λ (n : NumberedSeat H h). seat n.seat) (λ (n : NumberedSeat H h). n.claim) nodes (map seat seats)
+      (sym (map-map seat (λ (n : NumberedSeat H h). n.seat) nodes) ∙ ap (λ ss. map seat ss) en) one (as_opened table q given here (map seat seats) d))
 
-  pub open_function_is : (number : ℕ) (q : Sizes) (kept : List (Vec KeptPart)) (f : ℕ) (offers : Offered) (parts : List (List KeptPart)) (here : FunctionOffers) (seats : List FunctionSeat) (nodes : List (Seats H h))
+  pub open_function_is : (number : ℕ) (q : Sizes) (kept : List (Vec KeptPart)) (f : ℕ) (offers : Offered) (parts : List (List KeptPart)) (here : FunctionOffers) (seats : List FunctionSeat) (nodes : List (NumberedSeat H h))
       → parts ≡ parts_of kept f → AreHere f offers here → AreSeatsOf number q parts here seats → map (λ n. n.seat) nodes ≡ seats → HaveOneClaim (map (λ n. n.claim) nodes) → AreSettled q kept f
       → length kept ≡ q.nodes → IsOpenFunction q kept f offers nodes
   open_function_is number q kept f offers parts here seats nodes ep are is en one settled size =

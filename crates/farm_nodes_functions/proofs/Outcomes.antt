@@ -11,14 +11,14 @@ use Rattle.rooms.specs.declared.error.RoomError.TheVariants as error
 use Rattle.rooms_function.specs.declared.opening.FunctionOffers.{FunctionOffers}
 use Rattle.rooms_function.specs.Opened.{kept_in}
 use Rattle.rooms_function.specs.Opened as by_pass
-use Rattle.farm_nodes_opening.specs.Which.{Which}
-use Rattle.farm_nodes_opening.specs.Which.TheVariants.{First, Second, Third, Fourth}
-use Rattle.farm_nodes_opening.specs.Numbers.{function_of, room_at}
-use Rattle.farm_nodes_opening.specs.Kept.{four_kept, kept_of, parts_of, AreSettled, AreSettledBefore, IsOfferedIn, IsSettledIn}
-use Rattle.farm_nodes_opening.specs.declared.fault.RoomFault.{RoomFault}
-use Rattle.farm_nodes_opening.specs.declared.fault.RoomFault.TheVariants.{CellRefused, NoMemory, Spent, Unsettled}
-use Rattle.farm_nodes_opening.proofs.Left.{who_offered}
-use Rattle.farm_nodes_opening.proofs.OneRoom.{map-map}
+use Rattle.farm_nodes_function_rooms.specs.Which.{Which}
+use Rattle.farm_nodes_function_rooms.specs.Which.TheVariants.{First, Second, Third, Fourth}
+use Rattle.farm_nodes_function_rooms.specs.Numbers.{function_of, room_at}
+use Rattle.farm_nodes_function_rooms.specs.Kept.{four_kept, kept_of, parts_of, AreSettled, AreSettledBefore, IsOfferedIn, IsSettledIn}
+use Rattle.farm_nodes_function_rooms.specs.declared.fault.RoomFault.{RoomFault}
+use Rattle.farm_nodes_function_rooms.specs.declared.fault.RoomFault.TheVariants.{CellRefused, NoMemory, Spent, Unsettled}
+use Rattle.farm_nodes_function_rooms.proofs.Left.{who_offered}
+use Rattle.farm_nodes_function_rooms.proofs.OneRoom.{map-map}
 use Rattle.farm_nodes_functions.specs.Function.{room_fault, IsTold}
 
 of_function : (f : ℕ) (pass : Which) (room : ℕ) → room ≡ room_at f pass → function_of room ≡ f

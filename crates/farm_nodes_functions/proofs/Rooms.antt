@@ -8,16 +8,16 @@ use Rattle.rooms_hall.specs.Claimed.{Claimed}
 use Rattle.rooms_hall.specs.declared.hall.Naming as naming
 use Rattle.rooms.specs.Opened.{AreOffersOf}
 use Rattle.rooms.specs.SeatValue.{SeatValue}
-use Rattle.farm_nodes_opening.specs.Numbers.{function_of, room_at}
-use Rattle.farm_nodes_opening.specs.Seats.{Seats}
-use Rattle.farm_nodes_opening.specs.Which.{Which}
-use Rattle.farm_nodes_opening.specs.Which.TheVariants.{First, Second, Third, Fourth}
+use Rattle.farm_nodes_function_rooms.specs.Numbers.{function_of, room_at}
+use Rattle.farm_nodes_function_rooms.specs.NumberedSeat.{NumberedSeat}
+use Rattle.farm_nodes_function_rooms.specs.Which.{Which}
+use Rattle.farm_nodes_function_rooms.specs.Which.TheVariants.{First, Second, Third, Fourth}
 use Rattle.farm_nodes_lists.specs.Rows.{column, grown, offers_of, rows_of, AreForOthers}
 use Rattle.farm_nodes_lists.proofs.Columns.{column_front, column_last, grown_long}
-use Rattle.farm_nodes_opening.specs.Kept.{kept_of, AreSettled, AreSettledBefore, IsSettledIn}
-use Rattle.farm_nodes_opening.specs.Left.{AreLeftIn}
-use Rattle.farm_nodes_opening.specs.Numbered.{IsOpenedRoom}
-use Rattle.farm_nodes_opening.proofs.Left.{left_settled}
+use Rattle.farm_nodes_function_rooms.specs.Kept.{kept_of, AreSettled, AreSettledBefore, IsSettledIn}
+use Rattle.farm_nodes_function_rooms.specs.Left.{AreLeftIn}
+use Rattle.farm_nodes_function_rooms.specs.Numbered.{IsOpenedRoom}
+use Rattle.farm_nodes_function_rooms.proofs.Left.{left_settled}
 use Rattle.farm_nodes_functions.specs.Function.{Offered, AreTaken, IsOpenFunction}
 use Rattle.farm_nodes_functions.specs.Opened.{AreOfferedIn, AreOpenedIn, IsSettledBefore}
 
@@ -120,15 +120,15 @@ module _ (q : Sizes) (kept : List (Vec KeptPart)) where
 
 -- the rooms of the functions so far are open
 module _ {H : Type 0} {h : naming.Ghosts H} where
-  pub record AreOpen (q : Sizes) (kept : List (Vec KeptPart)) (n : ℕ) (given : Offered) (rows : List (List (Seats H h))) : Type 0 where
+  pub record AreOpen (q : Sizes) (kept : List (Vec KeptPart)) (n : ℕ) (given : Offered) (rows : List (List (NumberedSeat H h))) : Type 0 where
     pub long : All (λ row. length row ≡ n) rows
-    pub first : AreOpenedIn q kept First n (rows_of given.first.items) (λ (s : Seats H h). (s.seat.first, s.claim)) rows
-    pub second : AreOpenedIn q kept Second n (rows_of given.second.items) (λ (s : Seats H h). (s.seat.second, s.claim)) rows
-    pub third : AreOpenedIn q kept Third n (rows_of given.third.items) (λ (s : Seats H h). (s.seat.third, s.claim)) rows
-    pub fourth : AreOpenedIn q kept Fourth n (rows_of given.fourth.items) (λ (s : Seats H h). (s.seat.fourth, s.claim)) rows
+    pub first : AreOpenedIn q kept First n (rows_of given.first.items) (λ (s : NumberedSeat H h). (s.seat.first, s.claim)) rows
+    pub second : AreOpenedIn q kept Second n (rows_of given.second.items) (λ (s : NumberedSeat H h). (s.seat.second, s.claim)) rows
+    pub third : AreOpenedIn q kept Third n (rows_of given.third.items) (λ (s : NumberedSeat H h). (s.seat.third, s.claim)) rows
+    pub fourth : AreOpenedIn q kept Fourth n (rows_of given.fourth.items) (λ (s : NumberedSeat H h). (s.seat.fourth, s.claim)) rows
     pub settled : AreSettledSoFar q kept n
 
-  pub none_open : (q : Sizes) (kept : List (Vec KeptPart)) (given : Offered) (rows : List (List (Seats H h))) → All (λ row. length row ≡ 0) rows → AreOpen q kept 0 given rows
+  pub none_open : (q : Sizes) (kept : List (Vec KeptPart)) (given : Offered) (rows : List (List (NumberedSeat H h))) → All (λ row. length row ≡ 0) rows → AreOpen q kept 0 given rows
   none_open q kept given rows none = record {
     long = none;
     first = λ f low. absurd (omega (arith, low));
@@ -138,22 +138,22 @@ module _ {H : Type 0} {h : naming.Ghosts H} where
     settled = λ f low. absurd (omega (arith, low));
   }
 
-  pub open_next : (q : Sizes) (kept : List (Vec KeptPart)) (n : ℕ) (given left : Offered) (rows more : List (List (Seats H h))) (seats : List (Seats H h)) → length rows ≡ length kept → more ≡ grown rows seats → AllLeft n given left → IsOpenFunction q kept n left seats → AreOpen q kept n given rows → AreOpen q kept (n + 1) given more
+  pub open_next : (q : Sizes) (kept : List (Vec KeptPart)) (n : ℕ) (given left : Offered) (rows more : List (List (NumberedSeat H h))) (seats : List (NumberedSeat H h)) → length rows ≡ length kept → more ≡ grown rows seats → AllLeft n given left → IsOpenFunction q kept n left seats → AreOpen q kept n given rows → AreOpen q kept (n + 1) given more
   open_next q kept n given left rows more seats count is left_are now before =
       let same : length seats ≡ length rows = now.count ∙ sym count in
       record {
-        long = subst (λ (m : List (List (Seats H h))). All (λ row. length row ≡ n + 1) m) (sym is) (grown_long n rows seats same before.long);
+        long = subst (λ (m : List (List (NumberedSeat H h))). All (λ row. length row ≡ n + 1) m) (sym is) (grown_long n rows seats same before.long);
         first =
-            opened_next q kept First (rows_of given.first.items) (λ (s : Seats H h). (s.seat.first, s.claim)) n (rows_of left.first.items) rows more seats
+            opened_next q kept First (rows_of given.first.items) (λ (s : NumberedSeat H h). (s.seat.first, s.claim)) n (rows_of left.first.items) rows more seats
             same before.long is left_are.first now.first before.first;
         second =
-            opened_next q kept Second (rows_of given.second.items) (λ (s : Seats H h). (s.seat.second, s.claim)) n (rows_of left.second.items) rows more seats
+            opened_next q kept Second (rows_of given.second.items) (λ (s : NumberedSeat H h). (s.seat.second, s.claim)) n (rows_of left.second.items) rows more seats
             same before.long is left_are.second now.second before.second;
         third =
-            opened_next q kept Third (rows_of given.third.items) (λ (s : Seats H h). (s.seat.third, s.claim)) n (rows_of left.third.items) rows more seats
+            opened_next q kept Third (rows_of given.third.items) (λ (s : NumberedSeat H h). (s.seat.third, s.claim)) n (rows_of left.third.items) rows more seats
             same before.long is left_are.third now.third before.third;
         fourth =
-            opened_next q kept Fourth (rows_of given.fourth.items) (λ (s : Seats H h). (s.seat.fourth, s.claim)) n (rows_of left.fourth.items) rows more seats
+            opened_next q kept Fourth (rows_of given.fourth.items) (λ (s : NumberedSeat H h). (s.seat.fourth, s.claim)) n (rows_of left.fourth.items) rows more seats
             same before.long is left_are.fourth now.fourth before.fourth;
         settled = settled_next q kept n before.settled now.settled;
       }

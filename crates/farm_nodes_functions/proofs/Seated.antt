@@ -3,6 +3,7 @@ use Rattle.std.proofs.Common.{◌≡◌, ◌≢◌, ℕ, zero, suc, ◌<◌, Lis
 use Rattle.std.specs.Global.{Vec}
 use Rattle.std.specs.Prelude.{slice_get}
 use Rattle.std.specs.List.{cons_option}
+use Rattle.std.proofs.lemmas.List.{length-map}
 use Rattle.std.proofs.lemmas.List.Elements.{All-get_or, All-head, All-tail}
 use Rattle.std.proofs.lemmas.Option.{get_or_from_slice_get, none-some, same_Some, slice_get-get_or, slice_get-map, slice_get_within}
 use Rattle.paxos_core_law.specs.NodeState.{node_with}
@@ -12,10 +13,12 @@ use Rattle.paxos_core_world.specs.World.{nodes_of}
 use Rattle.rooms_hall.specs.Claimed.{Claimed}
 use Rattle.rooms.specs.Opened.{offer_at}
 use Rattle.rooms.specs.SeatValue.{SeatValue, offer_of}
-use Rattle.farm_nodes_opening.specs.Numbers.{room_at}
-use Rattle.farm_nodes_opening.specs.Which.{Which}
-use Rattle.farm_nodes_opening.specs.Kept.{kept_of}
-use Rattle.farm_nodes_opening.proofs.Seated.{no_other_offer, node_opens, own_offer}
+use Rattle.rooms_crash.specs.OfRun.{IsOfRun}
+use Rattle.farm_nodes_function_rooms.specs.Numbers.{room_at}
+use Rattle.farm_nodes_function_rooms.specs.Which.{Which}
+use Rattle.farm_nodes_function_rooms.specs.Kept.{kept_of, AreSettled}
+use Rattle.farm_nodes_function_rooms.proofs.Seated.{no_other_offer, node_opens, own_offer}
+use Rattle.farm_nodes_function_rooms.proofs.Seated as opening
 use Rattle.farm_nodes_lists.specs.Rows.{column, offers_of}
 use Rattle.farm_nodes_functions.specs.Opened.{AreOpenedIn}
 
@@ -57,6 +60,12 @@ module _ {T N : Type 0} (q : Sizes) (kept : List (Vec KeptPart)) (pass : Which) 
   seat_opens k its =
       node_opens q (kept_of kept room) (offers_of offers f) (map show (column rows f)) sizes (opened f low) i (show x) here
       ∙ ap (node_with i q) (kept_at kept room i k its)
+
+  -- and is of the run without steps
+  pub seat_of_run : length kept ≡ q.nodes → AreSettled q kept f → IsOfRun (show x).0.words
+  seat_of_run count settled =
+      opening.seat_of_run q (kept_of kept room) (offers_of offers f) (map show (column rows f)) sizes (opened f low) i (show x) here
+      (length-map kept (λ (node : Vec KeptPart). nodes_of node.items room) ∙ count) (settled pass)
 
   -- it has seen the node's offer, if that has made one, and no other
   pub seat_offers : offer_of (show x).0 i ≡ offer_at (offers_of offers f) i

@@ -4,16 +4,16 @@ use Rattle.std.specs.Global.{Vec}
 use Rattle.paxos_core_world.specs.KeptPart.{KeptPart}
 use Rattle.paxos_core_world.specs.Quorum.{Sizes}
 use Rattle.rooms_hall.specs.declared.hall.Naming as naming
-use Rattle.farm_nodes_opening.specs.Numbers.{function_of, room_at}
-use Rattle.farm_nodes_opening.specs.Offers.{Constants, Expressions, Allocation, Order}
-use Rattle.farm_nodes_opening.specs.Passes.{Passes}
-use Rattle.farm_nodes_opening.specs.Seats.{Seats}
-use Rattle.farm_nodes_opening.specs.Which.TheVariants.{First, Second, Third, Fourth}
+use Rattle.farm_nodes_function_rooms.specs.Numbers.{function_of, room_at}
+use Rattle.farm_nodes_function_rooms.specs.Offers.{Constants, Expressions, Allocation, Order}
+use Rattle.farm_nodes_function_rooms.specs.Passes.{Passes}
+use Rattle.farm_nodes_function_rooms.specs.NumberedSeat.{NumberedSeat}
+use Rattle.farm_nodes_function_rooms.specs.Which.TheVariants.{First, Second, Third, Fourth}
 use Rattle.farm_nodes_lists.specs.Rows.{offers_of, rows_of, AreForOthers}
-use Rattle.farm_nodes_opening.specs.Kept.{kept_of, AreSettled, AreSettledBefore, IsOfferedIn, IsSettledIn}
-use Rattle.farm_nodes_opening.specs.Numbered.{IsOpenedRoom}
-use Rattle.farm_nodes_opening.specs.declared.fault.RoomFault.{RoomFault}
-use Rattle.farm_nodes_opening.specs.declared.fault.RoomFault.TheVariants.{CellRefused, NoMemory, Unsettled}
+use Rattle.farm_nodes_function_rooms.specs.Kept.{kept_of, AreSettled, AreSettledBefore, IsOfferedIn, IsSettledIn}
+use Rattle.farm_nodes_function_rooms.specs.Numbered.{IsOpenedRoom}
+use Rattle.farm_nodes_function_rooms.specs.declared.fault.RoomFault.{RoomFault}
+use Rattle.farm_nodes_function_rooms.specs.declared.fault.RoomFault.TheVariants.{CellRefused, NoMemory, Unsettled}
 use Rattle.rooms.specs.declared.error.RoomError.{RoomError}
 use Rattle.rooms.specs.declared.error.RoomError.TheVariants as error
 use Rattle.rooms_function.specs.declared.opening.FunctionOffers.{FunctionOffers}
@@ -30,7 +30,7 @@ pub record AreTaken (function : ℕ) (before after : Offered) : Type 0 where
   pub fourth : AreForOthers function (rows_of before.fourth.items) (rows_of after.fourth.items)
 
 -- in each room the nodes' seats are those of the room as it opens, with quorums of these sizes, from what was kept of it and offered there
-pub record IsOpenFunction {H : Type 0} {h : naming.Ghosts H} (q : Sizes) (kept : List (Vec KeptPart)) (f : ℕ) (offers : Offered) (nodes : List (Seats H h)) : Type 0 where
+pub record IsOpenFunction {H : Type 0} {h : naming.Ghosts H} (q : Sizes) (kept : List (Vec KeptPart)) (f : ℕ) (offers : Offered) (nodes : List (NumberedSeat H h)) : Type 0 where
   pub first : IsOpenedRoom q (kept_of kept (room_at f First)) (offers_of (rows_of offers.first.items) f) (map (λ n. (n.seat.first, n.claim)) nodes)
   pub second : IsOpenedRoom q (kept_of kept (room_at f Second)) (offers_of (rows_of offers.second.items) f) (map (λ n. (n.seat.second, n.claim)) nodes)
   pub third : IsOpenedRoom q (kept_of kept (room_at f Third)) (offers_of (rows_of offers.third.items) f) (map (λ n. (n.seat.third, n.claim)) nodes)

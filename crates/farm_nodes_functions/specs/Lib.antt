@@ -1,5 +1,5 @@
 pub mod Opened
 pub mod Function
-pub use Rattle.farm_nodes_opening.specs.Kept
-pub use Rattle.farm_nodes_opening.specs.Left
-pub use Rattle.farm_nodes_opening.specs.declared.fault.RoomFault
+pub use Rattle.farm_nodes_function_rooms.specs.Kept
+pub use Rattle.farm_nodes_function_rooms.specs.Left
+pub use Rattle.farm_nodes_function_rooms.specs.declared.fault.RoomFault

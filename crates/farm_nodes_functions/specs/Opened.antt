@@ -6,10 +6,10 @@ use Rattle.paxos_core_world.specs.Quorum.{Sizes}
 use Rattle.rooms_hall.specs.Claimed.{Claimed}
 use Rattle.rooms.specs.Opened.{AreOffersOf}
 use Rattle.rooms.specs.SeatValue.{SeatValue}
-use Rattle.farm_nodes_opening.specs.Numbers.{room_at}
-use Rattle.farm_nodes_opening.specs.Which.{Which}
-use Rattle.farm_nodes_opening.specs.Kept.{kept_of, IsSettledIn}
-use Rattle.farm_nodes_opening.specs.Numbered.{IsOpenedRoom}
+use Rattle.farm_nodes_function_rooms.specs.Numbers.{room_at}
+use Rattle.farm_nodes_function_rooms.specs.Which.{Which}
+use Rattle.farm_nodes_function_rooms.specs.Kept.{kept_of, IsSettledIn}
+use Rattle.farm_nodes_function_rooms.specs.Numbered.{IsOpenedRoom}
 use Rattle.farm_nodes_lists.specs.Rows.{column, offers_of}
 
 -- the offers are those of the nodes that have kept that they made one in the room of the function's pass

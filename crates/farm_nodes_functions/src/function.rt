@@ -1,16 +1,16 @@
 ghost use Rattle.std.specs.Prelude.{◌≡◌, ◌+◌, ◌*◌, ◌<◌, ◌≤◌, ◌⊎◌, length, IfOk, OnOk, IfErr};
 ghost use Rattle.rooms.specs.Opened.{AreOffersOf};
-ghost use Rattle.farm_nodes_opening.specs.Numbers.{room_at};
-ghost use Rattle.farm_nodes_opening.specs.Which.TheVariants as which;
+ghost use Rattle.farm_nodes_function_rooms.specs.Numbers.{room_at};
+ghost use Rattle.farm_nodes_function_rooms.specs.Which.TheVariants as which;
 ghost use Rattle.farm_nodes_lists.specs.Rows.{offers_of, rows_of};
-ghost use Rattle.farm_nodes_opening.specs.Kept.{kept_of};
-ghost use Rattle.farm_nodes_opening.specs.declared.fault.RoomFault.TheVariants as fault;
+ghost use Rattle.farm_nodes_function_rooms.specs.Kept.{kept_of};
+ghost use Rattle.farm_nodes_function_rooms.specs.declared.fault.RoomFault.TheVariants as fault;
 ghost use Rattle.farm_nodes_functions.specs.Function.{room_fault, AreHere, AreTaken, IsOpenFunction, IsTold};
 
 use constprop_check::ConstProp;
 use cse_check::Cse;
+use farm_nodes_function_rooms::{NumberedSeat, Passes, RoomFault, Unopened, numbered, parts_of};
 use farm_nodes_lists::take_each;
-use farm_nodes_opening::{Passes, RoomFault, Seats, Unopened, numbered, parts_of};
 use lang_base::NoMemory;
 use linearize_check::Linearize;
 use offers::Offer;
@@ -38,7 +38,7 @@ pub(crate) fn open_function<H: Naming>(
     function: u16,
     offers: &mut Offered,
     quorums: Quorums,
-) -> Result<Vec<Seats<H>>, Unopened>
+) -> Result<Vec<NumberedSeat<H>>, Unopened>
     requires number { function < 16384 }
     requires size { length kept.now ≡ quorums.nodes }
     requires offers1 { AreOffersOf (kept_of kept.now (room_at function which.First))

@@ -5,6 +5,6 @@
 mod function;
 mod opening;
 
-pub use farm_nodes_opening::RoomFault;
+pub use farm_nodes_function_rooms::RoomFault;
 pub use function::Offered;
 pub use opening::open_functions;

@@ -1,14 +1,14 @@
 ghost use Rattle.std.specs.Prelude.{◌≡◌, ◌≢◌, ℕ, ◌<◌, ◌≤◌, ◌*◌, All, length, IfOk, OnOk, IfErr};
-ghost use Rattle.farm_nodes_opening.specs.Which.TheVariants as which;
-ghost use Rattle.farm_nodes_opening.specs.Kept.{AreSettled, IsOfferedIn, IsSettledIn};
-ghost use Rattle.farm_nodes_opening.specs.Left.{AreLeftIn};
-ghost use Rattle.farm_nodes_opening.specs.declared.fault.RoomFault.TheVariants as fault;
+ghost use Rattle.farm_nodes_function_rooms.specs.Which.TheVariants as which;
+ghost use Rattle.farm_nodes_function_rooms.specs.Kept.{AreSettled, IsOfferedIn, IsSettledIn};
+ghost use Rattle.farm_nodes_function_rooms.specs.Left.{AreLeftIn};
+ghost use Rattle.farm_nodes_function_rooms.specs.declared.fault.RoomFault.TheVariants as fault;
 ghost use Rattle.farm_nodes_lists.specs.Rows.{rows_of};
 ghost use Rattle.farm_nodes_functions.specs.Opened.{AreOfferedIn, AreOpenedIn, IsSettledBefore};
 
 use crate::function::{Offered, open_function};
+use farm_nodes_function_rooms::{NumberedSeat, Unopened};
 use farm_nodes_lists::{add_each, none_yet};
-use farm_nodes_opening::{Seats, Unopened};
 use lang_base::NoMemory;
 use paxos_core::{Kept, Quorums};
 use rooms_hall::{Hall, Naming};
@@ -24,7 +24,7 @@ pub fn open_functions<H: Naming>(
     functions: u16,
     offers: Offered,
     quorums: Quorums,
-) -> Result<Vec<Vec<Seats<H>>>, Unopened>
+) -> Result<Vec<Vec<NumberedSeat<H>>>, Unopened>
     requires number { functions ≤ 16384 }
     requires size { length kept.now ≡ quorums.nodes }
     requires offers1 { AreOfferedIn kept.now which.First functions (rows_of offers.first.items) }

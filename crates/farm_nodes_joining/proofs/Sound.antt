@@ -38,6 +38,7 @@ module _ {D X1 X2 X3 X4 : Type 0} (texts : Texts X1 X2 X3 X4) (is_honest : D →
     journal = held.sound;
     going = λ none. held.going;
     own = held.own;
+    of_runs = held.of_runs;
     upto = λ honest. (acknowledged seen log, journal_of honest, λ none. refl);
   }
 

@@ -10,7 +10,7 @@ ghost use Rattle.farm_nodes_joining.specs.Words.{generators};
 use crate::pieces::{Pieces, made_of, pieces_of};
 use acceptor_log::{Log, Record};
 use durable_model::Disk;
-use farm_nodes_node::{FarmNode, Seats};
+use farm_nodes_node::{FarmNode, NumberedSeat};
 use lang_base::{NoMemory, Program};
 use rooms_hall::Naming;
 use rtl_language::Function;
@@ -41,7 +41,7 @@ fn shares<F: Drop>(
 
 /// A node of its pieces, which is not stopped.
 fn node_of<D, O, H: Naming>(
-    pieces: Pieces<(Log<D>, Vec<Record>), Vec<Seats<H>>, Arc<Program<Function>>, O>,
+    pieces: Pieces<(Log<D>, Vec<Record>), Vec<NumberedSeat<H>>, Arc<Program<Function>>, O>,
 ) -> FarmNode<D, O, H>
     requires { length pieces.seats.items ≡ length (arc_value pieces.program).functions }
     ensures log { result.log ≡ pieces.journal.0 }
@@ -76,7 +76,7 @@ fn node_of<D, O, H: Naming>(
 pub fn join_nodes<D, O, H>(
     alloc: Global,
     journals: Vec<(Log<D>, Vec<Record>)>,
-    seats: Vec<Vec<Seats<H>>>,
+    seats: Vec<Vec<NumberedSeat<H>>>,
     program: &Arc<Program<Function>>,
     oracles: Vec<O>,
     seed: u64,

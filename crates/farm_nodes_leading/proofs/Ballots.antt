@@ -1,6 +1,6 @@
 -- What leading leaves of a seat, and what stands after it.
 use Rattle.std.proofs.Common.{◌≡◌, ◌≢◌, ◌⊎◌, inl, inr, ℕ, ◌<◌, ◌≤◌, Bool, true, false, ◌&&◌, Option, Some, None, IsSomeAnd, is_none, option_map, refl, sym, ap, ◌∙◌, subst, arith}
-use Rattle.std.proofs.lemmas.Bool.{ltb-false}
+use Rattle.std.proofs.lemmas.Bool.{and_parts, ltb-false}
 use Rattle.paxos_core_world.specs.KeptPart.{KeptPart, vote, with_start}
 use Rattle.paxos_core_world.specs.Quorum.{Sizes}
 use Rattle.paxos_core_world.specs.declared.msg.Msg.{Msg}
@@ -15,8 +15,9 @@ use Rattle.rooms_rule.specs.declared.proposer.ProposerWord.{ProposerWord}
 use Rattle.rooms_state.specs.declared.act.Act.TheVariants as act
 use Rattle.rooms_state.specs.SeatState.{SeatState, proposer_of}
 use Rattle.rooms_state.specs.Would.{would, Acted, IsStarted}
-use Rattle.farm_nodes_leading.specs.Leading.{may_start, is_passed, HasLed, LeavesAll}
-use Rattle.farm_nodes_acting.specs.Quiet.{IsQuiet}
+use Rattle.farm_nodes_leading.specs.Leading.{may_start, is_passed, HasLed, LeavesAll, StaysInRoom}
+use Rattle.farm_nodes_acting.specs.Quiet.{HasHeard, IsQuiet}
+use Rattle.rooms_crash.proofs.Keeping.{goes_acting, goes_same, goes_through}
 use Rattle.farm_nodes_acting.proofs.Answering.{IsPast, left_quiet, quiet_left, did_of, word_same}
 
 -- ---- proposing
@@ -103,13 +104,29 @@ start_keeps None k l e = same_start l k e
 start_keeps (Some b) k l e = e ∙ ap (λ (c : ℕ). with_start c k) (sym (ap (λ (m : KeptPart). m.started) e))
 
 pub leaves_same : (s t : SeatState) → t ≡ s → LeavesAll s t
-leaves_same s t e = subst (λ (u : SeatState). LeavesAll s u) (sym e) (record { table = refl; me = refl; quorums = refl; learned = refl; proposers = refl; kept = refl })
+leaves_same s t e = subst (λ (u : SeatState). LeavesAll s u) (sym e) (record { table = refl; me = refl; quorums = refl; learned = refl; proposers = refl; kept = refl; run = goes_same s })
 
 pub leaves_proposing : (s t : SeatState) → Acted act.Propose s t → LeavesAll s t
-leaves_proposing s t acted = record { table = acted.table; me = acted.me; quorums = acted.quorums; learned = acted.learned; proposers = acted.proposers; kept = same_start t.node.kept s.node.kept (kept_proposing s t acted) }
+leaves_proposing s t acted = record {
+  table = acted.table;
+  me = acted.me;
+  quorums = acted.quorums;
+  learned = acted.learned;
+  proposers = acted.proposers;
+  kept = same_start t.node.kept s.node.kept (kept_proposing s t acted);
+  run = goes_acting act.Propose s t acted tt;
+}
 
-pub leaves_starting : (s t : SeatState) → Acted act.Start s t → LeavesAll s t
-leaves_starting s t acted = record { table = acted.table; me = acted.me; quorums = acted.quorums; learned = acted.learned; proposers = acted.proposers; kept = start_keeps (next_start s.node) s.node.kept t.node.kept acted.kept }
+pub leaves_starting : (s t : SeatState) → may_start s.node ≡ true → Acted act.Start s t → LeavesAll s t
+leaves_starting s t may acted = record {
+  table = acted.table;
+  me = acted.me;
+  quorums = acted.quorums;
+  learned = acted.learned;
+  proposers = acted.proposers;
+  kept = start_keeps (next_start s.node) s.node.kept t.node.kept acted.kept;
+  run = goes_acting act.Start s t acted (and_parts s.node.kept.offered (is_none s.node.learned && is_passed s.node.ballot s.node.kept.promised) may).0;
+}
 
 pub leaves_through : (a b c : SeatState) → LeavesAll a b → LeavesAll b c → LeavesAll a c
 leaves_through a b c first second = record {
@@ -119,6 +136,7 @@ leaves_through a b c first second = record {
   learned = second.learned ∙ first.learned;
   proposers = second.proposers ∙ first.proposers;
   kept = second.kept ∙ ap (λ (k : KeptPart). with_start c.node.kept.started k) first.kept;
+  run = goes_through a b c first.run second.run;
 }
 
 -- what was quiet is quiet
@@ -144,3 +162,25 @@ quiet_led j s t leaves quiet =
       ballot = subst (λ (w : ProposerWord). w.started ≤ t.node.kept.promised) (sym word)
           (subst (λ (k : ℕ). (proposer_of s j).started ≤ k) (sym promised) left.ballot);
     }
+
+-- ---- what taking part leaves
+
+pub stays_hearing : (s t : SeatState) → HasHeard s t → StaysInRoom s t
+stays_hearing s t heard = record {
+  table = heard.table;
+  me = heard.me;
+  quorums = heard.quorums;
+  offered = heard.offered;
+  learned = heard.learned;
+  run = heard.run;
+}
+
+pub stays_leading : (a b c : SeatState) → HasHeard a b → LeavesAll b c → StaysInRoom a c
+stays_leading a b c heard led = record {
+  table = led.table ∙ heard.table;
+  me = led.me ∙ heard.me;
+  quorums = led.quorums ∙ heard.quorums;
+  offered = ap (λ (k : KeptPart). k.offered) led.kept ∙ heard.offered;
+  learned = λ v e. led.learned ∙ heard.learned v e;
+  run = goes_through a b c heard.run led.run;
+}

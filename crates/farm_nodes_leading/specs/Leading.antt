@@ -5,6 +5,7 @@ use Rattle.paxos_core_law.specs.NodeState.{NodeState}
 use Rattle.rooms_state.specs.declared.act.Act.TheVariants as act
 use Rattle.rooms_state.specs.SeatState.{SeatState}
 use Rattle.rooms_state.specs.Would.{would}
+use Rattle.rooms_crash.specs.OfRun.{GoesOn}
 
 -- the ballot under way, if there is one, is below the promised one
 abbrev pub is_passed : Option ℕ → ℕ → Bool
@@ -19,7 +20,7 @@ may_start s = s.kept.offered && (is_none s.learned && is_passed s.ballot s.kept.
 abbrev pub HasLed : SeatState → Type 0
 HasLed s = (s.node.learned ≢ None) ⊎ (would s act.Start ≡ None) ⊎ IsSomeAnd s.node.ballot (λ b. s.node.kept.promised ≤ b)
 
--- what leading leaves of a seat: of what it keeps only the ballot that it started may be another
+-- what leading leaves of a seat: of what it keeps only the ballot that it started may be another, and it goes on in its run
 pub record LeavesAll (old new : SeatState) : Type 0 where
   pub table : new.table ≡ old.table
   pub me : new.node.me ≡ old.node.me
@@ -27,11 +28,13 @@ pub record LeavesAll (old new : SeatState) : Type 0 where
   pub learned : new.node.learned ≡ old.node.learned
   pub proposers : new.proposers ≡ old.proposers
   pub kept : new.node.kept ≡ with_start new.node.kept.started old.node.kept
+  pub run : GoesOn old new
 
--- what taking part leaves of a seat: the room, its node and its offer, and what it had learned
+-- what taking part leaves of a seat: the room, its node and its offer, what it had learned; it goes on in its run
 pub record StaysInRoom (old new : SeatState) : Type 0 where
   pub table : new.table ≡ old.table
   pub me : new.node.me ≡ old.node.me
   pub quorums : new.node.quorums ≡ old.node.quorums
   pub offered : new.node.kept.offered ≡ old.node.kept.offered
   pub learned : (v : ℕ) → old.node.learned ≡ Some v → new.node.learned ≡ Some v
+  pub run : GoesOn old new

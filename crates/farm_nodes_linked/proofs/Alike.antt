@@ -5,10 +5,10 @@ use Rattle.std.proofs.lemmas.Option.{slice_get-get_or, slice_get_within}
 use Rattle.lang_base.specs.declared.program.Program.{Program}
 use Rattle.rooms_hall.specs.declared.hall.Naming as naming
 use Rattle.rtl_language.specs.Function as rtl
-use Rattle.farm_nodes_meeting.specs.Offers.{Constants, Expressions, Allocation, Order}
-use Rattle.farm_nodes_meeting.specs.Seats.{Seats}
-use Rattle.farm_nodes_meeting.specs.Functions.{BothLink, HoldSameOffers}
-use Rattle.farm_nodes_meeting.specs.Held.{held_of}
+use Rattle.farm_nodes_seat_meeting.specs.Offers.{Constants, Expressions, Allocation, Order}
+use Rattle.farm_nodes_seat_meeting.specs.NumberedSeat.{NumberedSeat}
+use Rattle.farm_nodes_seat_meeting.specs.Functions.{BothLink, HoldSameOffers}
+use Rattle.farm_nodes_seat_meeting.specs.Held.{held_of}
 use Rattle.farm_nodes_linked.specs.Alike.{HaveCounted, HaveCountedAll, KeepsLearned, LinkOne}
 use Rattle.farm_nodes_linked.specs.Learned.{FourOffers, all_four, learned_four, learned_by, IsUndecided}
 use Rattle.farm_nodes_linked.specs.Offered.{linked_offers}
@@ -55,17 +55,17 @@ none_wanting (Some w) (Some x) None d sa sb sc sd e = absurd (cc sc)
 none_wanting (Some w) (Some x) (Some y) None sa sb sc sd e = absurd (cc sd)
 none_wanting (Some w) (Some x) (Some y) (Some z) sa sb sc sd e = absurd (cc e)
 
-module _ {H : Type 0} {h : naming.Ghosts H} (xs ys : List (Seats H h)) (counted : HaveCountedAll xs ys) where
+module _ {H : Type 0} {h : naming.Ghosts H} (xs ys : List (NumberedSeat H h)) (counted : HaveCountedAll xs ys) where
   as_long : length xs ≡ length ys
   as_long = let met = counted.met.met counted.alike in met.first ∙ counted.alike ∙ sym met.second
 
-  link_at : (k : ℕ) (a b : Seats H h) → slice_get xs k ≡ Some a → slice_get ys k ≡ Some b → BothLink (held_of a) (held_of b)
+  link_at : (k : ℕ) (a b : NumberedSeat H h) → slice_get xs k ≡ Some a → slice_get ys k ≡ Some b → BothLink (held_of a) (held_of b)
   link_at k a b ea eb =
       let within : k < length xs = slice_get_within xs k a ea in
       let long : length xs ≡ length counted.first = (counted.met.met counted.alike).first in
       counted.met.all counted.alike refl k (omega (arith, within, long)) a b ea eb
 
-  same_at : (k : ℕ) (a b : Seats H h) → slice_get xs k ≡ Some a → slice_get ys k ≡ Some b → learned_four a ≡ learned_four b
+  same_at : (k : ℕ) (a b : NumberedSeat H h) → slice_get xs k ≡ Some a → slice_get ys k ≡ Some b → learned_four a ≡ learned_four b
   same_at k a b ea eb =
       let hold : HoldSameOffers (held_of a) (held_of b) = counted.met.same counted.alike k (λ a' b' ea' eb'. link_at k a' b' ea' eb') a b ea eb in
       λ i. all_four (hold.first i) (hold.second i) (hold.third i) (hold.fourth i)
@@ -90,7 +90,7 @@ module _ (old new : List (Option FourOffers)) (keeps : KeepsLearned old new) (al
   pub still : new ≡ old
   still = sym (equal_lists old new (sym keeps.count) still_at)
 
-module _ {H : Type 0} {h : naming.Ghosts H} (xs ys : List (Seats H h)) where
+module _ {H : Type 0} {h : naming.Ghosts H} (xs ys : List (NumberedSeat H h)) where
   pub counted_now : HaveCountedAll xs ys → HaveCounted xs ys
   counted_now counted = record {
     first = xs;
@@ -114,7 +114,7 @@ module _ {H : Type 0} {h : naming.Ghosts H} (xs ys : List (Seats H h)) where
     pub none_undecided : IsUndecided (learned_by xs) → ⊥
     none_undecided is = decided met.first met.second met.counted (subst (λ l. IsUndecided l) same_first is)
 
-pub link_one : {H : Type 0} {h : naming.Ghosts H} (program : Program rtl.FunctionData) (xs ys : List (Seats H h)) → HaveCounted xs ys → LinkOne program xs ys
+pub link_one : {H : Type 0} {h : naming.Ghosts H} (program : Program rtl.FunctionData) (xs ys : List (NumberedSeat H h)) → HaveCounted xs ys → LinkOne program xs ys
 link_one program xs ys met =
     let same : learned_by xs ≡ learned_by ys = one_learned xs ys met in
     record {

@@ -7,12 +7,12 @@ use Rattle.std.proofs.lemmas.Option.{slice_get-map, slice_get_within}
 use Rattle.rooms_hall.specs.declared.hall.Naming as naming
 use Rattle.rooms_cells.specs.Seen.{value_at}
 use Rattle.rooms.specs.SeatValue.{SeatValue, offer_of}
-use Rattle.farm_nodes_meeting.specs.Meeting.{Remains}
-use Rattle.farm_nodes_meeting.specs.Offers.{Constants, Expressions, Allocation, Order}
-use Rattle.farm_nodes_meeting.specs.Learned.{learned_offer, offer_learned}
-use Rattle.farm_nodes_meeting.specs.Seats.{Seats}
-use Rattle.farm_nodes_meeting.specs.Held.{held_of}
-use Rattle.farm_nodes_meeting.specs.Lists.{HaveMetAll}
+use Rattle.farm_nodes_seat_meeting.specs.Meeting.{Remains}
+use Rattle.farm_nodes_seat_meeting.specs.Offers.{Constants, Expressions, Allocation, Order}
+use Rattle.farm_nodes_seat_meeting.specs.Learned.{learned_offer, offer_learned}
+use Rattle.farm_nodes_seat_meeting.specs.NumberedSeat.{NumberedSeat}
+use Rattle.farm_nodes_seat_meeting.specs.Held.{held_of}
+use Rattle.farm_nodes_seat_meeting.specs.Lists.{HaveMetAll}
 use Rattle.farm_nodes_linked.specs.Alike.{KeepsLearned}
 use Rattle.farm_nodes_linked.specs.Learned.{FourOffers, all_four, learned_four, learned_by}
 use Rattle.farm_nodes_linked.proofs.Alike.{keeps_none}
@@ -61,8 +61,8 @@ at v xs k a e = slice_get-map v xs k ∙ ap (λ o. option_map v o) e
 
 module _ {H : Type 0} {h : naming.Ghosts H} where
   -- all functions, one by one
-  keeps_each : (xs xs' : List (Seats H h)) → length xs' ≡ length xs
-      → ((k : ℕ) (a a' : Seats H h) → slice_get xs k ≡ Some a → slice_get xs' k ≡ Some a' → (offers : FourOffers) → learned_four a ≡ Some offers → learned_four a' ≡ Some offers)
+  keeps_each : (xs xs' : List (NumberedSeat H h)) → length xs' ≡ length xs
+      → ((k : ℕ) (a a' : NumberedSeat H h) → slice_get xs k ≡ Some a → slice_get xs' k ≡ Some a' → (offers : FourOffers) → learned_four a ≡ Some offers → learned_four a' ≡ Some offers)
       → KeepsLearned (learned_by xs) (learned_by xs')
   keeps_each xs xs' long one = record {
     count = length-map xs' learned_four ∙ (long ∙ sym (length-map xs learned_four));
@@ -73,7 +73,7 @@ module _ {H : Type 0} {h : naming.Ghosts H} where
         at learned_four xs' k new.0 new.1 ∙ ap (λ o. Some o) (one k old.0 new.0 old.1 new.1 offers old.2);
   }
 
-  module _ (xs ys xs' ys' : List (Seats H h)) (count : ℕ) (met : HaveMetAll xs ys xs' ys' count held_of) where
+  module _ (xs ys xs' ys' : List (NumberedSeat H h)) (count : ℕ) (met : HaveMetAll xs ys xs' ys' count held_of) where
     pub first_keeps : KeepsLearned (learned_by xs) (learned_by xs')
     first_keeps = elim (cases_eq (length xs) (length ys)) [
       | inl alike ↦

@@ -1,7 +1,7 @@
 mod Lists
-mod Wanting
+pub mod Wanting
 mod Beside
 mod Exits
 pub mod Alike
 pub mod Kept
-pub use Rattle.farm_nodes_meeting.proofs.Sent
+pub use Rattle.farm_nodes_seat_meeting.proofs.Sent

@@ -1,5 +1,9 @@
--- Lists that are mapped, one element more.
+-- Lists that are mapped, one element more; the names that the translation keeps.
 use Rattle.std.proofs.Common.{◌≡◌, ℕ, zero, suc, ◌<◌, List, [], ◌∷◌, ◌++◌, map, length, take, get_or, refl, sym, ap, ◌∙◌, arith}
+use Rattle.lang_base.specs.declared.program.Named.{Named}
+use Rattle.cminor_syntax.specs.Trees.{FunctionTree}
+use Rattle.rtlgen_definition.specs.Gen.{gen_named}
+use Rattle.linker.specs.Chains.{names_of}
 
 push_map : {A C : Type 0} (f : A → C) (xs : List A) (x : A) → map f (xs ++ x ∷ []) ≡ map f xs ++ f x ∷ []
 push_map f [] x = refl
@@ -15,3 +19,7 @@ pub map_next : {A B C : Type 0} (f : A → C) (g : B → C) (xs : List A) (x : A
     → n < length ys → y ≡ get_or ys n y → map f xs ≡ map g (take n ys) → f x ≡ g y → map f (xs ++ x ∷ []) ≡ map g (take (suc n) ys)
 map_next f g xs x ys n y below is same e =
     push_map f xs x ∙ ((λ i. same i ++ e i ∷ []) ∙ sym (take_map g ys n y below is))
+
+pub names_translated : (functions : List (Named FunctionTree)) → names_of (map gen_named functions) ≡ names_of functions
+names_translated [] = refl
+names_translated (f ∷ functions) = ap (λ names. f.name ∷ names) (names_translated functions)

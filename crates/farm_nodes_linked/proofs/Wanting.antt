@@ -1,6 +1,6 @@
 -- Where offers of a function are wanting.
 use Rattle.std.proofs.Common.{◌≡◌, ◌≢◌, ℕ, zero, suc, ◌+◌, ◌<◌, ◌≤◌, List, [], ◌∷◌, map, length, get_or, Option, Some, None, refl, sym, ap, subst, ◌∙◌, arith, inl, inr}
-use Rattle.std.specs.Prelude.{slice_get, option_map}
+use Rattle.std.specs.Prelude.{is_some, slice_get, option_map, IsSome}
 use Rattle.std.proofs.lemmas.Bool.{cases_eq}
 use Rattle.std.proofs.lemmas.Option.{slice_get-get_or, slice_get-map, slice_get_within}
 use Rattle.lang_base.specs.declared.program.Named as code
@@ -31,10 +31,19 @@ all_decided learned n end none is =
     let within : is.function < length learned = slice_get_within learned is.function None is.wanting in
     none is.function (omega (arith, within, end)) is.wanting
 
+-- at each place something is learned where none is wanting
+pub some_at : (learned : List (Option FourOffers)) (n : ℕ) (o : Option FourOffers) → (IsUndecided learned → ⊥) → slice_get learned n ≡ Some o → IsSome o
+some_at learned n None decided here = absurd (decided (record { function = n; wanting = here }))
+some_at learned n (Some x) decided here = refl
+
 -- offers that are lent are there
 pub lent_some : (chain : Option Chain) → chain ≢ None → lent chain ≢ None
 lent_some None there e = there refl
 lent_some (Some c) there e = absurd (cc e)
+
+pub lent_is_some : (chain : Option Chain) → is_some chain ≡ is_some (lent chain)
+lent_is_some None = refl
+lent_is_some (Some c) = refl
 
 -- where all go on none is wanting
 pub none_wanting : (functions : List (code.Named FunctionData)) (learned : List (Option FourOffers)) (k : ℕ) → AllGoOn functions learned → slice_get learned k ≡ Some None → ⊥

@@ -4,9 +4,9 @@ use Rattle.lang_base.specs.declared.program.Program.{Program}
 use Rattle.rooms_hall.specs.declared.hall.Naming as naming
 use Rattle.rtl_language.specs.Function as rtl
 use Rattle.linear_language.specs.Function as linear
-use Rattle.farm_nodes_meeting.specs.Seats.{Seats}
-use Rattle.farm_nodes_meeting.specs.Held.{held_of}
-use Rattle.farm_nodes_meeting.specs.Lists.{HaveMetAll}
+use Rattle.farm_nodes_seat_meeting.specs.NumberedSeat.{NumberedSeat}
+use Rattle.farm_nodes_seat_meeting.specs.Held.{held_of}
+use Rattle.farm_nodes_seat_meeting.specs.Lists.{HaveMetAll}
 use Rattle.farm_nodes_linked.specs.Learned.{FourOffers, learned_by, IsUndecided}
 use Rattle.farm_nodes_linked.specs.Offered.{linked_offers}
 
@@ -17,30 +17,30 @@ pub record KeepsLearned (old new : List (Option FourOffers)) : Type 0 where
 
 module _ {H : Type 0} {h : naming.Ghosts H} where
   -- they have these seats since a meeting that counted all functions
-  pub record HaveCountedAll (xs ys : List (Seats H h)) : Type 0 where
-    pub first : List (Seats H h)
-    pub second : List (Seats H h)
+  pub record HaveCountedAll (xs ys : List (NumberedSeat H h)) : Type 0 where
+    pub first : List (NumberedSeat H h)
+    pub second : List (NumberedSeat H h)
     pub alike : length first ≡ length second
     pub met : HaveMetAll first second xs ys (length first) held_of
 
   -- they met, and all functions were counted; what each had learned then it has still
-  pub record HaveCounted (xs ys : List (Seats H h)) : Type 0 where
-    pub first : List (Seats H h)
-    pub second : List (Seats H h)
+  pub record HaveCounted (xs ys : List (NumberedSeat H h)) : Type 0 where
+    pub first : List (NumberedSeat H h)
+    pub second : List (NumberedSeat H h)
     pub counted : HaveCountedAll first second
     pub first_keeps : KeepsLearned (learned_by first) (learned_by xs)
     pub second_keeps : KeepsLearned (learned_by second) (learned_by ys)
 
   -- they have these seats since a meeting that did not count all functions of both
-  pub record HaveMissed (xs ys : List (Seats H h)) : Type 0 where
-    pub first : List (Seats H h)
-    pub second : List (Seats H h)
+  pub record HaveMissed (xs ys : List (NumberedSeat H h)) : Type 0 where
+    pub first : List (NumberedSeat H h)
+    pub second : List (NumberedSeat H h)
     pub count : ℕ
     pub met : HaveMetAll first second xs ys count held_of
     pub missed : count ≡ length xs → count ≡ length ys → ⊥
 
   -- none is undecided, they have learned the same offers, and all programs that these link are one
-  pub record LinkOne (program : Program rtl.FunctionData) (xs ys : List (Seats H h)) : Type 0 where
+  pub record LinkOne (program : Program rtl.FunctionData) (xs ys : List (NumberedSeat H h)) : Type 0 where
     pub first : IsUndecided (learned_by xs) → ⊥
     pub second : IsUndecided (learned_by ys) → ⊥
     pub same : learned_by xs ≡ learned_by ys

@@ -1,9 +1,9 @@
 -- The four offers of a function that a node has learned, as it has seen them.
 use Rattle.std.specs.Prelude.{◌≡◌, ℕ, List, map, slice_get, Option, Some, None}
 use Rattle.rooms_hall.specs.declared.hall.Naming as naming
-use Rattle.farm_nodes_meeting.specs.Offers.{Constants, Expressions, Allocation, Order}
-use Rattle.farm_nodes_meeting.specs.Seats.{Seats}
-use Rattle.farm_nodes_meeting.specs.Learned.{learned_offer}
+use Rattle.farm_nodes_seat_meeting.specs.Offers.{Constants, Expressions, Allocation, Order}
+use Rattle.farm_nodes_seat_meeting.specs.NumberedSeat.{NumberedSeat}
+use Rattle.farm_nodes_seat_meeting.specs.Learned.{learned_offer}
 
 -- an offer of each pass
 pub record FourOffers : Type 0 where
@@ -22,11 +22,11 @@ all_four (Some w) (Some x) (Some y) (Some z) = Some (record { first = w; second 
 
 module _ {H : Type 0} {h : naming.Ghosts H} where
   -- the offers learned in the four rooms, where in each one is learned and seen
-  abbrev pub learned_four : Seats H h → Option FourOffers
+  abbrev pub learned_four : NumberedSeat H h → Option FourOffers
   learned_four s = all_four (learned_offer s.seat.first) (learned_offer s.seat.second) (learned_offer s.seat.third) (learned_offer s.seat.fourth)
 
   -- by function
-  abbrev pub learned_by : List (Seats H h) → List (Option FourOffers)
+  abbrev pub learned_by : List (NumberedSeat H h) → List (Option FourOffers)
   learned_by seats = map learned_four seats
 
 -- of one of the functions the four offers are not learned and seen

@@ -1,5 +1,5 @@
 -- Why a node links no program: the first fault.
-use Rattle.std.specs.Prelude.{◌≢◌, ℕ, zero, suc, List, [], ◌∷◌, Option, Some, None}
+use Rattle.std.specs.Prelude.{◌≡◌, ◌≢◌, ℕ, zero, suc, List, [], ◌∷◌, Option, Some, None}
 use Rattle.lang_base.specs.declared.program.Named.{Named}
 use Rattle.lang_base.specs.declared.program.Program.{Program}
 use Rattle.cminor_syntax.specs.Trees.{FunctionTree}
@@ -44,3 +44,20 @@ IsUnlinked program names learned (Unchained i) = IsFirstBroken (gen program).fun
 abbrev pub IsRefused : Program FunctionTree → List (List ℕ) → List (Option FourOffers) → LinkedError → Type 0
 IsRefused program names learned Undecided = IsUndecided learned
 IsRefused program names learned (Link e) = IsUnlinked program names learned e
+
+-- why learned offers are not linked to a program that stands translated: the first function whose offers do not go on
+abbrev pub IsUnlinkedTo : Program FunctionData → List (Option FourOffers) → LinkError → Type 0
+IsUnlinkedTo program learned NoMemory = Unit {0}
+IsUnlinkedTo program learned Names = ⊥
+IsUnlinkedTo program learned (TooManyNodes i) = ⊥
+IsUnlinkedTo program learned (Missing i) = ⊥
+IsUnlinkedTo program learned (Unchained i) = IsFirstBroken program.functions learned i
+
+-- a room is undecided, or the offers are not linked
+abbrev pub IsRefusedTo : Program FunctionData → List (Option FourOffers) → LinkedError → Type 0
+IsRefusedTo program learned Undecided = IsUndecided learned
+IsRefusedTo program learned (Link e) = IsUnlinkedTo program learned e
+
+-- memory was refused
+abbrev pub IsNoMemory : LinkedError → Type 0
+IsNoMemory e = e ≡ Link NoMemory

@@ -21,8 +21,8 @@ ghost use Rattle.farm_nodes_linked.specs.Refused.{IsRefused};
 use crate::errors::LinkedError;
 use crate::learned::{chain_of, is_undecided};
 use c_checker_rules::CProgram;
-use farm_nodes_meeting::Seats;
 use farm_nodes_node::FarmNode;
+use farm_nodes_seat_meeting::NumberedSeat;
 use lang_base::{NoMemory, Program};
 use linear_language::Function;
 use linker::{LinkError, Named, link};
@@ -30,10 +30,10 @@ use rooms_hall::Naming;
 use std::alloc::Global;
 
 /// Each function's name, with the offers that were learned.
-fn named_of<'a, H: Naming>(
+pub(crate) fn named_of<'a, H: Naming>(
     alloc: Global,
     functions: &'a [lang_base::Named<rtl_language::Function>],
-    seats: &'a [Seats<H>],
+    seats: &'a [NumberedSeat<H>],
 ) -> Result<Vec<Named<'a>>, NoMemory>
     requires { length functions.now ≡ length seats.now }
     ensures names { IfOk result (λ named. names_beside named.items ≡ names_of functions.now) }

@@ -11,7 +11,7 @@ use Rattle.acceptor_log_form.specs.Order.{AreInOrder}
 use Rattle.acceptor_log.specs.declared.log.Log.{Log}
 use Rattle.acceptor_log.specs.Acknowledged.{acknowledged}
 use Rattle.farm_nodes_acting.specs.SeatState.{SeatState}
-use Rattle.farm_nodes_turn.specs.Advances.{Advances, AreOf}
+use Rattle.farm_nodes_turn.specs.JournalAdvances.{JournalAdvances, AreOf}
 use Rattle.farm_nodes_turn.specs.Numbers.{function_of, pass_of}
 use Rattle.farm_nodes_node.specs.declared.halted.Halted.{Halted}
 use Rattle.farm_nodes_turn.specs.Fours.{Four, words_of}
@@ -114,7 +114,7 @@ module _ {T1 T2 T3 T4 : Type 0} (room : ℕ) (old new : List (Four T1 T2 T3 T4))
 
 module _ {D T1 T2 T3 T4 : Type 0} (texts : Texts T1 T2 T3 T4) (seen : D → List ℕ) (may_leave : D → List ℕ → Type 0) (moment : D → ℕ) (left_since : D → ℕ → List ℕ → Type 0) where
   pub turns_into : (old new : Log D) (seats : List (Four T1 T2 T3 T4)) (halted : Option Halted) (room : ℕ) (s t : SeatState) (upto pending : List Record)
-      → new.header ≡ old.header → Advances seen may_leave moment left_since old new room s t upto pending
+      → new.header ≡ old.header → JournalAdvances seen may_leave moment left_since old new room s t upto pending
       → pending ≡ pending_in seats halted → Leave texts seats upto → AreOf (4 * length seats) upto
       → AreInOrder new.header.nodes new.header.node (4 * length seats) (upto ++ pending_in seats halted) → AreUnproposed seats upto → (halted ≡ None → upto ≡ acknowledged seen new)
       → TurnsBy texts seen may_leave moment left_since old new seats halted

@@ -8,8 +8,9 @@ use Rattle.acceptor_log_form.specs.Order.{AreInOrder}
 use Rattle.acceptor_log.specs.declared.log.Log.{Log}
 use Rattle.acceptor_log.specs.Acknowledged.{acknowledged}
 use Rattle.farm_nodes_order.specs.Ordered.{AreOrdered, IsOfOneNode, IsUnproposed}
+use Rattle.rooms_crash.specs.OfRun.{IsOfRun}
 use Rattle.farm_nodes_acting.specs.SeatState.{SeatState}
-use Rattle.farm_nodes_turn.specs.Advances.{Advances, AreOf}
+use Rattle.farm_nodes_turn.specs.JournalAdvances.{JournalAdvances, AreOf}
 use Rattle.farm_nodes_turn.specs.Served.{IsServed}
 use Rattle.farm_nodes_turn.specs.Fault.{Fault}
 use Rattle.farm_nodes_turn.specs.Halt.{Halt}
@@ -27,7 +28,7 @@ use Rattle.farm_nodes_turn.specs.Texts.{Texts, IsOwnTextIn}
 use Rattle.farm_nodes_turn.specs.Turned.{OthersStay, StaysIn}
 use Rattle.farm_nodes_node.specs.Told.{failure_of, turn_of}
 use Rattle.farm_nodes_turn.specs.Leaves.{Leave, left_in}
-use Rattle.farm_nodes_node.specs.Held.{pending_in, AreSeatsOf, AreUnproposed, IsSoundBy}
+use Rattle.farm_nodes_node.specs.Held.{pending_in, sizes_in, AreOfRuns, AreSeatsOf, AreUnproposed, IsSoundBy}
 use Rattle.farm_nodes_turn.specs.Turns.{PlayedIn}
 use Rattle.farm_nodes_node.specs.Stood.{TurnsBy}
 use Rattle.farm_nodes_turn.proofs.Places.{found, map_at, map_length, map_same}
@@ -62,6 +63,12 @@ stays_node Second s t stays = record { me = stays.me; quorums = stays.quorums }
 stays_node Third s t stays = record { me = stays.me; quorums = stays.quorums }
 stays_node Fourth s t stays = record { me = stays.me; quorums = stays.quorums }
 
+stays_run : {T1 T2 T3 T4 : Type 0} (p : Which) (s t : Four T1 T2 T3 T4) → StaysIn p s t → IsOfRun (words_of s p) → IsOfRun (words_of t p)
+stays_run First s t stays = stays.run.of_run
+stays_run Second s t stays = stays.run.of_run
+stays_run Third s t stays = stays.run.of_run
+stays_run Fourth s t stays = stays.run.of_run
+
 module _ {D X T1 T2 T3 T4 : Type 0} (texts : Texts T1 T2 T3 T4) (is_honest : D → Type 0) (seen : D → List ℕ) (may_leave : D → List ℕ → Type 0) (moment : D → ℕ)
     (left_since : D → ℕ → List ℕ → Type 0) (faults : D → ℕ) (f : X → Four T1 T2 T3 T4) (old new : Log D) (room : ℕ) (xs ys : List X) (was : Option Halted)
     (served : IsServed is_honest seen may_leave faults old new) (sound : IsSoundBy texts is_honest seen may_leave old (map f xs) was)
@@ -81,7 +88,7 @@ module _ {D X T1 T2 T3 T4 : Type 0} (texts : Texts T1 T2 T3 T4) (is_honest : D �
       subst (λ (rs : List Record). AreOf (4 * length xs) rs) (u.2 none)
       (subst (λ (n : ℕ). AreOf (4 * n) u.0) (map_length f xs) u.1.named)
 
-  named_now : (s t : SeatState) (upto pending : List Record) → Advances seen may_leave moment left_since old new room s t upto pending
+  named_now : (s t : SeatState) (upto pending : List Record) → JournalAdvances seen may_leave moment left_since old new room s t upto pending
       → is_honest old.disk → AreOf (4 * length (map f ys)) upto
   named_now s t upto pending advances honest =
       let below : room < 4 * length xs = omega arith in
@@ -97,12 +104,20 @@ module _ {D X T1 T2 T3 T4 : Type 0} (texts : Texts T1 T2 T3 T4) (is_honest : D �
         me = turned_rooms room (map f xs) (map f ys) (f x.0) (f y.0) (map_at f xs (function_of room) x.0 x.1) (map_at f ys (function_of room) y.0 y.1)
             (λ g other. map_same f ys xs g (others g other)) (stay x.0 y.0 x.1 y.1)
             (λ m w. w.node.me ≡ old.header.node) (λ m w. w.node.me ≡ old.header.node) (λ e. one.me ∙ e) (λ m w other e. e) sound.own.me;
-        count = turned_rooms room (map f xs) (map f ys) (f x.0) (f y.0) (map_at f xs (function_of room) x.0 x.1) (map_at f ys (function_of room) y.0 y.1)
+        quorums = turned_rooms room (map f xs) (map f ys) (f x.0) (f y.0) (map_at f xs (function_of room) x.0 x.1) (map_at f ys (function_of room) y.0 y.1)
             (λ g other. map_same f ys xs g (others g other)) (stay x.0 y.0 x.1 y.1)
-            (λ m w. w.node.quorums.nodes ≡ old.header.nodes) (λ m w. w.node.quorums.nodes ≡ old.header.nodes)
-            (λ e. ap (λ (q : Sizes). q.nodes) one.quorums ∙ e) (λ m w other e. e) sound.own.count;
+            (λ m w. w.node.quorums ≡ sizes_in old.header) (λ m w. w.node.quorums ≡ sizes_in old.header) (λ e. one.quorums ∙ e) (λ m w other e. e) sound.own.quorums;
       } in
       subst (λ (h : Header). AreSeatsOf h (map f ys)) (sym served.header) of
+
+  -- and of its run
+  of_runs_now : AreOfRuns (map f ys)
+  of_runs_now =
+      let x = found xs (function_of room) low in
+      let y = found ys (function_of room) (subst (λ (n : ℕ). function_of room < n) (sym count) low) in
+      turned_rooms room (map f xs) (map f ys) (f x.0) (f y.0) (map_at f xs (function_of room) x.0 x.1) (map_at f ys (function_of room) y.0 y.1)
+      (λ g other. map_same f ys xs g (others g other)) (stay x.0 y.0 x.1 y.1)
+      (λ m w. IsOfRun w) (λ m w. IsOfRun w) (stays_run (pass_of room) (f x.0) (f y.0) (stays x.0 y.0 x.1 y.1)) (λ m w other e. e) sound.of_runs
 
   -- the room's records before are in order
   ordered : is_honest old.disk → (x : X) → slice_get xs (function_of room) ≡ Some x → AreOrdered (4 * length xs) room (words_of (f x) (pass_of room)) (acknowledged seen old)
@@ -112,7 +127,7 @@ module _ {D X T1 T2 T3 T4 : Type 0} (texts : Texts T1 T2 T3 T4) (is_honest : D �
       let nothing : u.0 ++ pending_in (map f xs) was ≡ acknowledged seen old =
       ap (λ (h : Option Halted). u.0 ++ pending_in (map f xs) h) none ∙ (append-nil u.0 ∙ u.2 none) in
       record {
-        in_order = subst (λ (n : ℕ). AreInOrder n (words_of (f x) (pass_of room)).node.me (4 * length xs) (acknowledged seen old)) (sym (sound.own.count room (f x) at))
+        in_order = subst (λ (n : ℕ). AreInOrder n (words_of (f x) (pass_of room)).node.me (4 * length xs) (acknowledged seen old)) (sym (ap (λ (q : Sizes). q.nodes) (sound.own.quorums room (f x) at)))
             (subst (λ (i : ℕ). AreInOrder old.header.nodes i (4 * length xs) (acknowledged seen old)) (sym (sound.own.me room (f x) at))
             (subst (λ (rs : List Record). AreInOrder old.header.nodes old.header.node (4 * length xs) rs) nothing
             (subst (λ (n : ℕ). AreInOrder old.header.nodes old.header.node (4 * n) (u.0 ++ pending_in (map f xs) was)) (map_length f xs) u.1.in_order)));
@@ -121,7 +136,7 @@ module _ {D X T1 T2 T3 T4 : Type 0} (texts : Texts T1 T2 T3 T4) (is_honest : D �
       }
 
   module _ (honest : is_honest old.disk) (x y : X) (p : slice_get xs (function_of room) ≡ Some x) (q : slice_get ys (function_of room) ≡ Some y) (halted : Option Halted) (upto pending : List Record)
-      (advances : Advances seen may_leave moment left_since old new room (words_of (f x) (pass_of room)) (words_of (f y) (pass_of room)) upto pending)
+      (advances : JournalAdvances seen may_leave moment left_since old new room (words_of (f x) (pass_of room)) (words_of (f y) (pass_of room)) upto pending)
       (told : TellNew (IsOwnTextIn texts (pass_of room) (f y)) room (words_of (f x) (pass_of room)) (words_of (f y) (pass_of room)) (acknowledged seen old) upto)
       (same : pending ≡ pending_in (map f ys) halted) where
     low_room : room < 4 * length xs
@@ -150,7 +165,7 @@ module _ {D X T1 T2 T3 T4 : Type 0} (texts : Texts T1 T2 T3 T4) (is_honest : D �
         subst (λ (h : Header). AreInOrder h.nodes h.node (4 * length (map f ys)) (upto ++ pending_in (map f ys) halted)) (sym served.header)
         (subst (λ (n : ℕ). AreInOrder old.header.nodes old.header.node (4 * n) (upto ++ pending_in (map f ys) halted)) (sym (map_length f ys ∙ count))
         (subst (λ (i : ℕ). AreInOrder old.header.nodes i (4 * length xs) (upto ++ pending_in (map f ys) halted)) (sound.own.me room (f x) at)
-        (subst (λ (n : ℕ). AreInOrder n (words_of (f x) (pass_of room)).node.me (4 * length xs) (upto ++ pending_in (map f ys) halted)) (sound.own.count room (f x) at) order)))
+        (subst (λ (n : ℕ). AreInOrder n (words_of (f x) (pass_of room)).node.me (4 * length xs) (upto ++ pending_in (map f ys) halted)) (ap (λ (q : Sizes). q.nodes) (sound.own.quorums room (f x) at)) order)))
 
     unproposed_now : AreUnproposed (map f ys) upto
     unproposed_now =
@@ -193,12 +208,14 @@ module _ {D X T1 T2 T3 T4 : Type 0} (texts : Texts T1 T2 T3 T4) (is_honest : D �
     journal = served.sound;
     going = λ e. went ∙ sound.going none;
     own = seats_now;
+    of_runs = of_runs_now;
     upto = λ honest. let i = into (Ok progress) journal (served.honest.0 honest) in (i.upto, i.stands, i.all);
   }
   sound_now (Err halt) journal went = record {
     journal = served.sound;
     going = λ e. absurd (cc);
     own = seats_now;
+    of_runs = of_runs_now;
     upto = λ honest. let i = into (Err halt) journal (served.honest.0 honest) in (i.upto, i.stands, i.all);
   }
 

@@ -11,5 +11,5 @@ pub use Rattle.farm_nodes_turn.specs.Which
 pub use Rattle.farm_nodes_turn.specs.Offers
 pub use Rattle.farm_nodes_turn.specs.Pending
 pub use Rattle.farm_nodes_turn.specs.Texts
-pub use Rattle.farm_nodes_turn.specs.Seats
+pub use Rattle.farm_nodes_turn.specs.NumberedSeat
 pub use Rattle.farm_nodes_turn.specs.Played

@@ -7,7 +7,7 @@ mod learning;
 mod node;
 mod turn;
 
-pub use farm_nodes_turn::{Oracles, Seats, Which};
+pub use farm_nodes_turn::{NumberedSeat, Oracles, Which};
 pub use halted::Halted;
 pub use node::FarmNode;
 pub use turn::Turn;

@@ -6,7 +6,7 @@ use crate::learning::learned_in;
 use crate::turn::Turn;
 use acceptor_log::{Log, LogError};
 use durable_model::Disk;
-use farm_nodes_turn::{Fault, Oracles, Seats, Which, function_in, turn_in};
+use farm_nodes_turn::{Fault, NumberedSeat, Oracles, Which, function_in, turn_in};
 use lang_base::Program;
 use rand_pcg::Pcg32;
 use rooms_hall::Naming;
@@ -19,7 +19,7 @@ use std::sync::Arc;
 pub struct FarmNode<D, O, H: Naming> {
     pub alloc: Global,
     pub log: Log<D>,
-    pub seats: Vec<Seats<H>>,
+    pub seats: Vec<NumberedSeat<H>>,
     /// The program with which the first pass begins, shared by the nodes of a farm.
     pub program: Arc<Program<Function>>,
     pub oracles: O,

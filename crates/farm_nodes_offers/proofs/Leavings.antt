@@ -18,7 +18,7 @@ use Rattle.farm_nodes_acting.proofs.Orders.{Follows}
 use Rattle.farm_nodes_acting.proofs.Results.{Grown}
 use Rattle.farm_nodes_acting.proofs.Runs.{none, then}
 use Rattle.farm_nodes_acting.proofs.Steps.{no_more}
-use Rattle.farm_nodes_acting.specs.Advances.{Advances}
+use Rattle.farm_nodes_acting.specs.JournalAdvances.{JournalAdvances}
 use Rattle.farm_nodes_order.proofs.Told.{offer_own, offer_stays}
 use Rattle.farm_nodes_offers.specs.Halted.{HasLeft, HasHaltCause, fault_by_journal}
 use Rattle.farm_nodes_offers.specs.Told.{offer_by, offer_in, IsOwnText, TellNew}
@@ -99,7 +99,7 @@ module _ {D : Type 0} (is_honest : D → Type 0) (seen : D → List ℕ) (may_le
 
   -- a call that makes no offer leaves what was told of one
   tell_on : (Is Now : List ℕ → Type 0) (old mid new : Log D) (room : ℕ) (s m t : SeatState) (upto pending : List Record)
-      → Advances seen may_leave moment left_since old mid room s m (acknowledged seen mid) [] → Advances seen may_leave moment left_since mid new room m t upto pending
+      → JournalAdvances seen may_leave moment left_since old mid room s m (acknowledged seen mid) [] → JournalAdvances seen may_leave moment left_since mid new room m t upto pending
       → t.node.kept.offered ≡ m.node.kept.offered → ((text : List ℕ) → Is text → Now text) → TellNew Is room s m (acknowledged seen old) (acknowledged seen mid)
       → TellNew Now room s t (acknowledged seen old) upto
   tell_on Is Now old mid new room s m t upto pending first second same stays told rooms low ordered before now =
@@ -124,7 +124,7 @@ module _ {D : Type 0} (is_honest : D → Type 0) (seen : D → List ℕ) (may_le
   pub left_after : (Is Now : List ℕ → Type 0) (old mid new : Log D) (room : ℕ) (s m t : SeatState) (a : Bool) (pending : List Record) → mid.header ≡ old.header
       → Grown is_honest seen may_leave moment left_since old mid room s m a
       → t.node.kept.offered ≡ m.node.kept.offered → ((text : List ℕ) → Is text → Now text) → TellNew Is room s m (acknowledged seen old) (acknowledged seen mid)
-      → (upto : List Record) × Advances seen may_leave moment left_since mid new room m t upto pending → Left Now old new room s t pending
+      → (upto : List Record) × JournalAdvances seen may_leave moment left_since mid new room m t upto pending → Left Now old new room s t pending
   left_after Is Now old mid new room s m t a pending header first same stays told second = (
     second.0,
     then seen may_leave moment left_since old mid new room s m t second.0 pending header first.advances second.1,

@@ -8,7 +8,7 @@ use Rattle.acceptor_log.specs.declared.log.Log.{Log}
 use Rattle.acceptor_log.specs.Acknowledged.{acknowledged}
 use Rattle.farm_nodes_acting.specs.SeatState.{SeatState}
 use Rattle.farm_nodes_acting.specs.declared.stop.Pending.{Pending}
-use Rattle.farm_nodes_acting.specs.Advances.{Advances}
+use Rattle.farm_nodes_acting.specs.JournalAdvances.{JournalAdvances}
 use Rattle.farm_nodes_acting.specs.Cause.{HasCause}
 use Rattle.farm_nodes_acting.specs.Journalled.{HasGrown}
 use Rattle.farm_nodes_acting.specs.Noted.{pending_of}
@@ -45,7 +45,7 @@ left_over room s (Some p) = pending_of room s p
 abbrev pub HasLeft : {D : Type 0} → (List ℕ → Type 0) → (D → List ℕ) → (D → List ℕ → Type 0) → (D → ℕ)
     → (D → ℕ → List ℕ → Type 0) → Log D → Log D → ℕ → SeatState → SeatState → List Record → Type 0
 HasLeft Is seen may_leave moment left_since old new room s t pending =
-    (upto : List Record) × Advances seen may_leave moment left_since old new room s t upto pending
+    (upto : List Record) × JournalAdvances seen may_leave moment left_since old new room s t upto pending
     × TellNew Is room s t (acknowledged seen old) upto
 
 -- What a call leaves of the journal, by its result.

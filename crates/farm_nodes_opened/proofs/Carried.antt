@@ -4,11 +4,11 @@ use Rattle.std.specs.Global.{Vec}
 use Rattle.acceptor_log_form.specs.declared.record.Record.{Record}
 use Rattle.paxos_core_world.specs.Quorum.{Sizes}
 use Rattle.rooms_hall.specs.declared.hall.Naming as naming
-use Rattle.farm_nodes_records.specs.Seats.{Seats}
+use Rattle.farm_nodes_records.specs.NumberedSeat.{NumberedSeat}
 use Rattle.farm_nodes_lists.specs.Rows.{rows_of}
 use Rattle.farm_nodes_functions.specs.RoomFault.{RoomFault}
 use Rattle.farm_nodes_joining.proofs.Moving.{map-map}
-use Rattle.farm_nodes_seated.specs.Refused.{HasBadRecord, HasRefusedOffer, IsUnopened}
+use Rattle.farm_nodes_seated.specs.Refused.{HasBadRecord, HasRefusedOffer, IsRoomUnopened}
 use Rattle.farm_nodes_seated.specs.Seated.{AreSeated}
 
 module _ {J : Type 0} (f g : ℕ) (js ks : List (J × Vec Record)) (same : f ≡ g) (are : js ≡ ks) where
@@ -20,13 +20,13 @@ module _ {J : Type 0} (f g : ℕ) (js ks : List (J × Vec Record)) (same : f ≡
   refused_of node told =
       subst (λ (n : ℕ). HasRefusedOffer n ks node) same (subst (λ (l : List (J × Vec Record)). HasRefusedOffer f l node) are told)
 
-  pub unopened_of : (q : Sizes) (room : ℕ) (fault : RoomFault) → IsUnopened f js q room fault → IsUnopened g ks q room fault
+  pub unopened_of : (q : Sizes) (room : ℕ) (fault : RoomFault) → IsRoomUnopened f js q room fault → IsRoomUnopened g ks q room fault
   unopened_of q room fault told =
-      subst (λ (n : ℕ). IsUnopened n ks q room fault) same (subst (λ (l : List (J × Vec Record)). IsUnopened f l q room fault) are told)
+      subst (λ (n : ℕ). IsRoomUnopened n ks q room fault) same (subst (λ (l : List (J × Vec Record)). IsRoomUnopened f l q room fault) are told)
 
-  pub seated_of : {H : Type 0} {h : naming.Ghosts H} (q : Sizes) (rows more : List (List (Seats H h))) → rows ≡ more → AreSeated q f js rows → AreSeated q g ks more
+  pub seated_of : {H : Type 0} {h : naming.Ghosts H} (q : Sizes) (rows more : List (List (NumberedSeat H h))) → rows ≡ more → AreSeated q f js rows → AreSeated q g ks more
   seated_of {H} {h} q rows more rows_are told =
-      subst (λ (r : List (List (Seats H h))). AreSeated q g ks r) rows_are
+      subst (λ (r : List (List (NumberedSeat H h))). AreSeated q g ks r) rows_are
       (subst (λ (n : ℕ). AreSeated q n ks rows) same (subst (λ (l : List (J × Vec Record)). AreSeated q f l rows) are told))
 
 -- what stands in the lists of the nodes

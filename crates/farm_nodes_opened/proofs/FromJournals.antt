@@ -24,7 +24,7 @@ use Rattle.offers.specs.declared.parts.Parts.{Parts}
 use Rattle.rooms.specs.SeatValue.{SeatValue}
 use Rattle.rooms_hall.specs.Claimed.{Claimed}
 use Rattle.rooms_hall.specs.declared.hall.Naming as naming
-use Rattle.farm_nodes_records.specs.Seats.{Seats}
+use Rattle.farm_nodes_records.specs.NumberedSeat.{NumberedSeat}
 use Rattle.farm_nodes_records.specs.Which.{Which}
 use Rattle.farm_nodes_records.specs.Which.TheVariants.{First, Second, Third, Fourth}
 use Rattle.farm_nodes_disks.specs.Journals.{header_of, AreOpened, IsOpened}
@@ -32,7 +32,7 @@ use Rattle.farm_nodes_stored.specs.Nodes.{AreMade}
 use Rattle.farm_nodes_stored.specs.Read.{AreKept}
 use Rattle.farm_nodes_stored.specs.Checked.{AreOffers}
 use Rattle.farm_nodes_opened.specs.Back.{IsJournalOn}
-use Rattle.farm_nodes_opened.specs.Opened.{AreOpenFrom, AreOpenIn}
+use Rattle.farm_nodes_opened.specs.Opened.{AreOpenFromJournals, AreOpenIn}
 use Rattle.farm_nodes_seated.specs.Seated.{AreSeated, AreSeatedIn, first_seat, second_seat, third_seat, fourth_seat}
 use Rattle.farm_nodes_seated.proofs.Lists.{found_at, map_at}
 
@@ -81,19 +81,19 @@ module _ {D : Type 0} (disk : disks.Ghosts D) (pair : pairs.Ghosts D) (q : Sizes
       opened = seated.opened;
     }
 
-  module _ {H : Type 0} {h : naming.Ghosts H} (functions : ℕ) (rows : List (List (Seats H h))) (seated : AreSeated q functions journals rows) where
+  module _ {H : Type 0} {h : naming.Ghosts H} (functions : ℕ) (rows : List (List (NumberedSeat H h))) (seated : AreSeated q functions journals rows) where
     kept_at : (i : ℕ) (log : Log D) (k : Vec KeptPart) → slice_get logs i ≡ Some log → slice_get seated.kept i ≡ Some k → disk.is_honest log.disk → AreKept functions (length logs) i (acknowledged disk.seen log) k.items
     kept_at i log k at there =
         let j : (j : Log D × Vec Record) × (slice_get journals i ≡ Some j) × (j.0 ≡ log) = log_at i log at in
         told (λ (n : ℕ) (rs : List Record). AreKept functions n i rs k.items) i log j.0 j.1 j.2 (seated.are_kept.each i j.0 k j.1 there)
 
-    pub open_from : AreOpenFrom disk.is_honest disk.seen q functions logs rows
+    pub open_from : AreOpenFromJournals disk.is_honest disk.seen q functions logs rows
     open_from = record {
       kept = seated.kept;
       are_kept = record { count = seated.are_kept.count ∙ sym as_many; each = kept_at };
       settled = seated.settled;
-      first = open_in rtl_language.ghosts rtl_language.ghosts constants.ghosts First functions seated.kept (λ (s : Seats H h). first_seat s) rows seated.first;
-      second = open_in rtl_language.ghosts rtl_language.ghosts expressions.ghosts Second functions seated.kept (λ (s : Seats H h). second_seat s) rows seated.second;
-      third = open_in rtl_language.ghosts ltl_language.ghosts allocation.ghosts Third functions seated.kept (λ (s : Seats H h). third_seat s) rows seated.third;
-      fourth = open_in ltl_language.ghosts linear_language.ghosts order.ghosts Fourth functions seated.kept (λ (s : Seats H h). fourth_seat s) rows seated.fourth;
+      first = open_in rtl_language.ghosts rtl_language.ghosts constants.ghosts First functions seated.kept (λ (s : NumberedSeat H h). first_seat s) rows seated.first;
+      second = open_in rtl_language.ghosts rtl_language.ghosts expressions.ghosts Second functions seated.kept (λ (s : NumberedSeat H h). second_seat s) rows seated.second;
+      third = open_in rtl_language.ghosts ltl_language.ghosts allocation.ghosts Third functions seated.kept (λ (s : NumberedSeat H h). third_seat s) rows seated.third;
+      fourth = open_in ltl_language.ghosts linear_language.ghosts order.ghosts Fourth functions seated.kept (λ (s : NumberedSeat H h). fourth_seat s) rows seated.fourth;
     }

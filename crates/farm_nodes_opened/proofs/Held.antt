@@ -28,7 +28,7 @@ use Rattle.alloc_check.specs.contracts.pass.AllocPass.TheImpl as allocation
 use Rattle.linearize_check.specs.contracts.pass.LinearizePass.TheImpl as order
 use Rattle.rooms_hall.specs.Claimed.{Claimed}
 use Rattle.rooms_hall.specs.declared.hall.Naming as naming
-use Rattle.farm_nodes_acting.specs.Advances.{AreOf}
+use Rattle.farm_nodes_acting.specs.JournalAdvances.{AreOf}
 use Rattle.farm_nodes_acting.proofs.Rooms.{none_of_others, of_rooms}
 use Rattle.farm_nodes_records.specs.Fours.{Four, four_of, fours_of, words_of}
 use Rattle.farm_nodes_records.specs.Leaves.{Leave}
@@ -38,16 +38,17 @@ use Rattle.farm_nodes_offers.specs.Pending.{IsOfferText}
 use Rattle.farm_nodes_records.specs.Written.{offer_in}
 use Rattle.farm_nodes_records.specs.Numbers.{function_of, pass_at, pass_of, place_of, room_at}
 use Rattle.farm_nodes_records.specs.Offers.{Constants, Expressions, Allocation, Order}
-use Rattle.farm_nodes_records.specs.Seats.{Seats}
+use Rattle.farm_nodes_records.specs.NumberedSeat.{NumberedSeat}
 use Rattle.farm_nodes_records.specs.Which.{Which}
 use Rattle.farm_nodes_records.specs.Which.TheVariants.{First, Second, Third, Fourth}
 use Rattle.farm_nodes_lists.specs.Rows.{rows_of}
 use Rattle.farm_nodes_functions.specs.Opened.{AreOpenedIn}
-use Rattle.farm_nodes_functions.proofs.Seated.{seat_offers, seat_opens}
+use Rattle.farm_nodes_functions.proofs.Seated.{seat_of_run, seat_offers, seat_opens}
 use Rattle.farm_nodes_stored.proofs.Texts.{offer_told}
 use Rattle.farm_nodes_disks.specs.Journals.{AreOpened, IsOpened, header_of}
 use Rattle.farm_nodes_stored.specs.Read.{AreKept}
-use Rattle.farm_nodes_node.specs.Held.{AreSeatsOf, AreUnproposed}
+use Rattle.farm_nodes_node.specs.Held.{AreOfRuns, AreSeatsOf, AreUnproposed}
+use Rattle.rooms_crash.specs.OfRun.{IsOfRun}
 use Rattle.farm_nodes_joining.specs.Joined.{AreHeld, IsHeld}
 use Rattle.farm_nodes_seated.specs.Seated.{AreSeated, AreSeatedIn, first_seat, second_seat, third_seat, fourth_seat}
 use Rattle.farm_nodes_seated.proofs.Lists.{all_at, at_map, found_at, map_at}
@@ -89,48 +90,65 @@ module _ {J P A B C I O N : Type 0} (from : language.Ghosts A I) (to : language.
       seat_offers q kept which functions (rows_of seated.offers) show rows sizes long seated.opened i f row x at is ∙ (offer_there seated.offers f i o.0 y.0 o.1 y.1 ∙ told.2.1) in
       (told.0, told.1, (told.2.0, ap (λ (k : ℕ). offer_of (show x).0 k) me ∙ seen, told.2.2))
 
-module _ {J H : Type 0} {h : naming.Ghosts H} (q : Sizes) (functions : ℕ) (journals : List (J × Vec Record)) (rows : List (List (Seats H h))) (sizes : AreQuorums q) (seated : AreSeated q functions journals rows) where
-  module _ (i : ℕ) (row : List (Seats H h)) (k : Vec KeptPart) (j : J × Vec Record) (at : slice_get rows i ≡ Some row) (k_at : slice_get seated.kept i ≡ Some k) (j_at : slice_get journals i ≡ Some j) where
+module _ {J H : Type 0} {h : naming.Ghosts H} (q : Sizes) (functions : ℕ) (journals : List (J × Vec Record)) (rows : List (List (NumberedSeat H h))) (sizes : AreQuorums q) (seated : AreSeated q functions journals rows) where
+  module _ (i : ℕ) (row : List (NumberedSeat H h)) (k : Vec KeptPart) (j : J × Vec Record) (at : slice_get rows i ≡ Some row) (k_at : slice_get seated.kept i ≡ Some k) (j_at : slice_get journals i ≡ Some j) where
     part : AreKept functions (length journals) i j.1.items k.items
     part = seated.are_kept.each i j k j_at k_at
 
-    keeps : (pass : Which) (f : ℕ) (s : Seats H h) → f < functions → slice_get row f ≡ Some s → (words_of (four_of s) pass).node ≡ node_with i q (kept_in j.1.items (room_at f pass))
+    keeps : (pass : Which) (f : ℕ) (s : NumberedSeat H h) → f < functions → slice_get row f ≡ Some s → (words_of (four_of s) pass).node ≡ node_with i q (kept_in j.1.items (room_at f pass))
     keeps First f s below here =
-        seat_is q seated.kept First functions (rows_of seated.first.offers) (λ (x : Seats H h). first_seat x) rows sizes seated.long seated.first.opened (length journals) i f row s k j.1.items at here k_at part below
+        seat_is q seated.kept First functions (rows_of seated.first.offers) (λ (x : NumberedSeat H h). first_seat x) rows sizes seated.long seated.first.opened (length journals) i f row s k j.1.items at here k_at part below
     keeps Second f s below here =
-        seat_is q seated.kept Second functions (rows_of seated.second.offers) (λ (x : Seats H h). second_seat x) rows sizes seated.long seated.second.opened (length journals) i f row s k j.1.items at here k_at part below
+        seat_is q seated.kept Second functions (rows_of seated.second.offers) (λ (x : NumberedSeat H h). second_seat x) rows sizes seated.long seated.second.opened (length journals) i f row s k j.1.items at here k_at part below
     keeps Third f s below here =
-        seat_is q seated.kept Third functions (rows_of seated.third.offers) (λ (x : Seats H h). third_seat x) rows sizes seated.long seated.third.opened (length journals) i f row s k j.1.items at here k_at part below
+        seat_is q seated.kept Third functions (rows_of seated.third.offers) (λ (x : NumberedSeat H h). third_seat x) rows sizes seated.long seated.third.opened (length journals) i f row s k j.1.items at here k_at part below
     keeps Fourth f s below here =
-        seat_is q seated.kept Fourth functions (rows_of seated.fourth.offers) (λ (x : Seats H h). fourth_seat x) rows sizes seated.long seated.fourth.opened (length journals) i f row s k j.1.items at here k_at part below
+        seat_is q seated.kept Fourth functions (rows_of seated.fourth.offers) (λ (x : NumberedSeat H h). fourth_seat x) rows sizes seated.long seated.fourth.opened (length journals) i f row s k j.1.items at here k_at part below
 
-    owns : (pass : Which) (f : ℕ) (s : Seats H h) → f < functions → slice_get row f ≡ Some s → (kept_in j.1.items (room_at f pass)).offered ≡ true
+    owns : (pass : Which) (f : ℕ) (s : NumberedSeat H h) → f < functions → slice_get row f ≡ Some s → (kept_in j.1.items (room_at f pass)).offered ≡ true
         → IsToldAs (IsOwnTextIn pass_texts pass (four_of s)) (offer_in j.1.items (room_at f pass))
     owns First f s below here offered =
-        owned rtl_language.ghosts rtl_language.ghosts constants.ghosts First q functions journals seated.kept (λ (x : Seats H h). first_seat x) rows sizes seated.long seated.first i f row s j at here j_at below (ap (λ n. n.me) (keeps First f s below here)) offered
+        owned rtl_language.ghosts rtl_language.ghosts constants.ghosts First q functions journals seated.kept (λ (x : NumberedSeat H h). first_seat x) rows sizes seated.long seated.first i f row s j at here j_at below (ap (λ n. n.me) (keeps First f s below here)) offered
     owns Second f s below here offered =
-        owned rtl_language.ghosts rtl_language.ghosts expressions.ghosts Second q functions journals seated.kept (λ (x : Seats H h). second_seat x) rows sizes seated.long seated.second i f row s j at here j_at below (ap (λ n. n.me) (keeps Second f s below here)) offered
+        owned rtl_language.ghosts rtl_language.ghosts expressions.ghosts Second q functions journals seated.kept (λ (x : NumberedSeat H h). second_seat x) rows sizes seated.long seated.second i f row s j at here j_at below (ap (λ n. n.me) (keeps Second f s below here)) offered
     owns Third f s below here offered =
-        owned rtl_language.ghosts ltl_language.ghosts allocation.ghosts Third q functions journals seated.kept (λ (x : Seats H h). third_seat x) rows sizes seated.long seated.third i f row s j at here j_at below (ap (λ n. n.me) (keeps Third f s below here)) offered
+        owned rtl_language.ghosts ltl_language.ghosts allocation.ghosts Third q functions journals seated.kept (λ (x : NumberedSeat H h). third_seat x) rows sizes seated.long seated.third i f row s j at here j_at below (ap (λ n. n.me) (keeps Third f s below here)) offered
     owns Fourth f s below here offered =
-        owned ltl_language.ghosts linear_language.ghosts order.ghosts Fourth q functions journals seated.kept (λ (x : Seats H h). fourth_seat x) rows sizes seated.long seated.fourth i f row s j at here j_at below (ap (λ n. n.me) (keeps Fourth f s below here)) offered
+        owned ltl_language.ghosts linear_language.ghosts order.ghosts Fourth q functions journals seated.kept (λ (x : NumberedSeat H h). fourth_seat x) rows sizes seated.long seated.fourth i f row s j at here j_at below (ap (λ n. n.me) (keeps Fourth f s below here)) offered
+
+    runs : length journals ≡ q.nodes → (pass : Which) (f : ℕ) (s : NumberedSeat H h) → f < functions → slice_get row f ≡ Some s → IsOfRun (words_of (four_of s) pass)
+    runs many First f s below here =
+        seat_of_run q seated.kept First functions (rows_of seated.first.offers) (λ (x : NumberedSeat H h). first_seat x) rows sizes seated.long seated.first.opened i f row s at here (omega (arith, many, seated.are_kept.count)) (seated.settled f below)
+    runs many Second f s below here =
+        seat_of_run q seated.kept Second functions (rows_of seated.second.offers) (λ (x : NumberedSeat H h). second_seat x) rows sizes seated.long seated.second.opened i f row s at here (omega (arith, many, seated.are_kept.count)) (seated.settled f below)
+    runs many Third f s below here =
+        seat_of_run q seated.kept Third functions (rows_of seated.third.offers) (λ (x : NumberedSeat H h). third_seat x) rows sizes seated.long seated.third.opened i f row s at here (omega (arith, many, seated.are_kept.count)) (seated.settled f below)
+    runs many Fourth f s below here =
+        seat_of_run q seated.kept Fourth functions (rows_of seated.fourth.offers) (λ (x : NumberedSeat H h). fourth_seat x) rows sizes seated.long seated.fourth.opened i f row s at here (omega (arith, many, seated.are_kept.count)) (seated.settled f below)
 
     row_size : length row ≡ functions
-    row_size = all_at (λ (r : List (Seats H h)). length r ≡ functions) rows i row seated.long at
+    row_size = all_at (λ (r : List (NumberedSeat H h)). length r ≡ functions) rows i row seated.long at
 
     fours_size : length (fours_of row) ≡ functions
     fours_size = length-map row four_of ∙ row_size
 
     node_is : (m : ℕ) (s : Four Constants Expressions Allocation Order) → slice_get (fours_of row) (function_of m) ≡ Some s → (words_of s (pass_of m)).node ≡ node_with i q (kept_in j.1.items m)
     node_is m s got =
-        let found : (x : Seats H h) × (slice_get row (function_of m) ≡ Some x) × (four_of x ≡ s) = map_at four_of row (function_of m) s got in
+        let found : (x : NumberedSeat H h) × (slice_get row (function_of m) ≡ Some x) × (four_of x ≡ s) = map_at four_of row (function_of m) s got in
         let low : function_of m < functions = omega (arith, slice_get_within row (function_of m) found.0 found.1, row_size) in
         ap (λ (four : Four Constants Expressions Allocation Order). (words_of four (pass_of m)).node) (sym found.2) ∙ keeps (pass_of m) (function_of m) found.0 low found.1
         ∙ ap (λ room. node_with i q (kept_in j.1.items room)) (room_is m)
 
     -- each seat is the node's, and proposes nothing
     seats_of : (digest : List ℕ) → AreSeatsOf (header_of q digest i) (fours_of row)
-    seats_of digest = record { me = λ m s got. ap (λ n. n.me) (node_is m s got); count = λ m s got. ap (λ n. n.quorums.nodes) (node_is m s got) }
+    seats_of digest = record { me = λ m s got. ap (λ n. n.me) (node_is m s got); quorums = λ m s got. ap (λ n. n.quorums) (node_is m s got) }
+
+    -- each is of its run
+    of_runs : length journals ≡ q.nodes → AreOfRuns (fours_of row)
+    of_runs many m s got =
+        let found : (x : NumberedSeat H h) × (slice_get row (function_of m) ≡ Some x) × (four_of x ≡ s) = map_at four_of row (function_of m) s got in
+        let low : function_of m < functions = omega (arith, slice_get_within row (function_of m) found.0 found.1, row_size) in
+        subst (λ (four : Four Constants Expressions Allocation Order). IsOfRun (words_of four (pass_of m))) found.2 (runs many (pass_of m) (function_of m) found.0 low found.1)
 
     unproposed_of : AreUnproposed (fours_of row) j.1.items
     unproposed_of m s got b is none = let bad : Some b ≡ None = sym is ∙ ap (λ n. n.ballot) (node_is m s got) in absurd (cc)
@@ -145,7 +163,7 @@ module _ {J H : Type 0} {h : naming.Ghosts H} (q : Sizes) (functions : ℕ) (jou
           let beyond : 4 * functions ≤ m = omega (arith, over, fours_size) in
           none_of_others kept_by (4 * functions) m j.1.items nothing_kept (of_rooms (length journals) i (4 * functions) j.1.items part.in_order) beyond;
       offers = λ m s got now.
-          let found : (x : Seats H h) × (slice_get row (function_of m) ≡ Some x) × (four_of x ≡ s) = map_at four_of row (function_of m) s got in
+          let found : (x : NumberedSeat H h) × (slice_get row (function_of m) ≡ Some x) × (four_of x ≡ s) = map_at four_of row (function_of m) s got in
           let low : function_of m < functions = omega (arith, slice_get_within row (function_of m) found.0 found.1, row_size) in
           let offered : (kept_in j.1.items (room_at (function_of m) (pass_of m))).offered ≡ true =
           ap (λ room. (kept_in j.1.items room).offered) (room_is m) ∙ (ap (λ n. n.kept.offered) (sym (node_is m s got)) ∙ now) in
@@ -159,20 +177,21 @@ module _ {J H : Type 0} {h : naming.Ghosts H} (q : Sizes) (functions : ℕ) (jou
         subst (λ (n : ℕ). AreOf (4 * n) j.1.items) (sym fours_size) (of_rooms (length journals) i (4 * functions) j.1.items part.in_order)
 
 -- so it is of all nodes
-module _ {D H : Type 0} {h : naming.Ghosts H} (disk : disks.Ghosts D) (pair : pairs.Ghosts D) (q : Sizes) (digest : List ℕ) (given : List D) (functions : ℕ) (journals : List (Log D × Vec Record)) (seats : List (Vec (Seats H h)))
+module _ {D H : Type 0} {h : naming.Ghosts H} (disk : disks.Ghosts D) (pair : pairs.Ghosts D) (q : Sizes) (digest : List ℕ) (given : List D) (functions : ℕ) (journals : List (Log D × Vec Record)) (seats : List (Vec (NumberedSeat H h)))
     (opened : AreOpened disk pair q digest given (length given) journals) (sizes : AreQuorums q) (seated : AreSeated q functions journals (rows_of seats)) (nodes : length given ≡ q.nodes) where
-  held_at : (i : ℕ) (j : Log D × Vec Record) (s : Vec (Seats H h)) → slice_get journals i ≡ Some j → slice_get seats i ≡ Some s → IsHeld pass_texts disk.is_honest disk.seen disk.may_leave j.0 (fours_of s.items)
+  held_at : (i : ℕ) (j : Log D × Vec Record) (s : Vec (NumberedSeat H h)) → slice_get journals i ≡ Some j → slice_get seats i ≡ Some s → IsHeld pass_texts disk.is_honest disk.seen disk.may_leave j.0 (fours_of s.items)
   held_at i j s at here =
       let within : i < length journals = slice_get_within journals i j at in
       let d : (d : D) × (slice_get given i ≡ Some d) = found_at given i (omega (arith, within, opened.size)) in
       let k : (k : Vec KeptPart) × (slice_get seated.kept i ≡ Some k) = found_at seated.kept i (omega (arith, within, seated.are_kept.count)) in
       let is : IsOpened disk pair (header_of q digest i) d.0 j.0 j.1.items = opened.each i j d.0 at d.1 in
-      let row_at : slice_get (rows_of seats) i ≡ Some s.items = at_map (λ (v : Vec (Seats H h)). v.items) seats i s here in
+      let row_at : slice_get (rows_of seats) i ≡ Some s.items = at_map (λ (v : Vec (NumberedSeat H h)). v.items) seats i s here in
       let same : (honest : disk.is_honest j.0.disk) → acknowledged disk.seen j.0 ≡ j.1.items = λ honest. is.acknowledged_are (is.honest.0 honest) in
       record {
         sound = is.sound;
         going = is.going;
         own = subst (λ (g : Header). AreSeatsOf g (fours_of s.items)) (sym is.header_is) (seats_of q functions journals (rows_of seats) sizes seated i s.items k.0 j row_at k.1 at digest);
+        of_runs = of_runs q functions journals (rows_of seats) sizes seated i s.items k.0 j row_at k.1 at (opened.size ∙ nodes);
         leave = λ honest. subst (λ (rs : List Record). Leave pass_texts (fours_of s.items) rs) (sym (same honest)) (leave_of q functions journals (rows_of seats) sizes seated i s.items k.0 j row_at k.1 at);
         in_order = λ honest.
             subst (λ (g : Header). AreInOrder g.nodes g.node (4 * length (fours_of s.items)) (acknowledged disk.seen j.0)) (sym is.header_is)
@@ -181,5 +200,5 @@ module _ {D H : Type 0} {h : naming.Ghosts H} (disk : disks.Ghosts D) (pair : pa
         named = λ honest. subst (λ (rs : List Record). AreOf (4 * length (fours_of s.items)) rs) (sym (same honest)) (named_of q functions journals (rows_of seats) sizes seated i s.items k.0 j row_at k.1 at);
       }
 
-  pub held : AreHeld pass_texts disk.is_honest disk.seen disk.may_leave (λ (j : Log D × Vec Record). j.0) (λ (s : Vec (Seats H h)). fours_of s.items) journals seats
-  held = record { count = sym (length-map seats (λ (v : Vec (Seats H h)). v.items)) ∙ seated.count; each = held_at }
+  pub held : AreHeld pass_texts disk.is_honest disk.seen disk.may_leave (λ (j : Log D × Vec Record). j.0) (λ (s : Vec (NumberedSeat H h)). fours_of s.items) journals seats
+  held = record { count = sym (length-map seats (λ (v : Vec (NumberedSeat H h)). v.items)) ∙ seated.count; each = held_at }

@@ -18,7 +18,7 @@ use Rattle.offers.specs.declared.parts.Parts.{Parts}
 use Rattle.rooms.specs.SeatValue.{SeatValue}
 use Rattle.rooms_hall.specs.Claimed.{Claimed}
 use Rattle.rooms_hall.specs.declared.hall.Naming as naming
-use Rattle.farm_nodes_records.specs.Seats.{Seats}
+use Rattle.farm_nodes_records.specs.NumberedSeat.{NumberedSeat}
 use Rattle.farm_nodes_records.specs.Which.{Which}
 use Rattle.farm_nodes_records.specs.Which.TheVariants.{First, Second, Third, Fourth}
 use Rattle.farm_nodes_lists.specs.Rows.{rows_of}
@@ -41,7 +41,7 @@ module _ {D : Type 0} (is_honest : D → Type 0) (seen : D → List ℕ) (q : Si
 
   -- What the nodes have kept is what the records leave that their journals have acknowledged. It is settled in each room, with quorums of
   -- these sizes, and so the rooms of all passes are opened.
-  pub record AreOpenFrom {H : Type 0} {h : naming.Ghosts H} (rows : List (List (Seats H h))) : Type 0 where
+  pub record AreOpenFromJournals {H : Type 0} {h : naming.Ghosts H} (rows : List (List (NumberedSeat H h))) : Type 0 where
     pub kept : List (Vec KeptPart)
     pub are_kept : AreMade (λ i log k. is_honest log.disk → AreKept functions (length logs) i (acknowledged seen log) k.items)
         logs (length logs) kept

@@ -8,8 +8,8 @@ ghost use Rattle.farm_nodes_joining.specs.Waiting.{IsWaiting};
 ghost use Rattle.farm_nodes_stored.specs.Nodes.{AreMade};
 ghost use Rattle.farm_nodes_joining.specs.Words.{generators};
 ghost use Rattle.farm_nodes_opened.specs.Back.{IsBack, IsJournalOn};
-ghost use Rattle.farm_nodes_opened.specs.Opened.{AreOpenFrom};
-ghost use Rattle.farm_nodes_seated.specs.Refused.{HasBadRecord, HasRefusedOffer, IsUnopened};
+ghost use Rattle.farm_nodes_opened.specs.Opened.{AreOpenFromJournals};
+ghost use Rattle.farm_nodes_seated.specs.Refused.{HasBadRecord, HasRefusedOffer, IsRoomUnopened};
 ghost use Rattle.farm_nodes_opened.specs.Refused.{IsRefusedJournal, OfJournals};
 
 use crate::back::{with_disks, with_refused};
@@ -64,7 +64,7 @@ where
     ensures waiting { IfOk result (λ nodes. All (λ n. IsWaiting n.seats.items n.halted) nodes.items) }
 
     // The rooms open from what the journals have acknowledged.
-    ensures rooms { IfOk result (λ nodes. AreOpenFrom P.is_honest P.seen quorums (length (arc_value program.now).functions)
+    ensures rooms { IfOk result (λ nodes. AreOpenFromJournals P.is_honest P.seen quorums (length (arc_value program.now).functions)
         (map (λ n. n.log) nodes.items) (map (λ n. n.seats.items) nodes.items)) }
 
     // All pairs come back, and what is told is the first fault.
@@ -79,7 +79,7 @@ where
         (λ journals. HasRefusedOffer (length (arc_value program.now).functions) journals node)) }
     ensures unopened { IfErr result (λ it. (room : ℕ) (fault : RoomFault) → it.1 ≡ OpenFault.Room room fault →
         OfJournals P.Disk P.Pair.own quorums digest.now pairs.items
-        (λ journals. IsUnopened (length (arc_value program.now).functions) journals quorums room fault)) }
+        (λ journals. IsRoomUnopened (length (arc_value program.now).functions) journals quorums room fault)) }
 {
     let _nodes = quorums.nodes();
     let functions = program.functions.len() as u16;

@@ -5,7 +5,7 @@ use Rattle.farm_nodes_offers.specs.SeatValue.{SeatValue}
 use Rattle.rooms_hall.specs.Claimed.{Claimed}
 use Rattle.rooms_hall.specs.declared.hall.Naming as naming
 use Rattle.farm_nodes_passes.specs.Offers.{Constants, Expressions, Allocation, Order}
-use Rattle.rooms_numbered.specs.declared.seats.Seats.{Seats}
+use Rattle.rooms_numbered.specs.declared.seat.NumberedSeat.{NumberedSeat}
 use Rattle.farm_nodes_passes.specs.declared.which.Which.{Which}
 use Rattle.farm_nodes_passes.specs.declared.which.Which.TheVariants.{First, Second, Third, Fourth}
 
@@ -25,7 +25,7 @@ words_of s Third = s.third.words
 words_of s Fourth = s.fourth.words
 
 module _ {H : Type 0} {h : naming.Ghosts H} where
-  abbrev pub four_of : Seats H h → Four Constants Expressions Allocation Order
+  abbrev pub four_of : NumberedSeat H h → Four Constants Expressions Allocation Order
   four_of s = record {
     first = s.seat.first;
     second = s.seat.second;
@@ -35,5 +35,5 @@ module _ {H : Type 0} {h : naming.Ghosts H} where
   }
 
   -- by function
-  abbrev pub fours_of : List (Seats H h) → List (Four Constants Expressions Allocation Order)
+  abbrev pub fours_of : List (NumberedSeat H h) → List (Four Constants Expressions Allocation Order)
   fours_of seats = map four_of seats

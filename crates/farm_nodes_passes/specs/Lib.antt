@@ -4,7 +4,7 @@ pub mod Fours
 pub mod Leaves
 pub mod Texts
 pub mod Pending
-pub use Rattle.rooms_numbered.specs.declared.seats.Seats
+pub use Rattle.rooms_numbered.specs.declared.seat.NumberedSeat
 pub use Rattle.rooms_numbered.specs.FunctionOf
 pub use Rattle.rooms_numbered.specs.AllocPass
 pub use Rattle.rooms_numbered.specs.FunctionSeat

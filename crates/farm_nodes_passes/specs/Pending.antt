@@ -2,7 +2,7 @@
 use Rattle.std.specs.Prelude.{ℕ, List, Option}
 use Rattle.rooms_hall.specs.declared.hall.Naming as naming
 use Rattle.farm_nodes_offers.specs.PendingStop.{Pending}
-use Rattle.rooms_numbered.specs.declared.seats.Seats.{Seats}
+use Rattle.rooms_numbered.specs.declared.seat.NumberedSeat.{NumberedSeat}
 use Rattle.farm_nodes_passes.specs.declared.which.Which.{Which}
 use Rattle.farm_nodes_passes.specs.Fours.{four_of, fours_of}
 use Rattle.farm_nodes_passes.specs.Leaves.{MayPend, MayPendIn}
@@ -10,9 +10,9 @@ use Rattle.farm_nodes_passes.specs.Offers.{IsConstants, IsExpressions, IsAllocat
 
 module _ {H : Type 0} {h : naming.Ghosts H} where
   -- with the seat of a pass
-  abbrev pub HasPending : Seats H h → ℕ → Which → Option Pending → Type 0
+  abbrev pub HasPending : NumberedSeat H h → ℕ → Which → Option Pending → Type 0
   HasPending s room which p = MayPendIn IsConstants IsExpressions IsAllocation IsOrder room which (four_of s) p
 
   -- with the seat of the room
-  abbrev pub HavePending : List (Seats H h) → ℕ → Option Pending → Type 0
+  abbrev pub HavePending : List (NumberedSeat H h) → ℕ → Option Pending → Type 0
   HavePending seats room p = MayPend IsConstants IsExpressions IsAllocation IsOrder room (fours_of seats) p

@@ -8,5 +8,5 @@ mod which;
 pub use farm_nodes_offers::{Fault, Halt};
 pub use oracles::{AllocationOf, ConstantsOf, ExpressionsOf, Oracles, OrderOf};
 pub use passes::Passes;
-pub use rooms_numbered::{FunctionSeat, Seats, meet};
+pub use rooms_numbered::{FunctionSeat, NumberedSeat, meet};
 pub use which::Which;

@@ -12,6 +12,8 @@ use Rattle.offers.specs.declared.parts.Parts.{Parts}
 use Rattle.rooms_cells.specs.Seen.{SightOf, Read, nothing_seen, value_at, names_of}
 use Rattle.rooms_state.specs.SeatState.{SeatState}
 use Rattle.rooms.specs.SeatValue.{SeatValue, IsOneRoom, offer_of}
+use Rattle.rooms_crash.specs.OfRun.{GoesOn}
+use Rattle.rooms_crash.proofs.Keeping.{goes_offering, goes_through, goes_to}
 use Rattle.farm_nodes_leading.specs.Cause.{HasCause}
 use Rattle.farm_nodes_leading.specs.Pending.{Pending}
 use Rattle.farm_nodes_leading.specs.Pending.TheVariants.{Act, Offer}
@@ -47,6 +49,7 @@ held_same s t e = record {
   learned = ap (λ u. u.words.node.learned) e;
   offered = λ o. ap (λ u. u.words.node.kept.offered) e ∙ o;
   seen = seen_same s t e;
+  run = goes_to s.words t.words (ap (λ u. u.words) e);
 }
 
 own_or : {T : Type 0} (x : T) (s t : SeatValue T) (j : ℕ) (y : T) (b : Bool) → eqb j s.words.node.me ≡ b → PutsOffer x s t → offer_of s j ≡ Some y → offer_of t j ≡ Some y
@@ -66,6 +69,7 @@ held_offered x s t has room = record {
   learned = ap (λ (u : SeatState). u.node.learned) has.words;
   offered = λ o. ap (λ (u : SeatState). u.node.kept.offered) has.words;
   seen = λ j y is. own_or x s t j y (eqb j s.words.node.me) refl has is;
+  run = subst (λ (u : SeatState). GoesOn s.words u) (sym has.words) (goes_offering s.words);
 }
 
 pub offered_now : {T : Type 0} (x : T) (s t : SeatValue T) → PutsOffer x s t → t.words.node.kept.offered ≡ true
@@ -80,6 +84,7 @@ stays_on {T} s m t held remains sights = record {
   learned = λ v e. remains.learned v (held.learned ∙ e);
   offered = λ o. remains.offered ∙ held.offered o;
   seen = λ j x is. ap (λ (ss : List (SightOf T)). value_at ss j) sights ∙ held.seen j x is;
+  run = goes_through s.words m.words t.words held.run remains.run;
 }
 
 pub stays_taking : {T : Type 0} (s m : SeatValue T) (w v : SeatState) (ss : List (SightOf T)) → record { words = w; sights = ss } ≡ m → HeldOffer s m → StaysInRoom w v
@@ -89,7 +94,7 @@ stays_taking {T} s m w v ss is held remains =
     (subst (λ (u : SeatValue T). HeldOffer s u) (sym is) held) remains refl
 
 pub stays_held : {T : Type 0} (s t : SeatValue T) → HeldOffer s t → StaysInTurn s t
-stays_held s t held = record { room = held.room; me = held.me; quorums = held.quorums; learned = λ v e. held.learned ∙ e; offered = held.offered; seen = held.seen }
+stays_held s t held = record { room = held.room; me = held.me; quorums = held.quorums; learned = λ v e. held.learned ∙ e; offered = held.offered; seen = held.seen; run = held.run }
 
 -- and looking at a cell the words
 pub stays_seeing : {T : Type 0} (s m t : SeatValue T) → StaysInTurn s m → t.words ≡ m.words → IsOneRoom m t → SeesOn m t → StaysInTurn s t
@@ -100,6 +105,7 @@ stays_seeing s m t stays words room seen = record {
   learned = λ v e. ap (λ (u : SeatState). u.node.learned) words ∙ stays.learned v e;
   offered = λ o. ap (λ (u : SeatState). u.node.kept.offered) words ∙ stays.offered o;
   seen = λ j x is. seen j x (stays.seen j x is);
+  run = subst (λ (u : SeatState). GoesOn s.words u) (sym words) stays.run;
 }
 
 seen_at : {T : Type 0} (xs : List (SightOf T)) (j : ℕ) (at : SightOf T) (x : T) → value_at xs j ≡ Some x → at.value ≡ Some x → value_at (set xs j at) j ≡ Some x

@@ -5,6 +5,7 @@ use Rattle.acceptor_log.specs.Acknowledged.{acknowledged}
 use Rattle.offers.specs.declared.parts.Parts.{Parts}
 use Rattle.rooms_state.specs.SeatState.{SeatState}
 use Rattle.rooms.specs.SeatValue.{SeatValue, IsOneRoom, offer_of}
+use Rattle.rooms_crash.specs.OfRun.{GoesOn}
 use Rattle.farm_nodes_leading.specs.Journalled.{HasGrown}
 use Rattle.farm_nodes_offers.specs.declared.halt.Fault.{Fault}
 use Rattle.farm_nodes_offers.specs.declared.halt.Fault.TheVariants.{NoMemory, Journal, TooManyRegisters, OtherRecords, CellRefused}
@@ -47,7 +48,7 @@ IsMadeOn {I} {O} {C} input old new =
 abbrev pub SeesOn : {T : Type 0} → SeatValue T → SeatValue T → Type 0
 SeesOn {T} old new = (j : ℕ) (x : T) → offer_of old j ≡ Some x → offer_of new j ≡ Some x
 
--- what making an offer leaves of a seat: all but the offer
+-- what making an offer leaves of a seat: all but the offer; it goes on in its run
 pub record HeldOffer {T : Type 0} (old new : SeatValue T) : Type 0 where
   pub room : IsOneRoom old new
   pub me : new.words.node.me ≡ old.words.node.me
@@ -55,8 +56,9 @@ pub record HeldOffer {T : Type 0} (old new : SeatValue T) : Type 0 where
   pub learned : new.words.node.learned ≡ old.words.node.learned
   pub offered : old.words.node.kept.offered ≡ true → new.words.node.kept.offered ≡ true
   pub seen : SeesOn old new
+  pub run : GoesOn old.words new.words
 
--- what a turn leaves of a seat: the room, its node, its offer, and what it had learned and seen
+-- what a turn leaves of a seat: the room, its node, its offer, and what it had learned and seen; it goes on in its run
 pub record StaysInTurn {T : Type 0} (old new : SeatValue T) : Type 0 where
   pub room : IsOneRoom old new
   pub me : new.words.node.me ≡ old.words.node.me
@@ -64,6 +66,7 @@ pub record StaysInTurn {T : Type 0} (old new : SeatValue T) : Type 0 where
   pub learned : (v : ℕ) → old.words.node.learned ≡ Some v → new.words.node.learned ≡ Some v
   pub offered : old.words.node.kept.offered ≡ true → new.words.node.kept.offered ≡ true
   pub seen : SeesOn old new
+  pub run : GoesOn old.words new.words
 
 -- What a turn leaves of the journal, by its result: what it tells is what was learned, and whether it has more records. An
 -- offer that was made is told, by a text that is so.

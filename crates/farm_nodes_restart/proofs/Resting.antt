@@ -8,6 +8,8 @@ use Rattle.acceptor_log_form.specs.declared.record.Record.{Record}
 use Rattle.rooms.specs.SeatValue.{SeatValue}
 use Rattle.rooms_state.specs.Did.{Forgotten}
 use Rattle.rooms_state.specs.SeatState.{SeatState}
+use Rattle.rooms_crash.specs.OfRun.{IsOfRun, StandsInRun}
+use Rattle.rooms_crash.proofs.Keeping.{acted_opening, acted_stands, forgotten_of_run, forgotten_opening, offered_of_run}
 use Rattle.farm_nodes_acting.specs.declared.stop.Pending.{Pending}
 use Rattle.farm_nodes_acting.specs.declared.stop.Pending.TheVariants.{Act, Offer}
 use Rattle.farm_nodes_order.specs.Ordered.{IsOfOneNode}
@@ -21,35 +23,62 @@ use Rattle.farm_nodes_restart_seat.proofs.Places.{get_set_other, get_set_same, s
 use Rattle.farm_nodes_restart_records.proofs.Rooms.{same_room}
 use Rattle.farm_nodes_restart.proofs.Afterwards.{others_words}
 
-took_node : {T : Type 0} (IsText : List ℕ → T → Type 0) (room : ℕ) (p : Pending) (old new : SeatValue T) → Took IsText room p old new → IsOfOneNode old.words new.words
-took_node IsText room (Act a) old new took = record { me = took.0.me; quorums = took.0.quorums }
-took_node IsText room (Offer r) old new took =
-    record { me = ap (λ (s : SeatState). s.node.me) took.4.words; quorums = ap (λ (s : SeatState). s.node.quorums) took.4.words }
+-- what is done with a seat, or not done, leaves it its node's, and with nothing that does not stand in its run
+record Went (s t : SeatState) : Type 0 where
+  pub node : IsOfOneNode s t
+  pub opening : t.view.opening ≡ s.view.opening
+  pub stands : IsOfRun s → StandsInRun t
 
-same_node : (s t : SeatState) → s ≡ t → IsOfOneNode s t
-same_node s t e = record { me = ap (λ (u : SeatState). u.node.me) (sym e); quorums = ap (λ (u : SeatState). u.node.quorums) (sym e) }
+-- what forgetting leaves
+record Forgot (s t : SeatState) : Type 0 where
+  pub node : IsOfOneNode s t
+  pub ballot : t.node.ballot ≡ None
+  pub opening : t.view.opening ≡ s.view.opening
+  pub of_run : StandsInRun s → IsOfRun t
 
-forgotten_rest : (s t : SeatState) → Forgotten s t → IsAtRest s t
+took_node : {T : Type 0} (IsText : List ℕ → T → Type 0) (room : ℕ) (p : Pending) (old new : SeatValue T) → Took IsText room p old new → Went old.words new.words
+took_node IsText room (Act a) old new took = record {
+  node = record { me = took.0.me; quorums = took.0.quorums };
+  opening = acted_opening a old.words new.words took.0;
+  stands = acted_stands a old.words new.words took.0;
+}
+took_node IsText room (Offer r) old new took = record {
+  node = record { me = ap (λ (s : SeatState). s.node.me) took.4.words; quorums = ap (λ (s : SeatState). s.node.quorums) took.4.words };
+  opening = ap (λ (s : SeatState). s.view.opening) took.4.words;
+  stands = λ h. subst (λ (s : SeatState). StandsInRun s) (sym took.4.words) (offered_of_run old.words h).stands;
+}
+
+same_node : (s t : SeatState) → s ≡ t → Went s t
+same_node s t e = record {
+  node = record { me = ap (λ (u : SeatState). u.node.me) (sym e); quorums = ap (λ (u : SeatState). u.node.quorums) (sym e) };
+  opening = ap (λ (u : SeatState). u.view.opening) (sym e);
+  stands = λ h. subst (λ (u : SeatState). StandsInRun u) e h.stands;
+}
+
+forgotten_rest : (s t : SeatState) → Forgotten s t → Forgot s t
 forgotten_rest s t forgot = record {
   node = record { me = ap (λ (u : SeatState). u.node.me) forgot.after; quorums = ap (λ (u : SeatState). u.node.quorums) forgot.after };
   ballot = ap (λ (u : SeatState). u.node.ballot) forgot.after;
+  opening = forgotten_opening s t forgot;
+  of_run = forgotten_of_run s t forgot;
 }
 
-four_rest : {X1 X2 X3 X4 : Type 0} (old new : Four X1 X2 X3 X4) (w : Which) → HaveForgotten old new → IsAtRest (words_of old w) (words_of new w)
+four_rest : {X1 X2 X3 X4 : Type 0} (old new : Four X1 X2 X3 X4) (w : Which) → HaveForgotten old new → Forgot (words_of old w) (words_of new w)
 four_rest old new First forgot = forgotten_rest old.first.words new.first.words forgot.first.words
 four_rest old new Second forgot = forgotten_rest old.second.words new.second.words forgot.second.words
 four_rest old new Third forgot = forgotten_rest old.third.words new.third.words forgot.third.words
 four_rest old new Fourth forgot = forgotten_rest old.fourth.words new.fourth.words forgot.fourth.words
 
-rest_through : (s u t : SeatState) → IsOfOneNode s u → IsAtRest u t → IsAtRest s t
+rest_through : (s u t : SeatState) → Went s u → Forgot u t → IsAtRest s t
 rest_through s u t first second = record {
-  node = record { me = second.node.me ∙ first.me; quorums = second.node.quorums ∙ first.quorums };
+  node = record { me = second.node.me ∙ first.node.me; quorums = second.node.quorums ∙ first.node.quorums };
   ballot = second.ballot;
+  run = record { opening = second.opening ∙ first.opening; of_run = λ h. second.of_run (first.stands h) };
 }
 
 module _ {X1 X2 X3 X4 : Type 0} (IsText1 : List ℕ → X1 → Type 0) (IsText2 : List ℕ → X2 → Type 0)
     (IsText3 : List ℕ → X3 → Type 0) (IsText4 : List ℕ → X4 → Type 0) (room : ℕ) where
-  taken_node : (w : Which) (p : Pending) (old new : Four X1 X2 X3 X4) → TookIn IsText1 IsText2 IsText3 IsText4 room w p old new → IsOfOneNode (words_of old w) (words_of new w)
+  taken_node : (w : Which) (p : Pending) (old new : Four X1 X2 X3 X4) → TookIn IsText1 IsText2 IsText3 IsText4 room w p old new → Went (words_of old w) (words_of new w)
   taken_node First p old new took = took_node IsText1 room p old.first new.first took.0
   taken_node Second p old new took = took_node IsText2 room p old.second new.second took.0
   taken_node Third p old new took = took_node IsText3 room p old.third new.third took.0
@@ -58,17 +87,17 @@ module _ {X1 X2 X3 X4 : Type 0} (IsText1 : List ℕ → X1 → Type 0) (IsText2 
   -- each seat is its node's
   abbrev AreOne : List (Four X1 X2 X3 X4) → List (Four X1 X2 X3 X4) → Type 0
   AreOne old new = (m : ℕ) (s t : Four X1 X2 X3 X4) → slice_get old (function_of m) ≡ Some s → slice_get new (function_of m) ≡ Some t
-      → IsOfOneNode (words_of s (pass_of m)) (words_of t (pass_of m))
+      → Went (words_of s (pass_of m)) (words_of t (pass_of m))
 
   module _ (p : Pending) (old new : List (Four X1 X2 X3 X4)) (took : TookAt IsText1 IsText2 IsText3 IsText4 room p old new) where
     now_at : (f : ℕ) → slice_get new f ≡ slice_get (set old (function_of room) took.after) f
     now_at f = ap (λ (l : List (Four X1 X2 X3 X4)). slice_get l f) took.new_is
 
     -- with the seats of the room's function
-    changed_node : (m : ℕ) → function_of m ≡ function_of room → IsOfOneNode (words_of took.before (pass_of m)) (words_of took.after (pass_of m))
+    changed_node : (m : ℕ) → function_of m ≡ function_of room → Went (words_of took.before (pass_of m)) (words_of took.after (pass_of m))
     changed_node m same = elim (cases_eq m room) [
       | inl here ↦
-          subst (λ (k : ℕ). IsOfOneNode (words_of took.before (pass_of k)) (words_of took.after (pass_of k))) (sym here)
+          subst (λ (k : ℕ). Went (words_of took.before (pass_of k)) (words_of took.after (pass_of k))) (sym here)
           (taken_node (pass_of room) p took.before took.after took.change)
       | inr other ↦
           same_node (words_of took.before (pass_of m)) (words_of took.after (pass_of m))
@@ -82,8 +111,8 @@ module _ {X1 X2 X3 X4 : Type 0} (IsText1 : List ℕ → X1 → Type 0) (IsText2 
           let after : took.after ≡ t =
           some_same (slice_get new (function_of m)) took.after t
           (now_at (function_of m) ∙ (ap (λ (j : ℕ). slice_get (set old (function_of room) took.after) j) same ∙ get_set_same old (function_of room) took.before took.after took.there)) now in
-          subst (λ (x : Four X1 X2 X3 X4). IsOfOneNode (words_of x (pass_of m)) (words_of t (pass_of m))) before
-          (subst (λ (x : Four X1 X2 X3 X4). IsOfOneNode (words_of took.before (pass_of m)) (words_of x (pass_of m))) after (changed_node m same))
+          subst (λ (x : Four X1 X2 X3 X4). Went (words_of x (pass_of m)) (words_of t (pass_of m))) before
+          (subst (λ (x : Four X1 X2 X3 X4). Went (words_of took.before (pass_of m)) (words_of x (pass_of m))) after (changed_node m same))
       | inr apart ↦
           let same : s ≡ t =
           some_same (slice_get old (function_of m)) s t at

@@ -10,6 +10,7 @@ use Rattle.acceptor_log_form.specs.Text.{StandsFor}
 use Rattle.farm_nodes_acting.specs.declared.stop.Pending.{Pending}
 use Rattle.farm_nodes_acting.specs.declared.stop.Pending.TheVariants.{Act, Offer}
 use Rattle.rooms_state.specs.SeatState.{SeatState}
+use Rattle.rooms_crash.specs.OfRun.{GoesOn}
 use Rattle.farm_nodes_order.specs.Ordered.{IsOfOneNode}
 use Rattle.farm_nodes_restart_records.specs.Fours.{Four, words_of}
 use Rattle.farm_nodes_restart_records.specs.Leaves.{Leave}
@@ -31,10 +32,11 @@ pub record HaveForgotten {X1 X2 X3 X4 : Type 0} (old new : Four X1 X2 X3 X4) : T
   pub fourth : HasForgotten old.fourth new.fourth
   pub number : new.number ≡ old.number
 
--- the seat is its node's as it was, and has no ballot under way
+-- the seat is its node's as it was, has no ballot under way, and goes on in its run
 pub record IsAtRest (old new : SeatState) : Type 0 where
   pub node : IsOfOneNode old new
   pub ballot : new.node.ballot ≡ None
+  pub run : GoesOn old new
 
 -- so are all
 pub record AreAtRest {X1 X2 X3 X4 : Type 0} (old new : List (Four X1 X2 X3 X4)) : Type 0 where

@@ -7,7 +7,7 @@ ghost use Rattle.farm_nodes_restart.specs.Returned.{HaveForgotten};
 ghost use Rattle.farm_nodes_restart.specs.Seats.{IsPendingWith, TookWith};
 
 use farm_nodes_acting::Pending;
-use farm_nodes_restart_records::{Seats, Which};
+use farm_nodes_restart_records::{NumberedSeat, Which};
 use farm_nodes_restart_seat::{RestartFault, forget, take};
 use rooms_hall::Naming;
 use std::alloc::Global;
@@ -15,7 +15,7 @@ use std::alloc::Global;
 /// Does what is pending in the room, which is the one of this pass.
 pub(crate) fn take_in<H: Naming>(
     alloc: Global,
-    seats: &mut Seats<H>,
+    seats: &mut NumberedSeat<H>,
     pass: Which,
     room: u16,
     pending: &Pending,
@@ -34,7 +34,7 @@ pub(crate) fn take_in<H: Naming>(
 }
 
 /// All four forget.
-pub(crate) fn forget_in<H: Naming>(seats: &mut Seats<H>)
+pub(crate) fn forget_in<H: Naming>(seats: &mut NumberedSeat<H>)
     ensures { HaveForgotten (four_of seats.old) (four_of seats.new) }
 {
     forget(&mut seats.seat.first);

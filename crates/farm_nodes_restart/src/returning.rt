@@ -19,7 +19,7 @@ use crate::fours::{forget_in, take_in};
 use acceptor_log::{Header, Log, LogError, Record};
 use durable_model::Disk;
 use farm_nodes_acting::Pending;
-use farm_nodes_restart_records::{Found, Seats, Which, find};
+use farm_nodes_restart_records::{Found, NumberedSeat, Which, find};
 use farm_nodes_restart_seat::RestartFault;
 use rooms_hall::Naming;
 use std::alloc::Global;
@@ -31,7 +31,7 @@ pub fn come_back<D: Disk, H: Naming>(
     alloc: Global,
     disk: D,
     header: &Header,
-    seats: &mut Vec<Seats<H>>,
+    seats: &mut Vec<NumberedSeat<H>>,
     room: u16,
     pending: &Option<Pending>,
 ) -> Result<Log<D>, (D, RestartFault)>
@@ -92,7 +92,7 @@ pub fn come_back<D: Disk, H: Naming>(
 fn return_over<H: Naming>(
     alloc: Global,
     header: &Header,
-    seats: &mut Vec<Seats<H>>,
+    seats: &mut Vec<NumberedSeat<H>>,
     room: u16,
     pending: &Option<Pending>,
     records: &[Record],
@@ -121,7 +121,7 @@ fn return_over<H: Naming>(
 fn step_over<H: Naming>(
     alloc: Global,
     header: &Header,
-    seats: &mut Vec<Seats<H>>,
+    seats: &mut Vec<NumberedSeat<H>>,
     room: u16,
     pending: &Option<Pending>,
     records: &[Record],
@@ -148,7 +148,7 @@ fn step_over<H: Naming>(
 /// Does what is pending.
 fn take_pending<H: Naming>(
     alloc: Global,
-    seats: &mut Vec<Seats<H>>,
+    seats: &mut Vec<NumberedSeat<H>>,
     room: u16,
     pending: &Option<Pending>,
 ) -> Result<(), RestartFault>
@@ -168,7 +168,7 @@ fn take_pending<H: Naming>(
 /// Does this, which is pending in the room.
 fn take_at<H: Naming>(
     alloc: Global,
-    seats: &mut Vec<Seats<H>>,
+    seats: &mut Vec<NumberedSeat<H>>,
     room: u16,
     pending: &Pending,
 ) -> Result<(), RestartFault>
@@ -185,7 +185,7 @@ fn take_at<H: Naming>(
 }
 
 /// All seats forget.
-fn forget_all<H: Naming>(seats: &mut Vec<Seats<H>>)
+fn forget_all<H: Naming>(seats: &mut Vec<NumberedSeat<H>>)
     ensures forgot { AllChanged HaveForgotten (fours_of seats.old.items) (fours_of seats.new.items) }
     ensures count { length seats.new.items ≡ length seats.old.items }
 {
@@ -195,7 +195,7 @@ fn forget_all<H: Naming>(seats: &mut Vec<Seats<H>>)
 }
 
 /// The seats of one function forget.
-fn forget_at<H: Naming>(seats: &mut Vec<Seats<H>>, function: usize)
+fn forget_at<H: Naming>(seats: &mut Vec<NumberedSeat<H>>, function: usize)
     requires { function < length seats.old.items }
     ensures forgot { ChangedAt HaveForgotten function (fours_of seats.old.items) (fours_of seats.new.items) }
     ensures count { length seats.new.items ≡ length seats.old.items }

@@ -6,5 +6,5 @@ pub use Rattle.farm_nodes_passes.specs.Numbers
 pub use Rattle.farm_nodes_passes.specs.Offers
 pub use Rattle.farm_nodes_passes.specs.Pending
 pub use Rattle.farm_nodes_passes.specs.Texts
-pub use Rattle.farm_nodes_passes.specs.Seats
+pub use Rattle.farm_nodes_passes.specs.NumberedSeat
 pub use Rattle.farm_nodes_passes.specs.declared.which.Which

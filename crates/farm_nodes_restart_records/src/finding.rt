@@ -14,7 +14,7 @@ use crate::parts::{both_parts, but_last};
 use crate::telling::are_told;
 use acceptor_log::{Header, LogError, Record};
 use farm_nodes_acting::Pending;
-use farm_nodes_passes::{Seats, Which};
+use farm_nodes_passes::{NumberedSeat, Which};
 use lang_base::NoMemory;
 use paxos_core::Kept;
 use rooms_hall::Naming;
@@ -35,7 +35,7 @@ pub enum Found {
 pub fn find<H: Naming>(
     alloc: Global,
     header: &Header,
-    seats: &Vec<Seats<H>>,
+    seats: &Vec<NumberedSeat<H>>,
     room: u16,
     pending: &Option<Pending>,
     records: &[Record],
@@ -63,7 +63,7 @@ pub fn find<H: Naming>(
 /// What the records are by the texts of the offers too, where they are this by what the seats keep.
 fn confirmed<H: Naming>(
     alloc: Global,
-    seats: &Vec<Seats<H>>,
+    seats: &Vec<NumberedSeat<H>>,
     records: &[Record],
     kept: Found,
 ) -> Result<Found, LogError>
@@ -89,7 +89,12 @@ fn settled(told: Result<bool, NoMemory>, kept: Found) -> Result<Found, LogError>
 }
 
 /// What these kept parts are to the seats: of all records, and of those before the last, which may be of what is pending.
-fn judged<H: Naming>(seats: &Vec<Seats<H>>, last: bool, whole: &[Kept], front: &[Kept]) -> Found
+fn judged<H: Naming>(
+    seats: &Vec<NumberedSeat<H>>,
+    last: bool,
+    whole: &[Kept],
+    front: &[Kept],
+) -> Found
     requires whole { length whole.now ≡ 4 * length seats.now.items }
     requires front { length front.now ≡ 4 * length seats.now.items }
     ensures { IsJudged last whole.now front.now (fours_of seats.now.items) result }
@@ -114,7 +119,7 @@ fn told(with_pending: bool, whole: bool) -> Found
 
 /// Whether the last record is that of what is pending.
 fn is_last<H: Naming>(
-    seats: &Vec<Seats<H>>,
+    seats: &Vec<NumberedSeat<H>>,
     room: u16,
     pending: &Option<Pending>,
     records: &[Record],
@@ -133,7 +138,7 @@ fn is_last<H: Naming>(
 
 /// Whether the record is that of what is pending in the room, which is one of the seats'.
 fn is_pending_at<H: Naming>(
-    seats: &Vec<Seats<H>>,
+    seats: &Vec<NumberedSeat<H>>,
     room: u16,
     pending: &Pending,
     entry: &Record,
@@ -152,7 +157,7 @@ fn is_pending_at<H: Naming>(
 }
 
 /// Whether these parts, by room, are what the seats keep.
-fn are_kept<H: Naming>(seats: &Vec<Seats<H>>, parts: &[Kept]) -> bool
+fn are_kept<H: Naming>(seats: &Vec<NumberedSeat<H>>, parts: &[Kept]) -> bool
     requires { length parts.now ≡ 4 * length seats.now.items }
     ensures { IsTrue result ↔ AreKept parts.now (fours_of seats.now.items) }
 {

@@ -10,7 +10,7 @@ ghost use Rattle.farm_nodes_restart_records.specs.Found.{AreKeptAt};
 use crate::seat::is_kept_in;
 use acceptor_log::Record;
 use farm_nodes_acting::Pending;
-use farm_nodes_passes::{Seats, Which};
+use farm_nodes_passes::{NumberedSeat, Which};
 use farm_nodes_restart_seat::{is_own_text, is_pending};
 use lang_base::NoMemory;
 use paxos_core::Kept;
@@ -19,7 +19,7 @@ use std::alloc::Global;
 
 /// Whether the record is that of what is pending in the room, which is the one of this pass.
 pub(crate) fn is_pending_in<H: Naming>(
-    seats: &Seats<H>,
+    seats: &NumberedSeat<H>,
     pass: Which,
     room: u16,
     pending: &Pending,
@@ -40,7 +40,7 @@ pub(crate) fn is_pending_in<H: Naming>(
 /// Whether these bytes are the text of the offer that stands in the node's cell in the room of this pass.
 pub(crate) fn is_text_in<H: Naming>(
     alloc: Global,
-    seats: &Seats<H>,
+    seats: &NumberedSeat<H>,
     pass: Which,
     text: &[u8],
 ) -> Result<bool, NoMemory>
@@ -55,7 +55,7 @@ pub(crate) fn is_text_in<H: Naming>(
 }
 
 /// Whether the four parts from this place on are what the seats keep.
-pub(crate) fn are_kept_at<H: Naming>(seats: &Seats<H>, parts: &[Kept], place: usize) -> bool
+pub(crate) fn are_kept_at<H: Naming>(seats: &NumberedSeat<H>, parts: &[Kept], place: usize) -> bool
     requires { place + 3 < length parts.now }
     ensures { IsTrue result ↔ AreKeptAt parts.now place (four_of seats.now) }
 {

@@ -9,6 +9,6 @@ mod parts;
 mod seat;
 mod telling;
 
-pub use farm_nodes_passes::{Seats, Which};
+pub use farm_nodes_passes::{NumberedSeat, Which};
 pub use finding::{Found, find};
 pub use laws::own_journal;

@@ -7,7 +7,7 @@ ghost use Rattle.farm_nodes_restart_records.specs.Told.{AreTold, IsTextAt, IsTol
 
 use crate::fours::{both, is_text_in};
 use acceptor_log::Record;
-use farm_nodes_passes::{Seats, Which};
+use farm_nodes_passes::{NumberedSeat, Which};
 use lang_base::NoMemory;
 use rooms_hall::Naming;
 use std::alloc::Global;
@@ -15,7 +15,7 @@ use std::alloc::Global;
 /// Whether the text of each record of an offer is that of the offer that stands in the node's cell of its room.
 pub(crate) fn are_told<H: Naming>(
     alloc: Global,
-    seats: &Vec<Seats<H>>,
+    seats: &Vec<NumberedSeat<H>>,
     records: &[Record],
 ) -> Result<bool, NoMemory>
     ensures { IfOk result (λ told. IsTrue told ↔ AreTold pass_texts (fours_of seats.now.items) records.now) }
@@ -34,7 +34,7 @@ pub(crate) fn are_told<H: Naming>(
 /// Whether it is of no offer, or its text is that of the offer that stands in the node's cell of its room.
 fn is_told<H: Naming>(
     alloc: Global,
-    seats: &Vec<Seats<H>>,
+    seats: &Vec<NumberedSeat<H>>,
     entry: &Record,
 ) -> Result<bool, NoMemory>
     ensures { IfOk result (λ told. IsTrue told ↔ IsTold pass_texts (fours_of seats.now.items) entry.now) }
@@ -48,7 +48,7 @@ fn is_told<H: Naming>(
 /// Whether the room is one of the seats', and these bytes are the text of the offer that stands in the node's cell there.
 fn is_text_at<H: Naming>(
     alloc: Global,
-    seats: &Vec<Seats<H>>,
+    seats: &Vec<NumberedSeat<H>>,
     room: u16,
     text: &[u8],
 ) -> Result<bool, NoMemory>

@@ -5,17 +5,16 @@ ghost use Rattle.std.specs.Arc.{arc_value};
 ghost use Rattle.offers.specs.declared.parts.Parts.{Parts};
 ghost use Rattle.rooms.specs.SeatValue.{IsOneRoom};
 ghost use Rattle.rooms_state.specs.Would.{would, Acted, IsAmong};
-ghost use Rattle.farm_nodes_acting.specs.Noted.{record_of, records_of, pending_of, IsByte};
+ghost use Rattle.farm_nodes_acting.specs.Noted.{records_of, pending_of};
 ghost use Rattle.farm_nodes_offers.specs.Offered.{PutsOffer};
 ghost use Rattle.farm_nodes_offers.specs.Pending.{IsAsked, IsOfferLeft, IsPendingOn, IsOfferText};
 ghost use Rattle.farm_nodes_restart_seat.specs.Taken.{HasForgotten, IsOfferFault, IsTakeFault, Took, TookOffer};
 
 use crate::fault::RestartFault;
 use acceptor_log::Record;
-use farm_nodes_acting::Pending;
+use farm_nodes_acting::{Pending, record_of};
 use lang_base::{NoMemory, Pass};
 use offers::{Offer, OfferError};
-use paxos_core::Step;
 use rooms::{Act, Put, Seat};
 use std::alloc::Global;
 use std::sync::Arc;
@@ -41,19 +40,6 @@ fn is_told<P: Pass>(seat: &Seat<P>, room: u16, act: Act, entry: &Record) -> bool
     };
     seat.known();
     record_of(room, step) == *entry
-}
-
-/// The record of a step.
-fn record_of(room: u16, step: Step) -> Record
-    requires { IsByte step }
-    ensures { result ≡ record_of room step }
-{
-    match step {
-        Step::Start(ballot) => Record::Started(room, ballot),
-        Step::Promise(ballot) => Record::Promised(room, ballot),
-        Step::Propose(ballot, value) => Record::Proposed(room, ballot, (value & 0xff) as u8),
-        Step::Accept(ballot, value) => Record::Accepted(room, ballot, value as u8),
-    }
 }
 
 /// Does what is pending.

@@ -2,7 +2,6 @@
 use Rattle.std.proofs.Common.{◌≡◌, ℕ, ◌*◌, ◌<◌, true, List, [], ◌++◌, length, append-nil, Option, Some, None, refl, sym, ap, ◌∙◌, subst, arith}
 use Rattle.std.specs.Prelude.{slice_get}
 use Rattle.std.proofs.lemmas.Option.{slice_get_within}
-use Rattle.paxos_core_world.specs.Quorum.{Sizes}
 use Rattle.acceptor_log_form.specs.declared.header.Header.{Header}
 use Rattle.acceptor_log_form.specs.declared.record.Record.{Record}
 use Rattle.acceptor_log_form.specs.Lists.{Between}
@@ -10,7 +9,7 @@ use Rattle.acceptor_log_form.specs.Order.{AreInOrder}
 use Rattle.acceptor_log_form.specs.Text.{StandsFor}
 use Rattle.acceptor_log.specs.declared.log.Log.{Log}
 use Rattle.acceptor_log.specs.Acknowledged.{acknowledged, IsSound}
-use Rattle.farm_nodes_acting.specs.Advances.{AreOf}
+use Rattle.farm_nodes_acting.specs.JournalAdvances.{AreOf}
 use Rattle.farm_nodes_acting.proofs.Rooms.{of_rooms}
 use Rattle.farm_nodes_acting.specs.declared.stop.Pending.{Pending}
 use Rattle.farm_nodes_node.specs.Fours.{Four}
@@ -18,7 +17,7 @@ use Rattle.farm_nodes_node.specs.Numbers.{function_of}
 use Rattle.farm_nodes_node.specs.Leaves.{pending_at, Leave}
 use Rattle.farm_nodes_node.specs.Texts.{Texts}
 use Rattle.farm_nodes_node.specs.declared.halted.Halted.{Halted}
-use Rattle.farm_nodes_node.specs.Held.{pending_in, AreSeatsOf, AreUnproposed, IsSoundBy}
+use Rattle.farm_nodes_node.specs.Held.{pending_in, AreOfRuns, AreSeatsOf, AreUnproposed, IsSoundBy}
 use Rattle.farm_nodes_restart.specs.Returned.{AreAtRest}
 use Rattle.farm_nodes_restart_seat.proofs.Places.{there_is}
 use Rattle.farm_nodes_returning.specs.Stopped.{left_by, room_in}
@@ -34,8 +33,12 @@ module _ {T1 T2 T3 T4 : Type 0} (old new : List (Four T1 T2 T3 T4)) where
   rested : (h : Header) → AreSeatsOf h old → AreAtRest old new → AreSeatsOf h new
   rested h own rest = record {
     me = λ m t at. let s = before_at m t rest at in (rest.each m s.0 t s.1 at).node.me ∙ own.me m s.0 s.1;
-    count = λ m t at. let s = before_at m t rest at in ap (λ (q : Sizes). q.nodes) (rest.each m s.0 t s.1 at).node.quorums ∙ own.count m s.0 s.1;
+    quorums = λ m t at. let s = before_at m t rest at in (rest.each m s.0 t s.1 at).node.quorums ∙ own.quorums m s.0 s.1;
   }
+
+  -- each of its run as before,
+  rested_runs : AreOfRuns old → AreAtRest old new → AreOfRuns new
+  rested_runs of rest m t at = let s = before_at m t rest at in (rest.each m s.0 t s.1 at).run.of_run (of m s.0 s.1)
 
   -- and propose nothing
   rest_unproposed : (rs : List Record) → AreAtRest old new → AreUnproposed new rs
@@ -47,13 +50,14 @@ module _ {T1 T2 T3 T4 : Type 0} (old new : List (Four T1 T2 T3 T4)) where
 module _ {D T1 T2 T3 T4 : Type 0} (texts : Texts T1 T2 T3 T4) (is_honest : D → Type 0) (seen : D → List ℕ) (may_leave : D → List ℕ → Type 0) where
   -- the journal that it opened holds just what it acknowledges, and stands for its seats
   pub sound_back : (log : Log D) (old seats : List (Four T1 T2 T3 T4)) (rooms : ℕ) → IsSound is_honest seen may_leave log → log.going ≡ true → rooms ≡ 4 * length seats
-      → AreSeatsOf log.header old → AreAtRest old seats
+      → AreSeatsOf log.header old → AreOfRuns old → AreAtRest old seats
       → (is_honest log.disk → Leave texts seats (acknowledged seen log)) → (is_honest log.disk → AreInOrder log.header.nodes log.header.node rooms (acknowledged seen log))
       → ((bytes : List ℕ) → is_honest log.disk → may_leave log.disk bytes → StandsFor log.header (acknowledged seen log) bytes) → IsSoundBy texts is_honest seen may_leave log seats None
-  sound_back log old seats rooms sound going size own at_rest leave order rest = record {
+  sound_back log old seats rooms sound going size own of at_rest leave order rest = record {
     journal = sound;
     going = λ none. going;
     own = rested old seats log.header own at_rest;
+    of_runs = rested_runs old seats of at_rest;
     upto = λ honest. (
       acknowledged seen log,
       record {
@@ -89,6 +93,7 @@ module _ {D T1 T2 T3 T4 : Type 0} (texts : Texts T1 T2 T3 T4) (is_honest : D →
       journal = sound.journal;
       going = λ none. absurd (cc);
       own = subst (λ (l : List (Four T1 T2 T3 T4)). AreSeatsOf log.header l) (sym same) sound.own;
+      of_runs = subst (λ (l : List (Four T1 T2 T3 T4)). AreOfRuns l) (sym same) sound.of_runs;
       upto = λ honest.
           let u = sound.upto honest in (
             u.0,

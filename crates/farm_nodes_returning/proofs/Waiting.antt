@@ -2,7 +2,7 @@
 use Rattle.std.proofs.Common.{◌≡◌, ℕ, List, Option, Some, None, sym, subst}
 use Rattle.rooms_hall.specs.declared.hall.Naming as naming
 use Rattle.farm_nodes_node.specs.Offers.{Constants, Expressions, Allocation, Order, IsConstants, IsExpressions, IsAllocation, IsOrder}
-use Rattle.farm_nodes_node.specs.Seats.{Seats}
+use Rattle.farm_nodes_node.specs.NumberedSeat.{NumberedSeat}
 use Rattle.farm_nodes_acting.specs.declared.stop.Pending.{Pending}
 use Rattle.farm_nodes_node.specs.Fours.{fours_of, Four}
 use Rattle.farm_nodes_node.specs.Leaves.{MayPend}
@@ -12,13 +12,13 @@ use Rattle.farm_nodes_node.specs.Waiting.{IsWaiting}
 use Rattle.farm_nodes_returning.specs.Stopped.{left_by, room_in}
 
 module _ {H : Type 0} {h : naming.Ghosts H} where
-  have_pending : (seats : List (Seats H h)) (halted : Option Halted)
+  have_pending : (seats : List (NumberedSeat H h)) (halted : Option Halted)
       → IsWaiting seats halted → HavePending seats (room_in halted) (left_by halted)
   have_pending seats None waiting = tt
   have_pending seats (Some h) waiting = waiting
 
   -- it may still be pending there with seats that are seen as the same
-  pub still_pending : (seats now : List (Seats H h)) (halted : Option Halted) (room : ℕ) (p : Option Pending)
+  pub still_pending : (seats now : List (NumberedSeat H h)) (halted : Option Halted) (room : ℕ) (p : Option Pending)
       → room ≡ room_in halted → p ≡ left_by halted → fours_of now ≡ fours_of seats → IsWaiting seats halted → HavePending now room p
   still_pending seats now halted room p same_room same_pending same_seats waiting =
       subst (λ (l : List (Four Constants Expressions Allocation Order)).

@@ -20,7 +20,7 @@ use durable_pair::Pair;
 use farm_nodes_acting::Pending;
 use farm_nodes_pairs::{OldDisk, old_disk};
 use farm_nodes_restart::{RestartFault, come_back};
-use farm_nodes_restart_records::Seats;
+use farm_nodes_restart_records::NumberedSeat;
 use rooms_hall::Naming;
 use std::alloc::Global;
 
@@ -29,7 +29,7 @@ pub(crate) fn come_back_on<P: Pair, H: Naming>(
     alloc: Global,
     pair: P,
     header: &Header,
-    seats: &mut Vec<Seats<H>>,
+    seats: &mut Vec<NumberedSeat<H>>,
     room: u16,
     pending: &Option<Pending>,
 ) -> Result<Log<P>, (P, RestartFault)>

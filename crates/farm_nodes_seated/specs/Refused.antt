@@ -3,6 +3,8 @@ use Rattle.std.specs.Prelude.{◌≡◌, ◌≢◌, ℕ, ◌<◌, ◌*◌, List,
 use Rattle.std.specs.Global.{Vec}
 use Rattle.paxos_core_world.specs.KeptPart.{KeptPart}
 use Rattle.paxos_core_world.specs.Quorum.{Sizes}
+use Rattle.acceptor_log_form.specs.declared.errors.LogError.{LogError}
+use Rattle.acceptor_log_form.specs.declared.errors.LogError.TheVariants.{BadRecord}
 use Rattle.acceptor_log_form.specs.declared.record.Record.{Record}
 use Rattle.farm_nodes_stored.specs.Nodes.{AreMade, AtNode}
 use Rattle.farm_nodes_stored.specs.Read.{IsBadPart, IsKeptPart, WereRead}
@@ -12,6 +14,8 @@ use Rattle.farm_nodes_functions.specs.Left.{AreLeftIn}
 use Rattle.farm_nodes_functions.specs.RoomFault.{RoomFault}
 use Rattle.farm_nodes_functions.specs.RoomFault.TheVariants.{CellRefused, Unsettled}
 use Rattle.farm_nodes_functions.specs.Opened.{IsSettledBefore}
+use Rattle.farm_nodes_seated.specs.declared.fault.OpenFault.{OpenFault}
+use Rattle.farm_nodes_seated.specs.declared.fault.OpenFault.TheVariants.{Journal, Refused, Room}
 
 module _ {J : Type 0} (functions : ℕ) (journals : List (J × Vec Record)) where
   -- This node's records are out of order, or one is no offer; what stands in those of the nodes in front of it was read.
@@ -27,7 +31,7 @@ module _ {J : Type 0} (functions : ℕ) (journals : List (J × Vec Record)) wher
 
   -- This room is not opened. The offers of all nodes were accepted, and what they have kept of the rooms in front of it is settled.
   -- Of itself it is not, which no farm leaves; or an offer that was made there is not taken by its cell.
-  pub record IsUnopened (q : Sizes) (room : ℕ) (fault : RoomFault) : Type 0 where
+  pub record IsRoomUnopened (q : Sizes) (room : ℕ) (fault : RoomFault) : Type 0 where
     pub kept : List (Vec KeptPart)
     pub are_kept : AreMade (IsKeptPart functions (length journals)) journals (length journals) kept
     pub accepted : WereAccepted journals (length journals)
@@ -36,3 +40,14 @@ module _ {J : Type 0} (functions : ℕ) (journals : List (J × Vec Record)) wher
     pub unsettled : fault ≡ Unsettled → IsSettledIn q kept room → ⊥
     pub left : AreLeftIn q kept functions → fault ≢ Unsettled
     pub refused : fault ≡ CellRefused → IsOfferedIn kept room
+
+-- what it says of journals that this is told of them
+module _ {J : Type 0} (functions : ℕ) (journals : List (J × Vec Record)) (told : OpenFault) where
+  abbrev pub TellsRecords : Type 0
+  TellsRecords = (node : ℕ) (fault : LogError) → told ≡ Journal node fault → (fault ≡ BadRecord) × HasBadRecord functions journals node
+
+  abbrev pub TellsOffer : Type 0
+  TellsOffer = (node : ℕ) → told ≡ Refused node → HasRefusedOffer functions journals node
+
+  abbrev pub TellsRoom : Sizes → Type 0
+  TellsRoom q = (room : ℕ) (fault : RoomFault) → told ≡ Room room fault → IsRoomUnopened functions journals q room fault

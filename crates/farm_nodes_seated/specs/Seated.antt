@@ -18,7 +18,7 @@ use Rattle.rooms.specs.SeatValue.{SeatValue}
 use Rattle.rooms_hall.specs.Claimed.{Claimed}
 use Rattle.rooms_hall.specs.declared.hall.Naming as naming
 use Rattle.farm_nodes_records.specs.Offers.{Constants, Expressions, Allocation, Order}
-use Rattle.farm_nodes_records.specs.Seats.{Seats}
+use Rattle.farm_nodes_records.specs.NumberedSeat.{NumberedSeat}
 use Rattle.farm_nodes_records.specs.Which.{Which}
 use Rattle.farm_nodes_records.specs.Which.TheVariants.{First, Second, Third, Fourth}
 use Rattle.farm_nodes_lists.specs.Rows.{rows_of}
@@ -38,20 +38,20 @@ module _ {J P A B C I O N : Type 0} (from : language.Ghosts A I) (to : language.
 
 module _ {H : Type 0} {h : naming.Ghosts H} where
   -- the seats of each pass, with the numbers of their rooms
-  abbrev pub first_seat : Seats H h → SeatValue Constants × Claimed
+  abbrev pub first_seat : NumberedSeat H h → SeatValue Constants × Claimed
   first_seat s = (s.seat.first, s.claim)
 
-  abbrev pub second_seat : Seats H h → SeatValue Expressions × Claimed
+  abbrev pub second_seat : NumberedSeat H h → SeatValue Expressions × Claimed
   second_seat s = (s.seat.second, s.claim)
 
-  abbrev pub third_seat : Seats H h → SeatValue Allocation × Claimed
+  abbrev pub third_seat : NumberedSeat H h → SeatValue Allocation × Claimed
   third_seat s = (s.seat.third, s.claim)
 
-  abbrev pub fourth_seat : Seats H h → SeatValue Order × Claimed
+  abbrev pub fourth_seat : NumberedSeat H h → SeatValue Order × Claimed
   fourth_seat s = (s.seat.fourth, s.claim)
 
   -- so it is of all passes
-  pub record AreSeated {J : Type 0} (q : Sizes) (functions : ℕ) (journals : List (J × Vec Record)) (rows : List (List (Seats H h))) : Type 0 where
+  pub record AreSeated {J : Type 0} (q : Sizes) (functions : ℕ) (journals : List (J × Vec Record)) (rows : List (List (NumberedSeat H h))) : Type 0 where
     pub count : length rows ≡ length journals
     pub long : All (λ row. length row ≡ functions) rows
     pub kept : List (Vec KeptPart)
@@ -63,3 +63,7 @@ module _ {H : Type 0} {h : naming.Ghosts H} where
     pub third : AreSeatedIn rtl_language.ghosts ltl_language.ghosts allocation.ghosts Third q functions journals kept third_seat rows
     pub fourth : AreSeatedIn ltl_language.ghosts linear_language.ghosts order.ghosts Fourth q functions journals kept
         fourth_seat rows
+
+-- what each node has kept of the rooms of so many functions, as it stands in its journal
+abbrev pub AreKeptIn : {J : Type 0} → ℕ → List (J × Vec Record) → List (Vec KeptPart) → Type 0
+AreKeptIn functions journals kept = AreMade (IsKeptPart functions (length journals)) journals (length journals) kept

@@ -7,4 +7,4 @@ mod seating;
 
 pub use farm_nodes_functions::RoomFault;
 pub use fault::OpenFault;
-pub use seating::seats_of;
+pub use seating::{rooms_of, seats_of};

@@ -3,10 +3,12 @@
 #![tactic(auto)]
 
 mod fault;
+mod naming;
 mod preparing;
 mod source;
 mod translating;
 
 pub use fault::SourceFault;
+pub use naming::{name_of, text_of};
 pub use preparing::{begin, prepare};
 pub use source::{Begun, Source};

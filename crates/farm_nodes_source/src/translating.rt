@@ -1,9 +1,7 @@
 //! The program with which the first pass begins.
 
 ghost use Rattle.std.specs.Prelude.{◌≡◌, ◌≤◌, ◌<◌, All, length, map, IfOk, IfErr, OnOk};
-ghost use Rattle.std.specs.String.{string_bytes};
 ghost use Rattle.lang_base.specs.Keeps.{Keeps};
-ghost use Rattle.c_lexer_parts.specs.Lexemes.{IsName};
 ghost use Rattle.c_program.specs.Meaning.{crun};
 ghost use Rattle.c_checker_rules.specs.Checked.{program_tree};
 ghost use Rattle.cminor_lowering.specs.Programs.{low};
@@ -16,6 +14,7 @@ ghost use Rattle.rtlgen_definition.specs.Gen.{gen};
 ghost use Rattle.farm_nodes_source.specs.Refused.{IsNamed, IsUntranslated};
 
 use crate::fault::SourceFault;
+use crate::naming::name_of;
 use c_checker_rules::CProgram;
 use cminor::lower;
 use cminor_program_ranges::same_head_fits;
@@ -58,19 +57,8 @@ fn too_many_nodes(alloc: Global, program: &CProgram, function: usize) -> SourceF
     requires names { HaveNames (program_tree program.now) }
     ensures { IsNamed (map (λ f. f.name) program.now.functions) function result }
 {
-    match program.functions()[function].name.copied(alloc) {
-        Ok(name) => SourceFault::TooManyNodes(text_of(name.into_vec())),
+    match name_of(alloc, program, function) {
+        Ok(name) => SourceFault::TooManyNodes(name),
         Err(NoMemory) => SourceFault::NoMemory,
-    }
-}
-
-/// A C name as text: it is letters, digits and underscores.
-fn text_of(name: Vec<u8>) -> String
-    requires { IsName name.items }
-    ensures { string_bytes result ≡ name.items }
-{
-    match String::from_utf8(name) {
-        Ok(text) => text,
-        Err(_) => unreachable!(),
     }
 }

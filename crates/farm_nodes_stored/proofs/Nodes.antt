@@ -1,45 +1,18 @@
 -- One node more of which it is so, and each of those of which it is.
-use Rattle.std.proofs.Common.{◌≡◌, ◌≢◌, ◌⊎◌, inl, inr, ℕ, zero, suc, ◌+◌, ◌<◌, List, [], ◌∷◌, ◌++◌, length, drop, All, Some, refl, sym, ap, subst, ◌∙◌, arith}
+use Rattle.std.proofs.Common.{◌≡◌, ◌≢◌, ◌⊎◌, inl, inr, ℕ, zero, suc, ◌+◌, ◌<◌, List, [], ◌∷◌, ◌++◌, length, All, Some, refl, sym, ap, subst, ◌∙◌, arith}
 use Rattle.std.specs.Prelude.{slice_get}
 use Rattle.std.proofs.lemmas.Bool.{cases_eq}
 use Rattle.std.proofs.lemmas.List.{length_push}
 use Rattle.std.proofs.lemmas.List.Elements.{All-nil, All-cons, All-get_or}
 use Rattle.std.proofs.lemmas.Option.{slice_get_within, get_or_from_slice_get}
+use Rattle.farm_nodes_disks.proofs.Next.{in_more, in_front}
 use Rattle.farm_nodes_stored.specs.Nodes.{AreMade, AllMade, AtNode, InFront}
-
-pub next_of : {X : Type 0} (xs : List X) (i : ℕ) (x : X) (rest : List X) → drop i xs ≡ x ∷ rest → slice_get xs i ≡ Some x
-next_of [] zero x rest e = absurd (omega (arith, ap length e))
-next_of [] (suc i) x rest e = absurd (omega (arith, ap length e))
-next_of (y ∷ xs) zero x rest e = ap (λ l. slice_get l 0) e
-next_of (y ∷ xs) (suc i) x rest e = next_of xs i x rest e
-
-pub rest_of : {X : Type 0} (xs : List X) (i : ℕ) (x : X) (rest : List X) → drop i xs ≡ x ∷ rest → rest ≡ drop (i + 1) xs
-rest_of [] zero x rest e = absurd (omega (arith, ap length e))
-rest_of [] (suc i) x rest e = absurd (omega (arith, ap length e))
-rest_of (y ∷ xs) zero x rest e = sym (ap (λ l. drop 1 l) e)
-rest_of (y ∷ xs) (suc i) x rest e =
-    let more : suc (i + 1) ≡ suc i + 1 = omega arith in
-    rest_of xs i x rest e ∙ ap (λ n. drop n (y ∷ xs)) more
 
 -- there is something in front of the end
 pub found_at : {X : Type 0} (xs : List X) (i : ℕ) → i < length xs → (x : X) × (slice_get xs i ≡ Some x)
 found_at [] i low = absurd (omega (arith, low))
 found_at (x ∷ xs) zero low = (x, refl)
 found_at (x ∷ xs) (suc i) low = found_at xs i (omega (arith, low))
-
--- what stands in a list that has one more
-in_more : {X : Type 0} (xs : List X) (y z : X) (i : ℕ) → slice_get (xs ++ y ∷ []) i ≡ Some z → (i < length xs → ⊥) → (i ≡ length xs) × (y ≡ z)
-in_more [] y z zero got beyond = (refl, let same : Some y ≡ Some z = got in cc)
-in_more [] y z (suc i) got beyond = absurd (cc)
-in_more (x ∷ xs) y z zero got beyond = absurd (beyond (omega arith))
-in_more (x ∷ xs) y z (suc i) got beyond =
-    let there : (i ≡ length xs) × (y ≡ z) = in_more xs y z i got (λ low. beyond (omega (arith, low))) in
-    (ap suc there.0, there.1)
-
-in_front : {X : Type 0} (xs : List X) (y : X) (i : ℕ) → i < length xs → slice_get (xs ++ y ∷ []) i ≡ slice_get xs i
-in_front [] y i low = absurd (omega (arith, low))
-in_front (x ∷ xs) y zero low = refl
-in_front (x ∷ xs) y (suc i) low = in_front xs y i (omega (arith, low))
 
 module _ {A B : Type 0} (Is : ℕ → A → B → Type 0) (given : List A) where
   pub none_made : (made : List B) → made ≡ [] → AreMade Is given 0 made

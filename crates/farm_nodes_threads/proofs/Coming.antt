@@ -14,6 +14,7 @@ use Rattle.lang_base.specs.declared.program.Named.{Named}
 use Rattle.offers.specs.declared.parts.Parts.{Parts}
 use Rattle.rooms.specs.SeatValue.{SeatValue}
 use Rattle.farm_nodes_acting.specs.Served.{IsServed}
+use Rattle.rooms_crash.proofs.Keeping.{goes_same, goes_through}
 use Rattle.farm_nodes_node.specs.Played.{StaysInTurn}
 use Rattle.farm_nodes_node.specs.Numbers.{function_of, pass_of}
 use Rattle.farm_nodes_node.specs.Fours.{Four}
@@ -39,6 +40,7 @@ stays_so s = record {
   learned = λ v e. e;
   offered = λ e. e;
   seen = λ j x e. e;
+  run = goes_same s.words;
 }
 
 stays_on : {T : Type 0} (s t : SeatValue T) → t ≡ s → StaysInTurn s t
@@ -52,6 +54,7 @@ stays_through s t u a b = record {
   learned = λ v e. b.learned v (a.learned v e);
   offered = λ e. b.offered (a.offered e);
   seen = λ j x e. b.seen j x (a.seen j x e);
+  run = goes_through s.words t.words u.words a.run b.run;
 }
 
 -- the seats of a function

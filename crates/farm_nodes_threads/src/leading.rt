@@ -1,6 +1,6 @@
 //! Whether a node leads a room.
 
-use farm_nodes_node::{Seats, Which};
+use farm_nodes_node::{NumberedSeat, Which};
 use rooms_hall::Naming;
 use rooms_seat::WordSeat;
 
@@ -13,7 +13,7 @@ fn leads(seat: &WordSeat) -> bool {
 }
 
 /// Whether the node leads the room of one pass of the function.
-pub(crate) fn leads_in<H: Naming>(seats: &Seats<H>, pass: Which) -> bool {
+pub(crate) fn leads_in<H: Naming>(seats: &NumberedSeat<H>, pass: Which) -> bool {
     match pass {
         Which::First => leads(&seats.seat.first.words),
         Which::Second => leads(&seats.seat.second.words),

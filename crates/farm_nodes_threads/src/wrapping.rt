@@ -1,25 +1,14 @@
 //! Nodes in a type of this crate, of which it is said here how it takes turns.
 
-ghost use Rattle.std.specs.Prelude.{◌≡◌, ◌<◌, ◌≤◌, ◌+◌, [], ◌∷◌, ◌++◌, map, vec_len, vec_capacity, IfSome};
+ghost use Rattle.std.specs.Prelude.{◌≡◌, ◌≤◌, [], map, vec_len, vec_capacity, IfSome};
 
+use farm_nodes_workers::put;
 use std::alloc::Global;
 
 /// A node that takes turns.
 #[derive(Drop)]
 pub(crate) struct Taking<N> {
     pub node: N,
-}
-
-/// Puts one more behind these, which have room for it.
-fn put<T: Drop>(all: &mut Vec<T>, one: T)
-    requires { vec_len all.old < vec_capacity all.old }
-    ensures items { all.new.items ≡ all.old.items ++ one ∷ [] }
-    ensures len { vec_len all.new ≡ vec_len all.old + 1 }
-    ensures room { vec_capacity all.old ≤ vec_capacity all.new }
-{
-    if all.push(one).is_err() {
-        unreachable!();
-    }
 }
 
 /// Room for so many nodes that take turns, and for as many when they come back.

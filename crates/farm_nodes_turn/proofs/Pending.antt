@@ -3,7 +3,7 @@ use Rattle.std.proofs.Common.{◌≡◌, ℕ, List, map, slice_get, Option, Some
 use Rattle.rooms_hall.specs.declared.hall.Naming as naming
 use Rattle.farm_nodes_passes.specs.Offers.{IsConstants, IsExpressions, IsAllocation, IsOrder}
 use Rattle.farm_nodes_acting.specs.declared.stop.Pending.{Pending as Waiting}
-use Rattle.farm_nodes_passes.specs.Seats.{Seats}
+use Rattle.farm_nodes_passes.specs.NumberedSeat.{NumberedSeat}
 use Rattle.farm_nodes_passes.specs.declared.which.Which.{Which}
 use Rattle.farm_nodes_passes.specs.declared.which.Which.TheVariants.{First, Second, Third, Fourth}
 use Rattle.farm_nodes_passes.specs.Fours.{Four, four_of}
@@ -27,8 +27,8 @@ module _ {T1 T2 T3 T4 : Type 0} (IsText1 : List ℕ → T1 → Type 0) (IsText2 
   in_all f ys y (Some p) at is = (f y, map_at f ys (function_of room) y at, in_pass (pass_of room) (f y) p is)
 
 module _ {H : Type 0} {h : naming.Ghosts H} where
-  pub with_all : (seats : List (Seats H h))
-      (s : Seats H h)
+  pub with_all : (seats : List (NumberedSeat H h))
+      (s : NumberedSeat H h)
       (room : ℕ) (p : Option Waiting) → slice_get seats (function_of room) ≡ Some s → HasPending s room (pass_of room) p → HavePending seats room p
   with_all seats s room p at is =
       in_all IsConstants IsExpressions IsAllocation IsOrder room four_of seats s p at is

@@ -8,11 +8,11 @@ pub use Rattle.farm_nodes_passes.specs.Numbers
 pub use Rattle.farm_nodes_passes.specs.Pending
 pub use Rattle.farm_nodes_passes.specs.Texts
 pub use Rattle.farm_nodes_playing.specs.Told
-pub use Rattle.farm_nodes_passes.specs.Seats
+pub use Rattle.farm_nodes_passes.specs.NumberedSeat
 pub use Rattle.farm_nodes_passes.specs.declared.which.Which
 pub use Rattle.farm_nodes_passes.specs.Offers
 pub use Rattle.farm_nodes_passes.specs.Halted
 pub use Rattle.farm_nodes_passes.specs.Fault
 pub use Rattle.farm_nodes_passes.specs.Halt
-pub use Rattle.farm_nodes_acting.specs.Advances
+pub use Rattle.farm_nodes_acting.specs.JournalAdvances
 pub use Rattle.farm_nodes_acting.specs.Served

@@ -18,7 +18,9 @@ ghost use Rattle.farm_nodes_turn.specs.Turned.{IsTooLargeFor, OthersStay, StaysI
 
 use acceptor_log::Log;
 use durable_model::Disk;
-use farm_nodes_passes::{AllocationOf, ConstantsOf, ExpressionsOf, Oracles, OrderOf, Seats, Which};
+use farm_nodes_passes::{
+    AllocationOf, ConstantsOf, ExpressionsOf, NumberedSeat, Oracles, OrderOf, Which,
+};
 use farm_nodes_playing::{Halt, Progress, learned_output, play};
 use lang_base::{Language, Oracle, Pass};
 use rand_pcg::Pcg32;
@@ -32,7 +34,7 @@ use std::alloc::Global;
 pub fn play_in<D: Disk, O: Oracles, H: Naming>(
     alloc: Global,
     log: &mut Log<D>,
-    seats: &mut Seats<H>,
+    seats: &mut NumberedSeat<H>,
     pass: Which,
     room: u16,
     function: &Function,

@@ -12,7 +12,7 @@ ghost use Rattle.farm_nodes_turn.specs.Turns.{AtPlace, HaltsIn, PlayedIn};
 use crate::in_pass::play_in;
 use acceptor_log::Log;
 use durable_model::Disk;
-use farm_nodes_passes::{Oracles, Seats, Which};
+use farm_nodes_passes::{NumberedSeat, Oracles, Which};
 use farm_nodes_playing::{Halt, Progress};
 use rand_pcg::Pcg32;
 use rooms_hall::Naming;
@@ -23,7 +23,7 @@ use std::alloc::Global;
 pub fn turn_in<D: Disk, O: Oracles, H: Naming>(
     alloc: Global,
     log: &mut Log<D>,
-    seats: &mut Vec<Seats<H>>,
+    seats: &mut Vec<NumberedSeat<H>>,
     room: u16,
     function: &Function,
     oracles: &mut O,

@@ -6,7 +6,7 @@ mod functions;
 mod in_pass;
 mod in_room;
 
-pub use farm_nodes_passes::{Fault, Halt, Oracles, Seats, Which};
+pub use farm_nodes_passes::{Fault, Halt, NumberedSeat, Oracles, Which};
 pub use farm_nodes_playing::Progress;
 pub use functions::function_in;
 pub use in_pass::play_in;

@@ -21,8 +21,8 @@ pub(crate) fn no_teams<T: Drop>(alloc: Global, workers: usize) -> Result<Vec<Vec
     Ok(teams)
 }
 
-/// Puts one more behind these, which have room for it.
-pub(crate) fn put<T: Drop>(all: &mut Vec<T>, one: T)
+/// Puts one more behind these, which have room for it: no memory is asked for.
+pub fn put<T: Drop>(all: &mut Vec<T>, one: T)
     requires { vec_len all.old < vec_capacity all.old }
     ensures items { all.new.items ≡ all.old.items ++ one ∷ [] }
     ensures len { vec_len all.new ≡ vec_len all.old + 1 }

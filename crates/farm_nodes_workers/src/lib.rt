@@ -6,4 +6,5 @@ mod dealing;
 mod running;
 mod threads;
 
+pub use dealing::put;
 pub use running::{RunError, run_threads};

@@ -8,13 +8,13 @@ use Rattle.farm_nodes_node.specs.Held.{IsSoundNode}
 use Rattle.farm_nodes_node.specs.Waiting.{IsWaiting}
 use Rattle.farm_nodes_node.specs.declared.halted.Halted.{Halted}
 use Rattle.farm_nodes_passes.specs.Fours.{fours_of}
-use Rattle.farm_nodes_passes.specs.Seats.{Seats}
+use Rattle.farm_nodes_passes.specs.NumberedSeat.{NumberedSeat}
 use Rattle.rooms_hall.specs.declared.hall.Naming as naming
 
 module _ {D : Type 0} where
   module _ {H : Type 0} {h : naming.Ghosts H} (disk : disks.Ghosts D) where
     -- a node that may be asked: what it holds, and what it has not done
-    abbrev pub IsFit : Log D → List (Seats H h) → Option Halted → Type 0
+    abbrev pub IsFit : Log D → List (NumberedSeat H h) → Option Halted → Type 0
     IsFit log seats halted =
         IsSoundNode disk.is_honest disk.seen disk.may_leave log (fours_of seats) halted × IsWaiting seats halted
 

@@ -6,7 +6,7 @@ use crate::answers::line_of_farm;
 use acceptor_log::LogError;
 use durable_pair_memory::MemoryPair;
 use farm_nodes::{FarmError, Hall, Naming, OpenFault, Quorums};
-use farm_nodes_opening::RoomFault;
+use farm_nodes_function_rooms::RoomFault;
 use program_rows::owned;
 use std::alloc::Global;
 use std::sync::Wait;

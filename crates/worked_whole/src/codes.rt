@@ -2,22 +2,15 @@
 
 use crate::running::Node;
 use farm_nodes::{Naming, meet};
-use farm_nodes_meeting::{has_learned_offer, learned_offer};
-use farm_nodes_passes::Seats;
+use farm_nodes_linked::has_learned_all;
+use farm_nodes_passes::NumberedSeat;
+use farm_nodes_seat_meeting::learned_offer;
 use std::alloc::Global;
 
-/// Whether an offer is learned, and seen, in all four rooms of a function.
-fn is_linked<H: Naming>(seats: &Seats<H>) -> bool {
-    has_learned_offer(&seats.seat.first)
-        && has_learned_offer(&seats.seat.second)
-        && has_learned_offer(&seats.seat.third)
-        && has_learned_offer(&seats.seat.fourth)
-}
-
 /// The offer that is learned in the last room of a function, of which its code is a part; no bytes where it is not linked.
-fn code_of<H: Naming>(alloc: Global, seats: &Seats<H>) -> Option<Vec<u8>> {
+fn code_of<H: Naming>(alloc: Global, seats: &NumberedSeat<H>) -> Option<Vec<u8>> {
     let mut code = Vec::new(alloc);
-    if !is_linked(seats) {
+    if !has_learned_all(seats) {
         return Some(code);
     }
     let Some(offer) = learned_offer(&seats.seat.fourth) else {

@@ -3,7 +3,7 @@ use Rattle.acceptor_log_form.specs.declared.record.Record.{Record}
 use Rattle.acceptor_log_form.specs.Text.{room_of}
 use Rattle.acceptor_log_form.specs.Order.{GoesOn}
 use Rattle.acceptor_log.specs.Acknowledged.{acknowledged}
-use Rattle.farm_nodes_acting.specs.Advances.{Advances}
+use Rattle.farm_nodes_acting.specs.JournalAdvances.{JournalAdvances}
 use Rattle.farm_nodes_order.proofs.Orders.{step_follows, step_goes}
 use Rattle.farm_nodes_order.proofs.Records.{room_of_step}
 use Rattle.farm_nodes_acting.proofs.Results.{idle}
@@ -37,7 +37,7 @@ returns-clause-journal g c honest going =
     let s = c.args.seat.now in
     let pending = pending_is c.args.room c.args.seat.now c.args.act c.in-Some.step r c.in-Some.ensures c.record_of.ensures in (
       acknowledged disk.seen old,
-      subst (λ (p : List Record). Advances disk.seen disk.may_leave disk.moment disk.left_since old new c.args.room s s (acknowledged disk.seen old) p) (sym pending)
+      subst (λ (p : List Record). JournalAdvances disk.seen disk.may_leave disk.moment disk.left_since old new c.args.room s s (acknowledged disk.seen old) p) (sym pending)
           (perhaps disk.seen disk.may_leave disk.moment disk.left_since old new c.args.room s r
           (ap room_of c.record_of.ensures ∙ room_of_step c.args.room c.in-Some.step)
           (λ last fresh. subst (λ (q : Record). GoesOn s.node.quorums.nodes s.node.me s.node.kept last q) (sym c.record_of.ensures)

@@ -1,9 +1,17 @@
 use Rattle.std.proofs.Common.{◌≡◌, ◌≢◌, ◌<◌, ℕ, inl, inr, sym, ◌∙◌, subst, arith}
 use Rattle.rooms_seat.specs.SeatState.{SeatState}
 use Rattle.farm_nodes_acting.specs.Quiet.{IsQuiet}
-use Rattle.farm_nodes_acting.proofs.Answering.{voted_or, quiet_voted}
+use Rattle.farm_nodes_acting.proofs.Answering.{heard_promising, heard_through, heard_voted, voted_or, quiet_voted}
 use Rattle.farm_nodes_acting.proofs.Results.{goes_on}
 use Rattle.farm_nodes_acting.proofs.hearing.answer.Goals as goal
+
+pub returns-then-moved-clause-heard : goal.returns-then-moved-clause-heard
+returns-then-moved-clause-heard g c = heard_voted c.args.j c.args.seat.now c.act.new.seat c.in-Ok.ensures.ok.1
+
+pub returns-clause-heard : goal.returns-clause-heard
+returns-clause-heard g c =
+    heard_through c.args.seat.now c.act.new.seat c.act-2.new.seat (heard_voted c.args.j c.args.seat.now c.act.new.seat c.in-Ok.ensures.ok.1)
+    (heard_promising c.args.j c.act.new.seat c.act-2.new.seat c.act-2.result c.act-2.ensures.ok c.act-2.ensures.err)
 
 pub returns-then-moved-clause-others : goal.returns-then-moved-clause-others
 returns-then-moved-clause-others g c i lt quiet =

@@ -15,6 +15,12 @@ returns-clause-heard g c =
     heard_through s s1 t (heard_proposer c.args.j c.look_proposer-proposer.result s s1 c.look_proposer-proposer.ensures)
     (heard_through s1 s2 t c.answer.ensures.heard (heard_acceptor c.args.j c.look_acceptor-acceptor.result s2 t c.look_acceptor-acceptor.ensures))
 
+pub returns-in-Err-clause-heard : goal.returns-in-Err-clause-heard
+returns-in-Err-clause-heard g c =
+    let s = c.args.seat.now in
+    let s1 = c.look_proposer-proposer.new.self in
+    heard_through s s1 c.answer.new.seat (heard_proposer c.args.j c.look_proposer-proposer.result s s1 c.look_proposer-proposer.ensures) c.answer.ensures.heard
+
 pub returns-clause-quiet : goal.returns-clause-quiet
 returns-clause-quiet g c =
     quiet_acceptor c.args.j c.args.j c.look_acceptor-acceptor.result c.answer.new.seat c.look_acceptor-acceptor.new.self c.look_acceptor-acceptor.ensures c.in-Ok.ensures.quiet

@@ -4,7 +4,8 @@ use native.Mathlib.Numerals.{unary_clauses}
 use Rattle.std.proofs.lemmas.List.{length-map, take_all}
 use Rattle.farm_nodes_linked.specs.Learned.{learned_by, learned_four}
 use Rattle.farm_nodes_bundled.specs.Bundled.{AreTextsOf}
-use Rattle.farm_nodes_bundled.proofs.Learned.{seen_at, some_at, texts_next}
+use Rattle.farm_nodes_linked.proofs.Wanting.{seen_at, some_at}
+use Rattle.farm_nodes_bundled.proofs.Learned.{texts_next}
 use Rattle.farm_nodes_bundled.proofs.bundling.all_texts.Goals as goal
 
 pub texts_at-requires : goal.texts_at-requires

@@ -5,12 +5,12 @@ use Rattle.std.proofs.lemmas.List.{length-map}
 use Rattle.paxos_core_world.specs.KeptPart.{KeptPart}
 use Rattle.rooms_function.specs.Opened.{kept_in}
 use Rattle.rooms_function.specs.Opened as by_pass
-use Rattle.farm_nodes_opening.specs.Numbers.{room_at}
-use Rattle.farm_nodes_opening.specs.Which.TheVariants.{First, Second, Third, Fourth}
+use Rattle.farm_nodes_function_rooms.specs.Numbers.{room_at}
+use Rattle.farm_nodes_function_rooms.specs.Which.TheVariants.{First, Second, Third, Fourth}
 use Rattle.farm_nodes_lists.specs.Rows.{offers_of, rows_of}
-use Rattle.farm_nodes_opening.specs.Kept.{four_kept, kept_of}
-use Rattle.farm_nodes_opening.specs.Numbered.{AreOfOneFunction}
-use Rattle.farm_nodes_opening.proofs.OneRoom.{offers_as_given}
+use Rattle.farm_nodes_function_rooms.specs.Kept.{four_kept, kept_of}
+use Rattle.farm_nodes_function_rooms.specs.Numbered.{AreOfOneFunction}
+use Rattle.farm_nodes_function_rooms.proofs.OneRoom.{offers_as_given}
 use Rattle.farm_nodes_functions.proofs.Dealt.{all_one, open_function_is, some_of_all}
 use Rattle.farm_nodes_functions.proofs.Outcomes.{kept_first, kept_second, kept_third, kept_fourth, settled_all, told_pass}
 use Rattle.farm_nodes_functions.proofs.function.open_function.Goals as goal

@@ -1,6 +1,6 @@
 use Rattle.std.proofs.Common.{rules, Bool, sym, ◌∙◌, subst}
 use Rattle.farm_nodes_acting.proofs.Results.{Grown, grown_on, stops_after}
-use Rattle.farm_nodes_leading.proofs.Ballots.{quiet_led, leaves_proposing, leaves_starting, start_proposing}
+use Rattle.farm_nodes_leading.proofs.Ballots.{quiet_led, leaves_proposing, leaves_same, leaves_starting, leaves_through, start_proposing}
 use Rattle.farm_nodes_leading.proofs.leading.lead.Goals as goal
 
 pub returns-then-not-may_start-clause-quiet : goal.returns-then-not-may_start-clause-quiet
@@ -13,8 +13,25 @@ returns-then-next_word-ne0-clause-quiet g c j quiet =
 
 pub returns-in-Ok-act-clause-quiet : goal.returns-in-Ok-act-clause-quiet
 returns-in-Ok-act-clause-quiet g c j quiet =
-    quiet_led j c.act.new.seat c.act-2.new.seat (leaves_starting c.act.new.seat c.act-2.new.seat c.in-Ok-act.ensures.ok.1)
+    quiet_led j c.act.new.seat c.act-2.new.seat
+    (leaves_starting c.act.new.seat c.act-2.new.seat (sym c.may_start.ensures ∙ c.if-not-may_start.false) c.in-Ok-act.ensures.ok.1)
     (quiet_led j c.args.seat.now c.act.new.seat (leaves_proposing c.args.seat.now c.act.new.seat c.in-Ok.ensures.ok.1) quiet)
+
+pub returns-then-not-may_start-clause-leaves : goal.returns-then-not-may_start-clause-leaves
+returns-then-not-may_start-clause-leaves g c = leaves_proposing c.args.seat.now c.act.new.seat c.in-Ok.ensures.ok.1
+
+pub returns-then-next_word-ne0-clause-leaves : goal.returns-then-next_word-ne0-clause-leaves
+returns-then-next_word-ne0-clause-leaves g c = leaves_proposing c.args.seat.now c.act.new.seat c.in-Ok.ensures.ok.1
+
+pub returns-in-Err-act-clause-leaves : goal.returns-in-Err-act-clause-leaves
+returns-in-Err-act-clause-leaves g c =
+    leaves_through c.args.seat.now c.act.new.seat c.act-2.new.seat (leaves_proposing c.args.seat.now c.act.new.seat c.in-Ok.ensures.ok.1)
+    (leaves_same c.act.new.seat c.act-2.new.seat c.in-Err-act.ensures.err)
+
+pub returns-in-Ok-act-clause-leaves : goal.returns-in-Ok-act-clause-leaves
+returns-in-Ok-act-clause-leaves g c =
+    leaves_through c.args.seat.now c.act.new.seat c.act-2.new.seat (leaves_proposing c.args.seat.now c.act.new.seat c.in-Ok.ensures.ok.1)
+    (leaves_starting c.act.new.seat c.act-2.new.seat (sym c.may_start.ensures ∙ c.if-not-may_start.false) c.in-Ok-act.ensures.ok.1)
 
 pub returns-in-Ok-act-clause-started : goal.returns-in-Ok-act-clause-started
 returns-in-Ok-act-clause-started g c changed = (

@@ -1,6 +1,18 @@
 use Rattle.std.proofs.Common.{Bool, sym, ◌∙◌, subst}
 use Rattle.farm_nodes_acting.proofs.Results.{Grown, grown_on, stops_after}
+use Rattle.farm_nodes_leading.proofs.Ballots.{stays_hearing, stays_leading}
 use Rattle.farm_nodes_leading.proofs.taking_part.take_part.Goals as goal
+
+pub returns-in-Ok-lead-clause-remains : goal.returns-in-Ok-lead-clause-remains
+returns-in-Ok-lead-clause-remains g c =
+    stays_leading c.args.seat.now c.hear_all.new.seat c.lead.new.seat c.hear_all.ensures.heard c.lead.ensures.leaves
+
+pub returns-in-Err-lead-clause-remains : goal.returns-in-Err-lead-clause-remains
+returns-in-Err-lead-clause-remains g c =
+    stays_leading c.args.seat.now c.hear_all.new.seat c.lead.new.seat c.hear_all.ensures.heard c.lead.ensures.leaves
+
+pub returns-in-Err-clause-remains : goal.returns-in-Err-clause-remains
+returns-in-Err-clause-remains g c = stays_hearing c.args.seat.now c.hear_all.new.seat c.hear_all.ensures.heard
 
 pub returns-in-Ok-lead-clause-journal : goal.returns-in-Ok-lead-clause-journal
 returns-in-Ok-lead-clause-journal g c honest going =

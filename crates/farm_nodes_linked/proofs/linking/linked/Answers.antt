@@ -22,14 +22,14 @@ returns-in-Ok-link-clause-ok g c =
     let named = c.deref-4.result.now in
     let same : lent_beside named ≡ learned_by c.args.node.now.seats.items =
     ap (λ l. lent_beside l) c.deref-4.ensures.value ∙ (c.in-Ok.ensures.offers ∙ ap (λ l. learned_by l) c.deref-3.ensures.value) in
-    c.in-Ok-link.ensures.ok ∙ is_linked (low (program_tree c.args.program.now)) (learned_by c.args.node.now.seats.items) named same
+    c.in-Ok-link.ensures.ok ∙ is_linked (gen (low (program_tree c.args.program.now))) (learned_by c.args.node.now.seats.items) named same
 
 pub returns-in-Ok-link-clause-chained : goal.returns-in-Ok-link-clause-chained
 returns-in-Ok-link-clause-chained g c =
     let named = c.deref-4.result.now in
     let same : lent_beside named ≡ learned_by c.args.node.now.seats.items =
     ap (λ l. lent_beside l) c.deref-4.ensures.value ∙ (c.in-Ok.ensures.offers ∙ ap (λ l. learned_by l) c.deref-3.ensures.value) in
-    go_on (low (program_tree c.args.program.now)) (learned_by c.args.node.now.seats.items) named same c.in-Ok-link.ensures.chained
+    go_on (gen (low (program_tree c.args.program.now))) (learned_by c.args.node.now.seats.items) named same c.in-Ok-link.ensures.chained
 
 pub returns-clause-refused : goal.returns-clause-refused
 returns-clause-refused g c =
@@ -52,7 +52,7 @@ returns-clause-whole g c = λ names few all.
     let beside : names_beside named ≡ names_of (arc_value c.args.node.now.program).functions =
     ap (λ l. names_beside l) c.deref-4.ensures.value ∙ (c.in-Ok.ensures.names ∙ ap (λ l. names_of l) (c.as_slice.ensures ∙ ap (λ p. p.functions) c.deref-2.ensures)) in
     let memory = c.in-Err-link.ensures.whole (beside ∙ names) few
-    (chain (low (program_tree c.args.program.now)) (learned_by c.args.node.now.seats.items) named same all) in
+    (chain (gen (low (program_tree c.args.program.now))) (learned_by c.args.node.now.seats.items) named same all) in
     λ i. Link (memory i)
 
 pub returns-in-Ok-link-clause-names : goal.returns-in-Ok-link-clause-names

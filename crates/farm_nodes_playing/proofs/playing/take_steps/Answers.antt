@@ -2,11 +2,13 @@ use Rattle.std.proofs.Common.{◌||◌, option_copied, Some, sym, ◌∙◌, sub
 use Rattle.acceptor_log.specs.Acknowledged.{acknowledged}
 use Rattle.farm_nodes_leading.proofs.Results.{Grown, grown_on}
 use Rattle.farm_nodes_offers.specs.declared.halt.Halt.{Halt}
-use Rattle.farm_nodes_offers.specs.Halted.{fault_by_journal}
+use Rattle.farm_nodes_leading.specs.Noted.{pending_of}
+use Rattle.farm_nodes_offers.specs.Halted.{fault_by_journal, left_over, HasHaltCause}
 use Rattle.farm_nodes_offers.specs.Pending.{IsOfferText, MayPendOn}
 use Rattle.farm_nodes_offers.specs.Told.{IsOwnText, TellNew}
-use Rattle.farm_nodes_offers.proofs.Leavings.{left_after, told_after}
-use Rattle.farm_nodes_playing.proofs.Turns.{if_halted, if_went_on, left_acting, made_taking, own_taking, recorded_err, recorded_ok, seat_is, stays_taking}
+use Rattle.farm_nodes_offers.proofs.Leavings.{halt_cause, left_after, told_after}
+use Rattle.farm_nodes_playing.specs.Played.{IsTooLarge}
+use Rattle.farm_nodes_playing.proofs.Turns.{if_halted, if_went_on, later_cause, left_acting, made_taking, own_taking, recorded_err, recorded_ok, seat_is, stays_taking}
 use Rattle.farm_nodes_playing.proofs.playing.take_steps.Goals as goal
 use Rattle.farm_nodes_playing.proofs.playing.take_steps.Goals.{in-Ok-take_part, in-Err-take_part}
 
@@ -67,4 +69,25 @@ returns-clause-left g c =
           record { fault = fault_by_journal w.in-Err-take_part.stop.error; pending = Some w.in-Err-take_part.stop.pending }
           w.result-is w.stopped.ensures
           (left_acting IsText c.args.room record { words = c.take_part.new.seat; sights = c.seat.inside.sights } w.in-Err-take_part.stop.pending w.in-Err-take_part.ensures.acting)
+    ]
+
+pub returns-clause-cause : goal.returns-clause-cause
+returns-clause-cause g c going =
+    let disk = g.D.Disk in
+    let old = c.args.log.now in
+    let mid = c.offer_on.new.log in
+    let new = c.take_part.new.log in
+    let t = c.take_part.new.seat in
+    let TooLarge = IsTooLarge g.P.Pass.too_large (option_copied c.args.input) in
+    let P = λ (halt : Halt). HasHaltCause disk.is_honest disk.faults TooLarge old new (left_over c.args.room t halt.pending) halt.fault in
+    elim c.match-take_part.branch [
+      | in-Ok-take_part w ↦ if_went_on P c.match-take_part.result w.either.result w.result-is
+      | in-Err-take_part w ↦
+          if_halted P c.match-take_part.result w.stopped.result
+          record { fault = fault_by_journal w.in-Err-take_part.stop.error; pending = Some w.in-Err-take_part.stop.pending }
+          w.result-is w.stopped.ensures
+          (halt_cause disk.is_honest disk.faults TooLarge old new (pending_of c.args.room t w.in-Err-take_part.stop.pending) w.in-Err-take_part.stop.error
+          (later_cause disk.is_honest disk.faults old mid new (pending_of c.args.room t w.in-Err-take_part.stop.pending) w.in-Err-take_part.stop.error
+          c.offer_on.ensures.served.honest c.offer_on.ensures.served.later
+          (w.in-Err-take_part.ensures.cause (c.in-Ok.ensures.going ∙ going))))
     ]

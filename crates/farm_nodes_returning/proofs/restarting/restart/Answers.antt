@@ -35,7 +35,7 @@ returns-in-Ok-clause-sound g c =
     sound_back pass_texts disk.is_honest disk.seen disk.may_leave fresh old (fours_of c.come_back_on.new.seats.items) (4 * length c.args.node.seats.items)
     c.in-Ok.ensures.sound c.in-Ok.ensures.ok.0
     (ap (λ (n : ℕ). 4 * n) (sym (length-map c.come_back_on.new.seats.items four_of ∙ c.come_back_on.ensures.count)))
-    (subst (λ (h : Header). AreSeatsOf h (fours_of c.args.node.seats.items)) (sym same) c.requires.sound.own) c.in-Ok.ensures.rest
+    (subst (λ (h : Header). AreSeatsOf h (fours_of c.args.node.seats.items)) (sym same) c.requires.sound.own) c.requires.sound.of_runs c.in-Ok.ensures.rest
     (λ honest. (c.in-Ok.ensures.seats (c.in-Ok.ensures.honest.0 honest)).leave)
     (λ honest. subst (λ (h : Header). AreInOrder h.nodes h.node (4 * length c.args.node.seats.items) (acknowledged g.P.Disk.seen c.in-Ok.fresh)) (sym same)
     (returns-in-Ok-clause-in_order g c (c.in-Ok.ensures.honest.0 honest)))

@@ -2,7 +2,8 @@
 use Rattle.std.proofs.Common.{sym, ◌∙◌}
 use Rattle.std.specs.Vec.Iter.{into_iter_items}
 use Rattle.farm_nodes_stored.specs.Checked.{AreAsMany}
-use Rattle.farm_nodes_stored.proofs.Nodes.{next_of, rest_of, all_at}
+use Rattle.farm_nodes_disks.proofs.Next.{next_of, rest_of}
+use Rattle.farm_nodes_stored.proofs.Nodes.{all_at}
 use Rattle.farm_nodes_stored.proofs.Accepted.{accepted_in_front, checked_more, none_checked}
 use Rattle.farm_nodes_stored.proofs.checking.checked_nodes.Goals as goal
 

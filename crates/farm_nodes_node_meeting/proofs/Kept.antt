@@ -1,0 +1,217 @@
+-- What a node's journal stands for is not changed by a meeting.
+use Rattle.std.proofs.Common.{◌≡◌, ℕ, ◌*◌, true, ◌<◌, ◌≤◌, List, [], ◌++◌, map, length, slice_get, Option, Some, None, sym, ap, ◌∙◌, subst, arith, inl, inr}
+use Rattle.std.proofs.lemmas.Bool.{cases_eq}
+use Rattle.std.proofs.lemmas.Option.{slice_get_within}
+use Rattle.paxos_core_world.specs.KeptPart.{KeptPart}
+use Rattle.acceptor_log_form.specs.Order.{AreInOrder}
+use Rattle.acceptor_log_form.specs.declared.header.Header.{Header}
+use Rattle.acceptor_log_form.specs.declared.record.Record.{Record}
+use Rattle.acceptor_log.specs.declared.log.Log.{Log}
+use Rattle.rooms.specs.SeatValue.{SeatValue}
+use Rattle.rooms_cells.specs.Seen.{SightOf, value_at}
+use Rattle.rooms_seat.specs.Meeting.{Remains}
+use Rattle.rooms_seat.specs.SeatState.{SeatState}
+use Rattle.farm_nodes_order.proofs.Orders.{IsSameNode}
+use Rattle.farm_nodes_acting.specs.JournalAdvances.{AreOf}
+use Rattle.farm_nodes_seat_meeting.specs.Numbers.{function_of, pass_of}
+use Rattle.farm_nodes_seat_meeting.specs.Fours.{Four, words_of}
+use Rattle.farm_nodes_seat_meeting.specs.Leaves.{Leave}
+use Rattle.farm_nodes_node.specs.Texts.{Texts, IsOwnTextIn}
+use Rattle.farm_nodes_offers.specs.Told.{IsOwnText}
+use Rattle.farm_nodes_seat_meeting.specs.Which.{Which}
+use Rattle.farm_nodes_seat_meeting.specs.Which.TheVariants.{First, Second, Third, Fourth}
+use Rattle.farm_nodes_node.proofs.Places.{found, mapped, map_at, map_length}
+use Rattle.farm_nodes_node.specs.declared.halted.Halted.{Halted}
+use Rattle.farm_nodes_node.specs.Held.{AreOfRuns, AreSeatsOf, AreUnproposed, IsSoundBy}
+use Rattle.farm_nodes_node_meeting.proofs.Deciding.{first_of_run, second_of_run}
+use Rattle.rooms_crash.specs.OfRun.{IsOfRun}
+use Rattle.farm_nodes_seat_meeting.specs.Held.{Held}
+use Rattle.farm_nodes_seat_meeting.specs.Functions.{MetIn}
+use Rattle.farm_nodes_seat_meeting.specs.Lists.{HaveMetAll}
+
+one_item : {S : Type 0} (o : Option S) (x y : S) → o ≡ Some x → o ≡ Some y → x ≡ y
+one_item o x y e e' = cc
+
+same_as : (s t : SeatState) → t ≡ s → IsSameNode s t
+same_as s t e = record {
+  me = ap (λ (u : SeatState). u.node.me) e;
+  quorums = ap (λ (u : SeatState). u.node.quorums) e;
+  kept = ap (λ (u : SeatState). u.node.kept) e;
+  ballot = ap (λ (u : SeatState). u.node.ballot) e;
+  proposed = ap (λ (u : SeatState). u.node.proposed) e;
+}
+
+of_remains : (s t : SeatState) → Remains s t → IsSameNode s t
+of_remains s t r = record { me = r.me; quorums = r.quorums; kept = r.kept; ballot = r.ballot; proposed = r.under_it }
+
+-- the text of its offer is that of a seat with the same sights
+own_met : {T : Type 0} (IsText : List ℕ → T → Type 0) (a b : SeatValue T) → b.sights ≡ a.sights → Remains a.words b.words → (text : List ℕ) → IsOwnText IsText a text → IsOwnText IsText b text
+own_met {T} IsText a b sights remains text own =
+    (own.0, ap (λ (ss : List (SightOf T)). value_at ss b.words.node.me) sights ∙ (ap (λ (j : ℕ). value_at a.sights j) remains.me ∙ own.1), own.2)
+
+module _ {T1 T2 T3 T4 : Type 0} where
+  -- the seats, and their number
+  abbrev pub four_in : Held T1 T2 T3 T4 → Four T1 T2 T3 T4
+  four_in h = record {
+    first = h.first.seat;
+    second = h.second.seat;
+    third = h.third.seat;
+    fourth = h.fourth.seat;
+    number = h.first.claim;
+  }
+
+-- what a seat's node keeps, and the text of its offer
+module _ {T1 T2 T3 T4 : Type 0} (texts : Texts T1 T2 T3 T4) where
+  -- their nodes keep what they kept, and have the ballot under way that they had, and their offers
+  pub record KeptIn (h h' : Held T1 T2 T3 T4) (p : Which) : Type 0 where
+    pub node : IsSameNode (words_of (four_in h) p) (words_of (four_in h') p)
+    pub own : (text : List ℕ) → IsOwnTextIn texts p (four_in h) text → IsOwnTextIn texts p (four_in h') text
+    pub of_run : IsOfRun (words_of (four_in h) p) → IsOfRun (words_of (four_in h') p)
+
+  kept_first : (a b a' b' : Held T1 T2 T3 T4) → MetIn a b a' b' → (p : Which) → KeptIn a a' p
+  kept_first a b a' b' met First = record { node = of_remains a.first.seat.words a'.first.seat.words met.first.first_remains; own = own_met texts.first a.first.seat a'.first.seat met.first.first_sights met.first.first_remains; of_run = first_of_run a.first b.first a'.first b'.first met.first }
+  kept_first a b a' b' met Second = record { node = of_remains a.second.seat.words a'.second.seat.words met.second.first_remains; own = own_met texts.second a.second.seat a'.second.seat met.second.first_sights met.second.first_remains; of_run = first_of_run a.second b.second a'.second b'.second met.second }
+  kept_first a b a' b' met Third = record { node = of_remains a.third.seat.words a'.third.seat.words met.third.first_remains; own = own_met texts.third a.third.seat a'.third.seat met.third.first_sights met.third.first_remains; of_run = first_of_run a.third b.third a'.third b'.third met.third }
+  kept_first a b a' b' met Fourth = record { node = of_remains a.fourth.seat.words a'.fourth.seat.words met.fourth.first_remains; own = own_met texts.fourth a.fourth.seat a'.fourth.seat met.fourth.first_sights met.fourth.first_remains; of_run = first_of_run a.fourth b.fourth a'.fourth b'.fourth met.fourth }
+
+  kept_second : (a b a' b' : Held T1 T2 T3 T4) → MetIn a b a' b' → (p : Which) → KeptIn b b' p
+  kept_second a b a' b' met First = record { node = of_remains b.first.seat.words b'.first.seat.words met.first.second_remains; own = own_met texts.first b.first.seat b'.first.seat met.first.second_sights met.first.second_remains; of_run = second_of_run a.first b.first a'.first b'.first met.first }
+  kept_second a b a' b' met Second = record { node = of_remains b.second.seat.words b'.second.seat.words met.second.second_remains; own = own_met texts.second b.second.seat b'.second.seat met.second.second_sights met.second.second_remains; of_run = second_of_run a.second b.second a'.second b'.second met.second }
+  kept_second a b a' b' met Third = record { node = of_remains b.third.seat.words b'.third.seat.words met.third.second_remains; own = own_met texts.third b.third.seat b'.third.seat met.third.second_sights met.third.second_remains; of_run = second_of_run a.third b.third a'.third b'.third met.third }
+  kept_second a b a' b' met Fourth = record { node = of_remains b.fourth.seat.words b'.fourth.seat.words met.fourth.second_remains; own = own_met texts.fourth b.fourth.seat b'.fourth.seat met.fourth.second_sights met.fourth.second_remains; of_run = second_of_run a.fourth b.fourth a'.fourth b'.fourth met.fourth }
+
+module _ {S T1 T2 T3 T4 : Type 0} (texts : Texts T1 T2 T3 T4) (view : S → Held T1 T2 T3 T4) where
+  -- as many, and each keeps what it kept
+  pub record HaveKept (xs xs' : List S) : Type 0 where
+    pub long : length xs' ≡ length xs
+    pub each : (k : ℕ) (a a' : S) → slice_get xs k ≡ Some a → slice_get xs' k ≡ Some a' → (p : Which) → KeptIn texts (view a) (view a') p
+
+  kept_same : (xs xs' : List S) → xs' ≡ xs → HaveKept xs xs'
+  kept_same xs xs' same = record {
+    long = ap (λ (l : List S). length l) same;
+    each = λ k a a' ea ea' p.
+        let is : a ≡ a' = one_item (slice_get xs k) a a' ea (sym (ap (λ (l : List S). slice_get l k) same) ∙ ea') in
+        record {
+          node = same_as (words_of (four_in (view a)) p) (words_of (four_in (view a')) p) (ap (λ (x : S). words_of (four_in (view x)) p) (sym is));
+          own = λ text own. subst (λ (x : S). IsOwnTextIn texts p (four_in (view x)) text) is own;
+          of_run = λ h. subst (λ (x : S). IsOfRun (words_of (four_in (view x)) p)) is h;
+        };
+  }
+
+  -- what has met under other names
+  pub met_as : (xs ys xs' ys' us vs us' vs' : List S) (count : ℕ) → us ≡ xs → vs ≡ ys → xs' ≡ us' → ys' ≡ vs'
+      → HaveMetAll us vs us' vs' count view → HaveMetAll xs ys xs' ys' count view
+  met_as xs ys xs' ys' us vs us' vs' count ex ey ex' ey' met =
+      subst (λ (l : List S). HaveMetAll l ys xs' ys' count view) ex
+      (subst (λ (l : List S). HaveMetAll us l xs' ys' count view) ey
+      (subst (λ (l : List S). HaveMetAll us vs l ys' count view) (sym ex')
+      (subst (λ (l : List S). HaveMetAll us vs us' l count view) (sym ey') met)))
+
+  pub first_kept : (xs ys xs' ys' : List S) (count : ℕ) → HaveMetAll xs ys xs' ys' count view → HaveKept xs xs'
+  first_kept xs ys xs' ys' count met = elim (cases_eq (length xs) (length ys)) [
+    | inl alike ↦
+        let all = met.met alike in
+        record {
+          long = all.first;
+          each = λ k a a' ea ea' p.
+              let within : k < length xs = slice_get_within xs k a ea in
+              let b = found ys k (omega (arith, within, alike)) in
+              let b' = found ys' k (omega (arith, within, alike, all.second)) in
+              let one = all.each k a b.0 a' b'.0 ea b.1 ea' b'.1 in
+              kept_first texts (view a) (view b.0) (view a') (view b'.0) one p;
+        }
+    | inr other ↦ kept_same xs xs' (met.unlike other).0
+  ]
+
+  pub second_kept : (xs ys xs' ys' : List S) (count : ℕ) → HaveMetAll xs ys xs' ys' count view → HaveKept ys ys'
+  second_kept xs ys xs' ys' count met = elim (cases_eq (length xs) (length ys)) [
+    | inl alike ↦
+        let all = met.met alike in
+        record {
+          long = all.second;
+          each = λ k b b' eb eb' p.
+              let within : k < length ys = slice_get_within ys k b eb in
+              let a = found xs k (omega (arith, within, alike)) in
+              let a' = found xs' k (omega (arith, within, alike, all.first)) in
+              let one = all.each k a.0 b a'.0 b' a.1 eb a'.1 eb' in
+              kept_second texts (view a.0) (view b) (view a'.0) (view b') one p;
+        }
+    | inr other ↦ kept_same ys ys' (met.unlike other).1
+  ]
+
+  abbrev fours : List S → List (Four T1 T2 T3 T4)
+  fours xs = map (λ s. four_in (view s)) xs
+
+  as_many : (xs xs' : List S) → HaveKept xs xs' → length (fours xs') ≡ length (fours xs)
+  as_many xs xs' kept = map_length (λ (s : S). four_in (view s)) xs' ∙ (kept.long ∙ sym (map_length (λ (s : S). four_in (view s)) xs))
+
+  -- the seat that was where one is
+  at_kept : (xs xs' : List S) → HaveKept xs xs' → (m : ℕ) (t : Four T1 T2 T3 T4) → slice_get (fours xs') (function_of m) ≡ Some t
+      → (s : Four T1 T2 T3 T4) × (slice_get (fours xs) (function_of m) ≡ Some s) × IsSameNode (words_of s (pass_of m)) (words_of t (pass_of m))
+      × ((text : List ℕ) → IsOwnTextIn texts (pass_of m) s text → IsOwnTextIn texts (pass_of m) t text)
+      × (IsOfRun (words_of s (pass_of m)) → IsOfRun (words_of t (pass_of m)))
+  at_kept xs xs' kept m t e =
+      let new = mapped (λ (s : S). four_in (view s)) xs' (function_of m) t e in
+      let within : function_of m < length xs' = slice_get_within xs' (function_of m) new.0 new.1 in
+      let old = found xs (function_of m) (subst (λ (n : ℕ). function_of m < n) kept.long within) in (
+        four_in (view old.0),
+        map_at (λ (s : S). four_in (view s)) xs (function_of m) old.0 old.1,
+        subst (λ (u : Four T1 T2 T3 T4). IsSameNode (words_of (four_in (view old.0)) (pass_of m)) (words_of u (pass_of m))) new.2
+            (kept.each (function_of m) old.0 new.0 old.1 new.1 (pass_of m)).node,
+        subst (λ (u : Four T1 T2 T3 T4). (text : List ℕ) → IsOwnTextIn texts (pass_of m) (four_in (view old.0)) text → IsOwnTextIn texts (pass_of m) u text) new.2
+            (kept.each (function_of m) old.0 new.0 old.1 new.1 (pass_of m)).own,
+        subst (λ (u : Four T1 T2 T3 T4). IsOfRun (words_of (four_in (view old.0)) (pass_of m)) → IsOfRun (words_of u (pass_of m))) new.2
+            (kept.each (function_of m) old.0 new.0 old.1 new.1 (pass_of m)).of_run,
+      )
+
+  leave_kept : (xs xs' : List S) (rs : List Record) → HaveKept xs xs' → Leave texts (fours xs) rs → Leave texts (fours xs') rs
+  leave_kept xs xs' rs kept leave = record {
+    rooms = λ m t e. let old = at_kept xs xs' kept m t e in leave.rooms m old.0 old.1 ∙ sym old.2.kept;
+    no_others = λ m above. leave.no_others m (subst (λ (n : ℕ). n ≤ function_of m) (as_many xs xs' kept) above);
+    offers = λ m t e now.
+        let old = at_kept xs xs' kept m t e in
+        let told = leave.offers m old.0 old.1 (ap (λ (k : KeptPart). k.offered) (sym old.2.kept) ∙ now) in
+        (told.0, told.1, old.3 told.0 told.2);
+  }
+
+  seats_kept : (h : Header) (xs xs' : List S) → HaveKept xs xs' → AreSeatsOf h (fours xs) → AreSeatsOf h (fours xs')
+  seats_kept h xs xs' kept own = record {
+    me = λ m t e. let old = at_kept xs xs' kept m t e in old.2.me ∙ own.me m old.0 old.1;
+    quorums = λ m t e. let old = at_kept xs xs' kept m t e in old.2.quorums ∙ own.quorums m old.0 old.1;
+  }
+
+  of_runs_kept : (xs xs' : List S) → HaveKept xs xs' → AreOfRuns (fours xs) → AreOfRuns (fours xs')
+  of_runs_kept xs xs' kept of m t e = let old = at_kept xs xs' kept m t e in old.4 (of m old.0 old.1)
+
+  unproposed_kept : (xs xs' : List S) (rs : List Record) → HaveKept xs xs' → AreUnproposed (fours xs) rs → AreUnproposed (fours xs') rs
+  unproposed_kept xs xs' rs kept fresh m t e b is none =
+      let old = at_kept xs xs' kept m t e in fresh m old.0 old.1 b (sym old.2.ballot ∙ is) (sym old.2.proposed ∙ none)
+
+  sound_going : {D : Type 0} (is_honest : D → Type 0) (seen : D → List ℕ) (may_leave : D → List ℕ → Type 0) (log : Log D) (xs xs' : List S)
+      → HaveKept xs xs' → IsSoundBy texts is_honest seen may_leave log (fours xs) None → IsSoundBy texts is_honest seen may_leave log (fours xs') None
+  sound_going is_honest seen may_leave log xs xs' kept sound = record {
+    journal = sound.journal;
+    going = sound.going;
+    own = seats_kept log.header xs xs' kept sound.own;
+    of_runs = of_runs_kept xs xs' kept sound.of_runs;
+    upto = λ honest.
+        let u = sound.upto honest in (
+          u.0,
+          record {
+            leave = leave_kept xs xs' u.0 kept u.1.leave;
+            named = subst (λ (n : ℕ). AreOf (4 * n) u.0) (sym (as_many xs xs' kept)) u.1.named;
+            in_order = subst (λ (n : ℕ). AreInOrder log.header.nodes log.header.node (4 * n) (u.0 ++ [])) (sym (as_many xs xs' kept)) u.1.in_order;
+            unproposed = unproposed_kept xs xs' u.0 kept u.1.unproposed;
+            left = u.1.left;
+          },
+          u.2,
+        );
+  }
+
+  -- a node that is not stopped stays sound, whatever became of its seats, where they keep what they kept
+  pub sound_kept : {D : Type 0} (is_honest : D → Type 0) (seen : D → List ℕ) (may_leave : D → List ℕ → Type 0) (log : Log D) (xs xs' : List S)
+      (halted : Option Halted) → halted ≡ None → HaveKept xs xs'
+      → IsSoundBy texts is_honest seen may_leave log (fours xs) halted → IsSoundBy texts is_honest seen may_leave log (fours xs') halted
+  sound_kept is_honest seen may_leave log xs xs' halted none kept sound =
+      subst (λ (h : Option Halted). IsSoundBy texts is_honest seen may_leave log (fours xs') h) (sym none)
+      (sound_going is_honest seen may_leave log xs xs' kept (subst (λ (h : Option Halted). IsSoundBy texts is_honest seen may_leave log (fours xs) h) none sound))

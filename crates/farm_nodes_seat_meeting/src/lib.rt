@@ -1,0 +1,12 @@
+//! Two nodes of a farm meet: their seats do, room by room, and the functions are counted that both link. Both then link the
+//! same code.
+#![tactic(auto)]
+
+mod functions;
+mod learned;
+mod meeting;
+
+pub use farm_nodes_passes::{NumberedSeat, Oracles};
+pub use functions::meet_in_function;
+pub use learned::{has_learned_offer, learned_offer};
+pub use meeting::meet_all;
