@@ -70,11 +70,11 @@ fn go_back<M: Machine>(run: &mut Running<M::Place, M::Target>, value: Option<u32
 pub(crate) fn leave<M: Machine>(
     run: &mut Running<M::Place, M::Target>,
     functions: &[Named<M::Function>],
-    ready: &[M::Ready],
+    ready: &M::Ready,
     running: &M::Function,
 ) -> Result<Turn, NoMemory>
     requires running { HasFunction (slice_get functions.now run.old.function) running.now }
-    requires ready { M.are_ready ready.now running.now }
+    requires ready { M.are_ready functions.now ready.now running.now }
     requires fits { RunFits M.fits M.can_resume functions.now run.old }
     requires leaves { M.leaves running.now run.old.place }
     ensures turn { IfOk result (λ turn. (output : List ℕ) →

@@ -1,5 +1,3 @@
-pub mod There
-pub mod Targets
 pub mod Frames
 pub mod States
 pub mod Ready
@@ -7,3 +5,4 @@ pub use Rattle.lang_parts.specs.Written
 pub use Rattle.linear_language.specs.Meaning
 pub use Rattle.linear_language.specs.Function
 pub use Rattle.lang_base.specs.Behaviour
+pub use Rattle.linear_calls.specs.Ways

@@ -3,7 +3,6 @@
 //! speed is not promised.
 #![tactic(auto)]
 
-mod calls;
 mod code;
 mod decoding;
 mod entering;

@@ -1,7 +1,7 @@
 use Rattle.std.proofs.Common.{◌-◌, length, get_or, None, sym, ap, ◌∙◌}
 use Rattle.rtl_decoded.specs.Seen.{data_of}
 use Rattle.linear_decoded.proofs.Words.{value_seen}
-use Rattle.linear.proofs.FrameWords.{there_fits}
+use Rattle.linear_calls.proofs.There.{there_fits}
 use Rattle.linear.proofs.words.word_at.Goals as goal
 
 pub returns : goal.returns
