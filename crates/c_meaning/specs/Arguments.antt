@@ -1,36 +1,21 @@
--- Calls: arguments on the stack of locals, and the function that begins behind its caller.
-use Rattle.std.specs.Prelude.{◌≡◌, ℕ, ◌+◌, ◌-◌, Bool, true, false, List, [], ◌++◌, length, Option, Some, None, map, take, drop, replicate, slice_get}
-use Rattle.c_program.specs.declared.term.Term.{Term}
+-- Calls: the function that begins behind its caller.
+use Rattle.std.specs.Prelude.{◌≡◌, ℕ, ◌+◌, ◌-◌, ◌≤◌, List, [], ◌++◌, length, None, map, take, drop, replicate, slice_get}
 use Rattle.c_program.specs.declared.function.Function.{Function}
 use Rattle.c_program.specs.declared.function.GlobalVariable.{GlobalVariable}
+use Rattle.c_program.specs.declared.action.Action.{Action}
 use Rattle.c_program.specs.declared.action.Target.{Target}
 use Rattle.c_program.specs.Trees.{FunctionTree}
-use Rattle.c_program.specs.Views.{term_tree, actions_tree, function_tree}
-use Rattle.c_program.specs.State.{State, words}
-use Rattle.c_program.specs.Meaning.{Outcome, Level, Falls, Fails, goes_on, exec_all, comes_back, ends, begins, enters, level, shown, start}
+use Rattle.c_program.specs.Views.{actions_tree, function_tree}
+use Rattle.c_program.specs.State.{State}
+use Rattle.c_program.specs.Meaning.{Outcome, Level, Fails, goes_on, exec_all, comes_back, ends, begins, enters, level, shown, start}
+use Rattle.c_meaning_machine.specs.declared.left.Waiting.{Waiting}
 use Rattle.c_meaning_machine.specs.declared.machine.Machine.{Machine}
-use Rattle.c_meaning_machine.specs.declared.scope.Scope.{Scope}
-use Rattle.c_meaning_machine.specs.Scopes.{state_of}
+use Rattle.c_meaning_machine.specs.declared.next.Next.{Next}
 use Rattle.c_meaning_machine.specs.Resume.{functions_of, here, later, resume}
 use Rattle.c_meaning_machine.specs.Stacks.{waiting}
-use Rattle.c_meaning_machine.specs.Costs.{Costs, body_cost, cost_all, level_cost}
-use Rattle.c_meaning.specs.Reaching.{still_shown}
-
--- whether each argument has a word, and then the locals with these words behind them
-abbrev pub IsPlaced : Bool → Option (List ℕ) → List (Option ℕ) → List (Option ℕ) → Type 0
-IsPlaced true (Some ws) before after = after ≡ before ++ map Some ws
-IsPlaced true None before after = ⊥
-IsPlaced false (Some ws) before after = ⊥
-IsPlaced false None before after = Unit {0}
-
--- whether each argument has a word, and then these words
-abbrev pub AreWorth : List Term → Scope → List ℕ → Bool → Type 0
-AreWorth arguments scope ws true = words (map term_tree arguments) (state_of scope []) ≡ Some ws
-AreWorth arguments scope ws false = words (map term_tree arguments) (state_of scope []) ≡ None
-
--- These arguments' words stand behind the locals, evaluated among those that stood there before.
-abbrev pub ArePutBehind : List Term → Scope → Scope → Bool → Type 0
-ArePutBehind arguments old new done = IsPlaced done (words (map term_tree arguments) (state_of old [])) old.locals.items new.locals.items
+use Rattle.c_meaning_machine.specs.Costs.{Costs, back_cost, body_cost, cost_all, later_cost, level_cost}
+use Rattle.c_meaning_machine.specs.Steps.{Meets, next_cost}
+use Rattle.c_meaning.specs.Reaching.{ReachesCaller, still_shown}
 
 -- what a function does on these arguments
 abbrev pub body_of : Level → FunctionTree → List ℕ → State → Outcome
@@ -64,14 +49,30 @@ abbrev pub CostsItsBody : List Function → ℕ → Function → Type 0
 CostsItsBody functions number f =
     (lower : Costs) → body_cost lower (slice_get (map function_tree functions) number) ≡ cost_all lower (actions_tree f.body)
 
--- The new machine's run is that of the function called in the old one.
-abbrev pub Begins : Machine → Machine → Target → ℕ → Function → Type 0
-Begins old new target end f =
-    (output : List ℕ) → later new (Falls (here new output)) ≡ called_of old target end (function_tree f) output
+-- The run arrives where the function leads that is called in the old machine.
+abbrev pub Begins : Machine → Machine → Target → ℕ → Function → Next → Type 0
+Begins old new target end f next = Meets next new (called_of old target end (function_tree f))
 
 -- what a called function costs, and its return
 abbrev pub called_cost : Machine → Function → ℕ
 called_cost m f = 2 + cost_all (level_cost (functions_of m) (m.bound - 1)) (actions_tree f.body)
+
+-- No more steps are left than those, and what stands behind the call.
+abbrev pub BeginningCosts : Machine → Machine → Function → Next → Type 0
+BeginningCosts old new f next = next_cost next new ≤ called_cost old f + later_cost old
+
+-- a body, and its end, where the caller has this bound
+abbrev pub body_behind : Machine → Waiting → List Action → State → Outcome
+body_behind m caller body s = ends caller.ending (exec_all (level (functions_of m) (caller.bound - 1)) (actions_tree body) s)
+
+-- The run arrives where this body leads, and then its caller, which does not stand on the stack.
+abbrev pub BeginsBody : Machine → Machine → Waiting → List Action → Next → Type 0
+BeginsBody old new caller body next = ReachesCaller old new caller (body_behind old caller body) next
+
+-- No more steps are left than those of the body and of its caller.
+abbrev pub BodyCosts : Machine → Machine → Waiting → List Action → Next → Type 0
+BodyCosts old new caller body next =
+    next_cost next new ≤ 1 + (cost_all (level_cost (functions_of old) (caller.bound - 1)) (actions_tree body) + back_cost old caller)
 
 -- The machine's run shows what main does.
 abbrev pub StartsMain : List GlobalVariable → List Function → Function → ℕ → Machine → Type 0

@@ -11,9 +11,9 @@ ghost use Rattle.c_meaning_machine.specs.Steps.{next_cost};
 
 use crate::arriving::{arrive, store};
 use crate::calling::call;
-use crate::leaving::{breaks, continues, falls, returns};
+use crate::leaving::{breaks, continues, falls, returns, returns_term};
 use crate::looping::{listed, turn};
-use c_meaning_machine::{Cycle, Front, Left, Machine, Next, advance, evaluate, update};
+use c_meaning_machine::{Cycle, Front, Left, Machine, Next, advance, evaluate, same, update};
 use c_program::{Action, Target, Term, Value};
 use ints::Op;
 use lang_base::{NoMemory, Shown};
@@ -81,7 +81,7 @@ fn choose<'a>(
     };
     machine
         .left
-        .push(Left::Rest(machine.bound, machine.actions))?;
+        .push(Left::Rest(machine.bound, same(machine.actions)))?;
     machine.actions = listed(if word == 0 { other } else { then });
     Ok(Next::Goes)
 }
@@ -119,7 +119,7 @@ fn begin_sequence<'a>(machine: &mut Machine<'a>, all: &'a [Action]) -> Result<Ne
 {
     machine
         .left
-        .push(Left::Rest(machine.bound, machine.actions))?;
+        .push(Left::Rest(machine.bound, same(machine.actions)))?;
     machine.actions = all;
     Ok(Next::Goes)
 }
@@ -135,7 +135,7 @@ fn begin_loop<'a>(
     ensures cost { IfOk result (CostsAtMost machine.old machine.new (loop_work condition.now body.now behind.now)) }
 {
     let bound = machine.bound;
-    machine.left.push(Left::Rest(bound, machine.actions))?;
+    machine.left.push(Left::Rest(bound, same(machine.actions)))?;
     let cycle = Cycle {
         bound,
         condition,
@@ -147,7 +147,8 @@ fn begin_loop<'a>(
 
 /// The next step: what only changes variables is done at once, then the action behind it, or where there is none,
 /// what waits.
-#[tactic(auto, using(c_meaning_machine::proofs::Stops::resume_fails))]
+#[inline(always)]
+#[tactic(auto, using(c_meaning_machine::proofs::Stops::resume_fails, c_meaning_machine::proofs::Stops::yields_back))]
 pub fn step(machine: &mut Machine) -> Result<Next, NoMemory>
     ensures meaning { IfOk result (Reaches machine.old machine.new Falls) }
     ensures cost { IfOk result (λ next. next_cost next machine.new < later_cost machine.old) }
@@ -155,6 +156,9 @@ pub fn step(machine: &mut Machine) -> Result<Next, NoMemory>
     match advance(&mut machine.scope, machine.actions) {
         Front::Wrong => Ok(Next::Stops(Shown::Wrong)),
         Front::Done => falls(machine),
+        Front::Stays(Action::Give(Target::Caller, Value::Term(term)), _) => {
+            Ok(returns_term(machine, term))
+        }
         Front::Stays(action, rest) => {
             machine.actions = rest;
             act(machine, action)

@@ -1,17 +1,19 @@
 //! Calls of functions with a body.
 
-ghost use Rattle.std.specs.Prelude.{◌≡◌, ◌+◌, ◌<◌, ◌≤◌, [], ◌∷◌, ◌++◌, IfOk, OnOk, IfSome, IfNone, length, map, replicate};
+ghost use Rattle.std.specs.Prelude.{◌≡◌, ◌<◌, ◌≤◌, [], ◌∷◌, ◌++◌, IfOk, OnOk, IfSome, IfNone, length, map, replicate};
 ghost use Rattle.c_program.specs.Meaning.{Calls};
-ghost use Rattle.c_meaning.specs.Arguments.{ArePutBehind, AreWorth, EntersNone, Enters, CostsItsBody, Begins, called_cost};
+ghost use Rattle.c_meaning.specs.Arguments.{EntersNone, Enters, CostsItsBody, Begins, BeginningCosts, BeginsBody, BodyCosts};
 ghost use Rattle.c_meaning.specs.Parts.{call_tree};
 ghost use Rattle.c_meaning.specs.Reaching.{Does, CostsAtMost};
-ghost use Rattle.c_meaning_machine.specs.Costs.{later_cost};
+ghost use Rattle.c_meaning_machine.specs.Arguments.{ArePutBehind, AreWorth};
 
-use c_meaning_machine::{Left, Machine, Next, Scope, Waiting, evaluate};
-use c_program::{Called, Function, Target, Term};
+use crate::leaving::hand_back_term;
+use c_meaning_machine::{Entered, Left, Machine, Next, Scope, Waiting, enter, evaluate, same};
+use c_program::{Action, Called, Function, Target, Term};
 use lang_base::{NoMemory, Shown};
 
 /// The words of arguments: whether each has one.
+#[tactic(auto, using(c_meaning_machine::proofs::Placing::joined_none, c_meaning_machine::proofs::Placing::joined_more))]
 fn evaluated(arguments: &[Term], scope: &Scope, words: &mut Vec<u32>) -> Result<bool, NoMemory>
     ensures { IfOk result (AreWorth arguments.now scope.now words.new.items) }
 {
@@ -38,7 +40,7 @@ fn push_words(locals: &mut Vec<Option<u32>>, words: &[u32]) -> Result<(), NoMemo
 
 /// The only argument's word is put behind the locals: whether it has one.
 #[inline(always)]
-#[tactic(auto, using(crate::proofs::Placing::placed_none_alone, crate::proofs::Placing::placed_alone))]
+#[tactic(auto, using(c_meaning_machine::proofs::Placing::placed_none_alone, c_meaning_machine::proofs::Placing::placed_alone))]
 fn push_argument(argument: &Term, scope: &mut Scope) -> Result<bool, NoMemory>
     ensures placed { IfOk result (ArePutBehind (argument.now ∷ []) scope.old scope.new) }
     ensures base { scope.new.base ≡ scope.old.base }
@@ -55,7 +57,7 @@ fn push_argument(argument: &Term, scope: &mut Scope) -> Result<bool, NoMemory>
 }
 
 /// The arguments' words are put behind the locals: whether each has one.
-#[tactic(auto, using(crate::proofs::Placing::placed_not, crate::proofs::Placing::placed_so))]
+#[tactic(auto, using(c_meaning_machine::proofs::Placing::placed_not, c_meaning_machine::proofs::Placing::placed_so))]
 fn push_arguments(
     arguments: &[Term],
     scope: &mut Scope,
@@ -106,33 +108,55 @@ pub(crate) fn function_at(
     None
 }
 
-/// The function begins behind a caller that waits. Its arguments stand behind the end of the callers' locals.
+/// A function's body begins, whose caller does not wait yet: it waits where the body needs the stack before it returns.
+#[tactic(auto, using(c_meaning_machine::proofs::Stops::resume_fails))]
+fn begin_body<'a>(
+    machine: &mut Machine<'a>,
+    caller: Waiting<'a>,
+    body: &'a [Action],
+) -> Result<Next, NoMemory>
+    requires { 0 < caller.bound }
+    ensures meaning { IfOk result (BeginsBody machine.old machine.new caller.entry body.entry.now) }
+    ensures cost { IfOk result (BodyCosts machine.old machine.new caller.entry body.entry.now) }
+{
+    match enter(&mut machine.scope, body) {
+        Entered::Wrong => Ok(Next::Stops(Shown::Wrong)),
+        Entered::Returns(term) => Ok(hand_back_term(machine, caller, term)),
+        Entered::Stays(actions) => {
+            machine.left.push(Left::Back(caller))?;
+            machine.bound = caller.bound - 1;
+            machine.actions = same(actions);
+            Ok(Next::Goes)
+        }
+    }
+}
+
+/// The function begins. Its arguments stand behind the end of the callers' locals.
 fn begin<'a>(
     machine: &mut Machine<'a>,
     target: Target,
     end: usize,
     function: &'a Function,
-) -> Result<(), NoMemory>
+) -> Result<Next, NoMemory>
     requires bound { 0 < machine.old.bound }
     requires end { end ≤ length machine.old.scope.locals.items }
-    ensures meaning { OnOk result (Begins machine.old machine.new target end function.now) }
-    ensures cost { OnOk result (later_cost machine.new ≤ called_cost machine.old function.now + later_cost machine.old) }
+    ensures meaning { IfOk result (Begins machine.old machine.new target end function.now) }
+    ensures cost { IfOk result (BeginningCosts machine.old machine.new function.now) }
 {
     push_blank(
         &mut machine.scope.locals,
         function.locals.saturating_sub(function.parameters),
     )?;
-    machine.left.push(Left::Back(Waiting {
+    let caller = Waiting {
         ending: function.ending,
         target,
         base: machine.scope.base,
         bound: machine.bound,
-        actions: machine.actions,
-    }))?;
+        actions: same(machine.actions),
+    };
     machine.scope.base = end;
-    machine.bound -= 1;
-    machine.actions = function.body.as_slice();
-    Ok(())
+    let next = begin_body(machine, caller, function.body.as_slice())?;
+    Ok(next)
 }
 
 /// A call: first its arguments, then the bound, then the body.
@@ -155,8 +179,8 @@ pub fn call<'a>(
     match function_at(machine.functions, called.function, arguments.len()) {
         None => Ok(Next::Stops(Shown::Wrong)),
         Some(function) => {
-            begin(machine, target, end, function)?;
-            Ok(Next::Goes)
+            let next = begin(machine, target, end, function)?;
+            Ok(next)
         }
     }
 }

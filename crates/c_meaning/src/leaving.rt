@@ -3,14 +3,15 @@
 ghost use Rattle.std.specs.Prelude.{◌≡◌, ◌+◌, ◌≤◌, IfOk, IfSome, IfNone};
 ghost use Rattle.c_program.specs.Meaning.{Breaks, Continues, Returns, Falls, ends};
 ghost use Rattle.c_meaning.specs.Reaching.{ReachesRest, ReachesCaller, ComesBack};
+ghost use Rattle.c_meaning_machine.specs.AtOnce.{returned};
 ghost use Rattle.c_meaning_machine.specs.Costs.{back_cost, rest_cost};
 ghost use Rattle.c_meaning_machine.specs.Stacks.{waiting};
 ghost use Rattle.c_meaning_machine.specs.Steps.{next_cost};
 
 use crate::arriving::settle;
 use crate::looping::{after_body, turn};
-use c_meaning_machine::{Left, Machine, Next, Waiting};
-use c_program::{Ending, Target};
+use c_meaning_machine::{Left, Machine, Next, Waiting, evaluate, same};
+use c_program::{Ending, Target, Term};
 use lang_base::{NoMemory, Shown};
 
 /// `break`: the nearest loop is left.
@@ -65,7 +66,7 @@ fn come_back<'a>(machine: &mut Machine<'a>, caller: Waiting<'a>, word: Option<u3
     machine.scope.locals.truncate(machine.scope.base);
     machine.scope.base = caller.base;
     machine.bound = caller.bound;
-    machine.actions = caller.actions;
+    machine.actions = same(caller.actions);
     match word {
         Some(word) => settle(machine, caller.target, word),
         None if caller.target == Target::Nowhere => Some(Next::Goes),
@@ -92,6 +93,43 @@ pub fn returns(machine: &mut Machine, word: Option<u32>) -> Next
     }
 }
 
+/// `return` with what an expression gives: the nearest caller goes on.
+#[tactic(auto, using(c_meaning_machine::proofs::Stops::resume_fails))]
+pub fn returns_term(machine: &mut Machine, term: &Term) -> Next
+    ensures meaning { ReachesRest machine.old machine.new (returned term.now) result }
+    ensures cost { next_cost result machine.new ≤ 1 + rest_cost machine.old }
+{
+    match evaluate(term, &machine.scope) {
+        Some(word) => returns(machine, Some(word)),
+        None => Next::Stops(Shown::Wrong),
+    }
+}
+
+/// A callee has returned to a caller that does not stand on the stack, and that may return the same word.
+#[inline(always)]
+fn hand_back<'a>(machine: &mut Machine<'a>, caller: Waiting<'a>, word: Option<u32>) -> Next
+    ensures meaning { ReachesCaller machine.old machine.new caller.entry (Returns word) result }
+    ensures cost { next_cost result machine.new ≤ back_cost machine.old caller.entry }
+{
+    match come_back(machine, caller, word) {
+        Some(next) => next,
+        None => returns(machine, word),
+    }
+}
+
+/// A callee returns what an expression gives to a caller that does not stand on the stack.
+#[inline(always)]
+#[tactic(auto, using(c_meaning_machine::proofs::Stops::resume_fails))]
+pub fn hand_back_term<'a>(machine: &mut Machine<'a>, caller: Waiting<'a>, term: &Term) -> Next
+    ensures meaning { ReachesCaller machine.old machine.new caller.entry (returned term.now) result }
+    ensures cost { next_cost result machine.new ≤ back_cost machine.old caller.entry }
+{
+    match evaluate(term, &machine.scope) {
+        Some(word) => hand_back(machine, caller, Some(word)),
+        None => Next::Stops(Shown::Wrong),
+    }
+}
+
 /// The end of a function's body is reached.
 #[tactic(auto, using(c_meaning_machine::proofs::Stops::resume_fails))]
 fn reach_end<'a>(machine: &mut Machine<'a>, caller: Waiting<'a>) -> Next
@@ -103,10 +141,7 @@ fn reach_end<'a>(machine: &mut Machine<'a>, caller: Waiting<'a>) -> Next
         Ending::ReturnsZero => Some(0),
         Ending::GoesWrong => return Next::Stops(Shown::Wrong),
     };
-    match come_back(machine, caller, word) {
-        Some(next) => next,
-        None => returns(machine, word),
-    }
+    hand_back(machine, caller, word)
 }
 
 /// What is done now has fallen through: what waits on top is done.
@@ -118,7 +153,7 @@ pub fn falls(machine: &mut Machine) -> Result<Next, NoMemory>
         None => Ok(Next::Stops(Shown::Wrong)),
         Some(Left::Rest(bound, actions)) => {
             machine.bound = bound;
-            machine.actions = actions;
+            machine.actions = same(actions);
             Ok(Next::Goes)
         }
         Some(Left::Body(cycle)) => after_body(machine, cycle),

@@ -1,5 +1,6 @@
 pub mod Frames
 pub mod Levels
+pub mod Placing
 pub mod Printing
 pub mod Stacks
 pub mod Stops

@@ -3,13 +3,16 @@ use Rattle.std.specs.Prelude.{◌≡◌, ℕ, ◌+◌, ◌≤◌, Bool, true, fa
 use Rattle.ints.specs.declared.operators.Op.{Op}
 use Rattle.c_program.specs.declared.term.Term.{Term}
 use Rattle.c_program.specs.declared.action.Action.{Action}
-use Rattle.c_program.specs.declared.action.Target.TheVariants.{Local}
+use Rattle.c_program.specs.declared.action.Target.TheVariants.{Local, Caller}
 use Rattle.c_program.specs.Trees.{ActionTree, Give, Plain, Store, Update}
+use Rattle.c_program.specs.State.{State, word}
 use Rattle.c_program.specs.Values.{value}
 use Rattle.c_program.specs.Views.{term_tree, action_tree, actions_tree}
-use Rattle.c_program.specs.Meaning.{Level, Falls, Fails, goes_on, exec, exec_all}
+use Rattle.c_program.specs.Meaning.{Outcome, Level, Falls, Fails, goes_on, yields, exec, exec_all}
 use Rattle.c_meaning_machine.specs.declared.plain.Front.{Front}
 use Rattle.c_meaning_machine.specs.declared.plain.Front.TheVariants.{Wrong, Done, Stays}
+use Rattle.c_meaning_machine.specs.declared.plain.Entered.{Entered}
+use Rattle.c_meaning_machine.specs.declared.plain.Entered.TheVariants as E
 use Rattle.c_meaning_machine.specs.declared.scope.Scope.{Scope}
 use Rattle.c_meaning_machine.specs.Scopes.{variables_of, state_of}
 use Rattle.c_meaning_machine.specs.Costs.{Costs, cost, cost_all}
@@ -68,3 +71,21 @@ ComesCheaper Wrong actions = Unit {0}
 ComesCheaper Done actions = Unit {0}
 ComesCheaper (Stays action rest) actions =
     (lower : Costs) → cost lower (action_tree action.now) + cost_all lower (actions_tree rest.now) ≤ cost_all lower (actions_tree actions)
+
+-- the word of this expression is returned
+abbrev pub returned : Term → State → Outcome
+returned term s = yields Caller s (word (term_tree term) s)
+
+-- What a body has come to: it went wrong, this expression is returned, or these actions are left.
+abbrev pub Enters : Entered → List Action → Scope → Scope → Type 0
+Enters E.Wrong body old new = (lower : Level) (output : List ℕ) → exec_all lower (actions_tree body) (state_of old output) ≡ Fails output
+Enters (E.Returns term) body old new =
+    (lower : Level) (output : List ℕ) → exec_all lower (actions_tree body) (state_of old output) ≡ returned term.now (state_of new output)
+Enters (E.Stays left) body old new =
+    (lower : Level) (output : List ℕ) → exec_all lower (actions_tree body) (state_of old output) ≡ exec_all lower (actions_tree left.now) (state_of new output)
+
+-- What is left of a body costs no more than it did.
+abbrev pub LeavesNoMore : Entered → List Action → Type 0
+LeavesNoMore E.Wrong body = Unit {0}
+LeavesNoMore (E.Returns term) body = Unit {0}
+LeavesNoMore (E.Stays left) body = (lower : Costs) → cost_all lower (actions_tree left.now) ≤ cost_all lower (actions_tree body)

@@ -1,4 +1,5 @@
 pub mod Scopes
+pub mod Arguments
 pub mod AtOnce
 pub mod Stacks
 pub mod Resume

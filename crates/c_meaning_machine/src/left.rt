@@ -1,3 +1,5 @@
+ghost use Rattle.std.specs.Prelude.{◌≡◌};
+
 use c_program::{Action, Ending, Target, Term};
 
 /// A loop that is under way: the bound of its turn, its condition, its body, and what is done behind it.
@@ -18,6 +20,15 @@ pub struct Waiting<'a> {
     pub base: usize,
     pub bound: u32,
     pub actions: &'a [Action],
+}
+
+/// The same actions. Where they begin and how many they are is read and stored a word at a time: one read of both would wait
+/// for the two words to be stored.
+#[inline(always)]
+pub fn same(actions: &[Action]) -> &[Action]
+    ensures { result ≡ actions.entry }
+{
+    actions
 }
 
 /// What is left to do behind what is done now.

@@ -14,9 +14,9 @@ mod stack;
 
 pub use cells::Cells;
 pub use evaluation::evaluate;
-pub use left::{Cycle, Left, Waiting};
+pub use left::{Cycle, Left, Waiting, same};
 pub use machine::Machine;
 pub use next::Next;
-pub use plain::{Front, advance, update};
+pub use plain::{Entered, Front, advance, enter, update};
 pub use scope::Scope;
 pub use stack::Stack;

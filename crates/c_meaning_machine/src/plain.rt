@@ -1,7 +1,7 @@
 //! Actions that need no stack: they are done at once.
 
 ghost use Rattle.std.specs.Prelude.{◌≡◌, IfSome, IfNone, take};
-ghost use Rattle.c_meaning_machine.specs.AtOnce.{Ran, Assigned, Stored, Updated, Chooses, ChoosesNone, Comes, ComesCheaper, CostsNoMore};
+ghost use Rattle.c_meaning_machine.specs.AtOnce.{Ran, Assigned, Stored, Updated, Chooses, ChoosesNone, Comes, ComesCheaper, CostsNoMore, Enters, LeavesNoMore};
 ghost use Rattle.c_program.specs.Views.{action_tree};
 
 use crate::evaluation::{evaluate, operand};
@@ -19,6 +19,17 @@ pub enum Front<'a> {
     Done,
     /// This action needs the stack, and these stand behind it.
     Stays(&'a Action, &'a [Action]),
+}
+
+/// What a function's body has come to, once the actions in front that only change variables are done.
+#[derive(Clone, Copy)]
+pub enum Entered<'a> {
+    /// One of them has gone wrong.
+    Wrong,
+    /// The function returns what this expression gives.
+    Returns(&'a Term),
+    /// These are left: the first of them needs the stack, or there is none.
+    Stays(&'a [Action]),
 }
 
 /// Does the actions in front that only change variables, and chooses where an `if` stands.
@@ -41,6 +52,30 @@ pub fn advance<'a>(scope: &mut Scope, actions: &'a [Action]) -> Front<'a>
         }
     }
     Front::Done
+}
+
+/// The same at the beginning of a function's body. One that returns a word before it needs the stack never waits there.
+#[inline(always)]
+#[tactic(auto, using(crate::proofs::Stops::yields_back))]
+pub fn enter<'a>(scope: &mut Scope, body: &'a [Action]) -> Entered<'a>
+    ensures meaning { Enters result body.now scope.old scope.new }
+    ensures cost { LeavesNoMore result body.now }
+    ensures base { scope.new.base ≡ scope.old.base }
+    ensures below { take scope.old.base scope.new.locals.items ≡ take scope.old.base scope.old.locals.items }
+{
+    let mut left = body;
+    while let [first, rest @ ..] = left {
+        match chosen(scope, first) {
+            None => return Entered::Wrong,
+            Some(Action::Give(Target::Caller, Value::Term(term))) => return Entered::Returns(term),
+            Some(action) => match at_once(scope, action) {
+                Some(true) => left = rest,
+                Some(false) => return Entered::Wrong,
+                None => return Entered::Stays(left),
+            },
+        }
+    }
+    Entered::Stays(left)
 }
 
 /// What an action chooses, while it is an `if`: none where a condition goes wrong.

@@ -9,7 +9,7 @@ use Rattle.c_meaning_machine.specs.Stacks.{waiting}
 use Rattle.c_meaning_machine.specs.Costs.{level_cost}
 use Rattle.c_meaning_machine.specs.Resume.{functions_of, here, resume, later}
 use Rattle.c_meaning_machine.proofs.Levels.{level_none, level_calls, cost_calls}
-use Rattle.c_meaning.proofs.Placing.{arguments_fail, arguments_given}
+use Rattle.c_meaning_machine.proofs.Placing.{arguments_fail, arguments_given}
 use Rattle.c_meaning_machine.proofs.Stops.{resume_fails, resume_runs_out}
 use Rattle.c_meaning.proofs.calling.call.Goals as goal
 
@@ -45,8 +45,8 @@ returns-in-None-clause-meaning c = λ output.
     ∙ ap back (c.in-None.ensures.missing (level (functions_of m) (m.bound - 1)) given.0 s given.3)
     ∙ ap shown (resume_fails (functions_of m) (waiting m.left) (take m.scope.base m.scope.locals.items) output))
 
-pub returns-in_ok-begin-in-Some-clause-meaning : goal.returns-in_ok-begin-in-Some-clause-meaning
-returns-in_ok-begin-in-Some-clause-meaning c = λ output.
+pub returns-in_ok-next-in-Some-clause-meaning : goal.returns-in_ok-next-in-Some-clause-meaning
+returns-in_ok-next-in-Some-clause-meaning c = λ output.
     let m = c.args.machine.now in
     let s = here m output in
     let f = function_tree c.in-Some.function.now in
@@ -65,7 +65,7 @@ returns-in_ok-begin-in-Some-clause-meaning c = λ output.
     shown (resume functions (waiting m.left) (take base below)
     (goes_on (exec_all (level functions m.bound) (actions_tree m.actions.now))
     (comes_back c.args.target (drop base below) (ends f.ending (exec_all (level functions (m.bound - 1)) f.body begun))))) in
-    ap shown (c.in_ok-begin-in-Some.ensures.meaning output)
+    c.in_ok-next-in-Some.ensures.meaning output
     ∙ ap (λ base. stands base scope.globals.items (take end new) (drop end new)) c.in_ok-push_arguments.ensures.base
     ∙ ap (λ globals. stands m.scope.base globals (take end new) (drop end new)) c.in_ok-push_arguments.ensures.globals
     ∙ ap (λ below. stands m.scope.base s.globals below (drop end new)) (ap (take end) given.2 ∙ take_at old (map Some given.0) end count)
@@ -74,8 +74,8 @@ returns-in_ok-begin-in-Some-clause-meaning c = λ output.
     (ap after given.1 ∙ ap back (level_calls functions m.bound c.args.called.now.function given.0 s bound)
     ∙ ap back (c.in-Some.ensures.found (level functions (m.bound - 1)) given.0 s given.3))
 
-pub returns-in_ok-begin-in-Some-clause-cost : goal.returns-in_ok-begin-in-Some-clause-cost
-returns-in_ok-begin-in-Some-clause-cost c =
+pub returns-in_ok-next-in-Some-clause-cost : goal.returns-in_ok-next-in-Some-clause-cost
+returns-in_ok-next-in-Some-clause-cost c =
     let m = c.args.machine.now in
     let bound : 0 < m.bound = omega arith in
-    omega (arith, cost_calls (functions_of m) m.bound c.args.called.now.function [] bound, c.in_ok-begin-in-Some.ensures.cost, c.in-Some.ensures.cost (level_cost (functions_of m) (m.bound - 1)))
+    omega (arith, cost_calls (functions_of m) m.bound c.args.called.now.function [] bound, c.in_ok-next-in-Some.ensures.cost, c.in-Some.ensures.cost (level_cost (functions_of m) (m.bound - 1)))

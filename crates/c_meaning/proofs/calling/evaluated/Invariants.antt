@@ -1,6 +1,6 @@
 use Rattle.std.proofs.Common.{◌≡◌, []}
 use Rattle.c_meaning_machine.specs.Scopes.{state_of}
-use Rattle.c_meaning.proofs.Placing.{joined, rest_words}
+use Rattle.c_meaning_machine.proofs.Placing.{joined, rest_words}
 use Rattle.c_meaning.proofs.calling.evaluated.Given as goal
 
 -- the words so far, and the others are to come

@@ -1,6 +1,7 @@
 -- The words of arguments, one after the other.
-use Rattle.std.proofs.Common.{◌≡◌, ℕ, suc, ◌+◌, ◌<◌, Bool, true, false, List, [], ◌∷◌, ◌++◌, length, get_or, drop, map, Option, Some, None, refl, sym, ap, subst, ◌∙◌, append_assoc}
-use Rattle.std.proofs.lemmas.List.{drop_more, length-map}
+use Rattle.std.proofs.Common.{◌≡◌, ℕ, suc, ◌+◌, ◌<◌, ◌≤◌, Bool, true, false, List, [], ◌∷◌, ◌++◌, length, get_or, take, drop, map, Option, Some, None, refl, sym, ap, subst, ◌∙◌, append_assoc}
+use Rattle.std.specs.Prelude.{replicate}
+use Rattle.std.proofs.lemmas.List.{drop_more, length-map, take-append-le, drop-append-le}
 use Rattle.c_program.specs.declared.term.Term.{Term}
 use Rattle.c_program.specs.Trees.{TermTree}
 use Rattle.c_program.specs.Views.{term_tree}
@@ -8,7 +9,7 @@ use Rattle.c_program.specs.State.{State, word, words, before}
 use Rattle.c_program.specs.Values.{value}
 use Rattle.c_meaning_machine.specs.declared.scope.Scope.{Scope}
 use Rattle.c_meaning_machine.specs.Scopes.{variables_of}
-use Rattle.c_meaning.specs.Arguments.{IsPlaced, AreWorth, ArePutBehind}
+use Rattle.c_meaning_machine.specs.Arguments.{IsPlaced, AreWorth, ArePutBehind}
 
 -- words, and those behind them
 abbrev pub joined : List ℕ → Option (List ℕ) → Option (List ℕ)
@@ -97,3 +98,12 @@ arguments_given terms terms' locals before' after globals globals' output done e
     let found = placed_some told before' after (subst (λ d. IsPlaced d told before' after) t placed) in
     let count = words_length (map term_tree terms) (record { locals = locals; globals = globals; output = [] }) found.0 found.1.0 in
     (found.0, sym (same_words terms terms' locals globals globals' output e g) ∙ found.1.0, found.1.1, count ∙ length-map terms term_tree)
+
+-- a function's locals, behind those of its callers
+pub locals_behind : {B : Type 0} → (stands : List (Option ℕ) → List (Option ℕ) → B) (end n m : ℕ) (old new : List (Option ℕ)) → end ≤ length old → n ≡ m → new ≡ old ++ replicate n None →
+    stands (take end new) (drop end new) ≡ stands (take end old) (drop end old ++ replicate m None)
+locals_behind stands end n m old new h e p =
+    ap (λ l. stands (take end l) (drop end l)) p
+    ∙ ap (λ l. stands l (drop end (old ++ replicate n None))) (take-append-le end old (replicate n None) h)
+    ∙ ap (stands (take end old)) (drop-append-le end old (replicate n None) h)
+    ∙ ap (λ k. stands (take end old) (drop end old ++ replicate k None)) e
