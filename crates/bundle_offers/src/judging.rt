@@ -1,6 +1,6 @@
 //! Whether offers stand: each goes on from the one before it, and its pass accepts it.
 
-ghost use Rattle.std.specs.Prelude.{◌≡◌, ◌<◌, ℕ, length, slice_get, Some, IfOk, IfErr, OnOk, OnErr, MatchOption};
+ghost use Rattle.std.specs.Prelude.{◌≡◌, ◌<◌, ℕ, length, slice_get, slice_index_or, Some, IfOk, IfErr, OnOk, OnErr, MatchOption};
 ghost use Rattle.lang_base.specs.declared.fault.Fault.{Fault};
 ghost use Rattle.bundle_reading.specs.Read.{offers_in, offers_of};
 ghost use Rattle.bundle_offers.specs.Standing.{AllStand, AreAlone, AreJudged, FailsCheck, FailsStep, IsAlone, IsAloneAt, IsFirstFault, IsJudgedAt, IsJudgedPass, Judged, first_of};
@@ -17,7 +17,7 @@ use linearize_check::Linearize;
 use offers::PartsOf;
 use rtl_language::Function;
 use std::alloc::Global;
-use std::thread::{Threads, join, map_indices};
+use std::thread::{Threads, for_each_mut, join, map_indices};
 
 /// Whether the pass accepts an offer, or why not.
 fn accepted<P: Pass, S: Reasons<P>>(
@@ -171,10 +171,37 @@ fn judge<R: Threads + Sync>(
     in_order(front.0, front.1, back.0, back.1)
 }
 
-/// The same of the function's offers of this number by themselves: the first of them goes on from its own input.
+/// The same, one pass behind the other.
+fn judge_in_turn(alloc: Global, function: &Function, four: &Four) -> Result<(), OfferFault>
+    ensures { Judged function.now (offers_of four.now) result }
+{
+    let first = judge_pass(alloc, function, four, PassNumber::First);
+    let second = judge_pass(alloc, function, four, PassNumber::Second);
+    let third = judge_pass(alloc, function, four, PassNumber::Third);
+    let fourth = judge_pass(alloc, function, four, PassNumber::Fourth);
+    in_order(first, second, third, fourth)
+}
+
+/// The same of a function's offers by themselves, where the first of them goes on from its own input: the passes side by side, or in turn.
+fn judge_itself<R: Threads + Sync>(
+    rt: &R,
+    alloc: Global,
+    beside: bool,
+    four: &Four,
+) -> Result<(), OfferFault>
+    ensures { IsAlone four.now result }
+{
+    if beside {
+        return judge(rt, alloc, &four.constants.input, four);
+    }
+    judge_in_turn(alloc, &four.constants.input, four)
+}
+
+/// The same of those of this number.
 fn judge_alone_at<R: Threads + Sync>(
     rt: &R,
     alloc: Global,
+    beside: bool,
     fours: &[Four],
     number: usize,
 ) -> Result<(), OfferFault>
@@ -183,27 +210,56 @@ fn judge_alone_at<R: Threads + Sync>(
     if number >= fours.len() {
         return Err(OfferFault::NoMemory);
     }
-    let four = &fours[number];
-    judge(rt, alloc, &four.constants.input, four)
+    judge_itself(rt, alloc, beside, &fours[number])
 }
 
-/// Whether the four offers of each function stand by themselves, whatever function the first of them goes on from, in order: each of them
-/// in a thread of its own. No text is needed for it. A thread that cannot be made costs no answer.
+/// Places for so many answers.
+fn places(alloc: Global, count: usize) -> Result<Vec<Result<(), OfferFault>>, NoMemory>
+    ensures { IfOk result (λ alone. length alone.items ≡ count) }
+{
+    let mut alone = Vec::with_capacity(alloc, count)?;
+    for _ in 0..count {
+        alone.push(Err(OfferFault::NoMemory))?;
+    }
+    Ok(alone)
+}
+
+/// The same of all, each at its place: so many threads share them.
+fn judge_each<R: Threads + Sync>(
+    rt: &R,
+    alloc: Global,
+    workers: usize,
+    fours: &[Four],
+    alone: &mut [Result<(), OfferFault>],
+)
+    requires { 0 < workers }
+    ensures { (i : ℕ) (d : _) → i < length alone.old → IsAloneAt fours.now i (slice_index_or alone.new i d) }
+{
+    let beside = fours.len() < workers;
+    for_each_mut(
+        rt,
+        alone,
+        workers,
+        &|number: usize, told: &mut Result<(), OfferFault>|
+            ensures { IsAloneAt fours.entry.now number told.exit.now }
+        { *told = judge_alone_at(rt, alloc, beside, fours, number) },
+    );
+}
+
+/// Whether the four offers of each function stand by themselves, whatever function the first of them goes on from, in order: so many
+/// threads share them, and where there are fewer functions, each pass has a thread of its own. No text is needed for it. A thread that
+/// cannot be made costs no answer.
 pub fn judge_alone<R: Threads + Sync>(
     rt: &R,
     alloc: Global,
+    workers: usize,
     fours: &[Four],
 ) -> Result<Vec<Result<(), OfferFault>>, NoMemory>
+    requires { 0 < workers }
     ensures { IfOk result (λ alone. AreAlone fours.now alone.items) }
 {
-    let alone = map_indices(
-        rt,
-        alloc,
-        fours.len(),
-        &|number: usize| -> Result<(), OfferFault>
-            ensures { IsAloneAt fours.entry.now number result }
-        { judge_alone_at(rt, alloc, fours, number) },
-    )?;
+    let mut alone = places(alloc, fours.len())?;
+    judge_each(rt, alloc, workers, fours, &mut alone);
     Ok(alone)
 }
 

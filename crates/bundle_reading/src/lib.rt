@@ -1,4 +1,5 @@
-//! The parts of a bundle's offers: what its texts spell, whether the passes accept the parts or not. All texts are read side by side.
+//! The parts of a bundle's offers: what its texts spell, whether the passes accept the parts or not. Threads share the
+//! functions.
 #![tactic(auto)]
 
 mod four;

@@ -1,6 +1,6 @@
 //! What the texts of a bundle spell.
 
-ghost use Rattle.std.specs.Prelude.{◌≡◌, ◌≢◌, IfOk, IfErr};
+ghost use Rattle.std.specs.Prelude.{◌≡◌, ◌≢◌, ◌<◌, ℕ, length, slice_index_or, IfOk, IfErr};
 ghost use Rattle.bundle_reading.specs.Texts.{FirstFits, FourthFits, HasNoBundle, HaveNoOffers, IsBundleOf, SecondFits, ThirdFits, first_text, fourth_text, second_text, third_text};
 ghost use Rattle.bundle_reading.specs.Read.{AreFound, AreRead, IsFound, IsFoundAt, IsPartsText, IsText, both_of, four_found, offers_in};
 
@@ -13,7 +13,7 @@ use lang_base::{FormError, Pass, Row};
 use linearize_check::Linearize;
 use offers::{Offer, PartsOf};
 use std::alloc::Global;
-use std::thread::{Threads, join, map_indices};
+use std::thread::{Threads, for_each_mut, join};
 
 /// The parts that a text spells, all of it.
 fn read_one<P: Pass>(alloc: Global, text: &[u8]) -> Result<PartsOf<P>, FormError>
@@ -123,10 +123,39 @@ fn read_four<R: Threads + Sync>(rt: &R, alloc: Global, texts: &Texts) -> Result<
     four_of(front, back)
 }
 
+/// The same, one text behind the other.
+fn read_in_turn(alloc: Global, texts: &Texts) -> Result<Four, FormError>
+    ensures { IsFound texts.now result }
+{
+    let (first, second) = (texts.constants.as_slice(), texts.expressions.as_slice());
+    let (third, fourth) = (texts.allocation.as_slice(), texts.order.as_slice());
+    let one = read_one::<ConstProp>(alloc, first);
+    let two = read_one::<Cse>(alloc, second);
+    let three = read_one::<Alloc>(alloc, third);
+    let four = read_one::<Linearize>(alloc, fourth);
+    four_of((one, two), (three, four))
+}
+
+/// The same, side by side or in turn.
+fn read_texts<R: Threads + Sync>(
+    rt: &R,
+    alloc: Global,
+    beside: bool,
+    texts: &Texts,
+) -> Result<Four, FormError>
+    ensures { IsFound texts.now result }
+{
+    if beside {
+        return read_four(rt, alloc, texts);
+    }
+    read_in_turn(alloc, texts)
+}
+
 /// The same of the function of this number.
 fn read_at<R: Threads + Sync>(
     rt: &R,
     alloc: Global,
+    beside: bool,
     functions: &[Texts],
     number: usize,
 ) -> Result<Four, FormError>
@@ -135,7 +164,41 @@ fn read_at<R: Threads + Sync>(
     if number >= functions.len() {
         return Err(FormError::NoMemory);
     }
-    read_four(rt, alloc, &functions[number])
+    read_texts(rt, alloc, beside, &functions[number])
+}
+
+/// Places for what is found of so many functions.
+fn places(alloc: Global, count: usize) -> Result<Vec<Result<Four, FormError>>, FormError>
+    ensures many { IfOk result (λ found. length found.items ≡ count) }
+    ensures refused { IfErr result (λ e. e ≡ FormError.NoMemory) }
+{
+    let mut found = Vec::with_capacity(alloc, count)?;
+    for _ in 0..count {
+        found.push(Err(FormError::NoMemory))?;
+    }
+    Ok(found)
+}
+
+/// What is found of each function, at its place: so many threads share them.
+fn read_each<R: Threads + Sync>(
+    rt: &R,
+    alloc: Global,
+    workers: usize,
+    functions: &[Texts],
+    found: &mut [Result<Four, FormError>],
+)
+    requires { 0 < workers }
+    ensures { (i : ℕ) (d : _) → i < length found.old → IsFoundAt functions.now i (slice_index_or found.new i d) }
+{
+    let beside = functions.len() < workers;
+    for_each_mut(
+        rt,
+        found,
+        workers,
+        &|number: usize, one: &mut Result<Four, FormError>|
+            ensures { IsFoundAt functions.entry.now number one.exit.now }
+        { *one = read_at(rt, alloc, beside, functions, number) },
+    );
 }
 
 /// What was found of all functions, or the first fault.
@@ -162,37 +225,36 @@ fn gathered(
 fn read_fours<R: Threads + Sync>(
     rt: &R,
     alloc: Global,
+    workers: usize,
     functions: &[Texts],
 ) -> Result<Vec<Four>, FormError>
+    requires { 0 < workers }
     ensures ok { IfOk result (λ fours. AreRead functions.now fours.items) }
     ensures refused { IfErr result (λ e. e ≢ FormError.NoMemory → HaveNoOffers functions.now) }
 {
-    let found = map_indices(
-        rt,
-        alloc,
-        functions.len(),
-        &|number: usize| -> Result<Four, FormError>
-            ensures { IsFoundAt functions.entry.now number result }
-        { read_at(rt, alloc, functions, number) },
-    );
-    match found {
-        Ok(found) => gathered(alloc, functions, found),
-        Err(_) => Err(FormError::NoMemory),
-    }
+    let mut found = match places(alloc, functions.len()) {
+        Ok(found) => found,
+        Err(_) => return Err(FormError::NoMemory),
+    };
+    read_each(rt, alloc, workers, functions, &mut found);
+    gathered(alloc, functions, found)
 }
 
 /// The digest and the offers of the bundle that all of the bytes spell, whether their passes accept the offers or not. What
-/// holds the offers' texts together is read first, and then each text, in a thread of its own. The time is linear in the bytes.
+/// holds the offers' texts together is read first, and then the texts: so many threads share the functions, and where those are fewer
+/// than the threads, each text is read in a thread of its own. The time is linear in the bytes.
 pub fn read_offers<R: Threads + Sync>(
     rt: &R,
     alloc: Global,
+    workers: usize,
     bytes: &[u8],
 ) -> Result<(Row<u8>, Vec<Four>), FormError>
+    requires { 0 < workers }
     ensures ok { IfOk result (λ found. IsBundleOf bytes.now found.0 (offers_in found.1.items)) }
     ensures refused { IfErr result (λ e. e ≢ FormError.NoMemory → HasNoBundle bytes.now) }
 {
     let bundle = read(alloc, bytes)?;
     let Bundle { digest, functions } = bundle;
-    let fours = read_fours(rt, alloc, functions.as_slice())?;
+    let fours = read_fours(rt, alloc, workers, functions.as_slice())?;
     Ok((digest, fours))
 }

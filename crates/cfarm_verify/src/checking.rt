@@ -71,14 +71,14 @@ pub(crate) fn checked<R: Threads + Sync>(
     begun: &Program<rtl_language::Function>,
     program: &Program<Function>,
     digest: &[u8],
-    fours: Vec<Four>,
+    fours: &[Four],
     alone: &[Result<(), OfferFault>],
 ) -> Result<(), VerifyError>
-    requires alone { AreAlone fours.items alone.now }
+    requires alone { AreAlone fours.now alone.now }
     requires names { AllByRecursion (λ f. IsName f.name) begun.now.functions }
-    ensures checked { OnOk result (AreChecked hash.now begun.now program.now digest.now (offers_in fours.items)) }
+    ensures checked { OnOk result (AreChecked hash.now begun.now program.now digest.now (offers_in fours.now)) }
     ensures keeps { OnOk result (Keeps (rtl.run begun.now) (linear.run program.now)) }
-    ensures refused { IfErr result (IsUnchecked hash.now begun.now program.now digest.now (offers_in fours.items)) }
+    ensures refused { IfErr result (IsUnchecked hash.now begun.now program.now digest.now (offers_in fours.now)) }
 {
     if !is_digest(digest, hash) {
         return Err(VerifyError::OtherSource);
@@ -89,7 +89,7 @@ pub(crate) fn checked<R: Threads + Sync>(
     if fours.len() != begun.functions.len() {
         return Err(VerifyError::BundleNames);
     }
-    match all_stand(rt, alloc, begun.functions.as_slice(), &fours, alone) {
+    match all_stand(rt, alloc, begun.functions.as_slice(), fours, alone) {
         Ok(()) => {}
         Err(fault) => return Err(fault),
     }

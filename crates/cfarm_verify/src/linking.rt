@@ -14,9 +14,8 @@ ghost use Rattle.cfarm_verify.specs.Checked.{IsNamedOther, IsOther};
 
 use crate::error::VerifyError;
 use crate::naming::name_of;
-use bundle_offers::{Four, known_all};
-use cfarm_verify_comparing::{first_other, same_globals};
-use chains::link_offers;
+use bundle_offers::Four;
+use cfarm_verify_comparing::{first_other, linked_keeps, same_globals};
 use lang_base::{Named, NoMemory, Program};
 use linear_language::Function;
 use std::alloc::Global;
@@ -33,32 +32,28 @@ fn other_function<F>(alloc: Global, functions: &[Named<F>], number: usize) -> Ve
     }
 }
 
-/// Whether the offers of these parts, all of which stand, come to this program, or where they do not.
+/// Whether the offers of these parts, all of which stand, come to this program, or where they do not. Nothing is linked: each last
+/// output is compared where it stands.
 pub(crate) fn links_to(
     alloc: Global,
     begun: &Program<rtl_language::Function>,
     program: &Program<Function>,
-    fours: Vec<Four>,
+    fours: &[Four],
 ) -> Result<(), VerifyError>
-    requires stand { AllStand begun.now.functions (offers_in fours.items) }
+    requires stand { AllStand begun.now.functions (offers_in fours.now) }
+    requires many { length fours.now ≡ length begun.now.functions }
     requires names { AllByRecursion (λ f. IsName f.name) begun.now.functions }
     requires same { names_of program.now.functions ≡ names_of begun.now.functions }
-    ensures is { OnOk result (program.now ≡ linked_offers begun.now (offers_in fours.items)) }
+    ensures is { OnOk result (program.now ≡ linked_offers begun.now (offers_in fours.now)) }
     ensures keeps { OnOk result (Keeps (rtl.run begun.now) (linear.run program.now)) }
-    ensures refused { IfErr result (IsOther begun.now program.now (offers_in fours.items)) }
+    ensures refused { IfErr result (IsOther begun.now program.now (offers_in fours.now)) }
 {
-    let offers = match known_all(alloc, fours) {
-        Ok(offers) => offers,
-        Err(NoMemory) => return Err(VerifyError::NoMemory),
-    };
-    let made = match link_offers(alloc, begun, &offers) {
-        Ok(made) => made,
-        Err(_) => return Err(VerifyError::NoMemory),
-    };
-    if let Some(number) = first_other(made.functions.as_slice(), program.functions.as_slice()) {
-        return Err(other_function(alloc, begun.functions.as_slice(), number));
+    linked_keeps(begun, fours);
+    let functions = begun.functions.as_slice();
+    if let Some(number) = first_other(functions, fours, program.functions.as_slice()) {
+        return Err(other_function(alloc, functions, number));
     }
-    if !same_globals(made.globals.as_slice(), program.globals.as_slice()) {
+    if !same_globals(begun.globals.as_slice(), program.globals.as_slice()) {
         return Err(VerifyError::OtherGlobals);
     }
     Ok(())

@@ -4,19 +4,9 @@ ghost use Rattle.std.specs.String.{string_bytes};
 ghost use Rattle.c_lexer_parts.specs.Lexemes.{IsName};
 ghost use Rattle.linker.specs.Chains.{names_of};
 
+use farm_nodes_source::text_of;
 use lang_base::{Named, NoMemory};
 use std::alloc::Global;
-
-/// A C name as text: it is letters, digits and underscores.
-fn text_of(name: Vec<u8>) -> String
-    requires { IsName name.items }
-    ensures { string_bytes result ≡ name.items }
-{
-    match String::from_utf8(name) {
-        Ok(text) => text,
-        Err(_) => unreachable!(),
-    }
-}
 
 /// The name of the function of this number.
 pub(crate) fn name_of<F>(

@@ -37,13 +37,13 @@ fn settled<R: Threads + Sync>(
     source: &Source,
     linear: &Program<Function>,
     digest: &[u8],
-    fours: Vec<Four>,
+    fours: &[Four],
     alone: &[Result<(), OfferFault>],
 ) -> Result<usize, VerifyError>
     requires source { IsSourceOf text.now source.now }
     requires spelled { IsSpelled program.now linear.now }
-    requires bundled { IsBundleOf bundle.now digest.now (offers_in fours.items) }
-    requires alone { AreAlone fours.items alone.now }
+    requires bundled { IsBundleOf bundle.now digest.now (offers_in fours.now) }
+    requires alone { AreAlone fours.now alone.now }
     ensures verified { IfOk result (IsVerified text.now program.now bundle.now) }
     ensures refused { IfErr result (IsTold text.now program.now bundle.now) }
     ensures only { (n : ℕ) → IsVerified text.now program.now bundle.now n → IfErr result IsWant }
@@ -57,6 +57,18 @@ fn settled<R: Threads + Sync>(
         Ok(()) => Ok(functions),
         Err(fault) => Err(fault),
     }
+}
+
+/// Gives back the memory of what was read, side by side.
+fn put_away<R: Threads>(rt: &R, source: Source, linear: Program<Function>, fours: Vec<Four>) {
+    join(
+        rt,
+        || -> () { drop(fours) },
+        || -> () {
+            drop(source);
+            drop(linear);
+        },
+    );
 }
 
 /// How many functions there are, where the program is verified. The text, the program and the bundle are read side by side,
@@ -88,18 +100,22 @@ fn verified<R: Threads + Sync>(
                 fours,
                 alone,
             },
-        ) => settled(
-            rt,
-            alloc,
-            text,
-            program,
-            bundle,
-            &source,
-            &linear,
-            digest.as_slice(),
-            fours,
-            alone.as_slice(),
-        ),
+        ) => {
+            let answer = settled(
+                rt,
+                alloc,
+                text,
+                program,
+                bundle,
+                &source,
+                &linear,
+                digest.as_slice(),
+                fours.as_slice(),
+                alone.as_slice(),
+            );
+            put_away(rt, source, linear, fours);
+            answer
+        }
         Err(fault) => Err(VerifyError::Bundle(fault)),
     }
 }

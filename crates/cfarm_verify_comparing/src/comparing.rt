@@ -2,8 +2,11 @@
 
 ghost use Rattle.std.specs.Prelude.{◌≡◌, ◌↔◌, IsTrue, length, MatchOption};
 ghost use Rattle.linker.specs.Chains.{names_of};
+ghost use Rattle.chains.specs.Offered.{ends_of};
+ghost use Rattle.bundle_reading.specs.Read.{offers_in};
 ghost use Rattle.cfarm_verify_comparing.specs.Compared.{IsFirstOther};
 
+use bundle_offers::Four;
 use lang_base::{Global, Named};
 use linear_language::Function;
 
@@ -37,13 +40,19 @@ fn same_function(function: &Function, other: &Function) -> bool
     function == other
 }
 
-/// The first function that differs from the one of the same name, if one does.
-pub fn first_other(functions: &[Named<Function>], others: &[Named<Function>]) -> Option<usize>
-    requires { names_of others.now ≡ names_of functions.now }
-    ensures { MatchOption result (others.now ≡ functions.now) (IsFirstOther functions.now others.now) }
+/// The first function that is not the last output of its offers, if one is not.
+pub fn first_other(
+    begun: &[Named<rtl_language::Function>],
+    fours: &[Four],
+    functions: &[Named<Function>],
+) -> Option<usize>
+    requires many { length fours.now ≡ length begun.now }
+    requires names { names_of functions.now ≡ names_of begun.now }
+    ensures { MatchOption result (functions.now ≡ ends_of begun.now (offers_in fours.now))
+        (IsFirstOther (ends_of begun.now (offers_in fours.now)) functions.now) }
 {
-    for number in 0..functions.len() {
-        if !same_function(&functions[number].function, &others[number].function) {
+    for number in 0..begun.len() {
+        if !same_function(&fours[number].order.output, &functions[number].function) {
             return Some(number);
         }
     }

@@ -1,6 +1,9 @@
-//! Whether two linked programs are one: their functions' names, their functions and their globals.
+//! Whether a linked program is what offers come to: its functions' names, its functions and its globals; and that what they come to
+//! keeps the meaning of what they go on from.
 #![tactic(auto)]
 
 mod comparing;
+mod keeping;
 
 pub use comparing::{first_other, same_globals, same_names};
+pub use keeping::linked_keeps;

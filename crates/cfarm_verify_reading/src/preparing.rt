@@ -1,19 +1,25 @@
 //! The program of a C text, made ready, with the text's digest.
 
 ghost use Rattle.std.specs.Prelude.{◌≡◌, IfOk, IfErr};
+ghost use Rattle.std.specs.Arc.{arc_value};
 ghost use Rattle.c_syntax.specs.Trees.{UnitTree};
 ghost use Rattle.c_texts.specs.Accepted.{IsAccepted};
 ghost use Rattle.farm_nodes_source.specs.Refused.{IsOnlyTooLarge, IsUnprepared};
 ghost use Rattle.sha2.specs.Sha256.{sha256};
 ghost use Rattle.cfarm_verify_reading.specs.Found.{IsBegunOf, IsSourceOf, with_digest};
 
+use c_texts::accept;
+use cfarm_verify_lowering::translated;
+use cminor_program_ranges::accepted_has_names;
 use farm_nodes_source::{Begun, Source, SourceFault, begin};
+use lang_base::NoMemory;
 use sha2::{Digest, Sha256};
 use std::alloc::Global;
+use std::sync::Arc;
 use std::thread::{Threads, join};
 
-/// The program of a text, made ready for the first pass.
-fn made_ready(alloc: Global, text: &[u8]) -> Result<Begun, SourceFault>
+/// The program of a text, made ready for the first pass, one function behind the other.
+fn made_in_turn(alloc: Global, text: &[u8]) -> Result<Begun, SourceFault>
     ensures begun { IfOk result (IsBegunOf text.now) }
     ensures refused { IfErr result (IsUnprepared text.now) }
     ensures only { (u : UnitTree) → IsAccepted text.now u → IfErr result (IsOnlyTooLarge u) }
@@ -21,6 +27,39 @@ fn made_ready(alloc: Global, text: &[u8]) -> Result<Begun, SourceFault>
     match begin(alloc, text) {
         Ok(begun) => Ok(begun),
         Err(fault) => Err(fault),
+    }
+}
+
+/// What many may hold.
+fn shared<T: Drop>(alloc: Global, value: T) -> Result<Arc<T>, NoMemory>
+    ensures { IfOk result (λ held. arc_value held ≡ value) }
+{
+    match Arc::new(alloc, value) {
+        Ok(held) => Ok(held),
+        Err(_) => Err(NoMemory),
+    }
+}
+
+/// The same, the functions side by side. Where one cannot be made, all is made again in turn, which tells the first fault.
+fn made_ready<R: Threads + Sync>(rt: &R, alloc: Global, text: &[u8]) -> Result<Begun, SourceFault>
+    ensures begun { IfOk result (IsBegunOf text.now) }
+    ensures refused { IfErr result (IsUnprepared text.now) }
+    ensures only { (u : UnitTree) → IsAccepted text.now u → IfErr result (IsOnlyTooLarge u) }
+{
+    let program = match accept(alloc, text) {
+        Ok(program) => program,
+        Err(fault) => return Err(SourceFault::Text(fault)),
+    };
+    accepted_has_names();
+    match translated(rt, alloc, &program) {
+        Some(made) => match shared(alloc, made) {
+            Ok(translated) => Ok(Begun {
+                program,
+                translated,
+            }),
+            Err(NoMemory) => Err(SourceFault::NoMemory),
+        },
+        None => made_in_turn(alloc, text),
     }
 }
 
@@ -57,7 +96,7 @@ pub(crate) fn prepared<R: Threads + Sync>(
             ensures begun { IfOk result (IsBegunOf text.entry.now) }
             ensures refused { IfErr result (IsUnprepared text.entry.now) }
             ensures only { (u : UnitTree) → IsAccepted text.entry.now u → IfErr result (IsOnlyTooLarge u) }
-        { made_ready(alloc, text) },
+        { made_ready(rt, alloc, text) },
     );
     with_digest(digest, found)
 }

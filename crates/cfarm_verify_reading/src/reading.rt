@@ -1,4 +1,4 @@
-ghost use Rattle.std.specs.Prelude.{◌≡◌, ◌≢◌, IfOk, IfErr};
+ghost use Rattle.std.specs.Prelude.{◌≡◌, ◌≢◌, ◌<◌, IfOk, IfErr};
 ghost use Rattle.c_syntax.specs.Trees.{UnitTree};
 ghost use Rattle.c_texts.specs.Accepted.{IsAccepted};
 ghost use Rattle.farm_nodes_source.specs.Refused.{IsOnlyTooLarge, IsUnprepared};
@@ -14,7 +14,7 @@ use lang::{one_program, read_program};
 use lang_base::{FormError, NoMemory, Program};
 use linear_language::{Function, Linear};
 use std::alloc::Global;
-use std::thread::{Threads, join};
+use std::thread::{Threads, available_parallelism, join};
 
 /// The program of Linear that all of the bytes spell.
 fn read_linear(alloc: Global, bytes: &[u8]) -> Result<Program<Function>, FormError>
@@ -30,15 +30,21 @@ fn read_linear(alloc: Global, bytes: &[u8]) -> Result<Program<Function>, FormErr
 }
 
 /// What the bundle's bytes spell, and whether each function's offers stand by themselves.
-fn read_bundle<R: Threads + Sync>(rt: &R, alloc: Global, bytes: &[u8]) -> Result<Bundled, FormError>
+fn read_bundle<R: Threads + Sync>(
+    rt: &R,
+    alloc: Global,
+    workers: usize,
+    bytes: &[u8],
+) -> Result<Bundled, FormError>
+    requires { 0 < workers }
     ensures bundled { IfOk result (IsBundled bytes.now) }
     ensures refused { IfErr result (λ fault. fault ≢ FormError.NoMemory → HasNoBundle bytes.now) }
 {
-    let (digest, fours) = match read_offers(rt, alloc, bytes) {
+    let (digest, fours) = match read_offers(rt, alloc, workers, bytes) {
         Ok(found) => found,
         Err(fault) => return Err(fault),
     };
-    match judge_alone(rt, alloc, fours.as_slice()) {
+    match judge_alone(rt, alloc, workers, fours.as_slice()) {
         Ok(alone) => Ok(Bundled {
             digest,
             fours,
@@ -55,7 +61,14 @@ pub type Forms = (
 );
 
 /// The program, and what is found of the bundle, side by side.
-fn read_both<R: Threads + Sync>(rt: &R, alloc: Global, program: &[u8], bundle: &[u8]) -> Forms
+fn read_both<R: Threads + Sync>(
+    rt: &R,
+    alloc: Global,
+    workers: usize,
+    program: &[u8],
+    bundle: &[u8],
+) -> Forms
+    requires workers { 0 < workers }
     ensures spelled { IfOk result.0 (IsSpelled program.now) }
     ensures no_program { IfErr result.0 (λ fault. fault ≢ FormError.NoMemory → IsNoProgram program.now) }
     ensures bundled { IfOk result.1 (IsBundled bundle.now) }
@@ -68,10 +81,31 @@ fn read_both<R: Threads + Sync>(rt: &R, alloc: Global, program: &[u8], bundle: &
             ensures refused { IfErr result (λ fault. fault ≢ FormError.NoMemory → IsNoProgram program.entry.now) }
         { read_linear(alloc, program) },
         || -> Result<Bundled, FormError>
+            requires { 0 < workers }
             ensures ok { IfOk result (IsBundled bundle.entry.now) }
             ensures refused { IfErr result (λ fault. fault ≢ FormError.NoMemory → HasNoBundle bundle.entry.now) }
-        { read_bundle(rt, alloc, bundle) },
+        { read_bundle(rt, alloc, workers, bundle) },
     )
+}
+
+/// One less, and no less than one.
+fn all_but_one(count: usize) -> usize
+    ensures { 0 < result }
+{
+    if count < 2 {
+        return 1;
+    }
+    count - 1
+}
+
+/// How many threads share the bundle's offers: one processor is left to the text, which takes as long as they do.
+fn workers_beside<R: Threads>(rt: &R) -> usize
+    ensures { 0 < result }
+{
+    match available_parallelism(rt) {
+        Ok(processors) => all_but_one(processors.get()),
+        Err(_) => 1,
+    }
 }
 
 /// The program of the text, made ready for the first pass, with the text's digest, and the two forms, with what is found of the bundle's offers by
@@ -91,14 +125,16 @@ pub fn read_all<R: Threads + Sync>(
     ensures bundled { IfOk result.1.1 (IsBundled bundle.now) }
     ensures no_bundle { IfErr result.1.1 (λ fault. fault ≢ FormError.NoMemory → HasNoBundle bundle.now) }
 {
+    let workers = workers_beside(rt);
     let (forms, source) = join(
         rt,
         || -> Forms
+            requires { 0 < workers }
             ensures spelled { IfOk result.0 (IsSpelled program.entry.now) }
             ensures no_program { IfErr result.0 (λ fault. fault ≢ FormError.NoMemory → IsNoProgram program.entry.now) }
             ensures bundled { IfOk result.1 (IsBundled bundle.entry.now) }
             ensures no_bundle { IfErr result.1 (λ fault. fault ≢ FormError.NoMemory → HasNoBundle bundle.entry.now) }
-        { read_both(rt, alloc, program, bundle) },
+        { read_both(rt, alloc, workers, program, bundle) },
         || -> Result<Source, SourceFault>
             ensures source { IfOk result (IsSourceOf text.entry.now) }
             ensures refused { IfErr result (IsUnprepared text.entry.now) }

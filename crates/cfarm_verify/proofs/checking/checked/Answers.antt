@@ -8,40 +8,42 @@ use Rattle.cfarm_verify.specs.Checked.{IsFaulty}
 use Rattle.cfarm_verify.proofs.Told.{faulty_unchecked, of_text, other_unchecked}
 use Rattle.cfarm_verify.proofs.checking.checked.Goals as goal
 
-pub returns-then-len-clause-refused : goal.returns-then-len-clause-refused
-returns-then-len-clause-refused g c =
+pub returns-then-fours-len-clause-refused : goal.returns-then-fours-len-clause-refused
+returns-then-fours-len-clause-refused g c =
     let text = c.if-not-is_digest.ensures.0 refl in
     let names = ap (λ l. names_of l) (sym c.as_slice-2.ensures) ∙ c.if-not-same_names.ensures.0 refl ∙ ap (λ l. names_of l) c.as_slice.ensures in
-    (text, names, λ e. omega (arith, e, length-map c.args.fours.items offers_of, c.len.ensures, c.len-2.ensures, c.if-len.true))
+    (text, names, λ e. omega (arith, e, length-map c.args.fours.now offers_of, c.len.ensures, c.if-fours-len.true))
 
 pub returns-in-Err-clause-refused : goal.returns-in-Err-clause-refused
 returns-in-Err-clause-refused g c =
-    let offers = offers_in c.args.fours.items in
-    let many : length c.args.fours.items ≡ length c.args.begun.now.functions = omega (arith, c.len.ensures, c.len-2.ensures, c.if-len.false) in
+    let offers = offers_in c.args.fours.now in
+    let many : length c.args.fours.now ≡ length c.args.begun.now.functions = omega (arith, c.len.ensures, c.if-fours-len.false) in
     let are =
-    of_text c.args.hash.now c.args.begun.now c.args.program.now c.args.digest.now c.args.fours.items c.as_slice.result.now c.as_slice-2.result.now c.as_slice.ensures c.as_slice-2.ensures
+    of_text c.args.hash.now c.args.begun.now c.args.program.now c.args.digest.now c.args.fours.now c.as_slice.result.now c.as_slice-2.result.now c.as_slice.ensures c.as_slice-2.ensures
     (c.if-not-is_digest.ensures.0 refl) (c.if-not-same_names.ensures.0 refl) many in
     let told =
-    subst (λ fs. IsFaulty fs offers c.in-Err.fault) c.as_slice-3.ensures
-    (subst (λ l. IsFaulty c.as_slice-3.result.now (offers_in l) c.in-Err.fault) c.deref.ensures.value c.in-Err.ensures.refused) in
+    subst (λ fs. IsFaulty fs offers c.in-Err.fault) c.as_slice-3.ensures c.in-Err.ensures.refused in
     faulty_unchecked c.args.hash.now c.args.begun.now c.args.program.now c.args.digest.now offers are c.in-Err.fault told
+
+pub links_to-requires-clause-many : goal.links_to-requires-clause-many
+links_to-requires-clause-many g c = omega (arith, c.len.ensures, c.if-fours-len.false)
 
 pub returns-in-Ok-links_to-clause-checked : goal.returns-in-Ok-links_to-clause-checked
 returns-in-Ok-links_to-clause-checked g c =
-    let offers = offers_in c.args.fours.items in
-    let many : length c.args.fours.items ≡ length c.args.begun.now.functions = omega (arith, c.len.ensures, c.len-2.ensures, c.if-len.false) in
+    let offers = offers_in c.args.fours.now in
+    let many : length c.args.fours.now ≡ length c.args.begun.now.functions = omega (arith, c.len.ensures, c.if-fours-len.false) in
     let are =
-    of_text c.args.hash.now c.args.begun.now c.args.program.now c.args.digest.now c.args.fours.items c.as_slice.result.now c.as_slice-2.result.now c.as_slice.ensures c.as_slice-2.ensures
+    of_text c.args.hash.now c.args.begun.now c.args.program.now c.args.digest.now c.args.fours.now c.as_slice.result.now c.as_slice-2.result.now c.as_slice.ensures c.as_slice-2.ensures
     (c.if-not-is_digest.ensures.0 refl) (c.if-not-same_names.ensures.0 refl) many in
-    let stand = subst (λ fs. AllStand fs offers) c.as_slice-3.ensures (subst (λ l. AllStand c.as_slice-3.result.now (offers_in l)) c.deref.ensures.value c.in-Ok.ensures.stand) in
+    let stand = subst (λ fs. AllStand fs offers) c.as_slice-3.ensures c.in-Ok.ensures.stand in
     record { of_text = are; stand = stand; is = c.in-Ok-links_to.ensures.is }
 
 pub returns-in-Err-links_to-clause-refused : goal.returns-in-Err-links_to-clause-refused
 returns-in-Err-links_to-clause-refused g c =
-    let offers = offers_in c.args.fours.items in
-    let many : length c.args.fours.items ≡ length c.args.begun.now.functions = omega (arith, c.len.ensures, c.len-2.ensures, c.if-len.false) in
+    let offers = offers_in c.args.fours.now in
+    let many : length c.args.fours.now ≡ length c.args.begun.now.functions = omega (arith, c.len.ensures, c.if-fours-len.false) in
     let are =
-    of_text c.args.hash.now c.args.begun.now c.args.program.now c.args.digest.now c.args.fours.items c.as_slice.result.now c.as_slice-2.result.now c.as_slice.ensures c.as_slice-2.ensures
+    of_text c.args.hash.now c.args.begun.now c.args.program.now c.args.digest.now c.args.fours.now c.as_slice.result.now c.as_slice-2.result.now c.as_slice.ensures c.as_slice-2.ensures
     (c.if-not-is_digest.ensures.0 refl) (c.if-not-same_names.ensures.0 refl) many in
-    let stand = subst (λ fs. AllStand fs offers) c.as_slice-3.ensures (subst (λ l. AllStand c.as_slice-3.result.now (offers_in l)) c.deref.ensures.value c.in-Ok.ensures.stand) in
+    let stand = subst (λ fs. AllStand fs offers) c.as_slice-3.ensures c.in-Ok.ensures.stand in
     other_unchecked c.args.hash.now c.args.begun.now c.args.program.now c.args.digest.now offers are c.in-Err-links_to.fault stand c.in-Err-links_to.ensures.refused

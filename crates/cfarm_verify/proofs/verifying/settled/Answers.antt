@@ -22,24 +22,24 @@ returns-in-Ok-clause-verified g c =
     let source = c.requires.source in
     let is = source.accepted in
     let tree = program_tree c.args.source.now.program in
-    let fours = c.args.fours.items in
-    let count : c.len-functions.result ≡ length (offers_in fours) = omega (arith, length-map fours offers_of, c.len-functions.ensures) in
+    let fours = c.args.fours.now in
+    let count : length fours ≡ length (offers_in fours) = omega (arith, length-map fours offers_of) in
     let first = subst (λ b. Keeps (crun tree) (rtl.run b)) (sym c.deref.ensures) source.keeps in
     verified_by c.args.text.now c.args.program.now c.args.bundle.now is.0 is.1 tree is.2 c.deref.result.now (c.deref.ensures ∙ source.translated) c.args.linear.now
     c.requires.spelled c.args.digest.now (offers_in fours) c.requires.bundled c.as_slice-hash.result.now (c.as_slice-hash.ensures ∙ source.digest) c.args.digest.now
-    (λ i. c.args.digest.now) c.len-functions.result count c.in-Ok.ensures.checked (c.keeps_composes.ensures _ _ _ first c.in-Ok.ensures.keeps)
+    (λ i. c.args.digest.now) (length fours) count c.in-Ok.ensures.checked (c.keeps_composes.ensures _ _ _ first c.in-Ok.ensures.keeps)
 
 pub returns-in-Err-clause-refused : goal.returns-in-Err-clause-refused
 returns-in-Err-clause-refused g c =
     let source = c.requires.source in
     let is = source.accepted in
     unverified_by c.args.text.now c.args.program.now c.args.bundle.now is.0 is.1 (program_tree c.args.source.now.program) is.2 c.deref.result.now (c.deref.ensures ∙ source.translated)
-    c.args.linear.now c.requires.spelled c.args.digest.now (offers_in c.args.fours.items) c.requires.bundled c.as_slice-hash.result.now (c.as_slice-hash.ensures ∙ source.digest)
+    c.args.linear.now c.requires.spelled c.args.digest.now (offers_in c.args.fours.now) c.requires.bundled c.as_slice-hash.result.now (c.as_slice-hash.ensures ∙ source.digest)
     c.args.digest.now (λ i. c.args.digest.now) c.in-Err.fault c.in-Err.ensures.refused
 
 pub returns-in-Err-clause-only : goal.returns-in-Err-clause-only
 returns-in-Err-clause-only g c = λ n is.
     let source = c.requires.source in
     unchecked_wants c.args.text.now c.args.program.now c.args.bundle.now n is (program_tree c.args.source.now.program) (source.only is.tree is.accepted) c.deref.result.now
-    (c.deref.ensures ∙ source.translated) c.one_program.ensures c.args.linear.now c.requires.spelled c.one_bundle.ensures c.args.digest.now (offers_in c.args.fours.items)
+    (c.deref.ensures ∙ source.translated) c.one_program.ensures c.args.linear.now c.requires.spelled c.one_bundle.ensures c.args.digest.now (offers_in c.args.fours.now)
     c.requires.bundled c.as_slice-hash.result.now (c.as_slice-hash.ensures ∙ source.digest) c.args.digest.now (λ i. c.args.digest.now) c.in-Err.fault c.in-Err.ensures.refused
