@@ -1,6 +1,4 @@
-mod Counting
-mod Lowest
 mod Made
-mod Turning
 mod Unbuilt
+mod Unmet
 pub use Rattle.cfarm_build_linking.proofs.Carrying

@@ -7,10 +7,11 @@ use Rattle.cfarm_build_linking.specs.Source.{Source}
 use Rattle.cfarm_build_linking.specs.Quorum.{Sizes}
 use Rattle.cfarm_build_linking.specs.BuildError.{BuildError}
 use Rattle.cfarm_build_linking.specs.BuildError.TheVariants.{NoMemory, NoThread, Source as TextFault, Disks, Failed, Undecided, Unlinked, Names}
-use Rattle.cfarm_build_linking.specs.Node.{Node}
+use Rattle.cfarm_build_result.specs.Node.{Node}
 use Rattle.cfarm_build_linking.specs.Refused.{IsRefusedBy}
-use Rattle.cfarm_build.specs.Nodes.{AreMissed, HaveMet, HaveRun, failed_of}
-use Rattle.cfarm_build.specs.Refused.{IsNotRun, IsUnbuilt}
+use Rattle.cfarm_build_turns.specs.Nodes.{AreMissed, HaveMet, HaveRun, failed_of}
+use Rattle.cfarm_build_turns.specs.NotRun.{IsNotRun}
+use Rattle.cfarm_build.specs.Refused.{IsUnbuilt}
 
 module _ {D : Type 0} (disk : disks.Ghosts D) (pair : pairs.Ghosts D) {H : Type 0} (h : naming.Ghosts H) (q : Sizes) (seed : ℕ) (source : Source) (given : List D) where
   pub not_run : (e : BuildError) → IsNotRun e → IsUnbuilt disk pair h q seed source given e

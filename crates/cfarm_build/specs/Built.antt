@@ -6,8 +6,8 @@ use Rattle.rooms_hall.specs.declared.hall.Naming as naming
 use Rattle.cfarm_build_linking.specs.Source.{Source}
 use Rattle.cfarm_build_linking.specs.Quorum.{Sizes}
 use Rattle.cfarm_build_linking.specs.Built.{IsBuiltBy}
-pub use Rattle.cfarm_build_linking.specs.declared.built.Built.{Built}
-use Rattle.cfarm_build.specs.Nodes.{AfterMeeting}
+pub use Rattle.cfarm_build_result.specs.declared.built.Built.{Built}
+use Rattle.cfarm_build_turns.specs.Nodes.{AfterMeeting}
 
 -- The source is compiled by nodes over these disks, with quorums of these sizes, none of which failed. Each two neighbours met, and all
 -- functions were counted: what every node links is one program, which keeps the meaning of the C program, and the bytes are its text.

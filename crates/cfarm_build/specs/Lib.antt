@@ -1,6 +1,6 @@
 pub mod Built
-pub mod Nodes
 pub mod Refused
+pub use Rattle.cfarm_build_turns.specs.Nodes
 pub use Rattle.cfarm_build_linking.specs.Carried
 pub use Rattle.cfarm_build_linking.specs.BuildError
 pub use Rattle.cfarm_build_linking.specs.Lines

@@ -9,20 +9,9 @@ use Rattle.farm_nodes_offers.specs.declared.halt.Fault.{Fault}
 use Rattle.cfarm_build_linking.specs.FarmRefused.{AreRefusedOver}
 use Rattle.cfarm_build_linking.specs.BuildError.{BuildError}
 use Rattle.cfarm_build_linking.specs.BuildError.TheVariants.{NoMemory, NoThread, Source as TextFault, Disks, Failed, Undecided, Unlinked, Names}
-use Rattle.cfarm_build_linking.specs.Node.{Node}
+use Rattle.cfarm_build_result.specs.Node.{Node}
 use Rattle.cfarm_build_linking.specs.Refused.{IsRefusedBy}
-use Rattle.cfarm_build.specs.Nodes.{AfterMeeting, AreMissed, HaveRun, failed_of}
-
--- the nodes do not take their turns only for want of memory or of a thread
-abbrev pub IsNotRun : BuildError → Type 0
-IsNotRun NoMemory = Unit {0}
-IsNotRun NoThread = Unit {0}
-IsNotRun (TextFault fault) = ⊥
-IsNotRun (Disks fault) = ⊥
-IsNotRun (Failed number fault) = ⊥
-IsNotRun Undecided = ⊥
-IsNotRun (Unlinked fault function) = ⊥
-IsNotRun Names = ⊥
+use Rattle.cfarm_build_turns.specs.Nodes.{AfterMeeting, AreMissed, HaveRun, failed_of}
 
 module _ {D : Type 0} (disk : disks.Ghosts D) (pair : pairs.Ghosts D) {H : Type 0} (h : naming.Ghosts H) (q : Sizes) (seed : ℕ) (source : Source) (given : List D) where
   -- the nodes took their turns, and the lowest one that failed is this

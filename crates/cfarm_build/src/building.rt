@@ -8,10 +8,8 @@ ghost use Rattle.rtlgen.specs.Refused.{HasFewNodes};
 ghost use Rattle.cfarm_build.specs.Built.{IsBuilt};
 ghost use Rattle.cfarm_build.specs.Refused.{IsUnbuilt};
 
-use crate::failing::first_failed;
-use crate::meeting::meet_neighbours;
-use crate::running::run_rounds;
 use cfarm_build_linking::{BuildError, Built, Farm, Oracles, Quorums, Source, built_by};
+use cfarm_build_turns::{met_all, run_rounds};
 use cfarm_meter::Meter;
 use durable_pair::Pair;
 use rooms_hall::{Hall, Naming};
@@ -67,16 +65,14 @@ pub fn build_bundled<
     };
     meter.opened();
     let Farm { source, nodes } = farm;
-    let mut nodes = match run_rounds(rt, alloc, nodes, turns, meter) {
+    let nodes = match run_rounds(rt, alloc, nodes, turns, meter) {
         Ok(nodes) => nodes,
         Err(fault) => return Err(fault),
     };
-    if let Some((node, fault)) = first_failed(&nodes) {
-        return Err(BuildError::Failed(node, fault));
-    }
-    if !meet_neighbours(&mut nodes) {
-        return Err(BuildError::Undecided);
-    }
+    let nodes = match met_all(nodes) {
+        Ok(nodes) => nodes,
+        Err(fault) => return Err(fault),
+    };
     built_by(alloc, &source, &nodes, bundles)
 }
 

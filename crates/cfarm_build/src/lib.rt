@@ -3,9 +3,6 @@
 #![tactic(auto)]
 
 mod building;
-mod failing;
-mod meeting;
-mod running;
 
 pub use building::{build, build_bundled};
 pub use cfarm_build_linking::{

@@ -7,8 +7,8 @@ use Rattle.c_checker_rules.specs.Checked.{program_tree}
 use Rattle.cfarm_build_faults.specs.Source.{Source}
 use Rattle.cfarm_build_linking.specs.Built.{IsBuiltBy, IsBundledOf}
 use Rattle.cfarm_build_linking.specs.Carried.{Carries, bundle_of}
-use Rattle.cfarm_build_linking.specs.Node.{Node}
-use Rattle.cfarm_build_linking.specs.declared.built.Built.{Built}
+use Rattle.cfarm_build_result.specs.Node.{Node}
+use Rattle.cfarm_build_result.specs.declared.built.Built.{Built}
 
 if_mapped : {V B : Type 0} (f : V → B) (P : V → Type 0) (Q : B → Type 0) (o : Option V) → ((v : V) → P v → Q (f v)) → IfSome o P → IfSome (option_map f o) Q
 if_mapped f P Q None so is = tt

@@ -1,11 +1,8 @@
 mod Bundling
 pub mod Carrying
 mod Firsts
-mod Learning
 mod Neighbours
-mod Numbering
 mod Refusing
-pub mod Zips
 pub use Rattle.cfarm_build_faults.proofs.Coming
 pub use Rattle.farm_nodes_linked.proofs.Sent
 pub use Rattle.farm_nodes_linked.proofs.Alike

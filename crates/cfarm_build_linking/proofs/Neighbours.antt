@@ -9,11 +9,11 @@ use Rattle.linear_language.specs.Function as linear
 use Rattle.farm_nodes_linked.specs.Alike.{HaveCounted}
 use Rattle.farm_nodes_linked.specs.Learned.{FourOffers, learned_by}
 use Rattle.farm_nodes_linked.specs.Offered.{linked_offers}
-use Rattle.farm_nodes_linked.specs.Seats.{Seats}
+use Rattle.farm_nodes_linked.specs.NumberedSeat.{NumberedSeat}
 use Rattle.farm_nodes_linked.proofs.Alike.{one_learned}
-use Rattle.cfarm_build_linking.specs.Built.{EachTwo}
+use Rattle.cfarm_build_result.specs.Neighbours.{EachTwo}
 
-module _ {N H : Type 0} {h : naming.Ghosts H} (seats : N → List (Seats H h)) where
+module _ {N H : Type 0} {h : naming.Ghosts H} (seats : N → List (NumberedSeat H h)) where
   abbrev Counted : N → N → Type 0
   Counted n m = HaveCounted (seats n) (seats m)
 
@@ -39,7 +39,7 @@ module _ {N H : Type 0} {h : naming.Ghosts H} (seats : N → List (Seats H h)) w
       (is ∙ ap (λ l. linked_offers program l) (sym same.0), all_link program made learned xs is same.1)
 
   -- as the nodes are seen
-  pub two_seen : {M : Type 0} (view : N → M) (there : M → List (Seats H h)) → ((n : N) → there (view n) ≡ seats n) → (xs : List N)
+  pub two_seen : {M : Type 0} (view : N → M) (there : M → List (NumberedSeat H h)) → ((n : N) → there (view n) ≡ seats n) → (xs : List N)
       → EachTwo Counted xs → EachTwo (λ n m. HaveCounted (there n) (there m)) (map view xs)
   two_seen view there same [] each k n m en em = absurd (cc en)
   two_seen view there same (x ∷ []) each zero n m en em = absurd (cc em)

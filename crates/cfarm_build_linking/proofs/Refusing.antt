@@ -1,36 +1,24 @@
--- What the linker's refusals are of, where the names are the program's and no function needs too many nodes.
-use Rattle.std.proofs.Common.{◌≡◌, ℕ, zero, suc, ◌<◌, List, [], ◌∷◌, All, length, map, Option, Some, ap, subst, ◌∙◌, arith}
-use Rattle.std.specs.List.{AllByRecursion}
+-- What the refusals to link are of.
+use Rattle.std.proofs.Common.{◌≡◌, ℕ, zero, suc, ◌<◌, List, [], ◌∷◌, length, map, Option, Some, ap, subst, ◌∙◌, arith}
 use Rattle.std.proofs.lemmas.List.{length-map}
-use Rattle.std.proofs.lemmas.List.Elements.{recursion_from_All}
 use Rattle.lang_base.specs.declared.program.Named.{Named}
 use Rattle.c_checker_rules.specs.Checked.{Contents, program_tree}
 use Rattle.c_program.specs.declared.function.Function.{Function}
 use Rattle.c_program.specs.Views.{function_tree}
-use Rattle.cminor_syntax.specs.Trees.{FunctionTree}
 use Rattle.cminor_lowering.specs.Programs.{low, low_named}
 use Rattle.rtl_language.specs.Function.{FunctionData}
-use Rattle.rtlgen.specs.Refused.{HasFewNodes, IsFirstTooLarge}
 use Rattle.rtlgen_definition.specs.Gen.{gen, gen_named}
-use Rattle.farm_nodes_linked.specs.Chains.{names_of}
 use Rattle.farm_nodes_linked.specs.Numbers.{function_of_link_error}
 use Rattle.farm_nodes_linked.specs.LinkError.{LinkError}
 use Rattle.farm_nodes_linked.specs.LinkError.TheVariants as links
 use Rattle.rooms_hall.specs.declared.hall.Naming as naming
-use Rattle.farm_nodes_linked.specs.Seats.{Seats}
+use Rattle.farm_nodes_linked.specs.NumberedSeat.{NumberedSeat}
 use Rattle.cfarm_build_faults.specs.Source.{Source}
-use Rattle.cfarm_build_faults.proofs.Numbered.{translated_names}
 use Rattle.farm_nodes_linked.specs.Learned.{FourOffers, learned_by}
-use Rattle.farm_nodes_linked.specs.Refused.{IsFirstBroken, IsUnlinked}
+use Rattle.farm_nodes_linked.specs.Refused.{IsFirstBroken, IsUnlinkedTo}
 use Rattle.cfarm_build_linking.specs.Refused.{IsToldOf, IsUnlinkedBy}
 use Rattle.cfarm_build_faults.specs.declared.error.BuildError.{BuildError}
 use Rattle.cfarm_build_faults.specs.declared.error.BuildError.TheVariants.{NoMemory, NoThread, Source as TextFault, Disks, Failed, Undecided, Unlinked, Names}
-
--- none needs too many nodes
-none_large : (fs : List (Named FunctionTree)) (i : ℕ) → AllByRecursion HasFewNodes fs → IsFirstTooLarge fs i → ⊥
-none_large [] i few large = large
-none_large (f ∷ fs) zero few large = let fits = few.0 in omega (arith, fits, large)
-none_large (f ∷ fs) (suc i) few large = none_large fs i few.1 large.1
 
 -- the first function whose offers do not go on is one of them
 is_one : (fs : List (Named FunctionData)) (learned : List (Option FourOffers)) (i : ℕ) → IsFirstBroken fs learned i → i < length fs
@@ -55,31 +43,28 @@ pub record IsOfFunction (p : Contents) (learned : List (Option FourOffers)) (fau
   pub broken : IsFirstBroken (gen (low (program_tree p))).functions learned i
   pub within : i < length p.functions
 
-module _ (p : Contents) (names : List (List ℕ)) (learned : List (Option FourOffers))
-    (same : names ≡ names_of (gen (low (program_tree p))).functions) (few : All HasFewNodes (low (program_tree p)).functions) where
-  pub of_function : (fault : LinkError) (i : ℕ) → IsUnlinked (low (program_tree p)) names learned fault
+module _ (p : Contents) (learned : List (Option FourOffers)) where
+  pub of_function : (fault : LinkError) (i : ℕ) → IsUnlinkedTo (gen (low (program_tree p))) learned fault
       → function_of_link_error fault ≡ Some i → IsOfFunction p learned fault i
   of_function links.NoMemory i told e = absurd (cc e)
-  of_function links.Names i told e = absurd (cc e)
-  of_function (links.TooManyNodes n) i told e =
-      absurd (none_large (low (program_tree p)).functions n (recursion_from_All HasFewNodes (low (program_tree p)).functions few) told)
+  of_function links.Names i told e = absurd told
+  of_function (links.TooManyNodes n) i told e = absurd told
   of_function (links.Missing n) i told e = absurd told
   of_function (links.Unchained n) i told e =
       let same_number : n ≡ i = cc e in
       let broken = subst (λ j. IsFirstBroken (gen (low (program_tree p))).functions learned j) same_number told in
       record { fault_is = ap (λ j. links.Unchained j) same_number; broken = broken; within = is_function p.functions learned i broken }
 
-  pub never_names : (fault : LinkError) → IsUnlinked (low (program_tree p)) names learned fault → fault ≡ links.Names → ⊥
+  pub never_names : (fault : LinkError) → IsUnlinkedTo (gen (low (program_tree p))) learned fault → fault ≡ links.Names → ⊥
   never_names links.NoMemory told e = absurd (cc e)
-  never_names links.Names told e = told (same ∙ translated_names p.functions)
-  never_names (links.TooManyNodes n) told e = absurd (cc e)
-  never_names (links.Missing n) told e = absurd (cc e)
+  never_names links.Names told e = told
+  never_names (links.TooManyNodes n) told e = told
+  never_names (links.Missing n) told e = told
   never_names (links.Unchained n) told e = absurd (cc e)
 
 -- a refusal as it is told
-module _ {H : Type 0} {h : naming.Ghosts H} (source : Source) (names : List (List ℕ)) (seats : List (Seats H h))
-    (same : names ≡ names_of (gen (low (program_tree source.program))).functions) (few : All HasFewNodes (low (program_tree source.program)).functions)
-    (fault : LinkError) (told : IsUnlinked (low (program_tree source.program)) names (learned_by seats) fault) where
+module _ {H : Type 0} {h : naming.Ghosts H} (source : Source) (seats : List (NumberedSeat H h)) (fault : LinkError)
+    (told : IsUnlinkedTo (gen (low (program_tree source.program))) (learned_by seats) fault) where
   pub refused : (e : BuildError) → IsToldOf (map (λ f. f.name) source.program.functions) fault e → IsUnlinkedBy source seats e
   refused NoMemory is = tt
   refused NoThread is = is
@@ -88,6 +73,6 @@ module _ {H : Type 0} {h : naming.Ghosts H} (source : Source) (names : List (Lis
   refused (Failed n f) is = is
   refused Undecided is = is
   refused (Unlinked f function) is =
-      let of = of_function source.program names (learned_by seats) same few fault is.0 told is.2 in
+      let of = of_function source.program (learned_by seats) fault is.0 told is.2 in
       record { number = is.0; fault_is = is.1 ∙ of.fault_is; broken = of.broken; named = is.3 }
-  refused Names is = never_names source.program names (learned_by seats) same few fault told is
+  refused Names is = never_names source.program (learned_by seats) fault told is

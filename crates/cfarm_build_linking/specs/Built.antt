@@ -1,9 +1,7 @@
 -- What nodes make that link all functions.
-use Rattle.std.specs.Prelude.{◌≡◌, ℕ, suc, List, length, map, Option, Some, IfSome, slice_get}
+use Rattle.std.specs.Prelude.{◌≡◌, ℕ, List, length, map, Option, Some, IfSome, slice_get}
 use Rattle.std.specs.List.{AllByRecursion}
 use Rattle.std.specs.String.{string_bytes}
-use Rattle.sha2.specs.Sha256.{sha256}
-use Rattle.serde_json.specs.Written.{compact_text}
 use Rattle.lang_base.specs.Keeps.{Keeps}
 use Rattle.lang_base.specs.declared.program.Program.{Program}
 use Rattle.lang.specs.Form.{IsProgram, program_text}
@@ -16,20 +14,15 @@ use Rattle.cminor_lowering.specs.Programs.{low}
 use Rattle.rtlgen_definition.specs.Gen.{gen}
 use Rattle.rooms_hall.specs.declared.hall.Naming as naming
 use Rattle.cfarm_build_faults.specs.Source.{Source}
-use Rattle.farm_nodes_linked.specs.Seats.{Seats}
+use Rattle.farm_nodes_linked.specs.NumberedSeat.{NumberedSeat}
 use Rattle.farm_nodes_linked.specs.Alike.{HaveCounted}
 use Rattle.farm_nodes_linked.specs.Learned.{FourOffers, learned_by, IsUndecided}
 use Rattle.farm_nodes_linked.specs.Offered.{linked_offers}
 use Rattle.bundle_offers.specs.Linking.{BundleLinks}
-use Rattle.cfarm_report.specs.declared.function.FunctionRooms.{FunctionRooms}
-use Rattle.cfarm_report.specs.Report.{report_of}
-use Rattle.cfarm_build_linking.specs.Node.{Node}
-use Rattle.cfarm_build_linking.specs.Told.{AreTold}
-use Rattle.cfarm_build_linking.specs.declared.built.Built.{Built}
-
--- so it is of each two neighbours
-abbrev pub EachTwo : {A : Type 0} → (A → A → Type 0) → List A → Type 0
-EachTwo {A} Are xs = (k : ℕ) (x y : A) → slice_get xs k ≡ Some x → slice_get xs (suc k) ≡ Some y → Are x y
+use Rattle.cfarm_build_result.specs.Made.{IsReportAt}
+use Rattle.cfarm_build_result.specs.Neighbours.{EachTwo}
+use Rattle.cfarm_build_result.specs.declared.built.Built.{Built}
+use Rattle.cfarm_build_result.specs.Node.{Node}
 
 -- Each two neighbours met, and all functions were counted.
 abbrev pub AllCounted : {D : Type 0} {H : Type 0} {h : naming.Ghosts H} → List (Node D H h) → Type 0
@@ -54,11 +47,8 @@ abbrev pub IsBundledOf : Source → Program linear_function.FunctionData → Lis
 IsBundledOf source program bytes = BundleLinks bytes source.digest (gen (low (program_tree source.program))) program
 
 -- the report of the program's functions, with what the node has learned, the digest of the bytes, and how many nodes there are
-pub record IsReportOf {H : Type 0} {h : naming.Ghosts H} (source : Source) (seats : List (Seats H h)) (bytes : List ℕ) (count : ℕ)
-    (report : List ℕ) : Type 0 where
-  pub functions : List FunctionRooms
-  pub told : AreTold (map (λ f. f.name) source.program.functions) seats functions
-  pub text : report ≡ compact_text (report_of functions (sha256 bytes) count)
+abbrev pub IsReportOf : {H : Type 0} {h : naming.Ghosts H} → Source → List (NumberedSeat H h) → List ℕ → ℕ → List ℕ → Type 0
+IsReportOf source seats bytes count report = IsReportAt (map (λ f. f.name) source.program.functions) seats bytes count report
 
 -- each node links all functions
 abbrev pub AllDecided : {D : Type 0} {H : Type 0} {h : naming.Ghosts H} → List (Node D H h) → Type 0

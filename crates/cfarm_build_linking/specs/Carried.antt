@@ -11,7 +11,7 @@ use Rattle.c_program.specs.Trees.{ProgramTree}
 use Rattle.cminor_lowering.specs.Programs.{low}
 use Rattle.rtlgen_definition.specs.Gen.{gen}
 use Rattle.bundle_offers.specs.Linking.{BundleLinks}
-use Rattle.cfarm_build_linking.specs.declared.built.Built.{Built}
+use Rattle.cfarm_build_result.specs.declared.built.Built.{Built}
 
 -- the bytes of the bundle that was made, where one was
 abbrev pub bundle_of : Built → Option (List ℕ)

@@ -1,8 +1,7 @@
 pub mod Built
 pub mod Carried
-pub mod Node
 pub mod Refused
-pub mod Told
+pub use Rattle.cfarm_build_result.specs.Node
 pub use Rattle.cfarm_build_faults.specs.declared.error.BuildError
 pub use Rattle.cfarm_build_faults.specs.Lines
 pub use Rattle.cfarm_build_faults.specs.Statuses
@@ -18,7 +17,7 @@ pub use Rattle.cfarm_build_faults.specs.Waiting
 pub use Rattle.cfarm_build_faults.specs.Halted
 pub use Rattle.cfarm_build_faults.specs.Nodes
 pub use Rattle.farm_nodes_linked.specs.Fours
-pub use Rattle.farm_nodes_linked.specs.Seats
+pub use Rattle.farm_nodes_linked.specs.NumberedSeat
 pub use Rattle.cfarm_build_faults.specs.Source
 pub use Rattle.cfarm_build_faults.specs.Quorum
 pub use Rattle.farm_nodes_linked.specs.Alike

@@ -9,13 +9,13 @@ use Rattle.farm_nodes_linked.specs.Numbers.{function_of_link_error}
 use Rattle.farm_nodes_linked.specs.LinkError.{LinkError}
 use Rattle.farm_nodes_linked.specs.LinkError.TheVariants as links
 use Rattle.cfarm_build_faults.specs.Source.{Source}
-use Rattle.farm_nodes_linked.specs.Seats.{Seats}
+use Rattle.farm_nodes_linked.specs.NumberedSeat.{NumberedSeat}
 use Rattle.farm_nodes_linked.specs.Learned.{learned_by, IsUndecided}
 use Rattle.farm_nodes_linked.specs.Refused.{IsFirstBroken}
 use Rattle.cfarm_build_faults.specs.declared.error.BuildError.{BuildError}
 use Rattle.cfarm_build_faults.specs.declared.error.BuildError.TheVariants.{NoMemory, NoThread, Source as TextFault, Disks, Failed, Undecided, Unlinked, Names}
 use Rattle.cfarm_build_linking.specs.Built.{AllDecided}
-use Rattle.cfarm_build_linking.specs.Node.{Node}
+use Rattle.cfarm_build_result.specs.Node.{Node}
 
 -- a refusal of the linker is told with the name of its function, unless memory was refused
 abbrev pub IsToldOf : List (List ℕ) → LinkError → BuildError → Type 0
@@ -31,14 +31,14 @@ IsToldOf names fault Names = fault ≡ links.Names
 
 module _ {H : Type 0} {h : naming.Ghosts H} where
   -- The offers that were learned of this function, the first one of such, do not go on from it.
-  pub record IsBroken (source : Source) (seats : List (Seats H h)) (fault : LinkError) (function : List ℕ) : Type 0 where
+  pub record IsBroken (source : Source) (seats : List (NumberedSeat H h)) (fault : LinkError) (function : List ℕ) : Type 0 where
     pub number : ℕ
     pub fault_is : fault ≡ links.Unchained number
     pub broken : IsFirstBroken (gen (low (program_tree source.program))).functions (learned_by seats) number
     pub named : slice_get (map (λ f. f.name) source.program.functions) number ≡ Some function
 
   -- why offers of all functions are not linked: the names are the program's, and no function needs too many nodes
-  abbrev pub IsUnlinkedBy : Source → List (Seats H h) → BuildError → Type 0
+  abbrev pub IsUnlinkedBy : Source → List (NumberedSeat H h) → BuildError → Type 0
   IsUnlinkedBy source seats NoMemory = Unit {0}
   IsUnlinkedBy source seats NoThread = ⊥
   IsUnlinkedBy source seats (TextFault fault) = ⊥
@@ -57,7 +57,7 @@ module _ {D : Type 0} {H : Type 0} {h : naming.Ghosts H} where
     pub undecided : IsUndecided (learned_by node.seats)
 
   -- all link all functions, and so it is of the first
-  pub record OfFirst (nodes : List (Node D H h)) (Is : List (Seats H h) → Type 0) : Type 0 where
+  pub record OfFirst (nodes : List (Node D H h)) (Is : List (NumberedSeat H h) → Type 0) : Type 0 where
     pub decided : AllDecided nodes
     pub node : Node D H h
     pub first : slice_get nodes 0 ≡ Some node

@@ -2,16 +2,12 @@
 //! has learned, where each of them links all functions.
 #![tactic(auto)]
 
-mod built;
 mod linking;
-mod numbers;
-mod writing;
 
-pub use built::Built;
 pub use cfarm_build_faults::{
     BuildError, Farm, FarmNode, LogError, OpenFault, Optimising, Quorums, RunError, Source,
     SourceFault, meet, optimisers_of, run_threads,
 };
-pub use farm_nodes_linked::{Oracles, Seats};
+pub use cfarm_build_result::{Built, linked_functions};
+pub use farm_nodes_linked::{NumberedSeat, Oracles};
 pub use linking::built_by;
-pub use numbers::linked_functions;

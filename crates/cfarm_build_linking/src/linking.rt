@@ -1,6 +1,6 @@
 //! What nodes that took their turns, and have met, make.
 
-ghost use Rattle.std.specs.Prelude.{◌≡◌, ◌<◌, ◌≤◌, ℕ, All, Some, IsTrue, is_some, length, map, IfOk, IfErr, IfSome};
+ghost use Rattle.std.specs.Prelude.{◌≡◌, ◌<◌, ◌≤◌, ℕ, All, Some, IsTrue, is_some, length, map, IfOk, IfErr};
 ghost use Rattle.std.specs.Arc.{arc_value};
 ghost use Rattle.std.specs.List.{AllByRecursion};
 ghost use Rattle.c_checker_rules.specs.Checked.{program_tree};
@@ -11,19 +11,16 @@ ghost use Rattle.rtlgen_definition.specs.Gen.{gen};
 ghost use Rattle.farm_nodes_linked.specs.Numbers.{function_of_link_error};
 ghost use Rattle.farm_nodes_linked.specs.Alike.{HaveCounted};
 ghost use Rattle.farm_nodes_linked.specs.Learned.{learned_by, IsUndecided};
-ghost use Rattle.farm_nodes_bundled.specs.Bundled.{LinksLearned};
-ghost use Rattle.cfarm_build_linking.specs.Built.{EachTwo, IsBuiltBy};
-ghost use Rattle.cfarm_build_linking.specs.Node.{node};
+ghost use Rattle.cfarm_build_linking.specs.Built.{IsBuiltBy};
+ghost use Rattle.cfarm_build_result.specs.Neighbours.{EachTwo};
+ghost use Rattle.cfarm_build_result.specs.Node.{node};
 ghost use Rattle.cfarm_build_linking.specs.Refused.{IsNotLinked, IsRefusedBy, IsToldOf};
 
-use crate::built::Built;
-use crate::numbers::{links_all, name_of, numbers_of};
-use crate::writing::written;
 use c_checker_rules::CProgram;
 use cfarm_build_faults::{BuildError, Source};
-use cfarm_report::report;
-use farm_nodes_bundled::bundled;
-use farm_nodes_linked::{FarmNode, LinkError, LinkedError, Seats, linked};
+use cfarm_build_result::{Built, made_of};
+use farm_nodes_linked::{FarmNode, LinkError, LinkedError, is_undecided, linked_translated};
+use farm_nodes_source::name_of;
 use lang_base::NoMemory;
 use rooms_hall::Naming;
 use std::alloc::Global;
@@ -34,7 +31,7 @@ fn all_link<D, O, H: Naming>(nodes: &[FarmNode<D, O, H>]) -> bool
     ensures no { (IsTrue result → ⊥) → IsNotLinked (map (λ n. node n.log n.seats.items n.halted) nodes.now) }
 {
     for number in 0..nodes.len() {
-        if !links_all(&nodes[number].seats) {
+        if is_undecided(&nodes[number].seats) {
             return false;
         }
     }
@@ -56,28 +53,6 @@ fn unlinked(alloc: Global, program: &CProgram, fault: LinkError) -> BuildError
     match name_of(alloc, program, function) {
         Ok(name) => BuildError::Unlinked(fault, name),
         Err(NoMemory) => BuildError::NoMemory,
-    }
-}
-
-/// The bundle of what a node links, where it is asked for.
-fn bundle_of<H: Naming>(
-    alloc: Global,
-    digest: &[u8; 32],
-    seats: &[Seats<H>],
-    is_asked: bool,
-) -> Result<Option<Vec<u8>>, NoMemory>
-    requires few { length seats.now ≤ 64 }
-    requires decided { IsUndecided (learned_by seats.now) → ⊥ }
-    ensures asked { IfOk result (λ bundle. is_some bundle ≡ is_asked) }
-    ensures links { IfOk result (λ bundle.
-        IfSome bundle (λ bytes. LinksLearned bytes.items digest.now (learned_by seats.now))) }
-{
-    if !is_asked {
-        return Ok(None);
-    }
-    match bundled(alloc, digest.as_slice(), seats) {
-        Ok(bytes) => Ok(Some(bytes)),
-        Err(fault) => Err(fault),
     }
 }
 
@@ -103,27 +78,22 @@ fn made_by<D, O, H: Naming>(
         (IsRefusedBy source.now (map (λ n. node n.log n.seats.items n.halted) nodes.now)) }
 {
     let first = &nodes[0];
-    let program = match linked(first, &source.program) {
+    let program = match linked_translated(first, &source.program) {
         Ok(program) => program,
         Err(LinkedError::Undecided) => return Err(BuildError::Undecided),
         Err(LinkedError::Link(fault)) => return Err(unlinked(alloc, &source.program, fault)),
     };
-    let Ok(bytes) = written(alloc, &program) else {
-        return Err(BuildError::NoMemory);
-    };
-    let Ok(bundle) = bundle_of(alloc, &source.digest, &first.seats, bundles) else {
-        return Err(BuildError::NoMemory);
-    };
-    let Ok(functions) = numbers_of(alloc, &source.program, &first.seats) else {
-        return Err(BuildError::NoMemory);
-    };
-    match report(alloc, &functions, &bytes, nodes.len()) {
-        Ok(report) => Ok(Built {
-            program: bytes,
-            bundle,
-            report,
-        }),
-        Err(_) => Err(BuildError::NoMemory),
+    match made_of(
+        alloc,
+        &source.program,
+        &source.digest,
+        &program,
+        &first.seats,
+        nodes.len(),
+        bundles,
+    ) {
+        Ok(built) => Ok(built),
+        Err(NoMemory) => Err(BuildError::NoMemory),
     }
 }
 

@@ -1,3 +1,2 @@
 pub mod AgreedLemmas
 pub mod ReadingLemmas
-pub mod Sent

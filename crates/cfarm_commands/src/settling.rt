@@ -8,7 +8,7 @@ ghost use Rattle.std.specs.Io.KnownBytes.{Appends};
 use crate::agreeing::agree;
 use crate::playing::Seats;
 use crate::settle_error::SettleError;
-use cfarm_output::print_whole;
+use cfarm_printing::print_together;
 use lang_base::{FormError, Language, NoMemory};
 use ltl::{Function, Ltl};
 use std::alloc::Global;
@@ -46,7 +46,7 @@ fn print_code<W: Write>(alloc: Global, code: &[u8], out: &mut W) -> Result<(), S
         IsUnprinted (settled_text code.now) fault (W.contents out.old) (W.contents out.new)) }
 {
     let text = text_of(alloc, code)?;
-    match print_whole(out, text.as_bytes()) {
+    match print_together(out, text.as_bytes()) {
         Ok(()) => Ok(()),
         Err(_) => Err(SettleError::Write),
     }

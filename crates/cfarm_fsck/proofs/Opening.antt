@@ -9,7 +9,7 @@ use Rattle.acceptor_log_form.specs.declared.errors.LogError.{LogError}
 use Rattle.acceptor_log_form.specs.declared.errors.LogError.TheVariants as log
 use Rattle.farm_nodes_stored.specs.Nodes.{AreMade}
 use Rattle.farm_nodes_functions.specs.RoomFault.{RoomFault}
-use Rattle.farm_nodes_seated.specs.Refused.{HasBadRecord, HasRefusedOffer, IsUnopened}
+use Rattle.farm_nodes_seated.specs.Refused.{HasBadRecord, HasRefusedOffer, IsRoomUnopened}
 use Rattle.farm_nodes_seated.specs.declared.fault.OpenFault.{OpenFault}
 use Rattle.farm_nodes_seated.specs.declared.fault.OpenFault.TheVariants.{NoMemory, Journal, Refused, Room}
 use Rattle.cfarm_fsck_journals.specs.declared.files.NodeFiles.{NodeFiles}
@@ -30,7 +30,7 @@ module _ (q : Sizes) (digest : List ℕ) (program : Program Function) (files : L
       → AreMade (IsJournalIn q digest) files (length files) journals
       → ((node : ℕ) (fault : LogError) → it ≡ Journal node fault → (fault ≡ log.BadRecord) × HasBadRecord functions view node)
       → ((node : ℕ) → it ≡ Refused node → HasRefusedOffer functions view node)
-      → ((room : ℕ) (fault : RoomFault) → it ≡ Room room fault → IsUnopened functions view q room fault)
+      → ((room : ℕ) (fault : RoomFault) → it ≡ Room room fault → IsRoomUnopened functions view q room fault)
       → IsFaultOf q digest program files it
   rooms_refused functions view journals NoMemory count same listed bad refused unopened = tt
   rooms_refused functions view journals (Journal node fault) count same listed bad refused unopened =
@@ -53,6 +53,6 @@ module _ (q : Sizes) (digest : List ℕ) (program : Program Function) (files : L
   rooms_refused functions view journals (Room room fault) count same listed bad refused unopened = (
     journals,
     listed,
-    subst (λ (js : List (ℕ × Vec Record)). IsUnopened (length program.functions) js q room fault) same
-        (subst (λ (n : ℕ). IsUnopened n view q room fault) count (unopened room fault refl)),
+    subst (λ (js : List (ℕ × Vec Record)). IsRoomUnopened (length program.functions) js q room fault) same
+        (subst (λ (n : ℕ). IsRoomUnopened n view q room fault) count (unopened room fault refl)),
   )

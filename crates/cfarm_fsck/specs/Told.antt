@@ -12,7 +12,7 @@ use Rattle.acceptor_log_form.specs.declared.errors.LogError.TheVariants as log
 use Rattle.farm_nodes_stored.specs.Nodes.{AreMade}
 use Rattle.farm_nodes_stored.specs.Read.{IsKeptPart}
 use Rattle.farm_nodes_functions.specs.Kept.{AreSettled}
-use Rattle.farm_nodes_seated.specs.Refused.{HasBadRecord, HasRefusedOffer, IsUnopened}
+use Rattle.farm_nodes_seated.specs.Refused.{HasBadRecord, HasRefusedOffer, IsRoomUnopened}
 use Rattle.farm_nodes_seated.specs.declared.fault.OpenFault.{OpenFault}
 use Rattle.farm_nodes_seated.specs.declared.fault.OpenFault.TheVariants as open_fault
 use Rattle.cfarm_output.specs.Begun.{IsBegun}
@@ -50,7 +50,7 @@ module _ (q : Sizes) (digest : List ℕ) (program : Program Function) (files : L
       IsRefusedFile q digest files node fault
       ⊎ ((fault ≡ log.BadRecord) × OfListed (λ journals. HasBadRecord (length program.functions) journals node))
   IsFaultOf (open_fault.Refused node) = OfListed (λ journals. HasRefusedOffer (length program.functions) journals node)
-  IsFaultOf (open_fault.Room room fault) = OfListed (λ journals. IsUnopened (length program.functions) journals q room fault)
+  IsFaultOf (open_fault.Room room fault) = OfListed (λ journals. IsRoomUnopened (length program.functions) journals q room fault)
 
   -- a beginning of the lines was printed, and it may be nothing
   abbrev pub IsToldInPart : Option (List ℕ) → Option (List ℕ) → Type 0

@@ -5,11 +5,10 @@ ghost use Rattle.cfarm_fsck.specs.Told.{IsFaultOf, IsNotTold, IsTold, Opens};
 
 use crate::error::FsckError;
 use crate::journals::journals_of;
-use crate::opened::kept_of_all;
 use crate::printing::print_folder;
 use acceptor_log::Record;
 use cfarm_fsck_journals::NodeFiles;
-use farm_nodes_seated::OpenFault;
+use farm_nodes_seated::{OpenFault, rooms_of};
 use lang_base::Program;
 use paxos_core::{Kept, Quorums};
 use rooms_hall::{Hall, Naming};
@@ -49,8 +48,8 @@ fn opened<H: Naming, R: Threads + Wait + Sync>(
         Err(fault) => return Err(fault),
     };
     let before = journals.as_slice();
-    match kept_of_all::<usize, H, R>(rt, alloc, hall, digest, functions, workers, before, quorums) {
-        Ok(kept) => Ok((journals, kept)),
+    match rooms_of::<usize, H, R>(rt, alloc, hall, digest, functions, workers, before, quorums) {
+        Ok((kept, _seats)) => Ok((journals, kept)),
         Err(fault) => Err(fault),
     }
 }

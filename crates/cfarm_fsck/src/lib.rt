@@ -5,7 +5,6 @@
 mod command;
 mod error;
 mod journals;
-mod opened;
 mod parts;
 mod printing;
 

@@ -1,5 +1,5 @@
 -- What the program does that is asked for, with what its file is read as.
-use Rattle.std.specs.Prelude.{◌≡◌, ◌⊎◌, ℕ, List, Bool, false, Option, Result, Ok, Err}
+use Rattle.std.specs.Prelude.{◌≡◌, ◌⊎◌, ℕ, List, Bool, Option, Result, Ok, Err}
 use Rattle.durable_model.specs.declared.disk.Disk as disks
 use Rattle.durable_pair.specs.declared.pair.Pair as pairs
 use Rattle.rooms_hall.specs.declared.hall.Naming as naming
@@ -9,10 +9,9 @@ use Rattle.cfarm_files.specs.Reading.{IsKnownAs}
 use Rattle.cfarm_files.specs.declared.fault.FileFault.{FileFault}
 use Rattle.cfarm_options.specs.Sizes.{sizes_line}
 use Rattle.cfarm_options.specs.declared.options.AskedSizes.{AskedSizes}
-use Rattle.cfarm_words_parts.specs.declared.task.Format.TheVariants.{Plain, Gcc}
-use Rattle.cfarm_words_parts.specs.declared.task.Task.{Task}
-use Rattle.cfarm_words_parts.specs.declared.task.Task.TheVariants.{Check, Interpret, Build, Exec, Settle, Simulate, Show, Verify, Emit, Judge, Fsck}
-use Rattle.cfarm_words_parts.specs.declared.task.Task.TheVariants as task
+use Rattle.cfarm_command_parts.specs.declared.task.Task.{Task}
+use Rattle.cfarm_command_parts.specs.declared.task.Task.TheVariants.{Check, Interpret, Build, Exec, Settle, Simulate, Show, Verify, Emit, Judge, Fsck}
+use Rattle.cfarm_command_parts.specs.declared.task.Task.TheVariants as task
 use Rattle.cfarm_telling.specs.Reading.{unread}
 use Rattle.cfarm_telling.specs.Telling.{Answer, IsExplained, IsTold, told}
 use Rattle.cfarm_looking.specs.Showing.{Texted}
@@ -23,27 +22,13 @@ use Rattle.cfarm_looking.specs.Judging.{Judged}
 use Rattle.cfarm_folder.specs.Asked.{asked_quorums}
 use Rattle.cfarm_folder.specs.Looking.{Looked}
 use Rattle.cfarm_program.specs.Met.{AreMet, IsUnmet}
-use Rattle.cfarm_program.specs.Outcomes.{Builds, Checked, Executed, Interpreted, Settled, Simulated}
+use Rattle.cfarm_outcomes.specs.Explained.{is_explained}
+use Rattle.cfarm_outcomes.specs.Outcomes.{Checked, Executed, Interpreted, Settled, Simulated}
+use Rattle.cfarm_program.specs.Built.{Builds}
 
 -- the answer where quorums of these sizes need not meet
 abbrev pub unmet : AskedSizes → Answer
 unmet sizes = told 2 (sizes_line sizes)
-
--- whether the answer of a task is explained to a user: not where a refusal is told as compilers tell editors
-abbrev pub is_explained : Bool → Task → Bool
-is_explained is_seen (Check Plain) = is_seen
-is_explained is_seen (Check Gcc) = false
-is_explained is_seen (Interpret depth) = is_seen
-is_explained is_seen (Build options) = is_seen
-is_explained is_seen (Exec limit expected) = is_seen
-is_explained is_seen Settle = is_seen
-is_explained is_seen (Simulate showing) = is_seen
-is_explained is_seen Show = is_seen
-is_explained is_seen task.List = is_seen
-is_explained is_seen (Verify paths) = is_seen
-is_explained is_seen (Emit emitted seed) = is_seen
-is_explained is_seen (Judge offer) = is_seen
-is_explained is_seen (Fsck options) = is_seen
 
 -- What is said of a run: over these disks and rooms, with the disks that may be given for each path, what each file is known to be read as
 -- before and now, and what was put before and now.

@@ -9,11 +9,11 @@ use Rattle.rooms_hall.specs.declared.hall.Naming as naming
 use Rattle.cfarm_output.specs.Errors.{ErrorsHeld, HasFailed}
 use Rattle.cfarm_files.specs.Placing.{Placed, Keeps}
 use Rattle.cfarm_files.specs.declared.fault.FileFault.{FileFault}
-use Rattle.cfarm_words_parts.specs.declared.choices.Choices.{Choices}
-use Rattle.cfarm_words_parts.specs.declared.task.Task.{Task}
+use Rattle.cfarm_command_parts.specs.declared.choices.Choices.{Choices}
+use Rattle.cfarm_command_parts.specs.declared.task.Task.{Task}
 use Rattle.cfarm_program.specs.Performed.{Does}
 use Rattle.cfarm_telling.specs.Telling.{Answer, IsTold, no_memory, told, unwritten}
-use Rattle.cfarm_words_parts.specs.Words.{Asks, AsksNothing, farm}
+use Rattle.cfarm_command_parts.specs.Words.{Asks, AsksNothing, farm}
 
 -- the words of the command line are not text
 abbrev pub no_text : Answer

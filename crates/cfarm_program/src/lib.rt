@@ -1,6 +1,6 @@
 //! The whole program as one function, `run`: the words of a command line, files, a meter and two writers go in, and
 //! the exit status comes out. `main` calls it on the real ones, and tests on others. What the words ask for is
-//! `cfarm_words::asked_for`.
+//! `cfarm_command_line::asked_for`.
 //!
 //! | Status | When | Line on standard error |
 //! |---|---|---|
@@ -19,7 +19,6 @@
 mod performing;
 mod program;
 mod running;
-mod simulating;
 
 pub use cfarm_telling::tell_no_memory;
 pub use program::{run, tell_no_text};

@@ -4,15 +4,15 @@ ghost use Rattle.std.specs.Prelude.{◌≡◌, ◌≢◌, ◌≤◌, ◌⊎◌, 
 ghost use Rattle.clap.specs.Words.{kind_of};
 ghost use Rattle.cfarm_telling.specs.Telling.{IsTold, no_memory};
 ghost use Rattle.cfarm_program.specs.Runs.{IsHelped, IsMistake, Runs, no_text};
-ghost use Rattle.cfarm_words_parts.specs.Words.{AreChoices};
-ghost use Rattle.cfarm_words_parts.specs.declared.choices.Choices.{Choices};
+ghost use Rattle.cfarm_command_parts.specs.Words.{AreChoices};
+ghost use Rattle.cfarm_command_parts.specs.declared.choices.Choices.{Choices};
 
 use crate::running::run_task;
+use cfarm_command_line::{asked_for, offered};
 use cfarm_files::Files;
 use cfarm_meter::Meter;
 use cfarm_output::{ErrorLines, Paced, Unwritten};
 use cfarm_telling::{UNWRITTEN, tell, tell_no_memory};
-use cfarm_words::{asked_for, offered};
 use clap::error::ErrorKind;
 use rooms_hall::{Hall, Naming};
 use std::alloc::Global;

@@ -5,14 +5,14 @@ ghost use Rattle.cfarm_program.specs.Met.{AreMet, IsUnmet};
 ghost use Rattle.cfarm_program.specs.Performed.{Does, Reads};
 
 use crate::performing::perform;
-use cfarm_building::quorums_of;
+use cfarm_build_files::quorums_of;
+use cfarm_command_line::Task;
 use cfarm_files::Files;
 use cfarm_folder::asked_quorums;
 use cfarm_meter::Meter;
 use cfarm_options::AskedSizes;
 use cfarm_output::{ErrorLines, Paced};
 use cfarm_telling::{tell, tell_unread};
-use cfarm_words::Task;
 use rooms_hall::{Hall, Naming};
 use std::alloc::Global;
 use std::io::Write;

@@ -1,15 +1,13 @@
 //! Builds that write a bundle, and what `verify` says of it.
 
-use crate::given::Given;
-use crate::held::Held;
 use crate::runs::{Here, Ran, run_over, told, words_of};
-use crate::shown::shown;
 use cfarm_files::Files;
 use rooms_hall::Naming;
 use sha2::{Digest, Sha256};
 use std::alloc::Global;
 use std::sync::Wait;
 use std::thread::Threads;
+use worked_fakes::{Given, Held, Put, shown};
 
 /// The status of a run, what it wrote, with `H` for the SHA-256 of these bytes, and its standard error.
 fn told_of(alloc: Global, ran: &Ran, program: &[u8]) -> Option<String> {
@@ -41,6 +39,36 @@ pub fn verified<H: Naming + Send, R: Threads + Wait + Sync, F: Files>(
     told_of(alloc, &ran, bytes)
 }
 
+/// What is told of a build that put a bundle alone.
+fn told_alone(alloc: Global, built: &Ran, bundle: &Put) -> Option<String> {
+    let told = told(alloc, built, &[])?;
+    format!(in alloc; "{told} {}", bundle.path).ok()
+}
+
+/// The paths of two files, and the bytes of the second.
+fn copied(alloc: Global, first: &Put, second: &Put) -> Option<(String, String, Vec<u8>)> {
+    let first = first.path.as_str().to_string(alloc).ok()?;
+    let path = second.path.as_str().to_string(alloc).ok()?;
+    let bytes = second.bytes.as_slice().to_vec(alloc).ok()?;
+    Some((first, path, bytes))
+}
+
+/// What is told of a build that put a bundle and then a program, and what `verify` says of them.
+fn told_both<H: Naming + Send, R: Threads + Wait + Sync>(
+    here: &Here<'_, H, R>,
+    files: &mut Given<'_>,
+    built: &Ran,
+) -> Option<String> {
+    let alloc = here.alloc;
+    let [bundle, program] = files.put.as_slice() else {
+        return None;
+    };
+    let (bundle, program, bytes) = copied(alloc, bundle, program)?;
+    let told = told(alloc, built, &bytes)?;
+    let says = verified(here, files, "f", &program, &bundle, &bytes)?;
+    format!(in alloc; "{told} {bundle} {program} {says}").ok()
+}
+
 /// The status of a build, what it wrote and its standard error; the paths of the files that it put; and, where these are a bundle and then a
 /// program, what `verify` says of them.
 pub fn bundled<H: Naming + Send, R: Threads + Wait + Sync>(
@@ -57,19 +85,11 @@ pub fn bundled<H: Naming + Send, R: Threads + Wait + Sync>(
         Held::ample(alloc),
         Held::ample(alloc),
     );
-    let (bundle, program) = match files.put.as_slice() {
-        [] => return told(alloc, &built, &[]),
-        [bundle] => {
-            let told = told(alloc, &built, &[])?;
-            return format!(in alloc; "{told} {}", bundle.path).ok();
-        }
-        [bundle, program] => (bundle, program),
-        _ => return None,
-    };
-    let told = told(alloc, &built, &program.bytes)?;
-    let bytes = program.bytes.as_slice().to_vec(alloc).ok()?;
-    let bundle = bundle.path.as_str().to_string(alloc).ok()?;
-    let program = program.path.as_str().to_string(alloc).ok()?;
-    let says = verified(here, &mut files, "f", &program, &bundle, &bytes)?;
-    format!(in alloc; "{told} {bundle} {program} {says}").ok()
+    if files.put.len() > 1 {
+        return told_both(here, &mut files, &built);
+    }
+    match files.put.first() {
+        Some(bundle) => told_alone(alloc, &built, bundle),
+        None => told(alloc, &built, &[]),
+    }
 }

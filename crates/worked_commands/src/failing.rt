@@ -1,11 +1,10 @@
 //! Writers that fail at each byte.
 
-use crate::given::Given;
-use crate::held::Held;
 use crate::runs::{Here, Ran, run_over};
 use rooms_hall::Naming;
 use std::sync::Wait;
 use std::thread::Threads;
+use worked_fakes::{Given, Held};
 
 /// Whether a run answers 4 where the output can hold only so many bytes: these are written, and 701 is told.
 fn fails_at_output<H: Naming + Send, R: Threads + Wait + Sync>(

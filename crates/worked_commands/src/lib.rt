@@ -29,14 +29,8 @@
 
 mod bundled;
 mod failing;
-mod given;
-mod held;
 mod machine_files;
-mod masked;
-mod quiet;
 mod rows;
 mod runs;
-mod shown;
-mod texts;
 
 pub use rows::tell;

@@ -1,7 +1,6 @@
 //! Runs over the files of the machine.
 
 use crate::bundled::verified;
-use crate::held::Held;
 use crate::runs::{Here, Ran, executed, run_over, told, words_of};
 use cfarm_files::HostFiles;
 use rooms_hall::Naming;
@@ -9,6 +8,7 @@ use std::fs;
 use std::io::ErrorKind;
 use std::sync::Wait;
 use std::thread::Threads;
+use worked_fakes::Held;
 
 /// A run over the files of the machine.
 fn ran_here<H: Naming + Send, R: Threads + Wait + Sync>(
@@ -46,6 +46,52 @@ pub fn bytes_here(rt: &HostRuntime, path: &str) -> Option<String> {
     }
 }
 
+/// Whether a second run answers the same and leaves the same bytes in the file of this path.
+fn is_again<H: Naming + Send, R: Threads + Wait + Sync>(
+    rt: &HostRuntime,
+    here: &Here<'_, H, R>,
+    words: &[String],
+    path: &str,
+    first: &Ran,
+    linked: &[u8],
+) -> Option<bool> {
+    let second = ran_here(rt, here, words);
+    let again = fs::read(rt, path).ok()?;
+    Some(
+        second.status == first.status
+            && second.out.as_slice() == first.out.as_slice()
+            && second.err.as_slice() == first.err.as_slice()
+            && again.as_slice() == linked,
+    )
+}
+
+/// The status of a run, what it wrote and its standard error, and what the program does that it linked.
+fn told_and_done<H: Naming + Send, R: Threads + Wait + Sync>(
+    here: &Here<'_, H, R>,
+    ran: &Ran,
+    linked: &[u8],
+) -> Option<String> {
+    let alloc = here.alloc;
+    let told = told(alloc, ran, linked)?;
+    let does = executed(here, linked)?;
+    format!(in alloc; "{told} {does}").ok()
+}
+
+/// The same of two runs that link a program in the file of this path.
+fn twice<H: Naming + Send, R: Threads + Wait + Sync>(
+    rt: &HostRuntime,
+    here: &Here<'_, H, R>,
+    words: &[String],
+    path: &str,
+) -> Option<String> {
+    let first = ran_here(rt, here, words);
+    let linked = fs::read(rt, path).ok()?;
+    let is_same = is_again(rt, here, words, path, &first, &linked)?;
+    let told = told_and_done(here, &first, &linked)?;
+    let again = if is_same { "same" } else { "other" };
+    format!(in here.alloc; "{told} {again}").ok()
+}
+
 /// The same of a build in this folder, and what the program does that is linked there; and whether a second build there answers the
 /// same and links the same.
 pub fn answer_twice<H: Naming + Send, R: Threads + Wait + Sync>(
@@ -57,17 +103,26 @@ pub fn answer_twice<H: Naming + Send, R: Threads + Wait + Sync>(
     let (folder, line) = rest.split_once(' ')?;
     let words = words_of(alloc, line)?;
     let path = format!(in alloc; "{folder}/linked.cfp").ok()?;
-    let first = ran_here(rt, here, &words);
-    let linked = fs::read(rt, path.as_str()).ok()?;
-    let second = ran_here(rt, here, &words);
-    let is_same = second.status == first.status
-        && second.out.as_slice() == first.out.as_slice()
-        && second.err.as_slice() == first.err.as_slice()
-        && fs::read(rt, path.as_str()).ok()?.as_slice() == linked.as_slice();
-    let told = told(alloc, &first, &linked)?;
-    let does = executed(here, &linked)?;
-    let again = if is_same { "same" } else { "other" };
-    format!(in alloc; "{told} {does} {again}").ok()
+    twice(rt, here, &words, path.as_str())
+}
+
+/// The status of a build, what it wrote and its standard error, and what `verify` says of the program and the bundle in the files of these
+/// paths.
+fn proved<H: Naming + Send, R: Threads + Wait + Sync>(
+    rt: &HostRuntime,
+    here: &Here<'_, H, R>,
+    words: &[String],
+    program: &str,
+    bundle: &str,
+) -> Option<String> {
+    let alloc = here.alloc;
+    let text = words.get(2)?;
+    let ran = ran_here(rt, here, words);
+    let bytes = fs::read(rt, program).ok()?;
+    let told = told(alloc, &ran, &bytes)?;
+    let mut files = HostFiles(rt);
+    let says = verified(here, &mut files, text, program, bundle, &bytes)?;
+    format!(in alloc; "{told} {says}").ok()
 }
 
 /// The same of a build in this folder that writes `linked.cfb` there, and what `verify` says of that and of `linked.cfp`.
@@ -79,13 +134,7 @@ pub fn answer_proved<H: Naming + Send, R: Threads + Wait + Sync>(
     let alloc = here.alloc;
     let (folder, line) = rest.split_once(' ')?;
     let words = words_of(alloc, line)?;
-    let text = words.as_slice().get(2)?;
     let program = format!(in alloc; "{folder}/linked.cfp").ok()?;
     let bundle = format!(in alloc; "{folder}/linked.cfb").ok()?;
-    let ran = ran_here(rt, here, &words);
-    let bytes = fs::read(rt, program.as_str()).ok()?;
-    let told = told(alloc, &ran, &bytes)?;
-    let mut files = HostFiles(rt);
-    let says = verified(here, &mut files, text, &program, &bundle, &bytes)?;
-    format!(in alloc; "{told} {says}").ok()
+    proved(rt, here, &words, program.as_str(), bundle.as_str())
 }

@@ -4,19 +4,30 @@ ghost use Rattle.std.specs.Prelude.{◌≡◌};
 
 use crate::bundled::bundled;
 use crate::failing::failing;
-use crate::held::Held;
 use crate::machine_files::{answer_here, answer_proved, answer_twice, bytes_here};
 use crate::runs::{Here, answer, linked, words_of};
-use crate::texts::text_of;
 use program_rows::{agrees, parts_of_row};
 use rooms_hall::{Naming, Opened};
+use std::alloc::Global;
 use std::marker::Brand;
 use std::sync::Wait;
 use std::thread::Threads;
 use std::{fs, io};
+use worked_fakes::{Held, text_of};
 
 /// The file of the rows.
 const NAME: &str = "commands.txt";
+
+/// The output and standard error of a run of this kind.
+fn held_of(alloc: Global, kind: &str) -> Option<(Held, Held)> {
+    match kind {
+        "run" | "seen" => Some((Held::ample(alloc), Held::ample(alloc))),
+        "interrupted" => Some((Held::with_signals(alloc), Held::with_signals(alloc))),
+        "unflushed" => Some((Held::stuck(alloc), Held::ample(alloc))),
+        "untold" => Some((Held::ample(alloc), Held::stuck(alloc))),
+        _ => None,
+    }
+}
 
 /// The answer about a command line and the text of its file.
 fn told<H: Naming + Send, R: Threads + Wait + Sync>(
@@ -28,17 +39,15 @@ fn told<H: Naming + Send, R: Threads + Wait + Sync>(
     let alloc = here.alloc;
     let words = words_of(alloc, line)?;
     let text = text_of(alloc, text)?;
-    let (out, err) = match kind {
-        "run" | "seen" => (Held::ample(alloc), Held::ample(alloc)),
-        "interrupted" => (Held::with_signals(alloc), Held::with_signals(alloc)),
-        "unflushed" => (Held::stuck(alloc), Held::ample(alloc)),
-        "untold" => (Held::ample(alloc), Held::stuck(alloc)),
-        "failing" => return failing(here, &words, &text),
-        "linked" => return linked(here, &words, &text),
-        "bundled" => return bundled(here, &words, &text),
-        _ => return None,
-    };
-    answer(here, &words, &text, out, err)
+    match kind {
+        "failing" => failing(here, &words, &text),
+        "linked" => linked(here, &words, &text),
+        "bundled" => bundled(here, &words, &text),
+        _ => match held_of(alloc, kind) {
+            Some((out, err)) => answer(here, &words, &text, out, err),
+            None => None,
+        },
+    }
 }
 
 /// The answer to any question. Some are about the files of the machine.

@@ -1,10 +1,5 @@
 //! Runs of the program over files and writers in memory.
 
-use crate::given::Given;
-use crate::held::Held;
-use crate::masked::masked;
-use crate::quiet::Quiet;
-use crate::shown::shown;
 use cfarm_files::Files;
 use cfarm_output::{ErrorWriter, Paced};
 use cfarm_program::run;
@@ -12,6 +7,7 @@ use rooms_hall::{Hall, Naming};
 use std::alloc::Global;
 use std::sync::Wait;
 use std::thread::Threads;
+use worked_fakes::{Given, Held, Put, Quiet, masked, shown};
 
 /// The threads and the hall of all runs.
 #[derive(Drop)]
@@ -122,6 +118,18 @@ pub fn executed<H: Naming + Send, R: Threads + Wait + Sync>(
     format!(in alloc; "{} {written} {told}", ran.status).ok()
 }
 
+/// The status of a run, what it wrote and its standard error, the file that it put, and what the program in that does.
+fn told_of_put<H: Naming + Send, R: Threads + Wait + Sync>(
+    here: &Here<'_, H, R>,
+    ran: &Ran,
+    put: &Put,
+) -> Option<String> {
+    let alloc = here.alloc;
+    let told = told(alloc, ran, &put.bytes)?;
+    let does = executed(here, &put.bytes)?;
+    format!(in alloc; "{told} {} {does}", put.path).ok()
+}
+
 /// The status of a run, what it wrote and its standard error, and the file that it put.
 pub fn linked<H: Naming + Send, R: Threads + Wait + Sync>(
     here: &Here<'_, H, R>,
@@ -159,7 +167,5 @@ pub fn answer<H: Naming + Send, R: Threads + Wait + Sync>(
     if files.put.len() > 1 {
         return None;
     }
-    let told = told(alloc, &ran, &put.bytes)?;
-    let does = executed(here, &put.bytes)?;
-    format!(in alloc; "{told} {} {does}", put.path).ok()
+    told_of_put(here, &ran, put)
 }

@@ -1,6 +1,6 @@
 use denote.Param.Send.{sendable}
 use Rattle.cfarm_commands.proofs.AgreedLemmas.{some_found}
-use Rattle.cfarm_commands.proofs.Sent.{function_send, function_sync}
+use Rattle.rooms_function.proofs.Sent.{function_send, function_sync}
 use Rattle.cfarm_commands.proofs.agreeing.code_of_three.Goals as goal
 
 pub returns-in-Ok-Some : goal.returns-in-Ok-Some

@@ -1,6 +1,6 @@
 use denote.Param.Send.{sendable}
 use Rattle.std.proofs.Common.{ap, ◌∙◌}
-use Rattle.cfarm_commands.proofs.Sent.{function_send, function_sync}
+use Rattle.rooms_function.proofs.Sent.{function_send, function_sync}
 use Rattle.cfarm_settle_nodes.proofs.Nodes.{same_seats}
 use Rattle.cfarm_commands.proofs.playing.begin.Goals as goal
 

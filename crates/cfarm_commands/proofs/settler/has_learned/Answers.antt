@@ -1,5 +1,5 @@
 use denote.Param.Send.{sendable}
-use Rattle.cfarm_commands.proofs.Sent.{function_send, function_sync}
+use Rattle.rooms_function.proofs.Sent.{function_send, function_sync}
 use Rattle.cfarm_commands.proofs.settler.has_learned.Goals as goal
 
 pub has_learned-requires-send-O-P-In-Fun : goal.has_learned-requires-send-O-P-In-Fun

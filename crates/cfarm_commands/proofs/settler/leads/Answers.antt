@@ -1,5 +1,5 @@
 use denote.Param.Send.{sendable}
-use Rattle.cfarm_commands.proofs.Sent.{function_send, function_sync}
+use Rattle.rooms_function.proofs.Sent.{function_send, function_sync}
 use Rattle.cfarm_commands.proofs.settler.leads.Goals as goal
 
 pub leads-requires-send-O-P-In-Fun : goal.leads-requires-send-O-P-In-Fun

@@ -1,5 +1,5 @@
 use denote.Param.Send.{sendable}
-use Rattle.cfarm_commands.proofs.Sent.{function_send, function_sync}
+use Rattle.rooms_function.proofs.Sent.{function_send, function_sync}
 use Rattle.cfarm_commands.proofs.settler.turn.Goals as goal
 
 pub turn-requires-send-O-P-In-Fun : goal.turn-requires-send-O-P-In-Fun

@@ -13,19 +13,19 @@ pub returns-in-Err-clause-refused : goal.returns-in-Err-clause-refused
 returns-in-Err-clause-refused g c =
     journals_refused c.args.quorums c.args.digest.now c.args.program.now c.args.files.now c.in-Err.fault c.in-Err.ensures.refused c.in-Err.ensures.others
 
-pub kept_of_all-requires-clause-size : goal.kept_of_all-requires-clause-size
-kept_of_all-requires-clause-size g c κs lives = ap length c.as_slice-before.ensures.value ∙ c.in-Ok.ensures.listed.count ∙ c.requires.size
+pub rooms_of-requires-clause-size : goal.rooms_of-requires-clause-size
+rooms_of-requires-clause-size g c κs lives = ap length c.as_slice-before.ensures.value ∙ c.in-Ok.ensures.listed.count ∙ c.requires.size
 
-pub returns-in-Err-kept_of_all-clause-refused : goal.returns-in-Err-kept_of_all-clause-refused
-returns-in-Err-kept_of_all-clause-refused g c =
-    let e = c.in-Err-kept_of_all.ensures in
+pub returns-in-Err-rooms_of-clause-refused : goal.returns-in-Err-rooms_of-clause-refused
+returns-in-Err-rooms_of-clause-refused g c =
+    let e = c.in-Err-rooms_of.ensures in
     rooms_refused c.args.quorums c.args.digest.now c.args.program.now c.args.files.now c.functions_of-functions.result c.as_slice-before.result.now c.in-Ok.journals.items
-    c.in-Err-kept_of_all.fault c.functions_of-functions.ensures c.as_slice-before.ensures.value c.in-Ok.ensures.listed e.bad e.refused e.unopened
+    c.in-Err-rooms_of.fault c.functions_of-functions.ensures c.as_slice-before.ensures.value c.in-Ok.ensures.listed e.bad e.refused e.unopened
 
-pub returns-in-Ok-kept_of_all-clause-opens : goal.returns-in-Ok-kept_of_all-clause-opens
-returns-in-Ok-kept_of_all-clause-opens g c =
-    let e = c.in-Ok-kept_of_all.ensures in
-    let kept = c.in-Ok-kept_of_all.kept.items in
+pub returns-in-Ok-rooms_of-clause-opens : goal.returns-in-Ok-rooms_of-clause-opens
+returns-in-Ok-rooms_of-clause-opens g c =
+    let e = c.in-Ok-rooms_of.ensures in
+    let kept = c.in-Ok-rooms_of.kept.items in
     let count = c.functions_of-functions.ensures in
     let functions = length c.args.program.now.functions in
     record {

@@ -2,7 +2,7 @@ use Rattle.std.proofs.Common.{refl, inl, inr, subst, sym}
 use Rattle.cfarm_files.specs.declared.fault.FileFault.TheVariants.{Refused}
 use Rattle.cfarm_telling.specs.Reading.{unread}
 use Rattle.cfarm_telling.proofs.Answering.{plainly}
-use Rattle.cfarm_program.specs.Outcomes.{IsTakenAt}
+use Rattle.cfarm_program.specs.Built.{IsTakenAt}
 use Rattle.cfarm_program.proofs.Placing.{keeps_same}
 use Rattle.cfarm_program.proofs.performing.build.Goals as goal
 

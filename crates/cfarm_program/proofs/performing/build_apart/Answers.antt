@@ -1,7 +1,7 @@
 use Rattle.std.specs.Prelude.{false}
 use Rattle.std.proofs.Common.{refl, inl, inr, ◌∙◌}
-use Rattle.cfarm_building.specs.Answers.{building_line}
-use Rattle.cfarm_program.specs.Outcomes.{building_fault}
+use Rattle.cfarm_build_files.specs.Answers.{building_line}
+use Rattle.cfarm_program.specs.Built.{building_fault}
 use Rattle.cfarm_telling.specs.Telling.{quiet}
 use Rattle.cfarm_telling.proofs.Answering.{among}
 use Rattle.cfarm_program.proofs.performing.build_apart.Goals as goal

@@ -1,0 +1,4 @@
+mod Carrying
+mod Leaving
+mod Putting
+mod Refusing

@@ -1,0 +1,16 @@
+//! The quorums that are asked for.
+
+ghost use Rattle.std.specs.Prelude.{SomeIff};
+ghost use Rattle.cfarm_build.specs.Quorum.{AreQuorums};
+ghost use Rattle.cfarm_build_files.specs.Compiled.{quorums_of};
+
+use cfarm_build::Quorums;
+use cfarm_options::BuildOptions;
+
+/// The quorums that are asked for. None where a promise quorum and an accept quorum of these sizes need not meet.
+pub fn quorums_of(options: BuildOptions<'_>) -> Option<Quorums>
+    ensures { SomeIff result (AreQuorums (quorums_of options.entry)) (quorums_of options.entry) }
+{
+    let asked = options.sizes();
+    Quorums::of(asked.nodes, asked.promise, asked.accept)
+}

@@ -1,0 +1,99 @@
+//! The whole command.
+
+ghost use Rattle.std.specs.Prelude.{◌≡◌, ◌++◌, ◌∷◌, [], OnOk, IfOk, IfErr, is_some};
+ghost use Rattle.std.specs.String.{string_bytes};
+ghost use Rattle.cfarm_files.specs.Locking.{CoversFolder};
+ghost use Rattle.cfarm_build_files.specs.Compiled.{quorums_of};
+ghost use Rattle.cfarm_build_files.specs.Done.{HasBuilt, IsNotBuilt};
+ghost use Rattle.cfarm_build_files.specs.Put.{IsPut, IsUnput};
+
+use crate::compiling::compiled;
+use cfarm_build::{BuildError, Built, Quorums};
+use cfarm_build_folder::{BuildingError, place_both};
+use cfarm_files::Files;
+use cfarm_meter::Meter;
+use cfarm_options::BuildOptions;
+use cfarm_output::print_whole;
+use rooms_hall::{Hall, Naming};
+use std::alloc::{AllocError, Global};
+use std::io::Write;
+use std::sync::Wait;
+use std::thread::Threads;
+
+/// The report, with the end of the line.
+fn line_of(report: String) -> Result<String, AllocError>
+    ensures { IfOk result (λ line. string_bytes line ≡ string_bytes report ++ 10 ∷ []) }
+{
+    let mut line = report;
+    match line.push('\n') {
+        Ok(()) => Ok(line),
+        Err(fault) => Err(fault),
+    }
+}
+
+/// Puts what was built in its files, the bundle first where one is asked for, and then prints the report.
+fn put_built<F: Files, W: Write>(
+    alloc: Global,
+    options: BuildOptions<'_>,
+    files: &mut F,
+    lock: &F::Lock,
+    built: Built,
+    out: &mut W,
+) -> Result<(), BuildingError>
+    requires locked { CoversFolder (F.covers lock.now) options.folder.now }
+    requires made { is_some built.bundle ≡ is_some options.bundle }
+    ensures put { OnOk result (IsPut options.entry built (F.placed files.old) (F.placed files.new)
+        (W.contents out.old) (W.contents out.new)) }
+    ensures refused { IfErr result (IsUnput options.entry built (F.placed files.old) (F.placed files.new)
+        (W.contents out.old) (W.contents out.new)) }
+{
+    let Built {
+        program,
+        bundle,
+        report,
+    } = built;
+    let Ok(line) = line_of(report) else {
+        return Err(BuildingError::Build(BuildError::NoMemory));
+    };
+    match place_both(alloc, options, files, lock, &program, &bundle) {
+        Ok(()) => {}
+        Err(fault) => return Err(fault),
+    }
+    match print_whole(out, line.as_bytes()) {
+        Ok(()) => Ok(()),
+        Err(_) => Err(BuildingError::Write),
+    }
+}
+
+/// Builds a C text in the folder by a farm with the quorums that are asked for. The folder's lock is held from the text's acceptance on to
+/// the end: the bundle is put in its file, where one is asked for, then the linked program in its own, and then the report is printed on one
+/// line and flushed. What is shown while the farm runs is taken away before.
+pub fn build_text<H: Naming + Send, R: Threads + Wait + Sync, F: Files, M: Meter, W: Write>(
+    rt: &R,
+    alloc: Global,
+    hall: &Hall<H>,
+    text: &[u8],
+    options: BuildOptions<'_>,
+    quorums: Quorums,
+    files: &mut F,
+    meter: &mut M,
+    out: &mut W,
+) -> Result<(), BuildingError>
+    requires { quorums ≡ quorums_of options }
+
+    // The last file that is put holds the text of a program that keeps the meaning of the C program. Where a bundle is asked for it is put
+    // before, and nothing else is: `verify` says yes of the text and these two. The report is printed.
+    ensures built { OnOk result (HasBuilt F.Disk.Disk F.Disk.Pair.own H.Naming (F.may_give files.old) options.entry text.now
+        (F.placed files.old) (F.placed files.new) (W.contents out.old) (W.contents out.new)) }
+
+    // What is refused puts no program and prints nothing, and a refused text makes no file. Only where the program's file is refused was the
+    // bundle put. The output is the last that can be refused.
+    ensures refused { IfErr result (λ fault. IsNotBuilt F.Disk.Disk F.Disk.Pair.own H.Naming (F.may_give files.old) options.entry
+        text.now (F.placed files.old) (F.placed files.new) fault (W.contents out.old) (W.contents out.new)) }
+{
+    let (built, lock) = match compiled(rt, alloc, hall, text, options, quorums, files, meter) {
+        Ok(made) => made,
+        Err(fault) => return Err(fault),
+    };
+    put_built(alloc, options, files, &lock, built, out)
+}

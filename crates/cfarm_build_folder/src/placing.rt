@@ -1,0 +1,123 @@
+//! The linked program in its file, and before it the bundle in the file that is given for it.
+
+ghost use Rattle.std.specs.Prelude.{◌≡◌, OnOk, OnErr, IfErr, is_some, option_copied, option_map};
+ghost use Rattle.std.specs.String.{string_bytes};
+ghost use Rattle.cfarm_files.specs.Locking.{CoversFolder};
+ghost use Rattle.cfarm_files.specs.Placing.{Keeps, Places};
+ghost use Rattle.cfarm_options.specs.Paths.{linked_path};
+ghost use Rattle.cfarm_build_folder.specs.Disks.{IsRefusedAt};
+ghost use Rattle.cfarm_build_folder.specs.Putting.{IsUnbundled, PlacesBoth, PlacesBundle, PutsNoProgram};
+
+use crate::error::BuildingError;
+use cfarm_build_faults::BuildError;
+use cfarm_files::{FileFault, Files};
+use cfarm_options::{BuildOptions, linked_path};
+use std::alloc::Global;
+
+/// What is told of a fault of the file of this path.
+fn told_at(fault: FileFault, path: String) -> BuildingError
+    ensures { IsRefusedAt (string_bytes path) result }
+{
+    match fault {
+        FileFault::NoMemory => BuildingError::Build(BuildError::NoMemory),
+        FileFault::Refused => BuildingError::File(path),
+    }
+}
+
+/// Puts the bytes of the program in its file.
+fn place<F: Files>(
+    alloc: Global,
+    folder: &str,
+    files: &mut F,
+    lock: &F::Lock,
+    program: &[u8],
+) -> Result<(), BuildingError>
+    requires locked { CoversFolder (F.covers lock.now) folder.now }
+    ensures put { OnOk result (Places (F.placed files.old) (F.placed files.new) (linked_path folder.now) program.now) }
+    ensures refused { IfErr result (IsRefusedAt (linked_path folder.now)) }
+    ensures kept { OnErr result (Keeps (F.placed files.old) (F.placed files.new)) }
+{
+    let Ok(path) = linked_path(alloc, folder) else {
+        return Err(BuildingError::Build(BuildError::NoMemory));
+    };
+    match files.put(lock, &path, program) {
+        Ok(()) => Ok(()),
+        Err(fault) => Err(told_at(fault, path)),
+    }
+}
+
+/// That the file of this path is refused.
+fn refused_at(alloc: Global, path: &str) -> BuildingError
+    ensures { IsRefusedAt path.now result }
+{
+    match path.to_string(alloc) {
+        Ok(path) => BuildingError::File(path),
+        Err(_) => BuildingError::Build(BuildError::NoMemory),
+    }
+}
+
+/// Puts the bytes of the bundle in the file of this path.
+fn place_bundle<F: Files>(
+    alloc: Global,
+    path: &str,
+    files: &mut F,
+    bundle: &[u8],
+) -> Result<(), BuildingError>
+    ensures put { OnOk result (Places (F.placed files.old) (F.placed files.new) path.now bundle.now) }
+    ensures refused { IfErr result (IsRefusedAt path.now) }
+    ensures kept { OnErr result (Keeps (F.placed files.old) (F.placed files.new)) }
+{
+    match files.put_at(path, bundle) {
+        Ok(()) => Ok(()),
+        Err(FileFault::NoMemory) => Err(BuildingError::Build(BuildError::NoMemory)),
+        Err(FileFault::Refused) => Err(refused_at(alloc, path)),
+    }
+}
+
+/// Puts the bundle in its file, where a path is given. There is a bundle where one is.
+fn place_given<F: Files>(
+    alloc: Global,
+    path: Option<&str>,
+    files: &mut F,
+    bundle: &Option<Vec<u8>>,
+) -> Result<(), BuildingError>
+    requires made { is_some bundle.now ≡ is_some path }
+    ensures put { OnOk result (PlacesBundle (option_copied path.entry) (option_map (λ b. b.items) bundle.now)
+        (F.placed files.old) (F.placed files.new)) }
+    ensures refused { IfErr result (IsUnbundled (option_copied path.entry)) }
+    ensures kept { OnErr result (Keeps (F.placed files.old) (F.placed files.new)) }
+{
+    let Some(path) = path else {
+        return Ok(());
+    };
+    match bundle {
+        Some(bytes) => place_bundle(alloc, path, files, bytes),
+        None => unreachable!(),
+    }
+}
+
+/// Puts the bundle in its file, where one is asked for, and then the program in its own.
+pub fn place_both<F: Files>(
+    alloc: Global,
+    options: BuildOptions<'_>,
+    files: &mut F,
+    lock: &F::Lock,
+    program: &[u8],
+    bundle: &Option<Vec<u8>>,
+) -> Result<(), BuildingError>
+    requires locked { CoversFolder (F.covers lock.now) options.folder.now }
+    requires made { is_some bundle.now ≡ is_some options.bundle }
+    ensures put { OnOk result (PlacesBoth options.entry (option_map (λ b. b.items) bundle.now)
+        (F.placed files.old) (F.placed files.new) program.now) }
+    ensures refused { IfErr result (PutsNoProgram options.entry (option_map (λ b. b.items) bundle.now)
+        (F.placed files.old) (F.placed files.new)) }
+{
+    match place_given(alloc, options.bundle, files, bundle) {
+        Ok(()) => {}
+        Err(fault) => return Err(fault),
+    }
+    match place(alloc, options.folder, files, lock, program) {
+        Ok(()) => Ok(()),
+        Err(fault) => Err(fault),
+    }
+}

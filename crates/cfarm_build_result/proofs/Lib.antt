@@ -1,0 +1,3 @@
+pub mod Learning
+mod Numbering
+pub mod Zips

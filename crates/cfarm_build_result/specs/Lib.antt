@@ -1,0 +1,4 @@
+pub mod Made
+pub mod Neighbours
+pub mod Node
+pub mod Told

@@ -1,0 +1,3 @@
+pub mod Counting
+mod Lowest
+pub mod Turning

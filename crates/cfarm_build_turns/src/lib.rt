@@ -1,0 +1,11 @@
+//! The nodes of a farm take their turns on threads, round after round, until each has learned in all its rooms; then neighbours meet.
+#![tactic(auto)]
+
+mod failing;
+mod learning;
+mod meeting;
+mod met;
+mod running;
+
+pub use met::met_all;
+pub use running::run_rounds;

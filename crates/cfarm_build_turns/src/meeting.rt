@@ -1,0 +1,62 @@
+//! Neighbours meet.
+
+ghost use Rattle.std.specs.Prelude.{◌≡◌, ◌<◌, ◌+◌, IsTrue, None, length};
+ghost use Rattle.std.specs.Arc.{arc_value};
+ghost use Rattle.std.specs.List.{AllByRecursion, AllZip};
+ghost use Rattle.farm_nodes_linked.specs.Alike.{HaveCounted};
+ghost use Rattle.cfarm_build_result.specs.Neighbours.{EachTwo};
+ghost use Rattle.farm_nodes_linked.specs.Fours.{fours_of};
+ghost use Rattle.farm_nodes_linked.specs.Learned.{learned_by};
+ghost use Rattle.cfarm_build_turns.specs.Nodes.{AreMissed, HasFewFunctions, JournalStays, AreCountedAt};
+
+use cfarm_build_faults::{FarmNode, meet};
+use durable_model::Disk;
+use rooms_hall::Naming;
+
+/// Whether so many functions are all of both.
+fn is_all(count: u16, first: usize, second: usize) -> bool
+    ensures yes { IsTrue result → (count ≡ first) × (count ≡ second) }
+    ensures no { count ≡ first → count ≡ second → IsTrue result }
+{
+    let count = usize::from(count);
+    count == first && count == second
+}
+
+/// The node of this number and the next one meet. Answers whether all functions were counted.
+fn meet_at<D: Disk, O, H: Naming>(nodes: &mut [FarmNode<D, O, H>], number: usize) -> bool
+    requires next { number + 1 < length nodes.old }
+    requires going { AllByRecursion (λ n. n.halted ≡ None) nodes.old }
+    requires few { AllByRecursion (λ n. HasFewFunctions (arc_value n.program)) nodes.old }
+    ensures stay { AllZip (λ n m. (m.program ≡ n.program) × JournalStays D.Disk n.log m.log (fours_of n.seats.items)
+        (fours_of m.seats.items) n.halted m.halted (learned_by n.seats.items) (learned_by m.seats.items)) nodes.old nodes.new }
+    ensures counted { IsTrue result → AreCountedAt (λ n. n.seats.items) nodes.new number }
+    ensures missed { (IsTrue result → ⊥) → AreMissed (λ n. n.seats.items) nodes.new }
+{
+    let (front, back) = nodes.split_at_mut(number + 1);
+    let first = &mut front[number];
+    let second = &mut back[0];
+    let count = meet(first, second);
+    is_all(count, first.seats.len(), second.seats.len())
+}
+
+/// Each two neighbours meet, from the first node to the last, and again on the way back: so node 0 hears what the last node knows.
+/// Answers whether on the way back all functions were counted; at the first two whose were not it ends.
+pub(crate) fn meet_neighbours<D: Disk, O, H: Naming>(nodes: &mut [FarmNode<D, O, H>]) -> bool
+    requires going { AllByRecursion (λ n. n.halted ≡ None) nodes.old }
+    requires few { AllByRecursion (λ n. HasFewFunctions (arc_value n.program)) nodes.old }
+    ensures stay { AllZip (λ n m. (m.program ≡ n.program) × JournalStays D.Disk n.log m.log (fours_of n.seats.items)
+        (fours_of m.seats.items) n.halted m.halted (learned_by n.seats.items) (learned_by m.seats.items)) nodes.old nodes.new }
+    ensures counted { IsTrue result → EachTwo (λ n m. HaveCounted n.seats.items m.seats.items) nodes.new }
+    ensures missed { (IsTrue result → ⊥) → AreMissed (λ n. n.seats.items) nodes.new }
+{
+    for next in 1..nodes.len() {
+        let _counted = meet_at(nodes, next - 1);
+    }
+    let count = nodes.len();
+    for done in 1..count {
+        if !meet_at(nodes, count - 1 - done) {
+            return false;
+        }
+    }
+    true
+}

@@ -1,0 +1,40 @@
+//! Nodes that took their turns, and have met.
+
+ghost use Rattle.std.specs.Prelude.{◌≡◌, None, map, OnOk, IfOk, IfErr};
+ghost use Rattle.std.specs.Arc.{arc_value};
+ghost use Rattle.std.specs.List.{AllByRecursion, AllZip};
+ghost use Rattle.farm_nodes_linked.specs.Alike.{HaveCounted};
+ghost use Rattle.farm_nodes_linked.specs.Fours.{fours_of};
+ghost use Rattle.farm_nodes_linked.specs.Learned.{learned_by};
+ghost use Rattle.cfarm_build_faults.specs.Held.{fault_in};
+ghost use Rattle.cfarm_build_result.specs.Neighbours.{EachTwo};
+ghost use Rattle.cfarm_build_turns.specs.Nodes.{HasFewFunctions, Meets, lowest_failed};
+ghost use Rattle.cfarm_build_turns.specs.Unmet.{IsUnmet};
+
+use crate::failing::first_failed;
+use crate::meeting::meet_neighbours;
+use cfarm_build_faults::{BuildError, FarmNode};
+use durable_model::Disk;
+use rooms_hall::Naming;
+
+/// The nodes after each two neighbours have met, where none had failed; the lowest that had is told. All functions were counted.
+pub fn met_all<D: Disk + Drop, O: Drop, H: Naming>(
+    nodes: Vec<FarmNode<D, O, H>>,
+) -> Result<Vec<FarmNode<D, O, H>>, BuildError>
+    requires few { AllByRecursion (λ n. HasFewFunctions (arc_value n.program)) nodes.items }
+    ensures going { OnOk result (lowest_failed 0 (map (λ n. fault_in n.halted) nodes.items) ≡ None) }
+    ensures stay { IfOk result (λ met. AllZip (Meets D.Disk (λ n. n.program) (λ n. n.log) (λ n. fours_of n.seats.items)
+        (λ n. n.halted) (λ n. learned_by n.seats.items)) nodes.items met.items) }
+    ensures counted { IfOk result (λ met. EachTwo (λ n m. HaveCounted n.seats.items m.seats.items) met.items) }
+    ensures refused { IfErr result (IsUnmet (Meets D.Disk (λ n. n.program) (λ n. n.log) (λ n. fours_of n.seats.items)
+        (λ n. n.halted) (λ n. learned_by n.seats.items)) (λ n. n.seats.items) (λ n. fault_in n.halted) nodes.items) }
+{
+    let mut nodes = nodes;
+    if let Some((node, fault)) = first_failed(&nodes) {
+        return Err(BuildError::Failed(node, fault));
+    }
+    if !meet_neighbours(&mut nodes) {
+        return Err(BuildError::Undecided);
+    }
+    Ok(nodes)
+}

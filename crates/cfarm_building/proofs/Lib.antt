@@ -1,4 +1,0 @@
-mod Carrying
-mod Given
-mod Making
-mod Refusing

@@ -1,0 +1,15 @@
+use Rattle.std.specs.Prelude.{true}
+use Rattle.std.proofs.Common.{ap, ◌∙◌}
+use Rattle.clap.specs.Simple.{app_of_fields, on_top}
+use Rattle.cfarm_command_line.proofs.command_line.bare.Goals as goal
+
+pub returns : goal.returns
+returns c =
+    let plain = ap app_of_fields c.about.ensures ∙ c.new.ensures.app in
+    let versioned = ap app_of_fields c.version.ensures ∙ ap (on_top (λ s. record s { has_version = true })) plain in
+    let required = ap app_of_fields c.subcommand_required.ensures ∙ ap (on_top (λ s. record s { subcommand_required = true })) versioned in
+    let helped = ap app_of_fields c.arg_required_else_help.ensures ∙ ap (on_top (λ s. record s { arg_required_else_help = true })) required in (
+      helped,
+      ap (λ f. f.has_globals) c.arg_required_else_help.ensures ∙ ap (λ f. f.has_globals) c.subcommand_required.ensures
+          ∙ ap (λ f. f.has_globals) c.version.ensures ∙ ap (λ f. f.has_globals) c.about.ensures ∙ c.new.ensures.local,
+    )

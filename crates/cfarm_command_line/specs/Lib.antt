@@ -1,0 +1,2 @@
+pub mod Sized
+pub use Rattle.cfarm_command_parts.specs.Words

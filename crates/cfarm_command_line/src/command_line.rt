@@ -1,0 +1,184 @@
+//! What the program is told on its command line.
+
+ghost use Rattle.std.specs.Prelude.{◌≡◌, Some, map, codes, string_bytes, IfOk, IfErr, IfSome, IsNone};
+ghost use Rattle.clap.specs.Words.{FailsBy, fault_of, first_value, found_of, rows_of};
+ghost use Rattle.clap.specs.Words.{subcommand_rows_of};
+ghost use Rattle.cfarm_command_parts.specs.declared.task.Task.{Task};
+ghost use Rattle.cfarm_command_parts.specs.Words.{Asks, AsksNothing, AsksNothingBy, IsAskedBy, IsRefusedRightly, IsTask};
+ghost use Rattle.cfarm_command_parts.specs.Words.{IsCommand, farm, statuses_app, top_app};
+
+use crate::build_words::{build, options_of};
+use crate::fsck_words::{fsck, fsck_options_of};
+use cfarm_command_parts::{
+    Asked, Choices, FILE, Task, check, depth_of, emit, emit_seed_of, emitted_of, exec, expected_of,
+    format_of, interpret, judge, limit_of, list, offer_of, paths_of, settle, show, showing_of, sim,
+    verify, with_command,
+};
+use clap::{ArgMatches, Command};
+use std::alloc::{AllocError, Global};
+
+/// What the program is called, in its second line the logic that its proofs are of (`rt version`).
+const VERSION: &str = "1.0.0\nlogic dac8208d650f15bf";
+
+/// What the statuses and the numbers of refusals mean.
+const STATUSES: &str =
+    "The status with which the program ends, and what it then tells on standard error:
+
+  0  done; after a run `ended R`
+  1  the file is refused: `refused NUMBER Name at OFFSET` for a text, `refused NUMBER Name` for
+     bytes, `refused 240 TooManyNodes in NAME` for a function that is too large; of a bundle or an
+     offer also in which file or function, in which pass and at which node
+  2  the command line, in words; `quorums N Q1 Q2`, which need not meet; `file PATH`;
+     `schedule LINE`
+  3  undecided: `undecided`, for want of turns; the same build again goes on from its journals
+  4  a journal: `journal NUMBER Name node I` or `room R`; `link NUMBER Name in FUNCTION`; the output
+     could not be written: `write 701`, or standard error could not, and then nothing is told
+  5  the program that was run went wrong: `wrong`; with --expect, it did not end with R
+  6  the bound was reached: `running`
+  7  no memory, or no thread could be made: `memory`
+
+Numbers, by what is refused:
+
+  101 Short         102 BadTag        103 NotCanonical  104 TooLarge                        bytes
+  201 BadByte       202 OpenComment   203 LiteralRange  204 BadChar                         tokens
+  210 Syntax        211 TooDeep                                                             grammar
+  220 Undeclared    221 Redeclared    222 WrongArity    223 VoidValue     224 NoMain        names
+  225 BadMain       226 NotConstant   227 NoBody        228 Limit         229 StrayBreak    and
+  230 ArrayUse                                                                              types
+  240 TooManyNodes                                                                          size
+  301 Refused       an offer that its pass does not accept
+  401 Device        402 NotAJournal   403 BadRecord     404 OtherSource   405 Stopped       journals
+  406 Full          521 OtherRecords  522 CellRefused
+  601 Missing       602 Unchained     603 Names         604 OtherProgram                    links
+";
+
+/// The program, before its commands.
+fn bare<'a>(alloc: Global) -> Command<'a>
+    ensures { IsCommand top_app result }
+{
+    Command::new(alloc, "cfarm")
+        .about(
+            "A farm of compiler nodes in one process: untrusted optimisers propose, proved validators decide,\nand the nodes agree.",
+        )
+        .version(VERSION)
+        .subcommand_required(true)
+        .arg_required_else_help(true)
+}
+
+/// The commands, with their help. Options offer these choices.
+fn command<'a>(alloc: Global, choices: Choices<'a>) -> Result<Command<'a>, AllocError>
+    ensures { IfOk result (IsCommand (farm choices.entry)) }
+{
+    let checking = with_command(Ok(bare(alloc)), check(alloc, choices));
+    let interpreting = with_command(checking, interpret(alloc));
+    let building = with_command(interpreting, build(alloc, choices));
+    let executing = with_command(building, exec(alloc));
+    let settling = with_command(executing, settle(alloc));
+    let playing = with_command(settling, sim(alloc));
+    let showing = with_command(playing, show(alloc));
+    let listing = with_command(showing, list(alloc));
+    let looking = with_command(listing, fsck(alloc, choices));
+    let verifying = with_command(looking, verify(alloc));
+    let emitting = with_command(verifying, emit(alloc, choices));
+    let judging = with_command(emitting, judge(alloc));
+    with_command(judging, statuses(alloc))
+}
+
+/// What `help statuses` shows. Alone it is a mistake, and shows the same.
+fn statuses<'a>(alloc: Global) -> Result<Command<'a>, AllocError>
+    ensures { IfOk result (IsCommand statuses_app) }
+{
+    Ok(
+        Command::new(alloc, "statuses")
+            .about("What the statuses and the numbers of refusals mean (`cfarm help statuses`)")
+            .arg_required_else_help(true)
+            .override_help(STATUSES),
+    )
+}
+
+/// What is asked for by what was found in the words of a command of this name; none where there is no such command, or not all that it
+/// needs.
+fn task_of<'a>(name: &str, words: &ArgMatches<'a>) -> Option<Task<'a>>
+    ensures some { IfSome result (IsTask name.now (rows_of (found_of words.now))) }
+    ensures none { IsNone result → (task : Task) → IsTask name.now (rows_of (found_of words.now)) task → ⊥ }
+{
+    match name {
+        "check" => match format_of(words) {
+            Some(format) => Some(Task::Check(format)),
+            None => None,
+        },
+        "interpret" => Some(Task::Interpret(depth_of(words))),
+        "build" => match options_of(words) {
+            Some(options) => Some(Task::Build(options)),
+            None => None,
+        },
+        "exec" => Some(Task::Exec(limit_of(words), expected_of(words))),
+        "settle" => Some(Task::Settle),
+        "sim" => match showing_of(words) {
+            Some(showing) => Some(Task::Simulate(showing)),
+            None => None,
+        },
+        "show" => Some(Task::Show),
+        "log" => Some(Task::List),
+        "fsck" => match fsck_options_of(words) {
+            Some(options) => Some(Task::Fsck(options)),
+            None => None,
+        },
+        "verify" => match paths_of(words) {
+            Some(paths) => Some(Task::Verify(paths)),
+            None => None,
+        },
+        "emit" => match emitted_of(words) {
+            Some(emitted) => Some(Task::Emit(emitted, emit_seed_of(words))),
+            None => None,
+        },
+        "judge" => match offer_of(words) {
+            Some(offer) => Some(Task::Judge(offer)),
+            None => None,
+        },
+        _ => None,
+    }
+}
+
+/// What is asked for by what was found of the command of this name; none where there is no such command or no file.
+fn asked_in<'a>(name: &str, words: &ArgMatches<'a>) -> Option<Asked<'a>>
+    ensures task { IfSome result (λ asked. IsTask name.now (rows_of (found_of words.now)) asked.task) }
+    ensures path { IfSome result (λ asked. first_value (found_of words.now) (codes "FILE") ≡ Some asked.path.now) }
+    ensures none { IsNone result → AsksNothingBy (Some (name.now, rows_of (found_of words.now))) }
+{
+    let Some(path) = words.get_str(FILE) else {
+        return None;
+    };
+    let Some(task) = task_of(name, words) else {
+        return None;
+    };
+    Some(Asked { task, path })
+}
+
+/// What is asked for by what was found; none where there is no command or no file, which `clap` refuses.
+fn asked_of<'a>(matches: &ArgMatches<'a>) -> Option<Asked<'a>>
+    ensures some { IfSome result (λ asked. IsAskedBy (subcommand_rows_of matches.now) asked.task asked.path.now) }
+    ensures none { IsNone result → AsksNothingBy (subcommand_rows_of matches.now) }
+{
+    match matches.subcommand() {
+        Some(found) => asked_in(found.0, found.1),
+        None => None,
+    }
+}
+
+/// What the words ask for. Options offer these choices.
+pub fn asked_for<'a>(
+    alloc: Global,
+    words: &'a [String],
+    choices: Choices<'a>,
+) -> Result<Option<Asked<'a>>, clap::Error>
+    ensures asks { IfOk result (λ asked. IfSome asked
+        (λ a. Asks choices.entry (map string_bytes words.entry.now) a.task a.path.now)) }
+    ensures none { IfOk result (λ asked. IsNone asked → AsksNothing choices.entry (map string_bytes words.entry.now)) }
+    ensures right { FailsBy (fault_of (farm choices.entry) (map string_bytes words.entry.now)) result }
+    ensures refused { IfErr result (λ fault. IsRefusedRightly choices.entry (map string_bytes words.entry.now) fault) }
+{
+    let command = command(alloc, choices)?;
+    let matches = command.try_get_matches_from(words)?;
+    Ok(asked_of(&matches))
+}

@@ -1,0 +1,65 @@
+//! `sim`: a schedule, shown as is asked for.
+
+ghost use Rattle.std.specs.Prelude.{◌≤◌};
+ghost use Rattle.cfarm_telling.specs.Telling.{Answer, IsTold};
+ghost use Rattle.cfarm_outcomes.specs.Outcomes.{Drawn, Lined, Simulated};
+
+use cfarm_command_parts::Showing;
+use cfarm_drawing::draw;
+use cfarm_output::{ErrorLines, Paced};
+use cfarm_schedules::simulate;
+use cfarm_telling::tell;
+use std::alloc::Global;
+use std::io::Write;
+
+#[tactic(auto, using(crate::proofs::Tables::schedule_in_table))]
+fn lines<W: Write, E: ErrorLines>(
+    alloc: Global,
+    schedule: &[u8],
+    out: &mut Paced<W>,
+    err: &mut E,
+) -> u8
+    ensures does { (answer : Answer) × Lined schedule.now answer (W.contents out.old.taker) (W.contents out.new.taker)
+        × IsTold answer result (E.contents err.old) (E.contents err.new) }
+    ensures table { result ≤ 7 }
+{
+    match simulate(alloc, schedule, out) {
+        Ok(()) => 0,
+        Err(fault) => tell(err, fault, fault.status()),
+    }
+}
+
+#[tactic(auto, using(crate::proofs::Tables::schedule_in_table))]
+fn picture<W: Write, E: ErrorLines>(
+    alloc: Global,
+    schedule: &[u8],
+    out: &mut Paced<W>,
+    err: &mut E,
+) -> u8
+    ensures does { (answer : Answer) × Drawn schedule.now answer (W.contents out.old.taker) (W.contents out.new.taker)
+        × IsTold answer result (E.contents err.old) (E.contents err.new) }
+    ensures table { result ≤ 7 }
+{
+    match draw(alloc, schedule, out) {
+        Ok(()) => 0,
+        Err(fault) => tell(err, fault, fault.status()),
+    }
+}
+
+/// Plays a schedule, and shows it as is asked for.
+pub fn play<W: Write, E: ErrorLines>(
+    alloc: Global,
+    showing: Showing,
+    schedule: &[u8],
+    out: &mut Paced<W>,
+    err: &mut E,
+) -> u8
+    ensures does { (answer : Answer) × Simulated showing schedule.now answer (W.contents out.old.taker) (W.contents out.new.taker)
+        × IsTold answer result (E.contents err.old) (E.contents err.new) }
+    ensures table { result ≤ 7 }
+{
+    match showing {
+        Showing::Lines => lines(alloc, schedule, out, err),
+        Showing::Drawing => picture(alloc, schedule, out, err),
+    }
+}

@@ -1,2 +1,0 @@
-pub mod Sized
-pub use Rattle.cfarm_words_parts.specs.Words

@@ -1,0 +1,209 @@
+//! Files in memory.
+
+use cfarm_files::{DiskFault, FileFault, Files};
+use durable_pair_memory::MemoryPair;
+use program_rows::bytes_of;
+use std::alloc::Global;
+
+/// How many calls and bytes a disk can note.
+const CALLS: usize = 20_000;
+
+const BYTES: usize = 2_000_000;
+
+/// A file that was put.
+#[derive(Drop)]
+pub struct Put {
+    pub path: String,
+    pub bytes: Vec<u8>,
+}
+
+/// The one file that is there, and what was put. Journals are empty, unless their folder says otherwise.
+#[derive(Drop)]
+pub struct Given<'a> {
+    pub alloc: Global,
+    pub text: &'a [u8],
+    pub put: Vec<Put>,
+}
+
+impl<'a> Given<'a> {
+    /// What was put at this path.
+    fn put_as(&self, path: &str) -> Result<Vec<u8>, FileFault> {
+        for put in self.put.as_slice() {
+            if put.path.as_str() == path {
+                return match put.bytes.as_slice().to_vec(self.alloc) {
+                    Ok(bytes) => Ok(bytes),
+                    Err(_) => Err(FileFault::NoMemory),
+                };
+            }
+        }
+        Err(FileFault::Refused)
+    }
+
+    pub fn of(alloc: Global, text: &'a [u8]) -> Given<'a> {
+        Given {
+            alloc,
+            text,
+            put: Vec::new(alloc),
+        }
+    }
+}
+
+/// Disks that hold these bytes, synced; they can note so many calls, and fail at this one.
+fn disk_of(
+    alloc: Global,
+    calls: usize,
+    fails: usize,
+    bytes: &[u8],
+    old_bytes: &[u8],
+) -> Result<MemoryPair, DiskFault> {
+    let (Ok(new), Ok(old)) = (bytes.to_vec(alloc), old_bytes.to_vec(alloc)) else {
+        return Err(DiskFault::NoMemory);
+    };
+    match MemoryPair::holding(alloc, new, old, calls, BYTES) {
+        Ok(mut disk) => {
+            disk.fail_at(fails);
+            Ok(disk)
+        }
+        Err(_) => Err(DiskFault::NoMemory),
+    }
+}
+
+/// What the name of a folder spells for the node with this file: where a number and `=` stand in front, nothing for another node.
+fn spelled<'a>(folder: &'a str, name: &str) -> &'a str {
+    let number = name.strip_prefix("node").unwrap_or("");
+    let (number, _) = number.split_once('.').unwrap_or((number, ""));
+    match folder.split_once('=') {
+        Some((meant, rest)) if meant == number => rest,
+        Some(_) => "",
+        None => folder,
+    }
+}
+
+/// The bytes that are spelled, in hex: behind `%` those of the old one, behind `&` those of the new one.
+fn parts_spelled(text: &str) -> (&str, &str) {
+    let (old, new) = text.split_once('&').unwrap_or((text, ""));
+    (old.strip_prefix("%").unwrap_or(""), new)
+}
+
+/// Disks whose bytes are spelled.
+fn disk_spelled(alloc: Global, text: &str) -> Result<MemoryPair, DiskFault> {
+    let (old, new) = parts_spelled(text);
+    let (Some(bytes), Some(old_bytes)) = (bytes_of(alloc, new), bytes_of(alloc, old)) else {
+        return Err(DiskFault::New);
+    };
+    disk_of(alloc, CALLS, 0, &bytes, &old_bytes)
+}
+
+/// Why there are no disks in a folder.
+fn fault_in(folder: &str, name: &str) -> Option<DiskFault> {
+    match folder {
+        "missing" => Some(DiskFault::New),
+        "behind" if name == "node1.cf2" => Some(DiskFault::New),
+        "barred" if name == "node1.cf2" => Some(DiskFault::Old),
+        "scarce" => Some(DiskFault::NoMemory),
+        _ => None,
+    }
+}
+
+/// The disks of a folder.
+fn disk_in(alloc: Global, folder: &str, name: &str) -> Result<MemoryPair, DiskFault> {
+    if let Some(fault) = fault_in(folder, name) {
+        return Err(fault);
+    }
+    match folder {
+        "broken" => disk_of(alloc, CALLS, 1, &[], &[]),
+        "worn" => disk_of(alloc, 14, 0, &[], &[]),
+        _ => disk_spelled(alloc, spelled(folder, name)),
+    }
+}
+
+/// The file of a folder whose bytes are spelled; none where they are none.
+fn file_spelled(alloc: Global, text: &str, name: &str) -> Result<Option<Vec<u8>>, FileFault> {
+    let (old, new) = parts_spelled(text);
+    let hex = if name.ends_with(".cfj") { old } else { new };
+    match bytes_of(alloc, hex) {
+        Some(bytes) if bytes.is_empty() => Ok(None),
+        Some(bytes) => Ok(Some(bytes)),
+        None => Err(FileFault::Refused),
+    }
+}
+
+/// The file of a folder, where it is there.
+fn file_in(alloc: Global, folder: &str, name: &str) -> Result<Option<Vec<u8>>, FileFault> {
+    match folder {
+        "behind" if name == "node1.cf2" => Err(FileFault::Refused),
+        "barred" if name == "node1.cfj" => Err(FileFault::Refused),
+        "scarce" => Err(FileFault::NoMemory),
+        _ => file_spelled(alloc, spelled(folder, name), name),
+    }
+}
+
+/// The file of this path with these bytes.
+fn put_of(alloc: Global, path: &str, bytes: &[u8]) -> Option<Put> {
+    let path = path.to_string(alloc).ok()?;
+    let bytes = bytes.to_vec(alloc).ok()?;
+    Some(Put { path, bytes })
+}
+
+/// The lock of a folder in memory.
+#[derive(Drop)]
+pub struct Held;
+
+impl Files for Given<'_> {
+    type Disk = MemoryPair;
+
+    type Lock = Held;
+
+    fn lock(&mut self, folder: &str, _path: &str) -> Result<Held, FileFault> {
+        match folder {
+            "missing" | "busy" => Err(FileFault::Refused),
+            "locked" => Err(FileFault::NoMemory),
+            _ => Ok(Held),
+        }
+    }
+
+    fn read(&self, path: &str) -> Result<Vec<u8>, FileFault> {
+        match path {
+            "f" => match self.text.to_vec(self.alloc) {
+                Ok(bytes) => Ok(bytes),
+                Err(_) => Err(FileFault::NoMemory),
+            },
+            "big" => Err(FileFault::NoMemory),
+            _ => self.put_as(path),
+        }
+    }
+
+    fn read_if_there(&self, path: &str) -> Result<Option<Vec<u8>>, FileFault> {
+        let (folder, name) = path.rsplit_once('/').unwrap_or(("", path));
+        file_in(self.alloc, folder, name)
+    }
+
+    fn disk(&mut self, _lock: &Held, path: &str, _old_path: &str) -> Result<MemoryPair, DiskFault> {
+        let (folder, name) = path.rsplit_once('/').unwrap_or(("", path));
+        disk_in(self.alloc, folder, name)
+    }
+
+    fn counts_old(&self, disk: &MemoryPair) -> bool {
+        disk.old_bytes().starts_with(b"C".as_slice())
+    }
+
+    fn put(&mut self, _lock: &Held, path: &str, bytes: &[u8]) -> Result<(), FileFault> {
+        self.put_at(path, bytes)
+    }
+
+    fn put_at(&mut self, path: &str, bytes: &[u8]) -> Result<(), FileFault> {
+        if path.starts_with("full/") {
+            return Err(FileFault::Refused);
+        }
+        if path.starts_with("tight/") {
+            return Err(FileFault::NoMemory);
+        }
+        let Some(put) = put_of(self.alloc, path, bytes) else {
+            return Err(FileFault::NoMemory);
+        };
+        match self.put.push(put) {
+            Ok(()) => Ok(()),
+            Err(_) => Err(FileFault::NoMemory),
+        }
+    }
+}
