@@ -32,7 +32,7 @@ FLOORS = [
      "c_checker_bodies c_checker_declarations c_checker c_meaning_machine c_meaning c_texts"),
     ("Languages: whole programs of any, Cminor, RTL, LTL, Linear",
      "lang locations machine lang_running_cells lang_running cminor_syntax cminor_form cminor_codec cminor_language rtl_parts "
-     "rtl_language rtl_decoded rtl ltl linear_language linear_decoded linear_groups linear_fused linear_fusing linear"),
+     "rtl_language rtl_decoded rtl ltl linear_language linear_decoded linear_calls linear_groups linear_fused linear_choice linear"),
     ("Texts: what is shown of a program",
      "text_words text_programs text_acts text_linear text_rtl text_ltl text_cminor"),
     ("Lowerings: C to Cminor, Cminor to RTL",
@@ -52,16 +52,16 @@ FLOORS = [
      "acceptor_log_translating acceptor_log_migrating"),
     ("The farm",
      "farm_nodes_order farm_nodes_acting farm_nodes_leading farm_nodes_offers farm_nodes_playing farm_nodes_passes "
-     "farm_nodes_turn farm_nodes_node farm_nodes_meeting farm_nodes_nodes farm_nodes_restart_seat "
+     "farm_nodes_turn farm_nodes_node farm_nodes_seat_meeting farm_nodes_node_meeting farm_nodes_restart_seat "
      "farm_nodes_restart_records farm_nodes_restart farm_nodes_pairs farm_nodes_returning farm_nodes_disks farm_nodes_records "
-     "farm_nodes_stored farm_nodes_lists farm_nodes_opening farm_nodes_functions farm_nodes_joining "
+     "farm_nodes_stored farm_nodes_lists farm_nodes_function_rooms farm_nodes_functions farm_nodes_joining "
      "farm_nodes_seated farm_nodes_opened farm_nodes_rounds farm_nodes_workers farm_nodes_threads farm_nodes_source "
      "farm_nodes_compiling farm_nodes_linked farm_nodes_bundled farm_nodes_crash farm_nodes"),
     ("The program",
-     "cfarm_files cfarm_options cfarm_explaining cfarm_output cfarm_log_lines cfarm_log cfarm_fsck_lines cfarm_fsck_journals cfarm_fsck text_offers program_texts cfarm_runs cfarm_hints cfarm_meter cfarm_report cfarm_build_faults cfarm_build_linking cfarm_build cfarm_offered cfarm_building cfarm_settle_nodes cfarm_commands cfarm_emitted cfarm_emit cfarm_verify_reading cfarm_verify_comparing cfarm_verify cfarm_judge cfarm_schedules_lines "
-     "cfarm_schedules cfarm_drawing_parts cfarm_drawing cfarm_words_parts cfarm_words cfarm_telling cfarm_looking cfarm_folder cfarm_program cfarm"),
+     "cfarm_files cfarm_options cfarm_explaining cfarm_output cfarm_printing cfarm_log_lines cfarm_log cfarm_fsck_lines cfarm_fsck_journals cfarm_fsck text_offers program_texts cfarm_runs cfarm_hints cfarm_meter cfarm_report cfarm_build_result cfarm_build_faults cfarm_build_linking cfarm_build_turns cfarm_build cfarm_build_folder cfarm_offered cfarm_build_files cfarm_settle_nodes cfarm_commands cfarm_emitted cfarm_emit cfarm_verify_lowering cfarm_verify_reading cfarm_verify_comparing cfarm_verify cfarm_judge cfarm_schedules_lines "
+     "cfarm_schedules cfarm_drawing_parts cfarm_drawing cfarm_command_parts cfarm_command_line cfarm_telling cfarm_outcomes cfarm_looking cfarm_folder cfarm_program cfarm"),
     ("Tests",
-     "program_rows paxos_reference worked_farm worked_commands worked_agreement worked_texts worked_forms worked_offers "
+     "program_rows paxos_reference worked_fakes worked_farm worked_commands worked_agreement worked_texts worked_forms worked_offers worked_chains "
      "worked_rows worked_disk worked_journals worked_rooms worked_whole worked_hostile"),
 ]
 ORDER = [crate for _, crates in FLOORS for crate in crates.split()]
@@ -96,15 +96,15 @@ CHANGES = [
      "`farm_nodes_records`; the header: `farm_nodes_disks`, `cfarm_hints`"),
     ("which sizes of quorums meet, and how many a quorum has",
      "[`paxos_core`](paxos_core/README.md): `paxos_core_world` (`quorum.rt`, `specs/Quorum`, `proofs/Quorums`)",
-     "who tests a quorum: `paxos_core`, `paxos_core_model`; what is told of it: `rooms_state` (`proofs/Told`); what a command asks for: `cfarm_words`, `cfarm_options`, `cfarm_building` (`asking.rt`), `cfarm_folder` (`asking.rt`); where sizes are written: "
+     "who tests a quorum: `paxos_core`, `paxos_core_model`; what is told of it: `rooms_state` (`proofs/Told`); what a command asks for: `cfarm_command_line`, `cfarm_options`, `cfarm_build_files` (`asking.rt`), `cfarm_folder` (`asking.rt`); where sizes are written: "
      "`acceptor_log_form`, `cfarm_schedules_lines`; the three nodes of `settle`: `cfarm_settle_nodes`"),
     ("an option, a command, help",
-     "[`cfarm`](cfarm/README.md): `cfarm_words`",
-     "a build's option: `cfarm_options`, `cfarm_building`; one of another command: `cfarm_words_parts`, and the crate that does it; all: `cfarm_program`, docs/cfarm.1, "
+     "[`cfarm`](cfarm/README.md): `cfarm_command_line`",
+     "a build's option: `cfarm_options`, `cfarm_build_files`; one of another command: `cfarm_command_parts`, and the crate that does it; all: `cfarm_program`, docs/cfarm.1, "
      "docs/cfarm.bash"),
     ("a line, a status, the order of refusals",
      "[`cfarm`](cfarm/README.md): `cfarm_program`",
-     "`cfarm_runs`, `cfarm_build_faults`, `cfarm_building`, `cfarm_commands`, `cfarm_schedules`; rows of `worked_rows`"),
+     "`cfarm_runs`, `cfarm_build_faults`, `cfarm_build_folder`, `cfarm_commands`, `cfarm_schedules`; rows of `worked_rows`"),
     ("turns, and when a ballot starts", "[`farm_nodes`](farm_nodes/README.md): `farm_nodes_leading`, `farm_nodes_rounds`", "rows of `worked_rows`"),
 ]
 

@@ -52,8 +52,8 @@ def table(file):
     with open(file, encoding="utf-8") as rows:
         for row in rows:
             crate, kind, _, took = row.strip().split(",")
-            # (a seed is what the edits of a crate begin from)
-            kind = "edits" if kind in ("seed", "again") else kind
+            # (what else there is belongs to the edits of a crate: what they begin from, and that it is sound)
+            kind = kind if kind in ("proof", "tests") else "edits"
             seconds.setdefault(crate, dict.fromkeys(KINDS, 0.0))[kind] += float(took)
     dear = sorted(seconds, key=lambda it: -sum(seconds[it].values()))
     told = []

@@ -5,7 +5,7 @@
                         no source has: a crate; of `crate::name` a call, type, definition, lemma or passed-on name of that crate; in a row of
                         PROMISES each bare name, which a crate named there, in the rows of its table, or one below has; of names in brackets
                         behind calls a clause of these. And whether docs/cfarm.1 and docs/cfarm.bash have the options of
-                        cfarm_words, and the page what stands where each is not given; whether all documents have at most 26,000 words
+                        cfarm_command_line, and the page what stands where each is not given; whether all documents have at most 26,000 words
                         and a cell of PROMISES 300 characters"""
 import glob
 import os
@@ -109,7 +109,7 @@ def faults_of(document, text, plan, names, clauses):
 
 def options():
     """Of each option of the command line its name and what stands where it is not given."""
-    texts = [text for crate in ("cfarm_words", "cfarm_words_parts") for kind, _, text in floors.files_of(crate) if kind == "src"]
+    texts = [text for crate in ("cfarm_command_line", "cfarm_command_parts") for kind, _, text in floors.files_of(crate) if kind == "src"]
     named = dict(it for text in texts for it in re.findall(r'^(?:pub\(crate\) )?const (\w+): &str = "(\w+)";', text, flags=re.M))
     for text in texts:
         yield from ((named[it], None) for it in re.findall(r"(?:needed|path)\(\s*alloc,\s*([A-Z]+)", text))
