@@ -10,6 +10,12 @@ const ALL_ROOMS_EVERY: u32 = 8;
 /// reaches its quorums before others start ballots. It has no factor in common with the rounds over all rooms.
 const FOLLOWS_EVERY: u32 = 5;
 
+/// How many turns a node may be ahead of the slowest that has still to learn: as many as it has rooms where it has not learned, at
+/// least and at most these. A node that took many turns in one room before others took any would pass each of their ballots.
+const LEAST_AHEAD: u32 = 2;
+
+const MOST_AHEAD: u32 = 64;
+
 /// How far a node is in its rooms, which it goes over in their order, round and round. No contract speaks of it but that the room is
 /// one of them.
 #[derive(Drop)]
@@ -19,6 +25,8 @@ pub(crate) struct Cursor {
     next: u32,
     round: u32,
     learned: u32,
+    /// In how many rooms the node had not learned when the last round ended.
+    open: u32,
     /// Whether a turn of this round brought something new.
     has_moved: bool,
     pub has_all: bool,
@@ -36,6 +44,7 @@ impl Cursor {
             next: 0,
             round: 0,
             learned: 0,
+            open: MOST_AHEAD,
             has_moved: false,
             has_all: false,
         }
@@ -53,9 +62,15 @@ impl Cursor {
         self.has_moved = true;
     }
 
+    /// How many turns the node may be ahead of others.
+    pub(crate) fn most_ahead(&self) -> u64 {
+        u64::from(self.open.max(LEAST_AHEAD).min(MOST_AHEAD))
+    }
+
     /// Ends a round over so many rooms: the node has all where it had learned in each.
     fn end_round(&mut self, rooms: u32) {
         self.has_all = self.learned >= rooms;
+        self.open = rooms.saturating_sub(self.learned);
         self.next = 0;
         self.learned = 0;
         self.has_moved = false;

@@ -2,9 +2,6 @@ use lang_base::NoMemory;
 use std::alloc::Global;
 use std::sync::atomic::{AtomicBool, AtomicU64, Ordering};
 
-/// How many turns a node may be ahead of the slowest that still runs.
-const MOST_AHEAD: u64 = 64;
-
 /// How far one node is: how many turns it has taken, or the greatest number where it takes no more, and whether nobody has to go on for
 /// it, since it has learned in all its rooms or has failed.
 #[derive(Drop)]
@@ -42,13 +39,10 @@ impl Pace {
         })
     }
 
-    /// Whether a node that has taken so many turns has to let others catch up.
-    pub fn is_ahead(&self, turns: u64) -> bool {
-        self.places.iter().any(|other| other
-            .turns
-            .load(Ordering::SeqCst)
-            .saturating_add(MOST_AHEAD)
-            <= turns)
+    /// Whether a node that has taken so many turns, and may be so many ahead, has to let others catch up that have still to learn.
+    pub fn is_ahead(&self, turns: u64, most: u64) -> bool {
+        self.places.iter().any(|other| !other.is_content.load(Ordering::SeqCst)
+            && other.turns.load(Ordering::SeqCst).saturating_add(most) <= turns)
     }
 
     /// Whether no turn is to be taken any more.

@@ -131,7 +131,7 @@ pub(crate) fn take_turn<N: TakesTurns, G: Gate>(
         end(player, pace, has_all);
         return Step::Ended;
     }
-    if pace.is_ahead(player.taken) || player.patience.waits(pace) {
+    if pace.is_ahead(player.taken, player.cursor.most_ahead()) || player.patience.waits(pace) {
         return Step::Waited;
     }
     let Some(room) = next_room(&player.node, &mut player.cursor) else {

@@ -21,12 +21,12 @@ pub(crate) fn no_teams<T: Drop>(alloc: Global, workers: usize) -> Result<Vec<Vec
     Ok(teams)
 }
 
-/// Puts one more behind these, which have room for it: no memory is asked for.
+/// Puts one more behind these, which have capacity for it: no memory is asked for.
 pub fn put<T: Drop>(all: &mut Vec<T>, one: T)
     requires { vec_len all.old < vec_capacity all.old }
     ensures items { all.new.items ≡ all.old.items ++ one ∷ [] }
     ensures len { vec_len all.new ≡ vec_len all.old + 1 }
-    ensures room { vec_capacity all.old ≤ vec_capacity all.new }
+    ensures capacity { vec_capacity all.old ≤ vec_capacity all.new }
 {
     if all.push(one).is_err() {
         unreachable!();
@@ -66,7 +66,7 @@ fn deal_last<N: TakesTurns + Drop>(
     ensures dealt { StaysDealt IsSame (λ x p. (p.node ≡ x) × (p.left ≡ turns)) (length teams.old)
         nodes.old.items (map vec_items teams.old) nodes.new.items (map vec_items teams.new) }
     ensures teams { length teams.new ≡ length teams.old }
-    ensures room { vec_capacity nodes.old ≤ vec_capacity nodes.new }
+    ensures capacity { vec_capacity nodes.old ≤ vec_capacity nodes.new }
     ensures fewer { vec_len nodes.new ≤ vec_len nodes.old }
 {
     let Some(node) = nodes.pop() else {
@@ -95,7 +95,7 @@ pub(crate) fn deal<N: TakesTurns + Drop>(
     requires some { 0 < length teams.old }
     ensures dealt { StaysDealt IsSame (λ x p. (p.node ≡ x) × (p.left ≡ turns)) (length teams.old)
         nodes.old.items (map vec_items teams.old) nodes.new.items (map vec_items teams.new) }
-    ensures room { vec_capacity nodes.old ≤ vec_capacity nodes.new }
+    ensures capacity { vec_capacity nodes.old ≤ vec_capacity nodes.new }
     ensures fewer { vec_len nodes.new ≤ vec_len nodes.old }
 {
     let mut is_dealt = true;
@@ -115,7 +115,7 @@ pub(crate) fn gather<N: TakesTurns + Drop>(
     count: usize,
 ) -> Vec<N>
     requires some { 0 < vec_len teams }
-    requires room { count ≤ vec_capacity nodes }
+    requires capacity { count ≤ vec_capacity nodes }
     requires fewer { vec_len nodes ≤ count }
     ensures same { (xs : List N) → length xs ≡ count
         → AreDealt IsSame (λ x p. p.node ≡ x) (vec_len teams) xs nodes.items (map vec_items teams.items)

@@ -22,7 +22,7 @@ pub enum RunError {
 }
 
 /// Lets each node take at most so many turns, on so many threads: node i on the thread i modulo their number, and no node more than
-/// 64 turns ahead of the slowest that still takes any. It ends where the turns are used, or all nodes that did not fail have learned
+/// 64 turns ahead of the slowest that has still to learn. It ends where the turns are used, or all nodes that did not fail have learned
 /// in all their rooms. The gate is called before and after each turn with the node's number. All nodes come back, in their order.
 pub fn run_threads<N: TakesTurns + Send + Drop, G: Gate + Sync, R: Threads + Wait>(
     rt: &R,

@@ -49,7 +49,7 @@ fn start_last<'s, E, N: TakesTurns + Send + Drop + 's, G: Gate + Sync>(
     gate: &'s G,
 ) -> bool
     requires fit { AllByRecursion (λ v. AllByRecursion (λ p. N.is_fit p.node) v.items) teams.old.items }
-    requires room { vec_len teams.old + vec_len children.old ≤ vec_capacity children.old }
+    requires capacity { vec_len teams.old + vec_len children.old ≤ vec_capacity children.old }
     ensures fit { result ≡ true →
         AllByRecursion (λ v. AllByRecursion (λ p. N.is_fit p.node) v.items) teams.new.items }
     ensures go { AllZip (λ v w. AllZip (λ p q. Goes N.turned N.is_fit p.node p.left q.node q.left) v.items w.items)
@@ -93,7 +93,7 @@ fn start_all<'s, E, N: TakesTurns + Send + Drop + 's, G: Gate + Sync>(
     gate: &'s G,
 )
     requires fit { AllByRecursion (λ v. AllByRecursion (λ p. N.is_fit p.node) v.items) teams.old.items }
-    requires room { vec_len teams.old + vec_len children.old ≤ vec_capacity children.old }
+    requires capacity { vec_len teams.old + vec_len children.old ≤ vec_capacity children.old }
     ensures go { AllZip (λ v w. AllZip (λ p q. Goes N.turned N.is_fit p.node p.left q.node q.left) v.items w.items)
         (with_begun (λ h. h.promise.0.value) teams.old.items children.old.items)
         (with_begun (λ h. h.promise.0.value) teams.new.items children.new.items) }
@@ -115,7 +115,7 @@ fn join_all<N: TakesTurns + Drop, R: Threads>(
     teams: Vec<Vec<Player<N>>>,
     children: Children<N>,
 ) -> Vec<Vec<Player<N>>>
-    requires room { vec_len teams + vec_len children ≤ vec_capacity teams }
+    requires capacity { vec_len teams + vec_len children ≤ vec_capacity teams }
     ensures { AllZip (λ v w. AllZip (λ p q. Goes N.turned N.is_fit p.node p.left q.node q.left) v.items w.items)
         (with_begun (λ h. h.promise.0.value) teams.items children.items) result.items }
 {
@@ -130,7 +130,7 @@ fn join_all<N: TakesTurns + Drop, R: Threads>(
     teams
 }
 
-/// What is done in the scope of the threads, where there is room for as many as there are teams.
+/// What is done in the scope of the threads, with capacity for as many children as there are teams.
 fn run_in<'s, E, N: TakesTurns + Send + Drop + 's, G: Gate + Sync, R: Threads>(
     rt: &R,
     scope: &Scope<'s, E>,
@@ -141,7 +141,7 @@ fn run_in<'s, E, N: TakesTurns + Send + Drop + 's, G: Gate + Sync, R: Threads>(
 ) -> Vec<Vec<Player<N>>>
     requires fit { AllByRecursion (λ v. AllByRecursion (λ p. N.is_fit p.node) v.items) teams.items }
     requires none { children.items ≡ [] }
-    requires room { vec_len teams ≤ vec_capacity children }
+    requires capacity { vec_len teams ≤ vec_capacity children }
     ensures { AllZip (λ v w. AllZip (λ p q. Goes N.turned N.is_fit p.node p.left q.node q.left) v.items w.items)
         teams.items result.items }
 {
@@ -173,7 +173,7 @@ pub(crate) fn run<N: TakesTurns + Send + Drop, G: Gate + Sync, R: Threads + Wait
         move |scope| -> Vec<Vec<Player<N>>>
             requires fit { AllByRecursion (λ v. AllByRecursion (λ p. N.is_fit p.node) v.items) teams.items }
             requires none { children.items ≡ [] }
-            requires room { vec_len teams ≤ vec_capacity children }
+            requires capacity { vec_len teams ≤ vec_capacity children }
             ensures { AllZip (λ v w. AllZip (λ p q. Goes N.turned N.is_fit p.node p.left q.node q.left) v.items w.items)
                 teams.items result.items }
         { run_in(rt, scope, teams, children, pace, gate) },

@@ -10,6 +10,6 @@ loop-preserved g c =
           c.args.nodes.now.items c.loop.nodes.items c.deal_last-is_dealt.new.nodes.items
           (map vec_items c.args.teams.now) (map vec_items c.loop.teams) (map vec_items c.deal_last-is_dealt.new.teams) i.1 i.0 e.dealt,
       e.teams ∙ i.1,
-      omega (arith, i.2, e.room),
+      omega (arith, i.2, e.capacity),
       omega (arith, i.3, e.fewer),
     )

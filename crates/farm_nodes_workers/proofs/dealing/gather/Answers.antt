@@ -37,7 +37,7 @@ loop-number-preserved g c =
     let whole : length new ≡ c.loop-number.teams.len = omega (arith, c.take.auto.teams, c.deref_mut.ensures.len) in
     let back = sym (take_all new (drop (length new) c.loop-number.teams.items) c.loop-number.teams.len whole) in (
       omega (arith, c.put.ensures.len, i.0),
-      omega (arith, c.put.ensures.room, i.1),
+      omega (arith, c.put.ensures.capacity, i.1),
       i.2,
       (λ xs long d. subst₂ (λ h t. AreDealt IsSame (λ x p. p.node ≡ x) w xs h (map vec_items t)) (sym c.put.ensures.items) back
           (gathered_one IsSame (λ x p. p.node ≡ x) w xs here node player at (map vec_items c.loop-number.teams.items) (map vec_items new)

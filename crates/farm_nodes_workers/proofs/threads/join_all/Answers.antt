@@ -6,7 +6,7 @@ use Rattle.farm_nodes_workers.proofs.threads.join_all.Goals as goal
 pub loop-init : goal.loop-init
 loop-init g c = (
   teams_stay g.N.TakesTurns.turned g.N.TakesTurns.is_fit (λ p. p.node) (λ p. p.left) (λ v. v.items) (with_begun (λ h. h.promise.0.value) c.args.teams.items c.args.children.items),
-  c.requires.room,
+  c.requires.capacity,
   omega arith,
 )
 
@@ -20,6 +20,6 @@ loop-preserved g c =
           (one_joins g.N.TakesTurns.turned g.N.TakesTurns.is_fit (λ p. p.node) (λ p. p.left) (λ v. v.items) (λ h. h.promise.0.value)
           c.loop.teams.items c.put.new.all.items c.loop.children.items c.pop.new.self.items c.in-Some.child c.join-team.result
           c.in-Some.ensures.items c.put.ensures.items c.join-team.ensures),
-      omega (arith, i.1, c.put.ensures.len, c.put.ensures.room, c.in-Some.ensures.cases),
+      omega (arith, i.1, c.put.ensures.len, c.put.ensures.capacity, c.in-Some.ensures.cases),
       omega (arith, i.2, c.in-Some.ensures.cases),
     )
