@@ -87,14 +87,14 @@ goes_on [] (o ∷ learned) all = absurd all
 goes_on (f ∷ fs) [] all = absurd all
 goes_on (f ∷ fs) (None ∷ learned) all = absurd all.0
 goes_on (f ∷ fs) (Some four ∷ learned) all =
-    (record { constants = all.0.first; expressions = all.0.second; allocation = all.0.third; order = all.0.fourth }, goes_on fs learned all.1)
+    (record { constants = all.0.constants; expressions = all.0.expressions; allocation = all.0.allocation; order = all.0.order }, goes_on fs learned all.1)
 
 same_ends : (fs : List (Named rtl.FunctionData)) (learned : List (Option FourOffers)) → AllGoOn fs learned → ends_of fs learned ≡ chained.ends_of fs (offers_in learned)
 same_ends [] [] all = refl
 same_ends [] (o ∷ learned) all = absurd all
 same_ends (f ∷ fs) [] all = absurd all
 same_ends (f ∷ fs) (None ∷ learned) all = absurd all.0
-same_ends (f ∷ fs) (Some four ∷ learned) all = ap (λ rest. record { name = f.name; function = four.fourth.output } ∷ rest) (same_ends fs learned all.1)
+same_ends (f ∷ fs) (Some four ∷ learned) all = ap (λ rest. record { name = f.name; function = four.order.output } ∷ rest) (same_ends fs learned all.1)
 
 -- ---- the bundle
 

@@ -13,7 +13,7 @@ use Rattle.farm_nodes_linked.specs.Offered.{linked_offers, AllGoOn}
 
 -- the same four offers
 abbrev pub offers_of : FourOffers → Offers
-offers_of four = record { constants = four.first; expressions = four.second; allocation = four.third; order = four.fourth }
+offers_of four = record { constants = four.constants; expressions = four.expressions; allocation = four.allocation; order = four.order }
 
 -- those of each function of which all four are learned
 abbrev pub offers_in : List (Option FourOffers) → List Offers

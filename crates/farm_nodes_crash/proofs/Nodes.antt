@@ -20,32 +20,32 @@ use Rattle.farm_nodes_acting.specs.declared.stop.Pending.TheVariants.{Act, Offer
 use Rattle.farm_nodes_node.specs.Fours.{Four, words_of}
 use Rattle.farm_nodes_node.specs.Held.{pending_in, IsJournalOf}
 use Rattle.farm_nodes_node.specs.Numbers.{function_of, pass_of}
-use Rattle.farm_nodes_node.specs.Offers.{Constants, Expressions, Allocation, Order, IsConstants, IsExpressions, IsAllocation, IsOrder}
+use Rattle.farm_nodes_node.specs.Offers.{ConstantsOffer, ExpressionsOffer, AllocationOffer, OrderOffer, IsConstants, IsExpressions, IsAllocation, IsOrder}
 use Rattle.farm_nodes_node.specs.Leaves.{left_in, IsPendingIn, MayPend}
 use Rattle.farm_nodes_node.specs.Texts.{pass_texts}
 use Rattle.farm_nodes_node.specs.Which.{Which}
-use Rattle.farm_nodes_node.specs.Which.TheVariants.{First, Second, Third, Fourth}
+use Rattle.farm_nodes_node.specs.Which.TheVariants.{Constants, Expressions, Allocation, Order}
 use Rattle.farm_nodes_node.specs.declared.halted.Halted.{Halted}
 use Rattle.farm_nodes_disks.specs.Journals.{header_of, IsDueToJournal, IsOpened}
 use Rattle.farm_nodes_crash.specs.Left.{IsLeftOf, IsNode, IsWaitingWith, NodeSeats}
 use Rattle.farm_nodes_crash.proofs.Pending.{holds_none, holds_pending, one_at_most, with_or_without, MayWait}
 
 abbrev FarmFour : Type 0
-FarmFour = Four Constants Expressions Allocation Order
+FarmFour = Four ConstantsOffer ExpressionsOffer AllocationOffer OrderOffer
 
 same_some : {A : Type 0} (x : Option A) (a b : A) → x ≡ Some a → x ≡ Some b → a ≡ b
 same_some x a b e f = let same : Some a ≡ Some b = sym e ∙ f in cc
 
 -- what is pending in a room is a step asked of a node of it, or an offer in it
 waits_in : (room : ℕ) (w : Which) (s : FarmFour) (p : Pending) → IsPendingIn IsConstants IsExpressions IsAllocation IsOrder room w s p → MayWait room (words_of s w) p
-waits_in room First s (Act a) h = h
-waits_in room Second s (Act a) h = h
-waits_in room Third s (Act a) h = h
-waits_in room Fourth s (Act a) h = h
-waits_in room First s (Offer r) h = (h.2, h.3)
-waits_in room Second s (Offer r) h = (h.2, h.3)
-waits_in room Third s (Offer r) h = (h.2, h.3)
-waits_in room Fourth s (Offer r) h = (h.2, h.3)
+waits_in room Constants s (Act a) h = h
+waits_in room Expressions s (Act a) h = h
+waits_in room Allocation s (Act a) h = h
+waits_in room Order s (Act a) h = h
+waits_in room Constants s (Offer r) h = (h.2, h.3)
+waits_in room Expressions s (Offer r) h = (h.2, h.3)
+waits_in room Allocation s (Offer r) h = (h.2, h.3)
+waits_in room Order s (Offer r) h = (h.2, h.3)
 
 -- it is one record at most
 one_left : (o : Option FarmFour) (room : ℕ) (p : Option Pending) → ((r : Record) × (left_in o room p ≡ r ∷ [])) ⊎ (left_in o room p ≡ [])

@@ -26,11 +26,11 @@ use Rattle.rooms_seat.specs.Would.{would}
 use Rattle.farm_nodes_node.specs.Fours.{Four, words_of}
 use Rattle.farm_nodes_node.specs.Held.{pending_in}
 use Rattle.farm_nodes_node.specs.Numbers.{function_of, pass_at, pass_of, place_of}
-use Rattle.farm_nodes_node.specs.Offers.{Constants, Expressions, Allocation, Order, IsConstants, IsExpressions, IsAllocation, IsOrder}
+use Rattle.farm_nodes_node.specs.Offers.{ConstantsOffer, ExpressionsOffer, AllocationOffer, OrderOffer, IsConstants, IsExpressions, IsAllocation, IsOrder}
 use Rattle.farm_nodes_node.specs.Leaves.{left_in, IsPendingIn, Leave, MayPend}
 use Rattle.farm_nodes_node.specs.Texts.{IsOwnTextIn, pass_texts}
 use Rattle.farm_nodes_node.specs.Which.{Which}
-use Rattle.farm_nodes_node.specs.Which.TheVariants.{First, Second, Third, Fourth}
+use Rattle.farm_nodes_node.specs.Which.TheVariants.{Constants, Expressions, Allocation, Order}
 use Rattle.farm_nodes_node.specs.declared.halted.Halted.{Halted}
 use Rattle.farm_nodes_offers.specs.Pending.{IsOfferText}
 use Rattle.paxos_core_world.specs.KeptPart.{KeptPart}
@@ -43,7 +43,7 @@ use Rattle.farm_nodes_stored.specs.Read.{HasNoOffer}
 use Rattle.farm_nodes_crash.specs.Left.{IsWaitingWith, NodeSeats}
 
 abbrev FarmFour : Type 0
-FarmFour = Four Constants Expressions Allocation Order
+FarmFour = Four ConstantsOffer ExpressionsOffer AllocationOffer OrderOffer
 
 -- ---- the offers of a pass among records
 
@@ -73,10 +73,10 @@ record IsWritten (which : Which) (entry : Record) (room : ℕ) (text : List ℕ)
   pub of : pass_of room ≡ which
 
 pass_at_place : (which : Which) → pass_at (place_of which) ≡ which
-pass_at_place First = refl
-pass_at_place Second = refl
-pass_at_place Third = refl
-pass_at_place Fourth = refl
+pass_at_place Constants = refl
+pass_at_place Expressions = refl
+pass_at_place Allocation = refl
+pass_at_place Order = refl
 
 written_if : (which : Which) (t : Bool) (a room : ℕ) (b text : List ℕ) → eqb (a % 4) (place_of which) ≡ t
     → ◌≡◌ {A = Option (ℕ × List ℕ)} (cond t (Some (a, b)) None) (Some (room, text)) → IsWritten which (Offered a b) room text
@@ -99,30 +99,30 @@ is_written which (Summary a s p x) room text e = absurd (cc)
 -- ---- texts of offers that their pass accepts
 
 abbrev pub HasText : Which → List ℕ → Type 0
-HasText First text = (x : Constants) × IsConstants text x
-HasText Second text = (x : Expressions) × IsExpressions text x
-HasText Third text = (x : Allocation) × IsAllocation text x
-HasText Fourth text = (x : Order) × IsOrder text x
+HasText Constants text = (x : ConstantsOffer) × IsConstants text x
+HasText Expressions text = (x : ExpressionsOffer) × IsExpressions text x
+HasText Allocation text = (x : AllocationOffer) × IsAllocation text x
+HasText Order text = (x : OrderOffer) × IsOrder text x
 
 -- so it is of each offer among records
 abbrev pub AreOf : List Record → Type 0
 AreOf rs = (k : ℕ) (r : Record) (room : ℕ) (text : List ℕ) → slice_get rs k ≡ Some r → r ≡ Offered room text → HasText (pass_of room) text
 
 own_has : (w : Which) (s : FarmFour) (text : List ℕ) → IsOwnTextIn pass_texts w s text → HasText w text
-own_has First s text h = (h.0, h.2)
-own_has Second s text h = (h.0, h.2)
-own_has Third s text h = (h.0, h.2)
-own_has Fourth s text h = (h.0, h.2)
+own_has Constants s text h = (h.0, h.2)
+own_has Expressions s text h = (h.0, h.2)
+own_has Allocation s text h = (h.0, h.2)
+own_has Order s text h = (h.0, h.2)
 
 text_of_offered : (a b : ℕ) (s t : List ℕ) → Offered a s ≡ Offered b t → (a ≡ b) × (s ≡ t)
 text_of_offered a b s t e = (cc, cc)
 
 pending_has : (room : ℕ) (w : Which) (s : FarmFour) (r : Record) → IsPendingIn IsConstants IsExpressions IsAllocation IsOrder room w s (Offer r)
     → (bytes : List ℕ) × (r ≡ Offered room bytes) × HasText w bytes
-pending_has room First s r h = (h.2, h.3, (h.1, h.4))
-pending_has room Second s r h = (h.2, h.3, (h.1, h.4))
-pending_has room Third s r h = (h.2, h.3, (h.1, h.4))
-pending_has room Fourth s r h = (h.2, h.3, (h.1, h.4))
+pending_has room Constants s r h = (h.2, h.3, (h.1, h.4))
+pending_has room Expressions s r h = (h.2, h.3, (h.1, h.4))
+pending_has room Allocation s r h = (h.2, h.3, (h.1, h.4))
+pending_has room Order s r h = (h.2, h.3, (h.1, h.4))
 
 module _ {P A B C I O : Type 0} (from : language.Ghosts A I) (to : language.Ghosts B O) (by : pass.Ghosts P A B C I O) (which : Which) (rs : List Record)
     (are : AreOf rs) (texts : (text : List ℕ) → HasText which text → (x : Parts I O C) × IsOfferText from to by text x) where
@@ -135,10 +135,10 @@ module _ {P A B C I O : Type 0} (from : language.Ghosts A I) (to : language.Ghos
       h.none x.0 x.1.fits x.1.text
 
 pub no_offer_missing : (rs : List Record) → AreOf rs → HasNoOffer rs → ⊥
-no_offer_missing rs are (inl h) = none_without rtl_language.ghosts rtl_language.ghosts constants.ghosts First rs are (λ text x. x) h
-no_offer_missing rs are (inr (inl h)) = none_without rtl_language.ghosts rtl_language.ghosts expressions.ghosts Second rs are (λ text x. x) h
-no_offer_missing rs are (inr (inr (inl h))) = none_without rtl_language.ghosts ltl_language.ghosts allocation.ghosts Third rs are (λ text x. x) h
-no_offer_missing rs are (inr (inr (inr h))) = none_without ltl_language.ghosts linear_language.ghosts order.ghosts Fourth rs are (λ text x. x) h
+no_offer_missing rs are (inl h) = none_without rtl_language.ghosts rtl_language.ghosts constants.ghosts Constants rs are (λ text x. x) h
+no_offer_missing rs are (inr (inl h)) = none_without rtl_language.ghosts rtl_language.ghosts expressions.ghosts Expressions rs are (λ text x. x) h
+no_offer_missing rs are (inr (inr (inl h))) = none_without rtl_language.ghosts ltl_language.ghosts allocation.ghosts Allocation rs are (λ text x. x) h
+no_offer_missing rs are (inr (inr (inr h))) = none_without ltl_language.ghosts linear_language.ghosts order.ghosts Order rs are (λ text x. x) h
 
 -- ---- the records of a node's journal
 

@@ -21,7 +21,7 @@ use Rattle.rooms_crash.specs.Held.{MayHold}
 use Rattle.rooms_crash.proofs.Resting.{rest_leaves}
 use Rattle.farm_nodes_node.specs.Numbers.{place_of, room_at}
 use Rattle.farm_nodes_node.specs.Which.{Which}
-use Rattle.farm_nodes_node.specs.Which.TheVariants.{First, Second, Third, Fourth}
+use Rattle.farm_nodes_node.specs.Which.TheVariants.{Constants, Expressions, Allocation, Order}
 use Rattle.farm_nodes_node.specs.declared.halted.Halted.{Halted}
 use Rattle.farm_nodes_disks.specs.Journals.{AreOpened}
 use Rattle.farm_nodes_functions.specs.Kept.{kept_of}
@@ -35,10 +35,10 @@ use Rattle.farm_nodes_crash.specs.Stand.{LeftRoomsStand, RoomsStand}
 use Rattle.farm_nodes_crash.proofs.Nodes.{node_holds}
 
 pub place_below : (pass : Which) → place_of pass < 4
-place_below First = omega arith
-place_below Second = omega arith
-place_below Third = omega arith
-place_below Fourth = omega arith
+place_below Constants = omega arith
+place_below Expressions = omega arith
+place_below Allocation = omega arith
+place_below Order = omega arith
 
 -- what crash of a room's nodes leaves is what a run of it leaves
 crash_left : (q : Sizes) (w : World) (parts : List KeptPart) → IsLeftByCrash q w (nodes_of parts) → AreLeft q parts

@@ -6,7 +6,7 @@ use Rattle.durable_pair.specs.Images.{Both}
 use Rattle.paxos_core_world.specs.Quorum.{Sizes}
 use Rattle.acceptor_log.specs.declared.log.Log.{Log}
 use Rattle.farm_nodes_node.specs.Fours.{Four}
-use Rattle.farm_nodes_node.specs.Offers.{Constants, Expressions, Allocation, Order, IsConstants, IsExpressions, IsAllocation, IsOrder}
+use Rattle.farm_nodes_node.specs.Offers.{ConstantsOffer, ExpressionsOffer, AllocationOffer, OrderOffer, IsConstants, IsExpressions, IsAllocation, IsOrder}
 use Rattle.farm_nodes_node.specs.Leaves.{MayPend}
 use Rattle.farm_nodes_node.specs.declared.halted.Halted.{Halted}
 use Rattle.farm_nodes_node.specs.Held.{IsSoundNode}
@@ -14,7 +14,7 @@ use Rattle.farm_nodes_disks.specs.Journals.{header_of}
 
 -- a node's seats in the rooms of all functions, by function
 abbrev pub NodeSeats : Type 0
-NodeSeats = List (Four Constants Expressions Allocation Order)
+NodeSeats = List (Four ConstantsOffer ExpressionsOffer AllocationOffer OrderOffer)
 
 -- where it is stopped, it may have an act pending that it was asked of a node of the room, or its offer
 abbrev pub IsWaitingWith : NodeSeats → Option Halted → Type 0

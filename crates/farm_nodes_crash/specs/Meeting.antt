@@ -4,14 +4,14 @@ use Rattle.paxos_core_world.specs.Quorum.{Sizes}
 use Rattle.rooms_seat.specs.Meeting.{HaveMet}
 use Rattle.rooms_crash.specs.Meetings.{AllMeet, IsSeatOf}
 use Rattle.farm_nodes_node.specs.Fours.{words_of, Four}
-use Rattle.farm_nodes_node.specs.Offers.{Constants, Expressions, Allocation, Order}
+use Rattle.farm_nodes_node.specs.Offers.{ConstantsOffer, ExpressionsOffer, AllocationOffer, OrderOffer}
 use Rattle.farm_nodes_node.specs.Which.{Which}
 use Rattle.farm_nodes_crash.specs.Left.{NodeSeats}
 use Rattle.farm_nodes_crash.specs.Rooms.{RoomsRest}
 
 -- a node's seats in the rooms of one function
 abbrev pub FunctionSeats : Type 0
-FunctionSeats = Four Constants Expressions Allocation Order
+FunctionSeats = Four ConstantsOffer ExpressionsOffer AllocationOffer OrderOffer
 
 module _ (q : Sizes) (functions : ℕ) where
   -- These two nodes meet in each room, which is one for both; the others are as they were.

@@ -55,7 +55,7 @@ pub fn open_journals<P: Pair + Drop>(
         match open_pair(alloc, pair, &header) {
             Ok(found) => match opened.push(found) {
                 Ok(()) => {}
-                // There is room for all of them.
+                // There is capacity for all of them.
                 Err(_) => unreachable!(),
             },
             Err((pair, fault)) => {

@@ -14,7 +14,7 @@ use Rattle.rooms_function.specs.declared.opening.FunctionOffers.{FunctionOffers}
 use Rattle.rooms_function.specs.declared.seat.FunctionSeat.{FunctionSeat}
 use Rattle.farm_nodes_function_rooms.specs.NumberedSeat.{NumberedSeat}
 use Rattle.farm_nodes_function_rooms.specs.Numbers.{room_at}
-use Rattle.farm_nodes_function_rooms.specs.Which.TheVariants.{First, Second, Third, Fourth}
+use Rattle.farm_nodes_function_rooms.specs.Which.TheVariants.{Constants, Expressions, Allocation, Order}
 use Rattle.farm_nodes_lists.specs.Rows.{offers_of, rows_of}
 use Rattle.farm_nodes_function_rooms.specs.Kept.{kept_of, parts_of, AreSettled}
 use Rattle.farm_nodes_function_rooms.specs.Numbered.{AreOfOneFunction, HaveOneClaim, IsOpenedRoom}
@@ -72,10 +72,10 @@ module _ {H : Type 0} {h : naming.Ghosts H} where
       → length kept ≡ q.nodes → IsOpenFunction q kept f offers nodes
   open_function_is number q kept f offers parts here seats nodes ep are is en one settled size =
       record {
-        first = numbered_room _ q (kept_of kept (room_at f First)) (kept_in 0 parts) (offers_of (rows_of offers.first.items) f) here.first.items (λ s. s.first) nodes seats (ap (λ ps. kept_in 0 ps) ep ∙ kept_first kept f) are.first en one is.first;
-        second = numbered_room _ q (kept_of kept (room_at f Second)) (kept_in 1 parts) (offers_of (rows_of offers.second.items) f) here.second.items (λ s. s.second) nodes seats (ap (λ ps. kept_in 1 ps) ep ∙ kept_second kept f) are.second en one is.second;
-        third = numbered_room _ q (kept_of kept (room_at f Third)) (kept_in 2 parts) (offers_of (rows_of offers.third.items) f) here.third.items (λ s. s.third) nodes seats (ap (λ ps. kept_in 2 ps) ep ∙ kept_third kept f) are.third en one is.third;
-        fourth = numbered_room _ q (kept_of kept (room_at f Fourth)) (kept_in 3 parts) (offers_of (rows_of offers.fourth.items) f) here.fourth.items (λ s. s.fourth) nodes seats (ap (λ ps. kept_in 3 ps) ep ∙ kept_fourth kept f) are.fourth en one is.fourth;
+        constants = numbered_room _ q (kept_of kept (room_at f Constants)) (kept_in 0 parts) (offers_of (rows_of offers.constants.items) f) here.first.items (λ s. s.first) nodes seats (ap (λ ps. kept_in 0 ps) ep ∙ kept_first kept f) are.constants en one is.first;
+        expressions = numbered_room _ q (kept_of kept (room_at f Expressions)) (kept_in 1 parts) (offers_of (rows_of offers.expressions.items) f) here.second.items (λ s. s.second) nodes seats (ap (λ ps. kept_in 1 ps) ep ∙ kept_second kept f) are.expressions en one is.second;
+        allocation = numbered_room _ q (kept_of kept (room_at f Allocation)) (kept_in 2 parts) (offers_of (rows_of offers.allocation.items) f) here.third.items (λ s. s.third) nodes seats (ap (λ ps. kept_in 2 ps) ep ∙ kept_third kept f) are.allocation en one is.third;
+        order = numbered_room _ q (kept_of kept (room_at f Order)) (kept_in 3 parts) (offers_of (rows_of offers.order.items) f) here.fourth.items (λ s. s.fourth) nodes seats (ap (λ ps. kept_in 3 ps) ep ∙ kept_fourth kept f) are.order en one is.fourth;
         count = sym (length-map nodes (λ n. n.seat)) ∙ (ap length en ∙ (all_count number q parts here seats is ∙ sym size));
         settled = settled;
       }

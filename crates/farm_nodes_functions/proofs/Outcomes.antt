@@ -12,7 +12,7 @@ use Rattle.rooms_function.specs.declared.opening.FunctionOffers.{FunctionOffers}
 use Rattle.rooms_function.specs.Opened.{kept_in}
 use Rattle.rooms_function.specs.Opened as by_pass
 use Rattle.farm_nodes_function_rooms.specs.Which.{Which}
-use Rattle.farm_nodes_function_rooms.specs.Which.TheVariants.{First, Second, Third, Fourth}
+use Rattle.farm_nodes_function_rooms.specs.Which.TheVariants.{Constants, Expressions, Allocation, Order}
 use Rattle.farm_nodes_function_rooms.specs.Numbers.{function_of, room_at}
 use Rattle.farm_nodes_function_rooms.specs.Kept.{four_kept, kept_of, parts_of, AreSettled, AreSettledBefore, IsOfferedIn, IsSettledIn}
 use Rattle.farm_nodes_function_rooms.specs.declared.fault.RoomFault.{RoomFault}
@@ -22,35 +22,35 @@ use Rattle.farm_nodes_function_rooms.proofs.OneRoom.{map-map}
 use Rattle.farm_nodes_functions.specs.Function.{room_fault, IsTold}
 
 of_function : (f : ℕ) (pass : Which) (room : ℕ) → room ≡ room_at f pass → function_of room ≡ f
-of_function f First room is = omega (arith, is)
-of_function f Second room is = omega (arith, is)
-of_function f Third room is = omega (arith, is)
-of_function f Fourth room is = omega (arith, is)
+of_function f Constants room is = omega (arith, is)
+of_function f Expressions room is = omega (arith, is)
+of_function f Allocation room is = omega (arith, is)
+of_function f Order room is = omega (arith, is)
 
 module _ (q : Sizes) (nodes : List (Vec KeptPart)) (f : ℕ) (room : ℕ) where
-  none_before : room ≡ room_at f First → AreSettledBefore q nodes f room
-  none_before is First lt = absurd (omega (arith, is, lt))
-  none_before is Second lt = absurd (omega (arith, is, lt))
-  none_before is Third lt = absurd (omega (arith, is, lt))
-  none_before is Fourth lt = absurd (omega (arith, is, lt))
+  none_before : room ≡ room_at f Constants → AreSettledBefore q nodes f room
+  none_before is Constants lt = absurd (omega (arith, is, lt))
+  none_before is Expressions lt = absurd (omega (arith, is, lt))
+  none_before is Allocation lt = absurd (omega (arith, is, lt))
+  none_before is Order lt = absurd (omega (arith, is, lt))
 
-  one_before : IsSettledIn q nodes (room_at f First) → room ≡ room_at f Second → AreSettledBefore q nodes f room
-  one_before a is First lt = a
-  one_before a is Second lt = absurd (omega (arith, is, lt))
-  one_before a is Third lt = absurd (omega (arith, is, lt))
-  one_before a is Fourth lt = absurd (omega (arith, is, lt))
+  one_before : IsSettledIn q nodes (room_at f Constants) → room ≡ room_at f Expressions → AreSettledBefore q nodes f room
+  one_before a is Constants lt = a
+  one_before a is Expressions lt = absurd (omega (arith, is, lt))
+  one_before a is Allocation lt = absurd (omega (arith, is, lt))
+  one_before a is Order lt = absurd (omega (arith, is, lt))
 
-  two_before : IsSettledIn q nodes (room_at f First) → IsSettledIn q nodes (room_at f Second) → room ≡ room_at f Third → AreSettledBefore q nodes f room
-  two_before a b is First lt = a
-  two_before a b is Second lt = b
-  two_before a b is Third lt = absurd (omega (arith, is, lt))
-  two_before a b is Fourth lt = absurd (omega (arith, is, lt))
+  two_before : IsSettledIn q nodes (room_at f Constants) → IsSettledIn q nodes (room_at f Expressions) → room ≡ room_at f Allocation → AreSettledBefore q nodes f room
+  two_before a b is Constants lt = a
+  two_before a b is Expressions lt = b
+  two_before a b is Allocation lt = absurd (omega (arith, is, lt))
+  two_before a b is Order lt = absurd (omega (arith, is, lt))
 
-  three_before : IsSettledIn q nodes (room_at f First) → IsSettledIn q nodes (room_at f Second) → IsSettledIn q nodes (room_at f Third) → room ≡ room_at f Fourth → AreSettledBefore q nodes f room
-  three_before a b c is First lt = a
-  three_before a b c is Second lt = b
-  three_before a b c is Third lt = c
-  three_before a b c is Fourth lt = absurd (omega (arith, is, lt))
+  three_before : IsSettledIn q nodes (room_at f Constants) → IsSettledIn q nodes (room_at f Expressions) → IsSettledIn q nodes (room_at f Allocation) → room ≡ room_at f Order → AreSettledBefore q nodes f room
+  three_before a b c is Constants lt = a
+  three_before a b c is Expressions lt = b
+  three_before a b c is Allocation lt = c
+  three_before a b c is Order lt = absurd (omega (arith, is, lt))
 
 not_unsettled : (fault : RoomFault) → (fault ≡ NoMemory) ⊎ (fault ≡ Spent) → fault ≡ Unsettled → ⊥
 not_unsettled fault (inl a) e = cc
@@ -61,11 +61,11 @@ not_refused fault (inl a) e = cc
 not_refused fault (inr a) e = cc
 
 module _ (q : Sizes) (nodes : List (Vec KeptPart)) (f : ℕ) where
-  pub all_settled : IsSettledIn q nodes (room_at f First) → IsSettledIn q nodes (room_at f Second) → IsSettledIn q nodes (room_at f Third) → IsSettledIn q nodes (room_at f Fourth) → AreSettled q nodes f
-  all_settled a b c d First = a
-  all_settled a b c d Second = b
-  all_settled a b c d Third = c
-  all_settled a b c d Fourth = d
+  pub all_settled : IsSettledIn q nodes (room_at f Constants) → IsSettledIn q nodes (room_at f Expressions) → IsSettledIn q nodes (room_at f Allocation) → IsSettledIn q nodes (room_at f Order) → AreSettled q nodes f
+  all_settled a b c d Constants = a
+  all_settled a b c d Expressions = b
+  all_settled a b c d Allocation = c
+  all_settled a b c d Order = d
 
   -- the room of a pass is told
   told : (pass : Which) (room : ℕ) (fault : RoomFault) → AreSettledBefore q nodes f room → room ≡ room_at f pass → (fault ≡ Unsettled → ¬ IsSettledIn q nodes (room_at f pass)) → (fault ≡ CellRefused → IsOfferedIn nodes (room_at f pass)) → IsTold q nodes f room fault
@@ -77,17 +77,17 @@ module _ (q : Sizes) (nodes : List (Vec KeptPart)) (f : ℕ) where
   }
 
   module _ (room : ℕ) (fault : RoomFault) where
-    pub told_first : room ≡ room_at f First → (fault ≡ Unsettled → ¬ IsSettledIn q nodes (room_at f First)) → (fault ≡ CellRefused → IsOfferedIn nodes (room_at f First)) → IsTold q nodes f room fault
-    told_first is = told First room fault (none_before q nodes f room is) is
+    pub told_first : room ≡ room_at f Constants → (fault ≡ Unsettled → ¬ IsSettledIn q nodes (room_at f Constants)) → (fault ≡ CellRefused → IsOfferedIn nodes (room_at f Constants)) → IsTold q nodes f room fault
+    told_first is = told Constants room fault (none_before q nodes f room is) is
 
-    pub told_second : IsSettledIn q nodes (room_at f First) → room ≡ room_at f Second → (fault ≡ Unsettled → ¬ IsSettledIn q nodes (room_at f Second)) → (fault ≡ CellRefused → IsOfferedIn nodes (room_at f Second)) → IsTold q nodes f room fault
-    told_second a is = told Second room fault (one_before q nodes f room a is) is
+    pub told_second : IsSettledIn q nodes (room_at f Constants) → room ≡ room_at f Expressions → (fault ≡ Unsettled → ¬ IsSettledIn q nodes (room_at f Expressions)) → (fault ≡ CellRefused → IsOfferedIn nodes (room_at f Expressions)) → IsTold q nodes f room fault
+    told_second a is = told Expressions room fault (one_before q nodes f room a is) is
 
-    pub told_third : IsSettledIn q nodes (room_at f First) → IsSettledIn q nodes (room_at f Second) → room ≡ room_at f Third → (fault ≡ Unsettled → ¬ IsSettledIn q nodes (room_at f Third)) → (fault ≡ CellRefused → IsOfferedIn nodes (room_at f Third)) → IsTold q nodes f room fault
-    told_third a b is = told Third room fault (two_before q nodes f room a b is) is
+    pub told_third : IsSettledIn q nodes (room_at f Constants) → IsSettledIn q nodes (room_at f Expressions) → room ≡ room_at f Allocation → (fault ≡ Unsettled → ¬ IsSettledIn q nodes (room_at f Allocation)) → (fault ≡ CellRefused → IsOfferedIn nodes (room_at f Allocation)) → IsTold q nodes f room fault
+    told_third a b is = told Allocation room fault (two_before q nodes f room a b is) is
 
-    pub told_fourth : IsSettledIn q nodes (room_at f First) → IsSettledIn q nodes (room_at f Second) → IsSettledIn q nodes (room_at f Third) → room ≡ room_at f Fourth → (fault ≡ Unsettled → ¬ IsSettledIn q nodes (room_at f Fourth)) → (fault ≡ CellRefused → IsOfferedIn nodes (room_at f Fourth)) → IsTold q nodes f room fault
-    told_fourth a b c is = told Fourth room fault (three_before q nodes f room a b c is) is
+    pub told_fourth : IsSettledIn q nodes (room_at f Constants) → IsSettledIn q nodes (room_at f Expressions) → IsSettledIn q nodes (room_at f Allocation) → room ≡ room_at f Order → (fault ≡ Unsettled → ¬ IsSettledIn q nodes (room_at f Order)) → (fault ≡ CellRefused → IsOfferedIn nodes (room_at f Order)) → IsTold q nodes f room fault
+    told_fourth a b c is = told Order room fault (three_before q nodes f room a b c is) is
 
     -- or there is no memory or no number for them, before a room is told
     pub told_none : room ≡ 4 * f → (fault ≡ NoMemory) ⊎ (fault ≡ Spent) → IsTold q nodes f room fault
@@ -97,18 +97,18 @@ module _ (q : Sizes) (nodes : List (Vec KeptPart)) (f : ℕ) where
 
 -- what was kept in the room of a pass
 module _ (nodes : List (Vec KeptPart)) (f : ℕ) where
-  pub kept_first : kept_in 0 (parts_of nodes f) ≡ kept_of nodes (room_at f First)
+  pub kept_first : kept_in 0 (parts_of nodes f) ≡ kept_of nodes (room_at f Constants)
   kept_first =
-      let same : 4 * f ≡ room_at f First = omega arith in
+      let same : 4 * f ≡ room_at f Constants = omega arith in
       map-map (λ (parts : List KeptPart). nodes_of parts 0) (λ (node : Vec KeptPart). four_kept node.items f) nodes ∙ ap (λ (m : ℕ). kept_of nodes m) same
 
-  pub kept_second : kept_in 1 (parts_of nodes f) ≡ kept_of nodes (room_at f Second)
+  pub kept_second : kept_in 1 (parts_of nodes f) ≡ kept_of nodes (room_at f Expressions)
   kept_second = map-map (λ (parts : List KeptPart). nodes_of parts 1) (λ (node : Vec KeptPart). four_kept node.items f) nodes
 
-  pub kept_third : kept_in 2 (parts_of nodes f) ≡ kept_of nodes (room_at f Third)
+  pub kept_third : kept_in 2 (parts_of nodes f) ≡ kept_of nodes (room_at f Allocation)
   kept_third = map-map (λ (parts : List KeptPart). nodes_of parts 2) (λ (node : Vec KeptPart). four_kept node.items f) nodes
 
-  pub kept_fourth : kept_in 3 (parts_of nodes f) ≡ kept_of nodes (room_at f Fourth)
+  pub kept_fourth : kept_in 3 (parts_of nodes f) ≡ kept_of nodes (room_at f Order)
   kept_fourth = map-map (λ (parts : List KeptPart). nodes_of parts 3) (λ (node : Vec KeptPart). four_kept node.items f) nodes
 
   settled_in : (q : Sizes) (p : ℕ) (room : ℕ) → kept_in p (parts_of nodes f) ≡ kept_of nodes room → by_pass.IsSettledIn q (parts_of nodes f) p → IsSettledIn q nodes room
@@ -119,12 +119,12 @@ module _ (nodes : List (Vec KeptPart)) (f : ℕ) where
 
   pub settled_all : (q : Sizes) → by_pass.AreSettled q (parts_of nodes f) → AreSettled q nodes f
   settled_all q s =
-      all_settled q nodes f (settled_in q 0 (room_at f First) kept_first (s 0 (omega arith))) (settled_in q 1 (room_at f Second) kept_second (s 1 (omega arith)))
-      (settled_in q 2 (room_at f Third) kept_third (s 2 (omega arith))) (settled_in q 3 (room_at f Fourth) kept_fourth (s 3 (omega arith)))
+      all_settled q nodes f (settled_in q 0 (room_at f Constants) kept_first (s 0 (omega arith))) (settled_in q 1 (room_at f Expressions) kept_second (s 1 (omega arith)))
+      (settled_in q 2 (room_at f Allocation) kept_third (s 2 (omega arith))) (settled_in q 3 (room_at f Order) kept_fourth (s 3 (omega arith)))
 
   module _ (q : Sizes) (here : FunctionOffers) (room : ℕ) (fault : RoomFault) (why : RoomError) (are : fault ≡ room_fault why)
-      (o1 : AreOffersOf (kept_of nodes (room_at f First)) here.first.items) (o2 : AreOffersOf (kept_of nodes (room_at f Second)) here.second.items)
-      (o3 : AreOffersOf (kept_of nodes (room_at f Third)) here.third.items) (o4 : AreOffersOf (kept_of nodes (room_at f Fourth)) here.fourth.items) where
+      (o1 : AreOffersOf (kept_of nodes (room_at f Constants)) here.first.items) (o2 : AreOffersOf (kept_of nodes (room_at f Expressions)) here.second.items)
+      (o3 : AreOffersOf (kept_of nodes (room_at f Allocation)) here.third.items) (o4 : AreOffersOf (kept_of nodes (room_at f Order)) here.fourth.items) where
     unsettled_is : (why : RoomError) → room_fault why ≡ Unsettled → why ≡ error.Unsettled
     unsettled_is error.NoMemory e = absurd (cc)
     unsettled_is error.Unsettled e = refl
@@ -139,20 +139,20 @@ module _ (nodes : List (Vec KeptPart)) (f : ℕ) where
     told_pass zero is at = absurd (let some : 0 < 0 = is.some in omega arith)
     told_pass (suc zero) is at =
         told_first q nodes f room fault (omega (arith, at))
-        (λ e s. is.here (unsettled_is why (sym are ∙ e)) 0 refl (settled_back q 0 (room_at f First) kept_first s))
-        (λ e. who_offered (kept_of nodes (room_at f First)) here.first.items o1 (is.refused (refused_is why (sym are ∙ e))))
+        (λ e s. is.here (unsettled_is why (sym are ∙ e)) 0 refl (settled_back q 0 (room_at f Constants) kept_first s))
+        (λ e. who_offered (kept_of nodes (room_at f Constants)) here.first.items o1 (is.refused (refused_is why (sym are ∙ e))))
     told_pass (suc (suc zero)) is at =
-        told_second q nodes f room fault (settled_in q 0 (room_at f First) kept_first (is.before 0 (omega arith))) (omega (arith, at))
-        (λ e s. is.here (unsettled_is why (sym are ∙ e)) 1 refl (settled_back q 1 (room_at f Second) kept_second s))
-        (λ e. who_offered (kept_of nodes (room_at f Second)) here.second.items o2 (is.refused (refused_is why (sym are ∙ e))))
+        told_second q nodes f room fault (settled_in q 0 (room_at f Constants) kept_first (is.before 0 (omega arith))) (omega (arith, at))
+        (λ e s. is.here (unsettled_is why (sym are ∙ e)) 1 refl (settled_back q 1 (room_at f Expressions) kept_second s))
+        (λ e. who_offered (kept_of nodes (room_at f Expressions)) here.second.items o2 (is.refused (refused_is why (sym are ∙ e))))
     told_pass (suc (suc (suc zero))) is at =
-        told_third q nodes f room fault (settled_in q 0 (room_at f First) kept_first (is.before 0 (omega arith)))
-        (settled_in q 1 (room_at f Second) kept_second (is.before 1 (omega arith))) (omega (arith, at))
-        (λ e s. is.here (unsettled_is why (sym are ∙ e)) 2 refl (settled_back q 2 (room_at f Third) kept_third s))
-        (λ e. who_offered (kept_of nodes (room_at f Third)) here.third.items o3 (is.refused (refused_is why (sym are ∙ e))))
+        told_third q nodes f room fault (settled_in q 0 (room_at f Constants) kept_first (is.before 0 (omega arith)))
+        (settled_in q 1 (room_at f Expressions) kept_second (is.before 1 (omega arith))) (omega (arith, at))
+        (λ e s. is.here (unsettled_is why (sym are ∙ e)) 2 refl (settled_back q 2 (room_at f Allocation) kept_third s))
+        (λ e. who_offered (kept_of nodes (room_at f Allocation)) here.third.items o3 (is.refused (refused_is why (sym are ∙ e))))
     told_pass (suc (suc (suc (suc zero)))) is at =
-        told_fourth q nodes f room fault (settled_in q 0 (room_at f First) kept_first (is.before 0 (omega arith)))
-        (settled_in q 1 (room_at f Second) kept_second (is.before 1 (omega arith))) (settled_in q 2 (room_at f Third) kept_third (is.before 2 (omega arith))) (omega (arith, at))
-        (λ e s. is.here (unsettled_is why (sym are ∙ e)) 3 refl (settled_back q 3 (room_at f Fourth) kept_fourth s))
-        (λ e. who_offered (kept_of nodes (room_at f Fourth)) here.fourth.items o4 (is.refused (refused_is why (sym are ∙ e))))
+        told_fourth q nodes f room fault (settled_in q 0 (room_at f Constants) kept_first (is.before 0 (omega arith)))
+        (settled_in q 1 (room_at f Expressions) kept_second (is.before 1 (omega arith))) (settled_in q 2 (room_at f Allocation) kept_third (is.before 2 (omega arith))) (omega (arith, at))
+        (λ e s. is.here (unsettled_is why (sym are ∙ e)) 3 refl (settled_back q 3 (room_at f Order) kept_fourth s))
+        (λ e. who_offered (kept_of nodes (room_at f Order)) here.fourth.items o4 (is.refused (refused_is why (sym are ∙ e))))
     told_pass (suc (suc (suc (suc (suc n))))) is at = absurd (let most : suc (suc (suc (suc (suc n)))) ≤ 4 = is.most in omega arith)

@@ -11,7 +11,7 @@ use Rattle.rooms.specs.SeatValue.{SeatValue}
 use Rattle.farm_nodes_function_rooms.specs.Numbers.{function_of, room_at}
 use Rattle.farm_nodes_function_rooms.specs.NumberedSeat.{NumberedSeat}
 use Rattle.farm_nodes_function_rooms.specs.Which.{Which}
-use Rattle.farm_nodes_function_rooms.specs.Which.TheVariants.{First, Second, Third, Fourth}
+use Rattle.farm_nodes_function_rooms.specs.Which.TheVariants.{Constants, Expressions, Allocation, Order}
 use Rattle.farm_nodes_lists.specs.Rows.{column, grown, offers_of, rows_of, AreForOthers}
 use Rattle.farm_nodes_lists.proofs.Columns.{column_front, column_last, grown_long}
 use Rattle.farm_nodes_function_rooms.specs.Kept.{kept_of, AreSettled, AreSettledBefore, IsSettledIn}
@@ -30,20 +30,20 @@ left_next n given left rest are others f above = others f (λ e. omega (arith, e
 
 -- so they are of all passes
 pub record AllLeft (n : ℕ) (given left : Offered) : Type 0 where
-  pub first : AreLeft n (rows_of given.first.items) (rows_of left.first.items)
-  pub second : AreLeft n (rows_of given.second.items) (rows_of left.second.items)
-  pub third : AreLeft n (rows_of given.third.items) (rows_of left.third.items)
-  pub fourth : AreLeft n (rows_of given.fourth.items) (rows_of left.fourth.items)
+  pub constants : AreLeft n (rows_of given.constants.items) (rows_of left.constants.items)
+  pub expressions : AreLeft n (rows_of given.expressions.items) (rows_of left.expressions.items)
+  pub allocation : AreLeft n (rows_of given.allocation.items) (rows_of left.allocation.items)
+  pub order : AreLeft n (rows_of given.order.items) (rows_of left.order.items)
 
 pub none_taken : (given : Offered) → AllLeft 0 given given
-none_taken given = record { first = λ f above. refl; second = λ f above. refl; third = λ f above. refl; fourth = λ f above. refl }
+none_taken given = record { constants = λ f above. refl; expressions = λ f above. refl; allocation = λ f above. refl; order = λ f above. refl }
 
 pub all_left_next : (n : ℕ) (given left rest : Offered) → AllLeft n given left → AreTaken n left rest → AllLeft (n + 1) given rest
 all_left_next n given left rest are taken = record {
-  first = left_next n (rows_of given.first.items) (rows_of left.first.items) (rows_of rest.first.items) are.first taken.first;
-  second = left_next n (rows_of given.second.items) (rows_of left.second.items) (rows_of rest.second.items) are.second taken.second;
-  third = left_next n (rows_of given.third.items) (rows_of left.third.items) (rows_of rest.third.items) are.third taken.third;
-  fourth = left_next n (rows_of given.fourth.items) (rows_of left.fourth.items) (rows_of rest.fourth.items) are.fourth taken.fourth;
+  constants = left_next n (rows_of given.constants.items) (rows_of left.constants.items) (rows_of rest.constants.items) are.constants taken.constants;
+  expressions = left_next n (rows_of given.expressions.items) (rows_of left.expressions.items) (rows_of rest.expressions.items) are.expressions taken.expressions;
+  allocation = left_next n (rows_of given.allocation.items) (rows_of left.allocation.items) (rows_of rest.allocation.items) are.allocation taken.allocation;
+  order = left_next n (rows_of given.order.items) (rows_of left.order.items) (rows_of rest.order.items) are.order taken.order;
 }
 
 -- those for the next function are offers of the room
@@ -85,10 +85,10 @@ module _ (q : Sizes) (kept : List (Vec KeptPart)) where
 
   -- the pass of a room has a place, by which the room is that of its function
   of_place : (m : ℕ) (k : ℕ) → m % 4 ≡ k → k < 4 → (pass : Which) × (m ≡ room_at (m / 4) pass)
-  of_place m zero is low = (First, omega (arith, is))
-  of_place m (suc zero) is low = (Second, omega (arith, is))
-  of_place m (suc (suc zero)) is low = (Third, omega (arith, is))
-  of_place m (suc (suc (suc zero))) is low = (Fourth, omega (arith, is))
+  of_place m zero is low = (Constants, omega (arith, is))
+  of_place m (suc zero) is low = (Expressions, omega (arith, is))
+  of_place m (suc (suc zero)) is low = (Allocation, omega (arith, is))
+  of_place m (suc (suc (suc zero))) is low = (Order, omega (arith, is))
   of_place m (suc (suc (suc (suc k)))) is low = absurd (omega (arith, low))
 
   pub before_room : (n room : ℕ) → AreSettledSoFar n → function_of room ≡ n → AreSettledBefore q kept n room → IsSettledBefore q kept room
@@ -122,19 +122,19 @@ module _ (q : Sizes) (kept : List (Vec KeptPart)) where
 module _ {H : Type 0} {h : naming.Ghosts H} where
   pub record AreOpen (q : Sizes) (kept : List (Vec KeptPart)) (n : ℕ) (given : Offered) (rows : List (List (NumberedSeat H h))) : Type 0 where
     pub long : All (λ row. length row ≡ n) rows
-    pub first : AreOpenedIn q kept First n (rows_of given.first.items) (λ (s : NumberedSeat H h). (s.seat.first, s.claim)) rows
-    pub second : AreOpenedIn q kept Second n (rows_of given.second.items) (λ (s : NumberedSeat H h). (s.seat.second, s.claim)) rows
-    pub third : AreOpenedIn q kept Third n (rows_of given.third.items) (λ (s : NumberedSeat H h). (s.seat.third, s.claim)) rows
-    pub fourth : AreOpenedIn q kept Fourth n (rows_of given.fourth.items) (λ (s : NumberedSeat H h). (s.seat.fourth, s.claim)) rows
+    pub constants : AreOpenedIn q kept Constants n (rows_of given.constants.items) (λ (s : NumberedSeat H h). (s.seat.first, s.claim)) rows
+    pub expressions : AreOpenedIn q kept Expressions n (rows_of given.expressions.items) (λ (s : NumberedSeat H h). (s.seat.second, s.claim)) rows
+    pub allocation : AreOpenedIn q kept Allocation n (rows_of given.allocation.items) (λ (s : NumberedSeat H h). (s.seat.third, s.claim)) rows
+    pub order : AreOpenedIn q kept Order n (rows_of given.order.items) (λ (s : NumberedSeat H h). (s.seat.fourth, s.claim)) rows
     pub settled : AreSettledSoFar q kept n
 
   pub none_open : (q : Sizes) (kept : List (Vec KeptPart)) (given : Offered) (rows : List (List (NumberedSeat H h))) → All (λ row. length row ≡ 0) rows → AreOpen q kept 0 given rows
   none_open q kept given rows none = record {
     long = none;
-    first = λ f low. absurd (omega (arith, low));
-    second = λ f low. absurd (omega (arith, low));
-    third = λ f low. absurd (omega (arith, low));
-    fourth = λ f low. absurd (omega (arith, low));
+    constants = λ f low. absurd (omega (arith, low));
+    expressions = λ f low. absurd (omega (arith, low));
+    allocation = λ f low. absurd (omega (arith, low));
+    order = λ f low. absurd (omega (arith, low));
     settled = λ f low. absurd (omega (arith, low));
   }
 
@@ -143,17 +143,17 @@ module _ {H : Type 0} {h : naming.Ghosts H} where
       let same : length seats ≡ length rows = now.count ∙ sym count in
       record {
         long = subst (λ (m : List (List (NumberedSeat H h))). All (λ row. length row ≡ n + 1) m) (sym is) (grown_long n rows seats same before.long);
-        first =
-            opened_next q kept First (rows_of given.first.items) (λ (s : NumberedSeat H h). (s.seat.first, s.claim)) n (rows_of left.first.items) rows more seats
-            same before.long is left_are.first now.first before.first;
-        second =
-            opened_next q kept Second (rows_of given.second.items) (λ (s : NumberedSeat H h). (s.seat.second, s.claim)) n (rows_of left.second.items) rows more seats
-            same before.long is left_are.second now.second before.second;
-        third =
-            opened_next q kept Third (rows_of given.third.items) (λ (s : NumberedSeat H h). (s.seat.third, s.claim)) n (rows_of left.third.items) rows more seats
-            same before.long is left_are.third now.third before.third;
-        fourth =
-            opened_next q kept Fourth (rows_of given.fourth.items) (λ (s : NumberedSeat H h). (s.seat.fourth, s.claim)) n (rows_of left.fourth.items) rows more seats
-            same before.long is left_are.fourth now.fourth before.fourth;
+        constants =
+            opened_next q kept Constants (rows_of given.constants.items) (λ (s : NumberedSeat H h). (s.seat.first, s.claim)) n (rows_of left.constants.items) rows more seats
+            same before.long is left_are.constants now.constants before.constants;
+        expressions =
+            opened_next q kept Expressions (rows_of given.expressions.items) (λ (s : NumberedSeat H h). (s.seat.second, s.claim)) n (rows_of left.expressions.items) rows more seats
+            same before.long is left_are.expressions now.expressions before.expressions;
+        allocation =
+            opened_next q kept Allocation (rows_of given.allocation.items) (λ (s : NumberedSeat H h). (s.seat.third, s.claim)) n (rows_of left.allocation.items) rows more seats
+            same before.long is left_are.allocation now.allocation before.allocation;
+        order =
+            opened_next q kept Order (rows_of given.order.items) (λ (s : NumberedSeat H h). (s.seat.fourth, s.claim)) n (rows_of left.order.items) rows more seats
+            same before.long is left_are.order now.order before.order;
         settled = settled_next q kept n before.settled now.settled;
       }

@@ -41,14 +41,14 @@ pub(crate) fn open_function<H: Naming>(
 ) -> Result<Vec<NumberedSeat<H>>, Unopened>
     requires number { function < 16384 }
     requires size { length kept.now ≡ quorums.nodes }
-    requires offers1 { AreOffersOf (kept_of kept.now (room_at function which.First))
-        (offers_of (rows_of offers.old.first.items) function) }
-    requires offers2 { AreOffersOf (kept_of kept.now (room_at function which.Second))
-        (offers_of (rows_of offers.old.second.items) function) }
-    requires offers3 { AreOffersOf (kept_of kept.now (room_at function which.Third))
-        (offers_of (rows_of offers.old.third.items) function) }
-    requires offers4 { AreOffersOf (kept_of kept.now (room_at function which.Fourth))
-        (offers_of (rows_of offers.old.fourth.items) function) }
+    requires offers1 { AreOffersOf (kept_of kept.now (room_at function which.Constants))
+        (offers_of (rows_of offers.old.constants.items) function) }
+    requires offers2 { AreOffersOf (kept_of kept.now (room_at function which.Expressions))
+        (offers_of (rows_of offers.old.expressions.items) function) }
+    requires offers3 { AreOffersOf (kept_of kept.now (room_at function which.Allocation))
+        (offers_of (rows_of offers.old.allocation.items) function) }
+    requires offers4 { AreOffersOf (kept_of kept.now (room_at function which.Order))
+        (offers_of (rows_of offers.old.order.items) function) }
     ensures opened { IfOk result (λ nodes. IsOpenFunction quorums kept.now function offers.old nodes.items) }
     ensures others { OnOk result (AreTaken function offers.old offers.new) }
     ensures told { IfErr result (λ e. IsTold quorums kept.now function e.room e.fault) }
@@ -105,19 +105,19 @@ fn offers_for(
     ensures here { IfOk result (λ here. AreHere function offers.old here) }
     ensures others { OnOk result (AreTaken function offers.old offers.new) }
 {
-    let first = match take_each(alloc, &mut offers.first, function) {
+    let first = match take_each(alloc, &mut offers.constants, function) {
         Ok(here) => here,
         Err(NoMemory) => return Err(NoMemory),
     };
-    let second = match take_each(alloc, &mut offers.second, function) {
+    let second = match take_each(alloc, &mut offers.expressions, function) {
         Ok(here) => here,
         Err(NoMemory) => return Err(NoMemory),
     };
-    let third = match take_each(alloc, &mut offers.third, function) {
+    let third = match take_each(alloc, &mut offers.allocation, function) {
         Ok(here) => here,
         Err(NoMemory) => return Err(NoMemory),
     };
-    let fourth = match take_each(alloc, &mut offers.fourth, function) {
+    let fourth = match take_each(alloc, &mut offers.order, function) {
         Ok(here) => here,
         Err(NoMemory) => return Err(NoMemory),
     };

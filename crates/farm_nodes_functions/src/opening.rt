@@ -27,23 +27,23 @@ pub fn open_functions<H: Naming>(
 ) -> Result<Vec<Vec<NumberedSeat<H>>>, Unopened>
     requires number { functions ≤ 16384 }
     requires size { length kept.now ≡ quorums.nodes }
-    requires offers1 { AreOfferedIn kept.now which.First functions (rows_of offers.first.items) }
-    requires offers2 { AreOfferedIn kept.now which.Second functions (rows_of offers.second.items) }
-    requires offers3 { AreOfferedIn kept.now which.Third functions (rows_of offers.third.items) }
-    requires offers4 { AreOfferedIn kept.now which.Fourth functions (rows_of offers.fourth.items) }
+    requires offers1 { AreOfferedIn kept.now which.Constants functions (rows_of offers.constants.items) }
+    requires offers2 { AreOfferedIn kept.now which.Expressions functions (rows_of offers.expressions.items) }
+    requires offers3 { AreOfferedIn kept.now which.Allocation functions (rows_of offers.allocation.items) }
+    requires offers4 { AreOfferedIn kept.now which.Order functions (rows_of offers.order.items) }
 
     // Each node has seats for each function.
     ensures count { IfOk result (λ nodes. length nodes.items ≡ length kept.now) }
     ensures functions { IfOk result (λ nodes. All (λ row. length row ≡ functions) (rows_of nodes.items)) }
 
     // In each room they are those of the room as it opens from what was kept of it and offered there.
-    ensures first { IfOk result (λ nodes. AreOpenedIn quorums kept.now which.First functions (rows_of offers.first.items)
+    ensures constants { IfOk result (λ nodes. AreOpenedIn quorums kept.now which.Constants functions (rows_of offers.constants.items)
         (λ n. (n.seat.first, n.claim)) (rows_of nodes.items)) }
-    ensures second { IfOk result (λ nodes. AreOpenedIn quorums kept.now which.Second functions (rows_of offers.second.items)
+    ensures expressions { IfOk result (λ nodes. AreOpenedIn quorums kept.now which.Expressions functions (rows_of offers.expressions.items)
         (λ n. (n.seat.second, n.claim)) (rows_of nodes.items)) }
-    ensures third { IfOk result (λ nodes. AreOpenedIn quorums kept.now which.Third functions (rows_of offers.third.items)
+    ensures allocation { IfOk result (λ nodes. AreOpenedIn quorums kept.now which.Allocation functions (rows_of offers.allocation.items)
         (λ n. (n.seat.third, n.claim)) (rows_of nodes.items)) }
-    ensures fourth { IfOk result (λ nodes. AreOpenedIn quorums kept.now which.Fourth functions (rows_of offers.fourth.items)
+    ensures order { IfOk result (λ nodes. AreOpenedIn quorums kept.now which.Order functions (rows_of offers.order.items)
         (λ n. (n.seat.fourth, n.claim)) (rows_of nodes.items)) }
     ensures settled { OnOk result ((f : ℕ) → f < functions → AreSettled quorums kept.now f) }
 

@@ -107,13 +107,13 @@ where
     let Ok(nodes) = Vec::with_capacity(alloc, count) else {
         return Err(journals);
     };
-    let Ok(room) = Vec::with_capacity(alloc, count) else {
+    let Ok(spare) = Vec::with_capacity(alloc, count) else {
         return Err(journals);
     };
     let shares = match shares(alloc, program, count) {
         Ok(shares) => shares,
         Err(NoMemory) => return Err(journals),
     };
-    let pieces = pieces_of(alloc, room, journals, seats, shares, oracles, seed);
+    let pieces = pieces_of(alloc, spare, journals, seats, shares, oracles, seed);
     Ok(made_of(nodes, pieces, node_of::<D, O, H>))
 }

@@ -20,12 +20,12 @@ pub(crate) struct Pieces<J, S, A, O> {
     pub words: Pcg32,
 }
 
-/// Puts one more behind these, which have room for it.
+/// Puts one more behind these, which have capacity for it.
 fn put<T: Drop>(all: &mut Vec<T>, one: T)
     requires { vec_len all.old < vec_capacity all.old }
     ensures items { all.new.items ≡ all.old.items ++ one ∷ [] }
     ensures len { vec_len all.new ≡ vec_len all.old + 1 }
-    ensures room { vec_capacity all.old ≤ vec_capacity all.new }
+    ensures capacity { vec_capacity all.old ≤ vec_capacity all.new }
 {
     if all.push(one).is_err() {
         unreachable!();
@@ -46,15 +46,15 @@ fn next_of<T: Drop>(left: &mut IntoIter<T>) -> T
 /// The pieces of each node, in their order, and with them the generator of the seed and the node's number.
 pub(crate) fn pieces_of<J: Drop, S: Drop, A: Drop, O: Drop>(
     alloc: Global,
-    room: Vec<Pieces<J, S, A, O>>,
+    spare: Vec<Pieces<J, S, A, O>>,
     journals: Vec<J>,
     seats: Vec<S>,
     programs: Vec<A>,
     oracles: Vec<O>,
     seed: u64,
 ) -> Vec<Pieces<J, S, A, O>>
-    requires none { room.items ≡ [] }
-    requires room { vec_len journals ≤ vec_capacity room }
+    requires none { spare.items ≡ [] }
+    requires capacity { vec_len journals ≤ vec_capacity spare }
     requires seats { length seats.items ≡ length journals.items }
     requires programs { length programs.items ≡ length journals.items }
     requires oracles { length oracles.items ≡ length journals.items }
@@ -64,7 +64,7 @@ pub(crate) fn pieces_of<J: Drop, S: Drop, A: Drop, O: Drop>(
     ensures oracles { map (λ p. p.oracles) result.items ≡ oracles.items }
     ensures words { map (λ p. p.words) result.items ≡ generators seed (length journals.items) }
 {
-    let mut all = room;
+    let mut all = spare;
     let mut seats_left = seats.into_iter();
     let mut programs_left = programs.into_iter();
     let mut oracles_left = oracles.into_iter();
@@ -82,18 +82,18 @@ pub(crate) fn pieces_of<J: Drop, S: Drop, A: Drop, O: Drop>(
     all
 }
 
-/// What is made of each value, where there is room.
+/// What is made of each value, in spare memory.
 pub(crate) fn made_of<A: Drop, B: Drop, F: Fn(A) -> B>(
-    room: Vec<B>,
+    spare: Vec<B>,
     values: Vec<A>,
     make: F,
 ) -> Vec<B>
     requires callable { All (λ v. F.pre make v) values.items }
-    requires none { room.items ≡ [] }
-    requires room { vec_len values ≤ vec_capacity room }
+    requires none { spare.items ≡ [] }
+    requires capacity { vec_len values ≤ vec_capacity spare }
     ensures { AllZip (λ v m. F.post make v m) values.items result.items }
 {
-    let mut made = room;
+    let mut made = spare;
     for value in values {
         put(&mut made, make(value));
     }

@@ -5,7 +5,7 @@ use Rattle.std.proofs.lemmas.Option.{slice_get-get_or, slice_get_within}
 use Rattle.lang_base.specs.declared.program.Program.{Program}
 use Rattle.rooms_hall.specs.declared.hall.Naming as naming
 use Rattle.rtl_language.specs.Function as rtl
-use Rattle.farm_nodes_seat_meeting.specs.Offers.{Constants, Expressions, Allocation, Order}
+use Rattle.farm_nodes_seat_meeting.specs.Offers.{ConstantsOffer, ExpressionsOffer, AllocationOffer, OrderOffer}
 use Rattle.farm_nodes_seat_meeting.specs.NumberedSeat.{NumberedSeat}
 use Rattle.farm_nodes_seat_meeting.specs.Functions.{BothLink, HoldSameOffers}
 use Rattle.farm_nodes_seat_meeting.specs.Held.{held_of}
@@ -47,7 +47,7 @@ found v [] k e = absurd (cc e)
 found v (x ∷ xs) zero e = (x, refl, cc e)
 found v (x ∷ xs) (suc k) e = found v xs k e
 
-none_wanting : (a : Option Constants) (b : Option Expressions) (c : Option Allocation) (d : Option Order)
+none_wanting : (a : Option ConstantsOffer) (b : Option ExpressionsOffer) (c : Option AllocationOffer) (d : Option OrderOffer)
     → IsSome a → IsSome b → IsSome c → IsSome d → all_four a b c d ≡ None → ⊥
 none_wanting None b c d sa sb sc sd e = absurd (cc sa)
 none_wanting (Some w) None c d sa sb sc sd e = absurd (cc sb)
@@ -68,7 +68,7 @@ module _ {H : Type 0} {h : naming.Ghosts H} (xs ys : List (NumberedSeat H h)) (c
   same_at : (k : ℕ) (a b : NumberedSeat H h) → slice_get xs k ≡ Some a → slice_get ys k ≡ Some b → learned_four a ≡ learned_four b
   same_at k a b ea eb =
       let hold : HoldSameOffers (held_of a) (held_of b) = counted.met.same counted.alike k (λ a' b' ea' eb'. link_at k a' b' ea' eb') a b ea eb in
-      λ i. all_four (hold.first i) (hold.second i) (hold.third i) (hold.fourth i)
+      λ i. all_four (hold.constants i) (hold.expressions i) (hold.allocation i) (hold.order i)
 
   same_learned : learned_by xs ≡ learned_by ys
   same_learned = equal_maps learned_four xs ys as_long same_at
@@ -79,7 +79,7 @@ module _ {H : Type 0} {h : naming.Ghosts H} (xs ys : List (NumberedSeat H h)) (c
       let within : is.function < length xs = slice_get_within xs is.function at.0 at.1 in
       let there : slice_get ys is.function ≡ Some (get_or ys is.function at.0) = slice_get-get_or ys is.function at.0 (omega (arith, within, as_long)) in
       let link : BothLink (held_of at.0) (held_of (get_or ys is.function at.0)) = link_at is.function at.0 (get_or ys is.function at.0) at.1 there in
-      none_wanting _ _ _ _ link.first.first link.second.first link.third.first link.fourth.first at.2
+      none_wanting _ _ _ _ link.constants.first link.expressions.first link.allocation.first link.order.first at.2
 
 -- where all is learned, and is learned still, nothing else is
 module _ (old new : List (Option FourOffers)) (keeps : KeepsLearned old new) (all : IsUndecided old → ⊥) where

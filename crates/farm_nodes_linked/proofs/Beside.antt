@@ -22,7 +22,7 @@ all_ends (f ∷ functions) (n ∷ named) = λ i. one_end f.name n.chain i ++ all
 -- what is lent chains where the offers go on
 has_chain : (f : FunctionData) (chain : Option Chain) → GoesOn f (lent chain) → HasChain f chain
 has_chain f None go = absurd go
-has_chain f (Some chain) go = record { first = go.first; second = go.second; third = go.third; fourth = go.fourth }
+has_chain f (Some chain) go = record { first = go.constants; second = go.expressions; third = go.allocation; fourth = go.order }
 
 pub chained : (functions : List (code.Named FunctionData)) (named : List Named) → AllGoOn functions (lent_beside named) → AllChained functions named
 chained [] [] go = tt
@@ -33,7 +33,7 @@ chained (f ∷ functions) (n ∷ named) go = (has_chain f.function n.chain go.0,
 -- and nowhere else
 goes_on : (f : FunctionData) (chain : Option Chain) → HasChain f chain → GoesOn f (lent chain)
 goes_on f None is = absurd is
-goes_on f (Some chain) is = record { first = is.first; second = is.second; third = is.third; fourth = is.fourth }
+goes_on f (Some chain) is = record { constants = is.first; expressions = is.second; allocation = is.third; order = is.fourth }
 
 pub all_go_on : (functions : List (code.Named FunctionData)) (named : List Named) → AllChained functions named → AllGoOn functions (lent_beside named)
 all_go_on [] [] all = tt
@@ -53,7 +53,7 @@ wanting (n ∷ named) (suc i) m there missing = wanting named i m there missing
 module _ (g : code.Named FunctionData) (m : Named) (chain : Chain) (offered : m.chain ≡ Some chain) (broken : IsChain g.function chain → ⊥) where
   broken_here : (f : code.Named FunctionData) (n : Named) → f ≡ g → n ≡ m → IsBroken f.function (lent n.chain)
   broken_here f n ef en =
-      let is : IsBroken g.function (lent (Some chain)) = λ go. broken (record { first = go.first; second = go.second; third = go.third; fourth = go.fourth }) in
+      let is : IsBroken g.function (lent (Some chain)) = λ go. broken (record { first = go.constants; second = go.expressions; third = go.allocation; fourth = go.order }) in
       subst (λ (h : code.Named FunctionData). IsBroken h.function (lent n.chain)) (sym ef)
       (subst (λ (x : Named). IsBroken g.function (lent x.chain)) (sym en)
       (subst (λ (o : Option Chain). IsBroken g.function (lent o)) (sym offered) is))

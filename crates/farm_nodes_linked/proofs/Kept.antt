@@ -8,7 +8,7 @@ use Rattle.rooms_hall.specs.declared.hall.Naming as naming
 use Rattle.rooms_cells.specs.Seen.{value_at}
 use Rattle.rooms.specs.SeatValue.{SeatValue, offer_of}
 use Rattle.farm_nodes_seat_meeting.specs.Meeting.{Remains}
-use Rattle.farm_nodes_seat_meeting.specs.Offers.{Constants, Expressions, Allocation, Order}
+use Rattle.farm_nodes_seat_meeting.specs.Offers.{ConstantsOffer, ExpressionsOffer, AllocationOffer, OrderOffer}
 use Rattle.farm_nodes_seat_meeting.specs.Learned.{learned_offer, offer_learned}
 use Rattle.farm_nodes_seat_meeting.specs.NumberedSeat.{NumberedSeat}
 use Rattle.farm_nodes_seat_meeting.specs.Held.{held_of}
@@ -30,9 +30,9 @@ module _ {T : Type 0} (s t : SeatValue T) (remains : Remains s.words t.words) (s
   still_offer x is = learned_in s.words.node.learned t.words.node.learned x remains.learned is
 
 -- all four of a function
-four : (a b : Option Constants) (c d : Option Expressions) (e f : Option Allocation) (i j : Option Order) (offers : FourOffers)
-    → ((x : Constants) → a ≡ Some x → b ≡ Some x) → ((x : Expressions) → c ≡ Some x → d ≡ Some x)
-    → ((x : Allocation) → e ≡ Some x → f ≡ Some x) → ((x : Order) → i ≡ Some x → j ≡ Some x)
+four : (a b : Option ConstantsOffer) (c d : Option ExpressionsOffer) (e f : Option AllocationOffer) (i j : Option OrderOffer) (offers : FourOffers)
+    → ((x : ConstantsOffer) → a ≡ Some x → b ≡ Some x) → ((x : ExpressionsOffer) → c ≡ Some x → d ≡ Some x)
+    → ((x : AllocationOffer) → e ≡ Some x → f ≡ Some x) → ((x : OrderOffer) → i ≡ Some x → j ≡ Some x)
     → all_four a c e i ≡ Some offers → all_four b d f j ≡ Some offers
 four None b c d e f i j offers p q r s is = absurd (cc is)
 four (Some w) b None d e f i j offers p q r s is = absurd (cc is)
@@ -84,10 +84,10 @@ module _ {H : Type 0} {h : naming.Ghosts H} where
           let b' = there ys' k (omega (arith, within, alike, all.second)) in
           let one = all.each k a b.0 a' b'.0 ea b.1 ea' b'.1 in
           four (learned_offer a.seat.first) (learned_offer a'.seat.first) (learned_offer a.seat.second) (learned_offer a'.seat.second) (learned_offer a.seat.third) (learned_offer a'.seat.third) (learned_offer a.seat.fourth) (learned_offer a'.seat.fourth) offers
-          (still_offer a.seat.first a'.seat.first one.first.first_remains one.first.first_sights)
-          (still_offer a.seat.second a'.seat.second one.second.first_remains one.second.first_sights)
-          (still_offer a.seat.third a'.seat.third one.third.first_remains one.third.first_sights)
-          (still_offer a.seat.fourth a'.seat.fourth one.fourth.first_remains one.fourth.first_sights) is)
+          (still_offer a.seat.first a'.seat.first one.constants.first_remains one.constants.first_sights)
+          (still_offer a.seat.second a'.seat.second one.expressions.first_remains one.expressions.first_sights)
+          (still_offer a.seat.third a'.seat.third one.allocation.first_remains one.allocation.first_sights)
+          (still_offer a.seat.fourth a'.seat.fourth one.order.first_remains one.order.first_sights) is)
       | inr other ↦ subst (λ l. KeepsLearned (learned_by xs) (learned_by l)) (sym (met.unlike other).0) (keeps_none (learned_by xs))
     ]
 
@@ -101,9 +101,9 @@ module _ {H : Type 0} {h : naming.Ghosts H} where
           let a' = there xs' k (omega (arith, within, alike, all.first)) in
           let one = all.each k a.0 b a'.0 b' a.1 eb a'.1 eb' in
           four (learned_offer b.seat.first) (learned_offer b'.seat.first) (learned_offer b.seat.second) (learned_offer b'.seat.second) (learned_offer b.seat.third) (learned_offer b'.seat.third) (learned_offer b.seat.fourth) (learned_offer b'.seat.fourth) offers
-          (still_offer b.seat.first b'.seat.first one.first.second_remains one.first.second_sights)
-          (still_offer b.seat.second b'.seat.second one.second.second_remains one.second.second_sights)
-          (still_offer b.seat.third b'.seat.third one.third.second_remains one.third.second_sights)
-          (still_offer b.seat.fourth b'.seat.fourth one.fourth.second_remains one.fourth.second_sights) is)
+          (still_offer b.seat.first b'.seat.first one.constants.second_remains one.constants.second_sights)
+          (still_offer b.seat.second b'.seat.second one.expressions.second_remains one.expressions.second_sights)
+          (still_offer b.seat.third b'.seat.third one.allocation.second_remains one.allocation.second_sights)
+          (still_offer b.seat.fourth b'.seat.fourth one.order.second_remains one.order.second_sights) is)
       | inr other ↦ subst (λ l. KeepsLearned (learned_by ys) (learned_by l)) (sym (met.unlike other).1) (keeps_none (learned_by ys))
     ]

@@ -1,24 +1,24 @@
 -- The four offers of a function that a node has learned, as it has seen them.
 use Rattle.std.specs.Prelude.{◌≡◌, ℕ, List, map, slice_get, Option, Some, None}
 use Rattle.rooms_hall.specs.declared.hall.Naming as naming
-use Rattle.farm_nodes_seat_meeting.specs.Offers.{Constants, Expressions, Allocation, Order}
+use Rattle.farm_nodes_seat_meeting.specs.Offers.{ConstantsOffer, ExpressionsOffer, AllocationOffer, OrderOffer}
 use Rattle.farm_nodes_seat_meeting.specs.NumberedSeat.{NumberedSeat}
 use Rattle.farm_nodes_seat_meeting.specs.Learned.{learned_offer}
 
 -- an offer of each pass
 pub record FourOffers : Type 0 where
-  pub first : Constants
-  pub second : Expressions
-  pub third : Allocation
-  pub fourth : Order
+  pub constants : ConstantsOffer
+  pub expressions : ExpressionsOffer
+  pub allocation : AllocationOffer
+  pub order : OrderOffer
 
 -- all four, where none is wanting
-abbrev pub all_four : Option Constants → Option Expressions → Option Allocation → Option Order → Option FourOffers
+abbrev pub all_four : Option ConstantsOffer → Option ExpressionsOffer → Option AllocationOffer → Option OrderOffer → Option FourOffers
 all_four None b c d = None
 all_four (Some w) None c d = None
 all_four (Some w) (Some x) None d = None
 all_four (Some w) (Some x) (Some y) None = None
-all_four (Some w) (Some x) (Some y) (Some z) = Some (record { first = w; second = x; third = y; fourth = z })
+all_four (Some w) (Some x) (Some y) (Some z) = Some (record { constants = w; expressions = x; allocation = y; order = z })
 
 module _ {H : Type 0} {h : naming.Ghosts H} where
   -- the offers learned in the four rooms, where in each one is learned and seen

@@ -8,10 +8,10 @@ use Rattle.farm_nodes_linked.specs.Learned.{FourOffers}
 
 -- each offer goes on from the output of the one before it, and the first from the function
 pub record GoOnFrom (function : rtl.FunctionData) (offers : FourOffers) : Type 0 where
-  pub first : offers.first.input ≡ function
-  pub second : offers.second.input ≡ offers.first.output
-  pub third : offers.third.input ≡ offers.second.output
-  pub fourth : offers.fourth.input ≡ offers.third.output
+  pub constants : offers.constants.input ≡ function
+  pub expressions : offers.expressions.input ≡ offers.constants.output
+  pub allocation : offers.allocation.input ≡ offers.expressions.output
+  pub order : offers.order.input ≡ offers.allocation.output
 
 -- there are four offers, and they go on from the function
 abbrev pub GoesOn : rtl.FunctionData → Option FourOffers → Type 0
@@ -28,7 +28,7 @@ AllGoOn (f ∷ functions) (o ∷ learned) = GoesOn f.function o × AllGoOn funct
 -- the code of a function: the output of the fourth offer, under the function's name
 abbrev pub end_of : List ℕ → Option FourOffers → List (code.Named linear.FunctionData)
 end_of name None = []
-end_of name (Some offers) = record { name = name; function = offers.fourth.output } ∷ []
+end_of name (Some offers) = record { name = name; function = offers.order.output } ∷ []
 
 abbrev pub ends_of : List (code.Named rtl.FunctionData) → List (Option FourOffers) → List (code.Named linear.FunctionData)
 ends_of [] learned = []

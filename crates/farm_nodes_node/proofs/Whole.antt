@@ -21,7 +21,7 @@ use Rattle.farm_nodes_turn.specs.Progress.TheVariants.{Learned, Moved, Idle}
 use Rattle.farm_nodes_turn.specs.Played.{progress_of}
 use Rattle.farm_nodes_node.specs.declared.halted.Halted.{Halted}
 use Rattle.farm_nodes_turn.specs.Which.{Which}
-use Rattle.farm_nodes_turn.specs.Which.TheVariants.{First, Second, Third, Fourth}
+use Rattle.farm_nodes_turn.specs.Which.TheVariants.{Constants, Expressions, Allocation, Order}
 use Rattle.farm_nodes_turn.specs.Fours.{Four, words_of}
 use Rattle.farm_nodes_turn.specs.Told.{TellNew}
 use Rattle.farm_nodes_turn.specs.Texts.{Texts, IsOwnTextIn}
@@ -58,16 +58,16 @@ no_cause None P e = tt
 no_cause (Some fault) P e = absurd (cc)
 
 pub stays_node : {T1 T2 T3 T4 : Type 0} (p : Which) (s t : Four T1 T2 T3 T4) → StaysIn p s t → IsOfOneNode (words_of s p) (words_of t p)
-stays_node First s t stays = record { me = stays.me; quorums = stays.quorums }
-stays_node Second s t stays = record { me = stays.me; quorums = stays.quorums }
-stays_node Third s t stays = record { me = stays.me; quorums = stays.quorums }
-stays_node Fourth s t stays = record { me = stays.me; quorums = stays.quorums }
+stays_node Constants s t stays = record { me = stays.me; quorums = stays.quorums }
+stays_node Expressions s t stays = record { me = stays.me; quorums = stays.quorums }
+stays_node Allocation s t stays = record { me = stays.me; quorums = stays.quorums }
+stays_node Order s t stays = record { me = stays.me; quorums = stays.quorums }
 
 stays_run : {T1 T2 T3 T4 : Type 0} (p : Which) (s t : Four T1 T2 T3 T4) → StaysIn p s t → IsOfRun (words_of s p) → IsOfRun (words_of t p)
-stays_run First s t stays = stays.run.of_run
-stays_run Second s t stays = stays.run.of_run
-stays_run Third s t stays = stays.run.of_run
-stays_run Fourth s t stays = stays.run.of_run
+stays_run Constants s t stays = stays.run.of_run
+stays_run Expressions s t stays = stays.run.of_run
+stays_run Allocation s t stays = stays.run.of_run
+stays_run Order s t stays = stays.run.of_run
 
 module _ {D X T1 T2 T3 T4 : Type 0} (texts : Texts T1 T2 T3 T4) (is_honest : D → Type 0) (seen : D → List ℕ) (may_leave : D → List ℕ → Type 0) (moment : D → ℕ)
     (left_since : D → ℕ → List ℕ → Type 0) (faults : D → ℕ) (f : X → Four T1 T2 T3 T4) (old new : Log D) (room : ℕ) (xs ys : List X) (was : Option Halted)

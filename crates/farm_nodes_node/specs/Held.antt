@@ -15,7 +15,7 @@ use Rattle.farm_nodes_turn.specs.Fault.{Fault}
 use Rattle.farm_nodes_node.specs.declared.halted.Halted.{Halted}
 use Rattle.farm_nodes_order.specs.Ordered.{IsUnproposed}
 use Rattle.farm_nodes_turn.specs.Fours.{Four, words_of}
-use Rattle.farm_nodes_turn.specs.Offers.{Constants, Expressions, Allocation, Order}
+use Rattle.farm_nodes_turn.specs.Offers.{ConstantsOffer, ExpressionsOffer, AllocationOffer, OrderOffer}
 use Rattle.farm_nodes_turn.specs.Texts.{Texts, pass_texts}
 use Rattle.farm_nodes_turn.specs.Numbers.{function_of, pass_of}
 use Rattle.farm_nodes_turn.specs.Leaves.{Leave, pending_at}
@@ -70,5 +70,5 @@ module _ {T1 T2 T3 T4 : Type 0} where
 
 -- the same with the texts of the passes' offers as they are
 abbrev pub IsSoundNode : {D : Type 0} → (D → Type 0) → (D → List ℕ) → (D → List ℕ → Type 0) → Log D
-    → List (Four Constants Expressions Allocation Order) → Option Halted → Type 0
+    → List (Four ConstantsOffer ExpressionsOffer AllocationOffer OrderOffer) → Option Halted → Type 0
 IsSoundNode is_honest seen may_leave log seats halted = IsSoundBy pass_texts is_honest seen may_leave log seats halted

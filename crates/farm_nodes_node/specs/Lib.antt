@@ -2,6 +2,8 @@ pub mod Told
 pub mod Held
 pub mod Waiting
 pub mod Stood
+pub mod Asked
+pub mod Turning
 pub use Rattle.farm_nodes_turn.specs.Turned
 pub use Rattle.farm_nodes_turn.specs.Turns
 pub use Rattle.farm_nodes_turn.specs.Fours

@@ -10,7 +10,7 @@ use Rattle.farm_nodes_turn.specs.Halted.{HasHaltCause}
 use Rattle.farm_nodes_turn.specs.Played.{progress_of}
 use Rattle.farm_nodes_turn.specs.Which.{Which}
 use Rattle.farm_nodes_turn.specs.Fours.{Four, words_of}
-use Rattle.farm_nodes_turn.specs.Offers.{Constants, Expressions, Allocation, Order}
+use Rattle.farm_nodes_turn.specs.Offers.{ConstantsOffer, ExpressionsOffer, AllocationOffer, OrderOffer}
 use Rattle.farm_nodes_turn.specs.Texts.{Texts, pass_texts}
 use Rattle.farm_nodes_node.specs.declared.halted.Halted.{Halted}
 use Rattle.farm_nodes_node.specs.declared.turn.Turn.{Turn}
@@ -47,5 +47,5 @@ module _ {D T1 T2 T3 T4 : Type 0} where
 
 -- the same with the texts of the passes' offers as they are
 abbrev pub TurnsInto : {D : Type 0} → (D → List ℕ) → (D → List ℕ → Type 0) → (D → ℕ) → (D → ℕ → List ℕ → Type 0) → Log D → Log D
-    → List (Four Constants Expressions Allocation Order) → Option Halted → Type 0
+    → List (Four ConstantsOffer ExpressionsOffer AllocationOffer OrderOffer) → Option Halted → Type 0
 TurnsInto seen may_leave moment left_since old new seats halted = TurnsBy pass_texts seen may_leave moment left_since old new seats halted

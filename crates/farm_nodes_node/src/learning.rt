@@ -9,9 +9,9 @@ pub(crate) fn learned_in<H: Naming>(seats: &NumberedSeat<H>, pass: Which) -> Opt
     ensures { result ≡ (words_of (four_of seats.now) pass).node.learned }
 {
     match pass {
-        Which::First => seats.seat.first.learned(),
-        Which::Second => seats.seat.second.learned(),
-        Which::Third => seats.seat.third.learned(),
-        Which::Fourth => seats.seat.fourth.learned(),
+        Which::Constants => seats.seat.first.learned(),
+        Which::Expressions => seats.seat.second.learned(),
+        Which::Allocation => seats.seat.third.learned(),
+        Which::Order => seats.seat.fourth.learned(),
     }
 }

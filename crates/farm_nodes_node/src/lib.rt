@@ -2,12 +2,13 @@
 //! time; a turn that fails stops it, and then it does nothing more. What its journal holds stands for what its seats keep.
 #![tactic(auto)]
 
+mod farm_node;
 mod halted;
 mod learning;
 mod node;
 mod turn;
 
+pub use farm_node::FarmNode;
 pub use farm_nodes_turn::{NumberedSeat, Oracles, Which};
 pub use halted::Halted;
-pub use node::FarmNode;
 pub use turn::Turn;

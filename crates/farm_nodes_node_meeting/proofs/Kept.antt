@@ -1,5 +1,5 @@
 -- What a node's journal stands for is not changed by a meeting.
-use Rattle.std.proofs.Common.{◌≡◌, ℕ, ◌*◌, true, ◌<◌, ◌≤◌, List, [], ◌++◌, map, length, slice_get, Option, Some, None, sym, ap, ◌∙◌, subst, arith, inl, inr}
+use Rattle.std.proofs.Common.{◌≡◌, ℕ, ◌*◌, ◌<◌, ◌≤◌, List, [], ◌++◌, map, length, slice_get, Option, Some, None, sym, ap, ◌∙◌, subst, arith, inl, inr}
 use Rattle.std.proofs.lemmas.Bool.{cases_eq}
 use Rattle.std.proofs.lemmas.Option.{slice_get_within}
 use Rattle.paxos_core_world.specs.KeptPart.{KeptPart}
@@ -19,7 +19,7 @@ use Rattle.farm_nodes_seat_meeting.specs.Leaves.{Leave}
 use Rattle.farm_nodes_node.specs.Texts.{Texts, IsOwnTextIn}
 use Rattle.farm_nodes_offers.specs.Told.{IsOwnText}
 use Rattle.farm_nodes_seat_meeting.specs.Which.{Which}
-use Rattle.farm_nodes_seat_meeting.specs.Which.TheVariants.{First, Second, Third, Fourth}
+use Rattle.farm_nodes_seat_meeting.specs.Which.TheVariants.{Constants, Expressions, Allocation, Order}
 use Rattle.farm_nodes_node.proofs.Places.{found, mapped, map_at, map_length}
 use Rattle.farm_nodes_node.specs.declared.halted.Halted.{Halted}
 use Rattle.farm_nodes_node.specs.Held.{AreOfRuns, AreSeatsOf, AreUnproposed, IsSoundBy}
@@ -53,11 +53,11 @@ module _ {T1 T2 T3 T4 : Type 0} where
   -- the seats, and their number
   abbrev pub four_in : Held T1 T2 T3 T4 → Four T1 T2 T3 T4
   four_in h = record {
-    first = h.first.seat;
-    second = h.second.seat;
-    third = h.third.seat;
-    fourth = h.fourth.seat;
-    number = h.first.claim;
+    constants = h.constants.seat;
+    expressions = h.expressions.seat;
+    allocation = h.allocation.seat;
+    order = h.order.seat;
+    number = h.constants.claim;
   }
 
 -- what a seat's node keeps, and the text of its offer
@@ -69,16 +69,16 @@ module _ {T1 T2 T3 T4 : Type 0} (texts : Texts T1 T2 T3 T4) where
     pub of_run : IsOfRun (words_of (four_in h) p) → IsOfRun (words_of (four_in h') p)
 
   kept_first : (a b a' b' : Held T1 T2 T3 T4) → MetIn a b a' b' → (p : Which) → KeptIn a a' p
-  kept_first a b a' b' met First = record { node = of_remains a.first.seat.words a'.first.seat.words met.first.first_remains; own = own_met texts.first a.first.seat a'.first.seat met.first.first_sights met.first.first_remains; of_run = first_of_run a.first b.first a'.first b'.first met.first }
-  kept_first a b a' b' met Second = record { node = of_remains a.second.seat.words a'.second.seat.words met.second.first_remains; own = own_met texts.second a.second.seat a'.second.seat met.second.first_sights met.second.first_remains; of_run = first_of_run a.second b.second a'.second b'.second met.second }
-  kept_first a b a' b' met Third = record { node = of_remains a.third.seat.words a'.third.seat.words met.third.first_remains; own = own_met texts.third a.third.seat a'.third.seat met.third.first_sights met.third.first_remains; of_run = first_of_run a.third b.third a'.third b'.third met.third }
-  kept_first a b a' b' met Fourth = record { node = of_remains a.fourth.seat.words a'.fourth.seat.words met.fourth.first_remains; own = own_met texts.fourth a.fourth.seat a'.fourth.seat met.fourth.first_sights met.fourth.first_remains; of_run = first_of_run a.fourth b.fourth a'.fourth b'.fourth met.fourth }
+  kept_first a b a' b' met Constants = record { node = of_remains a.constants.seat.words a'.constants.seat.words met.constants.first_remains; own = own_met texts.constants a.constants.seat a'.constants.seat met.constants.first_sights met.constants.first_remains; of_run = first_of_run a.constants b.constants a'.constants b'.constants met.constants }
+  kept_first a b a' b' met Expressions = record { node = of_remains a.expressions.seat.words a'.expressions.seat.words met.expressions.first_remains; own = own_met texts.expressions a.expressions.seat a'.expressions.seat met.expressions.first_sights met.expressions.first_remains; of_run = first_of_run a.expressions b.expressions a'.expressions b'.expressions met.expressions }
+  kept_first a b a' b' met Allocation = record { node = of_remains a.allocation.seat.words a'.allocation.seat.words met.allocation.first_remains; own = own_met texts.allocation a.allocation.seat a'.allocation.seat met.allocation.first_sights met.allocation.first_remains; of_run = first_of_run a.allocation b.allocation a'.allocation b'.allocation met.allocation }
+  kept_first a b a' b' met Order = record { node = of_remains a.order.seat.words a'.order.seat.words met.order.first_remains; own = own_met texts.order a.order.seat a'.order.seat met.order.first_sights met.order.first_remains; of_run = first_of_run a.order b.order a'.order b'.order met.order }
 
   kept_second : (a b a' b' : Held T1 T2 T3 T4) → MetIn a b a' b' → (p : Which) → KeptIn b b' p
-  kept_second a b a' b' met First = record { node = of_remains b.first.seat.words b'.first.seat.words met.first.second_remains; own = own_met texts.first b.first.seat b'.first.seat met.first.second_sights met.first.second_remains; of_run = second_of_run a.first b.first a'.first b'.first met.first }
-  kept_second a b a' b' met Second = record { node = of_remains b.second.seat.words b'.second.seat.words met.second.second_remains; own = own_met texts.second b.second.seat b'.second.seat met.second.second_sights met.second.second_remains; of_run = second_of_run a.second b.second a'.second b'.second met.second }
-  kept_second a b a' b' met Third = record { node = of_remains b.third.seat.words b'.third.seat.words met.third.second_remains; own = own_met texts.third b.third.seat b'.third.seat met.third.second_sights met.third.second_remains; of_run = second_of_run a.third b.third a'.third b'.third met.third }
-  kept_second a b a' b' met Fourth = record { node = of_remains b.fourth.seat.words b'.fourth.seat.words met.fourth.second_remains; own = own_met texts.fourth b.fourth.seat b'.fourth.seat met.fourth.second_sights met.fourth.second_remains; of_run = second_of_run a.fourth b.fourth a'.fourth b'.fourth met.fourth }
+  kept_second a b a' b' met Constants = record { node = of_remains b.constants.seat.words b'.constants.seat.words met.constants.second_remains; own = own_met texts.constants b.constants.seat b'.constants.seat met.constants.second_sights met.constants.second_remains; of_run = second_of_run a.constants b.constants a'.constants b'.constants met.constants }
+  kept_second a b a' b' met Expressions = record { node = of_remains b.expressions.seat.words b'.expressions.seat.words met.expressions.second_remains; own = own_met texts.expressions b.expressions.seat b'.expressions.seat met.expressions.second_sights met.expressions.second_remains; of_run = second_of_run a.expressions b.expressions a'.expressions b'.expressions met.expressions }
+  kept_second a b a' b' met Allocation = record { node = of_remains b.allocation.seat.words b'.allocation.seat.words met.allocation.second_remains; own = own_met texts.allocation b.allocation.seat b'.allocation.seat met.allocation.second_sights met.allocation.second_remains; of_run = second_of_run a.allocation b.allocation a'.allocation b'.allocation met.allocation }
+  kept_second a b a' b' met Order = record { node = of_remains b.order.seat.words b'.order.seat.words met.order.second_remains; own = own_met texts.order b.order.seat b'.order.seat met.order.second_sights met.order.second_remains; of_run = second_of_run a.order b.order a'.order b'.order met.order }
 
 module _ {S T1 T2 T3 T4 : Type 0} (texts : Texts T1 T2 T3 T4) (view : S → Held T1 T2 T3 T4) where
   -- as many, and each keeps what it kept

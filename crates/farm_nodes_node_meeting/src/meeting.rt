@@ -1,13 +1,9 @@
-ghost use Rattle.std.specs.Prelude.{◌≡◌, ◌≢◌, ◌≤◌, ◌⊎◌, None, length};
-ghost use Rattle.farm_nodes_seat_meeting.specs.Fours.{fours_of};
-ghost use Rattle.farm_nodes_node.specs.Held.{IsSoundNode};
-ghost use Rattle.farm_nodes_node.specs.Waiting.{IsWaiting};
-ghost use Rattle.farm_nodes_seat_meeting.specs.Held.{held_of};
-ghost use Rattle.farm_nodes_seat_meeting.specs.Lists.{AreOfTwoFarms, HaveMetAll};
+ghost use Rattle.std.specs.Prelude.{◌≡◌, ◌≤◌, length};
+ghost use Rattle.farm_nodes_node_meeting.specs.Meeting.{AreLeft, AreStrangeNodes, IsOneStopped, MeetInAll, StaysButSeats, StaysSound, StaysWaiting};
 
 use durable_model::Disk;
 use farm_nodes_node::FarmNode;
-use farm_nodes_seat_meeting::meet_all;
+use farm_nodes_seat_meeting::meet_seats;
 use rooms_hall::Naming;
 
 /// Two nodes meet, in all rooms of all functions. Answers how many functions both link, with all four offers seen: 0 for nodes of
@@ -19,34 +15,19 @@ pub fn meet<D: Disk, O, H: Naming>(
     requires { length first.old.seats.items ≤ 65535 }
 
     // Where one of the two is stopped both are left as they were.
-    ensures stopped { (first.old.halted ≢ None) ⊎ (second.old.halted ≢ None) →
-        (result ≡ 0) × (first.new ≡ first.old) × (second.new ≡ second.old) }
-    ensures met { first.old.halted ≡ None → second.old.halted ≡ None → HaveMetAll
-        first.old.seats.items second.old.seats.items first.new.seats.items second.new.seats.items result
-        held_of }
+    ensures stopped { IsOneStopped first.old second.old → AreLeft first.old second.old first.new second.new result }
+    ensures met { MeetInAll first.old second.old first.new second.new result }
 
-    // Nodes of two farms, each of whose functions' rooms have two numbers, link nothing.
-    ensures strangers { AreOfTwoFarms held_of first.old.seats.items second.old.seats.items → result ≡ 0 }
+    // Nodes of two farms link nothing: `are_of_two_farms` tells such.
+    ensures strangers { AreStrangeNodes first.old second.old → result ≡ 0 }
 
     // Of a node nothing but its seats changes, and those stand for what its journal holds as they did.
-    ensures first_stays { (first.new.log ≡ first.old.log) × (first.new.program ≡ first.old.program)
-        × (first.new.oracles ≡ first.old.oracles) × (first.new.words ≡ first.old.words)
-        × (first.new.halted ≡ first.old.halted) }
-    ensures second_stays { (second.new.log ≡ second.old.log) × (second.new.program ≡ second.old.program)
-        × (second.new.oracles ≡ second.old.oracles) × (second.new.words ≡ second.old.words)
-        × (second.new.halted ≡ second.old.halted) }
-    ensures first_sound { IsSoundNode D.is_honest D.seen D.may_leave
-        first.old.log (fours_of first.old.seats.items) first.old.halted →
-        IsSoundNode D.is_honest D.seen D.may_leave
-        first.new.log (fours_of first.new.seats.items) first.new.halted }
-    ensures second_sound { IsSoundNode D.is_honest D.seen D.may_leave
-        second.old.log (fours_of second.old.seats.items) second.old.halted →
-        IsSoundNode D.is_honest D.seen D.may_leave
-        second.new.log (fours_of second.new.seats.items) second.new.halted }
-    ensures first_waiting { IsWaiting first.old.seats.items first.old.halted →
-        IsWaiting first.new.seats.items first.new.halted }
-    ensures second_waiting { IsWaiting second.old.seats.items second.old.halted →
-        IsWaiting second.new.seats.items second.new.halted }
+    ensures first_stays { StaysButSeats first.old first.new }
+    ensures second_stays { StaysButSeats second.old second.new }
+    ensures first_sound { StaysSound D.Disk first.old first.new }
+    ensures second_sound { StaysSound D.Disk second.old second.new }
+    ensures first_waiting { StaysWaiting first.old first.new }
+    ensures second_waiting { StaysWaiting second.old second.new }
 {
     if first.halted.is_some() {
         return 0;
@@ -54,5 +35,5 @@ pub fn meet<D: Disk, O, H: Naming>(
     if second.halted.is_some() {
         return 0;
     }
-    meet_all(&mut first.seats, &mut second.seats)
+    meet_seats(&mut first.seats, &mut second.seats)
 }

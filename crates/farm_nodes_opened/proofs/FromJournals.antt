@@ -26,14 +26,14 @@ use Rattle.rooms_hall.specs.Claimed.{Claimed}
 use Rattle.rooms_hall.specs.declared.hall.Naming as naming
 use Rattle.farm_nodes_records.specs.NumberedSeat.{NumberedSeat}
 use Rattle.farm_nodes_records.specs.Which.{Which}
-use Rattle.farm_nodes_records.specs.Which.TheVariants.{First, Second, Third, Fourth}
+use Rattle.farm_nodes_records.specs.Which.TheVariants.{Constants, Expressions, Allocation, Order}
 use Rattle.farm_nodes_disks.specs.Journals.{header_of, AreOpened, IsOpened}
 use Rattle.farm_nodes_stored.specs.Nodes.{AreMade}
 use Rattle.farm_nodes_stored.specs.Read.{AreKept}
 use Rattle.farm_nodes_stored.specs.Checked.{AreOffers}
 use Rattle.farm_nodes_opened.specs.Back.{IsJournalOn}
 use Rattle.farm_nodes_opened.specs.Opened.{AreOpenFromJournals, AreOpenIn}
-use Rattle.farm_nodes_seated.specs.Seated.{AreSeated, AreSeatedIn, first_seat, second_seat, third_seat, fourth_seat}
+use Rattle.farm_nodes_seated.specs.Seated.{AreSeated, AreSeatedIn, constants_seat, expressions_seat, allocation_seat, order_seat}
 use Rattle.farm_nodes_seated.proofs.Lists.{found_at, map_at}
 
 module _ {D : Type 0} (disk : disks.Ghosts D) (pair : pairs.Ghosts D) (q : Sizes) (digest : List ℕ) (given : List D) (journals : List (Log D × Vec Record)) (logs : List (Log D))
@@ -92,8 +92,8 @@ module _ {D : Type 0} (disk : disks.Ghosts D) (pair : pairs.Ghosts D) (q : Sizes
       kept = seated.kept;
       are_kept = record { count = seated.are_kept.count ∙ sym as_many; each = kept_at };
       settled = seated.settled;
-      first = open_in rtl_language.ghosts rtl_language.ghosts constants.ghosts First functions seated.kept (λ (s : NumberedSeat H h). first_seat s) rows seated.first;
-      second = open_in rtl_language.ghosts rtl_language.ghosts expressions.ghosts Second functions seated.kept (λ (s : NumberedSeat H h). second_seat s) rows seated.second;
-      third = open_in rtl_language.ghosts ltl_language.ghosts allocation.ghosts Third functions seated.kept (λ (s : NumberedSeat H h). third_seat s) rows seated.third;
-      fourth = open_in ltl_language.ghosts linear_language.ghosts order.ghosts Fourth functions seated.kept (λ (s : NumberedSeat H h). fourth_seat s) rows seated.fourth;
+      constants = open_in rtl_language.ghosts rtl_language.ghosts constants.ghosts Constants functions seated.kept (λ (s : NumberedSeat H h). constants_seat s) rows seated.constants;
+      expressions = open_in rtl_language.ghosts rtl_language.ghosts expressions.ghosts Expressions functions seated.kept (λ (s : NumberedSeat H h). expressions_seat s) rows seated.expressions;
+      allocation = open_in rtl_language.ghosts ltl_language.ghosts allocation.ghosts Allocation functions seated.kept (λ (s : NumberedSeat H h). allocation_seat s) rows seated.allocation;
+      order = open_in ltl_language.ghosts linear_language.ghosts order.ghosts Order functions seated.kept (λ (s : NumberedSeat H h). order_seat s) rows seated.order;
     }

@@ -37,10 +37,10 @@ use Rattle.farm_nodes_offers.specs.Told.{IsOwnText, IsToldAs}
 use Rattle.farm_nodes_offers.specs.Pending.{IsOfferText}
 use Rattle.farm_nodes_records.specs.Written.{offer_in}
 use Rattle.farm_nodes_records.specs.Numbers.{function_of, pass_at, pass_of, place_of, room_at}
-use Rattle.farm_nodes_records.specs.Offers.{Constants, Expressions, Allocation, Order}
+use Rattle.farm_nodes_records.specs.Offers.{ConstantsOffer, ExpressionsOffer, AllocationOffer, OrderOffer}
 use Rattle.farm_nodes_records.specs.NumberedSeat.{NumberedSeat}
 use Rattle.farm_nodes_records.specs.Which.{Which}
-use Rattle.farm_nodes_records.specs.Which.TheVariants.{First, Second, Third, Fourth}
+use Rattle.farm_nodes_records.specs.Which.TheVariants.{Constants, Expressions, Allocation, Order}
 use Rattle.farm_nodes_lists.specs.Rows.{rows_of}
 use Rattle.farm_nodes_functions.specs.Opened.{AreOpenedIn}
 use Rattle.farm_nodes_functions.proofs.Seated.{seat_of_run, seat_offers, seat_opens}
@@ -50,7 +50,7 @@ use Rattle.farm_nodes_stored.specs.Read.{AreKept}
 use Rattle.farm_nodes_node.specs.Held.{AreOfRuns, AreSeatsOf, AreUnproposed}
 use Rattle.rooms_crash.specs.OfRun.{IsOfRun}
 use Rattle.farm_nodes_joining.specs.Joined.{AreHeld, IsHeld}
-use Rattle.farm_nodes_seated.specs.Seated.{AreSeated, AreSeatedIn, first_seat, second_seat, third_seat, fourth_seat}
+use Rattle.farm_nodes_seated.specs.Seated.{AreSeated, AreSeatedIn, constants_seat, expressions_seat, allocation_seat, order_seat}
 use Rattle.farm_nodes_seated.proofs.Lists.{all_at, at_map, found_at, map_at}
 use Rattle.farm_nodes_seated.proofs.Offered.{offer_there, room_low}
 
@@ -96,35 +96,35 @@ module _ {J H : Type 0} {h : naming.Ghosts H} (q : Sizes) (functions : ℕ) (jou
     part = seated.are_kept.each i j k j_at k_at
 
     keeps : (pass : Which) (f : ℕ) (s : NumberedSeat H h) → f < functions → slice_get row f ≡ Some s → (words_of (four_of s) pass).node ≡ node_with i q (kept_in j.1.items (room_at f pass))
-    keeps First f s below here =
-        seat_is q seated.kept First functions (rows_of seated.first.offers) (λ (x : NumberedSeat H h). first_seat x) rows sizes seated.long seated.first.opened (length journals) i f row s k j.1.items at here k_at part below
-    keeps Second f s below here =
-        seat_is q seated.kept Second functions (rows_of seated.second.offers) (λ (x : NumberedSeat H h). second_seat x) rows sizes seated.long seated.second.opened (length journals) i f row s k j.1.items at here k_at part below
-    keeps Third f s below here =
-        seat_is q seated.kept Third functions (rows_of seated.third.offers) (λ (x : NumberedSeat H h). third_seat x) rows sizes seated.long seated.third.opened (length journals) i f row s k j.1.items at here k_at part below
-    keeps Fourth f s below here =
-        seat_is q seated.kept Fourth functions (rows_of seated.fourth.offers) (λ (x : NumberedSeat H h). fourth_seat x) rows sizes seated.long seated.fourth.opened (length journals) i f row s k j.1.items at here k_at part below
+    keeps Constants f s below here =
+        seat_is q seated.kept Constants functions (rows_of seated.constants.offers) (λ (x : NumberedSeat H h). constants_seat x) rows sizes seated.long seated.constants.opened (length journals) i f row s k j.1.items at here k_at part below
+    keeps Expressions f s below here =
+        seat_is q seated.kept Expressions functions (rows_of seated.expressions.offers) (λ (x : NumberedSeat H h). expressions_seat x) rows sizes seated.long seated.expressions.opened (length journals) i f row s k j.1.items at here k_at part below
+    keeps Allocation f s below here =
+        seat_is q seated.kept Allocation functions (rows_of seated.allocation.offers) (λ (x : NumberedSeat H h). allocation_seat x) rows sizes seated.long seated.allocation.opened (length journals) i f row s k j.1.items at here k_at part below
+    keeps Order f s below here =
+        seat_is q seated.kept Order functions (rows_of seated.order.offers) (λ (x : NumberedSeat H h). order_seat x) rows sizes seated.long seated.order.opened (length journals) i f row s k j.1.items at here k_at part below
 
     owns : (pass : Which) (f : ℕ) (s : NumberedSeat H h) → f < functions → slice_get row f ≡ Some s → (kept_in j.1.items (room_at f pass)).offered ≡ true
         → IsToldAs (IsOwnTextIn pass_texts pass (four_of s)) (offer_in j.1.items (room_at f pass))
-    owns First f s below here offered =
-        owned rtl_language.ghosts rtl_language.ghosts constants.ghosts First q functions journals seated.kept (λ (x : NumberedSeat H h). first_seat x) rows sizes seated.long seated.first i f row s j at here j_at below (ap (λ n. n.me) (keeps First f s below here)) offered
-    owns Second f s below here offered =
-        owned rtl_language.ghosts rtl_language.ghosts expressions.ghosts Second q functions journals seated.kept (λ (x : NumberedSeat H h). second_seat x) rows sizes seated.long seated.second i f row s j at here j_at below (ap (λ n. n.me) (keeps Second f s below here)) offered
-    owns Third f s below here offered =
-        owned rtl_language.ghosts ltl_language.ghosts allocation.ghosts Third q functions journals seated.kept (λ (x : NumberedSeat H h). third_seat x) rows sizes seated.long seated.third i f row s j at here j_at below (ap (λ n. n.me) (keeps Third f s below here)) offered
-    owns Fourth f s below here offered =
-        owned ltl_language.ghosts linear_language.ghosts order.ghosts Fourth q functions journals seated.kept (λ (x : NumberedSeat H h). fourth_seat x) rows sizes seated.long seated.fourth i f row s j at here j_at below (ap (λ n. n.me) (keeps Fourth f s below here)) offered
+    owns Constants f s below here offered =
+        owned rtl_language.ghosts rtl_language.ghosts constants.ghosts Constants q functions journals seated.kept (λ (x : NumberedSeat H h). constants_seat x) rows sizes seated.long seated.constants i f row s j at here j_at below (ap (λ n. n.me) (keeps Constants f s below here)) offered
+    owns Expressions f s below here offered =
+        owned rtl_language.ghosts rtl_language.ghosts expressions.ghosts Expressions q functions journals seated.kept (λ (x : NumberedSeat H h). expressions_seat x) rows sizes seated.long seated.expressions i f row s j at here j_at below (ap (λ n. n.me) (keeps Expressions f s below here)) offered
+    owns Allocation f s below here offered =
+        owned rtl_language.ghosts ltl_language.ghosts allocation.ghosts Allocation q functions journals seated.kept (λ (x : NumberedSeat H h). allocation_seat x) rows sizes seated.long seated.allocation i f row s j at here j_at below (ap (λ n. n.me) (keeps Allocation f s below here)) offered
+    owns Order f s below here offered =
+        owned ltl_language.ghosts linear_language.ghosts order.ghosts Order q functions journals seated.kept (λ (x : NumberedSeat H h). order_seat x) rows sizes seated.long seated.order i f row s j at here j_at below (ap (λ n. n.me) (keeps Order f s below here)) offered
 
     runs : length journals ≡ q.nodes → (pass : Which) (f : ℕ) (s : NumberedSeat H h) → f < functions → slice_get row f ≡ Some s → IsOfRun (words_of (four_of s) pass)
-    runs many First f s below here =
-        seat_of_run q seated.kept First functions (rows_of seated.first.offers) (λ (x : NumberedSeat H h). first_seat x) rows sizes seated.long seated.first.opened i f row s at here (omega (arith, many, seated.are_kept.count)) (seated.settled f below)
-    runs many Second f s below here =
-        seat_of_run q seated.kept Second functions (rows_of seated.second.offers) (λ (x : NumberedSeat H h). second_seat x) rows sizes seated.long seated.second.opened i f row s at here (omega (arith, many, seated.are_kept.count)) (seated.settled f below)
-    runs many Third f s below here =
-        seat_of_run q seated.kept Third functions (rows_of seated.third.offers) (λ (x : NumberedSeat H h). third_seat x) rows sizes seated.long seated.third.opened i f row s at here (omega (arith, many, seated.are_kept.count)) (seated.settled f below)
-    runs many Fourth f s below here =
-        seat_of_run q seated.kept Fourth functions (rows_of seated.fourth.offers) (λ (x : NumberedSeat H h). fourth_seat x) rows sizes seated.long seated.fourth.opened i f row s at here (omega (arith, many, seated.are_kept.count)) (seated.settled f below)
+    runs many Constants f s below here =
+        seat_of_run q seated.kept Constants functions (rows_of seated.constants.offers) (λ (x : NumberedSeat H h). constants_seat x) rows sizes seated.long seated.constants.opened i f row s at here (omega (arith, many, seated.are_kept.count)) (seated.settled f below)
+    runs many Expressions f s below here =
+        seat_of_run q seated.kept Expressions functions (rows_of seated.expressions.offers) (λ (x : NumberedSeat H h). expressions_seat x) rows sizes seated.long seated.expressions.opened i f row s at here (omega (arith, many, seated.are_kept.count)) (seated.settled f below)
+    runs many Allocation f s below here =
+        seat_of_run q seated.kept Allocation functions (rows_of seated.allocation.offers) (λ (x : NumberedSeat H h). allocation_seat x) rows sizes seated.long seated.allocation.opened i f row s at here (omega (arith, many, seated.are_kept.count)) (seated.settled f below)
+    runs many Order f s below here =
+        seat_of_run q seated.kept Order functions (rows_of seated.order.offers) (λ (x : NumberedSeat H h). order_seat x) rows sizes seated.long seated.order.opened i f row s at here (omega (arith, many, seated.are_kept.count)) (seated.settled f below)
 
     row_size : length row ≡ functions
     row_size = all_at (λ (r : List (NumberedSeat H h)). length r ≡ functions) rows i row seated.long at
@@ -132,11 +132,11 @@ module _ {J H : Type 0} {h : naming.Ghosts H} (q : Sizes) (functions : ℕ) (jou
     fours_size : length (fours_of row) ≡ functions
     fours_size = length-map row four_of ∙ row_size
 
-    node_is : (m : ℕ) (s : Four Constants Expressions Allocation Order) → slice_get (fours_of row) (function_of m) ≡ Some s → (words_of s (pass_of m)).node ≡ node_with i q (kept_in j.1.items m)
+    node_is : (m : ℕ) (s : Four ConstantsOffer ExpressionsOffer AllocationOffer OrderOffer) → slice_get (fours_of row) (function_of m) ≡ Some s → (words_of s (pass_of m)).node ≡ node_with i q (kept_in j.1.items m)
     node_is m s got =
         let found : (x : NumberedSeat H h) × (slice_get row (function_of m) ≡ Some x) × (four_of x ≡ s) = map_at four_of row (function_of m) s got in
         let low : function_of m < functions = omega (arith, slice_get_within row (function_of m) found.0 found.1, row_size) in
-        ap (λ (four : Four Constants Expressions Allocation Order). (words_of four (pass_of m)).node) (sym found.2) ∙ keeps (pass_of m) (function_of m) found.0 low found.1
+        ap (λ (four : Four ConstantsOffer ExpressionsOffer AllocationOffer OrderOffer). (words_of four (pass_of m)).node) (sym found.2) ∙ keeps (pass_of m) (function_of m) found.0 low found.1
         ∙ ap (λ room. node_with i q (kept_in j.1.items room)) (room_is m)
 
     -- each seat is the node's, and proposes nothing
@@ -148,7 +148,7 @@ module _ {J H : Type 0} {h : naming.Ghosts H} (q : Sizes) (functions : ℕ) (jou
     of_runs many m s got =
         let found : (x : NumberedSeat H h) × (slice_get row (function_of m) ≡ Some x) × (four_of x ≡ s) = map_at four_of row (function_of m) s got in
         let low : function_of m < functions = omega (arith, slice_get_within row (function_of m) found.0 found.1, row_size) in
-        subst (λ (four : Four Constants Expressions Allocation Order). IsOfRun (words_of four (pass_of m))) found.2 (runs many (pass_of m) (function_of m) found.0 low found.1)
+        subst (λ (four : Four ConstantsOffer ExpressionsOffer AllocationOffer OrderOffer). IsOfRun (words_of four (pass_of m))) found.2 (runs many (pass_of m) (function_of m) found.0 low found.1)
 
     unproposed_of : AreUnproposed (fours_of row) j.1.items
     unproposed_of m s got b is none = let bad : Some b ≡ None = sym is ∙ ap (λ n. n.ballot) (node_is m s got) in absurd (cc)
@@ -167,7 +167,7 @@ module _ {J H : Type 0} {h : naming.Ghosts H} (q : Sizes) (functions : ℕ) (jou
           let low : function_of m < functions = omega (arith, slice_get_within row (function_of m) found.0 found.1, row_size) in
           let offered : (kept_in j.1.items (room_at (function_of m) (pass_of m))).offered ≡ true =
           ap (λ room. (kept_in j.1.items room).offered) (room_is m) ∙ (ap (λ n. n.kept.offered) (sym (node_is m s got)) ∙ now) in
-          subst (λ (four : Four Constants Expressions Allocation Order). IsToldAs (IsOwnTextIn pass_texts (pass_of m) four) (offer_in j.1.items m)) found.2
+          subst (λ (four : Four ConstantsOffer ExpressionsOffer AllocationOffer OrderOffer). IsToldAs (IsOwnTextIn pass_texts (pass_of m) four) (offer_in j.1.items m)) found.2
           (subst (λ room. IsToldAs (IsOwnTextIn pass_texts (pass_of m) (four_of found.0)) (offer_in j.1.items room)) (room_is m)
           (owns (pass_of m) (function_of m) found.0 low found.1 offered));
     }

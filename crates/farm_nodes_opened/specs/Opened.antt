@@ -20,14 +20,14 @@ use Rattle.rooms_hall.specs.Claimed.{Claimed}
 use Rattle.rooms_hall.specs.declared.hall.Naming as naming
 use Rattle.farm_nodes_records.specs.NumberedSeat.{NumberedSeat}
 use Rattle.farm_nodes_records.specs.Which.{Which}
-use Rattle.farm_nodes_records.specs.Which.TheVariants.{First, Second, Third, Fourth}
+use Rattle.farm_nodes_records.specs.Which.TheVariants.{Constants, Expressions, Allocation, Order}
 use Rattle.farm_nodes_lists.specs.Rows.{rows_of}
 use Rattle.farm_nodes_functions.specs.Kept.{AreSettled}
 use Rattle.farm_nodes_functions.specs.Opened.{AreOpenedIn}
 use Rattle.farm_nodes_stored.specs.Nodes.{AreMade}
 use Rattle.farm_nodes_stored.specs.Read.{AreKept}
 use Rattle.farm_nodes_stored.specs.Checked.{AreOffers}
-use Rattle.farm_nodes_seated.specs.Seated.{first_seat, second_seat, third_seat, fourth_seat}
+use Rattle.farm_nodes_seated.specs.Seated.{constants_seat, expressions_seat, allocation_seat, order_seat}
 
 module _ {D : Type 0} (is_honest : D → Type 0) (seen : D → List ℕ) (q : Sizes) (functions : ℕ) (logs : List (Log D)) where
   module _ {P A B C I O N : Type 0} (from : language.Ghosts A I) (to : language.Ghosts B O) (by : pass.Ghosts P A B C I O) (which : Which) where
@@ -46,7 +46,7 @@ module _ {D : Type 0} (is_honest : D → Type 0) (seen : D → List ℕ) (q : Si
     pub are_kept : AreMade (λ i log k. is_honest log.disk → AreKept functions (length logs) i (acknowledged seen log) k.items)
         logs (length logs) kept
     pub settled : (f : ℕ) → f < functions → AreSettled q kept f
-    pub first : AreOpenIn rtl_language.ghosts rtl_language.ghosts constants.ghosts First kept first_seat rows
-    pub second : AreOpenIn rtl_language.ghosts rtl_language.ghosts expressions.ghosts Second kept second_seat rows
-    pub third : AreOpenIn rtl_language.ghosts ltl_language.ghosts allocation.ghosts Third kept third_seat rows
-    pub fourth : AreOpenIn ltl_language.ghosts linear_language.ghosts order.ghosts Fourth kept fourth_seat rows
+    pub constants : AreOpenIn rtl_language.ghosts rtl_language.ghosts constants.ghosts Constants kept constants_seat rows
+    pub expressions : AreOpenIn rtl_language.ghosts rtl_language.ghosts expressions.ghosts Expressions kept expressions_seat rows
+    pub allocation : AreOpenIn rtl_language.ghosts ltl_language.ghosts allocation.ghosts Allocation kept allocation_seat rows
+    pub order : AreOpenIn ltl_language.ghosts linear_language.ghosts order.ghosts Order kept order_seat rows

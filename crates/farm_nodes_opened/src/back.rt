@@ -6,7 +6,7 @@ use durable_model::Disk;
 use durable_pair::Pair;
 use farm_nodes_disks::RefusedPair;
 
-/// The disks of journals, in their order, put behind those that are there; there is room for them.
+/// The disks of journals, in their order, put behind those that are there; they fit there.
 pub(crate) fn with_disks<D: Disk + Drop>(
     back: Vec<D>,
     journals: Vec<(Log<D>, Vec<Record>)>,
@@ -49,7 +49,7 @@ pub(crate) fn with_refused<P: Pair + Drop>(back: Vec<P>, refused: RefusedPair<P>
     back
 }
 
-/// One more put behind those that are there, where there is one; there is room for it.
+/// One more put behind those that are there, where there is one; it fits there.
 fn with_one<P: Drop>(back: Vec<P>, pair: Option<P>) -> Vec<P>
     requires { length back.items + length (option_to_list pair) ≤ vec_capacity back }
     ensures items { result.items ≡ back.items ++ option_to_list pair }

@@ -11,7 +11,7 @@ use Rattle.farm_nodes_passes.specs.Fours.{Four, words_of}
 use Rattle.farm_nodes_passes.specs.Texts.{Texts, IsOwnTextIn}
 use Rattle.farm_nodes_passes.specs.Numbers.{function_of, pass_of}
 use Rattle.farm_nodes_passes.specs.declared.which.Which.{Which}
-use Rattle.farm_nodes_passes.specs.declared.which.Which.TheVariants.{First, Second, Third, Fourth}
+use Rattle.farm_nodes_passes.specs.declared.which.Which.TheVariants.{Constants, Expressions, Allocation, Order}
 
 module _ {X1 X2 X3 X4 : Type 0} where
   -- The records leave of each room what the seat there keeps, and of other rooms nothing. Where its node has offered, they tell the
@@ -42,10 +42,10 @@ module _ {X1 X2 X3 X4 : Type 0} (IsText1 : List ℕ → X1 → Type 0) (IsText2 
     (IsText3 : List ℕ → X3 → Type 0) (IsText4 : List ℕ → X4 → Type 0) (room : ℕ) where
   -- it may be pending with the seat of this pass
   abbrev pub IsPendingIn : Which → Four X1 X2 X3 X4 → Pending → Type 0
-  IsPendingIn First s p = IsPendingOn IsText1 room s.first p
-  IsPendingIn Second s p = IsPendingOn IsText2 room s.second p
-  IsPendingIn Third s p = IsPendingOn IsText3 room s.third p
-  IsPendingIn Fourth s p = IsPendingOn IsText4 room s.fourth p
+  IsPendingIn Constants s p = IsPendingOn IsText1 room s.constants p
+  IsPendingIn Expressions s p = IsPendingOn IsText2 room s.expressions p
+  IsPendingIn Allocation s p = IsPendingOn IsText3 room s.allocation p
+  IsPendingIn Order s p = IsPendingOn IsText4 room s.order p
 
   -- it may be pending with the seat of the room
   abbrev pub MayPend : List (Four X1 X2 X3 X4) → Option Pending → Type 0
@@ -55,7 +55,7 @@ module _ {X1 X2 X3 X4 : Type 0} (IsText1 : List ℕ → X1 → Type 0) (IsText2 
 
   -- the same of one function's seats
   abbrev pub MayPendIn : Which → Four X1 X2 X3 X4 → Option Pending → Type 0
-  MayPendIn First s p = MayPendOn IsText1 room s.first p
-  MayPendIn Second s p = MayPendOn IsText2 room s.second p
-  MayPendIn Third s p = MayPendOn IsText3 room s.third p
-  MayPendIn Fourth s p = MayPendOn IsText4 room s.fourth p
+  MayPendIn Constants s p = MayPendOn IsText1 room s.constants p
+  MayPendIn Expressions s p = MayPendOn IsText2 room s.expressions p
+  MayPendIn Allocation s p = MayPendOn IsText3 room s.allocation p
+  MayPendIn Order s p = MayPendOn IsText4 room s.order p

@@ -17,26 +17,26 @@ use Rattle.rooms_numbered.specs.AllocPass.TheImpl as allocation
 use Rattle.linearize_check.specs.contracts.pass.LinearizePass.TheImpl as order
 use Rattle.farm_nodes_offers.specs.Pending.{IsOfferText}
 
-abbrev pub Constants : Type 0
-Constants = Parts rtl.FunctionData rtl.FunctionData (List (NodeRow Fact))
+abbrev pub ConstantsOffer : Type 0
+ConstantsOffer = Parts rtl.FunctionData rtl.FunctionData (List (NodeRow Fact))
 
-abbrev pub Expressions : Type 0
-Expressions = Parts rtl.FunctionData rtl.FunctionData (List (NodeRow expressions_held.Equation))
+abbrev pub ExpressionsOffer : Type 0
+ExpressionsOffer = Parts rtl.FunctionData rtl.FunctionData (List (NodeRow expressions_held.Equation))
 
-abbrev pub Allocation : Type 0
-Allocation = Parts rtl.FunctionData ltl.FunctionData (List (NodeRow places_held.Equation))
+abbrev pub AllocationOffer : Type 0
+AllocationOffer = Parts rtl.FunctionData ltl.FunctionData (List (NodeRow places_held.Equation))
 
-abbrev pub Order : Type 0
-Order = Parts ltl.FunctionData linear.FunctionData (List ℕ)
+abbrev pub OrderOffer : Type 0
+OrderOffer = Parts ltl.FunctionData linear.FunctionData (List ℕ)
 
-abbrev pub IsConstants : List ℕ → Constants → Type 0
+abbrev pub IsConstants : List ℕ → ConstantsOffer → Type 0
 IsConstants = IsOfferText rtl_language.ghosts rtl_language.ghosts constants.ghosts
 
-abbrev pub IsExpressions : List ℕ → Expressions → Type 0
+abbrev pub IsExpressions : List ℕ → ExpressionsOffer → Type 0
 IsExpressions = IsOfferText rtl_language.ghosts rtl_language.ghosts expressions.ghosts
 
-abbrev pub IsAllocation : List ℕ → Allocation → Type 0
+abbrev pub IsAllocation : List ℕ → AllocationOffer → Type 0
 IsAllocation = IsOfferText rtl_language.ghosts ltl_language.ghosts allocation.ghosts
 
-abbrev pub IsOrder : List ℕ → Order → Type 0
+abbrev pub IsOrder : List ℕ → OrderOffer → Type 0
 IsOrder = IsOfferText ltl_language.ghosts linear_language.ghosts order.ghosts

@@ -4,10 +4,10 @@ ghost use Rattle.farm_nodes_passes.specs.Numbers.{pass_of, place_of};
 /// A pass by its place in the order.
 #[derive(Clone, Copy, Debug, PartialEq, Eq)]
 pub enum Which {
-    First,
-    Second,
-    Third,
-    Fourth,
+    Constants,
+    Expressions,
+    Allocation,
+    Order,
 }
 
 impl Which {
@@ -16,10 +16,10 @@ impl Which {
         ensures { result ≡ pass_of room }
     {
         match room % 4 {
-            0 => Which::First,
-            1 => Which::Second,
-            2 => Which::Third,
-            _ => Which::Fourth,
+            0 => Which::Constants,
+            1 => Which::Expressions,
+            2 => Which::Allocation,
+            _ => Which::Order,
         }
     }
     /// Its place in the order, the first pass's being 0.
@@ -27,10 +27,10 @@ impl Which {
         ensures { result ≡ place_of self }
     {
         match self {
-            Which::First => 0,
-            Which::Second => 1,
-            Which::Third => 2,
-            Which::Fourth => 3,
+            Which::Constants => 0,
+            Which::Expressions => 1,
+            Which::Allocation => 2,
+            Which::Order => 3,
         }
     }
 }

@@ -11,17 +11,17 @@ use Rattle.acceptor_log_form.specs.Leaves.{left_from}
 use Rattle.offers.specs.declared.parts.Parts.{Parts}
 use Rattle.offers.specs.Text.{text_of}
 use Rattle.farm_nodes_passes.specs.declared.which.Which.{Which}
-use Rattle.farm_nodes_passes.specs.declared.which.Which.TheVariants.{First, Second, Third, Fourth}
+use Rattle.farm_nodes_passes.specs.declared.which.Which.TheVariants.{Constants, Expressions, Allocation, Order}
 use Rattle.farm_nodes_passes.specs.Numbers.{place_of, room_at}
 use Rattle.farm_nodes_records.specs.Written.{all_written, offer_by}
 use Rattle.farm_nodes_records.specs.Stored.{IsStoredText}
 use Rattle.farm_nodes_records.specs.Known.{last_in}
 
 below_four : (which : Which) → place_of which < 4
-below_four First = omega (arith)
-below_four Second = omega (arith)
-below_four Third = omega (arith)
-below_four Fourth = omega (arith)
+below_four Constants = omega (arith)
+below_four Expressions = omega (arith)
+below_four Allocation = omega (arith)
+below_four Order = omega (arith)
 
 -- a room of the pass is that of the function whose number it has
 same_room : (room f p : ℕ) → p < 4 → room % 4 ≡ p → eqb room (4 * f + p) ≡ eqb (room / 4) f

@@ -13,7 +13,7 @@ use Rattle.farm_nodes_acting.specs.Noted.{pending_of}
 use Rattle.farm_nodes_acting.proofs.Records.{kept_own, kept_other}
 use Rattle.farm_nodes_restart_records.specs.Numbers.{function_of, pass_of}
 use Rattle.farm_nodes_restart_records.specs.Which.{Which}
-use Rattle.farm_nodes_restart_records.specs.Which.TheVariants.{First, Second, Third, Fourth}
+use Rattle.farm_nodes_restart_records.specs.Which.TheVariants.{Constants, Expressions, Allocation, Order}
 use Rattle.farm_nodes_restart_records.specs.Fours.{words_of, Four}
 use Rattle.farm_nodes_restart_records.specs.Leaves.{left_in, pending_at, IsPendingIn, Leave, MayPend}
 use Rattle.farm_nodes_restart_records.specs.Texts.{Texts, texts_by, IsOwnTextIn}
@@ -35,54 +35,54 @@ module _ {X1 X2 X3 X4 : Type 0} (IsText1 : List ℕ → X1 → Type 0) (IsText2 
   Taken w p old new = TookIn IsText1 IsText2 IsText3 IsText4 room w p old new
 
   taken_record : (w : Which) (p : Pending) (old new : Four X1 X2 X3 X4) (last : Record) → Taken w p old new → pending_of room (words_of old w) p ≡ last ∷ [] → IsRecordOf room (words_of old w) (words_of new w) last
-  taken_record First p old new last took e = took_record IsText1 room p old.first new.first last took.0 e
-  taken_record Second p old new last took e = took_record IsText2 room p old.second new.second last took.0 e
-  taken_record Third p old new last took e = took_record IsText3 room p old.third new.third last took.0 e
-  taken_record Fourth p old new last took e = took_record IsText4 room p old.fourth new.fourth last took.0 e
+  taken_record Constants p old new last took e = took_record IsText1 room p old.constants new.constants last took.0 e
+  taken_record Expressions p old new last took e = took_record IsText2 room p old.expressions new.expressions last took.0 e
+  taken_record Allocation p old new last took e = took_record IsText3 room p old.allocation new.allocation last took.0 e
+  taken_record Order p old new last took e = took_record IsText4 room p old.order new.order last took.0 e
 
   pub others_words : (w v : Which) (p : Pending) (old new : Four X1 X2 X3 X4) → Taken w p old new → v ≢ w → words_of new v ≡ words_of old v
-  others_words First First p old new took other = absurd (other refl)
-  others_words First Second p old new took other = ap (λ (s : Four X1 X2 X3 X4). s.second.words) took.1
-  others_words First Third p old new took other = ap (λ (s : Four X1 X2 X3 X4). s.third.words) took.1
-  others_words First Fourth p old new took other = ap (λ (s : Four X1 X2 X3 X4). s.fourth.words) took.1
-  others_words Second First p old new took other = ap (λ (s : Four X1 X2 X3 X4). s.first.words) took.1
-  others_words Second Second p old new took other = absurd (other refl)
-  others_words Second Third p old new took other = ap (λ (s : Four X1 X2 X3 X4). s.third.words) took.1
-  others_words Second Fourth p old new took other = ap (λ (s : Four X1 X2 X3 X4). s.fourth.words) took.1
-  others_words Third First p old new took other = ap (λ (s : Four X1 X2 X3 X4). s.first.words) took.1
-  others_words Third Second p old new took other = ap (λ (s : Four X1 X2 X3 X4). s.second.words) took.1
-  others_words Third Third p old new took other = absurd (other refl)
-  others_words Third Fourth p old new took other = ap (λ (s : Four X1 X2 X3 X4). s.fourth.words) took.1
-  others_words Fourth First p old new took other = ap (λ (s : Four X1 X2 X3 X4). s.first.words) took.1
-  others_words Fourth Second p old new took other = ap (λ (s : Four X1 X2 X3 X4). s.second.words) took.1
-  others_words Fourth Third p old new took other = ap (λ (s : Four X1 X2 X3 X4). s.third.words) took.1
-  others_words Fourth Fourth p old new took other = absurd (other refl)
+  others_words Constants Constants p old new took other = absurd (other refl)
+  others_words Constants Expressions p old new took other = ap (λ (s : Four X1 X2 X3 X4). s.expressions.words) took.1
+  others_words Constants Allocation p old new took other = ap (λ (s : Four X1 X2 X3 X4). s.allocation.words) took.1
+  others_words Constants Order p old new took other = ap (λ (s : Four X1 X2 X3 X4). s.order.words) took.1
+  others_words Expressions Constants p old new took other = ap (λ (s : Four X1 X2 X3 X4). s.constants.words) took.1
+  others_words Expressions Expressions p old new took other = absurd (other refl)
+  others_words Expressions Allocation p old new took other = ap (λ (s : Four X1 X2 X3 X4). s.allocation.words) took.1
+  others_words Expressions Order p old new took other = ap (λ (s : Four X1 X2 X3 X4). s.order.words) took.1
+  others_words Allocation Constants p old new took other = ap (λ (s : Four X1 X2 X3 X4). s.constants.words) took.1
+  others_words Allocation Expressions p old new took other = ap (λ (s : Four X1 X2 X3 X4). s.expressions.words) took.1
+  others_words Allocation Allocation p old new took other = absurd (other refl)
+  others_words Allocation Order p old new took other = ap (λ (s : Four X1 X2 X3 X4). s.order.words) took.1
+  others_words Order Constants p old new took other = ap (λ (s : Four X1 X2 X3 X4). s.constants.words) took.1
+  others_words Order Expressions p old new took other = ap (λ (s : Four X1 X2 X3 X4). s.expressions.words) took.1
+  others_words Order Allocation p old new took other = ap (λ (s : Four X1 X2 X3 X4). s.allocation.words) took.1
+  others_words Order Order p old new took other = absurd (other refl)
 
   -- the record tells the text of the offer that stands then, if one does
   taken_told : (w : Which) (p : Pending) (old new : Four X1 X2 X3 X4) (last : Record) (told : Option (List ℕ)) → Taken w p old new → pending_of room (words_of old w) p ≡ last ∷ []
       → ((words_of old w).node.kept.offered ≡ true → IsToldAs (IsOwnTextIn (texts_by IsText1 IsText2 IsText3 IsText4) w old) told) → (words_of new w).node.kept.offered ≡ true → IsToldAs (IsOwnTextIn (texts_by IsText1 IsText2 IsText3 IsText4) w new) (offer_by told last)
-  taken_told First p old new last told took e had now = took_told IsText1 room p old.first new.first last told took.0 e had now
-  taken_told Second p old new last told took e had now = took_told IsText2 room p old.second new.second last told took.0 e had now
-  taken_told Third p old new last told took e had now = took_told IsText3 room p old.third new.third last told took.0 e had now
-  taken_told Fourth p old new last told took e had now = took_told IsText4 room p old.fourth new.fourth last told took.0 e had now
+  taken_told Constants p old new last told took e had now = took_told IsText1 room p old.constants new.constants last told took.0 e had now
+  taken_told Expressions p old new last told took e had now = took_told IsText2 room p old.expressions new.expressions last told took.0 e had now
+  taken_told Allocation p old new last told took e had now = took_told IsText3 room p old.allocation new.allocation last told took.0 e had now
+  taken_told Order p old new last told took e had now = took_told IsText4 room p old.order new.order last told took.0 e had now
 
   others_own : (w v : Which) (p : Pending) (old new : Four X1 X2 X3 X4) → Taken w p old new → v ≢ w → (text : List ℕ) → IsOwnTextIn (texts_by IsText1 IsText2 IsText3 IsText4) v old text → IsOwnTextIn (texts_by IsText1 IsText2 IsText3 IsText4) v new text
-  others_own First First p old new took other text own = absurd (other refl)
-  others_own First Second p old new took other text own = subst (λ (s : Four X1 X2 X3 X4). IsOwnTextIn (texts_by IsText1 IsText2 IsText3 IsText4) Second s text) (sym took.1) own
-  others_own First Third p old new took other text own = subst (λ (s : Four X1 X2 X3 X4). IsOwnTextIn (texts_by IsText1 IsText2 IsText3 IsText4) Third s text) (sym took.1) own
-  others_own First Fourth p old new took other text own = subst (λ (s : Four X1 X2 X3 X4). IsOwnTextIn (texts_by IsText1 IsText2 IsText3 IsText4) Fourth s text) (sym took.1) own
-  others_own Second First p old new took other text own = subst (λ (s : Four X1 X2 X3 X4). IsOwnTextIn (texts_by IsText1 IsText2 IsText3 IsText4) First s text) (sym took.1) own
-  others_own Second Second p old new took other text own = absurd (other refl)
-  others_own Second Third p old new took other text own = subst (λ (s : Four X1 X2 X3 X4). IsOwnTextIn (texts_by IsText1 IsText2 IsText3 IsText4) Third s text) (sym took.1) own
-  others_own Second Fourth p old new took other text own = subst (λ (s : Four X1 X2 X3 X4). IsOwnTextIn (texts_by IsText1 IsText2 IsText3 IsText4) Fourth s text) (sym took.1) own
-  others_own Third First p old new took other text own = subst (λ (s : Four X1 X2 X3 X4). IsOwnTextIn (texts_by IsText1 IsText2 IsText3 IsText4) First s text) (sym took.1) own
-  others_own Third Second p old new took other text own = subst (λ (s : Four X1 X2 X3 X4). IsOwnTextIn (texts_by IsText1 IsText2 IsText3 IsText4) Second s text) (sym took.1) own
-  others_own Third Third p old new took other text own = absurd (other refl)
-  others_own Third Fourth p old new took other text own = subst (λ (s : Four X1 X2 X3 X4). IsOwnTextIn (texts_by IsText1 IsText2 IsText3 IsText4) Fourth s text) (sym took.1) own
-  others_own Fourth First p old new took other text own = subst (λ (s : Four X1 X2 X3 X4). IsOwnTextIn (texts_by IsText1 IsText2 IsText3 IsText4) First s text) (sym took.1) own
-  others_own Fourth Second p old new took other text own = subst (λ (s : Four X1 X2 X3 X4). IsOwnTextIn (texts_by IsText1 IsText2 IsText3 IsText4) Second s text) (sym took.1) own
-  others_own Fourth Third p old new took other text own = subst (λ (s : Four X1 X2 X3 X4). IsOwnTextIn (texts_by IsText1 IsText2 IsText3 IsText4) Third s text) (sym took.1) own
-  others_own Fourth Fourth p old new took other text own = absurd (other refl)
+  others_own Constants Constants p old new took other text own = absurd (other refl)
+  others_own Constants Expressions p old new took other text own = subst (λ (s : Four X1 X2 X3 X4). IsOwnTextIn (texts_by IsText1 IsText2 IsText3 IsText4) Expressions s text) (sym took.1) own
+  others_own Constants Allocation p old new took other text own = subst (λ (s : Four X1 X2 X3 X4). IsOwnTextIn (texts_by IsText1 IsText2 IsText3 IsText4) Allocation s text) (sym took.1) own
+  others_own Constants Order p old new took other text own = subst (λ (s : Four X1 X2 X3 X4). IsOwnTextIn (texts_by IsText1 IsText2 IsText3 IsText4) Order s text) (sym took.1) own
+  others_own Expressions Constants p old new took other text own = subst (λ (s : Four X1 X2 X3 X4). IsOwnTextIn (texts_by IsText1 IsText2 IsText3 IsText4) Constants s text) (sym took.1) own
+  others_own Expressions Expressions p old new took other text own = absurd (other refl)
+  others_own Expressions Allocation p old new took other text own = subst (λ (s : Four X1 X2 X3 X4). IsOwnTextIn (texts_by IsText1 IsText2 IsText3 IsText4) Allocation s text) (sym took.1) own
+  others_own Expressions Order p old new took other text own = subst (λ (s : Four X1 X2 X3 X4). IsOwnTextIn (texts_by IsText1 IsText2 IsText3 IsText4) Order s text) (sym took.1) own
+  others_own Allocation Constants p old new took other text own = subst (λ (s : Four X1 X2 X3 X4). IsOwnTextIn (texts_by IsText1 IsText2 IsText3 IsText4) Constants s text) (sym took.1) own
+  others_own Allocation Expressions p old new took other text own = subst (λ (s : Four X1 X2 X3 X4). IsOwnTextIn (texts_by IsText1 IsText2 IsText3 IsText4) Expressions s text) (sym took.1) own
+  others_own Allocation Allocation p old new took other text own = absurd (other refl)
+  others_own Allocation Order p old new took other text own = subst (λ (s : Four X1 X2 X3 X4). IsOwnTextIn (texts_by IsText1 IsText2 IsText3 IsText4) Order s text) (sym took.1) own
+  others_own Order Constants p old new took other text own = subst (λ (s : Four X1 X2 X3 X4). IsOwnTextIn (texts_by IsText1 IsText2 IsText3 IsText4) Constants s text) (sym took.1) own
+  others_own Order Expressions p old new took other text own = subst (λ (s : Four X1 X2 X3 X4). IsOwnTextIn (texts_by IsText1 IsText2 IsText3 IsText4) Expressions s text) (sym took.1) own
+  others_own Order Allocation p old new took other text own = subst (λ (s : Four X1 X2 X3 X4). IsOwnTextIn (texts_by IsText1 IsText2 IsText3 IsText4) Allocation s text) (sym took.1) own
+  others_own Order Order p old new took other text own = absurd (other refl)
 
   -- ---- with all
 
@@ -208,16 +208,16 @@ module _ {X1 X2 X3 X4 : Type 0} (IsText1 : List ℕ → X1 → Type 0) (IsText2 
 -- ---- once they have forgotten
 
 four_kept : {X1 X2 X3 X4 : Type 0} (old new : Four X1 X2 X3 X4) (w : Which) → HaveForgotten old new → (words_of new w).node.kept ≡ (words_of old w).node.kept
-four_kept old new First forgot = forgotten_kept old.first new.first forgot.first
-four_kept old new Second forgot = forgotten_kept old.second new.second forgot.second
-four_kept old new Third forgot = forgotten_kept old.third new.third forgot.third
-four_kept old new Fourth forgot = forgotten_kept old.fourth new.fourth forgot.fourth
+four_kept old new Constants forgot = forgotten_kept old.constants new.constants forgot.constants
+four_kept old new Expressions forgot = forgotten_kept old.expressions new.expressions forgot.expressions
+four_kept old new Allocation forgot = forgotten_kept old.allocation new.allocation forgot.allocation
+four_kept old new Order forgot = forgotten_kept old.order new.order forgot.order
 
 four_own : {X1 X2 X3 X4 : Type 0} (texts : Texts X1 X2 X3 X4) (old new : Four X1 X2 X3 X4) (w : Which) → HaveForgotten old new → (text : List ℕ) → IsOwnTextIn texts w old text → IsOwnTextIn texts w new text
-four_own texts old new First forgot text own = forgotten_own texts.first old.first new.first forgot.first text own
-four_own texts old new Second forgot text own = forgotten_own texts.second old.second new.second forgot.second text own
-four_own texts old new Third forgot text own = forgotten_own texts.third old.third new.third forgot.third text own
-four_own texts old new Fourth forgot text own = forgotten_own texts.fourth old.fourth new.fourth forgot.fourth text own
+four_own texts old new Constants forgot text own = forgotten_own texts.constants old.constants new.constants forgot.constants text own
+four_own texts old new Expressions forgot text own = forgotten_own texts.expressions old.expressions new.expressions forgot.expressions text own
+four_own texts old new Allocation forgot text own = forgotten_own texts.allocation old.allocation new.allocation forgot.allocation text own
+four_own texts old new Order forgot text own = forgotten_own texts.order old.order new.order forgot.order text own
 
 leave_forgot : {X1 X2 X3 X4 : Type 0} (texts : Texts X1 X2 X3 X4) (old new : List (Four X1 X2 X3 X4)) (rs : List Record) → AllChanged HaveForgotten old new → Leave texts old rs → Leave texts new rs
 leave_forgot texts old new rs forgot leave = record {

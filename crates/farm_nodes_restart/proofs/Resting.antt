@@ -1,5 +1,5 @@
 -- Seats that came back are their node's as they were, and have no ballot under way.
-use Rattle.std.proofs.Common.{◌≡◌, ◌≢◌, ℕ, ◌<◌, List, length, Option, Some, None, set, refl, sym, ap, ◌∙◌, subst, arith, inl, inr}
+use Rattle.std.proofs.Common.{◌≡◌, ℕ, ◌<◌, List, length, Option, Some, None, set, sym, ap, ◌∙◌, subst, arith, inl, inr}
 use Rattle.std.specs.Prelude.{slice_get}
 use Rattle.std.proofs.lemmas.Bool.{cases_eq}
 use Rattle.std.proofs.lemmas.List.{length-set}
@@ -15,7 +15,7 @@ use Rattle.farm_nodes_acting.specs.declared.stop.Pending.TheVariants.{Act, Offer
 use Rattle.farm_nodes_order.specs.Ordered.{IsOfOneNode}
 use Rattle.farm_nodes_restart_records.specs.Numbers.{function_of, pass_of}
 use Rattle.farm_nodes_restart_records.specs.Which.{Which}
-use Rattle.farm_nodes_restart_records.specs.Which.TheVariants.{First, Second, Third, Fourth}
+use Rattle.farm_nodes_restart_records.specs.Which.TheVariants.{Constants, Expressions, Allocation, Order}
 use Rattle.farm_nodes_restart_records.specs.Fours.{words_of, Four}
 use Rattle.farm_nodes_restart_seat.specs.Taken.{Took}
 use Rattle.farm_nodes_restart.specs.Returned.{AreAtRest, HasStepped, HaveForgotten, HaveReturned, IsAtRest, IsTaken, TookAt, TookIn}
@@ -64,10 +64,10 @@ forgotten_rest s t forgot = record {
 }
 
 four_rest : {X1 X2 X3 X4 : Type 0} (old new : Four X1 X2 X3 X4) (w : Which) → HaveForgotten old new → Forgot (words_of old w) (words_of new w)
-four_rest old new First forgot = forgotten_rest old.first.words new.first.words forgot.first.words
-four_rest old new Second forgot = forgotten_rest old.second.words new.second.words forgot.second.words
-four_rest old new Third forgot = forgotten_rest old.third.words new.third.words forgot.third.words
-four_rest old new Fourth forgot = forgotten_rest old.fourth.words new.fourth.words forgot.fourth.words
+four_rest old new Constants forgot = forgotten_rest old.constants.words new.constants.words forgot.constants.words
+four_rest old new Expressions forgot = forgotten_rest old.expressions.words new.expressions.words forgot.expressions.words
+four_rest old new Allocation forgot = forgotten_rest old.allocation.words new.allocation.words forgot.allocation.words
+four_rest old new Order forgot = forgotten_rest old.order.words new.order.words forgot.order.words
 
 rest_through : (s u t : SeatState) → Went s u → Forgot u t → IsAtRest s t
 rest_through s u t first second = record {
@@ -79,10 +79,10 @@ rest_through s u t first second = record {
 module _ {X1 X2 X3 X4 : Type 0} (IsText1 : List ℕ → X1 → Type 0) (IsText2 : List ℕ → X2 → Type 0)
     (IsText3 : List ℕ → X3 → Type 0) (IsText4 : List ℕ → X4 → Type 0) (room : ℕ) where
   taken_node : (w : Which) (p : Pending) (old new : Four X1 X2 X3 X4) → TookIn IsText1 IsText2 IsText3 IsText4 room w p old new → Went (words_of old w) (words_of new w)
-  taken_node First p old new took = took_node IsText1 room p old.first new.first took.0
-  taken_node Second p old new took = took_node IsText2 room p old.second new.second took.0
-  taken_node Third p old new took = took_node IsText3 room p old.third new.third took.0
-  taken_node Fourth p old new took = took_node IsText4 room p old.fourth new.fourth took.0
+  taken_node Constants p old new took = took_node IsText1 room p old.constants new.constants took.0
+  taken_node Expressions p old new took = took_node IsText2 room p old.expressions new.expressions took.0
+  taken_node Allocation p old new took = took_node IsText3 room p old.allocation new.allocation took.0
+  taken_node Order p old new took = took_node IsText4 room p old.order new.order took.0
 
   -- each seat is its node's
   abbrev AreOne : List (Four X1 X2 X3 X4) → List (Four X1 X2 X3 X4) → Type 0

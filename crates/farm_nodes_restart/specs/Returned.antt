@@ -17,7 +17,7 @@ use Rattle.farm_nodes_restart_records.specs.Leaves.{Leave}
 use Rattle.farm_nodes_restart_records.specs.Texts.{Texts, texts_by}
 use Rattle.farm_nodes_restart_records.specs.Numbers.{function_of, pass_of}
 use Rattle.farm_nodes_restart_records.specs.Which.{Which}
-use Rattle.farm_nodes_restart_records.specs.Which.TheVariants.{First, Second, Third, Fourth}
+use Rattle.farm_nodes_restart_records.specs.Which.TheVariants.{Constants, Expressions, Allocation, Order}
 use Rattle.farm_nodes_restart_seat.specs.declared.fault.RestartFault.{RestartFault}
 use Rattle.farm_nodes_restart_seat.specs.declared.fault.RestartFault.TheVariants.{NoMemory, Journal, OtherRecords, CellRefused}
 use Rattle.farm_nodes_restart_seat.specs.Taken.{HasForgotten, IsTakeFault, Took}
@@ -26,10 +26,10 @@ use Rattle.farm_nodes_restart_seat.specs.Places.{AllChanged, ChangedAt}
 
 -- each of a function's seats has forgotten all but what its node keeps, and is of the room that it was of
 pub record HaveForgotten {X1 X2 X3 X4 : Type 0} (old new : Four X1 X2 X3 X4) : Type 0 where
-  pub first : HasForgotten old.first new.first
-  pub second : HasForgotten old.second new.second
-  pub third : HasForgotten old.third new.third
-  pub fourth : HasForgotten old.fourth new.fourth
+  pub constants : HasForgotten old.constants new.constants
+  pub expressions : HasForgotten old.expressions new.expressions
+  pub allocation : HasForgotten old.allocation new.allocation
+  pub order : HasForgotten old.order new.order
   pub number : new.number ≡ old.number
 
 -- the seat is its node's as it was, has no ballot under way, and goes on in its run
@@ -49,10 +49,10 @@ module _ {X1 X2 X3 X4 : Type 0} (IsText1 : List ℕ → X1 → Type 0) (IsText2 
     (IsText3 : List ℕ → X3 → Type 0) (IsText4 : List ℕ → X4 → Type 0) (room : ℕ) where
   -- it is done there, and the other seats are as they were
   abbrev pub TookIn : Which → Pending → Four X1 X2 X3 X4 → Four X1 X2 X3 X4 → Type 0
-  TookIn First p old new = Took IsText1 room p old.first new.first × (new ≡ record old { first = new.first })
-  TookIn Second p old new = Took IsText2 room p old.second new.second × (new ≡ record old { second = new.second })
-  TookIn Third p old new = Took IsText3 room p old.third new.third × (new ≡ record old { third = new.third })
-  TookIn Fourth p old new = Took IsText4 room p old.fourth new.fourth × (new ≡ record old { fourth = new.fourth })
+  TookIn Constants p old new = Took IsText1 room p old.constants new.constants × (new ≡ record old { constants = new.constants })
+  TookIn Expressions p old new = Took IsText2 room p old.expressions new.expressions × (new ≡ record old { expressions = new.expressions })
+  TookIn Allocation p old new = Took IsText3 room p old.allocation new.allocation × (new ≡ record old { allocation = new.allocation })
+  TookIn Order p old new = Took IsText4 room p old.order new.order × (new ≡ record old { order = new.order })
 
   -- it is done with the seat of the room
   abbrev pub TookAt : Pending → List (Four X1 X2 X3 X4) → List (Four X1 X2 X3 X4) → Type 0

@@ -26,10 +26,10 @@ pub(crate) fn take_in<H: Naming>(
     ensures faults { IfErr result (IsTakeFault pending.now) }
 {
     match pass {
-        Which::First => take(alloc, &mut seats.seat.first, room, pending),
-        Which::Second => take(alloc, &mut seats.seat.second, room, pending),
-        Which::Third => take(alloc, &mut seats.seat.third, room, pending),
-        Which::Fourth => take(alloc, &mut seats.seat.fourth, room, pending),
+        Which::Constants => take(alloc, &mut seats.seat.first, room, pending),
+        Which::Expressions => take(alloc, &mut seats.seat.second, room, pending),
+        Which::Allocation => take(alloc, &mut seats.seat.third, room, pending),
+        Which::Order => take(alloc, &mut seats.seat.fourth, room, pending),
     }
 }
 

@@ -58,14 +58,14 @@ kept_seen {S} {X1} {X2} {X3} {X4} view parts seats i s told is within iff = (
 
 -- of the four of a function, from what is told of each
 pub four_kept : {X1 X2 X3 X4 : Type 0} (parts : List KeptPart) (place : ℕ) (s : Four X1 X2 X3 X4) (a b c d front back told : Type 0)
-    → a ↔ (slice_get parts place ≡ Some s.first.words.node.kept) → b ↔ (slice_get parts (place + 1) ≡ Some s.second.words.node.kept)
-    → c ↔ (slice_get parts (place + 2) ≡ Some s.third.words.node.kept) → d ↔ (slice_get parts (place + 3) ≡ Some s.fourth.words.node.kept)
+    → a ↔ (slice_get parts place ≡ Some s.constants.words.node.kept) → b ↔ (slice_get parts (place + 1) ≡ Some s.expressions.words.node.kept)
+    → c ↔ (slice_get parts (place + 2) ≡ Some s.allocation.words.node.kept) → d ↔ (slice_get parts (place + 3) ≡ Some s.order.words.node.kept)
     → front ↔ (a × b) → back ↔ (c × d) → told ↔ (front × back) → told ↔ AreKeptAt parts place s
 four_kept parts place s a b c d front back told first second third fourth one two all = (
   λ yes.
       let halves = all.0 yes in
       let x = one.0 halves.0 in
       let y = two.0 halves.1 in
-      record { first = first.0 x.0; second = second.0 x.1; third = third.0 y.0; fourth = fourth.0 y.1 },
-  λ kept. all.1 (one.1 (first.1 kept.first, second.1 kept.second), two.1 (third.1 kept.third, fourth.1 kept.fourth)),
+      record { constants = first.0 x.0; expressions = second.0 x.1; allocation = third.0 y.0; order = fourth.0 y.1 },
+  λ kept. all.1 (one.1 (first.1 kept.constants, second.1 kept.expressions), two.1 (third.1 kept.allocation, fourth.1 kept.order)),
 )

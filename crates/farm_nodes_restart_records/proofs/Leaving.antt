@@ -19,7 +19,7 @@ use Rattle.farm_nodes_acting.specs.Noted.{pending_of}
 use Rattle.farm_nodes_offers.specs.Pending.{IsAsked, IsPendingOn}
 use Rattle.farm_nodes_passes.specs.Numbers.{function_of, pass_of, place_of}
 use Rattle.farm_nodes_passes.specs.declared.which.Which.{Which}
-use Rattle.farm_nodes_passes.specs.declared.which.Which.TheVariants.{First, Second, Third, Fourth}
+use Rattle.farm_nodes_passes.specs.declared.which.Which.TheVariants.{Constants, Expressions, Allocation, Order}
 use Rattle.farm_nodes_passes.specs.Fours.{words_of, Four}
 use Rattle.farm_nodes_passes.specs.Leaves.{left_in, pending_at, IsPendingIn, Leave, MayAsk, MayPend}
 use Rattle.farm_nodes_passes.specs.Texts.{Texts, IsOwnTextIn}
@@ -71,17 +71,17 @@ module _ {X1 X2 X3 X4 : Type 0} (seats : List (Four X1 X2 X3 X4)) (rs : List Rec
 
 module _ {X1 X2 X3 X4 : Type 0} (parts : List KeptPart) (place : ℕ) (s : Four X1 X2 X3 X4) where
   part_at : AreKeptAt parts place s → (w : Which) → slice_get parts (place + place_of w) ≡ Some (words_of s w).node.kept
-  part_at kept First = ap (λ (i : ℕ). slice_get parts i) (omega arith) ∙ kept.first
-  part_at kept Second = kept.second
-  part_at kept Third = kept.third
-  part_at kept Fourth = kept.fourth
+  part_at kept Constants = ap (λ (i : ℕ). slice_get parts i) (omega arith) ∙ kept.constants
+  part_at kept Expressions = kept.expressions
+  part_at kept Allocation = kept.allocation
+  part_at kept Order = kept.order
 
   parts_at : ((w : Which) → slice_get parts (place + place_of w) ≡ Some (words_of s w).node.kept) → AreKeptAt parts place s
   parts_at each = record {
-    first = ap (λ (i : ℕ). slice_get parts i) (omega arith) ∙ each First;
-    second = each Second;
-    third = each Third;
-    fourth = each Fourth;
+    constants = ap (λ (i : ℕ). slice_get parts i) (omega arith) ∙ each Constants;
+    expressions = each Expressions;
+    allocation = each Allocation;
+    order = each Order;
   }
 
 module _ {X1 X2 X3 X4 : Type 0} (n i rooms : ℕ) (rs : List Record) (parts : List KeptPart) (seats : List (Four X1 X2 X3 X4))
@@ -188,10 +188,10 @@ asked_on IsText room s (Offer r) may = tt
 module _ {X1 X2 X3 X4 : Type 0} (IsText1 : List ℕ → X1 → Type 0) (IsText2 : List ℕ → X2 → Type 0)
     (IsText3 : List ℕ → X3 → Type 0) (IsText4 : List ℕ → X4 → Type 0) (room : ℕ) where
   asked_in : (w : Which) (s : Four X1 X2 X3 X4) (p : Pending) → IsPendingIn IsText1 IsText2 IsText3 IsText4 room w s p → IsAsked (words_of s w) p
-  asked_in First s p may = asked_on IsText1 room s.first p may
-  asked_in Second s p may = asked_on IsText2 room s.second p may
-  asked_in Third s p may = asked_on IsText3 room s.third p may
-  asked_in Fourth s p may = asked_on IsText4 room s.fourth p may
+  asked_in Constants s p may = asked_on IsText1 room s.constants p may
+  asked_in Expressions s p may = asked_on IsText2 room s.expressions p may
+  asked_in Allocation s p may = asked_on IsText3 room s.allocation p may
+  asked_in Order s p may = asked_on IsText4 room s.order p may
 
   pub asked : (seats : List (Four X1 X2 X3 X4)) (p : Option Pending) → MayPend IsText1 IsText2 IsText3 IsText4 room seats p → MayAsk seats room p
   asked seats None may = tt

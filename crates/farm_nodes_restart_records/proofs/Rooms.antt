@@ -3,7 +3,7 @@ use Rattle.std.proofs.Common.{◌≡◌, ℕ, zero, suc, ◌+◌, ◌*◌, ◌/�
 use Rattle.std.proofs.lemmas.Nat.{div-add-mod', div-mul-add, mod-mul-add, mod_below}
 use Rattle.farm_nodes_passes.specs.Numbers.{pass_at, place_of, pass_of, function_of}
 use Rattle.farm_nodes_passes.specs.declared.which.Which.{Which}
-use Rattle.farm_nodes_passes.specs.declared.which.Which.TheVariants.{First, Second, Third, Fourth}
+use Rattle.farm_nodes_passes.specs.declared.which.Which.TheVariants.{Constants, Expressions, Allocation, Order}
 
 placed : (r : ℕ) → r < 4 → place_of (pass_at r) ≡ r
 placed zero below = refl
@@ -24,16 +24,16 @@ same_room m n function pass =
     omega (arith, room_is m, room_is n, function, place)
 
 place_below : (w : Which) → place_of w < 4
-place_below First = omega arith
-place_below Second = omega arith
-place_below Third = omega arith
-place_below Fourth = omega arith
+place_below Constants = omega arith
+place_below Expressions = omega arith
+place_below Allocation = omega arith
+place_below Order = omega arith
 
 passed : (w : Which) → pass_at (place_of w) ≡ w
-passed First = refl
-passed Second = refl
-passed Third = refl
-passed Fourth = refl
+passed Constants = refl
+passed Expressions = refl
+passed Allocation = refl
+passed Order = refl
 
 turned : (f : ℕ) (w : Which) → 4 * f + place_of w ≡ f * 4 + place_of w
 turned f w = omega arith

@@ -34,10 +34,10 @@ ShowFront rooms parts rs = (front : List Record) × IsButLast rs front × ShowPa
 module _ {X1 X2 X3 X4 : Type 0} where
   -- the four parts from this place on are what the seats keep
   pub record AreKeptAt (parts : List KeptPart) (place : ℕ) (s : Four X1 X2 X3 X4) : Type 0 where
-    pub first : slice_get parts place ≡ Some s.first.words.node.kept
-    pub second : slice_get parts (place + 1) ≡ Some s.second.words.node.kept
-    pub third : slice_get parts (place + 2) ≡ Some s.third.words.node.kept
-    pub fourth : slice_get parts (place + 3) ≡ Some s.fourth.words.node.kept
+    pub constants : slice_get parts place ≡ Some s.constants.words.node.kept
+    pub expressions : slice_get parts (place + 1) ≡ Some s.expressions.words.node.kept
+    pub allocation : slice_get parts (place + 2) ≡ Some s.allocation.words.node.kept
+    pub order : slice_get parts (place + 3) ≡ Some s.order.words.node.kept
 
   -- the parts, by room, are what the seats of this function keep
   abbrev pub IsKeptAt : List KeptPart → List (Four X1 X2 X3 X4) → ℕ → Type 0

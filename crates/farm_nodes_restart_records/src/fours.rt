@@ -30,10 +30,10 @@ pub(crate) fn is_pending_in<H: Naming>(
         ↔ (pending_of room (words_of (four_of seats.now) pass) pending.now ≡ entry.now ∷ []) }
 {
     match pass {
-        Which::First => is_pending(&seats.seat.first, room, pending, entry),
-        Which::Second => is_pending(&seats.seat.second, room, pending, entry),
-        Which::Third => is_pending(&seats.seat.third, room, pending, entry),
-        Which::Fourth => is_pending(&seats.seat.fourth, room, pending, entry),
+        Which::Constants => is_pending(&seats.seat.first, room, pending, entry),
+        Which::Expressions => is_pending(&seats.seat.second, room, pending, entry),
+        Which::Allocation => is_pending(&seats.seat.third, room, pending, entry),
+        Which::Order => is_pending(&seats.seat.fourth, room, pending, entry),
     }
 }
 
@@ -47,10 +47,10 @@ pub(crate) fn is_text_in<H: Naming>(
     ensures { IfOk result (λ told. IsTrue told ↔ IsOwnTextIn pass_texts pass (four_of seats.now) text.now) }
 {
     match pass {
-        Which::First => is_own_text(alloc, &seats.seat.first, text),
-        Which::Second => is_own_text(alloc, &seats.seat.second, text),
-        Which::Third => is_own_text(alloc, &seats.seat.third, text),
-        Which::Fourth => is_own_text(alloc, &seats.seat.fourth, text),
+        Which::Constants => is_own_text(alloc, &seats.seat.first, text),
+        Which::Expressions => is_own_text(alloc, &seats.seat.second, text),
+        Which::Allocation => is_own_text(alloc, &seats.seat.third, text),
+        Which::Order => is_own_text(alloc, &seats.seat.fourth, text),
     }
 }
 

@@ -1,4 +1,5 @@
 pub mod Own
 pub mod Waiting
 pub mod Soundness
+mod Telling
 mod OverPair

@@ -1,6 +1,6 @@
 -- A node comes back over the new disk of a pair, once the old one was read.
-use Rattle.std.proofs.Common.{◌≡◌, ◌≢◌, inl, inr, ℕ, ◌≤◌, List, [], Result, Err, refl, sym, ◌∙◌, subst}
-use Rattle.durable_model.specs.Honest.{Risen, Unchanged}
+use Rattle.std.proofs.Common.{◌≡◌, ◌≢◌, inl, inr, ℕ, List, Result, Err, refl, sym, ◌∙◌, subst}
+use Rattle.durable_model.specs.Honest.{Unchanged}
 use Rattle.durable_model.specs.Moments.{LeavesOnly}
 use Rattle.durable_model.specs.declared.disk.Disk as disks
 use Rattle.durable_pair.specs.declared.pair.Pair as pairs

@@ -44,16 +44,6 @@ module _ {T1 T2 T3 T4 : Type 0} where
       (subst (λ (ps : List Record). Between log.header u.0 (u.0 ++ ps) bytes) (pending_left seats halted) (u.1.left bytes left))
       stands others
 
-  module _ (texts : Texts T1 T2 T3 T4) (h : Header) (rooms : ℕ) (seats : List (Four T1 T2 T3 T4)) (room : ℕ) (p : Option Pending) (bytes : List ℕ) where
-    -- why it is not: no others stand there
-    pub not_others : (fault : RestartFault) → HasReason texts h rooms seats room p bytes fault
-        → ((rs : List Record) → StandsFor h rs bytes → AreOther texts seats room p rs → ⊥) → fault ≡ OtherRecords → ⊥
-    not_others fault (inl memory) never is = let bad = sym memory ∙ is in absurd (cc)
-    not_others fault (inr (inl device)) never is = let bad = sym device ∙ is in absurd (cc)
-    not_others fault (inr (inr (inl journal))) never is = let bad = sym journal.1 ∙ is in absurd (cc)
-    not_others fault (inr (inr (inr held))) never is =
-        never held.0 held.1 (subst (λ (f : RestartFault). HoldsBack texts h rooms seats room p held.0 f) is held.2).1
-
   module _ {D : Type 0} (texts : Texts T1 T2 T3 T4) (is_honest : D → Type 0) (seen : D → List ℕ) (may_leave : D → List ℕ → Type 0) (log : Log D) (seats : List (Four T1 T2 T3 T4))
       (halted : Option Halted) (bytes : List ℕ) (sound : IsSoundBy texts is_honest seen may_leave log seats halted) (honest : is_honest log.disk) (left : may_leave log.disk bytes) where
     -- its records are in order

@@ -1,7 +1,7 @@
 -- What a node had not done, where it is stopped or not.
 use Rattle.std.proofs.Common.{◌≡◌, ℕ, List, Option, Some, None, sym, subst}
 use Rattle.rooms_hall.specs.declared.hall.Naming as naming
-use Rattle.farm_nodes_node.specs.Offers.{Constants, Expressions, Allocation, Order, IsConstants, IsExpressions, IsAllocation, IsOrder}
+use Rattle.farm_nodes_node.specs.Offers.{ConstantsOffer, ExpressionsOffer, AllocationOffer, OrderOffer, IsConstants, IsExpressions, IsAllocation, IsOrder}
 use Rattle.farm_nodes_node.specs.NumberedSeat.{NumberedSeat}
 use Rattle.farm_nodes_acting.specs.declared.stop.Pending.{Pending}
 use Rattle.farm_nodes_node.specs.Fours.{fours_of, Four}
@@ -21,7 +21,7 @@ module _ {H : Type 0} {h : naming.Ghosts H} where
   pub still_pending : (seats now : List (NumberedSeat H h)) (halted : Option Halted) (room : ℕ) (p : Option Pending)
       → room ≡ room_in halted → p ≡ left_by halted → fours_of now ≡ fours_of seats → IsWaiting seats halted → HavePending now room p
   still_pending seats now halted room p same_room same_pending same_seats waiting =
-      subst (λ (l : List (Four Constants Expressions Allocation Order)).
+      subst (λ (l : List (Four ConstantsOffer ExpressionsOffer AllocationOffer OrderOffer)).
       MayPend IsConstants IsExpressions IsAllocation IsOrder room l p) (sym same_seats)
       (subst (λ (m : ℕ). HavePending seats m p) (sym same_room)
       (subst (λ (q : Option Pending). HavePending seats (room_in halted) q) (sym same_pending) (have_pending seats halted waiting)))

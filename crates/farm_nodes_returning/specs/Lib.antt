@@ -1,3 +1,5 @@
 pub mod Stopped
 pub mod Own
 pub mod Cause
+pub mod Restarted
+pub mod OwnDisk

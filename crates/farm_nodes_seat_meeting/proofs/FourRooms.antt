@@ -7,7 +7,7 @@ use Rattle.farm_nodes_passes.specs.FunctionMeeting.{FunctionMeeting}
 use Rattle.farm_nodes_passes.specs.FunctionSeat.{FunctionSeat}
 use Rattle.farm_nodes_passes.specs.FunctionOf.{AreAsBefore, AreStrangers, HaveMetIn}
 use Rattle.farm_nodes_passes.specs.Met.{IsOneFunction}
-use Rattle.farm_nodes_passes.specs.Offers.{Constants, Expressions, Allocation, Order}
+use Rattle.farm_nodes_passes.specs.Offers.{ConstantsOffer, ExpressionsOffer, AllocationOffer, OrderOffer}
 use Rattle.farm_nodes_seat_meeting.specs.Held.{Held, held}
 use Rattle.farm_nodes_seat_meeting.specs.Learned.{learned_offer}
 use Rattle.farm_nodes_seat_meeting.specs.Functions.{AreOne, BothLink, HasAll, HoldSameOffers, MetIn, HasMet}
@@ -26,33 +26,33 @@ both_told p q told P Q is is' all =
 module _ {T1 T2 T3 T4 : Type 0} (s t s' t' : Held T1 T2 T3 T4) (met : MetIn s t s' t') where
   pub same_held : BothLink s' t' → HoldSameOffers s' t'
   same_held link = record {
-    first = one_held s.first t.first s'.first t'.first met.first link.first;
-    second = one_held s.second t.second s'.second t'.second met.second link.second;
-    third = one_held s.third t.third s'.third t'.third met.third link.third;
-    fourth = one_held s.fourth t.fourth s'.fourth t'.fourth met.fourth link.fourth;
+    constants = one_held s.constants t.constants s'.constants t'.constants met.constants link.constants;
+    expressions = one_held s.expressions t.expressions s'.expressions t'.expressions met.expressions link.expressions;
+    allocation = one_held s.allocation t.allocation s'.allocation t'.allocation met.allocation link.allocation;
+    order = one_held s.order t.order s'.order t'.order met.order link.order;
   }
 
   pub same_rooms : BothLink s' t' → AreOne s t
   same_rooms link = record {
-    first = met.first.room.1 link.first.room;
-    second = met.second.room.1 link.second.room;
-    third = met.third.room.1 link.third.room;
-    fourth = met.fourth.room.1 link.fourth.room;
+    constants = met.constants.room.1 link.constants.room;
+    expressions = met.expressions.room.1 link.expressions.room;
+    allocation = met.allocation.room.1 link.allocation.room;
+    order = met.order.room.1 link.order.room;
   }
 
   -- who is of the four rooms and has all offers links, and who links is and has
   both_link : AreOne s t → HasAll s' → HasAll t' → BothLink s' t'
   both_link one a b = record {
-    first = record { room = met.first.room.0 one.first; first = a.first; second = b.first };
-    second = record { room = met.second.room.0 one.second; first = a.second; second = b.second };
-    third = record { room = met.third.room.0 one.third; first = a.third; second = b.third };
-    fourth = record { room = met.fourth.room.0 one.fourth; first = a.fourth; second = b.fourth };
+    constants = record { room = met.constants.room.0 one.constants; first = a.constants; second = b.constants };
+    expressions = record { room = met.expressions.room.0 one.expressions; first = a.expressions; second = b.expressions };
+    allocation = record { room = met.allocation.room.0 one.allocation; first = a.allocation; second = b.allocation };
+    order = record { room = met.order.room.0 one.order; first = a.order; second = b.order };
   }
 
   have_both : BothLink s' t' → HasAll s' × HasAll t'
   have_both link = (
-    record { first = link.first.first; second = link.second.first; third = link.third.first; fourth = link.fourth.first },
-    record { first = link.first.second; second = link.second.second; third = link.third.second; fourth = link.fourth.second },
+    record { constants = link.constants.first; expressions = link.expressions.first; allocation = link.allocation.first; order = link.order.first },
+    record { constants = link.constants.second; expressions = link.expressions.second; allocation = link.allocation.second; order = link.order.second },
   )
 
   -- it is told whether they are of the same rooms, and whether both have all offers
@@ -71,7 +71,7 @@ pub all_told : (p q r x early late told : Bool) (P Q R X : Type 0) → (IsTrue p
 all_told p q r x early late told P Q R X ip iq ir ix ee el et =
     both_told early late told (P × Q) (R × X) (both_told p q early P Q ip iq ee) (both_told r x late R X ir ix el) et
 
-abbrev pub held_with : Claimed → FunctionSeat → Held Constants Expressions Allocation Order
+abbrev pub held_with : Claimed → FunctionSeat → Held ConstantsOffer ExpressionsOffer AllocationOffer OrderOffer
 held_with c a = held c a.first c a.second c a.third c a.fourth
 
 -- whether all four are there
@@ -80,8 +80,8 @@ pub has_all_told : (c : Claimed) (a : FunctionSeat) (p q r x early late told : B
     → IsTrue told ↔ HasAll (held_with c a)
 has_all_told c a p q r x early late told ip iq ir ix ee el et =
     let all = all_told p q r x early late told _ _ _ _ ip iq ir ix ee el et in (
-      λ e. let h = all.0 e in record { first = h.0.0; second = h.0.1; third = h.1.0; fourth = h.1.1 },
-      λ h. all.1 ((h.first, h.second), (h.third, h.fourth)),
+      λ e. let h = all.0 e in record { constants = h.0.0; expressions = h.0.1; allocation = h.1.0; order = h.1.1 },
+      λ h. all.1 ((h.constants, h.expressions), (h.allocation, h.order)),
     )
 
 -- numbers that are not two are one
@@ -96,30 +96,30 @@ module _ (c d c' d' : Claimed) (a b a' b' : FunctionSeat) (ec : c' ≡ c) (ed : 
       let ea : a' ≡ a = (same refl).0 in
       let eb : b' ≡ b = (same refl).1 in
       record {
-        first = met_apart c d c' d' a.first b.first a'.first b'.first ec ed (away refl).first (two.0 refl) (ap (λ (s : FunctionSeat). s.first) ea) (ap (λ (s : FunctionSeat). s.first) eb);
-        second = met_apart c d c' d' a.second b.second a'.second b'.second ec ed (away refl).second (two.0 refl) (ap (λ (s : FunctionSeat). s.second) ea) (ap (λ (s : FunctionSeat). s.second) eb);
-        third = met_apart c d c' d' a.third b.third a'.third b'.third ec ed (away refl).third (two.0 refl) (ap (λ (s : FunctionSeat). s.third) ea) (ap (λ (s : FunctionSeat). s.third) eb);
-        fourth = met_apart c d c' d' a.fourth b.fourth a'.fourth b'.fourth ec ed (away refl).fourth (two.0 refl) (ap (λ (s : FunctionSeat). s.fourth) ea) (ap (λ (s : FunctionSeat). s.fourth) eb);
+        constants = met_apart c d c' d' a.first b.first a'.first b'.first ec ed (away refl).first (two.0 refl) (ap (λ (s : FunctionSeat). s.first) ea) (ap (λ (s : FunctionSeat). s.first) eb);
+        expressions = met_apart c d c' d' a.second b.second a'.second b'.second ec ed (away refl).second (two.0 refl) (ap (λ (s : FunctionSeat). s.second) ea) (ap (λ (s : FunctionSeat). s.second) eb);
+        allocation = met_apart c d c' d' a.third b.third a'.third b'.third ec ed (away refl).third (two.0 refl) (ap (λ (s : FunctionSeat). s.third) ea) (ap (λ (s : FunctionSeat). s.third) eb);
+        order = met_apart c d c' d' a.fourth b.fourth a'.fourth b'.fourth ec ed (away refl).fourth (two.0 refl) (ap (λ (s : FunctionSeat). s.fourth) ea) (ap (λ (s : FunctionSeat). s.fourth) eb);
       }
   met_in (Some x) away two same is have =
       let one : c.number ≡ d.number = one_number c.number d.number (λ apart. let bad : Some x ≡ None = two.1 apart in cc) in
       record {
-        first = met_there c d c' d' a.first b.first a'.first b'.first ec ed x.first is.first one have.first;
-        second = met_there c d c' d' a.second b.second a'.second b'.second ec ed x.second is.second one have.second;
-        third = met_there c d c' d' a.third b.third a'.third b'.third ec ed x.third is.third one have.third;
-        fourth = met_there c d c' d' a.fourth b.fourth a'.fourth b'.fourth ec ed x.fourth is.fourth one have.fourth;
+        constants = met_there c d c' d' a.first b.first a'.first b'.first ec ed x.first is.first one have.first;
+        expressions = met_there c d c' d' a.second b.second a'.second b'.second ec ed x.second is.second one have.second;
+        allocation = met_there c d c' d' a.third b.third a'.third b'.third ec ed x.third is.third one have.third;
+        order = met_there c d c' d' a.fourth b.fourth a'.fourth b'.fourth ec ed x.fourth is.fourth one have.fourth;
       }
 
   -- it is told whether they are of the same rooms
   pub one_told : (m : Option FunctionMeeting) → (m ≡ None → AreStrangers a b) → IfSome m (λ x. IsOneFunction a b)
       → IsTrue (is_some m) ↔ AreOne (held_with c a) (held_with d b)
-  one_told None away is = (λ e. absurd (cc e), λ one. absurd ((away refl).first one.first))
+  one_told None away is = (λ e. absurd (cc e), λ one. absurd ((away refl).first one.constants))
   one_told (Some x) away is = (
     λ _. record {
-      first = is.first;
-      second = is.second;
-      third = is.third;
-      fourth = is.fourth;
+      constants = is.first;
+      expressions = is.second;
+      allocation = is.third;
+      order = is.fourth;
     },
     λ _. refl,
   )

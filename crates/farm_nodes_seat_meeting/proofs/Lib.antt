@@ -3,4 +3,5 @@ pub mod Rooms
 pub mod FourRooms
 pub mod Counts
 pub mod Places
+pub mod Strange
 pub use Rattle.farm_nodes_passes.proofs.Sent

@@ -144,7 +144,7 @@ module _ {S T1 T2 T3 T4 : Type 0} (view : S → Held T1 T2 T3 T4) where
       let a' = found xs' k (omega (arith, below, all.first)) in
       let b' = found ys' k (omega (arith, below, long, all.second)) in
       let met : Met a.0 b.0 a'.0 b'.0 = all.each k a.0 b.0 a'.0 b'.0 a.1 b.1 a'.1 b'.1 in
-      apart k below a.0 b.0 a.1 b.1 (met.first.number.0 (one a.0 b.0 a.1 b.1).first)
+      apart k below a.0 b.0 a.1 b.1 (met.constants.number.0 (one a.0 b.0 a.1 b.1).constants)
 
   pub met_all : (xs ys xs' ys' : List S) (n count : ℕ) → length xs ≡ length ys → n ≡ length xs → MetBefore Met Links xs ys xs' ys' n count → HaveMetAll xs ys xs' ys' count view
   met_all xs ys xs' ys' n count long end before =

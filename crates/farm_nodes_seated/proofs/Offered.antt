@@ -21,7 +21,7 @@ use Rattle.offers.specs.declared.parts.Parts.{Parts}
 use Rattle.rooms.specs.Opened.{offer_at}
 use Rattle.farm_nodes_records.specs.Numbers.{place_of, room_at}
 use Rattle.farm_nodes_records.specs.Which.{Which}
-use Rattle.farm_nodes_records.specs.Which.TheVariants.{First, Second, Third, Fourth}
+use Rattle.farm_nodes_records.specs.Which.TheVariants.{Constants, Expressions, Allocation, Order}
 use Rattle.farm_nodes_records.specs.Known.{AreKnown}
 use Rattle.farm_nodes_records.specs.Stored.{IsStored}
 use Rattle.farm_nodes_records.specs.declared.storing.Stored.{Stored}
@@ -35,10 +35,10 @@ use Rattle.farm_nodes_stored.specs.Checked.{AllOffers, AreNodesOffers, AreOffers
 use Rattle.farm_nodes_seated.proofs.Lists.{at_map, found_at}
 
 place_low : (which : Which) → place_of which < 4
-place_low First = omega arith
-place_low Second = omega arith
-place_low Third = omega arith
-place_low Fourth = omega arith
+place_low Constants = omega arith
+place_low Expressions = omega arith
+place_low Allocation = omega arith
+place_low Order = omega arith
 
 -- a function's rooms are among those of all
 pub room_low : (functions f : ℕ) (which : Which) → f < functions → room_at f which < 4 * functions
@@ -91,12 +91,12 @@ offers_at {J} {P} {A} {B} {C} {I} {O} from to by which functions journals offers
 -- the passes accept all of them
 pub accepted_all : {J : Type 0} (functions : ℕ) (journals : List (J × Vec Record)) (offers : AllOffers) → AreNodesOffers functions journals offers → WereAccepted journals (length journals)
 accepted_all functions journals offers are i j low at =
-    let o1 = offers_at rtl_language.ghosts rtl_language.ghosts constants.ghosts First functions journals offers.first.items are.first i j low at in
-    let o2 = offers_at rtl_language.ghosts rtl_language.ghosts expressions.ghosts Second functions journals offers.second.items are.second i j low at in
-    let o3 = offers_at rtl_language.ghosts ltl_language.ghosts allocation.ghosts Third functions journals offers.third.items are.third i j low at in
-    let o4 = offers_at ltl_language.ghosts linear_language.ghosts order.ghosts Fourth functions journals offers.fourth.items are.fourth i j low at in
+    let o1 = offers_at rtl_language.ghosts rtl_language.ghosts constants.ghosts Constants functions journals offers.constants.items are.constants i j low at in
+    let o2 = offers_at rtl_language.ghosts rtl_language.ghosts expressions.ghosts Expressions functions journals offers.expressions.items are.expressions i j low at in
+    let o3 = offers_at rtl_language.ghosts ltl_language.ghosts allocation.ghosts Allocation functions journals offers.allocation.items are.allocation i j low at in
+    let o4 = offers_at ltl_language.ghosts linear_language.ghosts order.ghosts Order functions journals offers.order.items are.order i j low at in
     record {
-      stored = record { first = o1.1.stored; second = o2.1.stored; third = o3.1.stored; fourth = o4.1.stored };
-      written = record { first = o1.1.written; second = o2.1.written; third = o3.1.written; fourth = o4.1.written };
-      accepted = record { first = o1.1.accepted; second = o2.1.accepted; third = o3.1.accepted; fourth = o4.1.accepted };
+      stored = record { constants = o1.1.stored; expressions = o2.1.stored; allocation = o3.1.stored; order = o4.1.stored };
+      written = record { constants = o1.1.written; expressions = o2.1.written; allocation = o3.1.written; order = o4.1.written };
+      accepted = record { constants = o1.1.accepted; expressions = o2.1.accepted; allocation = o3.1.accepted; order = o4.1.accepted };
     }

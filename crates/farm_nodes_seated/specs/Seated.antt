@@ -17,10 +17,10 @@ use Rattle.offers.specs.declared.parts.Parts.{Parts}
 use Rattle.rooms.specs.SeatValue.{SeatValue}
 use Rattle.rooms_hall.specs.Claimed.{Claimed}
 use Rattle.rooms_hall.specs.declared.hall.Naming as naming
-use Rattle.farm_nodes_records.specs.Offers.{Constants, Expressions, Allocation, Order}
+use Rattle.farm_nodes_records.specs.Offers.{ConstantsOffer, ExpressionsOffer, AllocationOffer, OrderOffer}
 use Rattle.farm_nodes_records.specs.NumberedSeat.{NumberedSeat}
 use Rattle.farm_nodes_records.specs.Which.{Which}
-use Rattle.farm_nodes_records.specs.Which.TheVariants.{First, Second, Third, Fourth}
+use Rattle.farm_nodes_records.specs.Which.TheVariants.{Constants, Expressions, Allocation, Order}
 use Rattle.farm_nodes_lists.specs.Rows.{rows_of}
 use Rattle.farm_nodes_functions.specs.Kept.{AreSettled}
 use Rattle.farm_nodes_functions.specs.Opened.{AreOpenedIn}
@@ -38,17 +38,17 @@ module _ {J P A B C I O N : Type 0} (from : language.Ghosts A I) (to : language.
 
 module _ {H : Type 0} {h : naming.Ghosts H} where
   -- the seats of each pass, with the numbers of their rooms
-  abbrev pub first_seat : NumberedSeat H h → SeatValue Constants × Claimed
-  first_seat s = (s.seat.first, s.claim)
+  abbrev pub constants_seat : NumberedSeat H h → SeatValue ConstantsOffer × Claimed
+  constants_seat s = (s.seat.first, s.claim)
 
-  abbrev pub second_seat : NumberedSeat H h → SeatValue Expressions × Claimed
-  second_seat s = (s.seat.second, s.claim)
+  abbrev pub expressions_seat : NumberedSeat H h → SeatValue ExpressionsOffer × Claimed
+  expressions_seat s = (s.seat.second, s.claim)
 
-  abbrev pub third_seat : NumberedSeat H h → SeatValue Allocation × Claimed
-  third_seat s = (s.seat.third, s.claim)
+  abbrev pub allocation_seat : NumberedSeat H h → SeatValue AllocationOffer × Claimed
+  allocation_seat s = (s.seat.third, s.claim)
 
-  abbrev pub fourth_seat : NumberedSeat H h → SeatValue Order × Claimed
-  fourth_seat s = (s.seat.fourth, s.claim)
+  abbrev pub order_seat : NumberedSeat H h → SeatValue OrderOffer × Claimed
+  order_seat s = (s.seat.fourth, s.claim)
 
   -- so it is of all passes
   pub record AreSeated {J : Type 0} (q : Sizes) (functions : ℕ) (journals : List (J × Vec Record)) (rows : List (List (NumberedSeat H h))) : Type 0 where
@@ -57,12 +57,12 @@ module _ {H : Type 0} {h : naming.Ghosts H} where
     pub kept : List (Vec KeptPart)
     pub are_kept : AreMade (IsKeptPart functions (length journals)) journals (length journals) kept
     pub settled : (f : ℕ) → f < functions → AreSettled q kept f
-    pub first : AreSeatedIn rtl_language.ghosts rtl_language.ghosts constants.ghosts First q functions journals kept first_seat rows
-    pub second : AreSeatedIn rtl_language.ghosts rtl_language.ghosts expressions.ghosts Second q functions journals kept
-        second_seat rows
-    pub third : AreSeatedIn rtl_language.ghosts ltl_language.ghosts allocation.ghosts Third q functions journals kept third_seat rows
-    pub fourth : AreSeatedIn ltl_language.ghosts linear_language.ghosts order.ghosts Fourth q functions journals kept
-        fourth_seat rows
+    pub constants : AreSeatedIn rtl_language.ghosts rtl_language.ghosts constants.ghosts Constants q functions journals kept constants_seat rows
+    pub expressions : AreSeatedIn rtl_language.ghosts rtl_language.ghosts expressions.ghosts Expressions q functions journals kept
+        expressions_seat rows
+    pub allocation : AreSeatedIn rtl_language.ghosts ltl_language.ghosts allocation.ghosts Allocation q functions journals kept allocation_seat rows
+    pub order : AreSeatedIn ltl_language.ghosts linear_language.ghosts order.ghosts Order q functions journals kept
+        order_seat rows
 
 -- what each node has kept of the rooms of so many functions, as it stands in its journal
 abbrev pub AreKeptIn : {J : Type 0} → ℕ → List (J × Vec Record) → List (Vec KeptPart) → Type 0

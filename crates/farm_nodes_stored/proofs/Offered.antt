@@ -15,13 +15,13 @@ use Rattle.acceptor_log_form.specs.declared.record.Record.{Record}
 use Rattle.offers.specs.declared.parts.Parts.{Parts}
 use Rattle.offers.specs.Text.{text_of}
 use Rattle.farm_nodes_records.specs.Which.{Which}
-use Rattle.farm_nodes_records.specs.Which.TheVariants.{First, Second, Third, Fourth}
+use Rattle.farm_nodes_records.specs.Which.TheVariants.{Constants, Expressions, Allocation, Order}
 use Rattle.farm_nodes_records.specs.Stored.{IsStored}
 use Rattle.farm_nodes_records.specs.Written.{all_written}
 use Rattle.farm_nodes_records.specs.declared.storing.Stored.{Stored}
 use Rattle.farm_nodes_stored.specs.Nodes.{AreMade}
 use Rattle.farm_nodes_stored.specs.Read.{AllStored, AreStored, IsStoredPart}
-use Rattle.farm_nodes_stored.specs.Checked.{AllOffers, AreAsMany, AreChecked, AreNodesOffers, IsChecked, IsOffersPart, first_of, second_of, third_of, fourth_of}
+use Rattle.farm_nodes_stored.specs.Checked.{AllOffers, AreAsMany, AreChecked, AreNodesOffers, IsChecked, IsOffersPart, constants_of, expressions_of, allocation_of, order_of}
 use Rattle.farm_nodes_stored.proofs.Nodes.{composed}
 
 module _ {P A B C I O : Type 0} (from : language.Ghosts A I) (to : language.Ghosts B O) (by : pass.Ghosts P A B C I O) (which : Which) where
@@ -43,17 +43,17 @@ module _ {P A B C I O : Type 0} (from : language.Ghosts A I) (to : language.Ghos
 
 pub all_many : (rs : List Record) (all : AllStored) → AreStored rs all → AreAsMany all
 all_many rs all is = record {
-  first = as_many rtl_language.ghosts rtl_language.ghosts constants.ghosts First rs all.first is.first;
-  second = as_many rtl_language.ghosts rtl_language.ghosts expressions.ghosts Second rs all.second is.second;
-  third = as_many rtl_language.ghosts ltl_language.ghosts allocation.ghosts Third rs all.third is.third;
-  fourth = as_many ltl_language.ghosts linear_language.ghosts order.ghosts Fourth rs all.fourth is.fourth;
+  constants = as_many rtl_language.ghosts rtl_language.ghosts constants.ghosts Constants rs all.constants is.constants;
+  expressions = as_many rtl_language.ghosts rtl_language.ghosts expressions.ghosts Expressions rs all.expressions is.expressions;
+  allocation = as_many rtl_language.ghosts ltl_language.ghosts allocation.ghosts Allocation rs all.allocation is.allocation;
+  order = as_many ltl_language.ghosts linear_language.ghosts order.ghosts Order rs all.order is.order;
 }
 
 pub offers_of : {J : Type 0} (functions : ℕ) (journals : List (J × Vec Record)) (stored : List AllStored) (offers : AllOffers) → AreMade IsStoredPart journals (length journals) stored
     → AreChecked functions stored (length stored) offers → AreNodesOffers functions journals offers
 offers_of functions journals stored offers are checked = record {
-  first = in_pass rtl_language.ghosts rtl_language.ghosts constants.ghosts First functions first_of (λ rs all is. is.first) journals stored are offers.first.items checked.first;
-  second = in_pass rtl_language.ghosts rtl_language.ghosts expressions.ghosts Second functions second_of (λ rs all is. is.second) journals stored are offers.second.items checked.second;
-  third = in_pass rtl_language.ghosts ltl_language.ghosts allocation.ghosts Third functions third_of (λ rs all is. is.third) journals stored are offers.third.items checked.third;
-  fourth = in_pass ltl_language.ghosts linear_language.ghosts order.ghosts Fourth functions fourth_of (λ rs all is. is.fourth) journals stored are offers.fourth.items checked.fourth;
+  constants = in_pass rtl_language.ghosts rtl_language.ghosts constants.ghosts Constants functions constants_of (λ rs all is. is.constants) journals stored are offers.constants.items checked.constants;
+  expressions = in_pass rtl_language.ghosts rtl_language.ghosts expressions.ghosts Expressions functions expressions_of (λ rs all is. is.expressions) journals stored are offers.expressions.items checked.expressions;
+  allocation = in_pass rtl_language.ghosts ltl_language.ghosts allocation.ghosts Allocation functions allocation_of (λ rs all is. is.allocation) journals stored are offers.allocation.items checked.allocation;
+  order = in_pass ltl_language.ghosts linear_language.ghosts order.ghosts Order functions order_of (λ rs all is. is.order) journals stored are offers.order.items checked.order;
 }

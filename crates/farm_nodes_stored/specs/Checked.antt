@@ -12,10 +12,10 @@ use Rattle.alloc_check.specs.contracts.pass.AllocPass.TheImpl as allocation
 use Rattle.linearize_check.specs.contracts.pass.LinearizePass.TheImpl as order
 use Rattle.acceptor_log_form.specs.declared.record.Record.{Record}
 use Rattle.offers.specs.declared.parts.Parts.{Parts}
-use Rattle.farm_nodes_records.specs.Offers.{Constants, Expressions, Allocation, Order}
+use Rattle.farm_nodes_records.specs.Offers.{ConstantsOffer, ExpressionsOffer, AllocationOffer, OrderOffer}
 use Rattle.farm_nodes_records.specs.Passes.{Passes}
 use Rattle.farm_nodes_records.specs.Which.{Which}
-use Rattle.farm_nodes_records.specs.Which.TheVariants.{First, Second, Third, Fourth}
+use Rattle.farm_nodes_records.specs.Which.TheVariants.{Constants, Expressions, Allocation, Order}
 use Rattle.farm_nodes_records.specs.Known.{AreKnown, IsAccepted, HasUnaccepted}
 use Rattle.farm_nodes_records.specs.Stored.{IsStored}
 use Rattle.farm_nodes_records.specs.declared.storing.Stored.{Stored}
@@ -24,41 +24,41 @@ use Rattle.farm_nodes_stored.specs.Read.{AllStored, AreStored}
 
 -- of each pass there are as many rooms as offers
 pub record AreAsMany (all : AllStored) : Type 0 where
-  pub first : length all.first.rooms.items ≡ length all.first.parts.items
-  pub second : length all.second.rooms.items ≡ length all.second.parts.items
-  pub third : length all.third.rooms.items ≡ length all.third.parts.items
-  pub fourth : length all.fourth.rooms.items ≡ length all.fourth.parts.items
+  pub constants : length all.constants.rooms.items ≡ length all.constants.parts.items
+  pub expressions : length all.expressions.rooms.items ≡ length all.expressions.parts.items
+  pub allocation : length all.allocation.rooms.items ≡ length all.allocation.parts.items
+  pub order : length all.order.rooms.items ≡ length all.order.parts.items
 
 -- the passes accept all offers of a node
 pub record AreAccepted (all : AllStored) : Type 0 where
-  pub first : All (IsAccepted (constants.ghosts).accepts) all.first.parts.items
-  pub second : All (IsAccepted (expressions.ghosts).accepts) all.second.parts.items
-  pub third : All (IsAccepted (allocation.ghosts).accepts) all.third.parts.items
-  pub fourth : All (IsAccepted (order.ghosts).accepts) all.fourth.parts.items
+  pub constants : All (IsAccepted (constants.ghosts).accepts) all.constants.parts.items
+  pub expressions : All (IsAccepted (expressions.ghosts).accepts) all.expressions.parts.items
+  pub allocation : All (IsAccepted (allocation.ghosts).accepts) all.allocation.parts.items
+  pub order : All (IsAccepted (order.ghosts).accepts) all.order.parts.items
 
 -- one of them its pass does not accept
 abbrev pub HasRefused : AllStored → Type 0
 HasRefused all =
-    HasUnaccepted (constants.ghosts).accepts all.first.parts.items
-    ⊎ HasUnaccepted (expressions.ghosts).accepts all.second.parts.items
-    ⊎ HasUnaccepted (allocation.ghosts).accepts all.third.parts.items
-    ⊎ HasUnaccepted (order.ghosts).accepts all.fourth.parts.items
+    HasUnaccepted (constants.ghosts).accepts all.constants.parts.items
+    ⊎ HasUnaccepted (expressions.ghosts).accepts all.expressions.parts.items
+    ⊎ HasUnaccepted (allocation.ghosts).accepts all.allocation.parts.items
+    ⊎ HasUnaccepted (order.ghosts).accepts all.order.parts.items
 
 -- of each function the offer, if the node has made one, pass by pass
 abbrev pub NodeOffers : Type 0
-NodeOffers = Passes (Vec (Option Constants)) (Vec (Option Expressions)) (Vec (Option Allocation)) (Vec (Option Order))
+NodeOffers = Passes (Vec (Option ConstantsOffer)) (Vec (Option ExpressionsOffer)) (Vec (Option AllocationOffer)) (Vec (Option OrderOffer))
 
 -- they are those of so many functions
 pub record AreKnownOf (functions : ℕ) (all : AllStored) (offers : NodeOffers) : Type 0 where
-  pub first : AreKnown functions all.first offers.first.items
-  pub second : AreKnown functions all.second offers.second.items
-  pub third : AreKnown functions all.third offers.third.items
-  pub fourth : AreKnown functions all.fourth offers.fourth.items
+  pub constants : AreKnown functions all.constants offers.constants.items
+  pub expressions : AreKnown functions all.expressions offers.expressions.items
+  pub allocation : AreKnown functions all.allocation offers.allocation.items
+  pub order : AreKnown functions all.order offers.order.items
 
 -- the offers of nodes, of each pass node by node
 abbrev pub AllOffers : Type 0
-AllOffers = Passes (Vec (Vec (Option Constants))) (Vec (Vec (Option Expressions)))
-    (Vec (Vec (Option Allocation))) (Vec (Vec (Option Order)))
+AllOffers = Passes (Vec (Vec (Option ConstantsOffer))) (Vec (Vec (Option ExpressionsOffer)))
+    (Vec (Vec (Option AllocationOffer))) (Vec (Vec (Option OrderOffer)))
 
 -- the offers of one pass of a node are of so many functions, and the pass accepts each
 abbrev pub IsChecked : {S I O C : Type 0} → (I → O → C → Type 0) → (S → Stored (Parts I O C)) → ℕ → ℕ → S
@@ -67,24 +67,24 @@ IsChecked accepts of functions i all offers =
     AreKnown functions (of all) offers.items × All (IsAccepted accepts) (of all).parts.items
 
 -- what there is of each pass
-abbrev pub first_of : AllStored → Stored Constants
-first_of all = all.first
+abbrev pub constants_of : AllStored → Stored ConstantsOffer
+constants_of all = all.constants
 
-abbrev pub second_of : AllStored → Stored Expressions
-second_of all = all.second
+abbrev pub expressions_of : AllStored → Stored ExpressionsOffer
+expressions_of all = all.expressions
 
-abbrev pub third_of : AllStored → Stored Allocation
-third_of all = all.third
+abbrev pub allocation_of : AllStored → Stored AllocationOffer
+allocation_of all = all.allocation
 
-abbrev pub fourth_of : AllStored → Stored Order
-fourth_of all = all.fourth
+abbrev pub order_of : AllStored → Stored OrderOffer
+order_of all = all.order
 
 -- so it is of the first nodes, so many, pass by pass
 pub record AreChecked (functions : ℕ) (stored : List AllStored) (so_far : ℕ) (offers : AllOffers) : Type 0 where
-  pub first : AreMade (IsChecked (constants.ghosts).accepts first_of functions) stored so_far offers.first.items
-  pub second : AreMade (IsChecked (expressions.ghosts).accepts second_of functions) stored so_far offers.second.items
-  pub third : AreMade (IsChecked (allocation.ghosts).accepts third_of functions) stored so_far offers.third.items
-  pub fourth : AreMade (IsChecked (order.ghosts).accepts fourth_of functions) stored so_far offers.fourth.items
+  pub constants : AreMade (IsChecked (constants.ghosts).accepts constants_of functions) stored so_far offers.constants.items
+  pub expressions : AreMade (IsChecked (expressions.ghosts).accepts expressions_of functions) stored so_far offers.expressions.items
+  pub allocation : AreMade (IsChecked (allocation.ghosts).accepts allocation_of functions) stored so_far offers.allocation.items
+  pub order : AreMade (IsChecked (order.ghosts).accepts order_of functions) stored so_far offers.order.items
 
 -- of a pass from one language to another
 module _ {P A B C I O : Type 0} (from : language.Ghosts A I) (to : language.Ghosts B O) (by : pass.Ghosts P A B C I O) (which : Which) where
@@ -102,14 +102,14 @@ module _ {P A B C I O : Type 0} (from : language.Ghosts A I) (to : language.Ghos
 module _ {J : Type 0} where
   -- the offers of the nodes, each of which was checked again
   pub record AreNodesOffers (functions : ℕ) (journals : List (J × Vec Record)) (offers : AllOffers) : Type 0 where
-    pub first : AreMade (IsOffersPart rtl_language.ghosts rtl_language.ghosts constants.ghosts First functions)
-        journals (length journals) offers.first.items
-    pub second : AreMade (IsOffersPart rtl_language.ghosts rtl_language.ghosts expressions.ghosts Second functions)
-        journals (length journals) offers.second.items
-    pub third : AreMade (IsOffersPart rtl_language.ghosts ltl_language.ghosts allocation.ghosts Third functions)
-        journals (length journals) offers.third.items
-    pub fourth : AreMade (IsOffersPart ltl_language.ghosts linear_language.ghosts order.ghosts Fourth functions)
-        journals (length journals) offers.fourth.items
+    pub constants : AreMade (IsOffersPart rtl_language.ghosts rtl_language.ghosts constants.ghosts Constants functions)
+        journals (length journals) offers.constants.items
+    pub expressions : AreMade (IsOffersPart rtl_language.ghosts rtl_language.ghosts expressions.ghosts Expressions functions)
+        journals (length journals) offers.expressions.items
+    pub allocation : AreMade (IsOffersPart rtl_language.ghosts ltl_language.ghosts allocation.ghosts Allocation functions)
+        journals (length journals) offers.allocation.items
+    pub order : AreMade (IsOffersPart ltl_language.ghosts linear_language.ghosts order.ghosts Order functions)
+        journals (length journals) offers.order.items
 
   -- the passes accept all offers among a node's records
   pub record WasAccepted (j : J × Vec Record) : Type 0 where

@@ -12,9 +12,9 @@ use Rattle.paxos_core_world.specs.KeptPart.{KeptPart}
 use Rattle.acceptor_log_form.specs.Leaves.{kept_in}
 use Rattle.acceptor_log_form.specs.Order.{AreInOrder}
 use Rattle.acceptor_log_form.specs.declared.record.Record.{Record}
-use Rattle.farm_nodes_records.specs.Offers.{Constants, Expressions, Allocation, Order}
+use Rattle.farm_nodes_records.specs.Offers.{ConstantsOffer, ExpressionsOffer, AllocationOffer, OrderOffer}
 use Rattle.farm_nodes_records.specs.Passes.{Passes}
-use Rattle.farm_nodes_records.specs.Which.TheVariants.{First, Second, Third, Fourth}
+use Rattle.farm_nodes_records.specs.Which.TheVariants.{Constants, Expressions, Allocation, Order}
 use Rattle.farm_nodes_records.specs.Stored.{HasNoParts, IsStored}
 use Rattle.farm_nodes_records.specs.declared.storing.Stored.{Stored}
 use Rattle.farm_nodes_stored.specs.Nodes.{AllMade}
@@ -27,22 +27,22 @@ pub record AreKept (functions count i : ℕ) (rs : List Record) (kept : List Kep
 
 -- offers of the four passes
 abbrev pub AllStored : Type 0
-AllStored = Passes (Stored Constants) (Stored Expressions) (Stored Allocation) (Stored Order)
+AllStored = Passes (Stored ConstantsOffer) (Stored ExpressionsOffer) (Stored AllocationOffer) (Stored OrderOffer)
 
 -- they are those among the records, pass by pass
 pub record AreStored (rs : List Record) (all : AllStored) : Type 0 where
-  pub first : IsStored rtl_language.ghosts rtl_language.ghosts constants.ghosts First rs all.first
-  pub second : IsStored rtl_language.ghosts rtl_language.ghosts expressions.ghosts Second rs all.second
-  pub third : IsStored rtl_language.ghosts ltl_language.ghosts allocation.ghosts Third rs all.third
-  pub fourth : IsStored ltl_language.ghosts linear_language.ghosts order.ghosts Fourth rs all.fourth
+  pub constants : IsStored rtl_language.ghosts rtl_language.ghosts constants.ghosts Constants rs all.constants
+  pub expressions : IsStored rtl_language.ghosts rtl_language.ghosts expressions.ghosts Expressions rs all.expressions
+  pub allocation : IsStored rtl_language.ghosts ltl_language.ghosts allocation.ghosts Allocation rs all.allocation
+  pub order : IsStored ltl_language.ghosts linear_language.ghosts order.ghosts Order rs all.order
 
 -- one of the records is no offer of its room's pass
 abbrev pub HasNoOffer : List Record → Type 0
 HasNoOffer rs =
-    HasNoParts rtl_language.ghosts rtl_language.ghosts constants.ghosts First rs
-    ⊎ HasNoParts rtl_language.ghosts rtl_language.ghosts expressions.ghosts Second rs
-    ⊎ HasNoParts rtl_language.ghosts ltl_language.ghosts allocation.ghosts Third rs
-    ⊎ HasNoParts ltl_language.ghosts linear_language.ghosts order.ghosts Fourth rs
+    HasNoParts rtl_language.ghosts rtl_language.ghosts constants.ghosts Constants rs
+    ⊎ HasNoParts rtl_language.ghosts rtl_language.ghosts expressions.ghosts Expressions rs
+    ⊎ HasNoParts rtl_language.ghosts ltl_language.ghosts allocation.ghosts Allocation rs
+    ⊎ HasNoParts ltl_language.ghosts linear_language.ghosts order.ghosts Order rs
 
 -- they are out of order, or one is no offer
 abbrev pub AreBad : ℕ → ℕ → ℕ → List Record → Type 0

@@ -68,31 +68,31 @@ pub(crate) fn check_node<R: Threads + Wait + Sync>(
     ensures refused { IfErr result (λ e. e ≢ RecordFault.NoMemory → (e ≡ RecordFault.Refused) × HasRefused stored) }
 {
     let Passes {
-        first,
-        second,
-        third,
-        fourth,
+        constants,
+        expressions,
+        allocation,
+        order,
     } = stored;
-    let first = match checked_offers::<ConstProp, R>(rt, alloc, functions, workers, first) {
+    let constants = match checked_offers::<ConstProp, R>(rt, alloc, functions, workers, constants) {
         Ok(offers) => offers,
         Err(fault) => return Err(fault),
     };
-    let second = match checked_offers::<Cse, R>(rt, alloc, functions, workers, second) {
+    let expressions = match checked_offers::<Cse, R>(rt, alloc, functions, workers, expressions) {
         Ok(offers) => offers,
         Err(fault) => return Err(fault),
     };
-    let third = match checked_offers::<Alloc, R>(rt, alloc, functions, workers, third) {
+    let allocation = match checked_offers::<Alloc, R>(rt, alloc, functions, workers, allocation) {
         Ok(offers) => offers,
         Err(fault) => return Err(fault),
     };
-    let fourth = match checked_offers::<Linearize, R>(rt, alloc, functions, workers, fourth) {
+    let order = match checked_offers::<Linearize, R>(rt, alloc, functions, workers, order) {
         Ok(offers) => offers,
         Err(fault) => return Err(fault),
     };
     Ok(Passes {
-        first,
-        second,
-        third,
-        fourth,
+        constants,
+        expressions,
+        allocation,
+        order,
     })
 }

@@ -29,21 +29,21 @@ fn add<A: Drop, B: Drop, C: Drop, E: Drop>(
     found: &mut Passes<Vec<A>, Vec<B>, Vec<C>, Vec<E>>,
     more: Passes<A, B, C, E>,
 ) -> Result<(), NoMemory>
-    ensures first { OnOk result (found.new.first.items ≡ found.old.first.items ++ more.first ∷ []) }
-    ensures second { OnOk result (found.new.second.items ≡ found.old.second.items ++ more.second ∷ []) }
-    ensures third { OnOk result (found.new.third.items ≡ found.old.third.items ++ more.third ∷ []) }
-    ensures fourth { OnOk result (found.new.fourth.items ≡ found.old.fourth.items ++ more.fourth ∷ []) }
+    ensures constants { OnOk result (found.new.constants.items ≡ found.old.constants.items ++ more.constants ∷ []) }
+    ensures expressions { OnOk result (found.new.expressions.items ≡ found.old.expressions.items ++ more.expressions ∷ []) }
+    ensures allocation { OnOk result (found.new.allocation.items ≡ found.old.allocation.items ++ more.allocation ∷ []) }
+    ensures order { OnOk result (found.new.order.items ≡ found.old.order.items ++ more.order ∷ []) }
 {
     let Passes {
-        first,
-        second,
-        third,
-        fourth,
+        constants,
+        expressions,
+        allocation,
+        order,
     } = more;
-    if found.first.push(first).is_err() || found.second.push(second).is_err() {
+    if found.constants.push(constants).is_err() || found.expressions.push(expressions).is_err() {
         return Err(NoMemory);
     }
-    if found.third.push(third).is_err() || found.fourth.push(fourth).is_err() {
+    if found.allocation.push(allocation).is_err() || found.order.push(order).is_err() {
         return Err(NoMemory);
     }
     Ok(())
@@ -72,10 +72,10 @@ pub(crate) fn checked_nodes<R: Threads + Wait + Sync>(
     let count = stored.len() as u8;
     let mut behind = stored.into_iter();
     let mut found = Passes {
-        first: Vec::new(alloc),
-        second: Vec::new(alloc),
-        third: Vec::new(alloc),
-        fourth: Vec::new(alloc),
+        constants: Vec::new(alloc),
+        expressions: Vec::new(alloc),
+        allocation: Vec::new(alloc),
+        order: Vec::new(alloc),
     };
     for node in 0..count {
         let Some(one) = behind.next() else {

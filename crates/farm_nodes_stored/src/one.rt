@@ -27,27 +27,27 @@ fn read_node(alloc: Global, records: &[Record]) -> Result<StoredOf, RecordFault>
     ensures bad { IfErr result (λ e. e ≢ RecordFault.NoMemory → e ≡ RecordFault.BadRecord) }
     ensures refused { IfErr result (λ e. e ≢ RecordFault.NoMemory → HasNoOffer records.now) }
 {
-    let first = match stored_offers::<ConstProp>(alloc, Which::First, records) {
+    let constants = match stored_offers::<ConstProp>(alloc, Which::Constants, records) {
         Ok(found) => found,
         Err(fault) => return Err(fault),
     };
-    let second = match stored_offers::<Cse>(alloc, Which::Second, records) {
+    let expressions = match stored_offers::<Cse>(alloc, Which::Expressions, records) {
         Ok(found) => found,
         Err(fault) => return Err(fault),
     };
-    let third = match stored_offers::<Alloc>(alloc, Which::Third, records) {
+    let allocation = match stored_offers::<Alloc>(alloc, Which::Allocation, records) {
         Ok(found) => found,
         Err(fault) => return Err(fault),
     };
-    let fourth = match stored_offers::<Linearize>(alloc, Which::Fourth, records) {
+    let order = match stored_offers::<Linearize>(alloc, Which::Order, records) {
         Ok(found) => found,
         Err(fault) => return Err(fault),
     };
     Ok(Passes {
-        first,
-        second,
-        third,
-        fourth,
+        constants,
+        expressions,
+        allocation,
+        order,
     })
 }
 

@@ -20,7 +20,7 @@ use Rattle.farm_nodes_node.specs.Numbers.{function_of, pass_of}
 use Rattle.farm_nodes_node.specs.Fours.{Four}
 use Rattle.farm_nodes_node.specs.Texts.{Texts}
 use Rattle.farm_nodes_node.specs.Which.{Which}
-use Rattle.farm_nodes_node.specs.Which.TheVariants.{First, Second, Third, Fourth}
+use Rattle.farm_nodes_node.specs.Which.TheVariants.{Constants, Expressions, Allocation, Order}
 use Rattle.farm_nodes_node.specs.Turned.{Leaves, StaysIn, OthersStay}
 use Rattle.farm_nodes_node.specs.Turns.{AtPlace, OfFunction}
 use Rattle.farm_nodes_node.proofs.Places.{found, mapped}
@@ -60,47 +60,47 @@ stays_through s t u a b = record {
 -- the seats of a function
 module _ {T1 T2 T3 T4 : Type 0} where
   keep_so : (s : Four T1 T2 T3 T4) → Keep s s
-  keep_so s = record { first = stays_so s.first; second = stays_so s.second; third = stays_so s.third; fourth = stays_so s.fourth; number = refl }
+  keep_so s = record { constants = stays_so s.constants; expressions = stays_so s.expressions; allocation = stays_so s.allocation; order = stays_so s.order; number = refl }
 
   pub keep_same : (s t : Four T1 T2 T3 T4) → t ≡ s → Keep s t
   keep_same s t e = subst (λ (u : Four T1 T2 T3 T4). Keep s u) (sym e) (keep_so s)
 
   keep_through : (s t u : Four T1 T2 T3 T4) → Keep s t → Keep t u → Keep s u
   keep_through s t u a b = record {
-    first = stays_through s.first t.first u.first a.first b.first;
-    second = stays_through s.second t.second u.second a.second b.second;
-    third = stays_through s.third t.third u.third a.third b.third;
-    fourth = stays_through s.fourth t.fourth u.fourth a.fourth b.fourth;
+    constants = stays_through s.constants t.constants u.constants a.constants b.constants;
+    expressions = stays_through s.expressions t.expressions u.expressions a.expressions b.expressions;
+    allocation = stays_through s.allocation t.allocation u.allocation a.allocation b.allocation;
+    order = stays_through s.order t.order u.order a.order b.order;
     number = b.number ∙ a.number;
   }
 
   pub keep_by : (p : Which) (s t : Four T1 T2 T3 T4) → StaysIn p s t → OthersStay p s t → Keep s t
-  keep_by First s t stays others = record {
-    first = stays;
-    second = stays_on s.second t.second (ap (λ (u : Four T1 T2 T3 T4). u.second) others);
-    third = stays_on s.third t.third (ap (λ (u : Four T1 T2 T3 T4). u.third) others);
-    fourth = stays_on s.fourth t.fourth (ap (λ (u : Four T1 T2 T3 T4). u.fourth) others);
+  keep_by Constants s t stays others = record {
+    constants = stays;
+    expressions = stays_on s.expressions t.expressions (ap (λ (u : Four T1 T2 T3 T4). u.expressions) others);
+    allocation = stays_on s.allocation t.allocation (ap (λ (u : Four T1 T2 T3 T4). u.allocation) others);
+    order = stays_on s.order t.order (ap (λ (u : Four T1 T2 T3 T4). u.order) others);
     number = ap (λ (u : Four T1 T2 T3 T4). u.number) others;
   }
-  keep_by Second s t stays others = record {
-    first = stays_on s.first t.first (ap (λ (u : Four T1 T2 T3 T4). u.first) others);
-    second = stays;
-    third = stays_on s.third t.third (ap (λ (u : Four T1 T2 T3 T4). u.third) others);
-    fourth = stays_on s.fourth t.fourth (ap (λ (u : Four T1 T2 T3 T4). u.fourth) others);
+  keep_by Expressions s t stays others = record {
+    constants = stays_on s.constants t.constants (ap (λ (u : Four T1 T2 T3 T4). u.constants) others);
+    expressions = stays;
+    allocation = stays_on s.allocation t.allocation (ap (λ (u : Four T1 T2 T3 T4). u.allocation) others);
+    order = stays_on s.order t.order (ap (λ (u : Four T1 T2 T3 T4). u.order) others);
     number = ap (λ (u : Four T1 T2 T3 T4). u.number) others;
   }
-  keep_by Third s t stays others = record {
-    first = stays_on s.first t.first (ap (λ (u : Four T1 T2 T3 T4). u.first) others);
-    second = stays_on s.second t.second (ap (λ (u : Four T1 T2 T3 T4). u.second) others);
-    third = stays;
-    fourth = stays_on s.fourth t.fourth (ap (λ (u : Four T1 T2 T3 T4). u.fourth) others);
+  keep_by Allocation s t stays others = record {
+    constants = stays_on s.constants t.constants (ap (λ (u : Four T1 T2 T3 T4). u.constants) others);
+    expressions = stays_on s.expressions t.expressions (ap (λ (u : Four T1 T2 T3 T4). u.expressions) others);
+    allocation = stays;
+    order = stays_on s.order t.order (ap (λ (u : Four T1 T2 T3 T4). u.order) others);
     number = ap (λ (u : Four T1 T2 T3 T4). u.number) others;
   }
-  keep_by Fourth s t stays others = record {
-    first = stays_on s.first t.first (ap (λ (u : Four T1 T2 T3 T4). u.first) others);
-    second = stays_on s.second t.second (ap (λ (u : Four T1 T2 T3 T4). u.second) others);
-    third = stays_on s.third t.third (ap (λ (u : Four T1 T2 T3 T4). u.third) others);
-    fourth = stays;
+  keep_by Order s t stays others = record {
+    constants = stays_on s.constants t.constants (ap (λ (u : Four T1 T2 T3 T4). u.constants) others);
+    expressions = stays_on s.expressions t.expressions (ap (λ (u : Four T1 T2 T3 T4). u.expressions) others);
+    allocation = stays_on s.allocation t.allocation (ap (λ (u : Four T1 T2 T3 T4). u.allocation) others);
+    order = stays;
     number = ap (λ (u : Four T1 T2 T3 T4). u.number) others;
   }
 

@@ -5,15 +5,15 @@ use Rattle.farm_nodes_node.specs.Played.{StaysInTurn}
 use Rattle.farm_nodes_node.specs.Fours.{Four}
 use Rattle.farm_nodes_node.specs.declared.halted.Halted.{Halted}
 use Rattle.farm_nodes_node.specs.Stood.{TurnsBy}
-use Rattle.farm_nodes_node.specs.Offers.{Constants, Expressions, Allocation, Order}
+use Rattle.farm_nodes_node.specs.Offers.{ConstantsOffer, ExpressionsOffer, AllocationOffer, OrderOffer}
 use Rattle.farm_nodes_node.specs.Texts.{Texts, pass_texts}
 
 -- The seats are those of the same rooms, which keep their numbers; each has what it had learned and seen.
 pub record Keep {T1 T2 T3 T4 : Type 0} (s t : Four T1 T2 T3 T4) : Type 0 where
-  pub first : StaysInTurn s.first t.first
-  pub second : StaysInTurn s.second t.second
-  pub third : StaysInTurn s.third t.third
-  pub fourth : StaysInTurn s.fourth t.fourth
+  pub constants : StaysInTurn s.constants t.constants
+  pub expressions : StaysInTurn s.expressions t.expressions
+  pub allocation : StaysInTurn s.allocation t.allocation
+  pub order : StaysInTurn s.order t.order
   pub number : t.number ≡ s.number
 
 -- A node goes on with as many functions, each in its rooms. Its journal is that of its source, and as honest; where the node was not
@@ -30,7 +30,7 @@ pub record CameBackBy {D T1 T2 T3 T4 : Type 0} (texts : Texts T1 T2 T3 T4) (is_h
 
 -- the same with the texts of the passes' offers as they are
 abbrev pub CameBack : {D : Type 0} → (D → Type 0) → (D → List ℕ) → (D → List ℕ → Type 0) → (D → ℕ) → (D → ℕ → List ℕ → Type 0)
-    → Log D → Log D → List (Four Constants Expressions Allocation Order) → List (Four Constants Expressions Allocation Order)
+    → Log D → Log D → List (Four ConstantsOffer ExpressionsOffer AllocationOffer OrderOffer) → List (Four ConstantsOffer ExpressionsOffer AllocationOffer OrderOffer)
     → Option Halted → Option Halted → Type 0
 CameBack is_honest seen may_leave moment left_since old new seats after halted now =
     CameBackBy pass_texts is_honest seen may_leave moment left_since old new seats after halted now

@@ -6,7 +6,7 @@ ghost use Rattle.farm_nodes_node.specs.Held.{IsSoundNode};
 ghost use Rattle.farm_nodes_node.specs.Waiting.{IsWaiting};
 ghost use Rattle.farm_nodes_threads.specs.CameBack.{CameBack};
 
-use crate::wrapping::{all_nodes, all_taking, two_rooms};
+use crate::wrapping::{all_nodes, all_taking, two_spares};
 use durable_model::Disk;
 use farm_nodes_node::{FarmNode, Oracles};
 use farm_nodes_workers::{RunError, run_threads as run};
@@ -17,7 +17,7 @@ use std::sync::Wait;
 use std::thread::Threads;
 
 /// Lets each node of a farm take at most so many turns in its rooms, in their order, round and round, on so many threads: node i on
-/// the thread i modulo their number, and no node more than 64 turns ahead of the slowest that still takes any. A node that fails
+/// the thread i modulo their number, and no node more than 64 turns ahead of the slowest that has still to learn. A node that fails
 /// takes none any more. It ends where the turns are used, or all nodes that did not fail have learned in all their rooms. The gate is
 /// called before and after each turn with the node's number. All nodes come back, also where memory or a thread is refused.
 pub fn run_threads<
@@ -46,10 +46,10 @@ pub fn run_threads<
         (fours_of m.seats.items) n.halted m.halted) nodes.items (nodes_of result).items }
     ensures same { IfErr result (λ told. told.1 ≡ RunError.NoMemory → told.0.items ≡ nodes.items) }
 {
-    let Some((room, home)) = two_rooms(alloc, nodes.len()) else {
+    let Some((spare, home)) = two_spares(alloc, nodes.len()) else {
         return Err((nodes, RunError::NoMemory));
     };
-    match run(rt, alloc, all_taking(nodes, room), turns, workers, gate) {
+    match run(rt, alloc, all_taking(nodes, spare), turns, workers, gate) {
         Ok(taking) => Ok(all_nodes(taking, home)),
         Err((taking, error)) => Err((all_nodes(taking, home), error)),
     }

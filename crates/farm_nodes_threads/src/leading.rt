@@ -15,9 +15,9 @@ fn leads(seat: &WordSeat) -> bool {
 /// Whether the node leads the room of one pass of the function.
 pub(crate) fn leads_in<H: Naming>(seats: &NumberedSeat<H>, pass: Which) -> bool {
     match pass {
-        Which::First => leads(&seats.seat.first.words),
-        Which::Second => leads(&seats.seat.second.words),
-        Which::Third => leads(&seats.seat.third.words),
-        Which::Fourth => leads(&seats.seat.fourth.words),
+        Which::Constants => leads(&seats.seat.first.words),
+        Which::Expressions => leads(&seats.seat.second.words),
+        Which::Allocation => leads(&seats.seat.third.words),
+        Which::Order => leads(&seats.seat.fourth.words),
     }
 }

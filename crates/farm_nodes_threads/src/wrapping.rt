@@ -11,40 +11,40 @@ pub(crate) struct Taking<N> {
     pub node: N,
 }
 
-/// Room for so many nodes that take turns, and for as many when they come back.
-pub(crate) fn two_rooms<N: Drop>(alloc: Global, count: usize) -> Option<(Vec<Taking<N>>, Vec<N>)>
+/// Spare memory for so many nodes that take turns, and for as many when they come back.
+pub(crate) fn two_spares<N: Drop>(alloc: Global, count: usize) -> Option<(Vec<Taking<N>>, Vec<N>)>
     ensures { IfSome result (λ r. (r.0.items ≡ []) × (r.1.items ≡ [])
         × (count ≤ vec_capacity r.0) × (count ≤ vec_capacity r.1)) }
 {
-    let Ok(room) = Vec::with_capacity(alloc, count) else {
+    let Ok(spare) = Vec::with_capacity(alloc, count) else {
         return None;
     };
     let Ok(home) = Vec::with_capacity(alloc, count) else {
         return None;
     };
-    Some((room, home))
+    Some((spare, home))
 }
 
-/// Each of the nodes as one that takes turns, where there is room.
-pub(crate) fn all_taking<N: Drop>(nodes: Vec<N>, room: Vec<Taking<N>>) -> Vec<Taking<N>>
-    requires none { room.items ≡ [] }
-    requires room { vec_len nodes ≤ vec_capacity room }
+/// Each of the nodes as one that takes turns, in spare memory.
+pub(crate) fn all_taking<N: Drop>(nodes: Vec<N>, spare: Vec<Taking<N>>) -> Vec<Taking<N>>
+    requires none { spare.items ≡ [] }
+    requires capacity { vec_len nodes ≤ vec_capacity spare }
     ensures { map (λ t. t.node) result.items ≡ nodes.items }
 {
-    let mut all = room;
+    let mut all = spare;
     for node in nodes {
         put(&mut all, Taking { node });
     }
     all
 }
 
-/// The nodes alone, where there is room.
-pub(crate) fn all_nodes<N: Drop>(all: Vec<Taking<N>>, room: Vec<N>) -> Vec<N>
-    requires none { room.items ≡ [] }
-    requires room { vec_len all ≤ vec_capacity room }
+/// The nodes alone, in spare memory.
+pub(crate) fn all_nodes<N: Drop>(all: Vec<Taking<N>>, spare: Vec<N>) -> Vec<N>
+    requires none { spare.items ≡ [] }
+    requires capacity { vec_len all ≤ vec_capacity spare }
     ensures { result.items ≡ map (λ t. t.node) all.items }
 {
-    let mut nodes = room;
+    let mut nodes = spare;
     for taking in all {
         put(&mut nodes, taking.node);
     }

@@ -5,7 +5,7 @@ use Rattle.farm_nodes_passes.specs.Offers.{IsConstants, IsExpressions, IsAllocat
 use Rattle.farm_nodes_acting.specs.declared.stop.Pending.{Pending as Waiting}
 use Rattle.farm_nodes_passes.specs.NumberedSeat.{NumberedSeat}
 use Rattle.farm_nodes_passes.specs.declared.which.Which.{Which}
-use Rattle.farm_nodes_passes.specs.declared.which.Which.TheVariants.{First, Second, Third, Fourth}
+use Rattle.farm_nodes_passes.specs.declared.which.Which.TheVariants.{Constants, Expressions, Allocation, Order}
 use Rattle.farm_nodes_passes.specs.Fours.{Four, four_of}
 use Rattle.farm_nodes_passes.specs.Leaves.{IsPendingIn, MayPend, MayPendIn}
 use Rattle.farm_nodes_passes.specs.Numbers.{function_of, pass_of}
@@ -16,10 +16,10 @@ module _ {T1 T2 T3 T4 : Type 0} (IsText1 : List ℕ → T1 → Type 0) (IsText2 
     (IsText3 : List ℕ → T3 → Type 0) (IsText4 : List ℕ → T4 → Type 0) (room : ℕ) where
   in_pass : (which : Which) (s : Four T1 T2 T3 T4) (p : Waiting) → MayPendIn IsText1 IsText2 IsText3 IsText4 room which s (Some p)
       → IsPendingIn IsText1 IsText2 IsText3 IsText4 room which s p
-  in_pass First s p is = is
-  in_pass Second s p is = is
-  in_pass Third s p is = is
-  in_pass Fourth s p is = is
+  in_pass Constants s p is = is
+  in_pass Expressions s p is = is
+  in_pass Allocation s p is = is
+  in_pass Order s p is = is
 
   in_all : {X : Type 0} (f : X → Four T1 T2 T3 T4) (ys : List X) (y : X) (p : Option Waiting) → slice_get ys (function_of room) ≡ Some y
       → MayPendIn IsText1 IsText2 IsText3 IsText4 room (pass_of room) (f y) p → MayPend IsText1 IsText2 IsText3 IsText4 room (map f ys) p

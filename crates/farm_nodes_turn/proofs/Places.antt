@@ -2,7 +2,7 @@
 use Rattle.std.proofs.Common.{◌≡◌, ◌≢◌, ℕ, zero, suc, ◌%◌, ◌<◌, List, [], ◌∷◌, length, map, set, slice_get, get_or, Some, refl, sym, ap, ◌∙◌, subst, arith}
 use Rattle.std.proofs.lemmas.Option.{get_or_from_slice_get}
 use Rattle.farm_nodes_passes.specs.declared.which.Which.{Which}
-use Rattle.farm_nodes_passes.specs.declared.which.Which.TheVariants.{First, Second, Third, Fourth}
+use Rattle.farm_nodes_passes.specs.declared.which.Which.TheVariants.{Constants, Expressions, Allocation, Order}
 use Rattle.farm_nodes_passes.specs.Numbers.{function_of, pass_at, pass_of, place_of}
 use Rattle.farm_nodes_passes.specs.Fours.{Four, words_of}
 use Rattle.farm_nodes_turn.specs.Turned.{OthersStay}
@@ -88,19 +88,19 @@ same_room m r f p =
 
 -- the seats of the other passes are as they were
 pub words_other : {T1 T2 T3 T4 : Type 0} (p q : Which) (s t : Four T1 T2 T3 T4) → (q ≡ p → ⊥) → OthersStay p s t → words_of t q ≡ words_of s q
-words_other First First s t other e = absurd (other refl)
-words_other {T1} {T2} {T3} {T4} First Second s t other e = ap (λ (u : Four T1 T2 T3 T4). u.second.words) e
-words_other {T1} {T2} {T3} {T4} First Third s t other e = ap (λ (u : Four T1 T2 T3 T4). u.third.words) e
-words_other {T1} {T2} {T3} {T4} First Fourth s t other e = ap (λ (u : Four T1 T2 T3 T4). u.fourth.words) e
-words_other {T1} {T2} {T3} {T4} Second First s t other e = ap (λ (u : Four T1 T2 T3 T4). u.first.words) e
-words_other Second Second s t other e = absurd (other refl)
-words_other {T1} {T2} {T3} {T4} Second Third s t other e = ap (λ (u : Four T1 T2 T3 T4). u.third.words) e
-words_other {T1} {T2} {T3} {T4} Second Fourth s t other e = ap (λ (u : Four T1 T2 T3 T4). u.fourth.words) e
-words_other {T1} {T2} {T3} {T4} Third First s t other e = ap (λ (u : Four T1 T2 T3 T4). u.first.words) e
-words_other {T1} {T2} {T3} {T4} Third Second s t other e = ap (λ (u : Four T1 T2 T3 T4). u.second.words) e
-words_other Third Third s t other e = absurd (other refl)
-words_other {T1} {T2} {T3} {T4} Third Fourth s t other e = ap (λ (u : Four T1 T2 T3 T4). u.fourth.words) e
-words_other {T1} {T2} {T3} {T4} Fourth First s t other e = ap (λ (u : Four T1 T2 T3 T4). u.first.words) e
-words_other {T1} {T2} {T3} {T4} Fourth Second s t other e = ap (λ (u : Four T1 T2 T3 T4). u.second.words) e
-words_other {T1} {T2} {T3} {T4} Fourth Third s t other e = ap (λ (u : Four T1 T2 T3 T4). u.third.words) e
-words_other Fourth Fourth s t other e = absurd (other refl)
+words_other Constants Constants s t other e = absurd (other refl)
+words_other {T1} {T2} {T3} {T4} Constants Expressions s t other e = ap (λ (u : Four T1 T2 T3 T4). u.expressions.words) e
+words_other {T1} {T2} {T3} {T4} Constants Allocation s t other e = ap (λ (u : Four T1 T2 T3 T4). u.allocation.words) e
+words_other {T1} {T2} {T3} {T4} Constants Order s t other e = ap (λ (u : Four T1 T2 T3 T4). u.order.words) e
+words_other {T1} {T2} {T3} {T4} Expressions Constants s t other e = ap (λ (u : Four T1 T2 T3 T4). u.constants.words) e
+words_other Expressions Expressions s t other e = absurd (other refl)
+words_other {T1} {T2} {T3} {T4} Expressions Allocation s t other e = ap (λ (u : Four T1 T2 T3 T4). u.allocation.words) e
+words_other {T1} {T2} {T3} {T4} Expressions Order s t other e = ap (λ (u : Four T1 T2 T3 T4). u.order.words) e
+words_other {T1} {T2} {T3} {T4} Allocation Constants s t other e = ap (λ (u : Four T1 T2 T3 T4). u.constants.words) e
+words_other {T1} {T2} {T3} {T4} Allocation Expressions s t other e = ap (λ (u : Four T1 T2 T3 T4). u.expressions.words) e
+words_other Allocation Allocation s t other e = absurd (other refl)
+words_other {T1} {T2} {T3} {T4} Allocation Order s t other e = ap (λ (u : Four T1 T2 T3 T4). u.order.words) e
+words_other {T1} {T2} {T3} {T4} Order Constants s t other e = ap (λ (u : Four T1 T2 T3 T4). u.constants.words) e
+words_other {T1} {T2} {T3} {T4} Order Expressions s t other e = ap (λ (u : Four T1 T2 T3 T4). u.expressions.words) e
+words_other {T1} {T2} {T3} {T4} Order Allocation s t other e = ap (λ (u : Four T1 T2 T3 T4). u.allocation.words) e
+words_other Order Order s t other e = absurd (other refl)

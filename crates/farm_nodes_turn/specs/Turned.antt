@@ -12,9 +12,9 @@ use Rattle.rooms.specs.SeatValue.{SeatValue, offer_of}
 use Rattle.farm_nodes_acting.specs.Quiet.{IsQuiet}
 use Rattle.farm_nodes_playing.specs.Leading.{HasLed}
 use Rattle.farm_nodes_playing.specs.Played.{IsLearnedOutput, IsMadeOn, StaysInTurn}
-use Rattle.farm_nodes_passes.specs.Offers.{Constants, Expressions, Allocation, Order}
+use Rattle.farm_nodes_passes.specs.Offers.{ConstantsOffer, ExpressionsOffer, AllocationOffer, OrderOffer}
 use Rattle.farm_nodes_passes.specs.declared.which.Which.{Which}
-use Rattle.farm_nodes_passes.specs.declared.which.Which.TheVariants.{First, Second, Third, Fourth}
+use Rattle.farm_nodes_passes.specs.declared.which.Which.TheVariants.{Constants, Expressions, Allocation, Order}
 use Rattle.farm_nodes_passes.specs.Fours.{Four, words_of}
 
 -- the node has learned in this room, and has seen the offer
@@ -39,21 +39,21 @@ module _ {A1 A2 A3 A4 A5 C1 C2 C3 C4 : Type 0} where
   -- an offer that the node made has the input of the pass
   abbrev pub IsMadeIn : A1 → Which → Four (Parts A1 A2 C1) (Parts A2 A3 C2) (Parts A3 A4 C3) (Parts A4 A5 C4)
       → Four (Parts A1 A2 C1) (Parts A2 A3 C2) (Parts A3 A4 C3) (Parts A4 A5 C4) → Type 0
-  IsMadeIn function First old new = IsMadeOn (Some function) old.first new.first
-  IsMadeIn function Second old new = IsMadeFrom old.first old.second new.second
-  IsMadeIn function Third old new = IsMadeFrom old.second old.third new.third
-  IsMadeIn function Fourth old new = IsMadeFrom old.third old.fourth new.fourth
+  IsMadeIn function Constants old new = IsMadeOn (Some function) old.constants new.constants
+  IsMadeIn function Expressions old new = IsMadeFrom old.constants old.expressions new.expressions
+  IsMadeIn function Allocation old new = IsMadeFrom old.expressions old.allocation new.allocation
+  IsMadeIn function Order old new = IsMadeFrom old.allocation old.order new.order
 
   -- the input has no baseline
   abbrev pub IsTooLargeIn : (A1 → Type 0) → (A2 → Type 0) → (A3 → Type 0) → (A4 → Type 0) → A1 → Which
       → Four (Parts A1 A2 C1) (Parts A2 A3 C2) (Parts A3 A4 C3) (Parts A4 A5 C4) → Type 0
-  IsTooLargeIn first second third fourth function First seats = first function
-  IsTooLargeIn first second third fourth function Second seats = IsTooLargeFrom second seats.first
-  IsTooLargeIn first second third fourth function Third seats = IsTooLargeFrom third seats.second
-  IsTooLargeIn first second third fourth function Fourth seats = IsTooLargeFrom fourth seats.third
+  IsTooLargeIn first second third fourth function Constants seats = first function
+  IsTooLargeIn first second third fourth function Expressions seats = IsTooLargeFrom second seats.constants
+  IsTooLargeIn first second third fourth function Allocation seats = IsTooLargeFrom third seats.expressions
+  IsTooLargeIn first second third fourth function Order seats = IsTooLargeFrom fourth seats.allocation
 
 -- the same of the passes as they are
-abbrev pub IsTooLargeFor : FunctionData → Which → Four Constants Expressions Allocation Order → Type 0
+abbrev pub IsTooLargeFor : FunctionData → Which → Four ConstantsOffer ExpressionsOffer AllocationOffer OrderOffer → Type 0
 IsTooLargeFor function pass seats =
     IsTooLargeIn (constants.ghosts).too_large (expressions.ghosts).too_large (allocation.ghosts).too_large (order.ghosts).too_large
     function pass seats
@@ -61,24 +61,24 @@ IsTooLargeFor function pass seats =
 module _ {T1 T2 T3 T4 : Type 0} where
   -- the node knows the input of the pass
   abbrev pub HasInput : Which → Four T1 T2 T3 T4 → Type 0
-  HasInput First seats = Unit {0}
-  HasInput Second seats = HasLearned seats.first
-  HasInput Third seats = HasLearned seats.second
-  HasInput Fourth seats = HasLearned seats.third
+  HasInput Constants seats = Unit {0}
+  HasInput Expressions seats = HasLearned seats.constants
+  HasInput Allocation seats = HasLearned seats.expressions
+  HasInput Order seats = HasLearned seats.allocation
 
   -- what a turn leaves of the seat
   abbrev pub StaysIn : Which → Four T1 T2 T3 T4 → Four T1 T2 T3 T4 → Type 0
-  StaysIn First old new = StaysInTurn old.first new.first
-  StaysIn Second old new = StaysInTurn old.second new.second
-  StaysIn Third old new = StaysInTurn old.third new.third
-  StaysIn Fourth old new = StaysInTurn old.fourth new.fourth
+  StaysIn Constants old new = StaysInTurn old.constants new.constants
+  StaysIn Expressions old new = StaysInTurn old.expressions new.expressions
+  StaysIn Allocation old new = StaysInTurn old.allocation new.allocation
+  StaysIn Order old new = StaysInTurn old.order new.order
 
   -- the other seats, and the number of the rooms, are as they were
   abbrev pub OthersStay : Which → Four T1 T2 T3 T4 → Four T1 T2 T3 T4 → Type 0
-  OthersStay First old new = new ≡ record old { first = new.first }
-  OthersStay Second old new = new ≡ record old { second = new.second }
-  OthersStay Third old new = new ≡ record old { third = new.third }
-  OthersStay Fourth old new = new ≡ record old { fourth = new.fourth }
+  OthersStay Constants old new = new ≡ record old { constants = new.constants }
+  OthersStay Expressions old new = new ≡ record old { expressions = new.expressions }
+  OthersStay Allocation old new = new ≡ record old { allocation = new.allocation }
+  OthersStay Order old new = new ≡ record old { order = new.order }
 
   -- What stands after a turn that did not fail: the node has offered if it knew the input; nothing is left to accept, to promise
   -- or to propose; and where it had offered before, it has led if the generator's next word was 0 modulo 4.

@@ -71,7 +71,7 @@ pub fn play_in<D: Disk, O: Oracles, H: Naming>(
         log.old log.new (left_over room (words_of (four_of seats.new) pass) halt.pending) halt.fault) }
 {
     match pass {
-        Which::First => play_first(
+        Which::Constants => play_first(
             alloc,
             log,
             &mut seats.seat.first,
@@ -80,7 +80,7 @@ pub fn play_in<D: Disk, O: Oracles, H: Naming>(
             &mut ConstantsOf(oracles),
             words,
         ),
-        Which::Second => play_behind(
+        Which::Expressions => play_behind(
             alloc,
             log,
             &seats.seat.first,
@@ -89,7 +89,7 @@ pub fn play_in<D: Disk, O: Oracles, H: Naming>(
             &mut ExpressionsOf(oracles),
             words,
         ),
-        Which::Third => play_behind(
+        Which::Allocation => play_behind(
             alloc,
             log,
             &seats.seat.second,
@@ -98,7 +98,7 @@ pub fn play_in<D: Disk, O: Oracles, H: Naming>(
             &mut AllocationOf(oracles),
             words,
         ),
-        Which::Fourth => play_behind(
+        Which::Order => play_behind(
             alloc,
             log,
             &seats.seat.third,

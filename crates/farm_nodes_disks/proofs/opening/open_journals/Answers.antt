@@ -39,5 +39,5 @@ loop-node-preserved g c =
     record {
       opened = opened_next g.P.Disk g.P.Pair q digest given node c.loop-node.opened.items c.push.new.self.items j d c.loop-node.invariant.opened (next_of given node d rest left) now c.in-Ok-push.ensures.items;
       behind = rest_of given node d rest left;
-      room = omega (arith, c.loop-node.invariant.room, c.in-Ok-push.ensures.capacity);
+      capacity = omega (arith, c.loop-node.invariant.capacity, c.in-Ok-push.ensures.capacity);
     }

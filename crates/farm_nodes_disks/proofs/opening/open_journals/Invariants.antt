@@ -9,5 +9,5 @@ abbrev pub invariant-loop-node : goal.invariant-loop-node
 invariant-loop-node g l = record {
   opened : AreOpened g.P.Disk g.P.Pair l.quorums l.digest l.fn.pairs.items l.node l.opened.items;
   behind : into_iter_items l.behind ≡ drop l.node l.fn.pairs.items;
-  room : l.count ≤ vec_capacity l.opened;
+  capacity : l.count ≤ vec_capacity l.opened;
 }

@@ -6,7 +6,7 @@ use Rattle.paxos_core_world.specs.KeptPart.{KeptPart}
 use Rattle.rooms_function.specs.Opened.{kept_in}
 use Rattle.rooms_function.specs.Opened as by_pass
 use Rattle.farm_nodes_function_rooms.specs.Numbers.{room_at}
-use Rattle.farm_nodes_function_rooms.specs.Which.TheVariants.{First, Second, Third, Fourth}
+use Rattle.farm_nodes_function_rooms.specs.Which.TheVariants.{Constants, Expressions, Allocation, Order}
 use Rattle.farm_nodes_lists.specs.Rows.{offers_of, rows_of}
 use Rattle.farm_nodes_function_rooms.specs.Kept.{four_kept, kept_of}
 use Rattle.farm_nodes_function_rooms.specs.Numbered.{AreOfOneFunction}
@@ -25,10 +25,10 @@ open-requires g c =
     let is = c.as_slice.ensures.value ∙ c.in-Ok.ensures in
     record {
       size = ap length is ∙ length-map nodes (λ (node : Vec KeptPart). four_kept node.items f) ∙ c.requires.size;
-      first = offers_as_given (kept_of nodes (room_at f First)) _ (offers_of (rows_of offers.first.items) f) here.first.items (ap (λ (ps : List (List KeptPart)). kept_in 0 ps) is ∙ kept_first nodes f) are.first c.requires.offers1;
-      second = offers_as_given (kept_of nodes (room_at f Second)) _ (offers_of (rows_of offers.second.items) f) here.second.items (ap (λ (ps : List (List KeptPart)). kept_in 1 ps) is ∙ kept_second nodes f) are.second c.requires.offers2;
-      third = offers_as_given (kept_of nodes (room_at f Third)) _ (offers_of (rows_of offers.third.items) f) here.third.items (ap (λ (ps : List (List KeptPart)). kept_in 2 ps) is ∙ kept_third nodes f) are.third c.requires.offers3;
-      fourth = offers_as_given (kept_of nodes (room_at f Fourth)) _ (offers_of (rows_of offers.fourth.items) f) here.fourth.items (ap (λ (ps : List (List KeptPart)). kept_in 3 ps) is ∙ kept_fourth nodes f) are.fourth c.requires.offers4;
+      first = offers_as_given (kept_of nodes (room_at f Constants)) _ (offers_of (rows_of offers.constants.items) f) here.first.items (ap (λ (ps : List (List KeptPart)). kept_in 0 ps) is ∙ kept_first nodes f) are.constants c.requires.offers1;
+      second = offers_as_given (kept_of nodes (room_at f Expressions)) _ (offers_of (rows_of offers.expressions.items) f) here.second.items (ap (λ (ps : List (List KeptPart)). kept_in 1 ps) is ∙ kept_second nodes f) are.expressions c.requires.offers2;
+      third = offers_as_given (kept_of nodes (room_at f Allocation)) _ (offers_of (rows_of offers.allocation.items) f) here.third.items (ap (λ (ps : List (List KeptPart)). kept_in 2 ps) is ∙ kept_third nodes f) are.allocation c.requires.offers3;
+      fourth = offers_as_given (kept_of nodes (room_at f Order)) _ (offers_of (rows_of offers.order.items) f) here.fourth.items (ap (λ (ps : List (List KeptPart)). kept_in 3 ps) is ∙ kept_fourth nodes f) are.order c.requires.offers4;
     }
 
 pub numbered-requires : goal.numbered-requires
@@ -58,8 +58,8 @@ returns-in-Err-open-clause-told g c =
     let is = c.as_slice.ensures.value ∙ c.in-Ok.ensures in
     let e = c.in-Err-open.unopened in
     told_pass nodes f c.args.quorums here c.told.result.room c.told.result.fault e.error c.told.ensures.fault
-    (offers_as_given (kept_of nodes (room_at f First)) (kept_of nodes (room_at f First)) (offers_of (rows_of offers.first.items) f) here.first.items refl are.first c.requires.offers1)
-    (offers_as_given (kept_of nodes (room_at f Second)) (kept_of nodes (room_at f Second)) (offers_of (rows_of offers.second.items) f) here.second.items refl are.second c.requires.offers2)
-    (offers_as_given (kept_of nodes (room_at f Third)) (kept_of nodes (room_at f Third)) (offers_of (rows_of offers.third.items) f) here.third.items refl are.third c.requires.offers3)
-    (offers_as_given (kept_of nodes (room_at f Fourth)) (kept_of nodes (room_at f Fourth)) (offers_of (rows_of offers.fourth.items) f) here.fourth.items refl are.fourth c.requires.offers4)
+    (offers_as_given (kept_of nodes (room_at f Constants)) (kept_of nodes (room_at f Constants)) (offers_of (rows_of offers.constants.items) f) here.first.items refl are.constants c.requires.offers1)
+    (offers_as_given (kept_of nodes (room_at f Expressions)) (kept_of nodes (room_at f Expressions)) (offers_of (rows_of offers.expressions.items) f) here.second.items refl are.expressions c.requires.offers2)
+    (offers_as_given (kept_of nodes (room_at f Allocation)) (kept_of nodes (room_at f Allocation)) (offers_of (rows_of offers.allocation.items) f) here.third.items refl are.allocation c.requires.offers3)
+    (offers_as_given (kept_of nodes (room_at f Order)) (kept_of nodes (room_at f Order)) (offers_of (rows_of offers.order.items) f) here.fourth.items refl are.order c.requires.offers4)
     e.pass (subst (λ (ps : List (List KeptPart)). by_pass.IsUnopened c.args.quorums ps here e.pass e.error) is c.in-Err-open.ensures.told) c.told.ensures.room

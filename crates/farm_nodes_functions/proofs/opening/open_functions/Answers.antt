@@ -1,7 +1,7 @@
 -- The rooms of one function more are open.
 use Rattle.std.proofs.Common.{◌≡◌, ℕ, length, All, sym, subst, ◌∙◌, arith}
 use Rattle.std.proofs.lemmas.List.{length-map}
-use Rattle.farm_nodes_function_rooms.specs.Which.TheVariants.{First, Second, Third, Fourth}
+use Rattle.farm_nodes_function_rooms.specs.Which.TheVariants.{Constants, Expressions, Allocation, Order}
 use Rattle.farm_nodes_lists.specs.Rows.{rows_of}
 use Rattle.farm_nodes_functions.proofs.Rooms.{all_left_next, before_first, before_room, none_open, none_taken, offers_here, open_next, settled_again}
 use Rattle.farm_nodes_functions.proofs.opening.open_functions.Goals as goal
@@ -18,23 +18,23 @@ loop-function-init g c = record {
 
 pub open_function-requires-clause-offers1 : goal.open_function-requires-clause-offers1
 open_function-requires-clause-offers1 g c =
-    offers_here c.args.kept.now First c.args.functions c.loop-function.function (rows_of c.args.offers.first.items) (rows_of c.loop-function.left.first.items)
-    c.requires.offers1 c.loop-function-test.true c.loop-function.invariant.left.first
+    offers_here c.args.kept.now Constants c.args.functions c.loop-function.function (rows_of c.args.offers.constants.items) (rows_of c.loop-function.left.constants.items)
+    c.requires.offers1 c.loop-function-test.true c.loop-function.invariant.left.constants
 
 pub open_function-requires-clause-offers2 : goal.open_function-requires-clause-offers2
 open_function-requires-clause-offers2 g c =
-    offers_here c.args.kept.now Second c.args.functions c.loop-function.function (rows_of c.args.offers.second.items) (rows_of c.loop-function.left.second.items)
-    c.requires.offers2 c.loop-function-test.true c.loop-function.invariant.left.second
+    offers_here c.args.kept.now Expressions c.args.functions c.loop-function.function (rows_of c.args.offers.expressions.items) (rows_of c.loop-function.left.expressions.items)
+    c.requires.offers2 c.loop-function-test.true c.loop-function.invariant.left.expressions
 
 pub open_function-requires-clause-offers3 : goal.open_function-requires-clause-offers3
 open_function-requires-clause-offers3 g c =
-    offers_here c.args.kept.now Third c.args.functions c.loop-function.function (rows_of c.args.offers.third.items) (rows_of c.loop-function.left.third.items)
-    c.requires.offers3 c.loop-function-test.true c.loop-function.invariant.left.third
+    offers_here c.args.kept.now Allocation c.args.functions c.loop-function.function (rows_of c.args.offers.allocation.items) (rows_of c.loop-function.left.allocation.items)
+    c.requires.offers3 c.loop-function-test.true c.loop-function.invariant.left.allocation
 
 pub open_function-requires-clause-offers4 : goal.open_function-requires-clause-offers4
 open_function-requires-clause-offers4 g c =
-    offers_here c.args.kept.now Fourth c.args.functions c.loop-function.function (rows_of c.args.offers.fourth.items) (rows_of c.loop-function.left.fourth.items)
-    c.requires.offers4 c.loop-function-test.true c.loop-function.invariant.left.fourth
+    offers_here c.args.kept.now Order c.args.functions c.loop-function.function (rows_of c.args.offers.order.items) (rows_of c.loop-function.left.order.items)
+    c.requires.offers4 c.loop-function-test.true c.loop-function.invariant.left.order
 
 pub add_each-requires : goal.add_each-requires
 add_each-requires g c = c.in-Ok-open_function.ensures.opened.count ∙ sym c.loop-function.invariant.count
@@ -75,17 +75,17 @@ returns-clause-functions g c =
     let all : c.loop-function.function ≡ c.args.functions = omega (arith, c.loop-function-test.false, c.loop-function.auto.function-end) in
     subst (λ (k : ℕ). All (λ row. length row ≡ k) (rows_of c.loop-function.nodes.items)) all c.loop-function.invariant.opened.long
 
-pub returns-clause-first : goal.returns-clause-first
-returns-clause-first g c f low = c.loop-function.invariant.opened.first f (omega (arith, low, c.loop-function-test.false, c.loop-function.auto.function-end))
+pub returns-clause-constants : goal.returns-clause-constants
+returns-clause-constants g c f low = c.loop-function.invariant.opened.constants f (omega (arith, low, c.loop-function-test.false, c.loop-function.auto.function-end))
 
-pub returns-clause-second : goal.returns-clause-second
-returns-clause-second g c f low = c.loop-function.invariant.opened.second f (omega (arith, low, c.loop-function-test.false, c.loop-function.auto.function-end))
+pub returns-clause-expressions : goal.returns-clause-expressions
+returns-clause-expressions g c f low = c.loop-function.invariant.opened.expressions f (omega (arith, low, c.loop-function-test.false, c.loop-function.auto.function-end))
 
-pub returns-clause-third : goal.returns-clause-third
-returns-clause-third g c f low = c.loop-function.invariant.opened.third f (omega (arith, low, c.loop-function-test.false, c.loop-function.auto.function-end))
+pub returns-clause-allocation : goal.returns-clause-allocation
+returns-clause-allocation g c f low = c.loop-function.invariant.opened.allocation f (omega (arith, low, c.loop-function-test.false, c.loop-function.auto.function-end))
 
-pub returns-clause-fourth : goal.returns-clause-fourth
-returns-clause-fourth g c f low = c.loop-function.invariant.opened.fourth f (omega (arith, low, c.loop-function-test.false, c.loop-function.auto.function-end))
+pub returns-clause-order : goal.returns-clause-order
+returns-clause-order g c f low = c.loop-function.invariant.opened.order f (omega (arith, low, c.loop-function-test.false, c.loop-function.auto.function-end))
 
 pub returns-clause-settled : goal.returns-clause-settled
 returns-clause-settled g c f low = c.loop-function.invariant.opened.settled f (omega (arith, low, c.loop-function-test.false, c.loop-function.auto.function-end))

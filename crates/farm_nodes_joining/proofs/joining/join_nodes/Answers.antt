@@ -14,7 +14,7 @@ pieces_of-pieces-requires g c =
     let count : c.len-count.result ≡ length c.args.journals.items = omega (arith, c.len-count.ensures, c.args.journals.ok.0) in
     record {
       none = c.in-Ok-with_capacity.ensures.items;
-      room = omega (arith, c.in-Ok-with_capacity.ensures.capacity, c.len-count.ensures);
+      capacity = omega (arith, c.in-Ok-with_capacity.ensures.capacity, c.len-count.ensures);
       seats = c.requires.held.count;
       programs = c.in-Ok-shares.ensures.count ∙ count;
       oracles = c.requires.oracles;
@@ -29,7 +29,7 @@ made_of-requires g c =
       callable = all_of_both (λ p. p.seats) (λ p. p.program) (λ s. length s.items ≡ length (arc_value c.args.program.now).functions) (λ p. arc_value p ≡ arc_value c.args.program.now) _
           (λ p q r. q ∙ sym (ap (λ x. length x.functions) r)) ps.items c.args.seats.items c.in-Ok-shares.shares.items are.seats are.programs c.requires.functions c.in-Ok-shares.ensures.same;
       none = c.in-Ok.ensures.items;
-      room = omega (arith, ps.ok.0, long, c.in-Ok.ensures.capacity, c.len-count.ensures, c.args.journals.ok.0);
+      capacity = omega (arith, ps.ok.0, long, c.in-Ok.ensures.capacity, c.len-count.ensures, c.args.journals.ok.0);
     }
 
 pub returns-clause-logs : goal.returns-clause-logs

@@ -11,9 +11,9 @@ loop-value-init g c =
     let left = into_iter_items c.into_iter-value-iterator.result in
     record {
       callable = All-same (λ v. goal.F-pre g c.args.make v) left c.args.values.items gives.0 c.requires.callable;
-      made = λ more are. made_first (λ v m. goal.F-post g c.args.make v m) left c.args.values.items c.args.room.items more gives.0 c.requires.none are;
+      made = λ more are. made_first (λ v m. goal.F-post g c.args.make v m) left c.args.values.items c.args.spare.items more gives.0 c.requires.none are;
       counted = omega (arith, gives.1, ap length gives.0, c.args.values.ok.0);
-      room = omega (arith, ap length gives.0, c.args.values.ok.0, c.requires.room, ap length c.requires.none);
+      capacity = omega (arith, ap length gives.0, c.args.values.ok.0, c.requires.capacity, ap length c.requires.none);
     }
 
 pub make-requires : goal.make-requires
@@ -34,7 +34,7 @@ loop-value-preserved g c =
       callable = All-rest (λ v. goal.F-pre g c.args.make v) c.in-Some.value rest left steps.0 i.callable;
       made = λ more are. made_next (λ v m. goal.F-post g c.args.make v m) left rest c.args.values.items c.loop-value.made.items c.put.new.all.items more c.in-Some.value c.make.result i.made steps.0 c.make.ensures put.items are;
       counted = omega (arith, steps.1, ap length steps.0, i.counted);
-      room = omega (arith, ap length steps.0, long, put.room, i.room);
+      capacity = omega (arith, ap length steps.0, long, put.capacity, i.capacity);
     }
 
 pub returns : goal.returns

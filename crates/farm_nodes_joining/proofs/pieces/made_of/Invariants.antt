@@ -9,5 +9,5 @@ invariant-loop-value g l = record {
   callable : All (λ v. goal.F-pre g l.make v) (into_iter_items l.value-iterator);
   made : (more : List _) → AllZip (λ v m. goal.F-post g l.make v m) (into_iter_items l.value-iterator) more → AllZip (λ v m. goal.F-post g l.make v m) l.fn.values.items (l.made.items ++ more);
   counted : into_iter_len l.value-iterator ≡ length (into_iter_items l.value-iterator);
-  room : length l.made.items + length (into_iter_items l.value-iterator) ≤ vec_capacity l.made;
+  capacity : length l.made.items + length (into_iter_items l.value-iterator) ≤ vec_capacity l.made;
 }

@@ -9,21 +9,21 @@ pub loop-journal-init : goal.loop-journal-init
 loop-journal-init g c =
     let gives = c.into_iter-journal-iterator.ensures.into_iter_gives in
     let none = c.requires.none in
-    let room = c.args.room.items in
+    let spare = c.args.spare.items in
     let ss = c.into_iter-seats_left.ensures.rest in
     let ps = c.into_iter-programs_left.ensures.rest in
     let os = c.into_iter-oracles_left.ensures.rest in
     record {
-      journals = begun (λ p. p.journal) room (into_iter_items c.into_iter-journal-iterator.result) c.args.journals.items none gives.0;
-      seats = begun (λ p. p.seats) room (into_iter_items c.into_iter-seats_left.result) c.args.seats.items none ss;
-      programs = begun (λ p. p.program) room (into_iter_items c.into_iter-programs_left.result) c.args.programs.items none ps;
-      oracles = begun (λ p. p.oracles) room (into_iter_items c.into_iter-oracles_left.result) c.args.oracles.items none os;
-      words = no_words (λ p. p.words) c.args.seed room none;
+      journals = begun (λ p. p.journal) spare (into_iter_items c.into_iter-journal-iterator.result) c.args.journals.items none gives.0;
+      seats = begun (λ p. p.seats) spare (into_iter_items c.into_iter-seats_left.result) c.args.seats.items none ss;
+      programs = begun (λ p. p.program) spare (into_iter_items c.into_iter-programs_left.result) c.args.programs.items none ps;
+      oracles = begun (λ p. p.oracles) spare (into_iter_items c.into_iter-oracles_left.result) c.args.oracles.items none os;
+      words = no_words (λ p. p.words) c.args.seed spare none;
       counted = omega (arith, gives.1, ap length gives.0, c.args.journals.ok.0);
       seats_left = ap length ss ∙ c.requires.seats ∙ sym (ap length gives.0);
       programs_left = ap length ps ∙ c.requires.programs ∙ sym (ap length gives.0);
       oracles_left = ap length os ∙ c.requires.oracles ∙ sym (ap length gives.0);
-      room = omega (arith, ap length gives.0, c.args.journals.ok.0, c.requires.room, ap length none);
+      capacity = omega (arith, ap length gives.0, c.args.journals.ok.0, c.requires.capacity, ap length none);
     }
 
 pub loop-journal-preserved : goal.loop-journal-preserved
@@ -46,5 +46,5 @@ loop-journal-preserved g c =
       seats_left = omega (arith, ap length s, ap length steps.0, i.seats_left);
       programs_left = omega (arith, ap length p, ap length steps.0, i.programs_left);
       oracles_left = omega (arith, ap length o, ap length steps.0, i.oracles_left);
-      room = omega (arith, ap length steps.0, long, put.room, i.room);
+      capacity = omega (arith, ap length steps.0, long, put.capacity, i.capacity);
     }

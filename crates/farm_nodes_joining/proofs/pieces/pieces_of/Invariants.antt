@@ -15,5 +15,5 @@ invariant-loop-journal g l = record {
   seats_left : length (into_iter_items l.seats_left) ≡ length (into_iter_items l.journal-iterator);
   programs_left : length (into_iter_items l.programs_left) ≡ length (into_iter_items l.journal-iterator);
   oracles_left : length (into_iter_items l.oracles_left) ≡ length (into_iter_items l.journal-iterator);
-  room : length l.all.items + length (into_iter_items l.journal-iterator) ≤ vec_capacity l.all;
+  capacity : length l.all.items + length (into_iter_items l.journal-iterator) ≤ vec_capacity l.all;
 }

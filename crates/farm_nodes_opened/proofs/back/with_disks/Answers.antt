@@ -11,7 +11,7 @@ loop-journal-init g c =
     record {
       whole = ap (λ js. c.args.back.items ++ map (λ j. j.0.disk) js) gives.0;
       counted = omega (arith, gives.1, ap length gives.0, c.args.journals.ok.0);
-      room = omega (arith, c.requires, ap length gives.0);
+      fits = omega (arith, c.requires, ap length gives.0);
       capacity = omega arith;
     }
 
@@ -26,7 +26,7 @@ loop-journal-preserved g c =
       whole = moved_on c.loop-journal.back.items c.push.new.self.items j.0.disk (map (λ j. j.0.disk) left) (map (λ j. j.0.disk) rest) (c.args.back.items ++ map (λ j. j.0.disk) c.args.journals.items)
           (c.in-Ok.ensures.items ∙ ap (λ d. c.loop-journal.back.items ++ d ∷ []) c.into_disk.ensures) (ap (map (λ j. j.0.disk)) steps.0) i.whole;
       counted = omega (arith, steps.1, ap length steps.0, i.counted);
-      room = omega (arith, ap length steps.0, i.room, ap length c.in-Ok.ensures.items, length_push c.loop-journal.back.items c.into_disk.result, c.in-Ok.ensures.capacity);
+      fits = omega (arith, ap length steps.0, i.fits, ap length c.in-Ok.ensures.items, length_push c.loop-journal.back.items c.into_disk.result, c.in-Ok.ensures.capacity);
       capacity = omega (arith, i.capacity, c.in-Ok.ensures.capacity);
     }
 

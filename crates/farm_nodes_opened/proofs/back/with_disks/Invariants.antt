@@ -8,6 +8,6 @@ abbrev pub invariant-loop-journal : goal.invariant-loop-journal
 invariant-loop-journal g l = record {
   whole : l.back.items ++ map (λ j. j.0.disk) (into_iter_items l.journal-iterator) ≡ l.fn.back.items ++ map (λ j. j.0.disk) l.fn.journals.items;
   counted : into_iter_len l.journal-iterator ≡ length (into_iter_items l.journal-iterator);
-  room : length l.back.items + length (into_iter_items l.journal-iterator) ≤ vec_capacity l.back;
+  fits : length l.back.items + length (into_iter_items l.journal-iterator) ≤ vec_capacity l.back;
   capacity : vec_capacity l.fn.back ≤ vec_capacity l.back;
 }

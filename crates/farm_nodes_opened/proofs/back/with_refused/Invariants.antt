@@ -8,5 +8,5 @@ abbrev pub invariant-loop-pair : goal.invariant-loop-pair
 invariant-loop-pair g l = record {
   whole : l.back.items ++ into_iter_items l.pair-iterator ≡ ((l.fn.back.items ++ map (λ j. j.0.disk) l.fn.refused.opened.items) ++ option_to_list l.fn.refused.pair) ++ into_iter_items l.fn.refused.behind;
   counted : into_iter_len l.pair-iterator ≡ length (into_iter_items l.pair-iterator);
-  room : length l.back.items + length (into_iter_items l.pair-iterator) ≤ vec_capacity l.back;
+  fits : length l.back.items + length (into_iter_items l.pair-iterator) ≤ vec_capacity l.back;
 }

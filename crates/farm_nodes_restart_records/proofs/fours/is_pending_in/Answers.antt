@@ -2,26 +2,26 @@ use denote.Param.Send.{sendable}
 use Rattle.farm_nodes_passes.proofs.Sent.{function_send, function_sync}
 use Rattle.farm_nodes_restart_records.proofs.fours.is_pending_in.Goals as goal
 
-pub is_pending-requires-in-Third-send-P-Out-Fun : goal.is_pending-requires-in-Third-send-P-Out-Fun
-is_pending-requires-in-Third-send-P-Out-Fun g c κs = search (function_send, sendable) depth 40
+pub is_pending-requires-in-Allocation-send-P-Out-Fun : goal.is_pending-requires-in-Allocation-send-P-Out-Fun
+is_pending-requires-in-Allocation-send-P-Out-Fun g c κs = search (function_send, sendable) depth 40
 
-pub is_pending-requires-in-Third-sync-P-Out-Fun : goal.is_pending-requires-in-Third-sync-P-Out-Fun
-is_pending-requires-in-Third-sync-P-Out-Fun g c κs = search (function_sync, sendable) depth 40
+pub is_pending-requires-in-Allocation-sync-P-Out-Fun : goal.is_pending-requires-in-Allocation-sync-P-Out-Fun
+is_pending-requires-in-Allocation-sync-P-Out-Fun g c κs = search (function_sync, sendable) depth 40
 
-pub is_pending-requires-in-Fourth-send-P-In-Fun : goal.is_pending-requires-in-Fourth-send-P-In-Fun
-is_pending-requires-in-Fourth-send-P-In-Fun g c κs = search (function_send, sendable) depth 40
+pub is_pending-requires-in-Order-send-P-In-Fun : goal.is_pending-requires-in-Order-send-P-In-Fun
+is_pending-requires-in-Order-send-P-In-Fun g c κs = search (function_send, sendable) depth 40
 
-pub is_pending-requires-in-Fourth-sync-P-In-Fun : goal.is_pending-requires-in-Fourth-sync-P-In-Fun
-is_pending-requires-in-Fourth-sync-P-In-Fun g c κs = search (function_sync, sendable) depth 40
+pub is_pending-requires-in-Order-sync-P-In-Fun : goal.is_pending-requires-in-Order-sync-P-In-Fun
+is_pending-requires-in-Order-sync-P-In-Fun g c κs = search (function_sync, sendable) depth 40
 
-pub returns-in-First : goal.returns-in-First
-returns-in-First g c = rw c.in-First.is c.is_pending.ensures
+pub returns-in-Constants : goal.returns-in-Constants
+returns-in-Constants g c = rw c.in-Constants.is c.is_pending.ensures
 
-pub returns-in-Second : goal.returns-in-Second
-returns-in-Second g c = rw c.in-Second.is c.is_pending-in-Second.ensures
+pub returns-in-Expressions : goal.returns-in-Expressions
+returns-in-Expressions g c = rw c.in-Expressions.is c.is_pending-in-Expressions.ensures
 
-pub returns-in-Third : goal.returns-in-Third
-returns-in-Third g c = rw c.in-Third.is c.is_pending-in-Third.ensures
+pub returns-in-Allocation : goal.returns-in-Allocation
+returns-in-Allocation g c = rw c.in-Allocation.is c.is_pending-in-Allocation.ensures
 
-pub returns-in-Fourth : goal.returns-in-Fourth
-returns-in-Fourth g c = rw c.in-Fourth.is c.is_pending-in-Fourth.ensures
+pub returns-in-Order : goal.returns-in-Order
+returns-in-Order g c = rw c.in-Order.is c.is_pending-in-Order.ensures

@@ -1,6 +1,5 @@
 -- The old disk is read, and then the node comes back over the new one.
-use Rattle.std.proofs.Common.{◌≡◌, ◌*◌, List, ℕ, length, inl, inr, sym, ap, ◌∙◌, subst}
-use Rattle.durable_model.specs.Honest.{Risen}
+use Rattle.std.proofs.Common.{◌*◌, List, ℕ, length, inl, inr, subst}
 use Rattle.acceptor_log.specs.Acknowledged.{acknowledged}
 use Rattle.acceptor_log_form.specs.Text.{StandsFor}
 use Rattle.farm_nodes_node.specs.Fours.{fours_of}

@@ -1,5 +1,5 @@
 -- What stands on the old disk is told.
-use Rattle.std.proofs.Common.{◌≡◌, Err, inr, refl, sym, ap, ◌∙◌, subst, arith}
+use Rattle.std.proofs.Common.{Err, inr, refl, sym, ap, ◌∙◌, subst, arith}
 use Rattle.durable_pair.specs.Images.{IsSpent}
 use Rattle.farm_nodes_pairs.specs.OnPairs.{IsOldDisk}
 use Rattle.farm_nodes_pairs.specs.declared.old.OldDisk.{OldDisk}

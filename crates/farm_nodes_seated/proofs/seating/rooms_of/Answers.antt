@@ -10,13 +10,13 @@ use Rattle.cse_check.specs.contracts.pass.CsePass.TheImpl as expressions
 use Rattle.alloc_check.specs.contracts.pass.AllocPass.TheImpl as allocation
 use Rattle.linearize_check.specs.contracts.pass.LinearizePass.TheImpl as order
 use Rattle.paxos_core_world.specs.KeptPart.{KeptPart}
-use Rattle.farm_nodes_records.specs.Which.TheVariants.{First, Second, Third, Fourth}
+use Rattle.farm_nodes_records.specs.Which.TheVariants.{Constants, Expressions, Allocation, Order}
 use Rattle.farm_nodes_lists.specs.Rows.{rows_of}
 use Rattle.farm_nodes_functions.specs.Kept.{AreSettled, IsOfferedIn, IsSettledIn}
 use Rattle.farm_nodes_functions.specs.Left.{AreLeftIn}
 use Rattle.farm_nodes_functions.specs.Opened.{AreOfferedIn, AreOpenedIn, IsSettledBefore}
 use Rattle.farm_nodes_seated.specs.Refused.{HasBadRecord, HasRefusedOffer}
-use Rattle.farm_nodes_seated.specs.Seated.{first_seat, second_seat, third_seat, fourth_seat}
+use Rattle.farm_nodes_seated.specs.Seated.{constants_seat, expressions_seat, allocation_seat, order_seat}
 use Rattle.farm_nodes_seated.proofs.Offered.{accepted_all, offered_in}
 use Rattle.farm_nodes_seated.proofs.Told.{records_bad, records_refused, records_no_room, rooms_fault, room_no_journal, room_no_refusal}
 use Rattle.farm_nodes_seated.proofs.seating.rooms_of.Goals as goal
@@ -27,27 +27,27 @@ open_functions-requires-clause-size g c =
 
 pub open_functions-requires-clause-offers1 : goal.open_functions-requires-clause-offers1
 open_functions-requires-clause-offers1 g c =
-    let offers = c.in-Ok.found.1.first.items in
-    subst (λ (kept : List (Vec KeptPart)). AreOfferedIn kept First c.args.functions (rows_of offers)) (sym c.as_slice.ensures.value)
-    (offered_in rtl_language.ghosts rtl_language.ghosts constants.ghosts First c.args.functions c.known_is_kept.ensures c.args.journals.now c.in-Ok.found.0.items offers c.in-Ok.ensures.kept c.in-Ok.ensures.offers.first)
+    let offers = c.in-Ok.found.1.constants.items in
+    subst (λ (kept : List (Vec KeptPart)). AreOfferedIn kept Constants c.args.functions (rows_of offers)) (sym c.as_slice.ensures.value)
+    (offered_in rtl_language.ghosts rtl_language.ghosts constants.ghosts Constants c.args.functions c.known_is_kept.ensures c.args.journals.now c.in-Ok.found.0.items offers c.in-Ok.ensures.kept c.in-Ok.ensures.offers.constants)
 
 pub open_functions-requires-clause-offers2 : goal.open_functions-requires-clause-offers2
 open_functions-requires-clause-offers2 g c =
-    let offers = c.in-Ok.found.1.second.items in
-    subst (λ (kept : List (Vec KeptPart)). AreOfferedIn kept Second c.args.functions (rows_of offers)) (sym c.as_slice.ensures.value)
-    (offered_in rtl_language.ghosts rtl_language.ghosts expressions.ghosts Second c.args.functions c.known_is_kept-2.ensures c.args.journals.now c.in-Ok.found.0.items offers c.in-Ok.ensures.kept c.in-Ok.ensures.offers.second)
+    let offers = c.in-Ok.found.1.expressions.items in
+    subst (λ (kept : List (Vec KeptPart)). AreOfferedIn kept Expressions c.args.functions (rows_of offers)) (sym c.as_slice.ensures.value)
+    (offered_in rtl_language.ghosts rtl_language.ghosts expressions.ghosts Expressions c.args.functions c.known_is_kept-2.ensures c.args.journals.now c.in-Ok.found.0.items offers c.in-Ok.ensures.kept c.in-Ok.ensures.offers.expressions)
 
 pub open_functions-requires-clause-offers3 : goal.open_functions-requires-clause-offers3
 open_functions-requires-clause-offers3 g c =
-    let offers = c.in-Ok.found.1.third.items in
-    subst (λ (kept : List (Vec KeptPart)). AreOfferedIn kept Third c.args.functions (rows_of offers)) (sym c.as_slice.ensures.value)
-    (offered_in rtl_language.ghosts ltl_language.ghosts allocation.ghosts Third c.args.functions c.known_is_kept-3.ensures c.args.journals.now c.in-Ok.found.0.items offers c.in-Ok.ensures.kept c.in-Ok.ensures.offers.third)
+    let offers = c.in-Ok.found.1.allocation.items in
+    subst (λ (kept : List (Vec KeptPart)). AreOfferedIn kept Allocation c.args.functions (rows_of offers)) (sym c.as_slice.ensures.value)
+    (offered_in rtl_language.ghosts ltl_language.ghosts allocation.ghosts Allocation c.args.functions c.known_is_kept-3.ensures c.args.journals.now c.in-Ok.found.0.items offers c.in-Ok.ensures.kept c.in-Ok.ensures.offers.allocation)
 
 pub open_functions-requires-clause-offers4 : goal.open_functions-requires-clause-offers4
 open_functions-requires-clause-offers4 g c =
-    let offers = c.in-Ok.found.1.fourth.items in
-    subst (λ (kept : List (Vec KeptPart)). AreOfferedIn kept Fourth c.args.functions (rows_of offers)) (sym c.as_slice.ensures.value)
-    (offered_in ltl_language.ghosts linear_language.ghosts order.ghosts Fourth c.args.functions c.known_is_kept-4.ensures c.args.journals.now c.in-Ok.found.0.items offers c.in-Ok.ensures.kept c.in-Ok.ensures.offers.fourth)
+    let offers = c.in-Ok.found.1.order.items in
+    subst (λ (kept : List (Vec KeptPart)). AreOfferedIn kept Order c.args.functions (rows_of offers)) (sym c.as_slice.ensures.value)
+    (offered_in ltl_language.ghosts linear_language.ghosts order.ghosts Order c.args.functions c.known_is_kept-4.ensures c.args.journals.now c.in-Ok.found.0.items offers c.in-Ok.ensures.kept c.in-Ok.ensures.offers.order)
 
 pub returns-in-Err-clause-bad : goal.returns-in-Err-clause-bad
 returns-in-Err-clause-bad g c node fault told =
@@ -104,24 +104,24 @@ returns-in-Ok-open_functions-clause-seated g c =
       kept = c.in-Ok.found.0.items;
       are_kept = read.kept;
       settled = subst (λ (kept : List (Vec KeptPart)). (f : ℕ) → f < c.args.functions → AreSettled c.args.quorums kept f) c.as_slice.ensures.value e.settled;
-      first = record {
-        offers = found.first.items;
-        are_offers = read.offers.first;
-        opened = subst (λ (kept : List (Vec KeptPart)). AreOpenedIn c.args.quorums kept First c.args.functions (rows_of found.first.items) first_seat (rows_of seats)) c.as_slice.ensures.value e.first;
+      constants = record {
+        offers = found.constants.items;
+        are_offers = read.offers.constants;
+        opened = subst (λ (kept : List (Vec KeptPart)). AreOpenedIn c.args.quorums kept Constants c.args.functions (rows_of found.constants.items) constants_seat (rows_of seats)) c.as_slice.ensures.value e.constants;
       };
-      second = record {
-        offers = found.second.items;
-        are_offers = read.offers.second;
-        opened = subst (λ (kept : List (Vec KeptPart)). AreOpenedIn c.args.quorums kept Second c.args.functions (rows_of found.second.items) second_seat (rows_of seats)) c.as_slice.ensures.value e.second;
+      expressions = record {
+        offers = found.expressions.items;
+        are_offers = read.offers.expressions;
+        opened = subst (λ (kept : List (Vec KeptPart)). AreOpenedIn c.args.quorums kept Expressions c.args.functions (rows_of found.expressions.items) expressions_seat (rows_of seats)) c.as_slice.ensures.value e.expressions;
       };
-      third = record {
-        offers = found.third.items;
-        are_offers = read.offers.third;
-        opened = subst (λ (kept : List (Vec KeptPart)). AreOpenedIn c.args.quorums kept Third c.args.functions (rows_of found.third.items) third_seat (rows_of seats)) c.as_slice.ensures.value e.third;
+      allocation = record {
+        offers = found.allocation.items;
+        are_offers = read.offers.allocation;
+        opened = subst (λ (kept : List (Vec KeptPart)). AreOpenedIn c.args.quorums kept Allocation c.args.functions (rows_of found.allocation.items) allocation_seat (rows_of seats)) c.as_slice.ensures.value e.allocation;
       };
-      fourth = record {
-        offers = found.fourth.items;
-        are_offers = read.offers.fourth;
-        opened = subst (λ (kept : List (Vec KeptPart)). AreOpenedIn c.args.quorums kept Fourth c.args.functions (rows_of found.fourth.items) fourth_seat (rows_of seats)) c.as_slice.ensures.value e.fourth;
+      order = record {
+        offers = found.order.items;
+        are_offers = read.offers.order;
+        opened = subst (λ (kept : List (Vec KeptPart)). AreOpenedIn c.args.quorums kept Order c.args.functions (rows_of found.order.items) order_seat (rows_of seats)) c.as_slice.ensures.value e.order;
       };
     }

@@ -20,16 +20,16 @@ returns-in-Err-checked_offers-3-clause-refused g c memory =
 
 pub returns-clause-known : goal.returns-clause-known
 returns-clause-known g c = record {
-  first = c.in-Ok.ensures.known;
-  second = c.in-Ok-checked_offers.ensures.known;
-  third = c.in-Ok-checked_offers-2.ensures.known;
-  fourth = c.in-Ok-checked_offers-3.ensures.known;
+  constants = c.in-Ok.ensures.known;
+  expressions = c.in-Ok-checked_offers.ensures.known;
+  allocation = c.in-Ok-checked_offers-2.ensures.known;
+  order = c.in-Ok-checked_offers-3.ensures.known;
 }
 
 pub returns-clause-accepted : goal.returns-clause-accepted
 returns-clause-accepted g c = record {
-  first = c.in-Ok.ensures.accepted;
-  second = c.in-Ok-checked_offers.ensures.accepted;
-  third = c.in-Ok-checked_offers-2.ensures.accepted;
-  fourth = c.in-Ok-checked_offers-3.ensures.accepted;
+  constants = c.in-Ok.ensures.accepted;
+  expressions = c.in-Ok-checked_offers.ensures.accepted;
+  allocation = c.in-Ok-checked_offers-2.ensures.accepted;
+  order = c.in-Ok-checked_offers-3.ensures.accepted;
 }

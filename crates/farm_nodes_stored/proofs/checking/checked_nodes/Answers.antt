@@ -43,5 +43,5 @@ loop-node-preserved g c =
     let got = next_of xs node one (into_iter_items c.next.new.self) left in
     record {
       behind = rest_of xs node one (into_iter_items c.next.new.self) left;
-      checked = checked_more c.args.functions xs node c.loop-node.found c.loop-node.invariant.checked c.add.new.found one c.in-Ok.offers got c.in-Ok.ensures.known c.in-Ok.ensures.accepted put.first put.second put.third put.fourth;
+      checked = checked_more c.args.functions xs node c.loop-node.found c.loop-node.invariant.checked c.add.new.found one c.in-Ok.offers got c.in-Ok.ensures.known c.in-Ok.ensures.accepted put.constants put.expressions put.allocation put.order;
     }

@@ -16,8 +16,8 @@ returns-in-Err-stored_offers-3-clause-refused c memory = inr (inr (inr ((c.in-Er
 
 pub returns-clause-stored : goal.returns-clause-stored
 returns-clause-stored c = record {
-  first = c.in-Ok.ensures.stored;
-  second = c.in-Ok-stored_offers.ensures.stored;
-  third = c.in-Ok-stored_offers-2.ensures.stored;
-  fourth = c.in-Ok-stored_offers-3.ensures.stored;
+  constants = c.in-Ok.ensures.stored;
+  expressions = c.in-Ok-stored_offers.ensures.stored;
+  allocation = c.in-Ok-stored_offers-2.ensures.stored;
+  order = c.in-Ok-stored_offers-3.ensures.stored;
 }

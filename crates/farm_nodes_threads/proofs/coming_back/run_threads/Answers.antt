@@ -87,7 +87,7 @@ all_nodes-requires g c =
     (λ t. IsWaiting t.node.seats.items t.node.halted) c.args.turns begun taking.items c.in-Ok.ensures.taken in
     record {
       none = c.in-Some.ensures.1;
-      room = omega (arith, taking.ok.0, many, map_long (λ t. t.node) begun, ap length c.all_taking.ensures, c.args.nodes.ok.0, c.len.ensures, c.in-Some.ensures.3);
+      capacity = omega (arith, taking.ok.0, many, map_long (λ t. t.node) begun, ap length c.all_taking.ensures, c.args.nodes.ok.0, c.len.ensures, c.in-Some.ensures.3);
     }
 
 pub all_nodes-requires-in-Err : goal.all_nodes-requires-in-Err
@@ -98,5 +98,5 @@ all_nodes-requires-in-Err g c =
     (λ t. IsWaiting t.node.seats.items t.node.halted) c.args.turns begun taking.items c.in-Err.ensures.taken in
     record {
       none = c.in-Some.ensures.1;
-      room = omega (arith, taking.ok.0, many, map_long (λ t. t.node) begun, ap length c.all_taking.ensures, c.args.nodes.ok.0, c.len.ensures, c.in-Some.ensures.3);
+      capacity = omega (arith, taking.ok.0, many, map_long (λ t. t.node) begun, ap length c.all_taking.ensures, c.args.nodes.ok.0, c.len.ensures, c.in-Some.ensures.3);
     }

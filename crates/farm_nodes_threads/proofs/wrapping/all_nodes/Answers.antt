@@ -9,7 +9,7 @@ loop-taking-init g c =
     record {
       whole = ap (λ l. l ++ map (λ t. t.node) iterator) c.requires.none ∙ ap (λ l. map (λ t. t.node) l) gives.0;
       counted = omega (arith, gives.1, ap length gives.0, c.args.all.ok.0);
-      room = omega (arith, gives.1, ap length gives.0, c.args.all.ok.0, c.requires.room, ap length c.requires.none, c.args.room.ok.0);
+      capacity = omega (arith, gives.1, ap length gives.0, c.args.all.ok.0, c.requires.capacity, ap length c.requires.none, c.args.spare.ok.0);
     }
 
 pub loop-taking-preserved : goal.loop-taking-preserved
@@ -20,7 +20,7 @@ loop-taking-preserved g c =
           ∙ (append_assoc c.loop-taking.nodes.items (c.in-Some.taking.node ∷ []) (map (λ t. t.node) rest)
           ∙ (ap (λ l. c.loop-taking.nodes.items ++ map (λ t. t.node) l) (sym steps.0) ∙ i.whole));
       counted = omega (arith, steps.1, ap length steps.0, i.counted);
-      room = omega (arith, steps.1, c.put.ensures.len, c.put.ensures.room, i.room);
+      capacity = omega (arith, steps.1, c.put.ensures.len, c.put.ensures.capacity, i.capacity);
     }
 
 pub returns : goal.returns

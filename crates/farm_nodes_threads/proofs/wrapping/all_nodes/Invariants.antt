@@ -6,5 +6,5 @@ abbrev pub invariant-loop-taking : goal.invariant-loop-taking
 invariant-loop-taking g l = record {
   whole : l.nodes.items ++ map (λ t. t.node) (into_iter_items l.taking-iterator) ≡ map (λ t. t.node) l.fn.all.items;
   counted : into_iter_len l.taking-iterator ≡ length (into_iter_items l.taking-iterator);
-  room : vec_len l.nodes + into_iter_len l.taking-iterator ≤ vec_capacity l.nodes;
+  capacity : vec_len l.nodes + into_iter_len l.taking-iterator ≤ vec_capacity l.nodes;
 }

@@ -9,7 +9,7 @@ loop-node-init g c =
     record {
       whole = ap (λ l. map (λ t. t.node) l ++ into_iter_items c.into_iter-node-iterator.result) c.requires.none ∙ gives.0;
       counted = omega (arith, gives.1, ap length gives.0, c.args.nodes.ok.0);
-      room = omega (arith, gives.1, ap length gives.0, c.args.nodes.ok.0, c.requires.room, ap length c.requires.none, c.args.room.ok.0);
+      capacity = omega (arith, gives.1, ap length gives.0, c.args.nodes.ok.0, c.requires.capacity, ap length c.requires.none, c.args.spare.ok.0);
     }
 
 pub loop-node-preserved : goal.loop-node-preserved
@@ -20,7 +20,7 @@ loop-node-preserved g c =
           ∙ (map_more (λ t. t.node) c.loop-node.all.items (record { node = c.in-Some.node }) rest
           ∙ (ap (λ l. map (λ t. t.node) c.loop-node.all.items ++ l) (sym steps.0) ∙ i.whole));
       counted = omega (arith, steps.1, ap length steps.0, i.counted);
-      room = omega (arith, steps.1, c.put.ensures.len, c.put.ensures.room, i.room);
+      capacity = omega (arith, steps.1, c.put.ensures.len, c.put.ensures.capacity, i.capacity);
     }
 
 pub returns : goal.returns

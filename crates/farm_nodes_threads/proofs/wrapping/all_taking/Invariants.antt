@@ -6,5 +6,5 @@ abbrev pub invariant-loop-node : goal.invariant-loop-node
 invariant-loop-node g l = record {
   whole : map (λ t. t.node) l.all.items ++ into_iter_items l.node-iterator ≡ l.fn.nodes.items;
   counted : into_iter_len l.node-iterator ≡ length (into_iter_items l.node-iterator);
-  room : vec_len l.all + into_iter_len l.node-iterator ≤ vec_capacity l.all;
+  capacity : vec_len l.all + into_iter_len l.node-iterator ≤ vec_capacity l.all;
 }

@@ -1,7 +1,7 @@
 use Rattle.std.proofs.Common.{◌≡◌, length, arith}
 use Rattle.farm_nodes_seat_meeting.specs.Held.{held_of}
 use Rattle.farm_nodes_seat_meeting.proofs.Places.{Met, Links, met_none, met_next, met_not, met_all}
-use Rattle.farm_nodes_seat_meeting.proofs.meeting.meet_all.Goals as goal
+use Rattle.farm_nodes_seat_meeting.proofs.meeting.meet_seats.Goals as goal
 
 pub returns-then-first-second : goal.returns-then-first-second
 returns-then-first-second g c =

@@ -1,6 +1,6 @@
 use Rattle.farm_nodes_seat_meeting.specs.Held.{held_of}
 use Rattle.farm_nodes_seat_meeting.proofs.Places.{MetBefore, Met, Links}
-use Rattle.farm_nodes_seat_meeting.proofs.meeting.meet_all.Given as goal
+use Rattle.farm_nodes_seat_meeting.proofs.meeting.meet_seats.Given as goal
 
 -- the first functions' seats have met
 abbrev pub invariant-loop-function : goal.invariant-loop-function
