@@ -9,6 +9,7 @@ use Rattle.cse_check_rules.specs.Rules.{IsEliminated}
 use Rattle.alloc_check_filled.specs.Allocated.{IsAllocated}
 use Rattle.linearize_check_proof.specs.Rules.{IsLaidOut}
 use Rattle.chains.specs.declared.offering.Offers.{Offers}
+use Rattle.offers.specs.declared.parts.Parts.{Parts}
 use Rattle.bundle_reading.specs.declared.four.Four.{Four}
 use Rattle.bundle_offers.specs.declared.fault.PassNumber.{PassNumber}
 use Rattle.bundle_offers.specs.declared.fault.PassNumber.TheVariants.{First, Second, Third, Fourth}
@@ -34,6 +35,15 @@ abbrev pub FailsCheck : PassNumber → Type 0 → (Fault → Type 0) → OfferFa
 FailsCheck at Accepted Why NoMemory = Unit {0}
 FailsCheck at Accepted Why (Unchained pass) = ⊥
 FailsCheck at Accepted Why (Refused pass fault) = (pass ≡ at) × (Accepted → ⊥) × Why fault
+
+-- the same of the parts of an offer of a pass that accepts so and tells so why it does not
+abbrev pub FailsItsCheck : {I O C : Type 0} → PassNumber → (I → O → C → Type 0) → (I → O → C → Fault → Type 0) → Parts I O C → OfferFault → Type 0
+FailsItsCheck at accepts tells parts = FailsCheck at (accepts parts.input parts.output parts.certificate) (tells parts.input parts.output parts.certificate)
+
+-- and of those that have to go on from this
+abbrev pub FailsItsStep : {I O C : Type 0} → PassNumber → (I → O → C → Type 0) → (I → O → C → Fault → Type 0) → I → Parts I O C → OfferFault → Type 0
+FailsItsStep at accepts tells before parts =
+    FailsStep at (parts.input ≡ before) (accepts parts.input parts.output parts.certificate) (tells parts.input parts.output parts.certificate)
 
 -- ---- the offers of a function, pass by pass
 
@@ -120,6 +130,13 @@ Judged f o (Err fault) = Fails f o fault
 abbrev pub IsJudgedPass : FunctionData → Offers → PassNumber → Result (Unit {0}) OfferFault → Type 0
 IsJudgedPass f o at (Ok done) = ChainedAt f o at × AcceptedAt o at
 IsJudgedPass f o at (Err fault) = FailsStep at (ChainedAt f o at) (AcceptedAt o at) (WhyAt o at) fault
+
+-- what is answered of the offers of the first two passes, and of the last two
+abbrev pub AreJudgedFirst : FunctionData → Offers → Result (Unit {0}) OfferFault × Result (Unit {0}) OfferFault → Type 0
+AreJudgedFirst f o told = IsJudgedPass f o First told.0 × IsJudgedPass f o Second told.1
+
+abbrev pub AreJudgedLast : FunctionData → Offers → Result (Unit {0}) OfferFault × Result (Unit {0}) OfferFault → Type 0
+AreJudgedLast f o told = IsJudgedPass f o Third told.0 × IsJudgedPass f o Fourth told.1
 
 -- the first fault of four answers
 abbrev pub first_of : Result (Unit {0}) OfferFault → Result (Unit {0}) OfferFault → Result (Unit {0}) OfferFault → Result (Unit {0}) OfferFault → Result (Unit {0}) OfferFault

@@ -3,7 +3,7 @@
 ghost use Rattle.std.specs.Prelude.{◌≡◌, ◌<◌, ℕ, length, slice_get, slice_index_or, Some, IfOk, IfErr, OnOk, OnErr, MatchOption};
 ghost use Rattle.lang_base.specs.declared.fault.Fault.{Fault};
 ghost use Rattle.bundle_reading.specs.Read.{offers_in, offers_of};
-ghost use Rattle.bundle_offers.specs.Standing.{AllStand, AreAlone, AreJudged, FailsCheck, FailsStep, IsAlone, IsAloneAt, IsFirstFault, IsJudgedAt, IsJudgedPass, Judged, first_of};
+ghost use Rattle.bundle_offers.specs.Standing.{AllStand, AreAlone, AreJudged, AreJudgedFirst, AreJudgedLast, FailsItsCheck, FailsItsStep, IsAlone, IsAloneAt, IsFirstFault, IsJudgedAt, IsJudgedPass, Judged, first_of};
 ghost use Rattle.bundle_offers.specs.declared.fault.PassNumber.{PassNumber};
 
 use crate::fault::{OfferFault, PassNumber};
@@ -26,8 +26,7 @@ fn accepted<P: Pass, S: Reasons<P>>(
     parts: &PartsOf<P>,
 ) -> Result<(), OfferFault>
     ensures ok { OnOk result (P.accepts parts.now.input parts.now.output parts.now.certificate) }
-    ensures refused { IfErr result (FailsCheck at (P.accepts parts.now.input parts.now.output parts.now.certificate)
-        (S.tells parts.now.input parts.now.output parts.now.certificate)) }
+    ensures refused { IfErr result (FailsItsCheck at P.accepts S.tells parts.now) }
 {
     if P::check(alloc, &parts.input, &parts.output, &parts.certificate)? {
         return Ok(());
@@ -47,9 +46,7 @@ pub fn stands<P: Pass, S: Reasons<P>>(
 ) -> Result<(), OfferFault>
     ensures chained { OnOk result (parts.now.input ≡ before.now) }
     ensures accepted { OnOk result (P.accepts parts.now.input parts.now.output parts.now.certificate) }
-    ensures refused { IfErr result (FailsStep at (parts.now.input ≡ before.now)
-        (P.accepts parts.now.input parts.now.output parts.now.certificate)
-        (S.tells parts.now.input parts.now.output parts.now.certificate)) }
+    ensures refused { IfErr result (FailsItsStep at P.accepts S.tells before.now parts.now) }
 {
     if &parts.input != before {
         return Err(OfferFault::Unchained(at));
@@ -160,12 +157,10 @@ fn judge<R: Threads + Sync>(
     let (front, back) = join(
         rt,
         || -> (Result<(), OfferFault>, Result<(), OfferFault>)
-            ensures { IsJudgedPass function.entry.now (offers_of four.entry.now) PassNumber.First result.0
-                × IsJudgedPass function.entry.now (offers_of four.entry.now) PassNumber.Second result.1 }
+            ensures { AreJudgedFirst function.entry.now (offers_of four.entry.now) result }
         { judge_front(rt, alloc, function, four) },
         || -> (Result<(), OfferFault>, Result<(), OfferFault>)
-            ensures { IsJudgedPass function.entry.now (offers_of four.entry.now) PassNumber.Third result.0
-                × IsJudgedPass function.entry.now (offers_of four.entry.now) PassNumber.Fourth result.1 }
+            ensures { AreJudgedLast function.entry.now (offers_of four.entry.now) result }
         { judge_back(rt, alloc, function, four) },
     );
     in_order(front.0, front.1, back.0, back.1)

@@ -59,15 +59,29 @@ fn settled<R: Threads + Sync>(
     }
 }
 
-/// Gives back the memory of what was read, side by side.
+/// Gives back the memory of two programs and of their text's, side by side.
+fn put_programs_away<R: Threads>(rt: &R, source: Source, linear: Program<Function>) {
+    let Source {
+        program,
+        translated,
+        digest: _,
+    } = source;
+    join(
+        rt,
+        || -> () { drop(program) },
+        || -> () {
+            drop(translated);
+            drop(linear);
+        },
+    );
+}
+
+/// Gives back the memory of all that was read, side by side.
 fn put_away<R: Threads>(rt: &R, source: Source, linear: Program<Function>, fours: Vec<Four>) {
     join(
         rt,
         || -> () { drop(fours) },
-        || -> () {
-            drop(source);
-            drop(linear);
-        },
+        || -> () { put_programs_away(rt, source, linear) },
     );
 }
 

@@ -9,12 +9,13 @@ ghost use Rattle.cminor_lowering.specs.Programs.{ends_with_return, is_return};
 ghost use Rattle.cminor_lowering.specs.Sequences as lowering;
 ghost use Rattle.cminor.specs.Bodies.{body_of, ending_of, zero_or_nothing};
 
+use crate::parts::lower_many;
 use c_program::{Action, Ending, Function, Target};
-use cminor::lower_actions;
 use cminor_codec::sequence;
 use cminor_syntax::{Expression, Statement};
 use lang_base::NoMemory;
 use std::alloc::Global;
+use std::thread::Threads;
 
 /// Whether this is a `return` of a value.
 fn is_return(action: &Action) -> bool
@@ -47,15 +48,16 @@ fn returns_zero(function: &Function) -> bool
 }
 
 /// The statements of a body.
-pub(crate) fn lower_body(
+pub(crate) fn lower_body<R: Threads + Sync>(
+    rt: &R,
     alloc: Global,
     spare: u16,
     function: &Function,
 ) -> Result<Vec<Statement>, NoMemory>
-    requires { All (λ a. StatementFits 65536 (low_action spare (action_tree a))) function.now.body }
+    requires fit { All (λ a. StatementFits 65536 (low_action spare (action_tree a))) function.now.body }
     ensures { IfOk result (λ ss. statements_tree ss.items ≡ body_of spare (function_tree function.now)) }
 {
-    let mut body = lower_actions(alloc, spare, function.body.as_slice())?;
+    let mut body = lower_many(rt, alloc, spare, function.body.as_slice())?;
     if returns_zero(function) {
         body.push(Statement::Return(Some(Expression::Constant(0))))?;
     }

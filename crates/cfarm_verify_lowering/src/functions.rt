@@ -14,24 +14,33 @@ use lang_base::{Named, NoMemory, Program, Row};
 use rtl_language::Function;
 use rtlgen::translate;
 use std::alloc::Global;
+use std::thread::Threads;
 
 /// A function. It has one variable more than parameters and locals: the spare one.
-fn lower_function(alloc: Global, function: &CFunction) -> Result<CminorFunction, NoMemory>
+fn lower_function<R: Threads + Sync>(
+    rt: &R,
+    alloc: Global,
+    function: &CFunction,
+) -> Result<CminorFunction, NoMemory>
     requires { IsFunction (low_function (function_tree function.now)) }
     ensures { IfOk result (λ f. f ≡ low_function (function_tree function.now)) }
 {
     let spare = function.parameters.max(function.locals) as u16;
-    let body = sequence_of(lower_body(alloc, spare, function)?)?;
+    let body = sequence_of(lower_body(rt, alloc, spare, function)?)?;
     Ok(CminorFunction::new(function.parameters as u8, spare + 1, body))
 }
 
 /// A function and its name.
-fn lower_named(alloc: Global, function: &CFunction) -> Result<Named<CminorFunction>, NoMemory>
+fn lower_named<R: Threads + Sync>(
+    rt: &R,
+    alloc: Global,
+    function: &CFunction,
+) -> Result<Named<CminorFunction>, NoMemory>
     requires { IsFunction (low_function (function_tree function.now)) }
     ensures { IfOk result (λ f. f ≡ low_named (function_tree function.now)) }
 {
     let name = Row::from_vec(Vec::from_slice(alloc, function.name.as_slice())?);
-    let function = lower_function(alloc, function)?;
+    let function = lower_function(rt, alloc, function)?;
     Ok(Named { name, function })
 }
 
@@ -71,7 +80,8 @@ fn translated_alone(alloc: Global, function: Named<CminorFunction>) -> Option<Na
 }
 
 /// The RTL function of the function of this number; none where memory was refused, or where it needs too many nodes.
-pub(crate) fn made_at(
+pub(crate) fn made_at<R: Threads + Sync>(
+    rt: &R,
     alloc: Global,
     functions: &[CFunction],
     number: usize,
@@ -82,7 +92,7 @@ pub(crate) fn made_at(
     if number >= functions.len() {
         return None;
     }
-    match lower_named(alloc, &functions[number]) {
+    match lower_named(rt, alloc, &functions[number]) {
         Ok(lowered) => translated_alone(alloc, lowered),
         Err(NoMemory) => None,
     }

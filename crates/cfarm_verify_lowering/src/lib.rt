@@ -5,6 +5,7 @@
 mod bodies;
 mod functions;
 mod globals;
+mod parts;
 mod programs;
 
 pub use programs::translated;

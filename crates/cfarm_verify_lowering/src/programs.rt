@@ -68,7 +68,7 @@ fn made_all<R: Threads + Sync>(
         &|number: usize| -> Option<Named<Function>>
             requires { All (λ f. cminor.IsFunction (low_function (function_tree f))) functions.now }
             ensures { IfSome result (IsMadeAt functions.entry.now number) }
-        { made_at(alloc, functions, number) },
+        { made_at(rt, alloc, functions, number) },
     );
     match found {
         Ok(found) => gathered(alloc, functions, found),

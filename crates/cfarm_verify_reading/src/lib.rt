@@ -5,6 +5,7 @@
 mod bundled;
 mod preparing;
 mod reading;
+mod translating;
 
 pub use bundled::Bundled;
 pub use reading::{Forms, read_all};

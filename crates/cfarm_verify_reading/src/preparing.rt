@@ -8,27 +8,15 @@ ghost use Rattle.farm_nodes_source.specs.Refused.{IsOnlyTooLarge, IsUnprepared};
 ghost use Rattle.sha2.specs.Sha256.{sha256};
 ghost use Rattle.cfarm_verify_reading.specs.Found.{IsBegunOf, IsSourceOf, with_digest};
 
-use c_texts::accept;
-use cfarm_verify_lowering::translated;
+use crate::translating::made_beside;
+use cfarm_verify_text::accept_beside;
 use cminor_program_ranges::accepted_has_names;
-use farm_nodes_source::{Begun, Source, SourceFault, begin};
+use farm_nodes_source::{Begun, Source, SourceFault};
 use lang_base::NoMemory;
 use sha2::{Digest, Sha256};
 use std::alloc::Global;
 use std::sync::Arc;
 use std::thread::{Threads, join};
-
-/// The program of a text, made ready for the first pass, one function behind the other.
-fn made_in_turn(alloc: Global, text: &[u8]) -> Result<Begun, SourceFault>
-    ensures begun { IfOk result (IsBegunOf text.now) }
-    ensures refused { IfErr result (IsUnprepared text.now) }
-    ensures only { (u : UnitTree) → IsAccepted text.now u → IfErr result (IsOnlyTooLarge u) }
-{
-    match begin(alloc, text) {
-        Ok(begun) => Ok(begun),
-        Err(fault) => Err(fault),
-    }
-}
 
 /// What many may hold.
 fn shared<T: Drop>(alloc: Global, value: T) -> Result<Arc<T>, NoMemory>
@@ -40,26 +28,27 @@ fn shared<T: Drop>(alloc: Global, value: T) -> Result<Arc<T>, NoMemory>
     }
 }
 
-/// The same, the functions side by side. Where one cannot be made, all is made again in turn, which tells the first fault.
+/// The program of a text, made ready for the first pass: the parts of the text and then the functions side by side.
 fn made_ready<R: Threads + Sync>(rt: &R, alloc: Global, text: &[u8]) -> Result<Begun, SourceFault>
     ensures begun { IfOk result (IsBegunOf text.now) }
     ensures refused { IfErr result (IsUnprepared text.now) }
     ensures only { (u : UnitTree) → IsAccepted text.now u → IfErr result (IsOnlyTooLarge u) }
 {
-    let program = match accept(alloc, text) {
+    let program = match accept_beside(rt, alloc, text) {
         Ok(program) => program,
         Err(fault) => return Err(SourceFault::Text(fault)),
     };
     accepted_has_names();
-    match translated(rt, alloc, &program) {
-        Some(made) => match shared(alloc, made) {
-            Ok(translated) => Ok(Begun {
-                program,
-                translated,
-            }),
-            Err(NoMemory) => Err(SourceFault::NoMemory),
-        },
-        None => made_in_turn(alloc, text),
+    let made = match made_beside(rt, alloc, &program) {
+        Ok(made) => made,
+        Err(fault) => return Err(fault),
+    };
+    match shared(alloc, made) {
+        Ok(translated) => Ok(Begun {
+            program,
+            translated,
+        }),
+        Err(NoMemory) => Err(SourceFault::NoMemory),
     }
 }
 

@@ -9,7 +9,7 @@ use Rattle.cfarm_verify_lowering.proofs.bodies.lower_body.Goals as goal
 use Rattle.cfarm_verify_lowering.proofs.bodies.lower_body.Goals.{then-returns_zero+in_ok-push, else-returns_zero}
 
 pub returns : goal.returns
-returns c =
+returns g c =
     let f = c.args.function.now in
     let front = c.in_ok-body.body.items in
     let all = c.if-returns_zero.body.items in

@@ -8,8 +8,8 @@ use Rattle.cminor.proofs.Fitting.{actions_fit}
 use Rattle.cminor.proofs.Bodies.{front_fits, wider_statements}
 use Rattle.cfarm_verify_lowering.proofs.functions.lower_function.Goals as goal
 
-pub lower_body-requires : goal.lower_body-requires
-lower_body-requires c =
+pub lower_body-requires-clause-fit : goal.lower_body-requires-clause-fit
+lower_body-requires-clause-fit g c κs within =
     let f = c.args.function.now in
     let spare = max f.parameters f.locals in
     let ss = low_actions spare (actions_tree f.body) in

@@ -1,0 +1,61 @@
+//! The program of a whole text.
+
+ghost use Rattle.std.specs.Prelude.{◌≡◌, IfOk, IfErr, MatchResult};
+ghost use Rattle.c_syntax.specs.Trees.{UnitTree};
+ghost use Rattle.c_syntax.specs.Units.{unit_tree};
+ghost use Rattle.c_checker_rules.specs.Checked.{program_tree};
+ghost use Rattle.c_checker_rules.specs.Told.{Tells};
+ghost use Rattle.c_checker_rules.specs.Units as U;
+ghost use Rattle.c_texts.specs.Accepted.{IsAccepted, IsProgramOf};
+ghost use Rattle.c_texts.specs.Refusals.{IsOutOfMemory, IsRefused};
+
+use crate::lexing::lex_beside;
+use c_checker::{CProgram, CheckError, check};
+use c_reader::read;
+use c_syntax::{Token, Unit};
+use c_texts::TextError;
+use std::alloc::Global;
+use std::thread::{Threads, join};
+
+/// The program of a tree, or its first fault. The tokens' memory is given back beside.
+fn check_beside<R: Threads>(
+    rt: &R,
+    alloc: Global,
+    tokens: Vec<Token>,
+    unit: Unit,
+) -> Result<CProgram, CheckError>
+    ensures ok { IfOk result (λ p. U.IsWellFormed (unit_tree unit)) }
+    ensures program { IfOk result (λ p. program_tree p ≡ U.program_of (unit_tree unit)) }
+    ensures err { IfErr result (λ e. Tells e (U.unit_faults (unit_tree unit))) }
+{
+    let (_done, checked) = join(
+        rt,
+        || -> () { drop(tokens) },
+        || -> Result<CProgram, CheckError>
+            ensures ok { IfOk result (λ p. U.IsWellFormed (unit_tree unit)) }
+            ensures program { IfOk result (λ p. program_tree p ≡ U.program_of (unit_tree unit)) }
+            ensures err { IfErr result (λ e. Tells e (U.unit_faults (unit_tree unit))) }
+        { check(alloc, unit) },
+    );
+    checked
+}
+
+/// The program that a text stands for, or its first fault, as `accept` of `c_texts` has them. The time is linear in the text, and all
+/// processors share its tokens, unless it is short.
+pub fn accept_beside<R: Threads + Sync>(
+    rt: &R,
+    alloc: Global,
+    text: &[u8],
+) -> Result<CProgram, TextError>
+    // The text is accepted, and this is its program.
+    ensures accepted { IfOk result (λ p. (u : UnitTree) × IsAccepted text.now u × IsProgramOf u p) }
+    // A refusal says why the text is not accepted.
+    ensures refused { IfErr result (λ fault. IsRefused text.now fault) }
+    // A text that is accepted is given its program, unless memory runs out.
+    ensures only { (u : UnitTree) → IsAccepted text.now u → MatchResult result (IsProgramOf u) IsOutOfMemory }
+{
+    let tokens = lex_beside(rt, alloc, text)?;
+    let unit = read(alloc, tokens.as_slice())?;
+    let program = check_beside(rt, alloc, tokens, unit)?;
+    Ok(program)
+}
