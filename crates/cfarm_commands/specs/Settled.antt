@@ -37,6 +37,10 @@ IsUnprinted text NoMemory before after = after ≡ before
 IsUnprinted text Write before after = IsBegun text before after
 IsUnprinted text other before after = ⊥
 
+-- the text of this code was not
+abbrev pub IsCodeUnprinted : List ℕ → Option (List ℕ) → Option (List ℕ) → SettleError → Type 0
+IsCodeUnprinted code before after fault = IsUnprinted (settled_text code) fault before after
+
 -- The bytes are those of one LTL function.
 abbrev pub IsAFunction : List ℕ → Type 0
 IsAFunction bytes = (f : ltl.FunctionData) × ltl.IsFunction f × (bytes ≡ ltl_spelling.spelling f)

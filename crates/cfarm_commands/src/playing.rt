@@ -25,8 +25,8 @@ const MOST_TURNS: u64 = 10_000;
 pub type Seats = (Seat<Linearize>, Seat<Linearize>, Seat<Linearize>);
 
 /// The nodes of a new room, which have taken no turn.
-fn begin(alloc: Global, input: &Function) -> Result<Vec<Settler>, NoMemory>
-    ensures { IfOk result (λ all. AreNodes (λ s. s.node.seat) (λ s. s.node.input) input.now all.items) }
+fn begin<'a>(alloc: Global, input: &'a Function) -> Result<Vec<Settler<'a>>, NoMemory>
+    ensures { IfOk result (λ all. AreNodes (λ s. s.node.seat) (λ s. s.node.input.now) input.now all.items) }
 {
     let (first, second, third) = open(alloc, (OrderOracle, OrderOracle, OrderOracle), input)?;
     let all = list_of_three(
@@ -39,8 +39,8 @@ fn begin(alloc: Global, input: &Function) -> Result<Vec<Settler>, NoMemory>
 }
 
 /// Their seats, if no memory was refused to one of them.
-fn seats_of(all: Vec<Settler>) -> Option<Seats>
-    ensures { (f : ltl.FunctionData) → AreNodes (λ s. s.node.seat) (λ s. s.node.input) f all.items
+fn seats_of(all: Vec<Settler<'_>>) -> Option<Seats>
+    ensures { (f : ltl.FunctionData) → AreNodes (λ s. s.node.seat) (λ s. s.node.input.now) f all.entry.items
         → IfSome result (AreSeatsFor f) }
 {
     let Some((first, second, third)) = three_of_list(all) else {

@@ -12,15 +12,16 @@ use rooms::Seat;
 
 /// A node that takes turns, and whether memory was refused in one of them.
 #[derive(Drop)]
-pub(crate) struct Settler {
-    pub node: SettleNode<OrderOracle>,
+pub(crate) struct Settler<'a> {
+    pub node: SettleNode<'a, OrderOracle>,
     has_failed: bool,
 }
 
-impl Settler {
+impl<'a> Settler<'a> {
     /// It has taken no turn.
-    pub(crate) fn new(node: SettleNode<OrderOracle>) -> Settler
-        ensures { result.node ≡ node }
+    pub(crate) fn new(node: SettleNode<'a, OrderOracle>) -> Settler<'a>
+        ensures seat { result.node.seat ≡ node.entry.seat }
+        ensures input { result.node.input.now ≡ node.entry.input.now }
     {
         Settler {
             node,
@@ -30,8 +31,8 @@ impl Settler {
 }
 
 /// One turn. Each function of LTL has a layout, so only refused memory is told.
-fn turn(settler: &mut Settler) -> Outcome
-    ensures { HasTurned settler.old.node.input settler.new.node.input settler.old.node.seat settler.new.node.seat }
+fn turn(settler: &mut Settler<'_>) -> Outcome
+    ensures { HasTurned settler.old.node.input.now settler.new.node.input.now settler.old.node.seat settler.new.node.seat }
 {
     match settler.node.turn() {
         Ok(true) => Outcome::Moved,
@@ -44,18 +45,19 @@ fn turn(settler: &mut Settler) -> Outcome
 }
 
 /// Whether it has learned.
-fn has_learned(settler: &Settler) -> bool {
+fn has_learned(settler: &Settler<'_>) -> bool {
     settler.node.has_learned()
 }
 
-/// Whether its own ballot is under way, and it has promised no higher one.
-fn leads(settler: &Settler) -> bool {
-    settler.node.leads()
+/// Whether a turn of it is not to be put off: its own ballot is under way, and it has promised no higher one, or it has yet to offer.
+/// So all nodes make their offers at once.
+fn leads(settler: &Settler<'_>) -> bool {
+    settler.node.leads() || !settler.node.has_offered()
 }
 
 /// Its seat, if no memory was refused.
-pub(crate) fn seat_of(settler: Settler) -> Option<Seat<Linearize>>
-    ensures { IfSome result (λ seat. seat ≡ settler.node.seat) }
+pub(crate) fn seat_of(settler: Settler<'_>) -> Option<Seat<Linearize>>
+    ensures { IfSome result (λ seat. seat ≡ settler.entry.node.seat) }
 {
     if settler.has_failed {
         None
@@ -64,7 +66,7 @@ pub(crate) fn seat_of(settler: Settler) -> Option<Seat<Linearize>>
     }
 }
 
-impl TakesTurns for Settler {
+impl TakesTurns for Settler<'_> {
     ghost use Rattle.std.specs.Prelude.{⊤};
     ghost use Rattle.cfarm_settle_nodes.specs.Nodes.{HasTurned};
 
@@ -72,7 +74,7 @@ impl TakesTurns for Settler {
 
     ghost has_room = { λ s room. ⊤ };
 
-    ghost turned = { λ s t. HasTurned s.node.input t.node.input s.node.seat t.node.seat };
+    ghost turned = { λ s t. HasTurned s.node.input.now t.node.input.now s.node.seat t.node.seat };
 
     fn rooms(&self) -> u32 {
         1

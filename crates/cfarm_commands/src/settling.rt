@@ -2,13 +2,13 @@ ghost use Rattle.std.specs.Prelude.{◌≡◌, ◌≢◌, ◌++◌, OnOk, IfOk, 
 ghost use Rattle.std.specs.String.{string_bytes};
 ghost use Rattle.ltl.specs.Function.{IsFunction};
 ghost use Rattle.ltl.specs.Spelling as ltl_spelling;
-ghost use Rattle.cfarm_commands.specs.Settled.{HaveSettled, IsBehindTold, IsNoFunction, IsRefused, IsUnprinted, settled_text};
+ghost use Rattle.cfarm_commands.specs.Settled.{HaveSettled, IsBehindTold, IsCodeUnprinted, IsNoFunction, IsRefused, settled_text};
 ghost use Rattle.std.specs.Io.KnownBytes.{Appends};
 
 use crate::agreeing::agree;
 use crate::playing::Seats;
 use crate::settle_error::SettleError;
-use cfarm_printing::print_together;
+use cfarm_output::print_whole;
 use lang_base::{FormError, Language, NoMemory};
 use ltl::{Function, Ltl};
 use std::alloc::Global;
@@ -42,11 +42,10 @@ fn text_of(alloc: Global, code: &[u8]) -> Result<String, NoMemory>
 /// Prints the code that is agreed on.
 fn print_code<W: Write>(alloc: Global, code: &[u8], out: &mut W) -> Result<(), SettleError>
     ensures printed { OnOk result (Appends (W.contents out.old) (W.contents out.new) (settled_text code.now)) }
-    ensures refused { IfErr result (λ fault.
-        IsUnprinted (settled_text code.now) fault (W.contents out.old) (W.contents out.new)) }
+    ensures refused { IfErr result (IsCodeUnprinted code.now (W.contents out.old) (W.contents out.new)) }
 {
     let text = text_of(alloc, code)?;
-    match print_together(out, text.as_bytes()) {
+    match print_whole(out, text.as_bytes()) {
         Ok(()) => Ok(()),
         Err(_) => Err(SettleError::Write),
     }

@@ -1,5 +1,6 @@
 -- What three nodes of a room have agreed on, whatever the pass is that the room's offers are of.
-use Rattle.std.specs.Prelude.{◌≡◌, ℕ, zero, suc, List, Some}
+use Rattle.std.specs.Prelude.{◌≡◌, ℕ, zero, suc, List, Option, Some, Result, IfOk, IfSome}
+use Rattle.std.specs.Global.{Vec}
 use Rattle.lang_base.specs.Keeps.{Keeps}
 use Rattle.lang_base.specs.declared.language.Language as language
 use Rattle.lang_base.specs.declared.pass.Pass as pass
@@ -9,6 +10,10 @@ use Rattle.offers.specs.OneFunction.{program_of_one}
 use Rattle.rooms.specs.SeatValue.{SeatValue, offer_of}
 use Rattle.cfarm_settle_nodes.specs.Goes.{AreThree}
 use Rattle.cfarm_settle_nodes.specs.Learned.{IsLearnedByAll}
+
+-- the bytes that were found, if any were, are such
+abbrev pub IsFoundAs : {E : Type 0} → (List ℕ → Type 0) → Result (Option (Vec ℕ)) E → Type 0
+IsFoundAs IsSuch result = IfOk result (λ found. IfSome found (λ code. IsSuch code.items))
 
 -- the seat's node has offered this
 abbrev pub IsOwnOffer : {T : Type 0} → T → SeatValue T → Type 0

@@ -3,3 +3,4 @@ pub mod Learned
 pub mod Agreed
 pub mod Nodes
 pub mod Leads
+pub mod Offered

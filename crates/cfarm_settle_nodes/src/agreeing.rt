@@ -1,7 +1,6 @@
 //! The code that three nodes agree on.
 
-ghost use Rattle.std.specs.Prelude.{◌≡◌, ℕ, IfOk, IfSome};
-ghost use Rattle.cfarm_settle_nodes.specs.Agreed.{IsAgreed, IsCodeOf, IsOwnCode};
+ghost use Rattle.cfarm_settle_nodes.specs.Agreed.{IsAgreed, IsCodeOf, IsFoundAs, IsOwnCode};
 ghost use Rattle.cfarm_settle_nodes.specs.Goes.{AllOfferFor, AreThree, SeesNoMore};
 
 use crate::meeting::agreed;
@@ -12,8 +11,7 @@ use std::alloc::Global;
 
 /// The bytes of the output of the seat's own offer, if it has made one.
 fn own_code<P: Pass>(alloc: Global, seat: &Seat<P>) -> Result<Option<Vec<u8>>, NoMemory>
-    ensures { IfOk result (λ found. IfSome found (λ code.
-        IsOwnCode P.In.Language P.Out.Language P.Pass seat.now code.items)) }
+    ensures { IsFoundAs (IsOwnCode P.In.Language P.Out.Language P.Pass seat.now) result }
 {
     let Some(offer) = seat.fetch(seat.me()) else {
         return Ok(None);
@@ -33,8 +31,7 @@ fn code_of<P: Pass>(
     second: &Seat<P>,
     third: &Seat<P>,
 ) -> Result<Option<Vec<u8>>, NoMemory>
-    ensures { IfOk result (λ found. IfSome found (λ code.
-        IsCodeOf P.In.Language P.Out.Language P.Pass node first.now second.now third.now code.items)) }
+    ensures { IsFoundAs (IsCodeOf P.In.Language P.Out.Language P.Pass node first.now second.now third.now) result }
 {
     match node {
         0 => own_code(alloc, first),
@@ -53,8 +50,8 @@ pub fn code_agreed<P: Pass>(
 ) -> Result<Option<Vec<u8>>, NoMemory>
     requires { AreThree first.old second.old third.old }
     // Of these seats that have met it is said, whose nodes offer for this input.
-    ensures agreed { (f : P.In.Fun) → AllOfferFor f first.old second.old third.old → IfOk result (λ found. IfSome found (λ code.
-        IsAgreed P.In.Language P.Out.Language P.Pass f first.new second.new third.new code.items)) }
+    ensures agreed { (f : P.In.Fun) → AllOfferFor f first.old second.old third.old →
+        IsFoundAs (IsAgreed P.In.Language P.Out.Language P.Pass f first.new second.new third.new) result }
     ensures stay { SeesNoMore first.old first.new × SeesNoMore second.old second.new × SeesNoMore third.old third.new }
 {
     let Some(node) = agreed(first, second, third) else {

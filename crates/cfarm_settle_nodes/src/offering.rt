@@ -1,6 +1,7 @@
 //! What a node offers.
 
-ghost use Rattle.std.specs.Prelude.{◌≡◌, IfOk, IfSome, ◌≢◌, IfErr};
+ghost use Rattle.std.specs.Prelude.{◌≡◌, IfOk, ◌≢◌, IfErr};
+ghost use Rattle.cfarm_settle_nodes.specs.Offered.{OffersAccepted};
 
 use lang_base::{Language, Oracle, Pass, PassError};
 use offers::{Offer, OfferError};
@@ -29,8 +30,7 @@ fn chosen<P: Pass>(
     proposed: Option<(<P::Out as Language>::Fun, P::Cert)>,
 ) -> Result<Offer<P>, PassError>
     ensures input { IfOk result (λ offer. offer.input ≡ input.now) }
-    ensures proposed { IfSome proposed (λ it. P.accepts input.now it.0 it.1 →
-        IfOk result (λ offer. offer ≡ record { input = input.now; output = it.0; certificate = it.1 })) }
+    ensures proposed { OffersAccepted P.Pass input.now proposed result }
     ensures refused { IfErr result (λ e. e ≢ PassError.NoMemory → P.too_large input.now) }
 {
     let Some((output, certificate)) = proposed else {

@@ -62,30 +62,19 @@ fn seats<P: Pass>(alloc: Global) -> Result<(Seat<P>, Seat<P>, Seat<P>), NoMemory
     Ok((first.unwrap(), second.unwrap(), third.unwrap()))
 }
 
-/// The input once for each of three nodes.
-fn copies<L: Language>(alloc: Global, input: &L::Fun) -> Result<(L::Fun, L::Fun, L::Fun), NoMemory>
-    ensures { IfOk result (λ all. (all.0 ≡ input.now) × (all.1 ≡ input.now) × (all.2 ≡ input.now)) }
-{
-    let first = L::copy(alloc, input)?;
-    let second = L::copy(alloc, input)?;
-    let third = L::copy(alloc, input)?;
-    Ok((first, second, third))
-}
-
 /// The nodes of a new room of three that have kept nothing. Each has an optimiser of its own, which draws for the input.
-pub fn open<O: Oracle + Drop>(
+pub fn open<'a, O: Oracle + Drop>(
     alloc: Global,
     oracles: (O, O, O),
-    input: &<<O::P as Pass>::In as Language>::Fun,
-) -> Result<(SettleNode<O>, SettleNode<O>, SettleNode<O>), NoMemory>
+    input: &'a <<O::P as Pass>::In as Language>::Fun,
+) -> Result<(SettleNode<'a, O>, SettleNode<'a, O>, SettleNode<'a, O>), NoMemory>
     ensures seats { IfOk result (λ n. AreSeatsFor input.now (n.0.seat, n.1.seat, n.2.seat)) }
-    ensures inputs { IfOk result (λ n. (n.0.input ≡ input.now) × (n.1.input ≡ input.now) × (n.2.input ≡ input.now)) }
+    ensures inputs { IfOk result (λ n. (n.0.input.now ≡ input.now) × (n.1.input.now ≡ input.now) × (n.2.input.now ≡ input.now)) }
 {
     let seats = seats::<O::P>(alloc)?;
-    let inputs = copies::<<O::P as Pass>::In>(alloc, input)?;
     Ok((
-        SettleNode::new(alloc, seats.0, oracles.0, inputs.0),
-        SettleNode::new(alloc, seats.1, oracles.1, inputs.1),
-        SettleNode::new(alloc, seats.2, oracles.2, inputs.2),
+        SettleNode::new(alloc, seats.0, oracles.0, input),
+        SettleNode::new(alloc, seats.1, oracles.1, input),
+        SettleNode::new(alloc, seats.2, oracles.2, input),
     ))
 }

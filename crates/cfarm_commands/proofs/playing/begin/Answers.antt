@@ -1,5 +1,5 @@
 use denote.Param.Send.{sendable}
-use Rattle.std.proofs.Common.{ap, ◌∙◌}
+use Rattle.std.proofs.Common.{◌∙◌}
 use Rattle.rooms_function.proofs.Sent.{function_send, function_sync}
 use Rattle.cfarm_settle_nodes.proofs.Nodes.{same_seats}
 use Rattle.cfarm_commands.proofs.playing.begin.Goals as goal
@@ -13,8 +13,8 @@ returns c =
       third = c.new-3.result;
       are = c.in_ok-all.ensures;
       seats = same_seats c.args.input.now c.new.result.node.seat c.new-2.result.node.seat c.new-3.result.node.seat n.first.seat n.second.seat n.third.seat
-          n.ensures.seats (ap (λ m. m.seat) c.new.ensures) (ap (λ m. m.seat) c.new-2.ensures) (ap (λ m. m.seat) c.new-3.ensures);
-      inputs = (ap (λ m. m.input) c.new.ensures ∙ n.ensures.inputs.0, ap (λ m. m.input) c.new-2.ensures ∙ n.ensures.inputs.1, ap (λ m. m.input) c.new-3.ensures ∙ n.ensures.inputs.2);
+          n.ensures.seats c.new.ensures.seat c.new-2.ensures.seat c.new-3.ensures.seat;
+      inputs = (c.new.ensures.input ∙ n.ensures.inputs.0, c.new-2.ensures.input ∙ n.ensures.inputs.1, c.new-3.ensures.input ∙ n.ensures.inputs.2);
     }
 
 pub open-requires-send-O-P-In-Fun : goal.open-requires-send-O-P-In-Fun
