@@ -1,5 +1,5 @@
 -- What nodes that have met make, or why they make nothing, as it is told of the whole build.
-use Rattle.std.proofs.Common.{◌≡◌, ℕ, List, None, Result, Ok, Err, IfOk, IfErr, sym, subst}
+use Rattle.std.proofs.Common.{◌≡◌, ℕ, List, None, Result, Ok, Err, IfOk, IfErr, subst}
 use Rattle.durable_model.specs.declared.disk.Disk as disks
 use Rattle.durable_pair.specs.declared.pair.Pair as pairs
 use Rattle.rooms_hall.specs.declared.hall.Naming as naming

@@ -1,10 +1,9 @@
-ghost use Rattle.std.specs.Prelude.{◌≡◌, ◌≤◌, All, false, is_some, length, IfOk, IfErr};
+ghost use Rattle.std.specs.Prelude.{◌≡◌, ◌≤◌, false, is_some, length, IfOk, IfErr};
 ghost use Rattle.std.specs.Arc.{arc_value};
 ghost use Rattle.c_checker_rules.specs.Checked.{program_tree};
 ghost use Rattle.cminor_lowering.specs.Programs.{low};
 ghost use Rattle.cminor_program_ranges.specs.Names.{HaveNames};
 ghost use Rattle.rtlgen_definition.specs.Gen.{gen};
-ghost use Rattle.rtlgen.specs.Refused.{HasFewNodes};
 ghost use Rattle.cfarm_build.specs.Built.{IsBuilt};
 ghost use Rattle.cfarm_build.specs.Refused.{IsUnbuilt};
 
@@ -46,7 +45,6 @@ pub fn build_bundled<
     requires translated { arc_value source.translated ≡ gen (low (program_tree source.program)) }
     requires names { HaveNames (program_tree source.program) }
     requires count { length (arc_value source.translated).functions ≤ 64 }
-    requires few { All HasFewNodes (low (program_tree source.program)).functions }
 
     // Each two neighbours met, and all functions were counted. So every node has learned the same offers, and what each would link is one
     // program: the bytes are its text, it keeps the meaning of the C program, and the report tells the offers.
@@ -100,7 +98,6 @@ pub fn build<
     requires translated { arc_value source.translated ≡ gen (low (program_tree source.program)) }
     requires names { HaveNames (program_tree source.program) }
     requires count { length (arc_value source.translated).functions ≤ 64 }
-    requires few { All HasFewNodes (low (program_tree source.program)).functions }
     ensures built { IfOk result (IsBuilt D.Disk D.Pair.own H.Naming quorums seed source disks.items) }
     ensures bare { IfOk result (λ built. is_some built.bundle ≡ false) }
     ensures refused { IfErr result (IsUnbuilt D.Disk D.Pair.own H.Naming quorums seed source disks.items) }

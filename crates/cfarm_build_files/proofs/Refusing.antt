@@ -26,7 +26,7 @@ use Rattle.cfarm_files.specs.Placing.{Placed, GivesNoMore, Keeps, Makes}
 use Rattle.cfarm_files.specs.Locking.{lock_path}
 use Rattle.cfarm_options.specs.Sizes.{count_of}
 use Rattle.cfarm_options.specs.declared.options.BuildOptions.{BuildOptions}
-use Rattle.cfarm_build_files.specs.Compiled.{quorums_of, IsBuiltIn, IsRefusedIn, IsUnbuiltIn, IsUncompiled}
+use Rattle.cfarm_build_files.specs.Compiled.{quorums_of, HasNotCompiled, IsBuiltIn, IsRefusedIn, IsUnbuiltIn, IsUncompiled}
 use Rattle.cfarm_build_folder.specs.Disks.{AreGiven, HasNoDisk, IsOwn, IsRefusedAt}
 use Rattle.cfarm_build_files.specs.Left.{Leaves}
 use Rattle.cfarm_build_folder.proofs.Given.{given_before, refused_before}
@@ -99,13 +99,6 @@ module _ {D : Type 0} (disk : disks.Ghosts D) (pair : pairs.Ghosts D) {H : Type 
 -- what is built, or not, over disks of files that give no more than before
 module _ {D : Type 0} (disk : disks.Ghosts D) (pair : pairs.Ghosts D) {H : Type 0} (h : naming.Ghosts H)
     (before after : List ℕ → List ℕ → D → Type 0) (no_more : GivesNoMore before after) (options : BuildOptions) (source : Source) where
-  pub built_before : (built : Built) → IsBuiltIn disk pair h after options source built → IsBuiltIn disk pair h before options source built
-  built_before built over = record {
-    given = over.given;
-    given_are = given_before before after no_more options.folder.now (count_of options.nodes) over.given over.given_are;
-    built_is = over.built_is;
-  }
-
   unbuilt_before : (e : BuildError) → IsUnbuiltIn disk pair h after options source e → IsUnbuiltIn disk pair h before options source e
   unbuilt_before e over = record {
     given = over.given;
@@ -158,3 +151,14 @@ module _ {D : Type 0} (disk : disks.Ghosts D) (pair : pairs.Ghosts D) {H : Type 
   -- the text is refused
   pub unprepared : (e : SourceFault) → IsUnprepared text e → IsUncompiled disk pair h may_give options text (Build (TextFault e))
   unprepared e un = un
+
+-- what is refused behind a text that was made ready, and a lock
+module _ {D : Type 0} (disk : disks.Ghosts D) (pair : pairs.Ghosts D) {H : Type 0} (h : naming.Ghosts H)
+    (before after : List ℕ → List ℕ → D → Type 0) (no_more : GivesNoMore before after) (options : BuildOptions) (text : List ℕ) (source : Source)
+    (is : IsSourceOf text source) (placed now_placed : Option (List Placed)) where
+  pub not_compiled : (e : BuildingError) → IsRefusedIn disk pair h after options source e → Makes placed now_placed (IsOwn options.folder.now)
+      → HasNotCompiled disk pair h before options text placed now_placed e
+  not_compiled e un makes = record {
+    why = uncompiled disk pair h before options text source is e (refused_in_before disk pair h before after no_more options source e un);
+    left = left_behind disk pair h after options source placed now_placed e un makes;
+  }

@@ -1,27 +1,17 @@
 //! From a text and its journals to what is built.
 
-ghost use Rattle.std.specs.Prelude.{◌≡◌, ◌≤◌, All, IfOk, IfErr, is_some, length};
-ghost use Rattle.std.specs.Arc.{arc_value};
-ghost use Rattle.c_checker_rules.specs.Checked.{program_tree};
-ghost use Rattle.cminor_lowering.specs.Programs.{low};
-ghost use Rattle.cminor_program_ranges.specs.Names.{HaveNames};
-ghost use Rattle.rtlgen.specs.Refused.{HasFewNodes};
-ghost use Rattle.rtlgen_definition.specs.Gen.{gen};
-ghost use Rattle.cfarm_build.specs.Built.{IsBuilt};
-ghost use Rattle.cfarm_build.specs.Refused.{IsUnbuilt};
+ghost use Rattle.std.specs.Prelude.{◌≡◌, IfOk, IfErr, is_some, length};
 ghost use Rattle.cfarm_files.specs.Locking.{CoversFolder};
-ghost use Rattle.cfarm_files.specs.Placing.{Makes};
-ghost use Rattle.cfarm_build_folder.specs.Disks.{IsJournal};
-ghost use Rattle.cfarm_build_files.specs.Compiled.{quorums_of, HasCompiled, HasNotCompiled, IsBuiltIn, IsRefusedIn};
+ghost use Rattle.cfarm_build_files.specs.Compiled.{quorums_of, HasCompiled, HasNotCompiled};
 
 use cfarm_build::{BuildError, Built, Optimising, Quorums, build_bundled, optimisers_of};
 use cfarm_build_folder::{BuildingError, locked, old_among, open_disks};
 use cfarm_files::Files;
 use cfarm_meter::Meter;
-use cfarm_offered::{NodeOffers, outside_of, read_given, tell_ignored};
+use cfarm_offered::{NodeOffers, Outside, outside_of, read_given, tell_ignored};
 use cfarm_options::{BuildOptions, Optimise};
-use durable_pair::Pair;
-use farm_nodes_source::{Source, prepare};
+use farm_nodes_compiling::Optimisers;
+use farm_nodes_source::prepare;
 use lang_base::{Named, NoMemory};
 use rooms_hall::{Hall, Naming};
 use rtl_language::Function;
@@ -51,93 +41,23 @@ fn given_in<F: Files>(
     read_given(alloc, files, folder, nodes, functions)
 }
 
-/// What a farm with the quorums that are asked for builds of a source over these disks. Each node's optimisers propose first what was given
-/// for that node.
-fn built_over<D: Pair + Drop + Send, H: Naming + Send, R: Threads + Wait + Sync, M: Meter>(
-    rt: &R,
+/// The optimisers of each node: they propose first what was given for that node.
+fn oracles_of<'a>(
     alloc: Global,
-    hall: &Hall<H>,
-    source: Source,
-    disks: Vec<D>,
     options: BuildOptions<'_>,
-    quorums: Quorums,
-    meter: &mut M,
-    given: &mut Vec<NodeOffers>,
-) -> Result<Built, BuildError>
-    requires asked { quorums ≡ quorums_of options }
-    requires size { length disks.items ≡ quorums.nodes }
-    requires translated { arc_value source.translated ≡ gen (low (program_tree source.program)) }
-    requires names { HaveNames (program_tree source.program) }
-    requires count { length (arc_value source.translated).functions ≤ 64 }
-    requires few { All HasFewNodes (low (program_tree source.program)).functions }
-    ensures built { IfOk result (IsBuilt D.Disk D.Pair.own H.Naming quorums options.entry.seed source disks.items) }
-    ensures bundled { IfOk result (λ built. is_some built.bundle ≡ is_some options.entry.bundle) }
-    ensures refused { IfErr result (IsUnbuilt D.Disk D.Pair.own H.Naming quorums options.entry.seed source disks.items) }
+    nodes: usize,
+    given: &'a mut [NodeOffers],
+) -> Result<Vec<Outside<'a, Optimisers>>, NoMemory>
+    ensures { IfOk result (λ oracles. length oracles.items ≡ nodes) }
 {
-    let nodes = quorums.nodes();
-    let kind = optimising_of(options.optimise);
-    let Ok(own) = optimisers_of(alloc, usize::from(nodes), kind) else {
-        return Err(BuildError::NoMemory);
-    };
-    let Ok(oracles) = outside_of(alloc, given.as_mut_slice(), own) else {
-        return Err(BuildError::NoMemory);
-    };
-    let (turns, seed) = (u64::from(options.turns), options.seed);
-    let bundles = options.bundle.is_some();
-    build_bundled(
-        rt, alloc, hall, source, disks, oracles, turns, seed, quorums, bundles, meter,
-    )
-}
-
-/// What is built of a source over the journals of the folder, whose lock is held: the offers that were made outside come first, then the
-/// journals, then the farm.
-fn compiled_in<H: Naming + Send, R: Threads + Wait + Sync, F: Files, M: Meter>(
-    rt: &R,
-    alloc: Global,
-    hall: &Hall<H>,
-    source: Source,
-    options: BuildOptions<'_>,
-    quorums: Quorums,
-    files: &mut F,
-    lock: &F::Lock,
-    meter: &mut M,
-    given: &mut Vec<NodeOffers>,
-) -> Result<Built, BuildingError>
-    requires asked { quorums ≡ quorums_of options }
-    requires locked { CoversFolder (F.covers lock.now) options.folder.now }
-    requires translated { arc_value source.translated ≡ gen (low (program_tree source.program)) }
-    requires names { HaveNames (program_tree source.program) }
-    requires count { length (arc_value source.translated).functions ≤ 64 }
-    requires few { All HasFewNodes (low (program_tree source.program)).functions }
-    ensures built { IfOk result (IsBuiltIn F.Disk.Disk F.Disk.Pair.own H.Naming (F.may_give files.old) options.entry source) }
-    ensures bundled { IfOk result (λ built. is_some built.bundle ≡ is_some options.entry.bundle) }
-    ensures refused { IfErr result (IsRefusedIn F.Disk.Disk F.Disk.Pair.own H.Naming (F.may_give files.old) options.entry source) }
-    ensures made { Makes (F.placed files.old) (F.placed files.new) (IsJournal options.entry.folder.now) }
-{
-    match given_in(
-        alloc,
-        options,
-        &*files,
-        source.translated.functions.as_slice(),
-    ) {
-        Ok(found) => *given = found,
-        Err(NoMemory) => return Err(BuildingError::Build(BuildError::NoMemory)),
-    }
-    let disks = match open_disks(alloc, options, files, lock) {
-        Ok(disks) => disks,
-        Err(fault) => return Err(fault),
-    };
-    meter.found(old_among(&*files, &disks), disks.len());
-    match built_over(
-        rt, alloc, hall, source, disks, options, quorums, meter, given,
-    ) {
-        Ok(built) => Ok(built),
-        Err(fault) => Err(BuildingError::Build(fault)),
+    match optimisers_of(alloc, nodes, optimising_of(options.optimise)) {
+        Ok(own) => outside_of(alloc, given, own),
+        Err(fault) => Err(fault),
     }
 }
 
 /// What is built of a text by a farm with the quorums that are asked for over the journals of the folder, and the folder's lock. The text
-/// comes first, then the lock, then what is built of it.
+/// comes first, then the lock, then the offers that were made outside, then the journals, then the farm.
 fn compiled_by<H: Naming + Send, R: Threads + Wait + Sync, F: Files, M: Meter>(
     rt: &R,
     alloc: Global,
@@ -165,11 +85,31 @@ fn compiled_by<H: Naming + Send, R: Threads + Wait + Sync, F: Files, M: Meter>(
         Ok(lock) => lock,
         Err(fault) => return Err(fault),
     };
-    match compiled_in(
-        rt, alloc, hall, source, options, quorums, files, &lock, meter, given,
+    match given_in(
+        alloc,
+        options,
+        &*files,
+        source.translated.functions.as_slice(),
+    ) {
+        Ok(found) => *given = found,
+        Err(NoMemory) => return Err(BuildingError::Build(BuildError::NoMemory)),
+    }
+    let disks = match open_disks(alloc, options, files, &lock) {
+        Ok(disks) => disks,
+        Err(fault) => return Err(fault),
+    };
+    meter.found(old_among(&*files, &disks), disks.len());
+    let nodes = usize::from(quorums.nodes());
+    let Ok(oracles) = oracles_of(alloc, options, nodes, given.as_mut_slice()) else {
+        return Err(BuildingError::Build(BuildError::NoMemory));
+    };
+    let (turns, seed) = (u64::from(options.turns), options.seed);
+    let bundles = options.bundle.is_some();
+    match build_bundled(
+        rt, alloc, hall, source, disks, oracles, turns, seed, quorums, bundles, meter,
     ) {
         Ok(built) => Ok((built, lock)),
-        Err(fault) => Err(fault),
+        Err(fault) => Err(BuildingError::Build(fault)),
     }
 }
 

@@ -1,12 +1,11 @@
 //! What nodes that took their turns, and have met, make.
 
-ghost use Rattle.std.specs.Prelude.{◌≡◌, ◌<◌, ◌≤◌, ℕ, All, Some, IsTrue, is_some, length, map, IfOk, IfErr};
+ghost use Rattle.std.specs.Prelude.{◌≡◌, ◌<◌, ◌≤◌, ℕ, Some, IsTrue, is_some, length, map, IfOk, IfErr};
 ghost use Rattle.std.specs.Arc.{arc_value};
 ghost use Rattle.std.specs.List.{AllByRecursion};
 ghost use Rattle.c_checker_rules.specs.Checked.{program_tree};
 ghost use Rattle.cminor_lowering.specs.Programs.{low};
 ghost use Rattle.cminor_program_ranges.specs.Names.{HaveNames};
-ghost use Rattle.rtlgen.specs.Refused.{HasFewNodes};
 ghost use Rattle.rtlgen_definition.specs.Gen.{gen};
 ghost use Rattle.farm_nodes_linked.specs.Numbers.{function_of_link_error};
 ghost use Rattle.farm_nodes_linked.specs.Alike.{HaveCounted};
@@ -70,7 +69,6 @@ fn made_by<D, O, H: Naming>(
     requires translated { arc_value source.now.translated ≡ gen (low (program_tree source.now.program)) }
     requires names { HaveNames (program_tree source.now.program) }
     requires count { length (arc_value source.now.translated).functions ≤ 64 }
-    requires few { All HasFewNodes (low (program_tree source.now.program)).functions }
     requires program { AllByRecursion (λ n. arc_value n.program ≡ arc_value source.now.translated) nodes.now }
     ensures built { IfOk result (IsBuiltBy source.now (map (λ n. node n.log n.seats.items n.halted) nodes.now)) }
     ensures asked { IfOk result (λ built. is_some built.bundle ≡ bundles) }
@@ -110,7 +108,6 @@ pub fn built_by<D, O, H: Naming>(
     requires translated { arc_value source.now.translated ≡ gen (low (program_tree source.now.program)) }
     requires names { HaveNames (program_tree source.now.program) }
     requires count { length (arc_value source.now.translated).functions ≤ 64 }
-    requires few { All HasFewNodes (low (program_tree source.now.program)).functions }
     requires program { AllByRecursion (λ n. arc_value n.program ≡ arc_value source.now.translated) nodes.now }
     ensures built { IfOk result (IsBuiltBy source.now (map (λ n. node n.log n.seats.items n.halted) nodes.now)) }
     ensures asked { IfOk result (λ built. is_some built.bundle ≡ bundles) }

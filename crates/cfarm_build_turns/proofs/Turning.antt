@@ -18,7 +18,7 @@ use Rattle.cfarm_build_faults.specs.Nodes.{AreMade}
 use Rattle.cfarm_build_faults.specs.Back.{IsJournalOn}
 use Rattle.cfarm_build_faults.specs.Opened.{AreOpenFromJournals}
 use Rattle.cfarm_build_faults.specs.CameBack.{CameBack}
-use Rattle.farm_nodes_passes.specs.Offers.{Constants, Expressions, Allocation, Order}
+use Rattle.farm_nodes_passes.specs.Offers.{ConstantsOffer, ExpressionsOffer, AllocationOffer, OrderOffer}
 use Rattle.farm_nodes_passes.specs.Texts.{pass_texts}
 use Rattle.farm_nodes_linked.specs.Learned.{FourOffers, learned_by}
 use Rattle.farm_nodes_linked.proofs.Alike.{keeps_none, keeps_through}
@@ -28,7 +28,7 @@ use Rattle.cfarm_build_turns.specs.Nodes.{Begun, HasStayed, HaveMet, HaveRun, Is
 use Rattle.cfarm_build_result.proofs.Zips.{all_mapped, all_of, all_weaker, as_long, kept, map_twice, seen, through, written}
 
 -- A node is seen as its program, its journal, its seats and what stopped it.
-module _ {N G D : Type 0} (disk : disks.Ghosts D) (program : N → G) (log : N → Log D) (fours : N → List (Four Constants Expressions Allocation Order))
+module _ {N G D : Type 0} (disk : disks.Ghosts D) (program : N → G) (log : N → Log D) (fours : N → List (Four ConstantsOffer ExpressionsOffer AllocationOffer OrderOffer))
     (halted : N → Option Halted) where
   abbrev pub Turns : N → N → Type 0
   Turns n m = (program m ≡ program n) × CameBack disk.is_honest disk.seen disk.may_leave disk.moment disk.left_since
@@ -43,7 +43,7 @@ module _ {N G D : Type 0} (disk : disks.Ghosts D) (program : N → G) (log : N �
 
 -- so it is where they meet, and of what each has learned
 module _ {N G D : Type 0} (disk : disks.Ghosts D) (program : N → G) (log : N → Log D)
-    (fours : N → List (Four Constants Expressions Allocation Order)) (halted : N → Option Halted) (learned : N → List (Option FourOffers)) where
+    (fours : N → List (Four ConstantsOffer ExpressionsOffer AllocationOffer OrderOffer)) (halted : N → Option Halted) (learned : N → List (Option FourOffers)) where
   abbrev Met : N → N → Type 0
   Met = Meets disk program log fours halted learned
 

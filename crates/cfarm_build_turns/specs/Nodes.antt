@@ -10,7 +10,7 @@ use Rattle.durable_pair.specs.declared.pair.Pair as pairs
 use Rattle.acceptor_log.specs.declared.log.Log.{Log}
 use Rattle.rooms_hall.specs.declared.hall.Naming as naming
 use Rattle.farm_nodes_offers.specs.declared.halt.Fault.{Fault}
-use Rattle.farm_nodes_passes.specs.Offers.{Constants, Expressions, Allocation, Order}
+use Rattle.farm_nodes_passes.specs.Offers.{ConstantsOffer, ExpressionsOffer, AllocationOffer, OrderOffer}
 use Rattle.farm_nodes_linked.specs.Fours.{Four, fours_of}
 use Rattle.farm_nodes_linked.specs.NumberedSeat.{NumberedSeat}
 use Rattle.cfarm_build_faults.specs.Halted.{Halted}
@@ -58,7 +58,7 @@ module _ {D : Type 0} (disk : disks.Ghosts D) where
 
   -- A meeting leaves the journal, and what stopped the node; its seats stand for what the journal holds as they did, and what was
   -- learned is learned still.
-  pub record JournalStays (old new : Log D) (seats after : List (Four Constants Expressions Allocation Order)) (halted now : Option Halted)
+  pub record JournalStays (old new : Log D) (seats after : List (Four ConstantsOffer ExpressionsOffer AllocationOffer OrderOffer)) (halted now : Option Halted)
       (learned after_learned : List (Option FourOffers)) : Type 0 where
     pub log : new ≡ old
     pub halted_same : now ≡ halted
@@ -79,7 +79,7 @@ module _ {D : Type 0} (disk : disks.Ghosts D) where
 
 -- so it is of two nodes, each seen as its program, its journal, its seats, what stopped it, and what it has learned
 module _ {N G D : Type 0} (disk : disks.Ghosts D) (program : N → G) (log : N → Log D)
-    (fours : N → List (Four Constants Expressions Allocation Order)) (halted : N → Option Halted) (learned : N → List (Option FourOffers)) where
+    (fours : N → List (Four ConstantsOffer ExpressionsOffer AllocationOffer OrderOffer)) (halted : N → Option Halted) (learned : N → List (Option FourOffers)) where
   abbrev pub Meets : N → N → Type 0
   Meets n m = (program m ≡ program n) × JournalStays disk (log n) (log m) (fours n) (fours m) (halted n) (halted m) (learned n) (learned m)
 

@@ -3,8 +3,7 @@
 ghost use Rattle.std.specs.Prelude.{◌≡◌, Some, codes, IfOk, IfSome, IsNone};
 ghost use Rattle.clap.specs.Words.{found_of, first_of, first_value, rows_of};
 ghost use Rattle.cfarm_options.specs.declared.options.BuildOptions.{BuildOptions};
-ghost use Rattle.cfarm_options.specs.declared.options.Optimise.{Optimise};
-ghost use Rattle.cfarm_command_parts.specs.Words.{AreOptions, IsArgument, IsCommand, IsPath, Reads, build_app};
+ghost use Rattle.cfarm_command_parts.specs.Words.{AreOptions, IsArgument, IsCommand, IsNoWord, IsPath, Reads, build_app};
 ghost use Rattle.cfarm_command_parts.specs.Words.{optimise_rule, optimise_word, path_rule, seed_rule, turns_rule};
 
 use crate::size_words::{ACCEPT, FOLDER, PROMISE, nodes_of, size_of, sized};
@@ -125,8 +124,7 @@ pub(crate) fn build<'a>(alloc: Global, choices: Choices<'a>) -> Result<Command<'
 /// How the nodes' optimisers are to choose.
 fn optimise_of(words: &ArgMatches<'_>) -> Option<Optimise>
     ensures some { IfSome result (λ o. first_value (found_of words.now) (codes "optimise") ≡ Some (optimise_word o)) }
-    ensures none { IsNone result → (o : Optimise) →
-        first_value (found_of words.now) (codes "optimise") ≡ Some (optimise_word o) → ⊥ }
+    ensures none { IsNone result → IsNoWord optimise_word (first_value (found_of words.now) (codes "optimise")) }
 {
     match words.get_str(OPTIMISE) {
         Some("drawn") => Some(Optimise::Drawn),

@@ -4,7 +4,7 @@ ghost use Rattle.std.specs.Prelude.{◌≡◌, Some, map, codes, string_bytes, I
 ghost use Rattle.clap.specs.Words.{FailsBy, fault_of, first_value, found_of, rows_of};
 ghost use Rattle.clap.specs.Words.{subcommand_rows_of};
 ghost use Rattle.cfarm_command_parts.specs.declared.task.Task.{Task};
-ghost use Rattle.cfarm_command_parts.specs.Words.{Asks, AsksNothing, AsksNothingBy, IsAskedBy, IsRefusedRightly, IsTask};
+ghost use Rattle.cfarm_command_parts.specs.Words.{AsksFor, AsksNothing, AsksNothingBy, IsAskedBy, IsRefusedRightly, IsTask};
 ghost use Rattle.cfarm_command_parts.specs.Words.{IsCommand, farm, statuses_app, top_app};
 
 use crate::build_words::{build, options_of};
@@ -172,8 +172,7 @@ pub fn asked_for<'a>(
     words: &'a [String],
     choices: Choices<'a>,
 ) -> Result<Option<Asked<'a>>, clap::Error>
-    ensures asks { IfOk result (λ asked. IfSome asked
-        (λ a. Asks choices.entry (map string_bytes words.entry.now) a.task a.path.now)) }
+    ensures asks { IfOk result (λ asked. IfSome asked (AsksFor choices.entry (map string_bytes words.entry.now))) }
     ensures none { IfOk result (λ asked. IsNone asked → AsksNothing choices.entry (map string_bytes words.entry.now)) }
     ensures right { FailsBy (fault_of (farm choices.entry) (map string_bytes words.entry.now)) result }
     ensures refused { IfErr result (λ fault. IsRefusedRightly choices.entry (map string_bytes words.entry.now) fault) }

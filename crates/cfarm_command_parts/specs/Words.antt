@@ -1,6 +1,6 @@
 -- What the words of a command line ask for. How words are read is defined in `clap`: here stand the commands, and what is
 -- asked for by what is found.
-use Rattle.std.specs.Prelude.{◌≡◌, ◌<◌, ◌^◌, ℕ, ℤ, pos, negsuc, FitsSigned, List, [], ◌∷◌, Option, Some, None, map, option_map, true, false, codes}
+use Rattle.std.specs.Prelude.{◌≡◌, ◌<◌, ◌^◌, ℕ, ℤ, pos, negsuc, FitsSigned, List, [], ◌∷◌, Option, Some, None, Result, IfOk, map, option_map, true, false, codes}
 use Rattle.std.specs.Int.{w32}
 use Rattle.std.specs.Borrow.{Bor}
 use Rattle.std.specs.Str.Parse.{IsNumeral, digits_value, signed_digits_value, without_leading_plus, without_leading_sign}
@@ -23,6 +23,7 @@ use Rattle.cfarm_options.specs.declared.options.Nodes.TheVariants.{Two, Three, F
 use Rattle.cfarm_options.specs.declared.options.Optimise.{Optimise}
 use Rattle.cfarm_options.specs.declared.options.Optimise.TheVariants.{Drawn, Speed}
 use Rattle.cfarm_command_parts.specs.declared.choices.Choices.{Choices}
+use Rattle.cfarm_command_parts.specs.declared.task.Asked.{Asked}
 use Rattle.cfarm_command_parts.specs.declared.task.Format.{Format}
 use Rattle.cfarm_command_parts.specs.declared.task.Format.TheVariants.{Plain, Gcc}
 use Rattle.cfarm_command_parts.specs.declared.task.Showing.{Showing}
@@ -207,7 +208,21 @@ IsCommand app command = (app_of command ≡ app) × ((fields_of command).has_glo
 abbrev pub IsArgument : Rule → Arg → Type 0
 IsArgument rule argument = (rule_of argument ≡ rule) × (argument.global ≡ false)
 
+-- the command takes the argument, and is then read with one rule more, where both are there
+abbrev pub AddsArgument : {E : Type 0} → Result Command E → Arg → Result Command E → Type 0
+AddsArgument command argument result =
+    (app : App) (rule : Rule) → IfOk command (IsCommand app) → IsArgument rule argument → IfOk result (IsCommand (with_rule app rule))
+
+-- it takes another command, and is then read with that in it, where both are there
+abbrev pub AddsCommand : {E : Type 0} → (command part result : Result Command E) → Type 0
+AddsCommand command part result =
+    (app inner : App) → IfOk command (IsCommand app) → IfOk part (IsCommand inner) → IfOk result (IsCommand (with_subcommand app inner.top))
+
 -- ---- what is asked for
+
+-- what was found is none of these words
+abbrev pub IsNoWord : {A : Type 0} → (A → Text) → Option Text → Type 0
+IsNoWord {A} word_of found = (x : A) → found ≡ Some (word_of x) → ⊥
 
 -- the number that a text spells in decimal, where it spells one of so many bits
 abbrev pub Reads : ℕ → Option Text → ℕ → Type 0
@@ -231,6 +246,10 @@ ReadsSigned (Some text) number = IsNumeral 10 (without_leading_sign text) → Fi
 abbrev pub format_word : Format → Option Text
 format_word Plain = None
 format_word Gcc = Some (codes "gcc")
+
+-- what was found is the word for none
+abbrev pub IsNoFormat : Option Text → Type 0
+IsNoFormat found = (f : Format) → found ≡ format_word f → ⊥
 
 -- the word for a number of nodes
 abbrev pub node_word : Nodes → Text
@@ -327,6 +346,10 @@ IsAskedBy (Some (name, rows)) task path = IsTask name rows task × (first_of (co
 -- the words ask for this task on the file of this path
 abbrev pub Asks : Choices → List Text → Task → Text → Type 0
 Asks choices words task path = IsAskedBy (subcommand_of (farm choices) words) task path
+
+-- they ask for this
+abbrev pub AsksFor : Choices → List Text → Asked → Type 0
+AsksFor choices words asked = Asks choices words asked.task asked.path.now
 
 -- words that can be taken are refused where memory is, alone
 abbrev pub IsRefusedRightly : Choices → List Text → Error → Type 0

@@ -2,8 +2,7 @@
 
 ghost use Rattle.std.specs.Prelude.{◌≡◌, Some, codes, IfOk, IfSome, IsNone};
 ghost use Rattle.clap.specs.Words.{first_of, first_value, found_of, rows_of};
-ghost use Rattle.cfarm_emitted.specs.declared.Emitted.{Emitted};
-ghost use Rattle.cfarm_command_parts.specs.Words.{IsArgument, IsCommand, ReadsPerhaps, drawn_rule, emit_app, form_rule, form_word};
+ghost use Rattle.cfarm_command_parts.specs.Words.{IsArgument, IsCommand, IsNoWord, ReadsPerhaps, drawn_rule, emit_app, form_rule, form_word};
 
 use crate::choices::Choices;
 use crate::joining::{file, with_argument};
@@ -59,15 +58,14 @@ pub fn emit<'a>(alloc: Global, choices: Choices<'a>) -> Result<Command<'a>, Allo
 /// Which form is to be written; none at a word that is not offered.
 pub fn emitted_of(words: &ArgMatches<'_>) -> Option<Emitted>
     ensures some { IfSome result (λ e. first_of (codes "of") (rows_of (found_of words.now)) ≡ Some (form_word e)) }
-    ensures none { IsNone result → (e : Emitted) →
-        first_of (codes "of") (rows_of (found_of words.now)) ≡ Some (form_word e) → ⊥ }
+    ensures none { IsNone result → IsNoWord form_word (first_of (codes "of") (rows_of (found_of words.now))) }
 {
     emitted_found(words)
 }
 
 fn emitted_found(words: &ArgMatches<'_>) -> Option<Emitted>
     ensures some { IfSome result (λ e. first_value (found_of words.now) (codes "of") ≡ Some (form_word e)) }
-    ensures none { IsNone result → (e : Emitted) → first_value (found_of words.now) (codes "of") ≡ Some (form_word e) → ⊥ }
+    ensures none { IsNone result → IsNoWord form_word (first_value (found_of words.now) (codes "of")) }
 {
     match words.get_str(OF) {
         Some("cminor") => Some(Emitted::Cminor),

@@ -1,9 +1,7 @@
 //! Commands, one argument and one command after the other. Memory that is refused on the way is the answer of all that follows.
 
-ghost use Rattle.std.specs.Prelude.{IfOk};
-ghost use Rattle.clap.specs.Words.{App, Rule};
-ghost use Rattle.cfarm_command_parts.specs.Words.{IsArgument, IsCommand, file_rule, needed_rule};
-ghost use Rattle.clap.specs.Words.{with_rule, with_subcommand};
+ghost use Rattle.std.specs.Prelude.{Ok};
+ghost use Rattle.cfarm_command_parts.specs.Words.{AddsArgument, AddsCommand, IsArgument, file_rule, needed_rule};
 
 use clap::builder::ValueParser;
 use clap::{Arg, Command};
@@ -36,8 +34,7 @@ pub fn with_argument<'a>(
     command: Result<Command<'a>, AllocError>,
     argument: Arg<'a>,
 ) -> Result<Command<'a>, AllocError>
-    ensures { (app : App) (rule : Rule) → IfOk command.entry (IsCommand app) → IsArgument rule argument.entry →
-        IfOk result (IsCommand (with_rule app rule)) }
+    ensures { AddsArgument command.entry argument.entry result }
 {
     match command {
         Ok(command) => command.arg(argument),
@@ -50,8 +47,7 @@ fn with_part<'a>(
     command: Command<'a>,
     part: Result<Command<'a>, AllocError>,
 ) -> Result<Command<'a>, AllocError>
-    ensures { (app inner : App) → IsCommand app command.entry → IfOk part.entry (IsCommand inner) →
-        IfOk result (IsCommand (with_subcommand app inner.top)) }
+    ensures { AddsCommand (Ok command.entry) part.entry result }
 {
     match part {
         Ok(part) => command.subcommand(part),
@@ -64,8 +60,7 @@ pub fn with_command<'a>(
     command: Result<Command<'a>, AllocError>,
     part: Result<Command<'a>, AllocError>,
 ) -> Result<Command<'a>, AllocError>
-    ensures { (app inner : App) → IfOk command.entry (IsCommand app) → IfOk part.entry (IsCommand inner) →
-        IfOk result (IsCommand (with_subcommand app inner.top)) }
+    ensures { AddsCommand command.entry part.entry result }
 {
     match command {
         Ok(command) => with_part(command, part),

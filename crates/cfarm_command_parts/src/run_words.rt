@@ -2,8 +2,7 @@
 
 ghost use Rattle.std.specs.Prelude.{◌≡◌, codes, IfOk, IfSome, IsNone};
 ghost use Rattle.clap.specs.Words.{found_of, first_of, first_value, rows_of};
-ghost use Rattle.cfarm_command_parts.specs.declared.task.Format.{Format};
-ghost use Rattle.cfarm_command_parts.specs.Words.{IsArgument, IsCommand, Reads, ReadsSigned, check_app, exec_app, format_word};
+ghost use Rattle.cfarm_command_parts.specs.Words.{IsArgument, IsCommand, IsNoFormat, Reads, ReadsSigned, check_app, exec_app, format_word};
 ghost use Rattle.cfarm_command_parts.specs.Words.{depth_rule, expect_rule, format_rule, interpret_app, limit_rule};
 
 use crate::choices::Choices;
@@ -118,15 +117,14 @@ pub fn exec<'a>(alloc: Global) -> Result<Command<'a>, AllocError>
 /// How a refusal is to be told; none at a word that is not offered.
 pub fn format_of(words: &ArgMatches<'_>) -> Option<Format>
     ensures some { IfSome result (λ f. first_of (codes "format") (rows_of (found_of words.now)) ≡ format_word f) }
-    ensures none { IsNone result → (f : Format) →
-        first_of (codes "format") (rows_of (found_of words.now)) ≡ format_word f → ⊥ }
+    ensures none { IsNone result → IsNoFormat (first_of (codes "format") (rows_of (found_of words.now))) }
 {
     format_named(words)
 }
 
 fn format_named(words: &ArgMatches<'_>) -> Option<Format>
     ensures some { IfSome result (λ f. first_value (found_of words.now) (codes "format") ≡ format_word f) }
-    ensures none { IsNone result → (f : Format) → first_value (found_of words.now) (codes "format") ≡ format_word f → ⊥ }
+    ensures none { IsNone result → IsNoFormat (first_value (found_of words.now) (codes "format")) }
 {
     match words.get_str(FORMAT) {
         None => Some(Format::Plain),

@@ -2,8 +2,7 @@
 
 ghost use Rattle.std.specs.Prelude.{◌≡◌, Some, codes, IfOk, IfSome, IsNone};
 ghost use Rattle.clap.specs.Words.{first_of, first_value, found_of, rows_of};
-ghost use Rattle.cfarm_command_parts.specs.declared.task.Showing.{Showing};
-ghost use Rattle.cfarm_command_parts.specs.Words.{IsArgument, IsCommand, showing_word, sim_app, svg_rule};
+ghost use Rattle.cfarm_command_parts.specs.Words.{IsArgument, IsCommand, IsNoWord, showing_word, sim_app, svg_rule};
 
 use crate::joining::{file, with_argument};
 use crate::task::Showing;
@@ -44,16 +43,14 @@ fn svg<'a>(alloc: Global) -> Arg<'a>
 /// How a schedule is to be shown; `clap` finds one of the two words.
 pub fn showing_of(words: &ArgMatches<'_>) -> Option<Showing>
     ensures some { IfSome result (λ s. first_of (codes "svg") (rows_of (found_of words.now)) ≡ Some (showing_word s)) }
-    ensures none { IsNone result → (s : Showing) →
-        first_of (codes "svg") (rows_of (found_of words.now)) ≡ Some (showing_word s) → ⊥ }
+    ensures none { IsNone result → IsNoWord showing_word (first_of (codes "svg") (rows_of (found_of words.now))) }
 {
     showing_found(words)
 }
 
 fn showing_found(words: &ArgMatches<'_>) -> Option<Showing>
     ensures some { IfSome result (λ s. first_value (found_of words.now) (codes "svg") ≡ Some (showing_word s)) }
-    ensures none { IsNone result → (s : Showing) →
-        first_value (found_of words.now) (codes "svg") ≡ Some (showing_word s) → ⊥ }
+    ensures none { IsNone result → IsNoWord showing_word (first_value (found_of words.now) (codes "svg")) }
 {
     match words.get_str(SVG) {
         Some("false") => Some(Showing::Lines),

@@ -43,6 +43,10 @@ thirds_of (f ∷ functions) (o ∷ offers) = record { name = f.name; function = 
 abbrev pub third_program : Program rtl.FunctionData → List Offers → Program ltl.FunctionData
 third_program begun offers = record { globals = begun.globals; functions = thirds_of begun.functions offers }
 
+-- its bytes
+abbrev pub text_of_thirds : Program rtl.FunctionData → List Offers → List ℕ
+text_of_thirds begun offers = program_text 3 ltl_spelling.spelling (third_program begun offers)
+
 -- offers that chain from these functions, each accepted by its pass; with no seed they are the baselines
 pub record AreMade (functions : List (Named rtl.FunctionData)) (seed : Option ℕ) (offers : List Offers) : Type 0 where
   pub chained : AllGoOn functions offers
@@ -65,7 +69,7 @@ pub record IsRtlOf (p : ProgramTree) (begun : Program rtl.FunctionData) (bytes :
 pub record IsLtlOf (begun : Program rtl.FunctionData) (seed : Option ℕ) (bytes : List ℕ) : Type 0 where
   pub offers : List Offers
   pub made : AreMade begun.functions seed offers
-  pub text : bytes ≡ program_text 3 ltl_spelling.spelling (third_program begun offers)
+  pub text : bytes ≡ text_of_thirds begun offers
 
 -- the program that these offers link, which keeps the meaning of the first one
 pub record IsLinkedFrom (begun : Program rtl.FunctionData) (offers : List Offers) (bytes : List ℕ) : Type 0 where

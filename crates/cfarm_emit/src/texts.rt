@@ -9,10 +9,9 @@ ghost use Rattle.cminor_program_ranges.specs.Names.{HaveNames};
 ghost use Rattle.lang.specs.Form.{IsProgram, program_text};
 ghost use Rattle.linear_language.specs.Meaning as linear;
 ghost use Rattle.linker.specs.Chains.{names_of};
-ghost use Rattle.ltl.specs.Spelling as ltl_spelling;
 ghost use Rattle.rtl_language.specs.Meaning as rtl;
 ghost use Rattle.chains.specs.Offered.{linked_offers};
-ghost use Rattle.cfarm_emit.specs.Made.{IsLinkedFrom, third_program};
+ghost use Rattle.cfarm_emit.specs.Made.{IsLinkedFrom, text_of_thirds};
 
 use crate::thirds::third_program;
 use c_checker_rules::CProgram;
@@ -63,7 +62,7 @@ pub(crate) fn thirds_text(
     requires head { HasHeadOf (low (program_tree program.now)) begun.now }
     requires names { HaveNames (program_tree program.now) }
     requires many { length begun.now.functions ≡ length offers.now }
-    ensures { IfOk result (λ bytes. bytes.items ≡ program_text 3 ltl_spelling.spelling (third_program begun.now offers.now)) }
+    ensures { IfOk result (λ bytes. bytes.items ≡ text_of_thirds begun.now offers.now) }
 {
     match third_program(alloc, begun, offers) {
         Ok(made) => headed_text::<Ltl>(alloc, program, &made),

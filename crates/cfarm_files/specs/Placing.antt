@@ -1,5 +1,5 @@
 -- What is known of the files that were made, or put in the place of others.
-use Rattle.std.specs.Prelude.{◌≡◌, ℕ, List, [], ◌∷◌, ◌++◌, map, Option, None, Some}
+use Rattle.std.specs.Prelude.{◌≡◌, ℕ, List, [], ◌∷◌, ◌++◌, map, Option, None, Some, Result, MatchResult}
 use Rattle.std.specs.List.{AllByRecursion}
 
 -- a file that was put: where, and with which bytes; or one that was made, where there was none, with no bytes
@@ -19,6 +19,10 @@ Keeps (Some before) new = new ≡ Some before
 abbrev pub Places : Option (List Placed) → Option (List Placed) → List ℕ → List ℕ → Type 0
 Places None new path bytes = Unit {0}
 Places (Some before) new path bytes = new ≡ Some (before ++ record { path = path; bytes = Some bytes } ∷ [])
+
+-- that, or where the file is refused it stays as it was
+abbrev pub PlacesOrKeeps : {T E : Type 0} → (before after : Option (List Placed)) → (path bytes : List ℕ) → Result T E → Type 0
+PlacesOrKeeps before after path bytes result = MatchResult result (λ _. Places before after path bytes) (λ _. Keeps before after)
 
 -- what is known grows by files alone that are made at such paths, if by any
 abbrev pub Makes : Option (List Placed) → Option (List Placed) → (List ℕ → Type 0) → Type 0

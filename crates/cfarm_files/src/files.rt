@@ -1,9 +1,9 @@
 //! What the program does with files.
 
-ghost use Rattle.std.specs.Prelude.{◌≡◌, ℕ, List, Option, None, Result, Ok, Err, IfOk, MatchOption, MatchResult};
+ghost use Rattle.std.specs.Prelude.{◌≡◌, ℕ, List, Option, None, Result, IfOk};
 ghost use Rattle.cfarm_files.specs.declared.fault.FileFault.{FileFault};
-ghost use Rattle.cfarm_files.specs.Reading.{IsKnownAs};
-ghost use Rattle.cfarm_files.specs.Placing.{Placed, GivesNoMore, Keeps, Makes, Places};
+ghost use Rattle.cfarm_files.specs.Reading.{IsFileRead, IsFileReadIfThere};
+ghost use Rattle.cfarm_files.specs.Placing.{Placed, GivesNoMore, Makes, PlacesOrKeeps};
 ghost use Rattle.cfarm_files.specs.Locking.{CoversFolder, lock_path};
 
 use crate::fault::{DiskFault, FileFault};
@@ -31,15 +31,11 @@ pub trait Files {
 
     /// The bytes of the file of this path.
     fn read(&self, path: &str) -> Result<Vec<u8>, FileFault>
-        ensures { MatchResult result (λ bytes. IsKnownAs (known self.now path.now) (Ok bytes.items))
-            (λ fault. IsKnownAs (known self.now path.now) (Err fault)) };
+        ensures { IsFileRead (known self.now path.now) result };
 
     /// The same, or none where nothing of this path is there. A link to nothing is refused.
     fn read_if_there(&self, path: &str) -> Result<Option<Vec<u8>>, FileFault>
-        ensures { MatchResult result
-            (λ found. MatchOption found (IsKnownAs (known self.now path.now) (Err FileFault.Refused))
-            (λ bytes. IsKnownAs (known self.now path.now) (Ok bytes.items)))
-            (λ fault. IsKnownAs (known self.now path.now) (Err fault)) };
+        ensures { IsFileReadIfThere (known self.now path.now) result };
 
     /// The lock of this folder, which is that of the file of this path in it; the file is made, empty, where there is none, and
     /// stays. Refused, and not waited for, where somebody has the lock.
@@ -70,11 +66,9 @@ pub trait Files {
     /// The folder's lock is held.
     fn put(&mut self, lock: &Self::Lock, path: &str, bytes: &[u8]) -> Result<(), FileFault>
         requires { covers lock.now path.now }
-        ensures { MatchResult result (λ _. Places (placed self.old) (placed self.new) path.now bytes.now)
-            (λ _. Keeps (placed self.old) (placed self.new)) };
+        ensures { PlacesOrKeeps (placed self.old) (placed self.new) path.now bytes.now result };
 
     /// The same for a path that no lock has to cover: a file of the caller's own choice. Who puts there last is seen.
     fn put_at(&mut self, path: &str, bytes: &[u8]) -> Result<(), FileFault>
-        ensures { MatchResult result (λ _. Places (placed self.old) (placed self.new) path.now bytes.now)
-            (λ _. Keeps (placed self.old) (placed self.new)) };
+        ensures { PlacesOrKeeps (placed self.old) (placed self.new) path.now bytes.now result };
 }

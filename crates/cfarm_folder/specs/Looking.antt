@@ -2,8 +2,6 @@
 use Rattle.std.specs.Prelude.{◌≡◌, ◌⊎◌, ℕ, List, Option, Result}
 use Rattle.std.specs.Arc.{arc_value}
 use Rattle.std.specs.String.{string_bytes}
-use Rattle.lang_base.specs.declared.program.Program.{Program}
-use Rattle.rtl_language.specs.declared.function.Function.{Function}
 use Rattle.paxos_core_world.specs.Quorum.{Sizes}
 use Rattle.farm_nodes_source.specs.Refused.{IsUnprepared}
 use Rattle.farm_nodes_source.specs.declared.fault.SourceFault.{SourceFault}
@@ -42,22 +40,22 @@ unread_fault unread_by.NoMemory = no_memory
 unread_fault (unread_by.File path) = unread (string_bytes path) file.Refused
 
 -- what stands in these files is told, or why not
-abbrev pub IsFound : Sizes → List ℕ → Program Function → List NodeFiles → Coming
-IsFound q digest program files answer before after =
-    (fsck.IsTold q digest program files before after × (answer ≡ quiet))
-    ⊎ ((fault : FsckError) × fsck.IsNotTold q digest program files fault before after × (answer ≡ fsck_fault fault))
+abbrev pub Found : Sizes → Source → List NodeFiles → Coming
+Found q source files answer before after =
+    (fsck.IsTold q source.digest (arc_value source.translated) files before after × (answer ≡ quiet))
+    ⊎ ((fault : FsckError) × fsck.IsNotTold q source.digest (arc_value source.translated) files fault before after × (answer ≡ fsck_fault fault))
 
 module _ (known : List ℕ → Option (Result (List ℕ) FileFault)) (folder : List ℕ) (q : Sizes) where
   -- the files are read as they are known to be, and so it comes; or the first that is refused is told, and then nothing is printed
-  abbrev pub OfFiles : List ℕ → Program Function → Coming
-  OfFiles digest program answer before after =
-      ((files : List NodeFiles) × AreRead known folder q.nodes files × IsFound q digest program files answer before after)
+  abbrev pub OfFiles : Source → Coming
+  OfFiles source answer before after =
+      ((files : List NodeFiles) × AreRead known folder q.nodes files × Found q source files answer before after)
       ⊎ ((fault : Unread) × HasUnread known folder q.nodes fault × (after ≡ before) × (answer ≡ unread_fault fault))
 
   -- the folder's lock is had, and so it comes; or its file is told, and then no other is read and nothing is printed
-  abbrev pub OfLocked : List ℕ → Program Function → Coming
-  OfLocked digest program answer before after =
-      OfFiles digest program answer before after
+  abbrev pub OfLocked : Source → Coming
+  OfLocked source answer before after =
+      OfFiles source answer before after
       ⊎ ((fault : FileFault) × (after ≡ before) × (answer ≡ unread (lock_path folder) fault))
 
 -- A text that is refused is told as `build` tells it: nothing is made, and nothing printed. Else the lock's file alone may be made, and
@@ -66,4 +64,4 @@ abbrev pub Looked : (List ℕ → Option (Result (List ℕ) FileFault)) → (pla
 Looked known placed now_placed folder q text answer before after =
     ((fault : SourceFault) × IsUnprepared text fault × Keeps placed now_placed × (after ≡ before) × (answer ≡ build_fault (build.Source fault)))
     ⊎ ((source : Source) × IsSourceOf text source × Makes placed now_placed (λ path. path ≡ lock_path folder)
-    × OfLocked known folder q source.digest (arc_value source.translated) answer before after)
+    × OfLocked known folder q source answer before after)

@@ -2,10 +2,11 @@
 
 ghost use Rattle.std.specs.Prelude.{◌≡◌, ◌≤◌, length};
 ghost use Rattle.std.specs.Arc.{arc_value};
-ghost use Rattle.cfarm_folder.specs.Looking.{IsFound, Looked, OfFiles, OfLocked, build_fault, fsck_fault, unread_fault};
+ghost use Rattle.cfarm_folder.specs.Looking.{Found, Looked, OfFiles, OfLocked, build_fault, fsck_fault, unread_fault};
 ghost use Rattle.cfarm_files.specs.Locking.{lock_path};
 ghost use Rattle.cfarm_files.specs.Placing.{Makes};
-ghost use Rattle.cfarm_telling.specs.Telling.{Answer, IsTold};
+ghost use Rattle.cfarm_telling.specs.Reading.{Says};
+ghost use Rattle.cfarm_telling.specs.Telling.{IsTold};
 
 use crate::reading::read_files;
 use crate::unread::Unread;
@@ -68,8 +69,8 @@ fn tell_found<H: Naming, R: Threads + Wait + Sync, W: Write, E: ErrorLines>(
 ) -> u8
     requires size { length found.now ≡ quorums.nodes }
     requires functions { length (arc_value source.now.translated).functions ≤ 64 }
-    ensures does { (answer : Answer) × IsFound quorums source.now.digest (arc_value source.now.translated) found.now answer
-        (W.contents out.old.taker) (W.contents out.new.taker) × IsTold answer result (E.contents err.old) (E.contents err.new) }
+    ensures does { Says W.contents E.contents (Found quorums source.now found.now)
+        result out.old out.new err.old err.new }
     ensures table { result ≤ 7 }
 {
     let begun = &*source.translated;
@@ -92,9 +93,8 @@ fn tell_files<H: Naming, R: Threads + Wait + Sync, F: Files, W: Write, E: ErrorL
     err: &mut E,
 ) -> u8
     requires functions { length (arc_value source.now.translated).functions ≤ 64 }
-    ensures does { (answer : Answer) × OfFiles (F.known files.now) folder.now quorums source.now.digest
-        (arc_value source.now.translated) answer (W.contents out.old.taker) (W.contents out.new.taker)
-        × IsTold answer result (E.contents err.old) (E.contents err.new) }
+    ensures does { Says W.contents E.contents (OfFiles (F.known files.now) folder.now quorums source.now)
+        result out.old out.new err.old err.new }
     ensures table { result ≤ 7 }
 {
     match read_files(alloc, folder, usize::from(quorums.nodes()), files) {
@@ -116,9 +116,8 @@ fn tell_locked<H: Naming, R: Threads + Wait + Sync, F: Files, W: Write, E: Error
     err: &mut E,
 ) -> u8
     requires functions { length (arc_value source.now.translated).functions ≤ 64 }
-    ensures does { (answer : Answer) × OfLocked (F.known files.new) folder.now quorums source.now.digest
-        (arc_value source.now.translated) answer (W.contents out.old.taker) (W.contents out.new.taker)
-        × IsTold answer result (E.contents err.old) (E.contents err.new) }
+    ensures does { Says W.contents E.contents (OfLocked (F.known files.new) folder.now quorums source.now)
+        result out.old out.new err.old err.new }
     ensures made { Makes (F.placed files.old) (F.placed files.new) (λ path. path ≡ lock_path folder.now) }
     ensures table { result ≤ 7 }
 {
@@ -146,9 +145,8 @@ pub fn look_through<H: Naming, R: Threads + Wait + Sync, F: Files, W: Write, E: 
     out: &mut Paced<W>,
     err: &mut E,
 ) -> u8
-    ensures does { (answer : Answer) × Looked (F.known files.new) (F.placed files.old) (F.placed files.new) folder.now quorums
-        text.now answer (W.contents out.old.taker) (W.contents out.new.taker)
-        × IsTold answer result (E.contents err.old) (E.contents err.new) }
+    ensures does { Says W.contents E.contents (Looked (F.known files.new) (F.placed files.old) (F.placed files.new) folder.now quorums text.now)
+        result out.old out.new err.old err.new }
     ensures table { result ≤ 7 }
 {
     match prepare(alloc, text) {

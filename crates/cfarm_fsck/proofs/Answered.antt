@@ -1,19 +1,16 @@
 -- What is answered of a folder.
-use Rattle.std.proofs.Common.{◌≡◌, ◌⊎◌, inl, inr, ℕ, List, Option, Result, Ok, Err, OnOk, OnErr, IfErr, sym, subst}
+use Rattle.std.proofs.Common.{◌≡◌, ◌⊎◌, inl, inr, ℕ, List, Option, Result, Ok, Err, IfErr, sym, subst}
+use Rattle.std.specs.Prelude.{MatchResult}
+use Rattle.std.specs.Io.KnownBytes.{Appends}
+use Rattle.cfarm_output.specs.Begun.{IsBegun}
 use Rattle.cfarm_fsck.specs.declared.error.FsckError.{FsckError}
 use Rattle.cfarm_fsck.specs.declared.error.FsckError.TheVariants.{Disks, NoMemory, Write}
+use Rattle.cfarm_fsck.specs.Printed.{Prints}
 
--- memory or the writer failed
-pub failed_by : {T : Type 0} (r : Result T FsckError) (B P : Type 0) (Q : FsckError → Type 0) → (B → P) → (P → Q NoMemory) → (P → Q Write)
-    → IfErr r (λ e. (e ≡ NoMemory) ⊎ (e ≡ Write)) → OnErr r B → IfErr r Q
-failed_by (Ok x) B P Q f one two kinds begun = tt
-failed_by (Err e) B P Q f one two (inl is) begun = subst Q (sym is) (one (f begun))
-failed_by (Err e) B P Q f one two (inr is) begun = subst Q (sym is) (two (f begun))
-
-pub on_ok : {T : Type 0} (r : Result T FsckError) (P Q : Type 0) → OnOk r P → (P → Q) → OnOk r Q
-on_ok (Ok x) P Q h f = f h
-on_ok (Err e) P Q h f = tt
-
-pub on_err : {T : Type 0} (r : Result T FsckError) (P Q : Type 0) → OnErr r P → (P → Q) → OnErr r Q
-on_err (Ok x) P Q h f = tt
-on_err (Err e) P Q h f = f h
+-- the bytes were printed, or memory or the writer failed
+pub answered : {W T : Type 0} (contents : W → Option (List ℕ)) (bytes : List ℕ) (r : Result T FsckError) (before after : W) (P Part : Type 0) (Q : FsckError → Type 0)
+    → (Appends (contents before) (contents after) bytes → P) → (IsBegun bytes (contents before) (contents after) → Part) → (Part → Q NoMemory) → (Part → Q Write)
+    → IfErr r (λ e. (e ≡ NoMemory) ⊎ (e ≡ Write)) → Prints contents bytes r before after → MatchResult r (λ _. P) Q
+answered contents bytes (Ok x) before after P Part Q all part one two kinds printed = all printed
+answered contents bytes (Err e) before after P Part Q all part one two (inl is) printed = subst Q (sym is) (one (part printed))
+answered contents bytes (Err e) before after P Part Q all part one two (inr is) printed = subst Q (sym is) (two (part printed))

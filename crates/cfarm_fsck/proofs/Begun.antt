@@ -1,17 +1,25 @@
 -- Lines that are printed one behind the other.
-use Rattle.std.proofs.Common.{◌≡◌, ℕ, zero, suc, ◌+◌, ◌<◌, ◌≤◌, List, [], ◌∷◌, ◌++◌, Option, length, take, drop, get_or, refl, sym, ap, ◌∙◌, subst, arith, append_assoc, append-nil}
+use Rattle.std.proofs.Common.{◌≡◌, ℕ, zero, suc, ◌+◌, ◌<◌, ◌≤◌, List, [], ◌∷◌, ◌++◌, Option, Result, Ok, Err, length, take, drop, get_or, refl, sym, ap, ◌∙◌, subst, arith, append_assoc, append-nil}
 use Rattle.std.specs.Io.KnownBytes.{Appends}
 use Rattle.std.proofs.KnownBytes.{Appends-trans}
 use Rattle.std.proofs.lemmas.List.{take_more, take-append-drop, length-take-le}
 use Rattle.lang_base.proofs.Beginnings.{IsBeginningOf-trans}
 use Rattle.cfarm_output.specs.Begun.{IsBegun}
+use Rattle.cfarm_fsck.specs.declared.error.FsckError.{FsckError}
+use Rattle.cfarm_fsck.specs.Printed.{Prints}
 use Rattle.cfarm_fsck.specs.Telling.{lines_from}
 
 -- a beginning of more, behind what was printed before
-pub begun_behind : (front text : List ℕ) (before mid after : Option (List ℕ)) → Appends before mid front → IsBegun text mid after → IsBegun (front ++ text) before after
+begun_behind : (front text : List ℕ) (before mid after : Option (List ℕ)) → Appends before mid front → IsBegun text mid after → IsBegun (front ++ text) before after
 begun_behind front text before mid after first begun =
     let rest = begun.1.0 in
     (front ++ begun.0, (rest, append_assoc front begun.0 rest ∙ ap (λ l. front ++ l) begun.1.1), Appends-trans before mid after front begun.0 first begun.2)
+
+-- bytes are printed behind what was
+pub prints_behind : {W T : Type 0} (contents : W → Option (List ℕ)) (front text : List ℕ) (r : Result T FsckError) (before mid after : W)
+    → Appends (contents before) (contents mid) front → Prints contents text r mid after → Prints contents (front ++ text) r before after
+prints_behind contents front text (Ok x) before mid after first more = Appends-trans (contents before) (contents mid) (contents after) front text first more
+prints_behind contents front text (Err e) before mid after first begun = begun_behind front text (contents before) (contents mid) (contents after) first begun
 
 -- a beginning of a front is one of all
 pub begun_longer : (front text : List ℕ) (before after : Option (List ℕ)) → IsBegun front before after → IsBegun (front ++ text) before after

@@ -7,18 +7,17 @@ use Rattle.paxos_core_world.specs.Quorum.{Sizes}
 use Rattle.acceptor_log_form.specs.declared.record.Record.{Record}
 use Rattle.acceptor_log_form.specs.declared.errors.LogError.{LogError}
 use Rattle.acceptor_log_form.specs.declared.errors.LogError.TheVariants as log
-use Rattle.farm_nodes_stored.specs.Nodes.{AreMade}
 use Rattle.farm_nodes_functions.specs.RoomFault.{RoomFault}
 use Rattle.farm_nodes_seated.specs.Refused.{HasBadRecord, HasRefusedOffer, IsRoomUnopened}
 use Rattle.farm_nodes_seated.specs.declared.fault.OpenFault.{OpenFault}
 use Rattle.farm_nodes_seated.specs.declared.fault.OpenFault.TheVariants.{NoMemory, Journal, Refused, Room}
 use Rattle.cfarm_fsck_journals.specs.declared.files.NodeFiles.{NodeFiles}
-use Rattle.cfarm_fsck.specs.Folder.{IsJournalIn, IsNoOther, IsRefusedFile}
+use Rattle.cfarm_fsck.specs.Folder.{AreJournalsIn, IsNoOther, IsOfRefusedFile}
 use Rattle.cfarm_fsck.specs.Told.{IsFaultOf}
 
 module _ (q : Sizes) (digest : List ℕ) (program : Program Function) (files : List NodeFiles) where
   -- a journal is refused
-  pub journals_refused : (it : OpenFault) → ((node : ℕ) (fault : LogError) → it ≡ Journal node fault → IsRefusedFile q digest files node fault) → IsNoOther it
+  pub journals_refused : (it : OpenFault) → IsOfRefusedFile q digest files it → IsNoOther it
       → IsFaultOf q digest program files it
   journals_refused NoMemory journal others = tt
   journals_refused (Journal node fault) journal others = inl (journal node fault refl)
@@ -27,7 +26,7 @@ module _ (q : Sizes) (digest : List ℕ) (program : Program Function) (files : L
 
   -- what stands in them is, or a room
   pub rooms_refused : (functions : ℕ) (view journals : List (ℕ × Vec Record)) (it : OpenFault) → functions ≡ length program.functions → view ≡ journals
-      → AreMade (IsJournalIn q digest) files (length files) journals
+      → AreJournalsIn q digest files journals
       → ((node : ℕ) (fault : LogError) → it ≡ Journal node fault → (fault ≡ log.BadRecord) × HasBadRecord functions view node)
       → ((node : ℕ) → it ≡ Refused node → HasRefusedOffer functions view node)
       → ((room : ℕ) (fault : RoomFault) → it ≡ Room room fault → IsRoomUnopened functions view q room fault)

@@ -1,3 +1,4 @@
 pub mod Folder
+pub mod Printed
 pub mod Telling
 pub mod Told

@@ -20,9 +20,13 @@ journal_line node j = node_line node (length j.1.items) j.0
 abbrev pub node_lines : List (ℕ × Vec Record) → List ℕ
 node_lines journals = lines_from journal_line 0 journals
 
--- of the room of a function's pass, the first pass being 1
+-- what is told of the room of a function's pass behind the function's name, the first pass being 1
+abbrev pub rest_of_room : ℕ → List (Vec KeptPart) → ℕ → ℕ → List ℕ
+rest_of_room accept kept f pass = room_rest (pass + 1) accept (kept_of kept (4 * f + pass))
+
+-- of that room
 abbrev pub room_line : ℕ → List (Vec KeptPart) → List ℕ → ℕ → ℕ → List ℕ
-room_line accept kept name f pass = name ++ room_rest (pass + 1) accept (kept_of kept (4 * f + pass))
+room_line accept kept name f pass = name ++ rest_of_room accept kept f pass
 
 -- of those of this pass and the next
 abbrev pub two_lines : ℕ → List (Vec KeptPart) → List ℕ → ℕ → ℕ → List ℕ
@@ -36,7 +40,10 @@ four_lines accept kept name f = two_lines accept kept name f 0 ++ two_lines acce
 abbrev pub room_lines : ℕ → List (Vec KeptPart) → List (Named Function) → List ℕ
 room_lines accept kept functions = lines_from (λ f (x : Named Function). four_lines accept kept x.name f) 0 functions
 
+-- of all functions, and that all is well
+abbrev pub last_lines : ℕ → List (Vec KeptPart) → List (Named Function) → List ℕ
+last_lines accept kept functions = room_lines accept kept functions ++ codes "ok\n"
+
 -- of the whole folder
 abbrev pub folder_lines : ℕ → List (Named Function) → List (ℕ × Vec Record) → List (Vec KeptPart) → List ℕ
-folder_lines accept functions journals kept =
-    node_lines journals ++ (room_lines accept kept functions ++ codes "ok\n")
+folder_lines accept functions journals kept = node_lines journals ++ last_lines accept kept functions

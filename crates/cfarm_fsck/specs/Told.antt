@@ -1,5 +1,5 @@
 -- What is answered of a folder.
-use Rattle.std.specs.Prelude.{◌≡◌, ◌⊎◌, ℕ, ◌<◌, List, length, Option}
+use Rattle.std.specs.Prelude.{◌≡◌, ◌⊎◌, ℕ, ◌<◌, List, length, Option, Result, MatchResult}
 use Rattle.std.specs.Global.{Vec}
 use Rattle.std.specs.Io.KnownBytes.{Appends, Keeps}
 use Rattle.lang_base.specs.declared.program.Program.{Program}
@@ -19,13 +19,13 @@ use Rattle.cfarm_output.specs.Begun.{IsBegun}
 use Rattle.cfarm_fsck_journals.specs.declared.files.NodeFiles.{NodeFiles}
 use Rattle.cfarm_fsck.specs.declared.error.FsckError.{FsckError}
 use Rattle.cfarm_fsck.specs.declared.error.FsckError.TheVariants.{Disks, NoMemory, Write}
-use Rattle.cfarm_fsck.specs.Folder.{IsJournalIn, IsRefusedFile}
+use Rattle.cfarm_fsck.specs.Folder.{AreJournalsIn, IsRefusedFile}
 use Rattle.cfarm_fsck.specs.Telling.{folder_lines}
 
 module _ (q : Sizes) (digest : List ℕ) (program : Program Function) (files : List NodeFiles) where
   -- A farm opens over the folder: its journals list these records, which leave these kept parts, and those are settled.
   pub record Opens (journals : List (ℕ × Vec Record)) (kept : List (Vec KeptPart)) : Type 0 where
-    pub listed : AreMade (IsJournalIn q digest) files (length files) journals
+    pub listed : AreJournalsIn q digest files journals
     pub are_kept : AreMade (IsKeptPart (length program.functions) (length journals)) journals (length journals) kept
     pub settled : (f : ℕ) → f < length program.functions → AreSettled q kept f
 
@@ -41,7 +41,7 @@ module _ (q : Sizes) (digest : List ℕ) (program : Program Function) (files : L
 
   -- the journals are listed, and so it is of them
   abbrev pub OfListed : (List (ℕ × Vec Record) → Type 0) → Type 0
-  OfListed Holds = (journals : List (ℕ × Vec Record)) × AreMade (IsJournalIn q digest) files (length files) journals × Holds journals
+  OfListed Holds = (journals : List (ℕ × Vec Record)) × AreJournalsIn q digest files journals × Holds journals
 
   -- the fault with which a farm over the folder is refused: a journal's, or of its records; an offer's; or a room's
   abbrev pub IsFaultOf : OpenFault → Type 0
@@ -61,3 +61,7 @@ module _ (q : Sizes) (digest : List ℕ) (program : Program Function) (files : L
   IsNotTold (Disks fault) before after = IsFaultOf fault × Keeps before after
   IsNotTold NoMemory before after = IsToldInPart before after
   IsNotTold Write before after = IsToldInPart before after
+
+  -- the lines are told, or why not
+  abbrev pub IsToldOrRefused : {T : Type 0} → Result T FsckError → Option (List ℕ) → Option (List ℕ) → Type 0
+  IsToldOrRefused result before after = MatchResult result (λ _. IsTold before after) (λ e. IsNotTold e before after)

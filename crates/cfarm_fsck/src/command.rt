@@ -1,7 +1,7 @@
 //! The whole command.
 
-ghost use Rattle.std.specs.Prelude.{◌≡◌, ◌≤◌, length, OnOk, IfOk, IfErr};
-ghost use Rattle.cfarm_fsck.specs.Told.{IsFaultOf, IsNotTold, IsTold, Opens};
+ghost use Rattle.std.specs.Prelude.{◌≡◌, ◌≤◌, length, IfOk, IfErr};
+ghost use Rattle.cfarm_fsck.specs.Told.{IsToldOrRefused, IsFaultOf, Opens};
 
 use crate::error::FsckError;
 use crate::journals::journals_of;
@@ -69,10 +69,7 @@ pub fn fsck<H: Naming, R: Threads + Wait + Sync, W: Write>(
 ) -> Result<(), FsckError>
     requires size { length files.now ≡ quorums.nodes }
     requires functions { length program.now.functions ≤ 64 }
-    ensures told { OnOk result
-        (IsTold quorums digest.now program.now files.now (W.contents out.old) (W.contents out.new)) }
-    ensures refused { IfErr result (λ e.
-        IsNotTold quorums digest.now program.now files.now e (W.contents out.old) (W.contents out.new)) }
+    ensures { IsToldOrRefused quorums digest.now program.now files.now result (W.contents out.old) (W.contents out.new) }
 {
     let (journals, kept) = match opened::<H, R>(rt, alloc, hall, digest, program, quorums, files) {
         Ok(found) => found,

@@ -1,10 +1,8 @@
 //! The journals of all nodes.
 
-ghost use Rattle.std.specs.Prelude.{◌≡◌, ℕ, length, IfOk, IfErr};
-ghost use Rattle.acceptor_log_form.specs.declared.errors.LogError.{LogError};
+ghost use Rattle.std.specs.Prelude.{◌≡◌, length, IfOk, IfErr};
 ghost use Rattle.farm_nodes_disks.specs.Journals.{header_of};
-ghost use Rattle.farm_nodes_stored.specs.Nodes.{AreMade};
-ghost use Rattle.cfarm_fsck.specs.Folder.{IsJournalIn, IsRefusedFile, IsNoOther};
+ghost use Rattle.cfarm_fsck.specs.Folder.{AreJournalsIn, IsNoOther, IsOfRefusedFile};
 
 use acceptor_log::{Header, Record};
 use cfarm_fsck_journals::{NodeFiles, journal_of};
@@ -33,10 +31,8 @@ pub(crate) fn journals_of(
     files: &[NodeFiles],
 ) -> Result<Vec<(usize, Vec<Record>)>, OpenFault>
     requires { length files.now ≡ quorums.nodes }
-    ensures listed { IfOk result (λ found.
-        AreMade (IsJournalIn quorums digest.now) files.now (length files.now) found.items) }
-    ensures refused { IfErr result (λ it. (node : ℕ) (fault : LogError) → it ≡ OpenFault.Journal node fault →
-        IsRefusedFile quorums digest.now files.now node fault) }
+    ensures listed { IfOk result (λ found. AreJournalsIn quorums digest.now files.now found.items) }
+    ensures refused { IfErr result (IsOfRefusedFile quorums digest.now files.now) }
     ensures others { IfErr result IsNoOther }
 {
     let count = quorums.nodes();

@@ -1,12 +1,9 @@
 //! Printing what is told of a folder. Where the writer or memory fails a beginning of it was printed.
 
-ghost use Rattle.std.specs.Prelude.{◌≡◌, ◌⊎◌, ◌≤◌, ◌<◌, ◌+◌, ◌*◌, ◌++◌, length, codes, OnOk, OnErr, IfErr, IfOk};
-ghost use Rattle.std.specs.Io.KnownBytes.{Appends};
+ghost use Rattle.std.specs.Prelude.{◌≡◌, ◌⊎◌, ◌≤◌, ◌<◌, ◌++◌, length, codes, IfErr, IfOk};
 ghost use Rattle.std.specs.String.{string_bytes};
-ghost use Rattle.cfarm_output.specs.Begun.{IsBegun};
-ghost use Rattle.cfarm_fsck_lines.specs.Lines.{room_rest};
-ghost use Rattle.farm_nodes_functions.specs.Kept.{kept_of};
-ghost use Rattle.cfarm_fsck.specs.Telling.{folder_lines, four_lines, journal_line, node_lines, room_line, room_lines, two_lines};
+ghost use Rattle.cfarm_fsck.specs.Printed.{Prints};
+ghost use Rattle.cfarm_fsck.specs.Telling.{folder_lines, four_lines, journal_line, last_lines, node_lines, rest_of_room, room_line, room_lines, two_lines};
 
 use crate::error::FsckError;
 use crate::parts::room_parts;
@@ -21,8 +18,7 @@ use std::io::Write;
 
 /// Prints bytes.
 fn print_bytes<W: Write>(bytes: &[u8], out: &mut W) -> Result<(), FsckError>
-    ensures ok { OnOk result (Appends (W.contents out.old) (W.contents out.new) bytes.now) }
-    ensures begun { OnErr result (IsBegun bytes.now (W.contents out.old) (W.contents out.new)) }
+    ensures printed { Prints W.contents bytes.now result out.old out.new }
     ensures err { IfErr result (λ e. (e ≡ FsckError.NoMemory) ⊎ (e ≡ FsckError.Write)) }
 {
     match print_all(out, bytes) {
@@ -38,10 +34,7 @@ fn print_node<W: Write>(
     journal: &(usize, Vec<Record>),
     out: &mut W,
 ) -> Result<(), FsckError>
-    ensures ok { OnOk result (Appends (W.contents out.old) (W.contents out.new)
-        (journal_line node journal.now)) }
-    ensures begun { OnErr result (IsBegun (journal_line node journal.now)
-        (W.contents out.old) (W.contents out.new)) }
+    ensures printed { Prints W.contents (journal_line node journal.now) result out.old out.new }
     ensures err { IfErr result (λ e. (e ≡ FsckError.NoMemory) ⊎ (e ≡ FsckError.Write)) }
 {
     match node_line(alloc, node, journal.1.len(), journal.0) {
@@ -56,8 +49,7 @@ fn print_nodes<W: Write>(
     journals: &[(usize, Vec<Record>)],
     out: &mut W,
 ) -> Result<(), FsckError>
-    ensures ok { OnOk result (Appends (W.contents out.old) (W.contents out.new) (node_lines journals.now)) }
-    ensures begun { OnErr result (IsBegun (node_lines journals.now) (W.contents out.old) (W.contents out.new)) }
+    ensures printed { Prints W.contents (node_lines journals.now) result out.old out.new }
     ensures err { IfErr result (λ e. (e ≡ FsckError.NoMemory) ⊎ (e ≡ FsckError.Write)) }
 {
     for node in 0..journals.len() {
@@ -71,8 +63,7 @@ fn print_nodes<W: Write>(
 
 /// Prints bytes, and then others.
 fn print_both<W: Write>(first: &[u8], second: &[u8], out: &mut W) -> Result<(), FsckError>
-    ensures ok { OnOk result (Appends (W.contents out.old) (W.contents out.new) (first.now ++ second.now)) }
-    ensures begun { OnErr result (IsBegun (first.now ++ second.now) (W.contents out.old) (W.contents out.new)) }
+    ensures printed { Prints W.contents (first.now ++ second.now) result out.old out.new }
     ensures err { IfErr result (λ e. (e ≡ FsckError.NoMemory) ⊎ (e ≡ FsckError.Write)) }
 {
     match print_bytes(first, out) {
@@ -91,8 +82,7 @@ fn room_text(
 ) -> Result<String, NoMemory>
     requires function { function < 64 }
     requires pass { pass < 4 }
-    ensures { IfOk result (λ text.
-        string_bytes text ≡ room_rest (pass + 1) accept (kept_of kept.now (4 * function + pass))) }
+    ensures { IfOk result (λ text. string_bytes text ≡ rest_of_room accept kept.now function pass) }
 {
     match room_parts(alloc, kept, 4 * function + u16::from(pass)) {
         Ok(parts) => room_rest(alloc, pass + 1, accept, &parts),
@@ -112,10 +102,7 @@ fn print_room<W: Write>(
 ) -> Result<(), FsckError>
     requires function { function < 64 }
     requires pass { pass < 4 }
-    ensures ok { OnOk result (Appends (W.contents out.old) (W.contents out.new)
-        (room_line accept kept.now name.now function pass)) }
-    ensures begun { OnErr result (IsBegun (room_line accept kept.now name.now function pass)
-        (W.contents out.old) (W.contents out.new)) }
+    ensures printed { Prints W.contents (room_line accept kept.now name.now function pass) result out.old out.new }
     ensures err { IfErr result (λ e. (e ≡ FsckError.NoMemory) ⊎ (e ≡ FsckError.Write)) }
 {
     match room_text(alloc, function, pass, accept, kept) {
@@ -136,10 +123,7 @@ fn print_two<W: Write>(
 ) -> Result<(), FsckError>
     requires function { function < 64 }
     requires pass { pass < 3 }
-    ensures ok { OnOk result (Appends (W.contents out.old) (W.contents out.new)
-        (two_lines accept kept.now name.now function pass)) }
-    ensures begun { OnErr result (IsBegun (two_lines accept kept.now name.now function pass)
-        (W.contents out.old) (W.contents out.new)) }
+    ensures printed { Prints W.contents (two_lines accept kept.now name.now function pass) result out.old out.new }
     ensures err { IfErr result (λ e. (e ≡ FsckError.NoMemory) ⊎ (e ≡ FsckError.Write)) }
 {
     match print_room(alloc, name, function, pass, accept, kept, out) {
@@ -158,10 +142,7 @@ fn print_four<W: Write>(
     out: &mut W,
 ) -> Result<(), FsckError>
     requires function { function < 64 }
-    ensures ok { OnOk result (Appends (W.contents out.old) (W.contents out.new)
-        (four_lines accept kept.now name.now function)) }
-    ensures begun { OnErr result (IsBegun (four_lines accept kept.now name.now function)
-        (W.contents out.old) (W.contents out.new)) }
+    ensures printed { Prints W.contents (four_lines accept kept.now name.now function) result out.old out.new }
     ensures err { IfErr result (λ e. (e ≡ FsckError.NoMemory) ⊎ (e ≡ FsckError.Write)) }
 {
     match print_two(alloc, name, function, 0, accept, kept, out) {
@@ -180,10 +161,7 @@ fn print_function<W: Write>(
     out: &mut W,
 ) -> Result<(), FsckError>
     requires { number < 64 }
-    ensures ok { OnOk result (Appends (W.contents out.old) (W.contents out.new)
-        (four_lines accept kept.now function.now.name number)) }
-    ensures begun { OnErr result (IsBegun (four_lines accept kept.now function.now.name number)
-        (W.contents out.old) (W.contents out.new)) }
+    ensures printed { Prints W.contents (four_lines accept kept.now function.now.name number) result out.old out.new }
     ensures err { IfErr result (λ e. (e ≡ FsckError.NoMemory) ⊎ (e ≡ FsckError.Write)) }
 {
     print_four(
@@ -205,10 +183,7 @@ fn print_rooms<W: Write>(
     out: &mut W,
 ) -> Result<(), FsckError>
     requires { length functions.now ≤ 64 }
-    ensures ok { OnOk result (Appends (W.contents out.old) (W.contents out.new)
-        (room_lines accept kept.now functions.now)) }
-    ensures begun { OnErr result (IsBegun (room_lines accept kept.now functions.now)
-        (W.contents out.old) (W.contents out.new)) }
+    ensures printed { Prints W.contents (room_lines accept kept.now functions.now) result out.old out.new }
     ensures err { IfErr result (λ e. (e ≡ FsckError.NoMemory) ⊎ (e ≡ FsckError.Write)) }
 {
     for number in 0..functions.len() {
@@ -222,8 +197,7 @@ fn print_rooms<W: Write>(
 
 /// Prints that all is well, and flushes.
 fn print_ok<W: Write>(out: &mut W) -> Result<(), FsckError>
-    ensures ok { OnOk result (Appends (W.contents out.old) (W.contents out.new) (codes "ok\n")) }
-    ensures begun { OnErr result (IsBegun (codes "ok\n") (W.contents out.old) (W.contents out.new)) }
+    ensures printed { Prints W.contents (codes "ok\n") result out.old out.new }
     ensures err { IfErr result (λ e. (e ≡ FsckError.NoMemory) ⊎ (e ≡ FsckError.Write)) }
 {
     match print_whole(out, b"ok\n") {
@@ -241,10 +215,7 @@ fn print_rest<W: Write>(
     out: &mut W,
 ) -> Result<(), FsckError>
     requires { length functions.now ≤ 64 }
-    ensures ok { OnOk result (Appends (W.contents out.old) (W.contents out.new)
-        (room_lines accept kept.now functions.now ++ codes "ok\n")) }
-    ensures begun { OnErr result (IsBegun (room_lines accept kept.now functions.now ++ codes "ok\n")
-        (W.contents out.old) (W.contents out.new)) }
+    ensures printed { Prints W.contents (last_lines accept kept.now functions.now) result out.old out.new }
     ensures err { IfErr result (λ e. (e ≡ FsckError.NoMemory) ⊎ (e ≡ FsckError.Write)) }
 {
     match print_rooms(alloc, functions, accept, kept, out) {
@@ -263,10 +234,7 @@ pub(crate) fn print_folder<W: Write>(
     out: &mut W,
 ) -> Result<(), FsckError>
     requires { length functions.now ≤ 64 }
-    ensures ok { OnOk result (Appends (W.contents out.old) (W.contents out.new)
-        (folder_lines accept functions.now journals.now kept.now)) }
-    ensures begun { OnErr result (IsBegun (folder_lines accept functions.now journals.now kept.now)
-        (W.contents out.old) (W.contents out.new)) }
+    ensures printed { Prints W.contents (folder_lines accept functions.now journals.now kept.now) result out.old out.new }
     ensures err { IfErr result (λ e. (e ≡ FsckError.NoMemory) ⊎ (e ≡ FsckError.Write)) }
 {
     match print_nodes(alloc, journals, out) {

@@ -1,5 +1,5 @@
 -- The vote that was chosen in a room, as the last votes of its nodes show it (Lamport, Paxos Made Simple, section 2).
-use Rattle.std.specs.Prelude.{ℕ, zero, suc, nat_le, Bool, false, ◌==◌, if◌then◌else◌, List, [], ◌∷◌, Option, Some, None}
+use Rattle.std.specs.Prelude.{◌≡◌, ℕ, zero, suc, ◌<◌, ◌≤◌, nat_le, Bool, false, ◌==◌, if◌then◌else◌, List, [], ◌∷◌, Option, Some, None}
 use Rattle.paxos_core_world.specs.declared.vote.Vote.{Vote}
 use Rattle.paxos_core_world.specs.KeptPart.{KeptPart}
 
@@ -25,3 +25,11 @@ chosen_from accept all (k ∷ ks) = if has_quorum accept all k.accepted then k.a
 -- the first node's last vote under whose ballot the last votes of an accept quorum are, where quorums have so many nodes
 abbrev pub chosen_in : ℕ → List KeptPart → Option Vote
 chosen_in accept nodes = chosen_from accept nodes nodes
+
+-- the last votes of an accept quorum are under the ballot of what is chosen
+abbrev pub ChosenHasQuorum : ℕ → List KeptPart → Type 0
+ChosenHasQuorum accept nodes = (x : Vote) → chosen_in accept nodes ≡ Some x → accept ≤ votes_under x.ballot nodes
+
+-- where nothing is chosen those of fewer nodes are under each ballot
+abbrev pub OpenHasNoQuorum : ℕ → List KeptPart → Type 0
+OpenHasNoQuorum accept nodes = chosen_in accept nodes ≡ None → (b : ℕ) → votes_under b nodes < accept

@@ -17,9 +17,17 @@ use Rattle.cfarm_log.specs.Forms.{header_size_of, version_number, IsRefusedAs, O
 use Rattle.cfarm_log.specs.Heads.{IsHead}
 use Rattle.cfarm_log.specs.Fronts.{IsCut, IsFront}
 
--- the line of the header, and those of records
+-- the line of the header
+abbrev pub header_line : Version → Header → List ℕ
+header_line v h = head_line (version_number v) h
+
+-- that, and the lines of records
 abbrev pub lines_to : Version → Header → List Record → List ℕ
-lines_to v h rs = head_line (version_number v) h ++ record_lines rs
+lines_to v h rs = header_line v h ++ record_lines rs
+
+-- a beginning of those was printed
+abbrev pub AreLinesBegun : Version → Header → List Record → Option (List ℕ) → Option (List ℕ) → Type 0
+AreLinesBegun v h rs before after = IsBegun (lines_to v h rs) before after
 
 -- where the gate behind these records stands
 abbrev pub gate_behind : Version → Header → List Record → ℕ

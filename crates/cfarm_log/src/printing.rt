@@ -3,9 +3,8 @@
 ghost use Rattle.std.specs.Prelude.{◌≡◌, ◌⊎◌, OnOk, OnErr, IfErr};
 ghost use Rattle.std.specs.Io.KnownBytes.{Appends};
 ghost use Rattle.cfarm_output.specs.Begun.{IsBegun};
-ghost use Rattle.cfarm_log_lines.specs.Lines.{end_line, record_line, record_lines, head_line};
-ghost use Rattle.cfarm_log.specs.Forms.{version_number};
-ghost use Rattle.cfarm_log.specs.Listing.{lines_to};
+ghost use Rattle.cfarm_log_lines.specs.Lines.{end_line, record_line, record_lines};
+ghost use Rattle.cfarm_log.specs.Listing.{AreLinesBegun, header_line, lines_to};
 
 use crate::error::ListingError;
 use crate::version::Version;
@@ -22,10 +21,8 @@ fn print_head<W: Write>(
     header: &Header,
     out: &mut W,
 ) -> Result<(), ListingError>
-    ensures ok { OnOk result
-        (Appends (W.contents out.old) (W.contents out.new) (head_line (version_number version) header.now)) }
-    ensures begun { OnErr result
-        (IsBegun (head_line (version_number version) header.now) (W.contents out.old) (W.contents out.new)) }
+    ensures ok { OnOk result (Appends (W.contents out.old) (W.contents out.new) (header_line version header.now)) }
+    ensures begun { OnErr result (IsBegun (header_line version header.now) (W.contents out.old) (W.contents out.new)) }
     ensures err { IfErr result (λ e. (e ≡ ListingError.NoMemory) ⊎ (e ≡ ListingError.Write)) }
 {
     match head_line(alloc, version.number(), header) {
@@ -82,7 +79,7 @@ pub(crate) fn print_front<W: Write>(
     ensures ok { OnOk result
         (Appends (W.contents out.old) (W.contents out.new) (lines_to version header.now records.now)) }
     ensures begun { OnErr result
-        (IsBegun (lines_to version header.now records.now) (W.contents out.old) (W.contents out.new)) }
+        (AreLinesBegun version header.now records.now (W.contents out.old) (W.contents out.new)) }
     ensures err { IfErr result (λ e. (e ≡ ListingError.NoMemory) ⊎ (e ≡ ListingError.Write)) }
 {
     match print_head(alloc, version, header, out) {

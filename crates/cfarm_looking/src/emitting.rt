@@ -1,6 +1,6 @@
 ghost use Rattle.std.specs.Prelude.{◌≤◌};
 ghost use Rattle.cfarm_looking.specs.Emitting.{Formed};
-ghost use Rattle.cfarm_telling.specs.Telling.{Answer, IsTold};
+ghost use Rattle.cfarm_telling.specs.Reading.{Says};
 
 use cfarm_emit::{Emitted, emit};
 use cfarm_output::{ErrorLines, Paced};
@@ -18,8 +18,7 @@ pub fn emit_form<W: Write, E: ErrorLines>(
     out: &mut Paced<W>,
     err: &mut E,
 ) -> u8
-    ensures does { (answer : Answer) × Formed text.now emitted seed answer (W.contents out.old.taker) (W.contents out.new.taker)
-        × IsTold answer result (E.contents err.old) (E.contents err.new) }
+    ensures does { Says W.contents E.contents (Formed text.now emitted seed) result out.old out.new err.old err.new }
     ensures table { result ≤ 7 }
 {
     match emit(alloc, text, emitted, seed, out) {

@@ -1,7 +1,6 @@
 ghost use Rattle.std.specs.Prelude.{◌≤◌};
 ghost use Rattle.cfarm_looking.specs.Judging.{Accepted, Judged};
-ghost use Rattle.cfarm_telling.specs.Reading.{OnFile};
-ghost use Rattle.cfarm_telling.specs.Telling.{Answer, IsTold};
+ghost use Rattle.cfarm_telling.specs.Reading.{Says};
 
 use cfarm_files::Files;
 use cfarm_judge::{JudgeLine, judge};
@@ -21,8 +20,8 @@ fn judge_bytes<W: Write, E: ErrorLines>(
     out: &mut Paced<W>,
     err: &mut E,
 ) -> u8
-    ensures does { (answer : Answer) × Accepted name.now path.now text.now offer.now answer (W.contents out.old.taker)
-        (W.contents out.new.taker) × IsTold answer result (E.contents err.old) (E.contents err.new) }
+    ensures does { Says W.contents E.contents (Accepted name.now path.now text.now offer.now)
+        result out.old out.new err.old err.new }
     ensures table { result ≤ 7 }
 {
     match judge(alloc, text, name.as_bytes(), offer, out) {
@@ -44,8 +43,8 @@ pub fn judge_offer<F: Files, W: Write, E: ErrorLines>(
     out: &mut Paced<W>,
     err: &mut E,
 ) -> u8
-    ensures does { (answer : Answer) × Judged (F.known files.now) name.now path.now text.now answer (W.contents out.old.taker)
-        (W.contents out.new.taker) × IsTold answer result (E.contents err.old) (E.contents err.new) }
+    ensures does { Says W.contents E.contents (Judged (F.known files.now) name.now path.now text.now)
+        result out.old out.new err.old err.new }
     ensures table { result ≤ 7 }
 {
     match files.read(path) {

@@ -1,6 +1,6 @@
 ghost use Rattle.std.specs.Prelude.{◌≤◌};
 ghost use Rattle.cfarm_looking.specs.Listing.{Listed};
-ghost use Rattle.cfarm_telling.specs.Telling.{Answer, IsTold};
+ghost use Rattle.cfarm_telling.specs.Reading.{Says};
 
 use cfarm_log::list_journal;
 use cfarm_output::{ErrorLines, Paced};
@@ -16,8 +16,7 @@ pub fn list_records<W: Write, E: ErrorLines>(
     out: &mut Paced<W>,
     err: &mut E,
 ) -> u8
-    ensures does { (answer : Answer) × Listed bytes.now answer (W.contents out.old.taker) (W.contents out.new.taker)
-        × IsTold answer result (E.contents err.old) (E.contents err.new) }
+    ensures does { Says W.contents E.contents (Listed bytes.now) result out.old out.new err.old err.new }
     ensures table { result ≤ 7 }
 {
     match list_journal(alloc, bytes, out) {

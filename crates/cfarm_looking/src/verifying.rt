@@ -1,7 +1,6 @@
 ghost use Rattle.std.specs.Prelude.{◌≤◌};
 ghost use Rattle.cfarm_looking.specs.Verifying.{Proven, Verified};
-ghost use Rattle.cfarm_telling.specs.Reading.{OnFile};
-ghost use Rattle.cfarm_telling.specs.Telling.{Answer, IsTold};
+ghost use Rattle.cfarm_telling.specs.Reading.{Says, OnFile};
 
 use cfarm_files::Files;
 use cfarm_output::{ErrorLines, Paced};
@@ -24,8 +23,8 @@ fn verify_bytes<R: Threads + Sync, W: Write, E: ErrorLines>(
     out: &mut Paced<W>,
     err: &mut E,
 ) -> u8
-    ensures does { (answer : Answer) × Proven program_path.now path.now text.now program.now bundle.now answer (W.contents out.old.taker)
-        (W.contents out.new.taker) × IsTold answer result (E.contents err.old) (E.contents err.new) }
+    ensures does { Says W.contents E.contents (Proven program_path.now path.now text.now program.now bundle.now)
+        result out.old out.new err.old err.new }
     ensures table { result ≤ 7 }
 {
     match verify(rt, alloc, text, program, bundle, out) {
@@ -54,8 +53,8 @@ fn verify_with<R: Threads + Sync, F: Files, W: Write, E: ErrorLines>(
     out: &mut Paced<W>,
     err: &mut E,
 ) -> u8
-    ensures does { (answer : Answer) × OnFile (F.known files.now) path.now (Proven program_path.now path.now text.now program.now) answer
-        (W.contents out.old.taker) (W.contents out.new.taker) × IsTold answer result (E.contents err.old) (E.contents err.new) }
+    ensures does { Says W.contents E.contents (OnFile (F.known files.now) path.now (Proven program_path.now path.now text.now program.now))
+        result out.old out.new err.old err.new }
     ensures table { result ≤ 7 }
 {
     match files.read(path) {
@@ -85,8 +84,8 @@ pub fn verify_files<R: Threads + Sync, F: Files, W: Write, E: ErrorLines>(
     out: &mut Paced<W>,
     err: &mut E,
 ) -> u8
-    ensures does { (answer : Answer) × Verified (F.known files.now) program_path.now path.now text.now answer (W.contents out.old.taker)
-        (W.contents out.new.taker) × IsTold answer result (E.contents err.old) (E.contents err.new) }
+    ensures does { Says W.contents E.contents (Verified (F.known files.now) program_path.now path.now text.now)
+        result out.old out.new err.old err.new }
     ensures table { result ≤ 7 }
 {
     match files.read(program_path) {

@@ -7,6 +7,7 @@ use Rattle.durable_model.specs.declared.disk.Disk as disks
 use Rattle.durable_pair.specs.declared.pair.Pair as pairs
 use Rattle.rooms_hall.specs.declared.hall.Naming as naming
 use Rattle.cfarm_output.specs.Errors.{ErrorsHeld, HasFailed}
+use Rattle.cfarm_output.specs.declared.paced.Paced.{Paced}
 use Rattle.cfarm_files.specs.Placing.{Placed, Keeps}
 use Rattle.cfarm_files.specs.declared.fault.FileFault.{FileFault}
 use Rattle.cfarm_command_parts.specs.declared.choices.Choices.{Choices}
@@ -28,6 +29,21 @@ IsHelped status error_before error_after =
 abbrev pub IsMistake : ℕ → (error_after : ErrorsHeld) → Type 0
 IsMistake status error_after = (status ≡ 2) ⊎ ((status ≡ 4) × HasFailed error_after)
 
+module _ {W E : Type 0} (contents : W → Option (List ℕ)) (errors : E → ErrorsHeld) (kind : ErrorKind) (status : ℕ) (before after : Paced W)
+    (errors_before errors_after : E) where
+  -- where memory was refused that is told, and nothing printed
+  abbrev pub TellsMemory : Type 0
+  TellsMemory = kind ≡ OutOfMemory → (contents after.taker ≡ contents before.taker) × IsTold no_memory status (errors errors_before) (errors errors_after)
+
+  -- where the words are wrong that is told, and nothing printed
+  abbrev pub TellsMistake : Type 0
+  TellsMistake = kind ≢ OutOfMemory → kind ≢ DisplayHelp → kind ≢ DisplayVersion →
+      (contents after.taker ≡ contents before.taker) × IsMistake status (errors errors_after)
+
+-- help or the version is asked for
+abbrev pub IsHelp : ErrorKind → Type 0
+IsHelp kind = (kind ≡ DisplayHelp) ⊎ (kind ≡ DisplayVersion)
+
 -- The words are refused, by a kind that is one of theirs or since memory was. Words that can be taken are refused where
 -- memory is, alone. A mistake is told with the status 2, and help that is asked for is printed with 0.
 pub record DoesRefused (choices : Choices) (words : List (List ℕ)) (status : ℕ) (before after : Option (List ℕ)) (error_before error_after : ErrorsHeld) : Type 0 where
@@ -36,8 +52,7 @@ pub record DoesRefused (choices : Choices) (words : List (List ℕ)) (status : �
   pub only : takes (farm choices) words ≡ true → kind ≡ OutOfMemory
   pub memory : kind ≡ OutOfMemory → (after ≡ before) × IsTold no_memory status error_before error_after
   pub mistake : kind ≢ OutOfMemory → kind ≢ DisplayHelp → kind ≢ DisplayVersion → (after ≡ before) × IsMistake status error_after
-  pub help : (kind ≡ DisplayHelp) ⊎ (kind ≡ DisplayVersion) →
-      IsHelped status error_before error_after
+  pub help : IsHelp kind → IsHelped status error_before error_after
 
 module _ {D : Type 0} (disk : disks.Ghosts D) (pair : pairs.Ghosts D) {H : Type 0} (h : naming.Ghosts H) (may_give : List ℕ → List ℕ → D → Type 0)
     (placed now_placed : Option (List Placed)) (is_seen : Bool) (choices : Choices) where

@@ -1,9 +1,9 @@
 //! The whole program.
 
-ghost use Rattle.std.specs.Prelude.{◌≡◌, ◌≢◌, ◌≤◌, ◌⊎◌, map, string_bytes};
+ghost use Rattle.std.specs.Prelude.{◌≤◌, map, string_bytes};
 ghost use Rattle.clap.specs.Words.{kind_of};
-ghost use Rattle.cfarm_telling.specs.Telling.{IsTold, no_memory};
-ghost use Rattle.cfarm_program.specs.Runs.{IsHelped, IsMistake, Runs, no_text};
+ghost use Rattle.cfarm_telling.specs.Telling.{IsTold};
+ghost use Rattle.cfarm_program.specs.Runs.{IsHelp, IsHelped, IsMistake, Runs, TellsMemory, TellsMistake, no_text};
 ghost use Rattle.cfarm_command_parts.specs.Words.{AreChoices};
 ghost use Rattle.cfarm_command_parts.specs.declared.choices.Choices.{Choices};
 
@@ -47,13 +47,9 @@ fn print_help<W: Write, E: ErrorLines>(fault: &clap::Error, out: &mut Paced<W>, 
 
 /// Tells why the words ask for nothing that can be done, or prints the help that they ask for.
 fn tell_refused<W: Write, E: ErrorLines>(fault: &clap::Error, out: &mut Paced<W>, err: &mut E) -> u8
-    ensures memory { kind_of fault.now ≡ ErrorKind.OutOfMemory → (W.contents out.new.taker ≡ W.contents out.old.taker)
-        × IsTold no_memory result (E.contents err.old) (E.contents err.new) }
-    ensures mistake { kind_of fault.now ≢ ErrorKind.OutOfMemory → kind_of fault.now ≢ ErrorKind.DisplayHelp →
-        kind_of fault.now ≢ ErrorKind.DisplayVersion → (W.contents out.new.taker ≡ W.contents out.old.taker)
-        × IsMistake result (E.contents err.new) }
-    ensures help { (kind_of fault.now ≡ ErrorKind.DisplayHelp) ⊎ (kind_of fault.now ≡ ErrorKind.DisplayVersion) →
-        IsHelped result (E.contents err.old) (E.contents err.new) }
+    ensures memory { TellsMemory W.contents E.contents (kind_of fault.now) result out.old out.new err.old err.new }
+    ensures mistake { TellsMistake W.contents E.contents (kind_of fault.now) result out.old out.new err.old err.new }
+    ensures help { IsHelp (kind_of fault.now) → IsHelped result (E.contents err.old) (E.contents err.new) }
     ensures table { result ≤ 7 }
 {
     match fault.kind() {

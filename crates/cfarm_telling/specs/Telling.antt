@@ -31,6 +31,10 @@ IsToldBy status (Some line) result before after =
 abbrev pub IsTold : Answer → ℕ → ErrorsHeld → ErrorsHeld → Type 0
 IsTold answer result before after = IsToldBy answer.status answer.line result before after
 
+-- the line, where its text is known, with this status
+abbrev pub IsLineTold : Option (List ℕ) → ℕ → ℕ → ErrorsHeld → ErrorsHeld → Type 0
+IsLineTold line status result before after = (text : List ℕ) → line ≡ Some text → IsTold (told status text) result before after
+
 -- The same with bytes in front of the line and behind its end.
 abbrev pub IsToldAmong : (front behind : List ℕ) → ℕ → List ℕ → ℕ → ErrorsHeld → ErrorsHeld → Type 0
 IsToldAmong front behind status line result before after =
@@ -44,6 +48,11 @@ IsShown behind status result before after = ((result ≡ status) × Tells before
 abbrev pub break_where : Bool → List ℕ
 break_where true = 10 ∷ []
 break_where false = []
+
+-- a line, where its text is known, behind the end of the output's line where it stands amid one, and in front of these bytes
+abbrev pub IsLineAmong : (is_amid : Bool) (behind : List ℕ) → Option (List ℕ) → ℕ → ℕ → ErrorsHeld → ErrorsHeld → Type 0
+IsLineAmong is_amid behind line status result before after =
+    (text : List ℕ) → line ≡ Some text → IsToldAmong (break_where is_amid) behind status text result before after
 
 -- What a user is shown round a line: in front of it an end of line, where the output does not end with one, and behind it an explanation. Where
 -- standard error is no terminal there is neither.

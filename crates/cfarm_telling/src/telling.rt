@@ -1,7 +1,7 @@
 //! Lines on standard error.
 
-ghost use Rattle.std.specs.Prelude.{◌≡◌, ◌≤◌, ◌∷◌, ℕ, List, [], Some};
-ghost use Rattle.cfarm_telling.specs.Telling.{IsShown, IsTold, IsToldAmong, break_where, no_memory, told};
+ghost use Rattle.std.specs.Prelude.{◌≤◌, true, false};
+ghost use Rattle.cfarm_telling.specs.Telling.{IsLineAmong, IsLineTold, IsShown, IsTold, no_memory};
 
 use cfarm_output::{ErrorLines, Unwritten};
 use std::fmt;
@@ -11,8 +11,7 @@ pub const UNWRITTEN: u8 = 4;
 
 /// Tells the line and flushes it, and gives the status; another where the line cannot be written.
 pub fn tell<E: ErrorLines, D: fmt::Display + Drop>(err: &mut E, line: D, status: u8) -> u8
-    ensures told { (text : List ℕ) → D.output line ≡ Some text →
-        IsTold (told status text) result (E.contents err.old) (E.contents err.new) }
+    ensures told { IsLineTold (D.output line) status result (E.contents err.old) (E.contents err.new) }
     ensures table { status ≤ 7 → result ≤ 7 }
 {
     match err.line(line) {
@@ -39,8 +38,7 @@ fn tell_line<E: ErrorLines, D: fmt::Display + Drop>(
     status: u8,
     behind: &str,
 ) -> u8
-    ensures told { (text : List ℕ) → D.output line ≡ Some text →
-        IsToldAmong [] behind.now status text result (E.contents err.old) (E.contents err.new) }
+    ensures told { IsLineAmong false behind.now (D.output line) status result (E.contents err.old) (E.contents err.new) }
     ensures table { status ≤ 7 → result ≤ 7 }
 {
     match err.line(line) {
@@ -57,8 +55,7 @@ fn tell_below<E: ErrorLines, D: fmt::Display + Drop>(
     status: u8,
     behind: &str,
 ) -> u8
-    ensures told { (text : List ℕ) → D.output line ≡ Some text →
-        IsToldAmong (10 ∷ []) behind.now status text result (E.contents err.old) (E.contents err.new) }
+    ensures told { IsLineAmong true behind.now (D.output line) status result (E.contents err.old) (E.contents err.new) }
     ensures table { status ≤ 7 → result ≤ 7 }
 {
     match err.text("\n") {
@@ -76,8 +73,7 @@ pub fn tell_among<E: ErrorLines, D: fmt::Display + Drop>(
     status: u8,
     behind: &str,
 ) -> u8
-    ensures told { (text : List ℕ) → D.output line ≡ Some text →
-        IsToldAmong (break_where is_amid) behind.now status text result (E.contents err.old) (E.contents err.new) }
+    ensures told { IsLineAmong is_amid behind.now (D.output line) status result (E.contents err.old) (E.contents err.new) }
     ensures table { status ≤ 7 → result ≤ 7 }
 {
     match is_amid {

@@ -143,24 +143,43 @@ fn refusal_told(alloc: Global, fault: LinkError) -> Option<String> {
     }
 }
 
-/// What is told of the program that is linked.
+/// What a linked program does.
+fn run_told(alloc: Global, made: &Program<linear_language::Function>) -> Option<String> {
+    let told = ran(alloc, made).ok()?;
+    let output = String::from_utf8_lossy(alloc, told.output.as_slice()).ok()?;
+    let closing = told.closing;
+    format!(in alloc; "{closing} [{output}]").ok()
+}
+
+/// What is told of the program that is linked with these beside its functions.
+fn link_told(alloc: Global, program: &CProgram, named: &[Named<'_>]) -> Option<String> {
+    match link(alloc, program, named) {
+        Ok(made) => run_told(alloc, &made),
+        Err(fault) => refusal_told(alloc, fault),
+    }
+}
+
+/// The same of a program, with its names.
+fn program_told(
+    alloc: Global,
+    program: &CProgram,
+    lowered: &Program<cminor_language::Function>,
+    names: Names,
+    beside: Beside,
+) -> Option<String> {
+    let offers = match beside {
+        Beside::Nothing => Vec::new(alloc),
+        _ => all_baselines(alloc, program)?,
+    };
+    let named = named_of(alloc, lowered, offers.as_slice(), names, beside)?;
+    link_told(alloc, program, named.as_slice())
+}
+
+/// The same of a text.
 fn linked_told(alloc: Global, text: &[u8], names: Names, beside: Beside) -> Option<String> {
     let program = accept(alloc, text).ok()?;
     let lowered = lower(alloc, &program).ok()?;
-    let offers = match beside {
-        Beside::Nothing => Vec::new(alloc),
-        _ => all_baselines(alloc, &program)?,
-    };
-    let named = named_of(alloc, &lowered, offers.as_slice(), names, beside)?;
-    match link(alloc, &program, named.as_slice()) {
-        Ok(made) => {
-            let told = ran(alloc, &made).ok()?;
-            let output = String::from_utf8_lossy(alloc, told.output.as_slice()).ok()?;
-            let closing = told.closing;
-            format!(in alloc; "{closing} [{output}]").ok()
-        }
-        Err(fault) => refusal_told(alloc, fault),
-    }
+    program_told(alloc, &program, &lowered, names, beside)
 }
 
 /// A text with a second function of so many statements.

@@ -71,30 +71,79 @@ fn difference(
     compiled_difference(alloc, &row, seed, tally)
 }
 
-/// What is told of the RTL program of a text, or of a linked program of it, where it is not what its row says.
+/// What was told by a program of this kind, where it is not what its row says.
+fn told_otherwise(
+    alloc: Global,
+    row: &Row,
+    kind: &str,
+    told: Told,
+) -> Result<Option<String>, AllocError> {
+    if is_told(&told, row) {
+        return Ok(None);
+    }
+    Ok(Some(format!(in alloc; "{kind}: {}", told.closing)?))
+}
+
+/// What is told of the RTL program of an accepted text, where it is not what its row says.
+fn translated_difference(
+    alloc: Global,
+    program: &CProgram,
+    row: &Row,
+) -> Result<Option<String>, AllocError> {
+    let told = translated(alloc, program)?;
+    told_otherwise(alloc, row, "translated", told)
+}
+
+/// The same of the program that is linked of the baselines.
+fn linked_difference(
+    alloc: Global,
+    program: &CProgram,
+    row: &Row,
+) -> Result<Option<String>, AllocError> {
+    let told = linked(alloc, program, &mut Maker::baselines())?;
+    told_otherwise(alloc, row, "linked", told)
+}
+
+/// The same of the program that is linked of the optimisers' offers.
+fn chained_difference(
+    alloc: Global,
+    program: &CProgram,
+    row: &Row,
+    seed: u64,
+    tally: &mut Tally,
+) -> Result<Option<String>, AllocError> {
+    let told = chained(alloc, program, seed, tally)?;
+    told_otherwise(alloc, row, "chained", told)
+}
+
+/// The same of each of them in turn, the first that differs.
+fn program_difference(
+    alloc: Global,
+    program: &CProgram,
+    row: &Row,
+    seed: u64,
+    tally: &mut Tally,
+) -> Result<Option<String>, AllocError> {
+    if let Some(told) = translated_difference(alloc, program, row)? {
+        return Ok(Some(told));
+    }
+    if let Some(told) = linked_difference(alloc, program, row)? {
+        return Ok(Some(told));
+    }
+    chained_difference(alloc, program, row, seed, tally)
+}
+
+/// What is told of the programs of a text, where it is not what its row says.
 fn compiled_difference(
     alloc: Global,
     row: &Row,
     seed: u64,
     tally: &mut Tally,
 ) -> Result<Option<String>, AllocError> {
-    let program = match accept(alloc, row.text.as_slice()) {
-        Ok(program) => program,
-        Err(fault) => return Ok(Some(format!(in alloc; "{fault}")?)),
-    };
-    let told = translated(alloc, &program)?;
-    if !is_told(&told, row) {
-        return Ok(Some(format!(in alloc; "translated: {}", told.closing)?));
+    match accept(alloc, row.text.as_slice()) {
+        Ok(program) => program_difference(alloc, &program, row, seed, tally),
+        Err(fault) => Ok(Some(format!(in alloc; "{fault}")?)),
     }
-    let told = linked(alloc, &program, &mut Maker::baselines())?;
-    if !is_told(&told, row) {
-        return Ok(Some(format!(in alloc; "linked: {}", told.closing)?));
-    }
-    let told = chained(alloc, &program, seed, tally)?;
-    if !is_told(&told, row) {
-        return Ok(Some(format!(in alloc; "chained: {}", told.closing)?));
-    }
-    Ok(None)
 }
 
 /// What the program that is linked of the optimisers' offers prints, and how its run stands. They draw their choices from

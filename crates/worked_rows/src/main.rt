@@ -1,5 +1,6 @@
 //! Asks for every row of the data files, and tells how many of each file are answered as they say, and which are not: the crates
-//! [`worked_commands`], [`worked_agreement`], [`worked_texts`], [`worked_forms`], [`worked_offers`], [`worked_farm`] and [`worked_chains`] ask for theirs.
+//! [`worked_commands`], [`worked_agreement`], [`worked_texts`], [`worked_forms`], [`worked_offers`], [`worked_farm`], [`worked_chains`],
+//! [`worked_journals`] and [`worked_hostile`] ask for theirs.
 //!
 //! All are one program, since a program is linked with all that it stands on, by two compilers.
 #![tactic(auto)]
@@ -15,5 +16,7 @@ fn main(rt: HostRuntime) -> io::Result<()> {
     worked_forms::tell(&rt)?;
     worked_offers::tell(&rt, &rt)?;
     worked_farm::tell(&rt, &rt)?;
-    worked_chains::tell(&rt)
+    worked_chains::tell(&rt)?;
+    worked_journals::tell(&rt)?;
+    worked_hostile::tell(&rt, &rt)
 }

@@ -1,11 +1,8 @@
 -- From the farm that opened to what it has linked.
-use Rattle.std.proofs.Common.{◌≡◌, ◌≤◌, ◌<◌, All, length, sym, ap, subst, ◌∙◌, arith}
+use Rattle.std.proofs.Common.{◌≡◌, ◌≤◌, ◌<◌, length, sym, ap, subst, ◌∙◌, arith}
 use Rattle.std.proofs.lemmas.List.{length-map}
 use Rattle.std.specs.Arc.{arc_value}
 use Rattle.std.specs.List.{AllByRecursion, AllZip}
-use Rattle.c_checker_rules.specs.Checked.{program_tree}
-use Rattle.cminor_lowering.specs.Programs.{low}
-use Rattle.rtlgen.specs.Refused.{HasFewNodes}
 use Rattle.cfarm_build_linking.specs.Alike.{HaveCounted}
 use Rattle.cfarm_build_linking.specs.Fours.{fours_of}
 use Rattle.cfarm_build_linking.specs.Learned.{learned_by}
@@ -53,9 +50,6 @@ built_by-requires-clause-counted g c =
 
 pub built_by-requires-clause-count : goal.built_by-requires-clause-count
 built_by-requires-clause-count g c = subst (λ (s : Source). length (arc_value s.translated).functions ≤ 64) (sym c.in-Ok.ensures.source) c.requires.count
-
-pub built_by-requires-clause-few : goal.built_by-requires-clause-few
-built_by-requires-clause-few g c = subst (λ (s : Source). All HasFewNodes (low (program_tree s.program)).functions) (sym c.in-Ok.ensures.source) c.requires.few
 
 pub built_by-requires-clause-some : goal.built_by-requires-clause-some
 built_by-requires-clause-some g c =

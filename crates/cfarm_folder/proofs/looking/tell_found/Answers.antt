@@ -3,4 +3,4 @@ use Rattle.cfarm_telling.specs.Telling.{quiet}
 use Rattle.cfarm_folder.proofs.looking.tell_found.Goals as goal
 
 pub returns-in-Ok-clause-does : goal.returns-in-Ok-clause-does
-returns-in-Ok-clause-does g c = (quiet, inl (rw c.deref-begun.ensures at c.in-Ok.ensures.told, refl), (refl, refl))
+returns-in-Ok-clause-does g c = (quiet, inl (rw c.deref-begun.ensures at c.in-Ok.ensures, refl), (refl, refl))

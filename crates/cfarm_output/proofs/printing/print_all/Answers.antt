@@ -1,10 +1,10 @@
-use Rattle.std.proofs.Common.{take, drop}
-use Rattle.std.proofs.lemmas.List.{take-append-drop}
-use Rattle.std.proofs.KnownBytes.{Appends-kept}
+use Rattle.cfarm_output.proofs.Pieces.{no_more, some_more}
 use Rattle.cfarm_output.proofs.printing.print_all.Goals as goal
 
-pub returns-in_default-clause-begun : goal.returns-in_default-clause-begun
-returns-in_default-clause-begun g c =
-    let n = c.loop-count.count in
+pub loop-preserved : goal.loop-preserved
+loop-preserved g c =
     let bytes = c.args.bytes.now in
-    (take n bytes, (drop n bytes, take-append-drop n bytes), Appends-kept _ _ _ _ c.loop-count.invariant c.in_default.ensures.failed)
+    let before = c.loop.invariant in (
+      no_more c.loop.done c.in-Ok.count bytes before.0 c.in-Ok.ensures.within,
+      some_more c.loop.done c.in-Ok.count bytes (g.W.Write.contents c.args.out.now) (g.W.Write.contents c.loop.out) (g.W.Write.contents c.print_some.new.out) before.1 c.in-Ok.ensures.printed,
+    )

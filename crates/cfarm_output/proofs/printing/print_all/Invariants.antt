@@ -1,6 +1,7 @@
-use Rattle.std.proofs.Common.{take}
+use Rattle.std.proofs.Common.{◌≤◌, length, take}
 use Rattle.std.specs.Io.KnownBytes.{Appends}
 use Rattle.cfarm_output.proofs.printing.print_all.Given as goal
 
-abbrev pub invariant-loop-count : goal.invariant-loop-count
-invariant-loop-count g l = Appends (g.W.Write.contents l.fn.out) (g.W.Write.contents l.out) (take l.count l.bytes)
+-- so many bytes are printed
+abbrev pub invariant-loop : goal.invariant-loop
+invariant-loop g l = (l.done ≤ length l.bytes) × Appends (g.W.Write.contents l.fn.out) (g.W.Write.contents l.out) (take l.done l.bytes)

@@ -40,10 +40,6 @@ use std::{fs, io};
 /// The file of the rows.
 const HOSTILE: &str = "hostile.txt";
 
-fn main(rt: HostRuntime) -> io::Result<()> {
-    tell(&rt, &rt)
-}
-
 /// What is told of a question; none where it is no question.
 fn answer<R: Threads + Wait + Sync>(
     rt: &HostRuntime,
@@ -56,8 +52,8 @@ fn answer<R: Threads + Wait + Sync>(
     told(threads, rt.alloc(), row)
 }
 
-/// Asks for each row of the file that lies beside the program, and tells how many agree.
-fn tell<R: Threads + Wait + Sync>(rt: &HostRuntime, threads: &R) -> io::Result<()> {
+/// Asks for each row of the file that lies beside the program, and tells how many agree. The farms take threads.
+pub fn tell<R: Threads + Wait + Sync>(rt: &HostRuntime, threads: &R) -> io::Result<()> {
     let text = fs::read_to_string(rt, HOSTILE)?;
     let mut all = 0u64;
     let mut agree = 0u64;

@@ -29,8 +29,9 @@ use crate::rows::Rows;
 use program_rows::compare;
 use std::io;
 
-fn main(rt: HostRuntime) -> io::Result<()> {
-    compare(&rt, "journals.txt", &mut Rows)?;
-    compare(&rt, "changed.txt", &mut Rows)?;
-    compare(&rt, "migrations.txt", &mut Rows)
+/// Asks for each row of the files that lie beside the program, and tells how many agree.
+pub fn tell(rt: &HostRuntime) -> io::Result<()> {
+    compare(rt, "journals.txt", &mut Rows)?;
+    compare(rt, "changed.txt", &mut Rows)?;
+    compare(rt, "migrations.txt", &mut Rows)
 }
