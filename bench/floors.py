@@ -58,11 +58,11 @@ FLOORS = [
      "farm_nodes_seated farm_nodes_opened farm_nodes_rounds farm_nodes_workers farm_nodes_threads farm_nodes_source "
      "farm_nodes_compiling farm_nodes_linked farm_nodes_bundled farm_nodes_crash farm_nodes"),
     ("The program",
-     "cfarm_files cfarm_options cfarm_explaining cfarm_output cfarm_printing cfarm_log_lines cfarm_log cfarm_fsck_lines cfarm_fsck_journals cfarm_fsck text_offers program_texts cfarm_runs cfarm_hints cfarm_meter cfarm_report cfarm_build_result cfarm_build_faults cfarm_build_linking cfarm_build_turns cfarm_build cfarm_build_folder cfarm_offered cfarm_build_files cfarm_settle_nodes cfarm_commands cfarm_emitted cfarm_emit cfarm_verify_lowering cfarm_verify_reading cfarm_verify_comparing cfarm_verify cfarm_judge cfarm_schedules_lines "
+     "cfarm_files cfarm_options cfarm_explaining cfarm_output cfarm_log_lines cfarm_log cfarm_fsck_lines cfarm_fsck_journals cfarm_fsck text_offers program_texts cfarm_runs cfarm_hints cfarm_meter cfarm_report cfarm_build_result cfarm_build_faults cfarm_build_linking cfarm_build_turns cfarm_build cfarm_build_folder cfarm_offered cfarm_build_files cfarm_settle_nodes cfarm_commands cfarm_emitted cfarm_emit cfarm_verify_lowering cfarm_verify_text cfarm_verify_reading cfarm_verify_comparing cfarm_verify cfarm_judge cfarm_schedules_lines "
      "cfarm_schedules cfarm_drawing_parts cfarm_drawing cfarm_command_parts cfarm_command_line cfarm_telling cfarm_outcomes cfarm_looking cfarm_folder cfarm_program cfarm"),
     ("Tests",
      "program_rows paxos_reference worked_fakes worked_farm worked_commands worked_agreement worked_texts worked_forms worked_offers worked_chains "
-     "worked_rows worked_disk worked_journals worked_rooms worked_whole worked_hostile"),
+     "worked_journals worked_whole worked_hostile worked_rows worked_disk worked_rooms"),
 ]
 ORDER = [crate for _, crates in FLOORS for crate in crates.split()]
 # The product's public face. A crate whose name begins with that of a face and `_` is a part of it: what a caller needs of it the face

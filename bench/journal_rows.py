@@ -1,5 +1,5 @@
 #!/usr/bin/env python3
-"""Writes crates/worked_journals/data/changed.txt: what each journal stands for that differs from a given one in a single
+"""Writes crates/worked_rows/data/changed.txt: what each journal stands for that differs from a given one in a single
 byte, whatever the byte, and what each front of the given one stands for.
 
     bench/journal_rows.py
@@ -8,7 +8,7 @@ The answers are made by the reading below, which stands on the form of a journal
 import os
 
 ROOT = os.path.dirname(os.path.dirname(os.path.realpath(__file__)))
-FILE = os.path.join(ROOT, "crates", "worked_journals", "data", "changed.txt")
+FILE = os.path.join(ROOT, "crates", "worked_rows", "data", "changed.txt")
 FIRST = b"CFJ1" + bytes([3, 1]) + bytes(range(100, 132))
 SECOND = b"CFJF" + bytes([4, 3, 3, 1]) + bytes(range(100, 132))
 NEW = b"CFJ2" + bytes([4, 3, 3, 1]) + bytes(range(100, 132))

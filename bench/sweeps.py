@@ -4,17 +4,15 @@ a choice of them: also all sixteen generators of crashes behind each failing cal
 
     bench/sweeps.py                    all of them
     bench/sweeps.py stopped unread     these
-    bench/sweeps.py --hostile PATH     this program `worked_hostile`
     bench/sweeps.py --rows PATH        this program `worked_rows`
     bench/sweeps.py --jobs 2           so many rows at once (1)
 
-The programs are those that the gate builds; each row runs by itself, in a folder with a data file of just this row, so none has the time of
-a program of the gate. A row says what it answers (crates/worked_hostile/src/main.rt, crates/worked_farm/src/lib.rt). It prints each row with
+The program is the one that the gate builds; each row runs by itself, in a folder with a data file of just this row, so none has the time of
+a program of the gate. A row says what it answers (crates/worked_hostile/src/lib.rt, crates/worked_farm/src/lib.rt). It prints each row with
 its seconds; its status is 1 where one is answered otherwise."""
 import argparse
 import concurrent.futures
 import os
-import shutil
 import subprocess
 import sys
 import tempfile
@@ -56,19 +54,15 @@ def trial(given, kind, text, is_example):
     question, answer = {**HOSTILE, **FARMS}[kind]
     question = STEPS.get(question, question) if is_example else question
     with tempfile.TemporaryDirectory() as folder:
-        if kind in HOSTILE:
-            program, name = given.hostile, "hostile.txt"
-        else:
-            # Of the other files no row is asked.
-            program, name = given.rows, "farms.txt"
-            shutil.copytree(DATA, folder, dirs_exist_ok=True)
-            for other in os.listdir(folder):
-                if other.endswith(".txt"):
-                    open(os.path.join(folder, other), "w").close()
+        name = "hostile.txt" if kind in HOSTILE else "farms.txt"
+        # Of the other files no row is asked.
+        for other in os.listdir(DATA):
+            if other.endswith(".txt"):
+                open(os.path.join(folder, other), "w").close()
         with open(os.path.join(folder, name), "w", encoding="utf-8") as file:
             file.write(f"{question} {text} => {answer}\n")
         start = time.monotonic()
-        ran = subprocess.run([program], cwd=folder, capture_output=True, check=False)
+        ran = subprocess.run([given.rows], cwd=folder, capture_output=True, check=False)
     lines = ran.stdout.decode(errors="replace").splitlines()
     is_right = ran.returncode == 0 and f"{name}: 1 of 1 agree" in lines
     told = [line for line in lines if line.startswith(f"{name}:")]
@@ -78,7 +72,6 @@ def trial(given, kind, text, is_example):
 def main():
     ask = argparse.ArgumentParser(description=__doc__, formatter_class=argparse.RawDescriptionHelpFormatter)
     ask.add_argument("kinds", nargs="*", metavar="KIND")
-    ask.add_argument("--hostile", default=os.path.join(ROOT, "crates", "worked_hostile", "out", "worked_hostile"))
     ask.add_argument("--rows", default=os.path.join(ROOT, "crates", "worked_rows", "out", "worked_rows"))
     ask.add_argument("--jobs", type=int, default=1)
     given = ask.parse_args()
