@@ -6,13 +6,14 @@ use lang_base::NoMemory;
 use std::alloc::Global;
 use std::marker::Model;
 
-/// A caller that waits: its function's number, the place where it goes on, where its words begin, and where the
-/// result goes.
+/// A caller that waits: its function's number, where its words begin, the place where it goes on, and where the
+/// result goes. The number and the place are written one by one, and a load of both at once would wait for the writes:
+/// so they do not stand side by side, as they do in a run.
 #[derive(Drop)]
 pub struct Caller<P: Drop, T: Drop> {
     pub function: usize,
-    pub place: P,
     pub base: usize,
+    pub place: P,
     pub target: T,
 }
 

@@ -1,6 +1,6 @@
 //! Calls and returns: a caller waits and its callee begins, or the nearest caller goes on.
 
-ghost use Rattle.std.specs.Prelude.{◌≡◌, ℕ, ◌≤◌, ◌∷◌, List, length, take, drop, slice_get, IfOk, OnOk};
+ghost use Rattle.std.specs.Prelude.{◌≡◌, ℕ, ◌≤◌, ◌∷◌, List, length, slice_get, IfOk, OnOk};
 ghost use Rattle.lang_base.specs.declared.program.Named.{Named};
 ghost use Rattle.lang_running.specs.Functions.{HasFunction};
 ghost use Rattle.lang_running.specs.Waiting.{AreApart};
@@ -25,7 +25,6 @@ fn enter<P: Copy + Drop, T: Copy + Drop>(
     ensures place { OnOk result (run.new.place ≡ callee.place) }
     ensures base { OnOk result (run.new.base ≡ base) }
     ensures words { OnOk result (run.new.words.items ≡ run.old.words.items) }
-    ensures globals { OnOk result (run.new.globals.items ≡ run.old.globals.items) }
     ensures callers { OnOk result (run.new.callers
         ≡ record { function = run.old.function; place = callee.back; base = run.old.base; target = callee.target } ∷ run.old.callers) }
 {
@@ -47,8 +46,8 @@ fn go_back<M: Machine>(run: &mut Running<M::Place, M::Target>, value: Option<u32
     requires stand { CallersStand M.can_resume (callers_of run.old) }
     requires begun { run.old.base ≤ length run.old.words.items }
     requires apart { AreApart run.old.callers run.old.base }
-    ensures turn { (output : List ℕ) →
-        comes_back M.resumed (callers_of run.old) value run.old.globals.items output ≡ turned result (state_of M.state run.new output) }
+    ensures turn { (globals : List (List ℕ)) (output : List ℕ) →
+        comes_back M.resumed (callers_of run.old) value globals output ≡ turned result (state_of M.state run.new globals output) }
     ensures fits { (functions : List (Named M.Function)) → CallersFit M.fits functions (callers_of run.old) →
         WhereGone result (RunFits M.fits M.can_resume functions run.new) }
 {
@@ -77,8 +76,8 @@ pub(crate) fn leave<M: Machine>(
     requires ready { M.are_ready functions.now ready.now running.now }
     requires fits { RunFits M.fits M.can_resume functions.now run.old }
     requires leaves { M.leaves running.now run.old.place }
-    ensures turn { IfOk result (λ turn. (output : List ℕ) →
-        M.next functions.now (state_of M.state run.old output) ≡ turned turn (state_of M.state run.new output)) }
+    ensures turn { IfOk result (λ turn. (globals : List (List ℕ)) (output : List ℕ) →
+        M.next functions.now (state_of M.state run.old globals output) ≡ turned turn (state_of M.state run.new globals output)) }
     ensures fits { IfOk result (λ turn. WhereGone turn (RunFits M.fits M.can_resume functions.now run.new)) }
 {
     let base = run.words.len();

@@ -9,7 +9,7 @@ use crate::callers::Callers;
 use crate::state::Running;
 use crate::stepping::Machine;
 use lang_base::{Named, NoMemory, Program};
-use lang_running_cells::all_cells;
+use lang_running_cells::{Cells, all_cells};
 use std::alloc::Global;
 
 /// Whether the function is one where a program can begin.
@@ -31,24 +31,24 @@ fn find_main<M: Machine>(functions: &[Named<M::Function>]) -> usize
     functions.len()
 }
 
-/// The run where `main` begins.
+/// The run where `main` begins, and the globals as they begin.
 pub(crate) fn begin<M: Machine>(
     alloc: Global,
     program: &Program<M::Function>,
-) -> Result<Running<M::Place, M::Target>, NoMemory>
-    ensures state { IfOk result (λ run. state_of M.state run [] ≡ M.start program.now) }
-    ensures fits { IfOk result (λ run. RunFits M.fits M.can_resume program.now.functions run) }
+) -> Result<(Running<M::Place, M::Target>, Vec<Cells>), NoMemory>
+    ensures state { IfOk result (λ first. state_of M.state first.0 first.1.items [] ≡ M.start program.now) }
+    ensures fits { IfOk result (λ first. RunFits M.fits M.can_resume program.now.functions first.0) }
 {
     let globals = all_cells(alloc, program.globals.as_slice())?;
     let functions = program.functions.as_slice();
     let function = find_main::<M>(functions);
     let (place, words) = M::begin(alloc, functions, function)?;
-    Ok(Running {
+    let run = Running {
         function,
         place,
         base: 0,
         words,
-        globals,
         callers: Callers::new(alloc),
-    })
+    };
+    Ok((run, globals))
 }

@@ -3,12 +3,10 @@
 //! speed is not promised.
 #![tactic(auto)]
 
-mod code;
-mod decoding;
-mod entering;
-mod leaving;
+mod pieces;
 mod running;
-mod words;
+mod starting;
+mod state;
 
 pub use lang_parts::RunError;
 pub use linear_language::{Function, Instruction, Linear};

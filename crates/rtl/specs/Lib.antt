@@ -1,4 +1,5 @@
 pub mod Arguments
+pub mod Running
 pub mod States
 pub use Rattle.lang_parts.specs.Written
 pub use Rattle.rtl_language.specs.Meaning

@@ -24,14 +24,14 @@ pub go_back-requires-clause-apart : goal.go_back-requires-clause-apart
 go_back-requires-clause-apart g c = c.requires.fits.apart
 
 pub returns-in-Returns-clause-turn : goal.returns-in-Returns-clause-turn
-returns-in-Returns-clause-turn g c = λ output.
+returns-in-Returns-clause-turn g c = λ globals output.
     let r = c.args.run.now in
     let same : callers_of r ≡ waiting_in r.callers (take r.base c.leave.new.words.items) =
     ap (waiting_in r.callers) (sym (kept_below r.base r.words.items c.leave.new.words.items c.requires.fits.begun c.in_ok-callee.ensures.kept)) in
-    c.in_ok-callee.ensures.step r.function c.requires.running.named r.globals.items (callers_of r) output c.requires.running.is c.requires.running.same
-    ∙ ap (λ leaving. left_by g.M.Machine.state g.M.Machine.resumed r.function (within r).words (drop (length r.words.items) c.leave.new.words.items) leaving r.globals.items (callers_of r) output) c.in-Returns.is
-    ∙ ap (λ cs. comes_back g.M.Machine.resumed cs c.in-Returns.value r.globals.items output) same
-    ∙ c.go_back.ensures.turn output
+    c.in_ok-callee.ensures.step r.function c.requires.running.named globals (callers_of r) output c.requires.running.is c.requires.running.same
+    ∙ ap (λ leaving. left_by g.M.Machine.state g.M.Machine.resumed r.function (within r globals).words (drop (length r.words.items) c.leave.new.words.items) leaving globals (callers_of r) output) c.in-Returns.is
+    ∙ ap (λ cs. comes_back g.M.Machine.resumed cs c.in-Returns.value globals output) same
+    ∙ c.go_back.ensures.turn globals output
 
 pub returns-in-Returns-clause-fits : goal.returns-in-Returns-clause-fits
 returns-in-Returns-clause-fits g c =
