@@ -1,10 +1,10 @@
 //! Whether two programs are one.
 
-ghost use Rattle.std.specs.Prelude.{◌≡◌, ◌↔◌, IsTrue, length, MatchOption};
+ghost use Rattle.std.specs.Prelude.{◌≡◌, ◌↔◌, IsTrue, length};
 ghost use Rattle.linker.specs.Chains.{names_of};
 ghost use Rattle.chains.specs.Offered.{ends_of};
 ghost use Rattle.bundle_reading.specs.Read.{offers_in};
-ghost use Rattle.cfarm_verify_comparing.specs.Compared.{IsFirstOther};
+ghost use Rattle.cfarm_verify_comparing.specs.Compared.{TellsFirstOther};
 
 use bundle_offers::Four;
 use lang_base::{Global, Named};
@@ -48,8 +48,7 @@ pub fn first_other(
 ) -> Option<usize>
     requires many { length fours.now ≡ length begun.now }
     requires names { names_of functions.now ≡ names_of begun.now }
-    ensures { MatchOption result (functions.now ≡ ends_of begun.now (offers_in fours.now))
-        (IsFirstOther (ends_of begun.now (offers_in fours.now)) functions.now) }
+    ensures { TellsFirstOther (ends_of begun.now (offers_in fours.now)) functions.now result }
 {
     for number in 0..begun.len() {
         if !same_function(&fours[number].order.output, &functions[number].function) {

@@ -1,3 +1,3 @@
-pub mod Fronts
-pub mod Lexed
-pub mod Lines
+pub mod Seams
+pub mod Sent
+pub mod Spelled

@@ -9,11 +9,11 @@ ghost use Rattle.c_checker_rules.specs.Units as U;
 ghost use Rattle.c_texts.specs.Accepted.{IsAccepted, IsProgramOf};
 ghost use Rattle.c_texts.specs.Refusals.{IsOutOfMemory, IsRefused};
 
-use crate::lexing::lex_beside;
+use crate::reading::read_beside;
 use c_checker::{CProgram, CheckError, check};
-use c_reader::read;
-use c_syntax::{Token, Unit};
+use c_syntax::Unit;
 use c_texts::TextError;
+use cfarm_verify_lexing::Quarters;
 use std::alloc::Global;
 use std::thread::{Threads, join};
 
@@ -21,7 +21,7 @@ use std::thread::{Threads, join};
 fn check_beside<R: Threads>(
     rt: &R,
     alloc: Global,
-    tokens: Vec<Token>,
+    tokens: Quarters,
     unit: Unit,
 ) -> Result<CProgram, CheckError>
     ensures ok { IfOk result (λ p. U.IsWellFormed (unit_tree unit)) }
@@ -41,7 +41,7 @@ fn check_beside<R: Threads>(
 }
 
 /// The program that a text stands for, or its first fault, as `accept` of `c_texts` has them. The time is linear in the text, and all
-/// processors share its tokens, unless it is short.
+/// processors share its tokens and their tree, unless it is short.
 pub fn accept_beside<R: Threads + Sync>(
     rt: &R,
     alloc: Global,
@@ -54,8 +54,12 @@ pub fn accept_beside<R: Threads + Sync>(
     // A text that is accepted is given its program, unless memory runs out.
     ensures only { (u : UnitTree) → IsAccepted text.now u → MatchResult result (IsProgramOf u) IsOutOfMemory }
 {
-    let tokens = lex_beside(rt, alloc, text)?;
-    let unit = read(alloc, tokens.as_slice())?;
-    let program = check_beside(rt, alloc, tokens, unit)?;
-    Ok(program)
+    let (tokens, unit) = match read_beside(rt, alloc, text) {
+        Ok(found) => found,
+        Err(fault) => return Err(fault),
+    };
+    match check_beside(rt, alloc, tokens, unit) {
+        Ok(program) => Ok(program),
+        Err(fault) => Err(TextError::Check(fault)),
+    }
 }

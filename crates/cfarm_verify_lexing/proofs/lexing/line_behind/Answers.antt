@@ -1,0 +1,1 @@
+-- A newline stands there.
