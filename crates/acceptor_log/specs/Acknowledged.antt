@@ -1,5 +1,6 @@
 -- What a log has acknowledged, and what is known of its disk.
-use Rattle.std.specs.Prelude.{◌≡◌, ◌≢◌, true, ℕ, ◌+◌, List, [], length, take, unwrap_or}
+use Rattle.std.specs.Prelude.{◌≡◌, ◌≢◌, true, ℕ, ◌+◌, List, [], ◌∷◌, ◌++◌, length, take, unwrap_or}
+use Rattle.durable_model.specs.declared.disk.Disk as disks
 use Rattle.durable_model.specs.Honest.{Unchanged}
 use Rattle.acceptor_log_form.specs.declared.errors.LogError.{LogError}
 use Rattle.acceptor_log_form.specs.declared.errors.LogError.TheVariants.{NotAJournal, BadRecord, OtherSource}
@@ -7,12 +8,24 @@ use Rattle.acceptor_log_form.specs.declared.record.Record.{Record}
 use Rattle.acceptor_log_form.specs.Text.{body_text}
 use Rattle.acceptor_log_form.specs.Reading.{listed}
 use Rattle.acceptor_log.specs.declared.log.Log.{Log}
-use Rattle.acceptor_log.specs.Rest.{Rests}
+use Rattle.acceptor_log.specs.Rest.{with_record, Rests}
 
 -- The records that were listed when the journal was opened and those acknowledged since: no field, but the first of
 -- those that the bytes stand for which a read of the log's disk gives.
 abbrev pub acknowledged : {D : Type 0} → (D → List ℕ) → Log D → List Record
 acknowledged seen log = take log.count (unwrap_or (listed log.header (seen log.disk)) [])
+
+-- of a log that goes on, on an honest disk
+abbrev pub WhileGoing : {D : Type 0} → (D → Type 0) → Log D → Type 0 → Type 0
+WhileGoing is_honest log P = is_honest log.disk → log.going ≡ true → P
+
+-- a record more is acknowledged
+abbrev pub Adds : {D : Type 0} → (D → List ℕ) → Record → Log D → Log D → Type 0
+Adds seen r old new = acknowledged seen new ≡ acknowledged seen old ++ r ∷ []
+
+-- the bytes of the log's disk, once a record more is put down there
+abbrev pub text_with : {D : Type 0} → (D → List ℕ) → Log D → Record → List ℕ
+text_with seen log r = with_record (seen log.disk) log.gate r
 
 -- the log may go on: its disk rests on what it has acknowledged
 pub record IsReady {D : Type 0} (is_honest : D → Type 0) (seen : D → List ℕ) (may_leave : D → List ℕ → Type 0)
@@ -30,8 +43,8 @@ abbrev pub file_with : {D : Type 0} → Log D → Record → ℕ
 file_with log r = log.gate + 6 + length (body_text r)
 
 -- a call wrote nothing, and stopped nothing
-abbrev pub IsUnwritten : {D : Type 0} → (D → List ℕ) → (D → List ℕ → Type 0) → Log D → Log D → Type 0
-IsUnwritten seen may_leave old new = Unchanged seen may_leave old.disk new.disk × (new.going ≡ old.going)
+abbrev pub IsUnwritten : {D : Type 0} → disks.Ghosts D → Log D → Log D → Type 0
+IsUnwritten disk old new = Unchanged disk.seen disk.may_leave old.disk new.disk × (new.going ≡ old.going)
 
 -- it is no fault of what was read
 abbrev pub IsNoFault : LogError → Type 0

@@ -1,3 +1,6 @@
 pub mod Rest
 pub mod Acknowledged
 pub mod Faults
+pub mod Calls
+pub mod Disks
+pub mod Crashes

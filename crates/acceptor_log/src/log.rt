@@ -1,12 +1,10 @@
-ghost use Rattle.std.specs.Prelude.{◌≡◌, ◌≢◌, ◌≤◌, ◌<◌, ◌+◌, ◌↔◌, [], ◌∷◌, ◌++◌, true, false, length, OnOk, OnErr};
-ghost use Rattle.std.specs.Prelude.{IfOk, IfErr, MatchResult};
-ghost use Rattle.durable_model.specs.Honest.{Unchanged, Risen};
-ghost use Rattle.durable_model.specs.Moments.{LeavesOnly};
-ghost use Rattle.durable_model.specs.Writes.{overwritten};
-ghost use Rattle.acceptor_log_form.specs.Text.{body_text, journal_text, StandsFor};
-ghost use Rattle.acceptor_log_form.specs.Fault.{HasFault};
-ghost use Rattle.acceptor_log_form.specs.Lists.{Between};
-ghost use Rattle.acceptor_log.specs.Rest.{IsBlock, with_record};
+ghost use Rattle.std.specs.Prelude.{◌≡◌, ◌≢◌, ◌≤◌, ◌<◌, ◌+◌, ◌↔◌, [], true, false, length, IfOk, IfErr, OnOk, OnErr};
+ghost use Rattle.durable_model.specs.Honest.{Risen};
+ghost use Rattle.acceptor_log_form.specs.Text.{body_text, StandsFor};
+ghost use Rattle.acceptor_log_form.specs.Fault.{IsMemoryOr};
+ghost use Rattle.acceptor_log.specs.Calls.{ForRested, LeavesNothingNew, Stays};
+ghost use Rattle.acceptor_log.specs.Faults.{HasCauseIn, UnlessDevice};
+ghost use Rattle.acceptor_log.specs.Rest.{IsBlock, with_journal};
 
 use crate::device::put;
 use crate::opening::{lay, load};
@@ -34,33 +32,29 @@ pub struct Log<D> {
 }
 
 impl<D: Disk> Log<D> {
-    ghost use Rattle.acceptor_log.specs.Acknowledged.{acknowledged, file_with, IsReady, IsSound, IsUnwritten, IsNoFault};
-    ghost use Rattle.acceptor_log.specs.Rest.{Rests};
-    ghost use Rattle.acceptor_log_form.specs.declared.record.Record.{Record};
-    ghost use Rattle.std.specs.Prelude.{List};
+    ghost use Rattle.acceptor_log.specs.Acknowledged.{acknowledged, file_with, text_with, Adds, IsReady, IsSound};
+    ghost use Rattle.acceptor_log.specs.Acknowledged.{IsUnwritten, IsNoFault, WhileGoing};
+    ghost use Rattle.acceptor_log.specs.Crashes.{LeavesAddedOrNot};
+    ghost use Rattle.acceptor_log.specs.Disks.{OnDisk, OnOpened, OnWorkingDisk, OnWorkingOpened};
 
     /// Makes the journal with this header and no records on a disk, over what is there. Until it has answered `Ok`
     /// nothing is promised of the disk; after `NoMemory` nothing was written.
     pub fn create(alloc: Global, disk: D, header: &Header) -> Result<Log<D>, (D, LogError)>
         ensures sound { IfOk result (IsSound D.is_honest D.seen D.may_leave) }
         ensures ok { IfOk result (λ log. (log.going ≡ true) × (log.header ≡ header.now)) }
-        ensures honest { MatchResult result (λ log. D.is_honest log.disk ↔ D.is_honest disk)
-            (λ refused. D.is_honest refused.0 ↔ D.is_honest disk) }
+        ensures honest { OnDisk result (λ now. D.is_honest now ↔ D.is_honest disk) }
         ensures none { D.is_honest disk → IfOk result (λ log. acknowledged D.seen log ≡ []) }
-        ensures bytes { D.is_honest disk
-            → IfOk result (λ log. D.seen log.disk ≡ overwritten (D.seen disk) 0 (journal_text header.now [])) }
+        ensures bytes { D.is_honest disk → IfOk result (λ log. D.seen log.disk ≡ with_journal header.now (D.seen disk)) }
 
         // It does not give up by itself.
-        ensures unwritten { D.is_honest disk → IfErr result (λ refused. refused.1 ≢ LogError.Device
-            → Unchanged D.seen D.may_leave disk refused.0) }
+        ensures unwritten { D.is_honest disk
+            → IfErr result (λ refused. UnlessDevice (Stays D.Disk disk refused.0) refused.1) }
         ensures faults { IfErr result (λ refused. refused.1 ≢ LogError.Device → refused.1 ≡ LogError.NoMemory) }
         ensures failed { IfErr result (λ refused. refused.1 ≡ LogError.Device
             → Risen (D.faults disk) (D.faults refused.0)) }
-        ensures later { MatchResult result (λ log. D.faults disk ≤ D.faults log.disk)
-            (λ refused. D.faults disk ≤ D.faults refused.0) }
+        ensures later { OnDisk result (λ now. D.faults disk ≤ D.faults now) }
         // A failure of the device is told as one.
-        ensures unfailed { MatchResult result (λ log. D.faults log.disk ≡ D.faults disk)
-            (λ refused. refused.1 ≢ LogError.Device → D.faults refused.0 ≡ D.faults disk) }
+        ensures unfailed { OnWorkingDisk result (λ now. D.faults now ≡ D.faults disk) }
     {
         let mut disk = disk;
         match lay(alloc, header, &mut disk) {
@@ -85,31 +79,23 @@ impl<D: Disk> Log<D> {
     ) -> Result<(Log<D>, Vec<Record>), (D, LogError)>
         ensures sound { IfOk result (λ opened. IsSound D.is_honest D.seen D.may_leave opened.0) }
         ensures ok { IfOk result (λ opened. (opened.0.going ≡ true) × (opened.0.header ≡ header.now)) }
-        ensures honest { MatchResult result (λ opened. D.is_honest opened.0.disk ↔ D.is_honest disk)
-            (λ refused. D.is_honest refused.0 ↔ D.is_honest disk) }
+        ensures honest { OnOpened result (λ now. D.is_honest now ↔ D.is_honest disk) }
         ensures listed { D.is_honest disk
             → IfOk result (λ opened. StandsFor header.now opened.1.items (D.seen disk)) }
         ensures acknowledged { D.is_honest disk
             → IfOk result (λ opened. acknowledged D.seen opened.0 ≡ opened.1.items) }
 
         // The disk is as it was, and a crash meanwhile leaves what it might have left before.
-        ensures unchanged { D.is_honest disk → MatchResult result
-            (λ opened. Unchanged D.seen D.may_leave disk opened.0.disk)
-            (λ refused. Unchanged D.seen D.may_leave disk refused.0) }
-        ensures any_moment { D.is_honest disk → MatchResult result
-            (λ opened. LeavesOnly D.moment D.left_since disk opened.0.disk (D.may_leave disk))
-            (λ refused. LeavesOnly D.moment D.left_since disk refused.0 (D.may_leave disk)) }
+        ensures unchanged { D.is_honest disk → OnOpened result (Stays D.Disk disk) }
+        ensures any_moment { D.is_honest disk → OnOpened result (LeavesNothingNew D.Disk disk) }
 
         // It does not give up by itself.
-        ensures refused { D.is_honest disk → IfErr result (λ refused. refused.1 ≢ LogError.NoMemory
-            → refused.1 ≢ LogError.Device → HasFault header.now (D.seen disk) refused.1) }
+        ensures refused { D.is_honest disk → IfErr result (λ refused. HasCauseIn header.now (D.seen disk) refused.1) }
         ensures failed { IfErr result (λ refused. refused.1 ≡ LogError.Device
             → Risen (D.faults disk) (D.faults refused.0)) }
-        ensures later { MatchResult result (λ opened. D.faults disk ≤ D.faults opened.0.disk)
-            (λ refused. D.faults disk ≤ D.faults refused.0) }
+        ensures later { OnOpened result (λ now. D.faults disk ≤ D.faults now) }
         // A failure of the device is told as one: so it is where the sync fails.
-        ensures unfailed { MatchResult result (λ opened. D.faults opened.0.disk ≡ D.faults disk)
-            (λ refused. refused.1 ≢ LogError.Device → D.faults refused.0 ≡ D.faults disk) }
+        ensures unfailed { OnWorkingOpened result (λ now. D.faults now ≡ D.faults disk) }
     {
         let mut disk = disk;
         match load(alloc, header, &mut disk) {
@@ -137,18 +123,15 @@ impl<D: Disk> Log<D> {
         ensures honest { D.is_honest self.new.disk ↔ D.is_honest self.old.disk }
         ensures same { self.new.header ≡ self.old.header }
 
-        ensures added { D.is_honest self.old.disk → self.old.going ≡ true → OnOk result
-            (acknowledged D.seen self.new ≡ acknowledged D.seen self.old ++ entry.now ∷ []) }
+        ensures added { WhileGoing D.is_honest self.old (OnOk result (Adds D.seen entry.now self.old self.new)) }
         ensures err { D.is_honest self.old.disk
             → OnErr result (acknowledged D.seen self.new ≡ acknowledged D.seen self.old) }
         ensures ok { OnOk result ((self.old.going ≡ true) × (self.new.going ≡ true)) }
-        ensures bytes { D.is_honest self.old.disk → OnOk result
-            (D.seen self.new.disk ≡ with_record (D.seen self.old.disk) self.old.gate entry.now) }
+        ensures bytes { D.is_honest self.old.disk
+            → OnOk result (D.seen self.new.disk ≡ text_with D.seen self.old entry.now) }
 
         // A crash at any moment of the call leaves what was acknowledged before it, with the record or without.
-        ensures any_moment { D.is_honest self.old.disk → self.old.going ≡ true
-            → LeavesOnly D.moment D.left_since self.old.disk self.new.disk
-            (Between self.old.header (acknowledged D.seen self.old) (acknowledged D.seen self.old ++ entry.now ∷ [])) }
+        ensures any_moment { WhileGoing D.is_honest self.old (LeavesAddedOrNot D.Disk entry.now self.old self.new) }
 
         // It does not give up by itself.
         ensures stopped { self.old.going ≡ false → (result ≡ Err LogError.Stopped) × (self.new ≡ self.old) }
@@ -158,7 +141,7 @@ impl<D: Disk> Log<D> {
         ensures later { D.faults self.old.disk ≤ D.faults self.new.disk }
         ensures unfailed { result ≢ Err LogError.Device → D.faults self.new.disk ≡ D.faults self.old.disk }
         ensures unwritten { D.is_honest self.old.disk
-            → IfErr result (λ e. e ≢ LogError.Device → IsUnwritten D.seen D.may_leave self.old self.new) }
+            → IfErr result (UnlessDevice (IsUnwritten D.Disk self.old self.new)) }
         ensures full { result ≡ Err LogError.Full → MOST_BYTES < file_with self.old entry.now }
         ensures too_long { self.old.going ≡ true → MOST_BYTES < file_with self.old entry.now
             → result ≡ Err LogError.Full }
@@ -189,10 +172,9 @@ impl<D: Disk> Log<D> {
     pub fn resting(alloc: Global, disk: D, header: &Header, count: u64, gate: u64) -> Log<D>
         requires { count ≤ gate }
         ensures parts { (result.disk ≡ disk) × (result.header ≡ header.now) × (result.going ≡ true) }
-        ensures ready { (rs : List Record) → count ≡ length rs
-            → Rests D.is_honest D.seen D.may_leave header.now rs gate disk → IsReady D.is_honest D.seen D.may_leave result }
-        ensures acknowledged { (rs : List Record) → count ≡ length rs
-            → Rests D.is_honest D.seen D.may_leave header.now rs gate disk → acknowledged D.seen result ≡ rs }
+        ensures ready { ForRested D.Disk header.now count gate disk
+            (λ rs. IsReady D.is_honest D.seen D.may_leave result) }
+        ensures acknowledged { ForRested D.Disk header.now count gate disk (λ rs. acknowledged D.seen result ≡ rs) }
     {
         Log {
             alloc,
@@ -233,8 +215,7 @@ fn block_behind(alloc: Global, gate: u64, entry: &Record) -> Result<Vec<u8>, Log
     ensures block { IfOk result (λ block. IsBlock entry.now block.items) }
     ensures space { IfOk result (λ block. gate + 1 + length block.items ≤ MOST_BYTES) }
     ensures size { OnOk result (gate + 6 + length (body_text entry.now) ≤ MOST_BYTES) }
-    ensures refused { IfErr result (λ e. e ≢ LogError.NoMemory →
-        (e ≡ LogError.Full) × (MOST_BYTES < gate + 6 + length (body_text entry.now))) }
+    ensures refused { IfErr result (IsMemoryOr LogError.Full (MOST_BYTES < gate + 6 + length (body_text entry.now))) }
     ensures full { MOST_BYTES < gate + 6 + length (body_text entry.now) → result ≡ Err LogError.Full }
 {
     let body = entry.body_len() as u64;

@@ -1,13 +1,11 @@
 //! Making a journal, and opening one.
 
-ghost use Rattle.std.specs.Prelude.{◌≡◌, ◌≢◌, ◌≤◌, ◌+◌, ◌↔◌, [], true, length, OnOk, IfOk, IfErr, MatchResult};
-ghost use Rattle.durable_model.specs.Honest.{Only, Unchanged, Risen};
-ghost use Rattle.durable_model.specs.Moments.{LeavesOnly};
-ghost use Rattle.durable_model.specs.Writes.{overwritten};
-ghost use Rattle.acceptor_log_form.specs.Text.{header_size, blocks, journal_text, StandsFor};
-ghost use Rattle.acceptor_log_form.specs.Fault.{HasFault};
-ghost use Rattle.acceptor_log.specs.Rest.{Rests};
-ghost use Rattle.acceptor_log.specs.Faults.{log_fault};
+ghost use Rattle.std.specs.Prelude.{◌≡◌, ◌≢◌, ◌≤◌, ◌↔◌, [], length, OnOk, IfOk, IfErr};
+ghost use Rattle.durable_model.specs.Honest.{Risen};
+ghost use Rattle.acceptor_log_form.specs.Text.{header_size};
+ghost use Rattle.acceptor_log.specs.Calls.{LeavesNothingNew, RestsOn, RestsOnListed, Stays};
+ghost use Rattle.acceptor_log.specs.Faults.{log_fault, HasCauseIn, UnlessDevice};
+ghost use Rattle.acceptor_log.specs.Rest.{with_journal};
 
 use crate::device::write_durably;
 use crate::reading::{Listed, read};
@@ -18,12 +16,9 @@ use std::alloc::Global;
 /// Writes the journal of no records, in one write, and syncs it.
 pub fn lay<D: Disk>(alloc: Global, header: &Header, disk: &mut D) -> Result<(), LogError>
     ensures honest { D.is_honest disk.new ↔ D.is_honest disk.old }
-    ensures rests { D.is_honest disk.old
-        → OnOk result (Rests D.is_honest D.seen D.may_leave header.now [] header_size disk.new) }
-    ensures bytes { D.is_honest disk.old
-        → OnOk result (D.seen disk.new ≡ overwritten (D.seen disk.old) 0 (journal_text header.now [])) }
-    ensures unwritten { D.is_honest disk.old
-        → IfErr result (λ e. e ≢ LogError.Device → Unchanged D.seen D.may_leave disk.old disk.new) }
+    ensures rests { D.is_honest disk.old → OnOk result (RestsOn D.Disk header.now [] header_size disk.new) }
+    ensures bytes { D.is_honest disk.old → OnOk result (D.seen disk.new ≡ with_journal header.now (D.seen disk.old)) }
+    ensures unwritten { D.is_honest disk.old → IfErr result (UnlessDevice (Stays D.Disk disk.old disk.new)) }
     ensures faults { IfErr result (λ e. e ≢ LogError.Device → e ≡ LogError.NoMemory) }
     ensures failed { result ≡ Err LogError.Device → Risen (D.faults disk.old) (D.faults disk.new) }
     ensures unfailed { result ≢ Err LogError.Device → D.faults disk.new ≡ D.faults disk.old }
@@ -40,14 +35,11 @@ pub fn lay<D: Disk>(alloc: Global, header: &Header, disk: &mut D) -> Result<(), 
 /// Syncs, so that what is read is durable, and reads the journal with this header.
 pub fn load<D: Disk>(alloc: Global, header: &Header, disk: &mut D) -> Result<Listed, LogError>
     ensures honest { D.is_honest disk.new ↔ D.is_honest disk.old }
-    ensures unchanged { D.is_honest disk.old → Unchanged D.seen D.may_leave disk.old disk.new }
-    ensures any_moment { D.is_honest disk.old
-        → LeavesOnly D.moment D.left_since disk.old disk.new (D.may_leave disk.old) }
-    ensures rests { D.is_honest disk.old → IfOk result (λ found.
-        Rests D.is_honest D.seen D.may_leave header.now found.records.items found.gate disk.new) }
+    ensures unchanged { D.is_honest disk.old → Stays D.Disk disk.old disk.new }
+    ensures any_moment { D.is_honest disk.old → LeavesNothingNew D.Disk disk.old disk.new }
+    ensures rests { D.is_honest disk.old → IfOk result (RestsOnListed D.Disk disk.new header.now) }
     ensures fewer { IfOk result (λ found. length found.records.items ≤ found.gate) }
-    ensures refused { D.is_honest disk.old → IfErr result (λ e.
-        e ≢ LogError.NoMemory → e ≢ LogError.Device → HasFault header.now (D.seen disk.old) e) }
+    ensures refused { D.is_honest disk.old → IfErr result (HasCauseIn header.now (D.seen disk.old)) }
     ensures failed { result ≡ Err LogError.Device → Risen (D.faults disk.old) (D.faults disk.new) }
     ensures unfailed { result ≢ Err LogError.Device → D.faults disk.new ≡ D.faults disk.old }
     ensures later { D.faults disk.old ≤ D.faults disk.new }

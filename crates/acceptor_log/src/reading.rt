@@ -6,7 +6,7 @@ ghost use Rattle.acceptor_log_form.specs.Text.{header_text, header_size};
 ghost use Rattle.acceptor_log_form.specs.Text.{body_text, block_text, blocks, Fits, FitsWidths};
 ghost use Rattle.acceptor_log_form.specs.Text.{StandsBehind, StandsFor};
 ghost use Rattle.acceptor_log_form.specs.Reading.{record_of, first_record, records_behind};
-ghost use Rattle.acceptor_log_form.specs.Fault.{IsInForm, IsNotInForm, HasFault};
+ghost use Rattle.acceptor_log_form.specs.Fault.{IsInForm, IsMemoryOr, IsNotInForm, HasFault};
 
 use acceptor_log_form::{HEADER_SIZE, Header, LogError, Record};
 use lang_base::Row;
@@ -117,8 +117,7 @@ pub fn is_digest(digest: &[u8; 32], bytes: &[u8]) -> bool
 pub fn read_records(alloc: Global, bytes: &[u8]) -> Result<Listed, LogError>
     ensures ok { IfOk result (λ found. StandsBehind found.records.items bytes.now) }
     ensures gate { IfOk result (λ found. found.gate ≡ length (blocks found.records.items)) }
-    ensures refused { IfErr result (λ e. e ≢ LogError.NoMemory →
-        (e ≡ LogError.BadRecord) × (records_behind 0 bytes.now ≡ None)) }
+    ensures refused { IfErr result (IsMemoryOr LogError.BadRecord (records_behind 0 bytes.now ≡ None)) }
 {
     let mut records = Vec::new(alloc);
     let mut rest = bytes;
@@ -151,8 +150,7 @@ fn behind_open(bytes: &[u8]) -> Option<&[u8]>
 fn read_first(alloc: Global, bytes: &[u8]) -> Result<(Record, &[u8]), LogError>
     ensures text { IfOk result (λ found. bytes.now ≡ block_text found.0 ++ found.1.now) }
     ensures fits { IfOk result (λ found. Fits found.0) }
-    ensures refused { IfErr result (λ e. e ≢ LogError.NoMemory →
-        (e ≡ LogError.BadRecord) × (first_record bytes.now ≡ None)) }
+    ensures refused { IfErr result (IsMemoryOr LogError.BadRecord (first_record bytes.now ≡ None)) }
 {
     let [a, b, c, d, rest @ ..] = bytes else {
         return Err(LogError::BadRecord);
@@ -170,8 +168,7 @@ fn read_first(alloc: Global, bytes: &[u8]) -> Result<(Record, &[u8]), LogError>
 fn read_body(alloc: Global, body: &[u8]) -> Result<Record, LogError>
     ensures text { IfOk result (λ entry. body.now ≡ body_text entry) }
     ensures widths { IfOk result FitsWidths }
-    ensures refused { IfErr result (λ e. e ≢ LogError.NoMemory →
-        (e ≡ LogError.BadRecord) × (record_of body.now ≡ None)) }
+    ensures refused { IfErr result (IsMemoryOr LogError.BadRecord (record_of body.now ≡ None)) }
 {
     let [code, high, low, rest @ ..] = body else {
         return Err(LogError::BadRecord);

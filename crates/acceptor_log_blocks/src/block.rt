@@ -1,4 +1,5 @@
 ghost use Rattle.std.specs.Prelude.{◌≡◌, ◌≢◌, ℕ, List, ◌∷◌, ◌++◌, None, IfSome, IfNone, IfOk, IfErr};
+ghost use Rattle.acceptor_log_form.specs.Fault.{IsMemoryOr};
 ghost use Rattle.acceptor_log_form.specs.Text.{body_text, block_text, Fits, FitsWidths};
 ghost use Rattle.acceptor_log_form.specs.Reading.{record_of, first_record};
 
@@ -22,8 +23,7 @@ pub fn behind_open(bytes: &[u8]) -> Option<&[u8]>
 pub fn read_first(alloc: Global, bytes: &[u8]) -> Result<(Record, &[u8]), LogError>
     ensures text { IfOk result (λ found. bytes.now ≡ block_text found.0 ++ found.1.now) }
     ensures fits { IfOk result (λ found. Fits found.0) }
-    ensures refused { IfErr result (λ e. e ≢ LogError.NoMemory →
-        (e ≡ LogError.BadRecord) × (first_record bytes.now ≡ None)) }
+    ensures refused { IfErr result (IsMemoryOr LogError.BadRecord (first_record bytes.now ≡ None)) }
 {
     let [a, b, c, d, rest @ ..] = bytes else {
         return Err(LogError::BadRecord);
@@ -41,8 +41,7 @@ pub fn read_first(alloc: Global, bytes: &[u8]) -> Result<(Record, &[u8]), LogErr
 fn read_body(alloc: Global, body: &[u8]) -> Result<Record, LogError>
     ensures text { IfOk result (λ entry. body.now ≡ body_text entry) }
     ensures widths { IfOk result FitsWidths }
-    ensures refused { IfErr result (λ e. e ≢ LogError.NoMemory →
-        (e ≡ LogError.BadRecord) × (record_of body.now ≡ None)) }
+    ensures refused { IfErr result (IsMemoryOr LogError.BadRecord (record_of body.now ≡ None)) }
 {
     let [code, high, low, rest @ ..] = body else {
         return Err(LogError::BadRecord);

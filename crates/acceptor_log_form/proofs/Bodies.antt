@@ -1,6 +1,5 @@
 -- A body is of one record, and a record has one body.
-use Rattle.std.proofs.Common.{◌≡◌, ℕ, ◌+◌, true, leb, cond, List, ◌++◌, length}
-use Rattle.std.proofs.Common.{take, Some, None, refl, sym, ap, ◌∙◌, arith}
+use Rattle.std.proofs.Common.{◌≡◌, ℕ, ◌+◌, true, leb, cond, List, ◌++◌, length, take, Some, None, refl, sym, ap, ◌∙◌, arith}
 use Rattle.std.specs.Int.{w32, from_be_bytes, to_be_bytes}
 use Rattle.std.proofs.lemmas.Bool.{le-leb}
 use Rattle.std.proofs.lemmas.List.{length-append, take_at}

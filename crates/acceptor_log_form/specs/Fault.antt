@@ -29,3 +29,7 @@ HasFault h bytes NoMemory = ⊥
 HasFault h bytes Device = ⊥
 HasFault h bytes Stopped = ⊥
 HasFault h bytes Full = ⊥
+
+-- Memory was wanted, or it is this fault, for this reason.
+abbrev pub IsMemoryOr : LogError → Type 0 → LogError → Type 0
+IsMemoryOr fault reason e = e ≢ NoMemory → (e ≡ fault) × reason

@@ -5,3 +5,4 @@ pub mod Fault
 pub mod Lists
 pub mod Leaves
 pub mod Order
+pub mod TextLaws

@@ -2,6 +2,7 @@
 use Rattle.std.specs.Prelude.{◌≡◌, ◌≢◌, ◌⊎◌, ℕ, ◌<◌, ◌≤◌, false, List, take, Some, slice_get, IfSome}
 use Rattle.paxos_core_world.specs.Ballot.{Owns}
 use Rattle.paxos_core_world.specs.KeptPart.{KeptPart}
+use Rattle.acceptor_log_form.specs.declared.header.Header.{Header}
 use Rattle.acceptor_log_form.specs.declared.record.Record.{Record}
 use Rattle.acceptor_log_form.specs.declared.record.Record.TheVariants.{Offered, Started, Proposed, Promised, Accepted, Summary}
 use Rattle.acceptor_log_form.specs.Text.{room_of}
@@ -38,3 +39,7 @@ MayFollow n i rooms before r =
 -- The records of node i of n, in so many rooms, are in order: each may follow those in front of it.
 abbrev pub AreInOrder : ℕ → ℕ → ℕ → List Record → Type 0
 AreInOrder n i rooms rs = (k : ℕ) (r : Record) → slice_get rs k ≡ Some r → MayFollow n i rooms (take k rs) r
+
+-- so are those of the journal with this header
+abbrev pub KeepOrder : Header → ℕ → List Record → Type 0
+KeepOrder h = AreInOrder h.nodes h.node

@@ -22,6 +22,14 @@ header_text h = 0x43 ∷ 0x46 ∷ 0x4a ∷ 0x32 ∷ h.nodes ∷ h.promise ∷ h.
 abbrev pub header_size : ℕ
 header_size = 40
 
+-- a code, the room and a ballot
+abbrev pub ballot_text : ℕ → ℕ → ℕ → List ℕ
+ballot_text code room b = code ∷ (to_be_bytes w16 room ++ to_be_bytes w16 b)
+
+-- a code, the room, a ballot and a value under it
+abbrev pub vote_text : ℕ → ℕ → ℕ → ℕ → List ℕ
+vote_text code room b v = code ∷ (to_be_bytes w16 room ++ (to_be_bytes w16 b ++ v ∷ []))
+
 -- a summary's body: code 6, the room, the ballots that were started and promised last, and the vote, a ballot and a value
 abbrev pub summary_text : ℕ → ℕ → ℕ → ℕ × ℕ → List ℕ
 summary_text room s p x =
@@ -30,10 +38,10 @@ summary_text room s p x =
 -- a code, the room, and what the record says of it; numbers have their highest byte first
 abbrev pub body_text : Record → List ℕ
 body_text (Offered room offer) = 1 ∷ (to_be_bytes w16 room ++ offer)
-body_text (Started room b) = 2 ∷ (to_be_bytes w16 room ++ to_be_bytes w16 b)
-body_text (Proposed room b v) = 3 ∷ (to_be_bytes w16 room ++ (to_be_bytes w16 b ++ v ∷ []))
-body_text (Promised room b) = 4 ∷ (to_be_bytes w16 room ++ to_be_bytes w16 b)
-body_text (Accepted room b v) = 5 ∷ (to_be_bytes w16 room ++ (to_be_bytes w16 b ++ v ∷ []))
+body_text (Started room b) = ballot_text 2 room b
+body_text (Proposed room b v) = vote_text 3 room b v
+body_text (Promised room b) = ballot_text 4 room b
+body_text (Accepted room b v) = vote_text 5 room b v
 body_text (Summary room s p x) = summary_text room s p x
 
 -- the length of the body, and the body

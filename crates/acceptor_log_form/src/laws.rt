@@ -1,14 +1,13 @@
 //! What texts of journals are worth, as contracts of calls that do nothing else.
 
-ghost use Rattle.std.specs.Prelude.{◌≡◌, ◌≢◌, ◌⊎◌, [], ◌∷◌, ◌++◌, ℕ, List, Some, All, length};
+ghost use Rattle.std.specs.Prelude.{◌≡◌, ℕ, List, Some, All, length};
 ghost use Rattle.acceptor_log_form.specs.declared.header.Header.{Header};
 ghost use Rattle.acceptor_log_form.specs.declared.record.Record.{Record};
-ghost use Rattle.acceptor_log_form.specs.Text.{journal_text, Fits, StandsFor};
 ghost use Rattle.acceptor_log_form.specs.declared.errors.LogError.{LogError};
-ghost use Rattle.acceptor_log_form.specs.declared.errors.LogError.TheVariants.{OtherSource};
+ghost use Rattle.acceptor_log_form.specs.Text.{journal_text, Fits, StandsFor};
 ghost use Rattle.acceptor_log_form.specs.Reading.{listed};
 ghost use Rattle.acceptor_log_form.specs.Fault.{HasFault};
-ghost use Rattle.acceptor_log_form.specs.Lists.{Begins, Between};
+ghost use Rattle.acceptor_log_form.specs.TextLaws.{BetweenHasNoFault, JournalsHaveNoFault, OthersAreRefused, ReadsBetween, WithOrWithout};
 
 /// The list that bytes stand for is the one that they are read as, so they stand for no other.
 pub fn one_list()
@@ -23,8 +22,7 @@ pub fn one_header()
 
 /// As the journal with any other header they are refused as another source's.
 pub fn other_header()
-    ensures { (g h : Header) (rs : List Record) (bytes : List ℕ) → StandsFor g rs bytes → g ≢ h
-        → HasFault h bytes OtherSource }
+    ensures { OthersAreRefused }
 {}
 
 /// What is written stands for what was written.
@@ -35,8 +33,7 @@ pub fn text_stands()
 
 /// Bytes that stand for records as the journal with a header are not refused as that journal.
 pub fn no_fault()
-    ensures { (h : Header) (rs : List Record) (bytes : List ℕ) (e : LogError) → StandsFor h rs bytes
-        → HasFault h bytes e → ⊥ }
+    ensures { JournalsHaveNoFault }
 {}
 
 /// No bytes have two faults: what is not in form is no journal, whatever stands in it, and the header is looked at
@@ -48,14 +45,11 @@ pub fn one_fault()
 /// What is read of bytes that are between two lists, as those that a crash leaves: a list that begins with the first and
 /// begins the second. They are not refused.
 pub fn read_between()
-    ensures lists { (h : Header) (low high rs : List Record) (bytes : List ℕ) → Between h low high bytes
-        → StandsFor h rs bytes → Begins low rs × Begins rs high }
-    ensures no_fault { (h : Header) (low high : List Record) (bytes : List ℕ) (e : LogError) → Between h low high bytes
-        → HasFault h bytes e → ⊥ }
+    ensures lists { ReadsBetween }
+    ensures no_fault { BetweenHasNoFault }
 {}
 
 /// Between a list and that with one record more there is no other.
 pub fn with_or_without()
-    ensures { (h : Header) (rs : List Record) (r : Record) (bytes : List ℕ) → Between h rs (rs ++ r ∷ []) bytes
-        → StandsFor h rs bytes ⊎ StandsFor h (rs ++ r ∷ []) bytes }
+    ensures { WithOrWithout }
 {}

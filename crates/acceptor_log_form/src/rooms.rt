@@ -1,10 +1,10 @@
 //! What the records of a journal leave of each room, and the order that they keep there.
 
-ghost use Rattle.std.specs.Prelude.{◌≡◌, ◌≢◌, ◌<◌, ◌↔◌, ℕ, Some, slice_get, length, IsTrue, All, IfOk, OnOk, IfErr};
-ghost use Rattle.std.specs.Prelude.{IfSome, OnSome, IfNone};
+ghost use Rattle.std.specs.Prelude.{◌≡◌, ◌≢◌, ◌<◌, ◌↔◌, ℕ, Some, slice_get, length, IsTrue, All, IfOk, OnOk, IfErr, IfSome, OnSome, IfNone};
 ghost use Rattle.paxos_core_world.specs.KeptPart.{nothing_kept, part};
+ghost use Rattle.acceptor_log_form.specs.Fault.{IsMemoryOr};
 ghost use Rattle.acceptor_log_form.specs.Leaves.{kept_by, proposed_by, kept_in, vote_told};
-ghost use Rattle.acceptor_log_form.specs.Order.{GoesOn, AreInOrder, Opens, IsVoteWithin};
+ghost use Rattle.acceptor_log_form.specs.Order.{GoesOn, KeepOrder, Opens, IsVoteWithin};
 
 use crate::errors::LogError;
 use crate::header::Header;
@@ -25,9 +25,8 @@ pub fn kept_parts(
     ensures rooms { IfOk result (λ parts. length parts.items ≡ rooms) }
     ensures kept { IfOk result (λ parts. (m : ℕ) → m < rooms →
         slice_get parts.items m ≡ Some (kept_in records.now m)) }
-    ensures in_order { OnOk result (AreInOrder header.now.nodes header.now.node rooms records.now) }
-    ensures refused { IfErr result (λ e. e ≢ LogError.NoMemory →
-        (e ≡ LogError.BadRecord) × (AreInOrder header.now.nodes header.now.node rooms records.now → ⊥)) }
+    ensures in_order { OnOk result (KeepOrder header.now rooms records.now) }
+    ensures refused { IfErr result (IsMemoryOr LogError.BadRecord (KeepOrder header.now rooms records.now → ⊥)) }
 {
     let all = usize::from(rooms);
     kept_parts_of(alloc, header, all, records)
@@ -44,9 +43,8 @@ pub fn kept_parts_of(
     ensures rooms { IfOk result (λ parts. length parts.items ≡ rooms) }
     ensures kept { IfOk result (λ parts. (m : ℕ) → m < rooms →
         slice_get parts.items m ≡ Some (kept_in records.now m)) }
-    ensures in_order { OnOk result (AreInOrder header.now.nodes header.now.node rooms records.now) }
-    ensures refused { IfErr result (λ e. e ≢ LogError.NoMemory →
-        (e ≡ LogError.BadRecord) × (AreInOrder header.now.nodes header.now.node rooms records.now → ⊥)) }
+    ensures in_order { OnOk result (KeepOrder header.now rooms records.now) }
+    ensures refused { IfErr result (IsMemoryOr LogError.BadRecord (KeepOrder header.now rooms records.now → ⊥)) }
 {
     let mut kept = nothing_in(alloc, rooms)?;
     let mut proposed = vec![in alloc; 0u16; rooms]?;

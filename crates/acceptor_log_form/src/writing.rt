@@ -1,9 +1,9 @@
 //! Writing headers, records and whole journals.
 
-ghost use Rattle.std.specs.Prelude.{◌≡◌, [], ◌∷◌, ◌++◌, length, All, IfOk, OnOk};
+ghost use Rattle.std.specs.Prelude.{◌≡◌, ◌∷◌, ◌++◌, length, All, IfOk, OnOk};
 ghost use Rattle.std.specs.Int.{w16, to_be_bytes};
-ghost use Rattle.acceptor_log_form.specs.Text.{header_size, header_text};
-ghost use Rattle.acceptor_log_form.specs.Text.{body_text, block_text, journal_text, summary_text, HasLength};
+ghost use Rattle.acceptor_log_form.specs.Text.{ballot_text, block_text, body_text, header_size, header_text};
+ghost use Rattle.acceptor_log_form.specs.Text.{journal_text, summary_text, vote_text, HasLength};
 
 use crate::header::Header;
 use crate::record::Record;
@@ -85,8 +85,7 @@ fn write_head(code: u8, room: u16, out: &mut Vec<u8>) -> Result<(), NoMemory>
 }
 
 fn write_ballot(code: u8, room: u16, ballot: u16, out: &mut Vec<u8>) -> Result<(), NoMemory>
-    ensures { OnOk result (out.new.items
-        ≡ out.old.items ++ (code ∷ (to_be_bytes w16 room ++ to_be_bytes w16 ballot))) }
+    ensures { OnOk result (out.new.items ≡ out.old.items ++ ballot_text code room ballot) }
 {
     write_head(code, room, out)?;
     write_number(ballot, out)
@@ -99,8 +98,7 @@ fn write_vote(
     value: u8,
     out: &mut Vec<u8>,
 ) -> Result<(), NoMemory>
-    ensures { OnOk result (out.new.items
-        ≡ out.old.items ++ (code ∷ (to_be_bytes w16 room ++ (to_be_bytes w16 ballot ++ value ∷ [])))) }
+    ensures { OnOk result (out.new.items ≡ out.old.items ++ vote_text code room ballot value) }
 {
     write_ballot(code, room, ballot, out)?;
     out.push(value)?;

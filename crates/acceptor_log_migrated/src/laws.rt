@@ -1,15 +1,13 @@
 //! What migration keeps, as contracts of calls that do nothing else.
 
-ghost use Rattle.std.specs.Prelude.{◌≡◌, ◌<◌, ◌≤◌, ◌^◌, ℕ, List};
+ghost use Rattle.std.specs.Prelude.{◌≡◌, ◌<◌, ◌^◌, ℕ, List};
 ghost use Rattle.acceptor_log_form.specs.declared.record.Record.{Record};
-ghost use Rattle.acceptor_log_form.specs.Leaves.{kept_in};
-ghost use Rattle.acceptor_log_form.specs.Order.{AreInOrder};
 ghost use Rattle.acceptor_log_migrated.specs.Migrated.{offer_in, migrated};
+ghost use Rattle.acceptor_log_migrated.specs.Keeps.{MigrationKeepsOrder, MigrationKeepsParts};
 
 /// What is kept of each room is the same once the records are migrated.
 pub fn same_kept()
-    ensures { (n i : ℕ) (rs : List Record) → AreInOrder n i (2 ^ 16) rs → (room : ℕ) → room < 2 ^ 16
-        → kept_in (migrated rs) room ≡ kept_in rs room }
+    ensures { MigrationKeepsParts }
 {}
 
 /// So is each room's offer.
@@ -19,6 +17,5 @@ pub fn same_offers()
 
 /// Records in order, of so many rooms, are migrated to records in order, of no other rooms.
 pub fn still_in_order()
-    ensures { (n i rooms : ℕ) (rs : List Record) → rooms ≤ 2 ^ 16 → AreInOrder n i rooms rs
-        → AreInOrder n i rooms (migrated rs) }
+    ensures { MigrationKeepsOrder }
 {}

@@ -1,2 +1,3 @@
 pub mod OldText
 pub mod OldFault
+pub mod OldLaws

@@ -1,12 +1,12 @@
 //! What texts of old journals are worth, as contracts of calls that do nothing else.
 
-ghost use Rattle.std.specs.Prelude.{◌≡◌, ◌*◌, ℕ, List, Some, get_or};
+ghost use Rattle.std.specs.Prelude.{◌≡◌, ℕ, List, Some};
 ghost use Rattle.acceptor_log_form.specs.declared.header.Header.{Header};
 ghost use Rattle.acceptor_log_form.specs.declared.record.Record.{Record};
 ghost use Rattle.acceptor_log_form.specs.declared.errors.LogError.{LogError};
-ghost use Rattle.acceptor_log_form.specs.declared.errors.LogError.TheVariants.{OtherSource};
 ghost use Rattle.acceptor_log_old_form.specs.OldText.{OldStandsFor, old_listed};
-ghost use Rattle.acceptor_log_old_form.specs.OldFault.{IsFirst, HasOldFault};
+ghost use Rattle.acceptor_log_old_form.specs.OldFault.{HasOldFault};
+ghost use Rattle.acceptor_log_old_form.specs.OldLaws.{EvenNodesAreRefused, OldJournalsHaveNoFault, OldJournalsHaveOneHeader};
 
 /// The list that bytes stand for is the one that they are read as, so they stand for no other.
 pub fn one_old_list()
@@ -15,14 +15,12 @@ pub fn one_old_list()
 
 /// Bytes are the old journal of one header: the forms are told apart, and each tells all five parts.
 pub fn one_old_header()
-    ensures { (g h : Header) (xs ys : List Record) (bytes : List ℕ) → OldStandsFor g xs bytes → OldStandsFor h ys bytes
-        → g ≡ h }
+    ensures { OldJournalsHaveOneHeader }
 {}
 
 /// Bytes that stand for records as the old journal with a header are not refused as that journal.
 pub fn no_old_fault()
-    ensures { (h : Header) (rs : List Record) (bytes : List ℕ) (e : LogError) → OldStandsFor h rs bytes
-        → HasOldFault h bytes e → ⊥ }
+    ensures { OldJournalsHaveNoFault }
 {}
 
 /// No bytes have two faults.
@@ -32,6 +30,5 @@ pub fn one_old_fault()
 
 /// The first form with an even number of nodes is another source's, whatever header is asked for.
 pub fn even_nodes()
-    ensures { (h : Header) (half : ℕ) (bytes : List ℕ) → IsFirst bytes → get_or bytes 4 0 ≡ 2 * half
-        → HasOldFault h bytes OtherSource }
+    ensures { EvenNodesAreRefused }
 {}

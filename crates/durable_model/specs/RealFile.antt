@@ -1,7 +1,8 @@
 -- What a disk over a real file stands for: what the disk in memory does that it keeps beside the file.
-use Rattle.std.specs.Prelude.{◌≡◌, ℕ, List}
+use Rattle.std.specs.Prelude.{◌≡◌, ℕ, ◌+◌, List, length}
 use Rattle.durable_model.specs.declared.file.FileDisk.{FileDisk}
-use Rattle.durable_model.specs.Memory.{seen_by_memory, memory_moment, memory_may_leave, memory_left_since, IsSettled}
+use Rattle.durable_model.specs.Honest.{MayWantMemory}
+use Rattle.durable_model.specs.Memory.{seen_by_memory, memory_moment, memory_may_leave, memory_left_since, calls_made, IsSettled}
 
 -- what a read gives, where it succeeds
 abbrev pub seen_by_file : FileDisk → List ℕ
@@ -21,6 +22,11 @@ file_left_since disk = memory_left_since disk.held
 
 abbrev pub file_faults : FileDisk → ℕ
 file_faults disk = disk.failures
+
+-- a write of these bytes, where it may be out of memory, was noted: one call more
+abbrev pub NotesWrite : ℕ → List ℕ → FileDisk → FileDisk → Type 0
+NotesWrite at bytes old new =
+    MayWantMemory at (length bytes) (seen_by_file old) → calls_made new.held ≡ calls_made old.held + 1
 
 -- no call was made, and a crash leaves what was read as it was opened
 pub record IsAsOpened (disk : FileDisk) : Type 0 where

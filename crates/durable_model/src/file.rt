@@ -120,10 +120,11 @@ fn make_space(held: &mut MemoryDisk, n: usize, for_a_byte_more: bool) -> Result<
 }
 
 impl Disk for FileDisk {
-    ghost use Rattle.std.specs.Prelude.{◌≡◌, ◌+◌, ⊤, length, OnOk, IsErrOf};
+    ghost use Rattle.std.specs.Prelude.{◌≡◌, ⊤, length, OnOk, IsErrOf};
     ghost use Rattle.durable_model_writes.specs.Writes.{overwritten, Torn};
     ghost use Rattle.durable_model.specs.Honest.{Follows, Unchanged, Elapses, MayWantMemory, Counts};
     ghost use Rattle.durable_model.specs.RealFile.{seen_by_file, file_moment, file_may_leave, file_left_since, file_faults};
+    ghost use Rattle.durable_model.specs.RealFile.{NotesWrite};
     ghost use Rattle.durable_model.specs.Memory.{left_as_kept, counts_as_kept, only_as_kept};
 
     ghost is_honest = { λ _. ⊤ };
@@ -171,8 +172,7 @@ impl Disk for FileDisk {
         ensures unwritten { IsErrOf result DiskError.NoMemory → Unchanged seen_by_file file_may_leave self.old self.new }
         ensures failures { Counts result (file_faults self.old) (file_faults self.new) }
         // A failure of a write that may be out of memory is one of the file's: the write was noted.
-        ensures noted { IsErrOf result DiskError.Device → MayWantMemory at (length bytes.now) (seen_by_file self.old)
-            → calls_made self.new.held ≡ calls_made self.old.held + 1 }
+        ensures noted { IsErrOf result DiskError.Device → NotesWrite at bytes.now self.old self.new }
     {
         let may_want = bytes.len() > 1 || self.held.is_lengthened_by(at, bytes.len());
         if make_space(&mut self.held, bytes.len(), may_want).is_err() {

@@ -67,6 +67,16 @@ pub record RedoneTo (first : List ℕ) (calls : List Call) (written : List ℕ) 
   pub redone : Redone first calls written h rest seen
   pub left : MayLeave redone.through first image
 
+-- on top of any calls after which a read gave old, these were done again: a read gives new, and so much is left to do
+abbrev pub RedoesAll : List Call → List ℕ → List ℕ → List ℕ → List ℕ → Type 0
+RedoesAll calls written old new rest =
+    (first : List ℕ) (h : List (Call × List ℕ)) → old ≡ seen_after h first → Redone first calls written h rest new
+
+-- on top of any calls after which a read gave `seen`, a crash leaves new, with these too, of what it would have left as old
+abbrev pub TearsAll : List Call → List ℕ → List ℕ → List ℕ → List ℕ → Type 0
+TearsAll calls written seen old new =
+    (first : List ℕ) (h : List (Call × List ℕ)) → seen ≡ seen_after h first → MayLeave h first old → MayLeave (noted calls written h) first new
+
 seen_by : (call : Call) (bytes : List ℕ) (before : List ℕ → Type 0) (seen : List ℕ) → before seen
     → Leaves call bytes before seen (after call bytes seen)
 seen_by (Wrote at n) bytes before seen here = (seen, here, torn_overwritten seen at bytes)

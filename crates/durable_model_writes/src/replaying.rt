@@ -1,8 +1,7 @@
 //! What a crash may leave of a disk that noted its calls.
 
-ghost use Rattle.std.specs.Prelude.{◌≡◌, ℕ, List, [], take, drop, OnOk, IfOk};
-ghost use Rattle.durable_model_writes.specs.History.{size_of, noted, after, seen_after, MayLeave, Redone, Tears};
-ghost use Rattle.durable_model_writes.specs.declared.call.Call.{Call};
+ghost use Rattle.std.specs.Prelude.{◌≡◌, [], take, drop, OnOk, IfOk};
+ghost use Rattle.durable_model_writes.specs.History.{size_of, noted, after, MayLeave, RedoesAll, Tears, TearsAll};
 
 use crate::call::Call;
 use crate::overwriting::overwrite;
@@ -37,8 +36,7 @@ fn redo_all<'a>(
     calls: &[Call],
     written: &'a [u8],
 ) -> Result<&'a [u8], AllocError>
-    ensures { IfOk result (λ rest. (first : List ℕ) (h : List (Call × List ℕ)) → seen.old.items ≡ seen_after h first
-        → Redone first calls.now written.now h rest.now seen.new.items) }
+    ensures { IfOk result (λ rest. RedoesAll calls.now written.now seen.old.items seen.new.items rest.now) }
 {
     let mut rest = written;
     for call in calls {
@@ -57,8 +55,7 @@ fn tear_all(
     written: &[u8],
     words: &mut Pcg32,
 ) -> Result<(), AllocError>
-    ensures { OnOk result ((first : List ℕ) (h : List (Call × List ℕ)) → seen.old.items ≡ seen_after h first
-        → MayLeave h first image.old.items → MayLeave (noted calls.now written.now h) first image.new.items) }
+    ensures { OnOk result (TearsAll calls.now written.now seen.old.items image.old.items image.new.items) }
 {
     let mut rest = written;
     for call in calls {

@@ -1,12 +1,12 @@
 //! The contract of a pair of disks.
 
-ghost use Rattle.std.specs.Prelude.{◌≡◌, ◌≤◌, ◌↔◌, ℕ, List, [], length, IfOk, OnOk, OnErr, IsErrOf};
+ghost use Rattle.std.specs.Prelude.{◌≡◌, ◌≤◌, ◌↔◌, ℕ, List, [], length, IfOk, IsErrOf};
 ghost use Rattle.durable_model_writes.specs.declared.call.Call.{Call};
-ghost use Rattle.durable_model_writes.specs.declared.call.Call.TheVariants.{Wrote, Tore, Synced, Left};
-ghost use Rattle.durable_model.specs.declared.error.DiskError.TheVariants.{Device, NoMemory};
+ghost use Rattle.durable_model_writes.specs.declared.call.Call.TheVariants.{Left};
+ghost use Rattle.durable_model.specs.declared.error.DiskError.TheVariants.{NoMemory};
 ghost use Rattle.durable_model.specs.Honest.{MayWantMemory, Counts};
 ghost use Rattle.durable_pair.specs.Images.{Images, IsSpent, Shows, Both};
-ghost use Rattle.durable_pair.specs.Does.{Does};
+ghost use Rattle.durable_pair.specs.Does.{Does, DoesOld, LeavesOld, SparesOld, SyncsOld, TearsOld, WritesOld};
 
 use durable_model::{Disk, DiskError};
 use std::alloc::Global;
@@ -42,19 +42,18 @@ pub trait Pair: Disk {
     fn read_old(&mut self, alloc: Global) -> Result<Vec<u8>, DiskError>
         ensures whole { is_whole self.new ↔ is_whole self.old }
         ensures bytes { is_whole self.old → IfOk result (λ bytes. bytes.items ≡ old_seen self.old) }
-        ensures left { is_whole self.old → Does Self.moment both_since (Both new_may old_may) old_seen old_may
-            Self.seen new_may Left [] self.old self.new }
+        ensures left { is_whole self.old
+            → DoesOld Self.Disk both_since new_may old_may old_seen Left [] self.old self.new }
         ensures failures { Counts result (Self.faults self.old) (Self.faults self.new) };
 
     /// Writes over the bytes of the old disk, as [`Disk::write_at`] does over those of the new one.
     fn write_old_at(&mut self, at: u64, bytes: &[u8]) -> Result<(), DiskError>
         ensures whole { is_whole self.new ↔ is_whole self.old }
-        ensures done { is_whole self.old → OnOk result (Does Self.moment both_since (Both new_may old_may) old_seen
-            old_may Self.seen new_may (Wrote at (length bytes.now)) bytes.now self.old self.new) }
-        ensures tore { is_whole self.old → IsErrOf result Device → Does Self.moment both_since (Both new_may old_may)
-            old_seen old_may Self.seen new_may (Tore at (length bytes.now)) [] self.old self.new }
-        ensures left { is_whole self.old → IsErrOf result NoMemory → Does Self.moment both_since
-            (Both new_may old_may) old_seen old_may Self.seen new_may Left [] self.old self.new }
+        ensures done { WritesOld Self.Disk both_since new_may old_may old_seen is_whole at bytes.now result
+            self.old self.new }
+        ensures tore { TearsOld Self.Disk both_since new_may old_may old_seen is_whole at bytes.now result
+            self.old self.new }
+        ensures left { SparesOld Self.Disk both_since new_may old_may old_seen is_whole result self.old self.new }
         ensures memory { is_whole self.old
             → IsErrOf result NoMemory → MayWantMemory at (length bytes.now) (old_seen self.old) }
         ensures failures { Counts result (Self.faults self.old) (Self.faults self.new) };
@@ -62,10 +61,8 @@ pub trait Pair: Disk {
     /// Syncs the old disk, as [`Disk::sync`] does the new one.
     fn sync_old(&mut self) -> Result<(), DiskError>
         ensures whole { is_whole self.new ↔ is_whole self.old }
-        ensures done { is_whole self.old → OnOk result (Does Self.moment both_since (Both new_may old_may) old_seen
-            old_may Self.seen new_may Synced [] self.old self.new) }
-        ensures left { is_whole self.old → OnErr result (Does Self.moment both_since (Both new_may old_may) old_seen
-            old_may Self.seen new_may Left [] self.old self.new) }
+        ensures done { SyncsOld Self.Disk both_since new_may old_may old_seen is_whole result self.old self.new }
+        ensures left { LeavesOld Self.Disk both_since new_may old_may old_seen is_whole result self.old self.new }
         ensures memory { IsErrOf result NoMemory → ⊥ }
         ensures failures { Counts result (Self.faults self.old) (Self.faults self.new) };
 

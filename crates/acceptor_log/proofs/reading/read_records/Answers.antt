@@ -1,10 +1,9 @@
 -- What was read stands in front of what is left.
-use Rattle.std.proofs.Common.{◌≡◌, [], refl, sym}
+use Rattle.std.proofs.Common.{◌≡◌, [], refl, sym, length, ◌∙◌, ap}
 use Rattle.std.proofs.lemmas.Bool.{eqb-false, eqb-true}
 use Rattle.std.proofs.lemmas.List.{nil_from_length}
 use Rattle.std.proofs.lemmas.List.Elements.{All-push, All-same}
 use Rattle.std.proofs.lemmas.Result.{err_from_is_err_and}
-use Rattle.std.proofs.Common.{length, ◌∙◌, ap}
 use Rattle.acceptor_log_form.specs.Text.{Fits}
 use Rattle.acceptor_log.proofs.ReadBlocks.{records_behind-cut, records_behind-no_gate, stands_behind, one_more_read}
 use Rattle.acceptor_log.proofs.reading.read_records.Goals as goal

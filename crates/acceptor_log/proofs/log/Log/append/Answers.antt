@@ -4,8 +4,7 @@ use Rattle.std.proofs.lemmas.List.{length_push}
 use Rattle.acceptor_log_form.specs.declared.errors.LogError.TheVariants.{NoMemory, Device}
 use Rattle.acceptor_log.specs.Rest.{Rests, IsBlock, with_block}
 use Rattle.acceptor_log.specs.Acknowledged.{acknowledged}
-use Rattle.acceptor_log.proofs.Ready.{first_of, first_of-between, first_of-rests, rests-first_of, counted-first_of}
-use Rattle.acceptor_log.proofs.Ready.{rests-unchanged}
+use Rattle.acceptor_log.proofs.Ready.{first_of, first_of-between, first_of-rests, rests-first_of, counted-first_of, rests-unchanged}
 use Rattle.acceptor_log.proofs.log.Log.append.Goals as goal
 
 memory_is_no_device : NoMemory ≢ Device
