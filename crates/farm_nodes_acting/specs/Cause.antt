@@ -1,5 +1,6 @@
 -- Why a node was stopped.
 use Rattle.std.specs.Prelude.{◌≡◌, ◌<◌, ℕ, List, [], ◌∷◌}
+use Rattle.durable_model.specs.declared.disk.Disk as disks
 use Rattle.durable_model.specs.Honest.{Risen}
 use Rattle.acceptor_log_form.specs.declared.errors.LogError.{LogError}
 use Rattle.acceptor_log_form.specs.declared.errors.LogError.TheVariants.{NoMemory, Device, NotAJournal, BadRecord}
@@ -7,6 +8,9 @@ use Rattle.acceptor_log_form.specs.declared.errors.LogError.TheVariants.{OtherSo
 use Rattle.acceptor_log_form.specs.declared.record.Record.{Record}
 use Rattle.acceptor_log.specs.declared.log.Log.{Log}
 use Rattle.acceptor_log.specs.Acknowledged.{file_with}
+use Rattle.rooms_seat.specs.SeatState.{SeatState}
+use Rattle.farm_nodes_acting.specs.declared.stop.Stop.{Stop}
+use Rattle.farm_nodes_acting.specs.Noted.{pending_of}
 
 -- there is no room for the pending record: a journal's file has at most 4,294,967,295 bytes
 pub record IsFull {D : Type 0} (log : Log D) (pending : List Record) : Type 0 where
@@ -23,3 +27,7 @@ HasCause is_honest faults old new pending NotAJournal = ⊥
 HasCause is_honest faults old new pending BadRecord = ⊥
 HasCause is_honest faults old new pending OtherSource = ⊥
 HasCause is_honest faults old new pending Stopped = ⊥
+
+-- so it is of a call that was stopped over a disk, in a room with this seat
+abbrev pub StopsFor : {D : Type 0} → disks.Ghosts D → Log D → Log D → ℕ → SeatState → Stop → Type 0
+StopsFor disk old new room s stop = HasCause disk.is_honest disk.faults old new (pending_of room s stop.pending) stop.error

@@ -1,5 +1,6 @@
 -- What a call that may take steps leaves of the journal, by its result.
 use Rattle.std.specs.Prelude.{◌≡◌, ℕ, Bool, nat_lt, List, [], length, Result, Ok, Err}
+use Rattle.durable_model.specs.declared.disk.Disk as disks
 use Rattle.acceptor_log_form.specs.declared.record.Record.{Record}
 use Rattle.acceptor_log.specs.declared.log.Log.{Log}
 use Rattle.acceptor_log.specs.Acknowledged.{acknowledged, IsReady}
@@ -24,3 +25,7 @@ Journalled is_honest seen may_leave moment left_since old new room s t (Ok moved
 Journalled is_honest seen may_leave moment left_since old new room s t (Err stop) =
     (upto : List Record)
     × JournalAdvances seen may_leave moment left_since old new room s t upto (pending_of room t stop.pending)
+
+-- the same of a disk
+abbrev pub IsJournalled : {D : Type 0} → disks.Ghosts D → Log D → Log D → ℕ → SeatState → SeatState → Result Bool Stop → Type 0
+IsJournalled disk = Journalled disk.is_honest disk.seen disk.may_leave disk.moment disk.left_since

@@ -1,12 +1,12 @@
 //! One step, its record first.
 
-ghost use Rattle.std.specs.Prelude.{◌≡◌, ◌≢◌, ◌≤◌, Some, None, true, is_some, IfOk, IfErr, OnErr};
-ghost use Rattle.acceptor_log.specs.Acknowledged.{IsSound};
+ghost use Rattle.std.specs.Prelude.{◌≡◌, ◌≢◌, None, true, is_some, IfOk, IfErr, OnErr};
+ghost use Rattle.acceptor_log.specs.Acknowledged.{IsSound, WhileGoing};
 ghost use Rattle.rooms_seat.specs.Would.{would, Acted, IsAmong};
-ghost use Rattle.farm_nodes_acting.specs.Noted.{record_of, pending_of, IsActAmong, IsByte};
+ghost use Rattle.farm_nodes_acting.specs.Noted.{record_of, IsActAmong, IsByte};
 ghost use Rattle.farm_nodes_acting.specs.Served.{IsServed};
-ghost use Rattle.farm_nodes_acting.specs.Journalled.{Journalled};
-ghost use Rattle.farm_nodes_acting.specs.Cause.{HasCause};
+ghost use Rattle.farm_nodes_acting.specs.Journalled.{IsJournalled};
+ghost use Rattle.farm_nodes_acting.specs.Cause.{StopsFor};
 ghost use Rattle.farm_nodes_acting.specs.declared.stop.Pending.{Pending as Waiting};
 
 use crate::stop::{Pending, Stop};
@@ -34,10 +34,9 @@ pub fn act<D: Disk>(
     ensures pending { IfErr result (λ stop. (stop.pending ≡ Waiting.Act act) × (would seat.old act ≢ None)) }
     ensures acting { IfErr result (λ stop. IsActAmong seat.new.node.quorums.nodes stop.pending) }
 
-    ensures journal { D.is_honest log.old.disk → log.old.going ≡ true → Journalled
-        D.is_honest D.seen D.may_leave D.moment D.left_since log.old log.new room seat.old seat.new result }
-    ensures cause { log.old.going ≡ true → IfErr result (λ stop. HasCause D.is_honest D.faults
-        log.old log.new (pending_of room seat.new stop.pending) stop.error) }
+    ensures journal { WhileGoing D.is_honest log.old
+        (IsJournalled D.Disk log.old log.new room seat.old seat.new result) }
+    ensures cause { log.old.going ≡ true → IfErr result (StopsFor D.Disk log.old log.new room seat.new) }
 {
     let Some(step) = seat.intent(act) else {
         return Ok(false);

@@ -1,11 +1,11 @@
 //! Hearing the nodes of a room: what they propose is accepted, or else their ballots are promised.
 
-ghost use Rattle.std.specs.Prelude.{◌≡◌, ◌≢◌, ◌<◌, ℕ, true, IfOk, IfErr, OnOk};
-ghost use Rattle.acceptor_log.specs.Acknowledged.{IsSound};
-ghost use Rattle.farm_nodes_acting.specs.Noted.{pending_of, IsActAmong};
+ghost use Rattle.std.specs.Prelude.{◌≡◌, ◌<◌, ℕ, true, IfOk, IfErr, OnOk};
+ghost use Rattle.acceptor_log.specs.Acknowledged.{IsSound, WhileGoing};
+ghost use Rattle.farm_nodes_acting.specs.Noted.{IsActAmong};
 ghost use Rattle.farm_nodes_acting.specs.Served.{IsServed};
-ghost use Rattle.farm_nodes_acting.specs.Journalled.{Journalled};
-ghost use Rattle.farm_nodes_acting.specs.Cause.{HasCause};
+ghost use Rattle.farm_nodes_acting.specs.Journalled.{IsJournalled};
+ghost use Rattle.farm_nodes_acting.specs.Cause.{StopsFor};
 ghost use Rattle.farm_nodes_acting.specs.Quiet.{IsQuiet, HasHeard};
 
 use crate::acting::act;
@@ -25,10 +25,9 @@ pub fn hear_all<D: Disk>(log: &mut Log<D>, seat: &mut WordSeat, room: u16) -> Re
 
     // Where it is stopped, it was about to act, and was asked of a node of the room.
     ensures acting { IfErr result (λ stop. IsActAmong seat.new.node.quorums.nodes stop.pending) }
-    ensures journal { D.is_honest log.old.disk → log.old.going ≡ true → Journalled
-        D.is_honest D.seen D.may_leave D.moment D.left_since log.old log.new room seat.old seat.new result }
-    ensures cause { log.old.going ≡ true → IfErr result (λ stop. HasCause D.is_honest D.faults
-        log.old log.new (pending_of room seat.new stop.pending) stop.error) }
+    ensures journal { WhileGoing D.is_honest log.old
+        (IsJournalled D.Disk log.old log.new room seat.old seat.new result) }
+    ensures cause { log.old.going ≡ true → IfErr result (StopsFor D.Disk log.old log.new room seat.new) }
 {
     let mut moved = false;
     for j in 0..seat.count() {
@@ -54,10 +53,9 @@ pub fn hear<D: Disk>(log: &mut Log<D>, seat: &mut WordSeat, room: u16, j: u8) ->
     ensures others { OnOk result ((i : ℕ) → i < j → IsQuiet i seat.old → IsQuiet i seat.new) }
 
     ensures acting { IfErr result (λ stop. IsActAmong seat.new.node.quorums.nodes stop.pending) }
-    ensures journal { D.is_honest log.old.disk → log.old.going ≡ true → Journalled
-        D.is_honest D.seen D.may_leave D.moment D.left_since log.old log.new room seat.old seat.new result }
-    ensures cause { log.old.going ≡ true → IfErr result (λ stop. HasCause D.is_honest D.faults
-        log.old log.new (pending_of room seat.new stop.pending) stop.error) }
+    ensures journal { WhileGoing D.is_honest log.old
+        (IsJournalled D.Disk log.old log.new room seat.old seat.new result) }
+    ensures cause { log.old.going ≡ true → IfErr result (StopsFor D.Disk log.old log.new room seat.new) }
 {
     let _proposer = seat.look_proposer(j);
     let moved = match answer(log, seat, room, j) {
@@ -79,10 +77,9 @@ fn answer<D: Disk>(log: &mut Log<D>, seat: &mut WordSeat, room: u16, j: u8) -> R
     ensures quiet { OnOk result (IsQuiet j seat.new) }
     ensures others { OnOk result ((i : ℕ) → i < j → IsQuiet i seat.old → IsQuiet i seat.new) }
     ensures acting { IfErr result (λ stop. IsActAmong seat.new.node.quorums.nodes stop.pending) }
-    ensures journal { D.is_honest log.old.disk → log.old.going ≡ true → Journalled
-        D.is_honest D.seen D.may_leave D.moment D.left_since log.old log.new room seat.old seat.new result }
-    ensures cause { log.old.going ≡ true → IfErr result (λ stop. HasCause D.is_honest D.faults
-        log.old log.new (pending_of room seat.new stop.pending) stop.error) }
+    ensures journal { WhileGoing D.is_honest log.old
+        (IsJournalled D.Disk log.old log.new room seat.old seat.new result) }
+    ensures cause { log.old.going ≡ true → IfErr result (StopsFor D.Disk log.old log.new room seat.new) }
 {
     seat.bounds();
     let moved = match act(log, seat, room, Act::Accept(j)) {

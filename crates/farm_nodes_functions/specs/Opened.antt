@@ -12,9 +12,13 @@ use Rattle.farm_nodes_function_rooms.specs.Kept.{kept_of, IsSettledIn}
 use Rattle.farm_nodes_function_rooms.specs.Numbered.{IsOpenedRoom}
 use Rattle.farm_nodes_lists.specs.Rows.{column, offers_of}
 
--- the offers are those of the nodes that have kept that they made one in the room of the function's pass
+-- the offers for a function are those of the nodes that have kept that they made one in the room of its pass
+abbrev pub AreOfferedFor : {T : Type 0} → List (Vec KeptPart) → Which → ℕ → List (List (Option T)) → Type 0
+AreOfferedFor kept pass f offers = AreOffersOf (kept_of kept (room_at f pass)) (offers_of offers f)
+
+-- so are those for all functions
 abbrev pub AreOfferedIn : {T : Type 0} → List (Vec KeptPart) → Which → ℕ → List (List (Option T)) → Type 0
-AreOfferedIn kept pass functions offers = (f : ℕ) → f < functions → AreOffersOf (kept_of kept (room_at f pass)) (offers_of offers f)
+AreOfferedIn kept pass functions offers = (f : ℕ) → f < functions → AreOfferedFor kept pass f offers
 
 -- what the nodes have for each function shows the seats of the room of its pass, as it opens
 abbrev pub AreOpenedIn : {T N : Type 0} → Sizes → List (Vec KeptPart) → Which → ℕ → List (List (Option T)) → (N → SeatValue T × Claimed) → List (List N) → Type 0

@@ -1,10 +1,8 @@
 ghost use Rattle.std.specs.Prelude.{◌≡◌, ◌+◌, ◌*◌, ◌<◌, ◌≤◌, ◌⊎◌, length, IfOk, OnOk, IfErr};
-ghost use Rattle.rooms.specs.Opened.{AreOffersOf};
-ghost use Rattle.farm_nodes_function_rooms.specs.Numbers.{room_at};
 ghost use Rattle.farm_nodes_function_rooms.specs.Which.TheVariants as which;
-ghost use Rattle.farm_nodes_lists.specs.Rows.{offers_of, rows_of};
-ghost use Rattle.farm_nodes_function_rooms.specs.Kept.{kept_of};
+ghost use Rattle.farm_nodes_lists.specs.Rows.{rows_of};
 ghost use Rattle.farm_nodes_function_rooms.specs.declared.fault.RoomFault.TheVariants as fault;
+ghost use Rattle.farm_nodes_functions.specs.Opened.{AreOfferedFor};
 ghost use Rattle.farm_nodes_functions.specs.Function.{room_fault, AreHere, AreTaken, IsOpenFunction, IsTold};
 
 use constprop_check::ConstProp;
@@ -41,14 +39,10 @@ pub(crate) fn open_function<H: Naming>(
 ) -> Result<Vec<NumberedSeat<H>>, Unopened>
     requires number { function < 16384 }
     requires size { length kept.now ≡ quorums.nodes }
-    requires offers1 { AreOffersOf (kept_of kept.now (room_at function which.Constants))
-        (offers_of (rows_of offers.old.constants.items) function) }
-    requires offers2 { AreOffersOf (kept_of kept.now (room_at function which.Expressions))
-        (offers_of (rows_of offers.old.expressions.items) function) }
-    requires offers3 { AreOffersOf (kept_of kept.now (room_at function which.Allocation))
-        (offers_of (rows_of offers.old.allocation.items) function) }
-    requires offers4 { AreOffersOf (kept_of kept.now (room_at function which.Order))
-        (offers_of (rows_of offers.old.order.items) function) }
+    requires offers1 { AreOfferedFor kept.now which.Constants function (rows_of offers.old.constants.items) }
+    requires offers2 { AreOfferedFor kept.now which.Expressions function (rows_of offers.old.expressions.items) }
+    requires offers3 { AreOfferedFor kept.now which.Allocation function (rows_of offers.old.allocation.items) }
+    requires offers4 { AreOfferedFor kept.now which.Order function (rows_of offers.old.order.items) }
     ensures opened { IfOk result (λ nodes. IsOpenFunction quorums kept.now function offers.old nodes.items) }
     ensures others { OnOk result (AreTaken function offers.old offers.new) }
     ensures told { IfErr result (λ e. IsTold quorums kept.now function e.room e.fault) }

@@ -4,7 +4,8 @@ ghost use Rattle.farm_nodes_function_rooms.specs.Kept.{AreSettled, IsOfferedIn, 
 ghost use Rattle.farm_nodes_function_rooms.specs.Left.{AreLeftIn};
 ghost use Rattle.farm_nodes_function_rooms.specs.declared.fault.RoomFault.TheVariants as fault;
 ghost use Rattle.farm_nodes_lists.specs.Rows.{rows_of};
-ghost use Rattle.farm_nodes_functions.specs.Opened.{AreOfferedIn, AreOpenedIn, IsSettledBefore};
+ghost use Rattle.farm_nodes_functions.specs.Opened.{AreOfferedIn, IsSettledBefore};
+ghost use Rattle.farm_nodes_functions.specs.Seats.{OpenAllocation, OpenConstants, OpenExpressions, OpenOrder};
 
 use crate::function::{Offered, open_function};
 use farm_nodes_function_rooms::{NumberedSeat, Unopened};
@@ -37,14 +38,14 @@ pub fn open_functions<H: Naming>(
     ensures functions { IfOk result (λ nodes. All (λ row. length row ≡ functions) (rows_of nodes.items)) }
 
     // In each room they are those of the room as it opens from what was kept of it and offered there.
-    ensures constants { IfOk result (λ nodes. AreOpenedIn quorums kept.now which.Constants functions (rows_of offers.constants.items)
-        (λ n. (n.seat.first, n.claim)) (rows_of nodes.items)) }
-    ensures expressions { IfOk result (λ nodes. AreOpenedIn quorums kept.now which.Expressions functions (rows_of offers.expressions.items)
-        (λ n. (n.seat.second, n.claim)) (rows_of nodes.items)) }
-    ensures allocation { IfOk result (λ nodes. AreOpenedIn quorums kept.now which.Allocation functions (rows_of offers.allocation.items)
-        (λ n. (n.seat.third, n.claim)) (rows_of nodes.items)) }
-    ensures order { IfOk result (λ nodes. AreOpenedIn quorums kept.now which.Order functions (rows_of offers.order.items)
-        (λ n. (n.seat.fourth, n.claim)) (rows_of nodes.items)) }
+    ensures constants { IfOk result (λ nodes.
+        OpenConstants quorums kept.now functions offers (rows_of nodes.items)) }
+    ensures expressions { IfOk result (λ nodes.
+        OpenExpressions quorums kept.now functions offers (rows_of nodes.items)) }
+    ensures allocation { IfOk result (λ nodes.
+        OpenAllocation quorums kept.now functions offers (rows_of nodes.items)) }
+    ensures order { IfOk result (λ nodes.
+        OpenOrder quorums kept.now functions offers (rows_of nodes.items)) }
     ensures settled { OnOk result ((f : ℕ) → f < functions → AreSettled quorums kept.now f) }
 
     // What was kept of the rooms in front of the one that is told is settled, and of that one it is not where it is said so.

@@ -1,5 +1,5 @@
 -- When a node starts a ballot, and what stands once it has led its room.
-use Rattle.std.specs.Prelude.{◌≡◌, ◌≢◌, ◌⊎◌, ℕ, ◌≤◌, Bool, true, ◌&&◌, nat_lt, is_none, Option, Some, None, IsSomeAnd}
+use Rattle.std.specs.Prelude.{◌≡◌, ◌≢◌, ◌⊎◌, ℕ, ◌%◌, ◌≤◌, Bool, true, ◌&&◌, nat_lt, is_none, Option, Some, None, IsSomeAnd}
 use Rattle.paxos_core_world.specs.KeptPart.{with_start}
 use Rattle.paxos_core_law.specs.NodeState.{NodeState}
 use Rattle.rooms_state.specs.declared.act.Act.TheVariants as act
@@ -19,6 +19,15 @@ may_start s = s.kept.offered && (is_none s.learned && is_passed s.ballot s.kept.
 -- it has learned, or no own ballot is left, or its ballot under way is not below its own promised one
 abbrev pub HasLed : SeatState → Type 0
 HasLed s = (s.node.learned ≢ None) ⊎ (would s act.Start ≡ None) ⊎ IsSomeAnd s.node.ballot (λ b. s.node.kept.promised ≤ b)
+
+-- a node that had offered has led where this word of its generator is 0 modulo 4
+abbrev pub LeadsByLot : ℕ → SeatState → SeatState → Type 0
+LeadsByLot word old new = old.node.kept.offered ≡ true → word % 4 ≡ 0 → HasLed new
+
+-- a node that started a ballot might do so, at a word that is 0 modulo 4
+abbrev pub StartsByLot : ℕ → SeatState → SeatState → Type 0
+StartsByLot word old new =
+    new.node.kept.started ≢ old.node.kept.started → (may_start old.node ≡ true) × (word % 4 ≡ 0)
 
 -- what leading leaves of a seat: of what it keeps only the ballot that it started may be another, and it goes on in its run
 pub record LeavesAll (old new : SeatState) : Type 0 where

@@ -1,4 +1,5 @@
 pub mod Leading
+pub mod Acting
 pub use Rattle.farm_nodes_acting.specs.Cause
 pub use Rattle.farm_nodes_acting.specs.Journalled
 pub use Rattle.farm_nodes_acting.specs.Noted

@@ -1,16 +1,15 @@
 //! Leading a room: proposing, and starting a ballot now and then.
 
-ghost use Rattle.std.specs.Prelude.{◌≡◌, ◌≢◌, ◌%◌, ◌||◌, ◌<◌, ℕ, true, None, IfOk, IfErr, OnOk};
+ghost use Rattle.std.specs.Prelude.{◌≡◌, ◌||◌, ℕ, None, IfOk, IfErr, OnOk};
 ghost use Rattle.rand_pcg.specs.Pcg.{pcg32};
 ghost use Rattle.acceptor_log.specs.Acknowledged.{IsSound};
 ghost use Rattle.rooms_state.specs.declared.act.Act.TheVariants as asked;
 ghost use Rattle.rooms_state.specs.Would.{would};
-ghost use Rattle.farm_nodes_acting.specs.Noted.{pending_of, IsActAmong};
+ghost use Rattle.farm_nodes_acting.specs.Noted.{IsActAmong};
 ghost use Rattle.farm_nodes_acting.specs.Served.{IsServed};
-ghost use Rattle.farm_nodes_acting.specs.Journalled.{Journalled};
-ghost use Rattle.farm_nodes_acting.specs.Cause.{HasCause};
 ghost use Rattle.farm_nodes_acting.specs.Quiet.{IsQuiet};
-ghost use Rattle.farm_nodes_leading.specs.Leading.{may_start, is_passed, HasLed, LeavesAll};
+ghost use Rattle.farm_nodes_leading.specs.Acting.{LogsActs, MayStopFor};
+ghost use Rattle.farm_nodes_leading.specs.Leading.{may_start, is_passed, LeadsByLot, LeavesAll, StartsByLot};
 
 use acceptor_log::Log;
 use durable_model::Disk;
@@ -36,17 +35,14 @@ pub fn lead<D: Disk>(
     // What stands after it: nothing is left to propose, what was quiet is quiet, and the node has started if it was to.
     ensures proposed { OnOk result (would seat.new asked.Propose ≡ None) }
     ensures quiet { (j : ℕ) → IsQuiet j seat.old → IsQuiet j seat.new }
-    ensures led { OnOk result (seat.old.node.kept.offered ≡ true → (pcg32 words.old).0 % 4 ≡ 0 → HasLed seat.new) }
+    ensures led { OnOk result (LeadsByLot (pcg32 words.old).0 seat.old seat.new) }
 
     // It starts no ballot without cause.
-    ensures started { seat.new.node.kept.started ≢ seat.old.node.kept.started
-        → (may_start seat.old.node ≡ true) × ((pcg32 words.old).0 % 4 ≡ 0) }
+    ensures started { StartsByLot (pcg32 words.old).0 seat.old seat.new }
 
     ensures acting { IfErr result (λ stop. IsActAmong seat.new.node.quorums.nodes stop.pending) }
-    ensures journal { D.is_honest log.old.disk → log.old.going ≡ true → Journalled
-        D.is_honest D.seen D.may_leave D.moment D.left_since log.old log.new room seat.old seat.new result }
-    ensures cause { log.old.going ≡ true → IfErr result (λ stop. HasCause D.is_honest D.faults
-        log.old log.new (pending_of room seat.new stop.pending) stop.error) }
+    ensures journal { LogsActs D.Disk log.old log.new room seat.old seat.new result }
+    ensures cause { MayStopFor D.Disk log.old log.new room seat.new result }
 {
     let proposed = match act(log, seat, room, Act::Propose) {
         Ok(proposed) => proposed,

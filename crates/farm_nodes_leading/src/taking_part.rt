@@ -1,14 +1,13 @@
-ghost use Rattle.std.specs.Prelude.{◌≡◌, ◌<◌, ◌%◌, ℕ, true, None, Some, IfOk, IfErr, OnOk};
+ghost use Rattle.std.specs.Prelude.{◌≡◌, ◌<◌, ℕ, None, IfOk, IfErr, OnOk};
 ghost use Rattle.rand_pcg.specs.Pcg.{pcg32};
 ghost use Rattle.acceptor_log.specs.Acknowledged.{IsSound};
 ghost use Rattle.rooms_state.specs.declared.act.Act.TheVariants as asked;
 ghost use Rattle.rooms_state.specs.Would.{would};
-ghost use Rattle.farm_nodes_acting.specs.Noted.{pending_of, IsActAmong};
+ghost use Rattle.farm_nodes_acting.specs.Noted.{IsActAmong};
 ghost use Rattle.farm_nodes_acting.specs.Served.{IsServed};
-ghost use Rattle.farm_nodes_acting.specs.Journalled.{Journalled};
-ghost use Rattle.farm_nodes_acting.specs.Cause.{HasCause};
 ghost use Rattle.farm_nodes_acting.specs.Quiet.{IsQuiet};
-ghost use Rattle.farm_nodes_leading.specs.Leading.{HasLed, StaysInRoom};
+ghost use Rattle.farm_nodes_leading.specs.Acting.{LogsActs, MayStopFor};
+ghost use Rattle.farm_nodes_leading.specs.Leading.{LeadsByLot, StaysInRoom};
 
 use crate::leading::{either, lead};
 use acceptor_log::Log;
@@ -32,13 +31,11 @@ pub fn take_part<D: Disk>(
     // Nothing is left to accept, to promise or to propose, and it has led if it was to.
     ensures quiet { OnOk result ((j : ℕ) → j < seat.new.node.quorums.nodes → IsQuiet j seat.new) }
     ensures proposed { OnOk result (would seat.new asked.Propose ≡ None) }
-    ensures led { OnOk result (seat.old.node.kept.offered ≡ true → (pcg32 words.old).0 % 4 ≡ 0 → HasLed seat.new) }
+    ensures led { OnOk result (LeadsByLot (pcg32 words.old).0 seat.old seat.new) }
 
     ensures acting { IfErr result (λ stop. IsActAmong seat.new.node.quorums.nodes stop.pending) }
-    ensures journal { D.is_honest log.old.disk → log.old.going ≡ true → Journalled
-        D.is_honest D.seen D.may_leave D.moment D.left_since log.old log.new room seat.old seat.new result }
-    ensures cause { log.old.going ≡ true → IfErr result (λ stop. HasCause D.is_honest D.faults
-        log.old log.new (pending_of room seat.new stop.pending) stop.error) }
+    ensures journal { LogsActs D.Disk log.old log.new room seat.old seat.new result }
+    ensures cause { MayStopFor D.Disk log.old log.new room seat.new result }
 {
     let heard = match hear_all(log, seat, room) {
         Ok(heard) => heard,

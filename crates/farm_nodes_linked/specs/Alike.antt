@@ -45,3 +45,11 @@ module _ {H : Type 0} {h : naming.Ghosts H} where
     pub second : IsUndecided (learned_by ys) → ⊥
     pub same : learned_by xs ≡ learned_by ys
     pub one : (p q : Program linear.FunctionData) → p ≡ linked_offers program (learned_by xs) → q ≡ linked_offers program (learned_by ys) → p ≡ q
+
+  -- a meeting that counted all functions counts
+  abbrev pub MeetingCounts : List (NumberedSeat H h) → List (NumberedSeat H h) → Type 0
+  MeetingCounts xs ys = HaveCountedAll xs ys → HaveCounted xs ys
+
+  -- nodes that met, and were counted, link one program
+  abbrev pub CountedLinkOne : Program rtl.FunctionData → List (NumberedSeat H h) → List (NumberedSeat H h) → Type 0
+  CountedLinkOne program xs ys = HaveCounted xs ys → LinkOne program xs ys

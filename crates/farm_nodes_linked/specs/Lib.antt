@@ -4,6 +4,7 @@ pub mod Offered
 pub mod Refused
 pub mod Translated
 pub mod Alike
+pub mod Linking
 pub use Rattle.farm_nodes_seat_meeting.specs.Held
 pub use Rattle.farm_nodes_seat_meeting.specs.Lists
 pub use Rattle.linker.specs.Chains

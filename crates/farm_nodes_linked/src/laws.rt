@@ -3,7 +3,7 @@
 ghost use Rattle.c_checker_rules.specs.Checked.{program_tree};
 ghost use Rattle.cminor_lowering.specs.Programs.{low};
 ghost use Rattle.rtlgen_definition.specs.Gen.{gen};
-ghost use Rattle.farm_nodes_linked.specs.Alike.{HaveCounted, HaveCountedAll, LinkOne};
+ghost use Rattle.farm_nodes_linked.specs.Alike.{CountedLinkOne, MeetingCounts};
 
 use c_checker_rules::CProgram;
 use farm_nodes_node::FarmNode;
@@ -16,8 +16,7 @@ pub fn one_program<D, O, H: Naming>(
     first: &FarmNode<D, O, H>,
     second: &FarmNode<D, O, H>,
 )
-    ensures now { HaveCountedAll first.now.seats.items second.now.seats.items →
-        HaveCounted first.now.seats.items second.now.seats.items }
-    ensures one { HaveCounted first.now.seats.items second.now.seats.items →
-        LinkOne (gen (low (program_tree program.now))) first.now.seats.items second.now.seats.items }
+    ensures now { MeetingCounts first.now.seats.items second.now.seats.items }
+    ensures one { CountedLinkOne
+        (gen (low (program_tree program.now))) first.now.seats.items second.now.seats.items }
 {}

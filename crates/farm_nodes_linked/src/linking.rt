@@ -1,7 +1,6 @@
 //! The learned offers, and no others, are handed to the linker.
 
-ghost use Rattle.std.specs.Prelude.{◌≡◌, ◌≢◌, ◌↔◌, All, length, IfOk, IfErr, IsErrAnd, OnOk};
-ghost use Rattle.std.specs.Arc.{arc_value};
+ghost use Rattle.std.specs.Prelude.{◌≡◌, ◌↔◌, All, Err, length, IfOk, IfErr, IsErrAnd, OnOk};
 ghost use Rattle.lang_base.specs.Keeps.{Keeps};
 ghost use Rattle.c_program.specs.Meaning.{crun};
 ghost use Rattle.c_checker_rules.specs.Checked.{program_tree};
@@ -15,8 +14,8 @@ ghost use Rattle.linear_language.specs.Meaning as linear;
 ghost use Rattle.linker.specs.Chains.{names_beside, names_of, HasNamesOf};
 ghost use Rattle.farm_nodes_linked.specs.Learned.{learned_by, IsUndecided};
 ghost use Rattle.farm_nodes_linked.specs.Lent.{lent_beside};
-ghost use Rattle.farm_nodes_linked.specs.Offered.{linked_offers, AllGoOn};
-ghost use Rattle.farm_nodes_linked.specs.Refused.{IsRefused};
+ghost use Rattle.farm_nodes_linked.specs.Linking.{CannotLink, IsOtherNames, OnlyMemoryFails, SameNames};
+ghost use Rattle.farm_nodes_linked.specs.Translated.{GoOnFromAll, IsLinkedOf};
 
 use crate::errors::LinkedError;
 use crate::learned::{chain_of, is_undecided};
@@ -60,10 +59,8 @@ pub fn linked<D, O, H: Naming>(
     ensures undecided { (result ≡ Err LinkedError.Undecided) ↔ IsUndecided (learned_by node.now.seats.items) }
 
     // What is linked are the learned offers alone, and they chain.
-    ensures ok { IfOk result (λ made.
-        made ≡ linked_offers (gen (low (program_tree program.now))) (learned_by node.now.seats.items)) }
-    ensures chained { OnOk result
-        (AllGoOn (gen (low (program_tree program.now))).functions (learned_by node.now.seats.items)) }
+    ensures ok { IfOk result (IsLinkedOf (gen (low (program_tree program.now))) node.now.seats.items) }
+    ensures chained { OnOk result (GoOnFromAll (gen (low (program_tree program.now))) node.now.seats.items) }
     ensures same_names { IfOk result (HasNamesOf (low (program_tree program.now))) }
     ensures keeps { IfOk result (λ made. Keeps (crun (program_tree program.now)) (linear.run made)) }
     ensures few { OnOk result (All HasFewNodes (low (program_tree program.now)).functions) }
@@ -72,19 +69,13 @@ pub fn linked<D, O, H: Naming>(
     ensures spelled { HaveNames (program_tree program.now) → IfOk result (IsProgram IsFunction) }
 
     // Tested behind that: the names of the node's own program are others, or not as many.
-    ensures names { names_of (arc_value node.now.program).functions ≢ names_of (low (program_tree program.now)).functions →
-        IsErrAnd result (λ e. e ≢ LinkedError.Undecided → e ≢ LinkedError.Link LinkError.NoMemory →
-        e ≡ LinkedError.Link LinkError.Names) }
+    ensures names { (SameNames node.now program.now → ⊥) → IsErrAnd result IsOtherNames }
 
     // Why it is refused.
-    ensures refused { IfErr result (IsRefused (low (program_tree program.now))
-        (names_of (arc_value node.now.program).functions) (learned_by node.now.seats.items)) }
+    ensures refused { IfErr result (CannotLink node.now program.now) }
 
     // Where the names are the program's, no function needs too many nodes and the learned offers chain, only memory is refused.
-    ensures whole { names_of (arc_value node.now.program).functions ≡ names_of (low (program_tree program.now)).functions →
-        All HasFewNodes (low (program_tree program.now)).functions →
-        AllGoOn (gen (low (program_tree program.now))).functions (learned_by node.now.seats.items) →
-        IfErr result (λ e. e ≡ LinkedError.Link LinkError.NoMemory) }
+    ensures whole { OnlyMemoryFails node.now program.now result }
 {
     if is_undecided(&node.seats) {
         return Err(LinkedError::Undecided);

@@ -25,8 +25,8 @@ module _ {D O H : Type 0} {h : naming.Ghosts H} where
       → lists.HaveMetAll first.seats.items second.seats.items first_now.seats.items second_now.seats.items count held_of
 
   -- of each function the rooms have two numbers
-  abbrev pub AreStrangeNodes : FarmNode D O H h → FarmNode D O H h → Type 0
-  AreStrangeNodes first second = lists.AreOfTwoFarms held_of first.seats.items second.seats.items
+  abbrev pub AreStrangers : FarmNode D O H h → FarmNode D O H h → Type 0
+  AreStrangers first second = lists.AreStrangers held_of first.seats.items second.seats.items
 
   -- nothing of a node changes but its seats
   abbrev pub StaysButSeats : FarmNode D O H h → FarmNode D O H h → Type 0

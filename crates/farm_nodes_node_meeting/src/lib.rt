@@ -6,4 +6,4 @@ mod meeting;
 mod strangers;
 
 pub use meeting::meet;
-pub use strangers::are_of_two_farms;
+pub use strangers::are_strangers;

@@ -1,5 +1,5 @@
 ghost use Rattle.std.specs.Prelude.{◌≡◌, ◌≤◌, length};
-ghost use Rattle.farm_nodes_node_meeting.specs.Meeting.{AreLeft, AreStrangeNodes, IsOneStopped, MeetInAll, StaysButSeats, StaysSound, StaysWaiting};
+ghost use Rattle.farm_nodes_node_meeting.specs.Meeting.{AreLeft, AreStrangers, IsOneStopped, MeetInAll, StaysButSeats, StaysSound, StaysWaiting};
 
 use durable_model::Disk;
 use farm_nodes_node::FarmNode;
@@ -18,8 +18,8 @@ pub fn meet<D: Disk, O, H: Naming>(
     ensures stopped { IsOneStopped first.old second.old → AreLeft first.old second.old first.new second.new result }
     ensures met { MeetInAll first.old second.old first.new second.new result }
 
-    // Nodes of two farms link nothing: `are_of_two_farms` tells such.
-    ensures strangers { AreStrangeNodes first.old second.old → result ≡ 0 }
+    // Nodes of two farms link nothing: `are_strangers` tells such.
+    ensures strangers { AreStrangers first.old second.old → result ≡ 0 }
 
     // Of a node nothing but its seats changes, and those stand for what its journal holds as they did.
     ensures first_stays { StaysButSeats first.old first.new }

@@ -1,17 +1,13 @@
 ghost use Rattle.std.specs.Prelude.{◌↔◌, IsTrue};
-ghost use Rattle.farm_nodes_node_meeting.specs.Meeting.{AreStrangeNodes};
+ghost use Rattle.farm_nodes_node_meeting.specs.Meeting.{AreStrangers};
 
 use farm_nodes_node::FarmNode;
-use farm_nodes_seat_meeting::are_strangers;
 use rooms_hall::Naming;
 
 /// Whether two nodes are of two farms: whether of each function that both have seats of, the rooms of the one have another number
 /// than those of the other. No word is loaded. Such nodes link nothing when they meet.
-pub fn are_of_two_farms<D, O, H: Naming>(
-    first: &FarmNode<D, O, H>,
-    second: &FarmNode<D, O, H>,
-) -> bool
-    ensures { IsTrue result ↔ AreStrangeNodes first.now second.now }
+pub fn are_strangers<D, O, H: Naming>(first: &FarmNode<D, O, H>, second: &FarmNode<D, O, H>) -> bool
+    ensures { IsTrue result ↔ AreStrangers first.now second.now }
 {
-    are_strangers(&first.seats, &second.seats)
+    farm_nodes_seat_meeting::are_strangers(&first.seats, &second.seats)
 }

@@ -1,5 +1,6 @@
 -- Why a node halted, and what its journal then holds.
-use Rattle.std.specs.Prelude.{◌≢◌, ℕ, Bool, List, [], Option, Some, None, Result, Ok, Err}
+use Rattle.std.specs.Prelude.{◌≡◌, ◌≢◌, ℕ, Bool, List, [], ◌++◌, Option, Some, None, Result, Ok, Err}
+use Rattle.durable_model.specs.declared.disk.Disk as disks
 use Rattle.acceptor_log_form.specs.declared.errors.LogError.{LogError}
 use Rattle.acceptor_log_form.specs.declared.errors.LogError.TheVariants as log
 use Rattle.acceptor_log_form.specs.declared.record.Record.{Record}
@@ -65,3 +66,13 @@ HasHaltCause is_honest faults TooLarge old new pending (Journal e) = HasCause is
 HasHaltCause is_honest faults TooLarge old new pending TooManyRegisters = TooLarge
 HasHaltCause is_honest faults TooLarge old new pending OtherRecords = ⊥
 HasHaltCause is_honest faults TooLarge old new pending CellRefused = pending ≢ []
+
+-- so it is of a call that halted over a disk, in a room with this seat
+abbrev pub HaltsFor : {D : Type 0} → disks.Ghosts D → Type 0 → Log D → Log D → ℕ → SeatState → Halt → Type 0
+HaltsFor disk TooLarge old new room s halt =
+    HasHaltCause disk.is_honest disk.faults TooLarge old new (left_over room s halt.pending) halt.fault
+
+-- where the cell refused the offer its record is put down
+abbrev pub IsPutDown : {D : Type 0} → (D → List ℕ) → Log D → Log D → ℕ → SeatState → Halt → Type 0
+IsPutDown seen old new room s halt =
+    halt.fault ≡ CellRefused → acknowledged seen new ≡ acknowledged seen old ++ left_over room s halt.pending

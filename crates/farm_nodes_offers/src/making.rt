@@ -1,14 +1,13 @@
-ghost use Rattle.std.specs.Prelude.{◌≡◌, ◌⊎◌, ◌++◌, [], ◌∷◌, true, false, Some, IfOk, IfErr, OnOk, OnErr};
+ghost use Rattle.std.specs.Prelude.{◌≡◌, ◌⊎◌, true, false, IfOk, IfErr, OnOk, OnErr};
 ghost use Rattle.std.specs.Arc.{arc_value};
 ghost use Rattle.offers.specs.Text.{text_of};
 ghost use Rattle.acceptor_log_form.specs.declared.record.Record.TheVariants as entry;
-ghost use Rattle.acceptor_log.specs.Acknowledged.{acknowledged, IsSound};
+ghost use Rattle.acceptor_log.specs.Acknowledged.{IsSound, WhileGoing};
 ghost use Rattle.farm_nodes_acting.specs.Served.{IsServed};
 ghost use Rattle.rooms.specs.SeatValue.{IsOneRoom};
-ghost use Rattle.farm_nodes_offers.specs.Halted.{left_over, Recorded, HasHaltCause};
-ghost use Rattle.farm_nodes_offers.specs.Offered.{PutsOffer, IsOfferPending};
-ghost use Rattle.farm_nodes_offers.specs.Pending.{IsOfferText};
-ghost use Rattle.farm_nodes_offers.specs.Told.{IsOwnText};
+ghost use Rattle.farm_nodes_offers.specs.Halted.{HaltsFor, IsPutDown};
+ghost use Rattle.farm_nodes_offers.specs.Making.{MayPend, TellsOffer};
+ghost use Rattle.farm_nodes_offers.specs.Offered.{PutsOffer};
 
 use crate::halt::{Fault, Halt};
 use acceptor_log::{Log, Record};
@@ -37,17 +36,15 @@ pub fn make_offer<D: Disk, P: Pass>(
 
     // It has not offered where the record may be missing, nor where its cell refuses the offer behind the record.
     ensures err { OnErr result (seat.new ≡ seat.old) }
-    ensures pending { IfErr result (λ halt. IsOfferPending room
-        (text_of P.In.Language P.Out.Language P.Pass offer) halt.pending) }
-    ensures refused { D.is_honest log.old.disk → log.old.going ≡ true → IfErr result (λ halt. halt.fault ≡ Fault.CellRefused
-        → acknowledged D.seen log.new ≡ acknowledged D.seen log.old ++ left_over room seat.new.words halt.pending) }
+    ensures pending { IfErr result
+        (λ halt. MayPend P.In.Language P.Out.Language P.Pass room offer halt.pending) }
+    ensures refused { WhileGoing D.is_honest log.old
+        (IfErr result (IsPutDown D.seen log.old log.new room seat.new.words)) }
 
     // Where it is made, its record has its text.
-    ensures journal { D.is_honest log.old.disk → log.old.going ≡ true → Recorded
-        (IsOwnText (IsOfferText P.In.Language P.Out.Language P.Pass) seat.new)
-        D.is_honest D.seen D.may_leave D.moment D.left_since log.old log.new room seat.old.words seat.new.words result }
-    ensures cause { log.old.going ≡ true → IfErr result (λ halt. HasHaltCause D.is_honest D.faults ⊥
-        log.old log.new (left_over room seat.new.words halt.pending) halt.fault) }
+    ensures journal { TellsOffer P.In.Language P.Out.Language P.Pass D.Disk
+        log.old log.new room seat.old seat.new result }
+    ensures cause { log.old.going ≡ true → IfErr result (HaltsFor D.Disk ⊥ log.old log.new room seat.new.words) }
 {
     offer.validated();
     let (entry, shared) = match prepared(alloc, room, offer) {

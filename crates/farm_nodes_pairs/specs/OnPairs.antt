@@ -1,8 +1,11 @@
 -- What stands on a pair of disks, and what a crash may leave of it.
 use Rattle.std.specs.Prelude.{◌≡◌, ◌≢◌, ◌⊎◌, ℕ, List, [], get_or}
 use Rattle.durable_model.specs.declared.disk.Disk as disks
+use Rattle.durable_model.specs.Moments.{LeavesOnly}
 use Rattle.durable_pair.specs.declared.pair.Pair as pairs
+use Rattle.durable_pair.specs.Does.{Does}
 use Rattle.durable_pair.specs.Images.{Images, IsSpent, Shows, Both}
+use Rattle.durable_model_writes.specs.declared.call.Call.TheVariants.{Left}
 use Rattle.farm_nodes_pairs.specs.declared.old.OldDisk.{OldDisk}
 use Rattle.farm_nodes_pairs.specs.declared.old.OldDisk.TheVariants.{Counts, Empty, Spent}
 
@@ -28,6 +31,15 @@ module _ {P : Type 0} (disk : disks.Ghosts P) (pair : pairs.Ghosts P) where
   -- what the images show that a crash now may leave of both
   abbrev pub MayShow : P → List ℕ → Type 0
   MayShow p c = (im : Images) × Both pair.new_may pair.old_may p im × Shows im c
+
+  -- a crash at any moment of a call leaves of both disks what it might have left before
+  abbrev pub LeavesBoth : P → P → Type 0
+  LeavesBoth given now = LeavesOnly disk.moment pair.both_since given now (Both pair.new_may pair.old_may given)
+
+  -- a call of the old disk writes nothing
+  abbrev pub LeavesOld : P → P → Type 0
+  LeavesOld given now =
+      Does disk.moment pair.both_since (Both pair.new_may pair.old_may) pair.old_seen pair.old_may disk.seen pair.new_may Left [] given now
 
   -- both disks are as they were, and a crash leaves nothing more of them
   pub record IsSame (given now : P) : Type 0 where

@@ -1,13 +1,9 @@
 //! The old disk of a pair.
 
-ghost use Rattle.std.specs.Prelude.{[], ◌≡◌, ◌≢◌, ◌≤◌, ◌↔◌, Err, IfOk, IfErr, OnOk};
+ghost use Rattle.std.specs.Prelude.{◌≡◌, ◌≢◌, ◌≤◌, ◌↔◌, Err, IfOk, IfErr, OnOk};
 ghost use Rattle.durable_model.specs.Honest.{Only, Risen};
-ghost use Rattle.durable_model.specs.Moments.{LeavesOnly};
-ghost use Rattle.durable_pair.specs.Images.{Both};
-ghost use Rattle.durable_pair.specs.Does.{Does};
-ghost use Rattle.durable_model_writes.specs.declared.call.Call.TheVariants.{Left};
 ghost use Rattle.acceptor_log.specs.Faults.{log_fault};
-ghost use Rattle.farm_nodes_pairs.specs.OnPairs.{IsOldDisk, IsSame};
+ghost use Rattle.farm_nodes_pairs.specs.OnPairs.{IsOldDisk, IsSame, LeavesBoth, LeavesOld};
 
 use acceptor_log::LogError;
 use durable_model::DiskError;
@@ -30,8 +26,7 @@ pub fn old_disk<P: Pair>(alloc: Global, pair: &mut P) -> Result<OldDisk, LogErro
     ensures same { P.is_whole pair.old → IsSame P.Disk P.Pair.own pair.old pair.new }
     ensures synced { P.is_whole pair.old → OnOk result (Only (P.old_seen pair.old) (P.old_may pair.new)) }
     ensures honest { P.is_whole pair.old → IfOk result (λ found. found ≢ OldDisk.Counts → P.is_honest pair.new) }
-    ensures any_moment { P.is_whole pair.old
-        → LeavesOnly P.moment P.both_since pair.old pair.new (Both P.new_may P.old_may pair.old) }
+    ensures any_moment { P.is_whole pair.old → LeavesBoth P.Disk P.Pair.own pair.old pair.new }
     ensures faults { IfErr result (λ e. e ≢ LogError.Device → e ≡ LogError.NoMemory) }
     ensures failed { result ≡ Err LogError.Device → Risen (P.faults pair.old) (P.faults pair.new) }
     ensures unfailed { result ≢ Err LogError.Device → P.faults pair.new ≡ P.faults pair.old }
@@ -47,8 +42,7 @@ pub fn old_disk<P: Pair>(alloc: Global, pair: &mut P) -> Result<OldDisk, LogErro
 fn look_at_old<P: Pair>(alloc: Global, pair: &mut P) -> Result<OldDisk, LogError>
     ensures whole { P.is_whole pair.new ↔ P.is_whole pair.old }
     ensures told { P.is_whole pair.old → IfOk result (IsOldDisk (P.old_seen pair.old)) }
-    ensures left { P.is_whole pair.old → Does P.moment P.both_since (Both P.new_may P.old_may) P.old_seen P.old_may
-        P.seen P.new_may Left [] pair.old pair.new }
+    ensures left { P.is_whole pair.old → LeavesOld P.Disk P.Pair.own pair.old pair.new }
     ensures faults { IfErr result (λ e. e ≢ LogError.Device → e ≡ LogError.NoMemory) }
     ensures failed { result ≡ Err LogError.Device → Risen (P.faults pair.old) (P.faults pair.new) }
     ensures unfailed { result ≢ Err LogError.Device → P.faults pair.new ≡ P.faults pair.old }

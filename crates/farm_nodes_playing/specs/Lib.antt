@@ -1,4 +1,5 @@
 pub mod Played
+pub mod Logged
 pub use Rattle.farm_nodes_offers.specs.Halted
 pub use Rattle.farm_nodes_offers.specs.Pending
 pub use Rattle.farm_nodes_offers.specs.Told

@@ -1,10 +1,8 @@
 ghost use Rattle.std.specs.Prelude.{◌≡◌, true, IfOk, IfErr, OnOk, IsSome, option_copied};
 ghost use Rattle.acceptor_log.specs.Acknowledged.{IsSound};
 ghost use Rattle.farm_nodes_leading.specs.Served.{IsServed};
-ghost use Rattle.farm_nodes_offers.specs.Halted.{left_over, Recorded, HasHaltCause};
-ghost use Rattle.farm_nodes_offers.specs.Pending.{IsOfferText, MayPendOn};
-ghost use Rattle.farm_nodes_offers.specs.Told.{IsOwnText};
-ghost use Rattle.farm_nodes_playing.specs.Played.{HeldOffer, IsMadeOn, IsTooLarge};
+ghost use Rattle.farm_nodes_playing.specs.Logged.{HaltsBefore, HaltsOver, LogsSteps};
+ghost use Rattle.farm_nodes_playing.specs.Played.{HeldOffer, IsMadeOn};
 
 use crate::choosing::choose;
 use acceptor_log::Log;
@@ -36,15 +34,12 @@ pub fn offer_on<D: Disk, P: Pass, O: Oracle<P = P>>(
     ensures offered { OnOk result (IsSome input.entry → seat.new.words.node.kept.offered ≡ true) }
 
     // Where it halts over its offer, the record is of that, which is not made yet.
-    ensures left { IfErr result (λ halt. MayPendOn (IsOfferText P.In.Language P.Out.Language P.Pass)
-        room seat.new halt.pending) }
+    ensures left { IfErr result (HaltsBefore P.In.Language P.Out.Language P.Pass room seat.new) }
 
-    ensures journal { D.is_honest log.old.disk → log.old.going ≡ true → Recorded
-        (IsOwnText (IsOfferText P.In.Language P.Out.Language P.Pass) seat.new)
-        D.is_honest D.seen D.may_leave D.moment D.left_since log.old log.new room seat.old.words seat.new.words result }
-    ensures cause { log.old.going ≡ true → IfErr result (λ halt. HasHaltCause D.is_honest D.faults
-        (IsTooLarge P.too_large (option_copied input.entry))
-        log.old log.new (left_over room seat.new.words halt.pending) halt.fault) }
+    ensures journal { LogsSteps D.Disk P.In.Language P.Out.Language P.Pass
+        log.old log.new room seat.old seat.new result }
+    ensures cause { HaltsOver D.Disk P.too_large (option_copied input.entry)
+        log.old log.new room seat.new.words result }
 {
     if seat.kept().offered() {
         return Ok(false);

@@ -1,4 +1,4 @@
-ghost use Rattle.std.specs.Prelude.{◌≡◌, ◌<◌, ◌%◌, ◌||◌, ℕ, true, None, Some, IfOk, IfErr, OnOk, IsSome, option_copied};
+ghost use Rattle.std.specs.Prelude.{◌≡◌, ◌<◌, ◌||◌, ℕ, true, None, Some, IfOk, IfErr, OnOk, IsSome, option_copied};
 ghost use Rattle.rand_pcg.specs.Pcg.{pcg32};
 ghost use Rattle.acceptor_log.specs.Acknowledged.{IsSound};
 ghost use Rattle.rooms_state.specs.declared.act.Act.TheVariants as asked;
@@ -6,11 +6,9 @@ ghost use Rattle.rooms_state.specs.Would.{would};
 ghost use Rattle.rooms.specs.SeatValue.{IsOneRoom};
 ghost use Rattle.farm_nodes_leading.specs.Served.{IsServed};
 ghost use Rattle.farm_nodes_leading.specs.Quiet.{IsQuiet};
-ghost use Rattle.farm_nodes_leading.specs.Leading.{HasLed};
-ghost use Rattle.farm_nodes_offers.specs.Halted.{left_over, Recorded, HasHaltCause};
-ghost use Rattle.farm_nodes_offers.specs.Pending.{IsOfferText, MayPendOn};
-ghost use Rattle.farm_nodes_offers.specs.Told.{IsOwnText};
-ghost use Rattle.farm_nodes_playing.specs.Played.{IsMadeOn, IsTooLarge, Played, SeesOn, StaysInTurn};
+ghost use Rattle.farm_nodes_leading.specs.Leading.{LeadsByLot};
+ghost use Rattle.farm_nodes_playing.specs.Logged.{HaltsBefore, HaltsOver, LogsSteps, LogsTurn};
+ghost use Rattle.farm_nodes_playing.specs.Played.{IsMadeOn, SeesOn, StaysInTurn};
 
 use crate::offering::offer_on;
 use crate::progress::Progress;
@@ -47,20 +45,16 @@ pub fn play<D: Disk, P: Pass, O: Oracle<P = P>>(
     ensures offered { OnOk result (IsSome input.entry → seat.new.words.node.kept.offered ≡ true) }
     ensures quiet { OnOk result ((j : ℕ) → j < seat.new.words.node.quorums.nodes → IsQuiet j seat.new.words) }
     ensures proposed { OnOk result (would seat.new.words asked.Propose ≡ None) }
-    ensures led { OnOk result (seat.old.words.node.kept.offered ≡ true → (pcg32 words.old).0 % 4 ≡ 0
-        → HasLed seat.new.words) }
+    ensures led { OnOk result (LeadsByLot (pcg32 words.old).0 seat.old.words seat.new.words) }
 
     // Where it halts it had not done what is pending: an act asked of a node of the room, or its offer.
-    ensures left { IfErr result (λ halt. MayPendOn (IsOfferText P.In.Language P.Out.Language P.Pass)
-        room seat.new halt.pending) }
+    ensures left { IfErr result (HaltsBefore P.In.Language P.Out.Language P.Pass room seat.new) }
 
     // What it tells is what it learned, and whether the journal has more records.
-    ensures journal { D.is_honest log.old.disk → log.old.going ≡ true → Played
-        (IsOwnText (IsOfferText P.In.Language P.Out.Language P.Pass) seat.new)
-        D.is_honest D.seen D.may_leave D.moment D.left_since log.old log.new room seat.old.words seat.new.words result }
-    ensures cause { log.old.going ≡ true → IfErr result (λ halt. HasHaltCause D.is_honest D.faults
-        (IsTooLarge P.too_large (option_copied input.entry))
-        log.old log.new (left_over room seat.new.words halt.pending) halt.fault) }
+    ensures journal { LogsTurn D.Disk P.In.Language P.Out.Language P.Pass
+        log.old log.new room seat.old seat.new result }
+    ensures cause { HaltsOver D.Disk P.too_large (option_copied input.entry)
+        log.old log.new room seat.new.words result }
 {
     let before = seat.learned();
     let moved = match take_steps(alloc, log, seat, room, input, oracle, words) {
@@ -89,16 +83,12 @@ fn take_steps<D: Disk, P: Pass, O: Oracle<P = P>>(
     ensures offered { OnOk result (IsSome input.entry → seat.new.words.node.kept.offered ≡ true) }
     ensures quiet { OnOk result ((j : ℕ) → j < seat.new.words.node.quorums.nodes → IsQuiet j seat.new.words) }
     ensures proposed { OnOk result (would seat.new.words asked.Propose ≡ None) }
-    ensures led { OnOk result (seat.old.words.node.kept.offered ≡ true → (pcg32 words.old).0 % 4 ≡ 0
-        → HasLed seat.new.words) }
-    ensures left { IfErr result (λ halt. MayPendOn (IsOfferText P.In.Language P.Out.Language P.Pass)
-        room seat.new halt.pending) }
-    ensures journal { D.is_honest log.old.disk → log.old.going ≡ true → Recorded
-        (IsOwnText (IsOfferText P.In.Language P.Out.Language P.Pass) seat.new)
-        D.is_honest D.seen D.may_leave D.moment D.left_since log.old log.new room seat.old.words seat.new.words result }
-    ensures cause { log.old.going ≡ true → IfErr result (λ halt. HasHaltCause D.is_honest D.faults
-        (IsTooLarge P.too_large (option_copied input.entry))
-        log.old log.new (left_over room seat.new.words halt.pending) halt.fault) }
+    ensures led { OnOk result (LeadsByLot (pcg32 words.old).0 seat.old.words seat.new.words) }
+    ensures left { IfErr result (HaltsBefore P.In.Language P.Out.Language P.Pass room seat.new) }
+    ensures journal { LogsSteps D.Disk P.In.Language P.Out.Language P.Pass
+        log.old log.new room seat.old seat.new result }
+    ensures cause { HaltsOver D.Disk P.too_large (option_copied input.entry)
+        log.old log.new room seat.new.words result }
 {
     let offered = match offer_on(alloc, log, seat, room, input, oracle, words) {
         Ok(offered) => offered,

@@ -1,6 +1,8 @@
 pub mod Written
 pub mod Stored
 pub mod Known
+pub mod KnownOffers
+pub mod Faults
 pub use Rattle.farm_nodes_passes.specs.Offers
 pub use Rattle.farm_nodes_passes.specs.declared.passes.Passes
 pub use Rattle.farm_nodes_passes.specs.declared.which.Which

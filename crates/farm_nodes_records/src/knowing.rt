@@ -1,5 +1,6 @@
-ghost use Rattle.std.specs.Prelude.{◌≡◌, ◌≢◌, All, None, length, slice_set, IfOk, OnOk, IfErr};
+ghost use Rattle.std.specs.Prelude.{◌≡◌, All, None, length, slice_set, IfOk, OnOk, IfErr};
 ghost use Rattle.parallel_validate.specs.Verdicts.{AreAnswers};
+ghost use Rattle.farm_nodes_records.specs.Faults.{IsRefusal};
 ghost use Rattle.farm_nodes_records.specs.Known.{AreKnown, IsAccepted, HasUnaccepted, placed};
 
 use crate::fault::RecordFault;
@@ -20,8 +21,7 @@ pub fn known_offers<P: Pass>(
     requires answers { AreAnswers P.accepts stored.parts.items answers.now }
     ensures known { IfOk result (λ offers. AreKnown functions stored offers.items) }
     ensures accepted { OnOk result (All (IsAccepted P.accepts) stored.parts.items) }
-    ensures refused { IfErr result (λ e. e ≢ RecordFault.NoMemory → (e ≡ RecordFault.Refused)
-        × HasUnaccepted P.accepts stored.parts.items) }
+    ensures refused { IfErr result (IsRefusal (HasUnaccepted P.accepts stored.parts.items)) }
 {
     let mut offers = none_yet::<P>(alloc, functions)?;
     let Stored { rooms, parts } = stored;

@@ -1,6 +1,7 @@
-ghost use Rattle.std.specs.Prelude.{◌≡◌, ◌≢◌, ◌++◌, ◌∷◌, [], None, Some, IfOk, OnOk, IfErr, MatchOption};
+ghost use Rattle.std.specs.Prelude.{◌≡◌, ◌++◌, ◌∷◌, [], IfOk, OnOk, IfErr, option_map};
 ghost use Rattle.offers.specs.Reading.{IsNoText};
 ghost use Rattle.offers.specs.Text.{text_of, PartsFit};
+ghost use Rattle.farm_nodes_records.specs.Faults.{IsBadRecord};
 ghost use Rattle.farm_nodes_records.specs.Stored.{HasNoParts, IsStored};
 ghost use Rattle.farm_nodes_records.specs.Written.{written};
 
@@ -26,8 +27,8 @@ pub fn stored_offers<P: Pass>(
     records: &[Record],
 ) -> Result<Stored<PartsOf<P>>, RecordFault>
     ensures stored { IfOk result (IsStored P.In.Language P.Out.Language P.Pass pass records.now) }
-    ensures refused { IfErr result (λ e. e ≢ RecordFault.NoMemory → (e ≡ RecordFault.BadRecord)
-        × HasNoParts P.In.Language P.Out.Language P.Pass pass records.now) }
+    ensures refused { IfErr result (IsBadRecord
+        (HasNoParts P.In.Language P.Out.Language P.Pass pass records.now)) }
 {
     let mut found = Stored {
         rooms: Vec::new(alloc),
@@ -63,8 +64,7 @@ fn add<T: Drop>(found: &mut Stored<T>, room: u16, parts: T) -> Result<(), NoMemo
 
 /// The room and the bytes of an offer, if the record is one in a room of the pass.
 fn written_offer(pass: Which, entry: &Record) -> Option<(u16, &[u8])>
-    ensures { MatchOption result (written pass entry.now ≡ None)
-        (λ found. written pass entry.now ≡ Some (found.0, found.1.now)) }
+    ensures { written pass entry.now ≡ option_map (λ found. (found.0, found.1.now)) result }
 {
     match entry {
         Record::Offered(room, text) if *room % 4 == pass.place() => {
@@ -78,8 +78,7 @@ fn written_offer(pass: Which, entry: &Record) -> Option<(u16, &[u8])>
 fn parts_of<P: Pass>(alloc: Global, text: &[u8]) -> Result<PartsOf<P>, RecordFault>
     ensures fits { IfOk result (PartsFit P.In.fits P.Out.fits P.cert_fits) }
     ensures spelled { IfOk result (λ parts. text.now ≡ text_of P.In.Language P.Out.Language P.Pass parts) }
-    ensures refused { IfErr result (λ e. e ≢ RecordFault.NoMemory → (e ≡ RecordFault.BadRecord)
-        × IsNoText P.In.Language P.Out.Language P.Pass text.now) }
+    ensures refused { IfErr result (IsBadRecord (IsNoText P.In.Language P.Out.Language P.Pass text.now)) }
 {
     match Offer::<P>::parts(alloc, text) {
         Ok(parts) => Ok(parts),

@@ -1,5 +1,6 @@
 -- Why a node does not come back: by what the journal answers, and by what its records are.
-use Rattle.std.proofs.Common.{◌≡◌, ◌≢◌, ℕ, List, Option, Some, None, Result, Ok, Err, IfErr, OnOk, refl, sym, subst, inl, inr}
+use Rattle.std.proofs.Common.{◌≡◌, ◌≢◌, ◌≤◌, ℕ, List, Option, Some, None, Result, Ok, Err, IfErr, OnOk, refl, sym, ap, subst, inl, inr}
+use Rattle.durable_model.specs.Honest.{Risen}
 use Rattle.acceptor_log_form.specs.declared.errors.LogError.{LogError}
 use Rattle.acceptor_log_form.specs.declared.errors.LogError.TheVariants as log
 use Rattle.acceptor_log_form.specs.declared.header.Header.{Header}
@@ -15,6 +16,7 @@ use Rattle.farm_nodes_restart_seat.specs.Refusals.{restart_fault}
 use Rattle.farm_nodes_restart_seat.specs.Taken.{IsTakeFault}
 use Rattle.farm_nodes_restart_records.specs.Found.{LeaveWith}
 use Rattle.farm_nodes_restart_records.specs.Texts.{Texts}
+use Rattle.farm_nodes_restart.specs.Back.{CountsFailures}
 use Rattle.farm_nodes_restart.specs.Returned.{HasReason, HoldsBack, IsPendingFault}
 use Rattle.farm_nodes_restart_records.proofs.Leaving.{IsRefused}
 
@@ -26,6 +28,27 @@ device_of log.BadRecord is = absurd (cc)
 device_of log.OtherSource is = absurd (cc)
 device_of log.Stopped is = absurd (cc)
 device_of log.Full is = absurd (cc)
+
+-- ---- the failures of the device
+
+-- where nothing failed, none is counted
+pub none_failed : (before now : ℕ) → before ≤ now → now ≡ before → CountsFailures before now None
+none_failed before now later same = record { later = later; failed = λ told. absurd (cc); unfailed = λ other. same }
+
+-- nor where another fault is told
+pub other_told : (before now : ℕ) (fault : RestartFault) → (fault ≡ Journal log.Device → ⊥) → before ≤ now → now ≡ before
+    → CountsFailures before now (Some fault)
+other_told before now fault other later same =
+    record { later = later; failed = λ told. absurd (other (cc)); unfailed = λ told. same }
+
+-- what the journal answers is counted
+pub journal_told : (before now : ℕ) (e : LogError) → before ≤ now → (e ≡ log.Device → Risen before now) → (e ≢ log.Device → now ≡ before)
+    → CountsFailures before now (Some (restart_fault e))
+journal_told before now e later failed unfailed = record {
+  later = later;
+  failed = λ told. failed (device_of e (cc));
+  unfailed = λ other. unfailed (λ is. other (ap (λ (f : LogError). Some (restart_fault f)) is));
+}
 
 module _ {X1 X2 X3 X4 : Type 0} (texts : Texts X1 X2 X3 X4) (h : Header) (rooms : ℕ) (seats : List (Four X1 X2 X3 X4)) (room : ℕ) (p : Option Pending) where
   pub not_opened : (bytes : List ℕ) (e : LogError) → (e ≢ log.NoMemory → e ≢ log.Device → HasFault h bytes e) → HasReason texts h rooms seats room p bytes (restart_fault e)

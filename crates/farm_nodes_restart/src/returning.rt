@@ -1,22 +1,22 @@
 //! A node comes back over a disk.
 
-ghost use Rattle.std.specs.Prelude.{◌≡◌, ◌≢◌, ◌<◌, ◌≤◌, ◌*◌, ◌↔◌, length, true, IsSome, IfOk, IfErr, OnOk, OnErr};
-ghost use Rattle.std.specs.Prelude.{Some, MatchResult};
-ghost use Rattle.durable_model.specs.Honest.{Unchanged, Risen};
+ghost use Rattle.std.specs.Prelude.{◌≡◌, ◌<◌, ◌≤◌, ◌*◌, ◌↔◌, length, true, Some, IsSome, IfOk, IfErr, OnOk, OnErr};
+ghost use Rattle.durable_model.specs.Honest.{Unchanged};
 ghost use Rattle.durable_model.specs.Moments.{LeavesOnly};
 ghost use Rattle.acceptor_log_form.specs.Order.{AreInOrder};
 ghost use Rattle.acceptor_log_form.specs.Text.{StandsFor};
 ghost use Rattle.acceptor_log.specs.Acknowledged.{acknowledged, IsSound};
 ghost use Rattle.farm_nodes_restart_records.specs.Fours.{fours_of};
 ghost use Rattle.farm_nodes_restart_records.specs.Pending.{HavePending};
-ghost use Rattle.farm_nodes_restart_records.specs.Texts.{pass_texts};
 ghost use Rattle.farm_nodes_restart_seat.specs.Taken.{IsTakeFault};
 ghost use Rattle.farm_nodes_restart_seat.specs.Places.{AllChanged, ChangedAt};
-ghost use Rattle.farm_nodes_restart.specs.Returned.{AreAtRest, HasReason, HaveForgotten, HoldsBack, IsPendingFault};
+ghost use Rattle.farm_nodes_restart.specs.Back.{CameBackBy, CountsFailures, HasInOrder, HoldBack, StaysOut};
+ghost use Rattle.farm_nodes_restart.specs.Back.{disk_given, fault_given};
+ghost use Rattle.farm_nodes_restart.specs.Returned.{AreAtRest, HaveForgotten, IsPendingFault};
 ghost use Rattle.farm_nodes_restart.specs.Seats.{AreTaken, HaveComeBack, HaveStepped};
 
 use crate::fours::{forget_in, take_in};
-use acceptor_log::{Header, Log, LogError, Record};
+use acceptor_log::{Header, Log, Record};
 use durable_model::Disk;
 use farm_nodes_acting::Pending;
 use farm_nodes_restart_records::{Found, NumberedSeat, Which, find};
@@ -42,36 +42,27 @@ pub fn come_back<D: Disk, H: Naming>(
     // The journal goes on, and has acknowledged just the records over which the seats came back.
     ensures sound { IfOk result (IsSound D.is_honest D.seen D.may_leave) }
     ensures ok { IfOk result (λ log. (log.going ≡ true) × (log.header ≡ header.now)) }
-    ensures honest { MatchResult result (λ log. D.is_honest log.disk ↔ D.is_honest disk)
-        (λ refused. D.is_honest refused.0 ↔ D.is_honest disk) }
+    ensures honest { D.is_honest (disk_given result) ↔ D.is_honest disk }
     ensures listed { D.is_honest disk
         → IfOk result (λ log. StandsFor header.now (acknowledged D.seen log) (D.seen disk)) }
-    ensures in_order { D.is_honest disk → IfOk result (λ log. AreInOrder header.now.nodes header.now.node
-        (4 * length seats.old.items) (acknowledged D.seen log)) }
-    ensures seats { D.is_honest disk → IfOk result (λ log.
-        HaveComeBack room pending.now (acknowledged D.seen log) seats.old.items seats.new.items) }
+    ensures in_order { D.is_honest disk
+        → IfOk result (HasInOrder D.seen header.now (4 * length seats.old.items)) }
+    ensures seats { D.is_honest disk
+        → IfOk result (CameBackBy D.seen room pending.now seats.old.items seats.new.items) }
 
     ensures rest { OnOk result (AreAtRest (fours_of seats.old.items) (fours_of seats.new.items)) }
 
     // The disk is as it was, and a crash meanwhile leaves what it might have left before.
-    ensures unchanged { D.is_honest disk → MatchResult result
-        (λ log. Unchanged D.seen D.may_leave disk log.disk)
-        (λ refused. Unchanged D.seen D.may_leave disk refused.0) }
-    ensures any_moment { D.is_honest disk → MatchResult result
-        (λ log. LeavesOnly D.moment D.left_since disk log.disk (D.may_leave disk))
-        (λ refused. LeavesOnly D.moment D.left_since disk refused.0 (D.may_leave disk)) }
+    ensures unchanged { D.is_honest disk → Unchanged D.seen D.may_leave disk (disk_given result) }
+    ensures any_moment { D.is_honest disk
+        → LeavesOnly D.moment D.left_since disk (disk_given result) (D.may_leave disk) }
     ensures err { OnErr result (fours_of seats.new.items ≡ fours_of seats.old.items) }
     ensures count { length seats.new.items ≡ length seats.old.items }
 
-    // It does not give up by itself.
-    ensures refused { D.is_honest disk → IfErr result (λ refused. HasReason pass_texts header.now (4 * length seats.old.items)
-        (fours_of seats.old.items) room pending.now (D.seen disk) refused.1) }
-    ensures failed { IfErr result (λ refused. refused.1 ≡ RestartFault.Journal LogError.Device
-        → Risen (D.faults disk) (D.faults refused.0)) }
-    ensures later { MatchResult result (λ log. D.faults disk ≤ D.faults log.disk)
-        (λ refused. D.faults disk ≤ D.faults refused.0) }
-    ensures unfailed { MatchResult result (λ log. D.faults log.disk ≡ D.faults disk)
-        (λ refused. refused.1 ≢ RestartFault.Journal LogError.Device → D.faults refused.0 ≡ D.faults disk) }
+    // It does not give up by itself, and no failure of the device is missed.
+    ensures refused { D.is_honest disk
+        → IfErr result (StaysOut header.now seats.old.items room pending.now (D.seen disk)) }
+    ensures failures { CountsFailures (D.faults disk) (D.faults (disk_given result)) (fault_given result) }
 {
     match Log::open(alloc, disk, header) {
         Ok(opened) => {
@@ -105,8 +96,7 @@ fn return_over<H: Naming>(
         (AreInOrder header.now.nodes header.now.node (4 * length seats.old.items) records.now) }
     ensures err { OnErr result (fours_of seats.new.items ≡ fours_of seats.old.items) }
     ensures count { length seats.new.items ≡ length seats.old.items }
-    ensures refused { IfErr result (HoldsBack pass_texts header.now (4 * length seats.old.items)
-        (fours_of seats.old.items) room pending.now records.now) }
+    ensures refused { IfErr result (HoldBack header.now seats.old.items room pending.now records.now) }
 {
     match step_over(alloc, header, seats, room, pending, records) {
         Ok(()) => {
@@ -134,8 +124,7 @@ fn step_over<H: Naming>(
         (AreInOrder header.now.nodes header.now.node (4 * length seats.old.items) records.now) }
     ensures err { OnErr result (fours_of seats.new.items ≡ fours_of seats.old.items) }
     ensures count { length seats.new.items ≡ length seats.old.items }
-    ensures refused { IfErr result (HoldsBack pass_texts header.now (4 * length seats.old.items)
-        (fours_of seats.old.items) room pending.now records.now) }
+    ensures refused { IfErr result (HoldBack header.now seats.old.items room pending.now records.now) }
 {
     match find(alloc, header, seats, room, pending, records) {
         Ok(Found::Pending) => take_pending(alloc, seats, room, pending),

@@ -1,8 +1,12 @@
 -- Whether records leave what a node's seats keep, with the record that was pending or without.
-use Rattle.std.specs.Prelude.{◌≡◌, ◌⊎◌, ℕ, ◌+◌, ◌*◌, ◌<◌, Bool, IsTrue, List, [], ◌∷◌, ◌++◌, length, Option, Some, slice_get}
+use Rattle.std.specs.Prelude.{◌≡◌, ◌≢◌, ◌⊎◌, ℕ, ◌+◌, ◌*◌, ◌<◌, Bool, IsTrue, List, [], ◌∷◌, ◌++◌, length, Option, Some, slice_get}
 use Rattle.paxos_core_world.specs.KeptPart.{KeptPart}
+use Rattle.acceptor_log_form.specs.declared.errors.LogError.{LogError}
+use Rattle.acceptor_log_form.specs.declared.errors.LogError.TheVariants as log
+use Rattle.acceptor_log_form.specs.declared.header.Header.{Header}
 use Rattle.acceptor_log_form.specs.declared.record.Record.{Record}
 use Rattle.acceptor_log_form.specs.Leaves.{kept_in}
+use Rattle.acceptor_log_form.specs.Order.{AreInOrder}
 use Rattle.farm_nodes_acting.specs.declared.stop.Pending.{Pending}
 use Rattle.farm_nodes_passes.specs.Fours.{Four}
 use Rattle.farm_nodes_passes.specs.Leaves.{pending_at, Leave}
@@ -30,6 +34,10 @@ ShowParts rooms parts rs =
 -- what those before the last one leave
 abbrev pub ShowFront : ℕ → List KeptPart → List Record → Type 0
 ShowFront rooms parts rs = (front : List Record) × IsButLast rs front × ShowParts rooms parts front
+
+-- why records are refused: memory was refused, or they are not in order
+abbrev pub IsOrderFault : Header → ℕ → List Record → LogError → Type 0
+IsOrderFault h rooms rs e = e ≢ log.NoMemory → (e ≡ log.BadRecord) × (AreInOrder h.nodes h.node rooms rs → ⊥)
 
 module _ {X1 X2 X3 X4 : Type 0} where
   -- the four parts from this place on are what the seats keep

@@ -1,5 +1,6 @@
 pub mod Found
 pub mod Told
+pub mod Own
 pub use Rattle.farm_nodes_passes.specs.Fours
 pub use Rattle.farm_nodes_passes.specs.Leaves
 pub use Rattle.farm_nodes_passes.specs.Numbers

@@ -1,12 +1,12 @@
 //! What a journal's records leave of a node's seats.
 
-ghost use Rattle.std.specs.Prelude.{◌≡◌, ◌≢◌, ◌<◌, ◌≤◌, ◌*◌, ◌/◌, ◌↔◌, [], ◌∷◌, length, IsTrue, IfOk, IfErr, OnOk};
+ghost use Rattle.std.specs.Prelude.{◌≡◌, ◌<◌, ◌≤◌, ◌*◌, ◌/◌, ◌↔◌, [], ◌∷◌, length, IsTrue, IfOk, IfErr, OnOk};
 ghost use Rattle.std.specs.Prelude.{Some, true, false};
 ghost use Rattle.acceptor_log_form.specs.Order.{AreInOrder};
 ghost use Rattle.farm_nodes_passes.specs.Fours.{fours_of};
 ghost use Rattle.farm_nodes_passes.specs.Leaves.{pending_at, MayAsk};
 ghost use Rattle.farm_nodes_passes.specs.Texts.{pass_texts};
-ghost use Rattle.farm_nodes_restart_records.specs.Found.{AreKept, EndsSo, IsFound, IsJudged};
+ghost use Rattle.farm_nodes_restart_records.specs.Found.{AreKept, EndsSo, IsFound, IsJudged, IsOrderFault};
 ghost use Rattle.farm_nodes_restart_records.specs.Told.{settled_by, IsConfirmed};
 
 use crate::fours::{are_kept_at, both, is_pending_in};
@@ -46,8 +46,7 @@ pub fn find<H: Naming>(
     ensures found { IfOk result (IsFound pass_texts (fours_of seats.now.items) room pending.now records.now) }
     ensures in_order { OnOk result
         (AreInOrder header.now.nodes header.now.node (4 * length seats.now.items) records.now) }
-    ensures refused { IfErr result (λ e. e ≢ LogError.NoMemory → (e ≡ LogError.BadRecord)
-        × (AreInOrder header.now.nodes header.now.node (4 * length seats.now.items) records.now → ⊥)) }
+    ensures refused { IfErr result (IsOrderFault header.now (4 * length seats.now.items) records.now) }
 {
     let rooms = 4 * seats.len() as u16;
     match both_parts(alloc, header, rooms, records) {

@@ -1,9 +1,9 @@
 //! The kept parts that records leave, with the last record and without.
 
-ghost use Rattle.std.specs.Prelude.{◌≡◌, ◌≢◌, ◌<◌, ◌++◌, ◌∷◌, [], IfOk, IfErr, OnOk};
+ghost use Rattle.std.specs.Prelude.{◌≡◌, ◌<◌, ◌++◌, ◌∷◌, [], IfOk, IfErr, OnOk};
 ghost use Rattle.acceptor_log_form.specs.declared.record.Record.{Record};
 ghost use Rattle.acceptor_log_form.specs.Order.{AreInOrder};
-ghost use Rattle.farm_nodes_restart_records.specs.Found.{IsButLast, ShowFront, ShowParts};
+ghost use Rattle.farm_nodes_restart_records.specs.Found.{IsButLast, IsOrderFault, ShowFront, ShowParts};
 
 use acceptor_log::{Header, LogError, Record, kept_parts};
 use paxos_core::Kept;
@@ -20,8 +20,7 @@ pub(crate) fn both_parts(
     ensures whole { IfOk result (λ parts. ShowParts rooms parts.0.items records.now) }
     ensures front { IfOk result (λ parts. ShowFront rooms parts.1.items records.now) }
     ensures in_order { OnOk result (AreInOrder header.now.nodes header.now.node rooms records.now) }
-    ensures refused { IfErr result (λ e. e ≢ LogError.NoMemory →
-        (e ≡ LogError.BadRecord) × (AreInOrder header.now.nodes header.now.node rooms records.now → ⊥)) }
+    ensures refused { IfErr result (IsOrderFault header.now rooms records.now) }
 {
     let whole = match kept_parts(alloc, header, rooms, records) {
         Ok(whole) => whole,
@@ -42,8 +41,7 @@ fn front_parts(
 ) -> Result<Vec<Kept>, LogError>
     requires { 0 < header.now.nodes }
     ensures front { IfOk result (λ parts. ShowFront rooms parts.items records.now) }
-    ensures refused { IfErr result (λ e. e ≢ LogError.NoMemory →
-        (e ≡ LogError.BadRecord) × (AreInOrder header.now.nodes header.now.node rooms records.now → ⊥)) }
+    ensures refused { IfErr result (IsOrderFault header.now rooms records.now) }
 {
     let front = but_last(records);
     kept_parts(alloc, header, rooms, front)

@@ -1,3 +1,4 @@
 pub mod Places
 pub mod Refusals
 pub mod Taken
+pub mod Telling

@@ -6,9 +6,9 @@ ghost use Rattle.offers.specs.declared.parts.Parts.{Parts};
 ghost use Rattle.rooms.specs.SeatValue.{IsOneRoom};
 ghost use Rattle.rooms_state.specs.Would.{would, Acted, IsAmong};
 ghost use Rattle.farm_nodes_acting.specs.Noted.{records_of, pending_of};
-ghost use Rattle.farm_nodes_offers.specs.Offered.{PutsOffer};
 ghost use Rattle.farm_nodes_offers.specs.Pending.{IsAsked, IsOfferLeft, IsPendingOn, IsOfferText};
-ghost use Rattle.farm_nodes_restart_seat.specs.Taken.{HasForgotten, IsOfferFault, IsTakeFault, Took, TookOffer};
+ghost use Rattle.farm_nodes_restart_seat.specs.Taken.{HasForgotten, IsOfferFault, IsTakeFault, Took};
+ghost use Rattle.farm_nodes_restart_seat.specs.Telling.{LaysOffer, OffersAgain};
 
 use crate::fault::RestartFault;
 use acceptor_log::Record;
@@ -97,7 +97,7 @@ fn offer_again<P: Pass>(
 ) -> Result<(), RestartFault>
     requires { IsOfferLeft (IsOfferText P.In.Language P.Out.Language P.Pass) room seat.old entry.now }
     ensures ok { OnOk result
-        (TookOffer (IsOfferText P.In.Language P.Out.Language P.Pass) room entry.now seat.old seat.new) }
+        (OffersAgain P.In.Language P.Out.Language P.Pass room entry.now seat.old seat.new) }
     ensures err { OnErr result (seat.new ≡ seat.old) }
     ensures faults { IfErr result IsOfferFault }
     ensures room { IsOneRoom seat.old seat.new }
@@ -112,8 +112,7 @@ fn offer_again<P: Pass>(
 /// Makes the offer again that these bytes are, and lays it into the node's cell.
 fn lay_again<P: Pass>(alloc: Global, seat: &mut Seat<P>, bytes: &[u8]) -> Result<(), RestartFault>
     requires { (x : Parts P.In.Fun P.Out.Fun P.Cert) × IsOfferText P.In.Language P.Out.Language P.Pass bytes.now x }
-    ensures ok { OnOk result ((x : Parts P.In.Fun P.Out.Fun P.Cert)
-        × IsOfferText P.In.Language P.Out.Language P.Pass bytes.now x × PutsOffer x seat.old seat.new) }
+    ensures ok { OnOk result (LaysOffer P.In.Language P.Out.Language P.Pass bytes.now seat.old seat.new) }
     ensures err { OnErr result (seat.new ≡ seat.old) }
     ensures faults { IfErr result IsOfferFault }
     ensures room { IsOneRoom seat.old seat.new }

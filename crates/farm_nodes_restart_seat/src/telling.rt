@@ -1,8 +1,9 @@
 //! Whether a text is that of the offer in a node's own cell.
 
-ghost use Rattle.std.specs.Prelude.{◌≡◌, ◌↔◌, IsTrue, IfOk};
+ghost use Rattle.std.specs.Prelude.{◌≡◌, ◌↔◌, IsTrue};
 ghost use Rattle.farm_nodes_offers.specs.Pending.{IsOfferText};
 ghost use Rattle.farm_nodes_offers.specs.Told.{IsOwnText};
+ghost use Rattle.farm_nodes_restart_seat.specs.Telling.{TellsWhether};
 
 use lang_base::{NoMemory, Pass};
 use offers::Offer;
@@ -11,8 +12,8 @@ use std::alloc::Global;
 
 /// Whether these bytes are the text of the offer that stands in the cell of the seat's node, as the seat has seen it.
 pub fn is_own_text<P: Pass>(alloc: Global, seat: &Seat<P>, text: &[u8]) -> Result<bool, NoMemory>
-    ensures { IfOk result (λ told. IsTrue told
-        ↔ IsOwnText (IsOfferText P.In.Language P.Out.Language P.Pass) seat.now text.now) }
+    ensures { TellsWhether
+        (IsOwnText (IsOfferText P.In.Language P.Out.Language P.Pass) seat.now text.now) result }
 {
     let Some(offer) = seat.fetch(seat.me()) else {
         return Ok(false);
@@ -22,8 +23,7 @@ pub fn is_own_text<P: Pass>(alloc: Global, seat: &Seat<P>, text: &[u8]) -> Resul
 
 /// Whether these bytes are the text of the offer.
 fn is_text_of<P: Pass>(alloc: Global, offer: &Offer<P>, text: &[u8]) -> Result<bool, NoMemory>
-    ensures { IfOk result (λ told. IsTrue told
-        ↔ IsOfferText P.In.Language P.Out.Language P.Pass text.now offer.now) }
+    ensures { TellsWhether (IsOfferText P.In.Language P.Out.Language P.Pass text.now offer.now) result }
 {
     offer.validated();
     let mut written = Vec::new(alloc);

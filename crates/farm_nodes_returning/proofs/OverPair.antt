@@ -1,5 +1,5 @@
 -- A node comes back over the new disk of a pair, once the old one was read.
-use Rattle.std.proofs.Common.{◌≡◌, ◌≢◌, inl, inr, ℕ, List, Result, Err, refl, sym, ◌∙◌, subst}
+use Rattle.std.proofs.Common.{◌≡◌, ◌≢◌, inl, inr, ℕ, List, Option, Result, Err, refl, sym, ◌∙◌, subst}
 use Rattle.durable_model.specs.Honest.{Unchanged}
 use Rattle.durable_model.specs.Moments.{LeavesOnly}
 use Rattle.durable_model.specs.declared.disk.Disk as disks
@@ -7,6 +7,8 @@ use Rattle.durable_pair.specs.declared.pair.Pair as pairs
 use Rattle.durable_pair.specs.Images.{Images, IsSpent, Shows, Both}
 use Rattle.acceptor_log_form.specs.declared.errors.LogError.{LogError}
 use Rattle.acceptor_log_form.specs.declared.errors.LogError.TheVariants as log
+use Rattle.farm_nodes_restart.specs.Back.{CountsFailures}
+use Rattle.farm_nodes_restart_seat.specs.declared.fault.RestartFault.{RestartFault}
 use Rattle.farm_nodes_restart_seat.specs.Refusals.{restart_fault}
 use Rattle.farm_nodes_returning.specs.Cause.{HasCauseBefore}
 use Rattle.farm_nodes_pairs.specs.OnPairs.{MayShow, IsSame, IsShown, IsUntouched}
@@ -42,6 +44,10 @@ same_untouched disk pair p m same = record {
   old_same = λ counts. same.old_same;
   spent = λ spent. subst IsSpent (sym same.old_same) spent;
 }
+
+-- where nothing failed before
+pub counts_from : (before mid now : ℕ) (told : Option RestartFault) → mid ≡ before → CountsFailures mid now told → CountsFailures before now told
+counts_from before mid now told same counted = subst (λ (n : ℕ). CountsFailures n now told) same counted
 
 -- why the old disk was not read
 pub early : (old : List ℕ) (e : LogError) → (e ≢ log.Device → e ≡ log.NoMemory) → HasCauseBefore old (restart_fault e)

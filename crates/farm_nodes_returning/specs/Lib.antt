@@ -1,5 +1,6 @@
 pub mod Stopped
 pub mod Own
 pub mod Cause
+pub mod OverPair
 pub mod Restarted
 pub mod OwnDisk

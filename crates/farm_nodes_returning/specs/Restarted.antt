@@ -1,11 +1,8 @@
 -- What a restart of a node over a pair of disks leaves: the node comes back and goes on, or it is refused and stays stopped.
-use Rattle.std.specs.Prelude.{◌≡◌, ◌≢◌, ◌≤◌, ◌*◌, ◌↔◌, ℕ, true, length, Option, None, Some, Result, Ok, Err}
+use Rattle.std.specs.Prelude.{◌≡◌, ◌*◌, ◌↔◌, true, length, Option, None, Some, Result, Ok, Err}
 use Rattle.durable_model.specs.declared.disk.Disk as disks
-use Rattle.durable_model.specs.Honest.{Risen}
-use Rattle.durable_model.specs.Moments.{LeavesOnly}
 use Rattle.durable_pair.specs.declared.pair.Pair as pairs
 use Rattle.durable_pair.specs.Images.{Both, IsSpent}
-use Rattle.acceptor_log_form.specs.declared.errors.LogError.TheVariants as journal
 use Rattle.acceptor_log_form.specs.Order.{AreInOrder}
 use Rattle.acceptor_log_form.specs.Text.{StandsFor}
 use Rattle.acceptor_log.specs.Acknowledged.{acknowledged}
@@ -14,9 +11,8 @@ use Rattle.farm_nodes_node.specs.declared.farm_node.FarmNode.{FarmNode}
 use Rattle.farm_nodes_node.specs.Fours.{fours_of}
 use Rattle.farm_nodes_node.specs.Texts.{pass_texts}
 use Rattle.farm_nodes_restart_seat.specs.declared.fault.RestartFault.{RestartFault}
-use Rattle.farm_nodes_restart_seat.specs.declared.fault.RestartFault.TheVariants as restart
 use Rattle.farm_nodes_restart.specs.Seats.{HaveComeBack}
-use Rattle.farm_nodes_pairs.specs.OnPairs.{IsShown, IsUntouched, MayShow}
+use Rattle.farm_nodes_pairs.specs.OnPairs.{IsShown, IsUntouched}
 use Rattle.farm_nodes_returning.specs.Cause.{HasCauseOn}
 use Rattle.farm_nodes_returning.specs.Own.{IsOwnFault}
 use Rattle.farm_nodes_returning.specs.Stopped.{left_by, room_in, stopped_by}
@@ -44,16 +40,6 @@ module _ {P O H : Type 0} {h : naming.Ghosts H} where
     pub program : now.program ≡ node.program
     pub oracles : now.oracles ≡ node.oracles
     pub words : now.words ≡ node.words
-
--- the device's failures are counted: one more at least where that fault is told, and none where it is not
-pub record CountsFailures (before now : ℕ) (told : Option RestartFault) : Type 0 where
-  pub later : before ≤ now
-  pub failed : told ≡ Some (restart.Journal journal.Device) → Risen before now
-  pub unfailed : told ≢ Some (restart.Journal journal.Device) → now ≡ before
-
--- a crash at any moment meanwhile shows what it might have shown of the pair before
-abbrev pub ShowsOnly : {P : Type 0} → disks.Ghosts P → pairs.Ghosts P → P → P → Type 0
-ShowsOnly disk pair given now = LeavesOnly disk.moment disk.left_since given now (MayShow disk pair given)
 
 module _ {P O H : Type 0} {h : naming.Ghosts H} (disk : disks.Ghosts P) (pair : pairs.Ghosts P) where
   -- both disks are honest, and show what a crash now may leave of those that the node is on

@@ -1,19 +1,18 @@
 //! The pair of disks that a node comes back over.
 
-ghost use Rattle.std.specs.Prelude.{◌≡◌, ◌≢◌, ◌<◌, ◌≤◌, ◌*◌, ◌↔◌, length, true, Err, IfOk, IfErr, OnOk, OnErr, MatchResult};
+ghost use Rattle.std.specs.Prelude.{◌≡◌, ◌≢◌, ◌<◌, ◌≤◌, ◌*◌, ◌↔◌, length, true, Err, IfOk, IfErr, OnOk, OnErr};
 ghost use Rattle.durable_model.specs.Honest.{Risen};
-ghost use Rattle.durable_model.specs.Moments.{LeavesOnly};
-ghost use Rattle.durable_pair.specs.Images.{IsSpent, Both};
-ghost use Rattle.acceptor_log_form.specs.Order.{AreInOrder};
+ghost use Rattle.durable_pair.specs.Images.{IsSpent};
 ghost use Rattle.acceptor_log_form.specs.Text.{StandsFor};
 ghost use Rattle.acceptor_log.specs.Acknowledged.{acknowledged, IsSound};
 ghost use Rattle.farm_nodes_node.specs.Fours.{fours_of};
-ghost use Rattle.farm_nodes_node.specs.Texts.{pass_texts};
 ghost use Rattle.farm_nodes_restart_records.specs.Pending.{HavePending};
+ghost use Rattle.farm_nodes_restart.specs.Back.{CameBackBy, CountsFailures, HasInOrder};
+ghost use Rattle.farm_nodes_restart.specs.Back.{disk_given, fault_given};
 ghost use Rattle.farm_nodes_restart.specs.Returned.{AreAtRest};
-ghost use Rattle.farm_nodes_restart.specs.Seats.{HaveComeBack};
-ghost use Rattle.farm_nodes_pairs.specs.OnPairs.{MayShow, IsSame, IsShown, IsUntouched};
-ghost use Rattle.farm_nodes_returning.specs.Cause.{HasCauseBefore, HasCauseOn};
+ghost use Rattle.farm_nodes_pairs.specs.OnPairs.{IsSame, IsShown, IsUntouched, LeavesBoth};
+ghost use Rattle.farm_nodes_returning.specs.Cause.{HasCauseBefore};
+ghost use Rattle.farm_nodes_returning.specs.OverPair.{ShowsOnly, StaysOutOf};
 
 use acceptor_log::{Header, Log, LogError};
 use durable_pair::Pair;
@@ -45,30 +44,22 @@ pub(crate) fn come_back_on<P: Pair, H: Naming>(
     ensures spent { P.is_whole pair → IfOk result (λ log. IsSpent (P.old_seen pair)) }
     ensures listed { P.is_whole pair
         → IfOk result (λ log. StandsFor header.now (acknowledged P.seen log) (P.seen pair)) }
-    ensures in_order { P.is_whole pair → IfOk result (λ log. AreInOrder header.now.nodes header.now.node
-        (4 * length seats.old.items) (acknowledged P.seen log)) }
-    ensures seats { P.is_whole pair → IfOk result (λ log.
-        HaveComeBack room pending.now (acknowledged P.seen log) seats.old.items seats.new.items) }
+    ensures in_order { P.is_whole pair
+        → IfOk result (HasInOrder P.seen header.now (4 * length seats.old.items)) }
+    ensures seats { P.is_whole pair
+        → IfOk result (CameBackBy P.seen room pending.now seats.old.items seats.new.items) }
     ensures rest { OnOk result (AreAtRest (fours_of seats.old.items) (fours_of seats.new.items)) }
 
     // The pair is as it was, and a crash meanwhile shows what it might have shown before.
     ensures unchanged { P.is_whole pair → IfOk result (λ log. IsShown P.Disk P.Pair.own pair log.disk) }
     ensures untouched { P.is_whole pair → IfErr result (λ refused. IsUntouched P.Disk P.Pair.own pair refused.0) }
-    ensures any_moment { P.is_whole pair → MatchResult result
-        (λ log. LeavesOnly P.moment P.left_since pair log.disk (MayShow P.Disk P.Pair.own pair))
-        (λ refused. LeavesOnly P.moment P.left_since pair refused.0 (MayShow P.Disk P.Pair.own pair)) }
+    ensures any_moment { P.is_whole pair → ShowsOnly P.Disk P.Pair.own pair (disk_given result) }
     ensures err { OnErr result (fours_of seats.new.items ≡ fours_of seats.old.items) }
     ensures count { length seats.new.items ≡ length seats.old.items }
 
-    // It does not give up by itself.
-    ensures refused { P.is_whole pair → IfErr result (λ refused. HasCauseOn pass_texts header.now
-        (4 * length seats.old.items) (fours_of seats.old.items) room pending.now (P.seen pair, P.old_seen pair) refused.1) }
-    ensures failed { IfErr result (λ refused. refused.1 ≡ RestartFault.Journal LogError.Device
-        → Risen (P.faults pair) (P.faults refused.0)) }
-    ensures later { MatchResult result (λ log. P.faults pair ≤ P.faults log.disk)
-        (λ refused. P.faults pair ≤ P.faults refused.0) }
-    ensures unfailed { MatchResult result (λ log. P.faults log.disk ≡ P.faults pair)
-        (λ refused. refused.1 ≢ RestartFault.Journal LogError.Device → P.faults refused.0 ≡ P.faults pair) }
+    // It does not give up by itself, and no failure of the device is missed.
+    ensures refused { StaysOutOf P.Disk P.Pair.own pair header.now seats.old.items room pending.now result }
+    ensures failures { CountsFailures (P.faults pair) (P.faults (disk_given result)) (fault_given result) }
 {
     let mut pair = pair;
     match no_old_journal(alloc, &mut pair) {
@@ -84,8 +75,7 @@ pub(crate) fn come_back_on<P: Pair, H: Naming>(
 fn no_old_journal<P: Pair>(alloc: Global, pair: &mut P) -> Result<(), RestartFault>
     ensures whole { P.is_whole pair.new ↔ P.is_whole pair.old }
     ensures same { P.is_whole pair.old → IsSame P.Disk P.Pair.own pair.old pair.new }
-    ensures any_moment { P.is_whole pair.old
-        → LeavesOnly P.moment P.both_since pair.old pair.new (Both P.new_may P.old_may pair.old) }
+    ensures any_moment { P.is_whole pair.old → LeavesBoth P.Disk P.Pair.own pair.old pair.new }
     ensures spent { P.is_whole pair.old → OnOk result (IsSpent (P.old_seen pair.old)) }
     ensures honest { P.is_whole pair.old → OnOk result (P.is_honest pair.new) }
     ensures refused { P.is_whole pair.old → IfErr result (HasCauseBefore (P.old_seen pair.old)) }

@@ -2,8 +2,10 @@
 
 ghost use Rattle.std.specs.Prelude.{◌≡◌, ◌<◌, ◌≤◌, ◌*◌, length, IfOk, IfErr};
 ghost use Rattle.farm_nodes_node.specs.Asked.{MayBeAsked};
-ghost use Rattle.farm_nodes_returning.specs.Restarted.{CountsFailures, KeepsItsOwn, NodeComesBack, NodeIsRefused, ShowsOnly};
+ghost use Rattle.farm_nodes_restart.specs.Back.{CountsFailures};
+ghost use Rattle.farm_nodes_returning.specs.OverPair.{ShowsOnly};
 ghost use Rattle.farm_nodes_returning.specs.Restarted.{fault_told, node_of, pair_given};
+ghost use Rattle.farm_nodes_returning.specs.Restarted.{KeepsItsOwn, NodeComesBack, NodeIsRefused};
 
 use crate::opening::come_back_on;
 use crate::stopping::{told, unfinished};

@@ -10,10 +10,11 @@ const ALL_ROOMS_EVERY: u32 = 8;
 /// reaches its quorums before others start ballots. It has no factor in common with the rounds over all rooms.
 const FOLLOWS_EVERY: u32 = 5;
 
-/// How many turns a node may be ahead of the slowest that has still to learn: as many as it has rooms where it has not learned, at
-/// least and at most these. A node that took many turns in one room before others took any would pass each of their ballots.
+/// A node may be as many turns ahead of the slowest that has still to learn as it has rooms where it has not learned, and at least
+/// these. A node that took many turns in one room before others took any would pass each of their ballots.
 const LEAST_AHEAD: u32 = 2;
 
+/// At most so many turns ahead, however many rooms are left.
 const MOST_AHEAD: u32 = 64;
 
 /// How far a node is in its rooms, which it goes over in their order, round and round. No contract speaks of it but that the room is

@@ -11,11 +11,15 @@ use Rattle.rtlgen.specs.Refused.{IsFirstTooLarge}
 use Rattle.farm_nodes_source.specs.declared.fault.SourceFault.{SourceFault}
 use Rattle.farm_nodes_source.specs.declared.fault.SourceFault.TheVariants.{NoMemory, Text, TooManyNodes}
 
+-- this is the name of that number
+abbrev pub HasNameAt : List (List ℕ) → ℕ → List ℕ → Type 0
+HasNameAt names i name = slice_get names i ≡ Some name
+
 -- the first function of the program that needs too many nodes has this name
 pub record IsTooLarge (p : ProgramTree) (name : List ℕ) : Type 0 where
   pub function : ℕ
   pub first : IsFirstTooLarge (low p).functions function
-  pub named : slice_get (map (λ f. f.name) p.functions) function ≡ Some name
+  pub named : HasNameAt (map (λ f. f.name) p.functions) function name
 
 -- why a program is not translated; that memory was refused says nothing of it
 abbrev pub IsUntranslated : ProgramTree → SourceFault → Type 0
@@ -39,4 +43,4 @@ IsOnlyTooLarge u (TooManyNodes name) = IsTooLarge (program_of u) (string_bytes n
 abbrev pub IsNamed : List (List ℕ) → ℕ → SourceFault → Type 0
 IsNamed names i NoMemory = Unit {0}
 IsNamed names i (Text fault) = ⊥
-IsNamed names i (TooManyNodes name) = slice_get names i ≡ Some (string_bytes name)
+IsNamed names i (TooManyNodes name) = HasNameAt names i (string_bytes name)

@@ -1,10 +1,11 @@
 //! The names of a program's functions as text.
 
-ghost use Rattle.std.specs.Prelude.{◌≡◌, ◌<◌, Some, length, map, slice_get, IfOk};
+ghost use Rattle.std.specs.Prelude.{◌≡◌, ◌<◌, length, map, IfOk};
 ghost use Rattle.std.specs.String.{string_bytes};
 ghost use Rattle.c_lexer_parts.specs.Lexemes.{IsName};
 ghost use Rattle.c_checker_rules.specs.Checked.{program_tree};
 ghost use Rattle.cminor_program_ranges.specs.Names.{HaveNames};
+ghost use Rattle.farm_nodes_source.specs.Refused.{HasNameAt};
 
 use c_checker_rules::CProgram;
 use lang_base::NoMemory;
@@ -26,7 +27,7 @@ pub fn name_of(alloc: Global, program: &CProgram, function: usize) -> Result<Str
     requires names { HaveNames (program_tree program.now) }
     requires number { function < length program.now.functions }
     ensures { IfOk result (λ name.
-        slice_get (map (λ f. f.name) program.now.functions) function ≡ Some (string_bytes name)) }
+        HasNameAt (map (λ f. f.name) program.now.functions) function (string_bytes name)) }
 {
     match program.functions()[function].name.copied(alloc) {
         Ok(name) => Ok(text_of(name.into_vec())),

@@ -1,4 +1,4 @@
-ghost use Rattle.std.specs.Prelude.{◌≡◌, ◌≤◌, All, length, map, IfOk, IfErr, MatchResult};
+ghost use Rattle.std.specs.Prelude.{◌≡◌, ◌≤◌, All, length, IfOk, IfErr};
 ghost use Rattle.std.specs.Arc.{arc_value};
 ghost use Rattle.lang_base.specs.Keeps.{Keeps};
 ghost use Rattle.c_syntax.specs.Trees.{UnitTree};
@@ -13,7 +13,8 @@ ghost use Rattle.rtl_language.specs.Meaning as rtl;
 ghost use Rattle.rtlgen.specs.Refused.{HasFewNodes};
 ghost use Rattle.rtlgen_definition.specs.Gen.{gen};
 ghost use Rattle.sha2.specs.Sha256.{sha256};
-ghost use Rattle.farm_nodes_source.specs.Refused.{IsOnlyTooLarge, IsUnprepared};
+ghost use Rattle.farm_nodes_source.specs.Ready.{HaveSameNames, IsReadyUnlessLarge};
+ghost use Rattle.farm_nodes_source.specs.Refused.{IsUnprepared};
 
 use crate::fault::SourceFault;
 use crate::source::{Begun, Source};
@@ -35,8 +36,7 @@ pub fn begin(alloc: Global, text: &[u8]) -> Result<Begun, SourceFault>
     // The functions stand in the order of the text, each under its C name, and are 64 at most. What they are translated to
     // has a spelling, and each has so few nodes and registers that no pass refuses it.
     ensures names { IfOk result (λ s. HaveNames (program_tree s.program)) }
-    ensures same_names { IfOk result (λ s.
-        map (λ f. f.name) (arc_value s.translated).functions ≡ map (λ f. f.name) s.program.functions) }
+    ensures same_names { IfOk result (λ s. HaveSameNames (arc_value s.translated) s.program) }
     ensures count { IfOk result (λ s. length (arc_value s.translated).functions ≤ 64) }
     ensures fits { IfOk result (λ s. IsProgram IsFunction (arc_value s.translated)) }
     ensures few { IfOk result (λ s. All HasFewNodes (low (program_tree s.program)).functions) }
@@ -45,8 +45,7 @@ pub fn begin(alloc: Global, text: &[u8]) -> Result<Begun, SourceFault>
     // The first fault of the text, or its first function that needs too many nodes, unless memory was refused. A text that
     // is accepted is refused for nothing else.
     ensures refused { IfErr result (IsUnprepared text.now) }
-    ensures only { (u : UnitTree) → IsAccepted text.now u →
-        MatchResult result (λ s. IsProgramOf u s.program) (IsOnlyTooLarge u) }
+    ensures only { IsReadyUnlessLarge text.now result (λ s. s.program) }
 {
     let program = match accept(alloc, text) {
         Ok(program) => program,
@@ -77,8 +76,7 @@ pub fn prepare(alloc: Global, text: &[u8]) -> Result<Source, SourceFault>
     // The functions stand in the order of the text, each under its C name, and are 64 at most. What they are translated to
     // has a spelling, and each has so few nodes and registers that no pass refuses it.
     ensures names { IfOk result (λ s. HaveNames (program_tree s.program)) }
-    ensures same_names { IfOk result (λ s.
-        map (λ f. f.name) (arc_value s.translated).functions ≡ map (λ f. f.name) s.program.functions) }
+    ensures same_names { IfOk result (λ s. HaveSameNames (arc_value s.translated) s.program) }
     ensures count { IfOk result (λ s. length (arc_value s.translated).functions ≤ 64) }
     ensures fits { IfOk result (λ s. IsProgram IsFunction (arc_value s.translated)) }
     ensures few { IfOk result (λ s. All HasFewNodes (low (program_tree s.program)).functions) }
@@ -87,8 +85,7 @@ pub fn prepare(alloc: Global, text: &[u8]) -> Result<Source, SourceFault>
     // The first fault of the text, or its first function that needs too many nodes, unless memory was refused. A text that
     // is accepted is refused for nothing else.
     ensures refused { IfErr result (IsUnprepared text.now) }
-    ensures only { (u : UnitTree) → IsAccepted text.now u →
-        MatchResult result (λ s. IsProgramOf u s.program) (IsOnlyTooLarge u) }
+    ensures only { IsReadyUnlessLarge text.now result (λ s. s.program) }
 {
     match begin(alloc, text) {
         Ok(

@@ -19,7 +19,7 @@ use Rattle.farm_nodes_records.specs.Which.TheVariants.{Constants, Expressions, A
 use Rattle.farm_nodes_records.specs.Known.{AreKnown, IsAccepted, HasUnaccepted}
 use Rattle.farm_nodes_records.specs.Stored.{IsStored}
 use Rattle.farm_nodes_records.specs.declared.storing.Stored.{Stored}
-use Rattle.farm_nodes_stored.specs.Nodes.{AreMade, InFront}
+use Rattle.farm_nodes_stored.specs.Nodes.{AreMade, AtNode, InFront}
 use Rattle.farm_nodes_stored.specs.Read.{AllStored, AreStored}
 
 -- of each pass there are as many rooms as offers
@@ -43,6 +43,10 @@ HasRefused all =
     ⊎ HasUnaccepted (expressions.ghosts).accepts all.expressions.parts.items
     ⊎ HasUnaccepted (allocation.ghosts).accepts all.allocation.parts.items
     ⊎ HasUnaccepted (order.ghosts).accepts all.order.parts.items
+
+-- so it is of this node's
+abbrev pub HasRefusedAt : List AllStored → ℕ → Type 0
+HasRefusedAt stored node = AtNode (λ i all. HasRefused all) node stored
 
 -- of each function the offer, if the node has made one, pass by pass
 abbrev pub NodeOffers : Type 0
@@ -122,6 +126,10 @@ module _ {J : Type 0} where
     pub stored : AllStored
     pub written : AreStored j.1.items stored
     pub refused : HasRefused stored
+
+  -- so it is of this node's
+  abbrev pub WasRefusedAt : List (J × Vec Record) → ℕ → Type 0
+  WasRefusedAt journals node = AtNode (λ i j. WasRefused j) node journals
 
   -- they accept all offers among the records of the nodes in front of this one
   abbrev pub WereAccepted : List (J × Vec Record) → ℕ → Type 0

@@ -17,7 +17,7 @@ use Rattle.farm_nodes_records.specs.Passes.{Passes}
 use Rattle.farm_nodes_records.specs.Which.TheVariants.{Constants, Expressions, Allocation, Order}
 use Rattle.farm_nodes_records.specs.Stored.{HasNoParts, IsStored}
 use Rattle.farm_nodes_records.specs.declared.storing.Stored.{Stored}
-use Rattle.farm_nodes_stored.specs.Nodes.{AllMade}
+use Rattle.farm_nodes_stored.specs.Nodes.{AllMade, AreMade, AtNode}
 
 -- what the records of node i of so many leave of each room of so many functions, in which they are in order
 pub record AreKept (functions count i : ℕ) (rs : List Record) (kept : List KeptPart) : Type 0 where
@@ -44,9 +44,13 @@ HasNoOffer rs =
     ⊎ HasNoParts rtl_language.ghosts ltl_language.ghosts allocation.ghosts Allocation rs
     ⊎ HasNoParts ltl_language.ghosts linear_language.ghosts order.ghosts Order rs
 
--- they are out of order, or one is no offer
+-- they are out of order
+abbrev pub AreOutOfOrder : ℕ → ℕ → ℕ → List Record → Type 0
+AreOutOfOrder functions count i rs = AreInOrder count i (4 * functions) rs → ⊥
+
+-- they are, or one is no offer
 abbrev pub AreBad : ℕ → ℕ → ℕ → List Record → Type 0
-AreBad functions count i rs = (AreInOrder count i (4 * functions) rs → ⊥) ⊎ HasNoOffer rs
+AreBad functions count i rs = AreOutOfOrder functions count i rs ⊎ HasNoOffer rs
 
 -- The journal of a node is given as a pair of something and its records.
 module _ {J : Type 0} where
@@ -59,7 +63,19 @@ module _ {J : Type 0} where
   abbrev pub IsBadPart : ℕ → ℕ → ℕ → J × Vec Record → Type 0
   IsBadPart functions count i j = AreBad functions count i j.1.items
 
+  -- what each node has kept
+  abbrev pub AreKeptIn : ℕ → List (J × Vec Record) → List (Vec KeptPart) → Type 0
+  AreKeptIn functions journals kept = AreMade (IsKeptPart functions (length journals)) journals (length journals) kept
+
+  -- the records of this node are out of order, or one is no offer
+  abbrev pub HasBadPart : ℕ → List (J × Vec Record) → ℕ → Type 0
+  HasBadPart functions journals node = AtNode (IsBadPart functions (length journals)) node journals
+
   -- the records of the first nodes, so many, are in order, and their offers are offers of the passes
   pub record WereRead (functions : ℕ) (journals : List (J × Vec Record)) (so_far : ℕ) : Type 0 where
     pub kept : AllMade (IsKeptPart functions (length journals)) journals so_far
     pub stored : AllMade IsStoredPart journals so_far
+
+  -- so are those of all
+  abbrev pub AllWereRead : ℕ → List (J × Vec Record) → Type 0
+  AllWereRead functions journals = WereRead functions journals (length journals)

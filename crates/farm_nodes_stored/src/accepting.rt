@@ -1,4 +1,5 @@
-ghost use Rattle.std.specs.Prelude.{◌≡◌, ◌≢◌, ◌<◌, All, length, IfOk, OnOk, IfErr};
+ghost use Rattle.std.specs.Prelude.{◌≡◌, ◌<◌, All, length, IfOk, OnOk, IfErr};
+ghost use Rattle.farm_nodes_records.specs.Faults.{IsRefusal};
 ghost use Rattle.farm_nodes_records.specs.Known.{AreKnown, IsAccepted, HasUnaccepted};
 ghost use Rattle.farm_nodes_stored.specs.Checked.{AreAccepted, AreAsMany, AreKnownOf, HasRefused};
 
@@ -39,8 +40,7 @@ where
     requires rooms { length stored.rooms.items ≡ length stored.parts.items }
     ensures known { IfOk result (λ offers. AreKnown functions stored offers.items) }
     ensures accepted { OnOk result (All (IsAccepted P.accepts) stored.parts.items) }
-    ensures refused { IfErr result (λ e. e ≢ RecordFault.NoMemory → (e ≡ RecordFault.Refused)
-        × HasUnaccepted P.accepts stored.parts.items) }
+    ensures refused { IfErr result (IsRefusal (HasUnaccepted P.accepts stored.parts.items)) }
 {
     let jobs = stored.parts.as_slice();
     let answers = match check_all::<P, OpenGate, R>(rt, alloc, jobs, workers, &OpenGate) {
@@ -65,7 +65,7 @@ pub(crate) fn check_node<R: Threads + Wait + Sync>(
     requires rooms { AreAsMany stored }
     ensures known { IfOk result (λ offers. AreKnownOf functions stored offers) }
     ensures accepted { OnOk result (AreAccepted stored) }
-    ensures refused { IfErr result (λ e. e ≢ RecordFault.NoMemory → (e ≡ RecordFault.Refused) × HasRefused stored) }
+    ensures refused { IfErr result (IsRefusal (HasRefused stored)) }
 {
     let Passes {
         constants,

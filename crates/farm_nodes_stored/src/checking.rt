@@ -1,6 +1,6 @@
 ghost use Rattle.std.specs.Prelude.{◌≡◌, ◌≢◌, ◌<◌, ◌≤◌, ◌++◌, ◌∷◌, [], All, length, IfOk, OnOk, IfErr};
-ghost use Rattle.farm_nodes_stored.specs.Nodes.{AtNode, InFront};
-ghost use Rattle.farm_nodes_stored.specs.Checked.{AreAccepted, AreAsMany, AreChecked, HasRefused};
+ghost use Rattle.farm_nodes_stored.specs.Nodes.{InFront};
+ghost use Rattle.farm_nodes_stored.specs.Checked.{AreAccepted, AreAsMany, AreChecked, HasRefusedAt};
 
 use crate::accepting::check_node;
 use crate::one::StoredOf;
@@ -65,8 +65,7 @@ pub(crate) fn checked_nodes<R: Threads + Wait + Sync>(
 
     // The node that is told has an offer that its pass does not accept, and those in front of it have none.
     ensures fault { IfErr result (λ it. it.fault ≢ RecordFault.NoMemory → it.fault ≡ RecordFault.Refused) }
-    ensures refused { IfErr result (λ it. it.fault ≢ RecordFault.NoMemory
-        → AtNode (λ i all. HasRefused all) it.node stored.items) }
+    ensures refused { IfErr result (λ it. it.fault ≢ RecordFault.NoMemory → HasRefusedAt stored.items it.node) }
     ensures in_front { IfErr result (λ it. InFront AreAccepted it.node stored.items) }
 {
     let count = stored.len() as u8;

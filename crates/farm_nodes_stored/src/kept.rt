@@ -1,6 +1,6 @@
-ghost use Rattle.std.specs.Prelude.{◌≡◌, ◌≢◌, ◌<◌, ◌*◌, IfOk, IfErr};
-ghost use Rattle.acceptor_log_form.specs.Order.{AreInOrder};
-ghost use Rattle.farm_nodes_stored.specs.Read.{AreKept};
+ghost use Rattle.std.specs.Prelude.{◌<◌, IfOk, IfErr};
+ghost use Rattle.farm_nodes_records.specs.Faults.{IsBadRecord};
+ghost use Rattle.farm_nodes_stored.specs.Read.{AreKept, AreOutOfOrder};
 
 use acceptor_log_form::{Header, LogError, Record, kept_parts};
 use farm_nodes_records::RecordFault;
@@ -17,8 +17,8 @@ pub(crate) fn kept_of_node(
     requires nodes { 0 < header.now.nodes }
     requires functions { functions < 16384 }
     ensures kept { IfOk result (λ parts. AreKept functions header.now.nodes header.now.node records.now parts.items) }
-    ensures refused { IfErr result (λ e. e ≢ RecordFault.NoMemory → (e ≡ RecordFault.BadRecord)
-        × (AreInOrder header.now.nodes header.now.node (4 * functions) records.now → ⊥)) }
+    ensures refused { IfErr result (IsBadRecord
+        (AreOutOfOrder functions header.now.nodes header.now.node records.now)) }
 {
     match kept_parts(alloc, header, 4 * functions, records) {
         Ok(parts) => Ok(parts),

@@ -1,4 +1,5 @@
-ghost use Rattle.std.specs.Prelude.{◌≡◌, ◌≢◌, ◌<◌, IfOk, IfErr};
+ghost use Rattle.std.specs.Prelude.{◌<◌, IfOk, IfErr};
+ghost use Rattle.farm_nodes_records.specs.Faults.{IsBadRecord};
 ghost use Rattle.farm_nodes_stored.specs.Read.{AreBad, AreKept, AreStored, HasNoOffer};
 
 use crate::kept::kept_of_node;
@@ -24,8 +25,7 @@ pub(crate) type StoredOf = Passes<
 /// are refused.
 fn read_node(alloc: Global, records: &[Record]) -> Result<StoredOf, RecordFault>
     ensures stored { IfOk result (AreStored records.now) }
-    ensures bad { IfErr result (λ e. e ≢ RecordFault.NoMemory → e ≡ RecordFault.BadRecord) }
-    ensures refused { IfErr result (λ e. e ≢ RecordFault.NoMemory → HasNoOffer records.now) }
+    ensures refused { IfErr result (IsBadRecord (HasNoOffer records.now)) }
 {
     let constants = match stored_offers::<ConstProp>(alloc, Which::Constants, records) {
         Ok(found) => found,
@@ -64,9 +64,8 @@ pub(crate) fn stored_of_node(
     ensures kept { IfOk result (λ read.
         AreKept functions header.now.nodes header.now.node records.now read.0.items) }
     ensures stored { IfOk result (λ read. AreStored records.now read.1) }
-    ensures bad { IfErr result (λ e. e ≢ RecordFault.NoMemory → e ≡ RecordFault.BadRecord) }
-    ensures refused { IfErr result (λ e. e ≢ RecordFault.NoMemory →
-        AreBad functions header.now.nodes header.now.node records.now) }
+    ensures refused { IfErr result (IsBadRecord
+        (AreBad functions header.now.nodes header.now.node records.now)) }
 {
     let parts = match kept_of_node(alloc, header, functions, records) {
         Ok(parts) => parts,

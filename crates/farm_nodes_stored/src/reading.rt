@@ -1,6 +1,6 @@
 ghost use Rattle.std.specs.Prelude.{◌≡◌, ◌≢◌, ◌<◌, ◌≤◌, ◌++◌, ◌∷◌, [], length, IfOk, OnOk, IfErr};
-ghost use Rattle.farm_nodes_stored.specs.Nodes.{AreMade, AtNode};
-ghost use Rattle.farm_nodes_stored.specs.Read.{IsBadPart, IsKeptPart, IsStoredPart, WereRead};
+ghost use Rattle.farm_nodes_stored.specs.Nodes.{AreMade};
+ghost use Rattle.farm_nodes_stored.specs.Read.{AreKeptIn, HasBadPart, IsKeptPart, IsStoredPart, WereRead};
 
 use crate::one::{StoredOf, stored_of_node};
 use acceptor_log_form::{Header, Record};
@@ -42,14 +42,13 @@ pub(crate) fn read_nodes<J>(
 ) -> Result<(Vec<Vec<Kept>>, Vec<StoredOf>), BadNode>
     requires nodes { length journals.now ≤ 255 }
     requires functions { functions < 16384 }
-    ensures kept { IfOk result (λ read. AreMade (IsKeptPart functions (length journals.now))
-        journals.now (length journals.now) read.0.items) }
+    ensures kept { IfOk result (λ read. AreKeptIn functions journals.now read.0.items) }
     ensures stored { IfOk result (λ read. AreMade IsStoredPart journals.now (length journals.now) read.1.items) }
 
     // What is refused stands in the records of the node that is told, and those in front of it were read.
     ensures bad { IfErr result (λ it. it.fault ≢ RecordFault.NoMemory → it.fault ≡ RecordFault.BadRecord) }
     ensures refused { IfErr result (λ it. it.fault ≢ RecordFault.NoMemory
-        → AtNode (IsBadPart functions (length journals.now)) it.node journals.now) }
+        → HasBadPart functions journals.now it.node) }
     ensures in_front { IfErr result (λ it. WereRead functions journals.now it.node) }
 {
     let count = journals.len() as u8;

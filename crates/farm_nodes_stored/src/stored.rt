@@ -1,7 +1,6 @@
 ghost use Rattle.std.specs.Prelude.{◌≡◌, ◌<◌, ◌≤◌, length, IfOk, IfErr};
-ghost use Rattle.farm_nodes_stored.specs.Nodes.{AreMade, AtNode};
-ghost use Rattle.farm_nodes_stored.specs.Read.{IsBadPart, IsKeptPart, WereRead};
-ghost use Rattle.farm_nodes_stored.specs.Checked.{AreNodesOffers, WasRefused, WereAccepted};
+ghost use Rattle.farm_nodes_stored.specs.Read.{AllWereRead, AreKeptIn, HasBadPart, WereRead};
+ghost use Rattle.farm_nodes_stored.specs.Checked.{AreNodesOffers, WasRefusedAt, WereAccepted};
 
 use crate::checking::{OffersOf, checked_nodes};
 use crate::reading::{BadNode, read_nodes};
@@ -26,20 +25,16 @@ pub fn stored_nodes<J, R: Threads + Wait + Sync>(
     requires nodes { length journals.now ≤ 255 }
     requires functions { functions < 16384 }
     requires workers { 0 < workers }
-    ensures kept { IfOk result (λ found. AreMade (IsKeptPart functions (length journals.now))
-        journals.now (length journals.now) found.0.items) }
+    ensures kept { IfOk result (λ found. AreKeptIn functions journals.now found.0.items) }
     ensures offers { IfOk result (λ found. AreNodesOffers functions journals.now found.1) }
 
     // The records of the node that is told are out of order, or one is no offer; what stands in those of the nodes in front of it was read.
-    ensures bad { IfErr result (λ it. it.fault ≡ RecordFault.BadRecord
-        → AtNode (IsBadPart functions (length journals.now)) it.node journals.now) }
+    ensures bad { IfErr result (λ it. it.fault ≡ RecordFault.BadRecord → HasBadPart functions journals.now it.node) }
     ensures in_front { IfErr result (λ it. WereRead functions journals.now it.node) }
 
     // Or it has an offer that its pass does not accept; those in front of it have none, and the records of all were read.
-    ensures refused { IfErr result (λ it. it.fault ≡ RecordFault.Refused
-        → AtNode (λ i j. WasRefused j) it.node journals.now) }
-    ensures all_read { IfErr result (λ it. it.fault ≡ RecordFault.Refused
-        → WereRead functions journals.now (length journals.now)) }
+    ensures refused { IfErr result (λ it. it.fault ≡ RecordFault.Refused → WasRefusedAt journals.now it.node) }
+    ensures all_read { IfErr result (λ it. it.fault ≡ RecordFault.Refused → AllWereRead functions journals.now) }
     ensures accepted { IfErr result (λ it. it.fault ≡ RecordFault.Refused → WereAccepted journals.now it.node) }
 {
     let (kept, stored) = match read_nodes::<J>(alloc, digest, functions, journals) {

@@ -1,10 +1,8 @@
 ghost use Rattle.std.specs.Prelude.{◌≡◌, ◌<◌, IfErr};
 ghost use Rattle.std.specs.List.{AllByRecursion, AllZip};
 ghost use Rattle.farm_nodes_workers.specs.Back.{nodes_of};
-ghost use Rattle.farm_nodes_node.specs.Fours.{fours_of};
-ghost use Rattle.farm_nodes_node.specs.Held.{IsSoundNode};
-ghost use Rattle.farm_nodes_node.specs.Waiting.{IsWaiting};
-ghost use Rattle.farm_nodes_threads.specs.CameBack.{CameBack};
+ghost use Rattle.farm_nodes_node.specs.Asked.{MayBeAsked};
+ghost use Rattle.farm_nodes_threads.specs.Nodes.{NodeCameBack};
 
 use crate::wrapping::{all_nodes, all_taking, two_spares};
 use durable_model::Disk;
@@ -35,15 +33,11 @@ pub fn run_threads<
     gate: &G,
 ) -> Result<Vec<FarmNode<D, O, H>>, (Vec<FarmNode<D, O, H>>, RunError)>
     requires workers { 0 < workers }
-    requires fit { AllByRecursion (λ n. IsSoundNode D.is_honest D.seen D.may_leave n.log (fours_of n.seats.items) n.halted
-        × IsWaiting n.seats.items n.halted) nodes.items }
-    ensures fit { AllByRecursion (λ n. IsSoundNode D.is_honest D.seen D.may_leave n.log (fours_of n.seats.items) n.halted
-        × IsWaiting n.seats.items n.halted) (nodes_of result).items }
+    requires fit { AllByRecursion (MayBeAsked D.Disk) nodes.items }
+    ensures fit { AllByRecursion (MayBeAsked D.Disk) (nodes_of result).items }
 
     // As many in their order: of the same program, in the same rooms, and each with what its turns recorded.
-    ensures came { AllZip (λ n m. (m.program ≡ n.program)
-        × CameBack D.is_honest D.seen D.may_leave D.moment D.left_since n.log m.log (fours_of n.seats.items)
-        (fours_of m.seats.items) n.halted m.halted) nodes.items (nodes_of result).items }
+    ensures came { AllZip (NodeCameBack D.Disk) nodes.items (nodes_of result).items }
     ensures same { IfErr result (λ told. told.1 ≡ RunError.NoMemory → told.0.items ≡ nodes.items) }
 {
     let Some((spare, home)) = two_spares(alloc, nodes.len()) else {

@@ -13,8 +13,8 @@ pub(crate) struct Taking<N> {
 
 /// Spare memory for so many nodes that take turns, and for as many when they come back.
 pub(crate) fn two_spares<N: Drop>(alloc: Global, count: usize) -> Option<(Vec<Taking<N>>, Vec<N>)>
-    ensures { IfSome result (λ r. (r.0.items ≡ []) × (r.1.items ≡ [])
-        × (count ≤ vec_capacity r.0) × (count ≤ vec_capacity r.1)) }
+    ensures none { IfSome result (λ r. (r.0.items ≡ []) × (r.1.items ≡ [])) }
+    ensures capacity { IfSome result (λ r. (count ≤ vec_capacity r.0) × (count ≤ vec_capacity r.1)) }
 {
     let Ok(spare) = Vec::with_capacity(alloc, count) else {
         return None;

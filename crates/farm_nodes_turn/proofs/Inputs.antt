@@ -1,9 +1,15 @@
 -- The input of a pass behind the first: what was learned in the room before.
-use Rattle.std.proofs.Common.{◌≡◌, Option, Some, None, IsSome, MatchOption, option_copied, Bor, Result, Ok, Err, OnOk, IfErr, refl, subst}
+use Rattle.std.proofs.Common.{◌≡◌, ◌<◌, ℕ, true, Option, Some, None, IsSome, MatchOption, option_copied, Bor, Result, Ok, Err, OnOk, IfErr, refl, subst}
 use Rattle.offers.specs.declared.parts.Parts.{Parts}
 use Rattle.rooms.specs.SeatValue.{SeatValue}
+use Rattle.rooms_state.specs.declared.act.Act.TheVariants as asked
+use Rattle.rooms_state.specs.Would.{would}
+use Rattle.farm_nodes_acting.specs.Quiet.{IsQuiet}
+use Rattle.farm_nodes_playing.specs.Leading.{LeadsByLot}
+use Rattle.farm_nodes_passes.specs.Fours.{Four, words_of}
+use Rattle.farm_nodes_passes.specs.declared.which.Which.{Which}
 use Rattle.farm_nodes_playing.specs.Played.{HasLearnedNone, IsLearnedOutput, IsMadeOn}
-use Rattle.farm_nodes_turn.specs.Turned.{HasLearned, IsMadeFrom}
+use Rattle.farm_nodes_turn.specs.Turned.{HasInput, HasLearned, IsMadeFrom, StandsAfter}
 
 module _ {I M B : Type 0} where
   input_is : (input : Option (Bor M)) (before : SeatValue (Parts I M B)) → MatchOption input (HasLearnedNone before) (λ r. IsLearnedOutput before r.now)
@@ -26,10 +32,17 @@ pub on_ok : {A E : Type 0} (r : Result A E) (P Q : Type 0) → (P → Q) → OnO
 on_ok (Ok a) P Q f p = f p
 on_ok (Err e) P Q f p = p
 
-pub on_ok4 : {A E : Type 0} (r : Result A E) (P Q R S T : Type 0) → (P → Q → R → S → T) → OnOk r P → OnOk r Q → OnOk r R → OnOk r S → OnOk r T
-on_ok4 (Ok a) P Q R S T f p q s t = f p q s t
-on_ok4 (Err e) P Q R S T f p q s t = p
-
 pub if_err : {A E : Type 0} (r : Result A E) (P Q : E → Type 0) → ((e : E) → P e → Q e) → IfErr r P → IfErr r Q
 if_err (Ok a) P Q f p = p
 if_err (Err e) P Q f p = f e p
+
+-- what stands after a turn that did not fail, of its parts
+pub stands_after : {A E T1 T2 T3 T4 : Type 0} (r : Result A E) (pass : Which) (word : ℕ) (old new : Four T1 T2 T3 T4)
+    → OnOk r (HasInput pass old → (words_of new pass).node.kept.offered ≡ true)
+    → OnOk r ((j : ℕ) → j < (words_of new pass).node.quorums.nodes → IsQuiet j (words_of new pass))
+    → OnOk r (would (words_of new pass) asked.Propose ≡ None)
+    → OnOk r (LeadsByLot word (words_of old pass) (words_of new pass))
+    → OnOk r (StandsAfter pass word old new)
+stands_after (Ok a) pass word old new offered quiet proposed led =
+    record { offered = offered; quiet = quiet; proposed = proposed; led = led }
+stands_after (Err e) pass word old new offered quiet proposed led = offered

@@ -1,5 +1,6 @@
 pub mod Turned
 pub mod Turns
+pub mod InRoom
 pub use Rattle.farm_nodes_playing.specs.Played
 pub use Rattle.farm_nodes_playing.specs.declared.progress.Progress
 pub use Rattle.farm_nodes_passes.specs.Fours

@@ -1,5 +1,5 @@
 -- A turn in the room of one of the four passes of a function.
-use Rattle.std.specs.Prelude.{◌≡◌, ◌%◌, ◌<◌, ℕ, false, true, Some, None}
+use Rattle.std.specs.Prelude.{◌≡◌, ◌<◌, ℕ, false, true, Some, None}
 use Rattle.offers.specs.declared.parts.Parts.{Parts}
 use Rattle.rtl_language.specs.Function.{FunctionData}
 use Rattle.constprop_check.specs.contracts.pass.ConstPropPass.TheImpl as constants
@@ -10,7 +10,7 @@ use Rattle.rooms_state.specs.declared.act.Act.TheVariants as asked
 use Rattle.rooms_state.specs.Would.{would}
 use Rattle.rooms.specs.SeatValue.{SeatValue, offer_of}
 use Rattle.farm_nodes_acting.specs.Quiet.{IsQuiet}
-use Rattle.farm_nodes_playing.specs.Leading.{HasLed}
+use Rattle.farm_nodes_playing.specs.Leading.{LeadsByLot}
 use Rattle.farm_nodes_playing.specs.Played.{IsLearnedOutput, IsMadeOn, StaysInTurn}
 use Rattle.farm_nodes_passes.specs.Offers.{ConstantsOffer, ExpressionsOffer, AllocationOffer, OrderOffer}
 use Rattle.farm_nodes_passes.specs.declared.which.Which.{Which}
@@ -86,7 +86,7 @@ module _ {T1 T2 T3 T4 : Type 0} where
     pub offered : HasInput pass old → (words_of new pass).node.kept.offered ≡ true
     pub quiet : (j : ℕ) → j < (words_of new pass).node.quorums.nodes → IsQuiet j (words_of new pass)
     pub proposed : would (words_of new pass) asked.Propose ≡ None
-    pub led : (words_of old pass).node.kept.offered ≡ true → word % 4 ≡ 0 → HasLed (words_of new pass)
+    pub led : LeadsByLot word (words_of old pass) (words_of new pass)
 
 -- what a turn in the room of this pass leaves of a function's seats
 pub record Leaves {A1 A2 A3 A4 A5 C1 C2 C3 C4 : Type 0} (function : A1) (pass : Which)

@@ -1,20 +1,18 @@
-ghost use Rattle.std.specs.Prelude.{◌≡◌, ◌<◌, ◌%◌, ℕ, true, Some, IfOk, IfErr, OnOk};
+ghost use Rattle.std.specs.Prelude.{◌≡◌, ◌<◌, ℕ, true, None, Some, IfOk, IfErr, OnOk};
 ghost use Rattle.rand_pcg.specs.Pcg.{pcg32};
 ghost use Rattle.acceptor_log.specs.Acknowledged.{IsSound};
 ghost use Rattle.rooms_state.specs.declared.act.Act.TheVariants as asked;
 ghost use Rattle.rooms_state.specs.Would.{would};
 ghost use Rattle.farm_nodes_acting.specs.Served.{IsServed};
 ghost use Rattle.farm_nodes_acting.specs.Quiet.{IsQuiet};
-ghost use Rattle.farm_nodes_playing.specs.Leading.{HasLed};
-ghost use Rattle.farm_nodes_playing.specs.Halted.{left_over, HasHaltCause};
-ghost use Rattle.farm_nodes_playing.specs.Pending.{IsOfferText, MayPendOn};
-ghost use Rattle.farm_nodes_playing.specs.Told.{IsOwnText};
-ghost use Rattle.farm_nodes_playing.specs.Played.{IsMadeOn, Played, StaysInTurn};
-ghost use Rattle.farm_nodes_passes.specs.Fours.{four_of, words_of};
+ghost use Rattle.farm_nodes_playing.specs.Leading.{LeadsByLot};
+ghost use Rattle.farm_nodes_playing.specs.Logged.{HaltsBefore, LogsTurn, MayHaltFor};
+ghost use Rattle.farm_nodes_playing.specs.Played.{IsMadeOn, StaysInTurn};
+ghost use Rattle.farm_nodes_passes.specs.Fours.{four_of};
 ghost use Rattle.farm_nodes_passes.specs.Pending.{HasPending};
-ghost use Rattle.farm_nodes_passes.specs.Texts.{pass_texts, IsOwnTextIn};
-ghost use Rattle.farm_nodes_turn.specs.Turned.{HasInput, HasLearned, IsMadeFrom, IsMadeIn, IsTooLargeFrom};
-ghost use Rattle.farm_nodes_turn.specs.Turned.{IsTooLargeFor, OthersStay, StaysIn};
+ghost use Rattle.farm_nodes_turn.specs.InRoom.{HaltsInPass, LogsTurnIn};
+ghost use Rattle.farm_nodes_turn.specs.Turned.{HasLearned, IsMadeFrom, IsMadeIn, IsTooLargeFrom};
+ghost use Rattle.farm_nodes_turn.specs.Turned.{OthersStay, StandsAfter, StaysIn};
 
 use acceptor_log::Log;
 use durable_model::Disk;
@@ -52,23 +50,14 @@ pub fn play_in<D: Disk, O: Oracles, H: Naming>(
     // An offer of the first pass goes on from the function, one of another from the output learned in the pass before.
     ensures made { IsMadeIn function.now pass (four_of seats.old) (four_of seats.new) }
 
-    ensures offered { OnOk result (HasInput pass (four_of seats.old)
-        → (words_of (four_of seats.new) pass).node.kept.offered ≡ true) }
-    ensures quiet { OnOk result ((j : ℕ) → j < (words_of (four_of seats.new) pass).node.quorums.nodes
-        → IsQuiet j (words_of (four_of seats.new) pass)) }
-    ensures proposed { OnOk result (would (words_of (four_of seats.new) pass) asked.Propose ≡ None) }
-    ensures led { OnOk result ((words_of (four_of seats.old) pass).node.kept.offered ≡ true
-        → (pcg32 words.old).0 % 4 ≡ 0 → HasLed (words_of (four_of seats.new) pass)) }
+    ensures after { OnOk result (StandsAfter pass (pcg32 words.old).0 (four_of seats.old) (four_of seats.new)) }
 
     // Where it halts it had not done what is pending.
     ensures left { IfErr result (λ halt. HasPending seats.new room pass halt.pending) }
 
-    ensures journal { D.is_honest log.old.disk → log.old.going ≡ true → Played
-        (IsOwnTextIn pass_texts pass (four_of seats.new)) D.is_honest D.seen D.may_leave D.moment D.left_since log.old log.new room
-        (words_of (four_of seats.old) pass) (words_of (four_of seats.new) pass) result }
-    ensures cause { log.old.going ≡ true → IfErr result (λ halt. HasHaltCause D.is_honest D.faults
-        (IsTooLargeFor function.now pass (four_of seats.old))
-        log.old log.new (left_over room (words_of (four_of seats.new) pass) halt.pending) halt.fault) }
+    // What it tells is what it learned, and whether the journal has more records.
+    ensures journal { LogsTurnIn D.Disk pass log.old log.new room seats.old seats.new result }
+    ensures cause { HaltsInPass D.Disk function.now pass log.old log.new room seats.old seats.new result }
 {
     match pass {
         Which::Constants => play_first(
@@ -129,16 +118,11 @@ fn play_first<D: Disk, P: Pass, O: Oracle<P = P>>(
     ensures quiet { OnOk result ((j : ℕ) → j < seat.new.words.node.quorums.nodes
         → IsQuiet j seat.new.words) }
     ensures proposed { OnOk result (would seat.new.words asked.Propose ≡ None) }
-    ensures led { OnOk result (seat.old.words.node.kept.offered ≡ true → (pcg32 words.old).0 % 4 ≡ 0
-        → HasLed seat.new.words) }
-    ensures left { IfErr result (λ halt. MayPendOn (IsOfferText P.In.Language P.Out.Language P.Pass)
-        room seat.new halt.pending) }
-    ensures journal { D.is_honest log.old.disk → log.old.going ≡ true → Played
-        (IsOwnText (IsOfferText P.In.Language P.Out.Language P.Pass) seat.new) D.is_honest D.seen D.may_leave D.moment D.left_since log.old log.new room
-        seat.old.words seat.new.words result }
-    ensures cause { log.old.going ≡ true → IfErr result (λ halt. HasHaltCause D.is_honest D.faults
-        (P.too_large function.now)
-        log.old log.new (left_over room seat.new.words halt.pending) halt.fault) }
+    ensures led { OnOk result (LeadsByLot (pcg32 words.old).0 seat.old.words seat.new.words) }
+    ensures left { IfErr result (HaltsBefore P.In.Language P.Out.Language P.Pass room seat.new) }
+    ensures journal { LogsTurn D.Disk P.In.Language P.Out.Language P.Pass
+        log.old log.new room seat.old seat.new result }
+    ensures cause { MayHaltFor D.Disk (P.too_large function.now) log.old log.new room seat.new.words result }
 {
     play(alloc, log, seat, room, Some(function), oracle, words)
 }
@@ -162,16 +146,12 @@ fn play_behind<D: Disk, B: Pass, P: Pass<In = B::Out>, O: Oracle<P = P>>(
     ensures quiet { OnOk result ((j : ℕ) → j < seat.new.words.node.quorums.nodes
         → IsQuiet j seat.new.words) }
     ensures proposed { OnOk result (would seat.new.words asked.Propose ≡ None) }
-    ensures led { OnOk result (seat.old.words.node.kept.offered ≡ true → (pcg32 words.old).0 % 4 ≡ 0
-        → HasLed seat.new.words) }
-    ensures left { IfErr result (λ halt. MayPendOn (IsOfferText B.Out.Language P.Out.Language P.Pass)
-        room seat.new halt.pending) }
-    ensures journal { D.is_honest log.old.disk → log.old.going ≡ true → Played
-        (IsOwnText (IsOfferText B.Out.Language P.Out.Language P.Pass) seat.new) D.is_honest D.seen D.may_leave D.moment D.left_since log.old log.new room
-        seat.old.words seat.new.words result }
-    ensures cause { log.old.going ≡ true → IfErr result (λ halt. HasHaltCause D.is_honest D.faults
-        (IsTooLargeFrom P.too_large before.now)
-        log.old log.new (left_over room seat.new.words halt.pending) halt.fault) }
+    ensures led { OnOk result (LeadsByLot (pcg32 words.old).0 seat.old.words seat.new.words) }
+    ensures left { IfErr result (HaltsBefore B.Out.Language P.Out.Language P.Pass room seat.new) }
+    ensures journal { LogsTurn D.Disk B.Out.Language P.Out.Language P.Pass
+        log.old log.new room seat.old seat.new result }
+    ensures cause { MayHaltFor D.Disk (IsTooLargeFrom P.too_large before.now)
+        log.old log.new room seat.new.words result }
 {
     let input = learned_output(before);
     play(alloc, log, seat, room, input, oracle, words)

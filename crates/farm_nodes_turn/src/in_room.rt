@@ -1,13 +1,11 @@
-ghost use Rattle.std.specs.Prelude.{◌≡◌, ◌≢◌, ◌<◌, ℕ, true, length, slice_get, IfOk, IfErr, OnOk};
+ghost use Rattle.std.specs.Prelude.{◌≡◌, ◌≢◌, ◌<◌, ℕ, length, slice_get, IfOk, IfErr, OnOk};
 ghost use Rattle.rand_pcg.specs.Pcg.{pcg32};
 ghost use Rattle.acceptor_log.specs.Acknowledged.{IsSound};
 ghost use Rattle.farm_nodes_acting.specs.Served.{IsServed};
 ghost use Rattle.farm_nodes_passes.specs.Numbers.{function_of, pass_of};
-ghost use Rattle.farm_nodes_passes.specs.Fours.{four_of};
 ghost use Rattle.farm_nodes_passes.specs.Pending.{HavePending};
-ghost use Rattle.farm_nodes_passes.specs.Texts.{pass_texts};
-ghost use Rattle.farm_nodes_turn.specs.Turned.{IsTooLargeFor, Leaves, StandsAfter};
-ghost use Rattle.farm_nodes_turn.specs.Turns.{AtPlace, HaltsIn, PlayedIn};
+ghost use Rattle.farm_nodes_turn.specs.InRoom.{ForRoom, HaltsAmong, LogsTurnAmong, StandsInRoom};
+ghost use Rattle.farm_nodes_turn.specs.Turned.{Leaves};
 
 use crate::in_pass::play_in;
 use acceptor_log::Log;
@@ -38,17 +36,11 @@ pub fn turn_in<D: Disk, O: Oracles, H: Naming>(
     ensures others { (f : ℕ) → f ≢ function_of room → slice_get seats.new.items f ≡ slice_get seats.old.items f }
     ensures count { length seats.new.items ≡ length seats.old.items }
 
-    ensures leaves { AtPlace four_of (Leaves function.now (pass_of room)) (function_of room)
-        seats.old.items seats.new.items }
-    ensures after { OnOk result (AtPlace four_of (StandsAfter (pass_of room) (pcg32 words.old).0) (function_of room)
-        seats.old.items seats.new.items) }
+    ensures leaves { ForRoom room (Leaves function.now (pass_of room)) seats.old.items seats.new.items }
+    ensures after { OnOk result (StandsInRoom room (pcg32 words.old).0 seats.old.items seats.new.items) }
     ensures left { IfErr result (λ halt. HavePending seats.new.items room halt.pending) }
-    ensures journal { D.is_honest log.old.disk → log.old.going ≡ true → AtPlace four_of (PlayedIn
-        pass_texts D.is_honest D.seen D.may_leave D.moment D.left_since log.old log.new room result) (function_of room)
-        seats.old.items seats.new.items }
-    ensures cause { log.old.going ≡ true → IfErr result (λ halt. AtPlace four_of (HaltsIn D.is_honest D.faults
-        (IsTooLargeFor function.now (pass_of room))
-        log.old log.new room halt) (function_of room) seats.old.items seats.new.items) }
+    ensures journal { LogsTurnAmong D.Disk log.old log.new room seats.old.items seats.new.items result }
+    ensures cause { HaltsAmong D.Disk function.now log.old log.new room seats.old.items seats.new.items result }
 {
     let Some(four) = seats.get_mut(usize::from(room / 4)) else {
         unreachable!();

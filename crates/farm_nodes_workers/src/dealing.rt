@@ -1,10 +1,8 @@
 //! Nodes are dealt round to workers, and come back in their order.
 
-ghost use Rattle.std.specs.Prelude.{◌≡◌, ◌<◌, ◌≤◌, ℕ, ◌+◌, List, [], ◌∷◌, ◌++◌, None, length, map, replicate, slice_index_or, vec_items, vec_capacity, vec_len, IfOk, OnOk, IfErr, OnErr, IfSome};
-ghost use Rattle.std.specs.List.{AllZip};
-ghost use Rattle.farm_nodes_rounds.specs.After.{Goes};
-ghost use Rattle.farm_nodes_workers.specs.Taken.{HasTaken};
-ghost use Rattle.farm_nodes_workers.specs.Dealt.{add_at, AreDealt, IsSame, StaysDealt};
+ghost use Rattle.std.specs.Prelude.{◌≡◌, ◌<◌, ◌≤◌, ◌+◌, [], ◌∷◌, ◌++◌, None, length, map, replicate, slice_index_or, vec_items, vec_capacity, vec_len, IfOk, OnOk, IfErr, OnErr, IfSome};
+ghost use Rattle.farm_nodes_workers.specs.Dealt.{add_at};
+ghost use Rattle.farm_nodes_workers.specs.Teams.{DealsTurns, GathersSame, GathersTaken};
 
 use farm_nodes_rounds::{Player, TakesTurns};
 use lang_base::NoMemory;
@@ -63,8 +61,7 @@ fn deal_last<N: TakesTurns + Drop>(
     turns: u64,
 ) -> bool
     requires some { 0 < length teams.old }
-    ensures dealt { StaysDealt IsSame (λ x p. (p.node ≡ x) × (p.left ≡ turns)) (length teams.old)
-        nodes.old.items (map vec_items teams.old) nodes.new.items (map vec_items teams.new) }
+    ensures dealt { DealsTurns turns nodes.old.items teams.old nodes.new.items teams.new }
     ensures teams { length teams.new ≡ length teams.old }
     ensures capacity { vec_capacity nodes.old ≤ vec_capacity nodes.new }
     ensures fewer { vec_len nodes.new ≤ vec_len nodes.old }
@@ -93,8 +90,7 @@ pub(crate) fn deal<N: TakesTurns + Drop>(
     turns: u64,
 ) -> bool
     requires some { 0 < length teams.old }
-    ensures dealt { StaysDealt IsSame (λ x p. (p.node ≡ x) × (p.left ≡ turns)) (length teams.old)
-        nodes.old.items (map vec_items teams.old) nodes.new.items (map vec_items teams.new) }
+    ensures dealt { DealsTurns turns nodes.old.items teams.old nodes.new.items teams.new }
     ensures capacity { vec_capacity nodes.old ≤ vec_capacity nodes.new }
     ensures fewer { vec_len nodes.new ≤ vec_len nodes.old }
 {
@@ -117,13 +113,8 @@ pub(crate) fn gather<N: TakesTurns + Drop>(
     requires some { 0 < vec_len teams }
     requires capacity { count ≤ vec_capacity nodes }
     requires fewer { vec_len nodes ≤ count }
-    ensures same { (xs : List N) → length xs ≡ count
-        → AreDealt IsSame (λ x p. p.node ≡ x) (vec_len teams) xs nodes.items (map vec_items teams.items)
-        → AllZip IsSame xs result.items }
-    ensures taken { (xs : List N) (turns : ℕ) → length xs ≡ count
-        → AreDealt (HasTaken N.turned N.is_fit turns) (λ x p. Goes N.turned N.is_fit x turns p.node p.left) (vec_len teams) xs
-        nodes.items (map vec_items teams.items)
-        → AllZip (HasTaken N.turned N.is_fit turns) xs result.items }
+    ensures same { GathersSame count teams nodes.items result.items }
+    ensures taken { GathersTaken N.turned N.is_fit count teams nodes.items result.items }
 {
     let (mut nodes, mut teams) = (nodes, teams);
     for number in nodes.len()..count {

@@ -1,9 +1,9 @@
 //! Each team on a thread of its own.
 
 ghost use Rattle.std.specs.Prelude.{◌≡◌, ◌≤◌, ◌+◌, [], true, vec_len, vec_capacity, IfOk, IfErr};
-ghost use Rattle.std.specs.List.{AllByRecursion, AllZip};
-ghost use Rattle.farm_nodes_rounds.specs.After.{Goes};
+ghost use Rattle.std.specs.List.{AllByRecursion};
 ghost use Rattle.farm_nodes_workers.specs.Begun.{with_begun};
+ghost use Rattle.farm_nodes_workers.specs.Teams.{TeamGoesOn, TeamsGoBegun, TeamsGoOn};
 
 use crate::dealing::put;
 use farm_nodes_rounds::{Pace, Player, TakesTurns, take_turns};
@@ -19,17 +19,15 @@ use std::thread::{Promise, PromisedHandle, Scope, Threads};
 struct Returns<N: TakesTurns + Drop>(Snapshot<Vec<Player<N>>>);
 
 impl<N: TakesTurns + Drop> Promise<Vec<Player<N>>> for Returns<N> {
-    ghost use Rattle.std.specs.List.{AllZip};
-    ghost use Rattle.farm_nodes_rounds.specs.After.{Goes};
+    ghost use Rattle.farm_nodes_workers.specs.Teams.{TeamGoesOn};
 
-    ghost kept_by = { λ promise team.
-        AllZip (λ p q. Goes N.turned N.is_fit p.node p.left q.node q.left) promise.0.value.items team.items };
+    ghost kept_by = { λ promise team. TeamGoesOn N.turned N.is_fit promise.0.value team };
 }
 
 /// What a team does on its thread.
 fn work<N: TakesTurns, G: Gate>(team: Vec<Player<N>>, pace: &Pace, gate: &G) -> Vec<Player<N>>
     requires fit { AllByRecursion (λ p. N.is_fit p.node) team.items }
-    ensures { AllZip (λ p q. Goes N.turned N.is_fit p.node p.left q.node q.left) team.items result.items }
+    ensures { TeamGoesOn N.turned N.is_fit team result }
 {
     let mut team = team;
     take_turns(&mut team, pace, gate);
@@ -52,9 +50,7 @@ fn start_last<'s, E, N: TakesTurns + Send + Drop + 's, G: Gate + Sync>(
     requires capacity { vec_len teams.old + vec_len children.old ≤ vec_capacity children.old }
     ensures fit { result ≡ true →
         AllByRecursion (λ v. AllByRecursion (λ p. N.is_fit p.node) v.items) teams.new.items }
-    ensures go { AllZip (λ v w. AllZip (λ p q. Goes N.turned N.is_fit p.node p.left q.node q.left) v.items w.items)
-        (with_begun (λ h. h.promise.0.value) teams.old.items children.old.items)
-        (with_begun (λ h. h.promise.0.value) teams.new.items children.new.items) }
+    ensures go { TeamsGoBegun N.turned N.is_fit (λ h. h.promise.0.value) teams.old children.old teams.new children.new }
     ensures count { vec_len teams.new + vec_len children.new ≡ vec_len teams.old + vec_len children.old }
     ensures teams { vec_capacity teams.old ≤ vec_capacity teams.new }
     ensures children { vec_capacity children.old ≤ vec_capacity children.new }
@@ -67,7 +63,7 @@ fn start_last<'s, E, N: TakesTurns + Send + Drop + 's, G: Gate + Sync>(
         promise,
         move || -> Vec<Player<N>>
             requires { AllByRecursion (λ p. N.is_fit p.node) team.items }
-            ensures { AllZip (λ p q. Goes N.turned N.is_fit p.node p.left q.node q.left) team.items result.items }
+            ensures { TeamGoesOn N.turned N.is_fit team result }
         { work(team, pace, gate) },
     );
     match started {
@@ -94,9 +90,7 @@ fn start_all<'s, E, N: TakesTurns + Send + Drop + 's, G: Gate + Sync>(
 )
     requires fit { AllByRecursion (λ v. AllByRecursion (λ p. N.is_fit p.node) v.items) teams.old.items }
     requires capacity { vec_len teams.old + vec_len children.old ≤ vec_capacity children.old }
-    ensures go { AllZip (λ v w. AllZip (λ p q. Goes N.turned N.is_fit p.node p.left q.node q.left) v.items w.items)
-        (with_begun (λ h. h.promise.0.value) teams.old.items children.old.items)
-        (with_begun (λ h. h.promise.0.value) teams.new.items children.new.items) }
+    ensures go { TeamsGoBegun N.turned N.is_fit (λ h. h.promise.0.value) teams.old children.old teams.new children.new }
     ensures count { vec_len teams.new + vec_len children.new ≡ vec_len teams.old + vec_len children.old }
     ensures teams { vec_capacity teams.old ≤ vec_capacity teams.new }
 {
@@ -116,8 +110,7 @@ fn join_all<N: TakesTurns + Drop, R: Threads>(
     children: Children<N>,
 ) -> Vec<Vec<Player<N>>>
     requires capacity { vec_len teams + vec_len children ≤ vec_capacity teams }
-    ensures { AllZip (λ v w. AllZip (λ p q. Goes N.turned N.is_fit p.node p.left q.node q.left) v.items w.items)
-        (with_begun (λ h. h.promise.0.value) teams.items children.items) result.items }
+    ensures { TeamsGoOn N.turned N.is_fit (with_begun (λ h. h.promise.0.value) teams.items children.items) result.items }
 {
     let (mut teams, mut children) = (teams, children);
     for _ in 0..children.len() {
@@ -142,8 +135,7 @@ fn run_in<'s, E, N: TakesTurns + Send + Drop + 's, G: Gate + Sync, R: Threads>(
     requires fit { AllByRecursion (λ v. AllByRecursion (λ p. N.is_fit p.node) v.items) teams.items }
     requires none { children.items ≡ [] }
     requires capacity { vec_len teams ≤ vec_capacity children }
-    ensures { AllZip (λ v w. AllZip (λ p q. Goes N.turned N.is_fit p.node p.left q.node q.left) v.items w.items)
-        teams.items result.items }
+    ensures { TeamsGoOn N.turned N.is_fit teams.items result.items }
 {
     let (mut teams, mut children) = (teams, children);
     start_all(scope, &mut teams, &mut children, pace, gate);
@@ -159,9 +151,7 @@ pub(crate) fn run<N: TakesTurns + Send + Drop, G: Gate + Sync, R: Threads + Wait
     gate: &G,
 ) -> Result<Vec<Vec<Player<N>>>, Vec<Vec<Player<N>>>>
     requires fit { AllByRecursion (λ v. AllByRecursion (λ p. N.is_fit p.node) v.items) teams.items }
-    ensures ok { IfOk result (λ after.
-        AllZip (λ v w. AllZip (λ p q. Goes N.turned N.is_fit p.node p.left q.node q.left) v.items w.items)
-        teams.items after.items) }
+    ensures ok { IfOk result (λ after. TeamsGoOn N.turned N.is_fit teams.items after.items) }
     ensures err { IfErr result (λ back. back ≡ teams) }
 {
     let Ok(children) = Vec::with_capacity(alloc, teams.len()) else {
@@ -174,8 +164,7 @@ pub(crate) fn run<N: TakesTurns + Send + Drop, G: Gate + Sync, R: Threads + Wait
             requires fit { AllByRecursion (λ v. AllByRecursion (λ p. N.is_fit p.node) v.items) teams.items }
             requires none { children.items ≡ [] }
             requires capacity { vec_len teams ≤ vec_capacity children }
-            ensures { AllZip (λ v w. AllZip (λ p q. Goes N.turned N.is_fit p.node p.left q.node q.left) v.items w.items)
-                teams.items result.items }
+            ensures { TeamsGoOn N.turned N.is_fit teams.items result.items }
         { run_in(rt, scope, teams, children, pace, gate) },
     ))
 }

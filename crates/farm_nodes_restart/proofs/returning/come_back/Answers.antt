@@ -9,7 +9,7 @@ use Rattle.farm_nodes_restart_records.specs.Texts.{pass_texts}
 use Rattle.farm_nodes_restart.specs.Returned.{HasReason, HoldsBack}
 use Rattle.farm_nodes_restart.proofs.Afterwards.{returned_over}
 use Rattle.farm_nodes_restart.proofs.Resting.{at_rest}
-use Rattle.farm_nodes_restart.proofs.Refusing.{not_opened}
+use Rattle.farm_nodes_restart.proofs.Refusing.{journal_told, no_device, none_failed, not_opened, other_told}
 use Rattle.farm_nodes_restart.proofs.returning.come_back.Goals as goal
 
 pub returns-in-Ok-return_over-clause-sound : goal.returns-in-Ok-return_over-clause-sound
@@ -27,11 +27,23 @@ returns-in-Ok-return_over-clause-unchanged g c = c.in-Ok.ensures.unchanged
 pub returns-in-Ok-return_over-clause-any_moment : goal.returns-in-Ok-return_over-clause-any_moment
 returns-in-Ok-return_over-clause-any_moment g c = c.in-Ok.ensures.any_moment
 
-pub returns-in-Ok-return_over-clause-later : goal.returns-in-Ok-return_over-clause-later
-returns-in-Ok-return_over-clause-later g c = c.in-Ok.ensures.later
+pub returns-in-Ok-return_over-clause-failures : goal.returns-in-Ok-return_over-clause-failures
+returns-in-Ok-return_over-clause-failures g c =
+    none_failed (g.D.Disk.faults c.args.disk) (g.D.Disk.faults c.in-Ok.opened.0.disk) c.in-Ok.ensures.later c.in-Ok.ensures.unfailed
 
-pub returns-in-Ok-return_over-clause-unfailed : goal.returns-in-Ok-return_over-clause-unfailed
-returns-in-Ok-return_over-clause-unfailed g c = c.in-Ok.ensures.unfailed
+pub returns-in-Ok-clause-failures : goal.returns-in-Ok-clause-failures
+returns-in-Ok-clause-failures g c =
+    rw c.into_disk.ensures
+    (other_told (g.D.Disk.faults c.args.disk) (g.D.Disk.faults c.in-Ok.opened.0.disk) c.in-Err-return_over.fault
+    (no_device pass_texts c.args.header.now (4 * length c.args.seats.now.items) (fours_of c.args.seats.now.items)
+    c.args.room c.args.pending.now c.as_slice.result.now c.in-Err-return_over.fault c.in-Err-return_over.ensures.refused)
+    c.in-Ok.ensures.later c.in-Ok.ensures.unfailed)
+
+pub returns-clause-failures : goal.returns-clause-failures
+returns-clause-failures g c =
+    rw c.of.ensures
+    (journal_told (g.D.Disk.faults c.args.disk) (g.D.Disk.faults c.in-Err.refused.0) c.in-Err.refused.1
+    c.in-Err.ensures.later c.in-Err.ensures.failed c.in-Err.ensures.unfailed)
 
 pub returns-in-Ok-return_over-clause-listed : goal.returns-in-Ok-return_over-clause-listed
 returns-in-Ok-return_over-clause-listed g c honest =

@@ -1,12 +1,14 @@
 -- The old disk is read, and then the node comes back over the new one.
-use Rattle.std.proofs.Common.{◌*◌, List, ℕ, length, inl, inr, subst}
+use Rattle.std.proofs.Common.{◌*◌, List, ℕ, length, Some, None, Err, inl, inr, sym, ap, ◌∙◌, subst}
 use Rattle.acceptor_log.specs.Acknowledged.{acknowledged}
 use Rattle.acceptor_log_form.specs.Text.{StandsFor}
 use Rattle.farm_nodes_node.specs.Fours.{fours_of}
 use Rattle.farm_nodes_node.specs.Texts.{pass_texts}
 use Rattle.farm_nodes_restart.specs.Returned.{HasReason}
+use Rattle.farm_nodes_restart_seat.specs.declared.fault.RestartFault.{RestartFault}
 use Rattle.farm_nodes_pairs.proofs.Shows.{shows_first}
-use Rattle.farm_nodes_returning.proofs.OverPair.{is_shown, is_untouched, moments_over, same_untouched}
+use Rattle.farm_nodes_returning.proofs.OverPair.{counts_from, is_shown, is_untouched, moments_over, one_fault, same_untouched}
+use Rattle.farm_nodes_returning.proofs.Telling.{one_told}
 use Rattle.farm_nodes_returning.proofs.opening.come_back_on.Goals as goal
 
 pub returns-in-Ok-come_back-clause-honest : goal.returns-in-Ok-come_back-clause-honest
@@ -79,3 +81,21 @@ returns-in-Err-clause-any_moment g c is =
 
 pub returns-in-Err-clause-refused : goal.returns-in-Err-clause-refused
 returns-in-Err-clause-refused g c is = inl (c.in-Err.ensures.refused is)
+
+pub returns-in-Ok-come_back-clause-failures : goal.returns-in-Ok-come_back-clause-failures
+returns-in-Ok-come_back-clause-failures g c =
+    counts_from (g.P.Disk.faults c.args.pair) (g.P.Disk.faults c.no_old_journal.new.pair) (g.P.Disk.faults c.in-Ok-come_back.log.disk) None
+    (c.no_old_journal.ensures.unfailed (λ bad. let both = sym c.in-Ok.is ∙ bad in absurd (cc))) c.in-Ok-come_back.ensures.failures
+
+pub returns-in-Err-come_back-clause-failures : goal.returns-in-Err-come_back-clause-failures
+returns-in-Err-come_back-clause-failures g c =
+    counts_from (g.P.Disk.faults c.args.pair) (g.P.Disk.faults c.no_old_journal.new.pair) (g.P.Disk.faults c.in-Err-come_back.refused.0) (Some c.in-Err-come_back.refused.1)
+    (c.no_old_journal.ensures.unfailed (λ bad. let both = sym c.in-Ok.is ∙ bad in absurd (cc))) c.in-Err-come_back.ensures.failures
+
+pub returns-in-Err-clause-failures : goal.returns-in-Err-clause-failures
+returns-in-Err-clause-failures g c = record {
+  later = c.no_old_journal.ensures.later;
+  failed = λ told. c.no_old_journal.ensures.failed (c.in-Err.is ∙ ap (λ f. Err f) (one_told told));
+  unfailed = λ other.
+      c.no_old_journal.ensures.unfailed (λ bad. other (ap (λ (fault : RestartFault). Some fault) (one_fault (sym c.in-Err.is ∙ bad))));
+}

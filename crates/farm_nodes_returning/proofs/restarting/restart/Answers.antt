@@ -1,4 +1,4 @@
-use Rattle.std.proofs.Common.{◌≡◌, ◌*◌, ℕ, List, length, Option, Some, None, refl, sym, ap, ◌∙◌, subst}
+use Rattle.std.proofs.Common.{◌≡◌, ◌*◌, ℕ, List, length, Option, refl, sym, ap, ◌∙◌, subst}
 use Rattle.std.proofs.lemmas.List.{length-map}
 use Rattle.acceptor_log_form.specs.declared.header.Header.{Header}
 use Rattle.acceptor_log_form.specs.declared.record.Record.{Record}
@@ -11,12 +11,11 @@ use Rattle.farm_nodes_node.specs.Held.{AreSeatsOf}
 use Rattle.durable_pair.specs.Images.{Images}
 use Rattle.farm_nodes_node.specs.Texts.{pass_texts}
 use Rattle.farm_nodes_restart.specs.Seats.{HaveComeBack}
-use Rattle.farm_nodes_restart_seat.specs.declared.fault.RestartFault.{RestartFault}
 use Rattle.farm_nodes_returning.specs.Cause.{HasCauseOn}
 use Rattle.farm_nodes_returning.specs.Stopped.{left_by, room_in}
 use Rattle.farm_nodes_returning.proofs.Own.{cause_of, own_fault}
 use Rattle.farm_nodes_returning.proofs.Soundness.{sound_back, sound_refused}
-use Rattle.farm_nodes_returning.proofs.Telling.{one_told, stopped_as}
+use Rattle.farm_nodes_returning.proofs.Telling.{stopped_as}
 use Rattle.farm_nodes_returning.proofs.Waiting.{at_both, still_pending}
 use Rattle.farm_nodes_returning.proofs.restarting.restart.Goals as goal
 
@@ -124,15 +123,7 @@ pub returns-in-Err-clause-any_moment : goal.returns-in-Err-clause-any_moment
 returns-in-Err-clause-any_moment g c whole = c.in-Err.ensures.any_moment whole
 
 pub returns-in-Ok-clause-failures : goal.returns-in-Ok-clause-failures
-returns-in-Ok-clause-failures g c = record {
-  later = c.in-Ok.ensures.later;
-  failed = λ told. absurd (cc);
-  unfailed = λ other. c.in-Ok.ensures.unfailed;
-}
+returns-in-Ok-clause-failures g c = c.in-Ok.ensures.failures
 
 pub returns-in-Err-clause-failures : goal.returns-in-Err-clause-failures
-returns-in-Err-clause-failures g c = record {
-  later = c.in-Err.ensures.later;
-  failed = λ told. c.in-Err.ensures.failed (one_told told);
-  unfailed = λ other. c.in-Err.ensures.unfailed (λ told. other (ap (λ (fault : RestartFault). Some fault) told));
-}
+returns-in-Err-clause-failures g c = c.in-Err.ensures.failures

@@ -32,7 +32,10 @@ returns-in-Err-clause-refused g c memory =
     let records : c.as_slice-records.result.now ≡ j.1.items = c.as_slice-records.ensures.value ∙ ap (λ x. x.1.items) (sym c.index-journals-from.is) in
     let same : j ≡ get_or js node j = c.index-journals-from.is ∙ ap (λ k. get_or js k j) c.from.ensures in
     let got = slice_get_read js (length js) node j refl (omega arith) same in
-    (j, got, subst (λ (rs : List Record). AreBad c.args.functions (length js) node rs) records (c.in-Err.ensures.refused memory))
+    (j, got, subst (λ (rs : List Record). AreBad c.args.functions (length js) node rs) records (c.in-Err.ensures.refused memory).1)
+
+pub returns-in-Err-clause-bad : goal.returns-in-Err-clause-bad
+returns-in-Err-clause-bad g c memory = (c.in-Err.ensures.refused memory).0
 
 pub loop-node-preserved : goal.loop-node-preserved
 loop-node-preserved g c =

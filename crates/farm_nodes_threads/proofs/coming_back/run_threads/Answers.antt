@@ -86,8 +86,8 @@ all_nodes-requires g c =
     (λ t. fours_of t.node.seats.items) (λ t. t.node.halted) (λ d honest c left. (g.met.D.Disk g.world.𝓛 g.world.𝓜 g.world.𝓡 ((λ s x. x), (λ x. x), (λ x. x), λ x. x)).only_now d c honest left)
     (λ t. IsWaiting t.node.seats.items t.node.halted) c.args.turns begun taking.items c.in-Ok.ensures.taken in
     record {
-      none = c.in-Some.ensures.1;
-      capacity = omega (arith, taking.ok.0, many, map_long (λ t. t.node) begun, ap length c.all_taking.ensures, c.args.nodes.ok.0, c.len.ensures, c.in-Some.ensures.3);
+      none = c.in-Some.ensures.none.1;
+      capacity = omega (arith, taking.ok.0, many, map_long (λ t. t.node) begun, ap length c.all_taking.ensures, c.args.nodes.ok.0, c.len.ensures, c.in-Some.ensures.capacity.1);
     }
 
 pub all_nodes-requires-in-Err : goal.all_nodes-requires-in-Err
@@ -97,6 +97,6 @@ all_nodes-requires-in-Err g c =
     (λ t. fours_of t.node.seats.items) (λ t. t.node.halted) (λ d honest c left. (g.met.D.Disk g.world.𝓛 g.world.𝓜 g.world.𝓡 ((λ s x. x), (λ x. x), (λ x. x), λ x. x)).only_now d c honest left)
     (λ t. IsWaiting t.node.seats.items t.node.halted) c.args.turns begun taking.items c.in-Err.ensures.taken in
     record {
-      none = c.in-Some.ensures.1;
-      capacity = omega (arith, taking.ok.0, many, map_long (λ t. t.node) begun, ap length c.all_taking.ensures, c.args.nodes.ok.0, c.len.ensures, c.in-Some.ensures.3);
+      none = c.in-Some.ensures.none.1;
+      capacity = omega (arith, taking.ok.0, many, map_long (λ t. t.node) begun, ap length c.all_taking.ensures, c.args.nodes.ok.0, c.len.ensures, c.in-Some.ensures.capacity.1);
     }

@@ -1,7 +1,10 @@
 use denote.Param.Send.{sendable}
 use Rattle.std.proofs.Common.{◌≡◌, true, refl}
+use Rattle.rand_pcg.specs.Pcg.{pcg32}
+use Rattle.farm_nodes_passes.specs.Fours.{four_of}
+use Rattle.farm_nodes_passes.specs.declared.which.Which.TheVariants.{Constants, Expressions, Allocation, Order}
 use Rattle.farm_nodes_passes.proofs.Sent.{function_send, function_sync}
-use Rattle.farm_nodes_turn.proofs.Inputs.{on_ok}
+use Rattle.farm_nodes_turn.proofs.Inputs.{on_ok, stands_after}
 use Rattle.farm_nodes_turn.proofs.in_pass.play_in.Goals as goal
 
 pub returns-in-Constants-clause-served : goal.returns-in-Constants-clause-served
@@ -16,14 +19,14 @@ returns-in-Constants-clause-stays g c = rw c.in-Constants.is c.play_first.ensure
 pub returns-in-Constants-clause-made : goal.returns-in-Constants-clause-made
 returns-in-Constants-clause-made g c = rw c.in-Constants.is c.play_first.ensures.made
 
-pub returns-in-Constants-clause-quiet : goal.returns-in-Constants-clause-quiet
-returns-in-Constants-clause-quiet g c = rw c.in-Constants.is c.play_first.ensures.quiet
-
-pub returns-in-Constants-clause-proposed : goal.returns-in-Constants-clause-proposed
-returns-in-Constants-clause-proposed g c = rw c.in-Constants.is c.play_first.ensures.proposed
-
-pub returns-in-Constants-clause-led : goal.returns-in-Constants-clause-led
-returns-in-Constants-clause-led g c = rw c.in-Constants.is c.play_first.ensures.led
+pub returns-in-Constants-clause-after : goal.returns-in-Constants-clause-after
+returns-in-Constants-clause-after g c =
+    let old = four_of c.args.seats.now in
+    rw c.in-Constants.is
+    (stands_after c.play_first.result Constants (pcg32 c.args.words.now).0 old (record old { constants = c.play_first.new.seat })
+    (on_ok c.play_first.result (c.play_first.new.seat.words.node.kept.offered ≡ true)
+    (Unit {0} → c.play_first.new.seat.words.node.kept.offered ≡ true)
+    (λ offered known. offered) c.play_first.ensures.offered) c.play_first.ensures.quiet c.play_first.ensures.proposed c.play_first.ensures.led)
 
 pub returns-in-Constants-clause-left : goal.returns-in-Constants-clause-left
 returns-in-Constants-clause-left g c = rw c.in-Constants.is c.play_first.ensures.left
@@ -46,17 +49,12 @@ returns-in-Expressions-clause-stays g c = rw c.in-Expressions.is c.play_behind.e
 pub returns-in-Expressions-clause-made : goal.returns-in-Expressions-clause-made
 returns-in-Expressions-clause-made g c = rw c.in-Expressions.is c.play_behind.ensures.made
 
-pub returns-in-Expressions-clause-offered : goal.returns-in-Expressions-clause-offered
-returns-in-Expressions-clause-offered g c = rw c.in-Expressions.is c.play_behind.ensures.offered
-
-pub returns-in-Expressions-clause-quiet : goal.returns-in-Expressions-clause-quiet
-returns-in-Expressions-clause-quiet g c = rw c.in-Expressions.is c.play_behind.ensures.quiet
-
-pub returns-in-Expressions-clause-proposed : goal.returns-in-Expressions-clause-proposed
-returns-in-Expressions-clause-proposed g c = rw c.in-Expressions.is c.play_behind.ensures.proposed
-
-pub returns-in-Expressions-clause-led : goal.returns-in-Expressions-clause-led
-returns-in-Expressions-clause-led g c = rw c.in-Expressions.is c.play_behind.ensures.led
+pub returns-in-Expressions-clause-after : goal.returns-in-Expressions-clause-after
+returns-in-Expressions-clause-after g c =
+    let old = four_of c.args.seats.now in
+    rw c.in-Expressions.is
+    (stands_after c.play_behind.result Expressions (pcg32 c.args.words.now).0 old (record old { expressions = c.play_behind.new.seat })
+    c.play_behind.ensures.offered c.play_behind.ensures.quiet c.play_behind.ensures.proposed c.play_behind.ensures.led)
 
 pub returns-in-Expressions-clause-left : goal.returns-in-Expressions-clause-left
 returns-in-Expressions-clause-left g c = rw c.in-Expressions.is c.play_behind.ensures.left
@@ -79,17 +77,12 @@ returns-in-Allocation-clause-stays g c = rw c.in-Allocation.is c.play_behind-in-
 pub returns-in-Allocation-clause-made : goal.returns-in-Allocation-clause-made
 returns-in-Allocation-clause-made g c = rw c.in-Allocation.is c.play_behind-in-Allocation.ensures.made
 
-pub returns-in-Allocation-clause-offered : goal.returns-in-Allocation-clause-offered
-returns-in-Allocation-clause-offered g c = rw c.in-Allocation.is c.play_behind-in-Allocation.ensures.offered
-
-pub returns-in-Allocation-clause-quiet : goal.returns-in-Allocation-clause-quiet
-returns-in-Allocation-clause-quiet g c = rw c.in-Allocation.is c.play_behind-in-Allocation.ensures.quiet
-
-pub returns-in-Allocation-clause-proposed : goal.returns-in-Allocation-clause-proposed
-returns-in-Allocation-clause-proposed g c = rw c.in-Allocation.is c.play_behind-in-Allocation.ensures.proposed
-
-pub returns-in-Allocation-clause-led : goal.returns-in-Allocation-clause-led
-returns-in-Allocation-clause-led g c = rw c.in-Allocation.is c.play_behind-in-Allocation.ensures.led
+pub returns-in-Allocation-clause-after : goal.returns-in-Allocation-clause-after
+returns-in-Allocation-clause-after g c =
+    let old = four_of c.args.seats.now in
+    rw c.in-Allocation.is
+    (stands_after c.play_behind-in-Allocation.result Allocation (pcg32 c.args.words.now).0 old (record old { allocation = c.play_behind-in-Allocation.new.seat })
+    c.play_behind-in-Allocation.ensures.offered c.play_behind-in-Allocation.ensures.quiet c.play_behind-in-Allocation.ensures.proposed c.play_behind-in-Allocation.ensures.led)
 
 pub returns-in-Allocation-clause-left : goal.returns-in-Allocation-clause-left
 returns-in-Allocation-clause-left g c = rw c.in-Allocation.is c.play_behind-in-Allocation.ensures.left
@@ -112,17 +105,12 @@ returns-in-Order-clause-stays g c = rw c.in-Order.is c.play_behind-in-Order.ensu
 pub returns-in-Order-clause-made : goal.returns-in-Order-clause-made
 returns-in-Order-clause-made g c = rw c.in-Order.is c.play_behind-in-Order.ensures.made
 
-pub returns-in-Order-clause-offered : goal.returns-in-Order-clause-offered
-returns-in-Order-clause-offered g c = rw c.in-Order.is c.play_behind-in-Order.ensures.offered
-
-pub returns-in-Order-clause-quiet : goal.returns-in-Order-clause-quiet
-returns-in-Order-clause-quiet g c = rw c.in-Order.is c.play_behind-in-Order.ensures.quiet
-
-pub returns-in-Order-clause-proposed : goal.returns-in-Order-clause-proposed
-returns-in-Order-clause-proposed g c = rw c.in-Order.is c.play_behind-in-Order.ensures.proposed
-
-pub returns-in-Order-clause-led : goal.returns-in-Order-clause-led
-returns-in-Order-clause-led g c = rw c.in-Order.is c.play_behind-in-Order.ensures.led
+pub returns-in-Order-clause-after : goal.returns-in-Order-clause-after
+returns-in-Order-clause-after g c =
+    let old = four_of c.args.seats.now in
+    rw c.in-Order.is
+    (stands_after c.play_behind-in-Order.result Order (pcg32 c.args.words.now).0 old (record old { order = c.play_behind-in-Order.new.seat })
+    c.play_behind-in-Order.ensures.offered c.play_behind-in-Order.ensures.quiet c.play_behind-in-Order.ensures.proposed c.play_behind-in-Order.ensures.led)
 
 pub returns-in-Order-clause-left : goal.returns-in-Order-clause-left
 returns-in-Order-clause-left g c = rw c.in-Order.is c.play_behind-in-Order.ensures.left
@@ -144,13 +132,6 @@ returns-in-Allocation-clause-others g c = rw c.in-Allocation.is refl
 
 pub returns-in-Order-clause-others : goal.returns-in-Order-clause-others
 returns-in-Order-clause-others g c = rw c.in-Order.is refl
-
-pub returns-in-Constants-clause-offered : goal.returns-in-Constants-clause-offered
-returns-in-Constants-clause-offered g c =
-    rw c.in-Constants.is
-    (on_ok c.play_first.result (c.play_first.new.seat.words.node.kept.offered ≡ true)
-    (Unit {0} → c.play_first.new.seat.words.node.kept.offered ≡ true)
-    (λ offered known. offered) c.play_first.ensures.offered)
 
 pub play_behind-requires-in-Allocation-send-P-Out-Fun : goal.play_behind-requires-in-Allocation-send-P-Out-Fun
 play_behind-requires-in-Allocation-send-P-Out-Fun g c κs within = search (function_send, sendable) depth 40

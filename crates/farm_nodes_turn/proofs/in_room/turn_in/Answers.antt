@@ -1,9 +1,5 @@
-use Rattle.std.proofs.Common.{◌≡◌, ℕ, ◌%◌, ◌<◌, true, None, length, set, length-set, sym, ◌∙◌, subst}
+use Rattle.std.proofs.Common.{◌≡◌, ℕ, ◌<◌, length, set, length-set, sym, ◌∙◌, subst}
 use Rattle.rand_pcg.specs.Pcg.{pcg32}
-use Rattle.rooms_state.specs.declared.act.Act.TheVariants as asked
-use Rattle.rooms_state.specs.Would.{would}
-use Rattle.farm_nodes_acting.specs.Quiet.{IsQuiet}
-use Rattle.farm_nodes_playing.specs.Leading.{HasLed}
 use Rattle.farm_nodes_playing.specs.Halt.{Halt}
 use Rattle.farm_nodes_playing.specs.Halted.{left_over, HasHaltCause}
 use Rattle.farm_nodes_passes.specs.declared.which.Which.{Which}
@@ -12,9 +8,9 @@ use Rattle.farm_nodes_passes.specs.Pending.{HasPending, HavePending}
 use Rattle.farm_nodes_playing.specs.Played.{Played}
 use Rattle.farm_nodes_passes.specs.Fours.{four_of, words_of}
 use Rattle.farm_nodes_passes.specs.Texts.{pass_texts, IsOwnTextIn}
-use Rattle.farm_nodes_turn.specs.Turned.{HasInput, IsTooLargeFor, Leaves, StandsAfter}
+use Rattle.farm_nodes_turn.specs.Turned.{IsTooLargeFor, Leaves, StandsAfter}
 use Rattle.farm_nodes_turn.specs.Turns.{AtPlace, HaltsIn, PlayedIn}
-use Rattle.farm_nodes_turn.proofs.Inputs.{if_err, on_ok4}
+use Rattle.farm_nodes_turn.proofs.Inputs.{if_err, on_ok}
 use Rattle.farm_nodes_turn.proofs.Pending.{with_all}
 use Rattle.farm_nodes_turn.proofs.Places.{off_set, place_set, set_at}
 use Rattle.farm_nodes_turn.proofs.in_room.turn_in.Goals as goal
@@ -39,18 +35,13 @@ returns-clause-after g c =
     let new = four_of c.play_in.new.seats in
     let pass = c.of_room.result in
     let word = (pcg32 c.args.words.now).0 in
-    on_ok4 c.play_in.result
-    (HasInput pass old → (words_of new pass).node.kept.offered ≡ true)
-    ((j : ℕ) → j < (words_of new pass).node.quorums.nodes → IsQuiet j (words_of new pass))
-    (would (words_of new pass) asked.Propose ≡ None)
-    ((words_of old pass).node.kept.offered ≡ true → word % 4 ≡ 0 → HasLed (words_of new pass))
+    on_ok c.play_in.result (StandsAfter pass word old new)
     (AtPlace four_of (StandsAfter (pass_of c.args.room) word) (function_of c.args.room) c.args.seats.now.items (set c.args.seats.now.items c.from.result c.play_in.new.seats))
-    (λ offered quiet proposed led.
+    (λ after.
     place_set four_of (StandsAfter (pass_of c.args.room) word) c.args.seats.now.items c.from.result (function_of c.args.room)
     c.in-Some.four.now c.play_in.new.seats c.from.ensures c.in-Some.ensures.value
-    (subst (λ (p : Which). StandsAfter p word old new) c.of_room.ensures
-    (record { offered = offered; quiet = quiet; proposed = proposed; led = led })))
-    c.play_in.ensures.offered c.play_in.ensures.quiet c.play_in.ensures.proposed c.play_in.ensures.led
+    (subst (λ (p : Which). StandsAfter p word old new) c.of_room.ensures after))
+    c.play_in.ensures.after
 
 pub returns-clause-journal : goal.returns-clause-journal
 returns-clause-journal g c honest going =
