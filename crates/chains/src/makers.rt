@@ -5,6 +5,7 @@ ghost use Rattle.alloc_check_rules.specs.Rules.{IsTooLarge};
 ghost use Rattle.chains.specs.Baselines.{AreAccepted, AreBaselines};
 ghost use Rattle.chains.specs.Counted.{Counts, IsCounted, one_if};
 ghost use Rattle.chains.specs.Offered.{GoOnFrom};
+ghost use Rattle.offers_choice.specs.Proposals.{IsElseBaseline};
 
 use crate::baselines::ExactBaselines;
 use crate::offering::Offers;
@@ -62,8 +63,7 @@ impl Maker {
         input: &<P::In as Language>::Fun,
     ) -> Result<Choice<P>, PassError>
         ensures input { IfOk result (λ made. made.offer.input ≡ input.now) }
-        ensures baseline { IfOk result (λ made. made.is_proposal ≡ false →
-            B.is_baseline made.offer.input made.offer.output made.offer.certificate) }
+        ensures baseline { IfOk result (λ made. IsElseBaseline B.is_baseline made.is_proposal made.offer) }
         ensures counted { IfOk result (λ made. Counts self.old.proposals self.new.proposals (one_if made.is_proposal)) }
 
         // With no words all are baselines, and the maker stays as it was.
@@ -98,8 +98,7 @@ fn behind<T: Drop, L: Pass, P: Pass<In = <L as Pass>::Out>, B: Baselines<P>, O: 
 ) -> Result<(T, Offer<L>, Choice<P>), PassError>
     ensures before { IfOk result (λ made. (made.0 ≡ before) × (made.1 ≡ last)) }
     ensures input { IfOk result (λ made. made.2.offer.input ≡ last.output) }
-    ensures baseline { IfOk result (λ made. made.2.is_proposal ≡ false →
-        B.is_baseline made.2.offer.input made.2.offer.output made.2.offer.certificate) }
+    ensures baseline { IfOk result (λ made. IsElseBaseline B.is_baseline made.2.is_proposal made.2.offer) }
     ensures counted { IfOk result (λ made. Counts maker.old.proposals maker.new.proposals (one_if made.2.is_proposal)) }
     ensures stays { maker.old.words ≡ None → maker.new ≡ maker.old }
     ensures alone { maker.old.words ≡ None → IfOk result (λ made. made.2.is_proposal ≡ false) }

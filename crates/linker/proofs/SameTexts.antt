@@ -8,7 +8,7 @@ use Rattle.linker.specs.declared.chain.Chain.{Chain}
 use Rattle.linker.specs.declared.chain.Named.{Named}
 use Rattle.linker.specs.Chains.{IsChain, HasChain, AllChained}
 use Rattle.linker.specs.Texts.{IsTextChain, HasTextChain, AllTextChained}
-use Rattle.linker.specs.Valid.{AreValid, IsValid}
+use Rattle.linker.specs.Valid.{AreFit}
 
 -- no text is a beginning of another, and no two functions share one
 abbrev pub HasOneText : {A : Type 0} → (A → Type 0) → (A → List ℕ) → Type 0
@@ -18,17 +18,16 @@ same : {A : Type 0} (Fits : A → Type 0) (text : A → List ℕ) (a b : A) → 
 same Fits text a b one fits_a fits_b e = (one a b [] [] fits_a fits_b (ap (λ t. t ++ []) e)).0
 
 module _ {A1 A2 A3 A4 A5 C1 C2 C3 C4 : Type 0} (Fits1 : A1 → Type 0) (Fits2 : A2 → Type 0) (Fits3 : A3 → Type 0) (Fits4 : A4 → Type 0) (Fits5 : A5 → Type 0)
-    (Accepts1 : A1 → A2 → C1 → Type 0) (Accepts2 : A2 → A3 → C2 → Type 0) (Accepts3 : A3 → A4 → C3 → Type 0) (Accepts4 : A4 → A5 → C4 → Type 0)
     (text1 : A1 → List ℕ) (text2 : A2 → List ℕ) (text3 : A3 → List ℕ) (text4 : A4 → List ℕ)
     (one1 : HasOneText Fits1 text1) (one2 : HasOneText Fits2 text2) (one3 : HasOneText Fits3 text3) (one4 : HasOneText Fits4 text4) where
   pub chained_by_texts : (start : A1) (chain : Chain (Parts A1 A2 C1) (Parts A2 A3 C2) (Parts A3 A4 C3) (Parts A4 A5 C4)) → Fits1 start
-      → AreValid (IsValid Fits1 Fits2 Accepts1) (IsValid Fits2 Fits3 Accepts2) (IsValid Fits3 Fits4 Accepts3) (IsValid Fits4 Fits5 Accepts4) chain
+      → AreFit Fits1 Fits2 Fits3 Fits4 Fits5 chain
       → IsTextChain text1 text2 text3 text4 start chain → IsChain start chain
-  chained_by_texts start chain fits valid texts = record {
-    first = same Fits1 text1 chain.first.now.input start one1 valid.first.input fits texts.first;
-    second = same Fits2 text2 chain.second.now.input chain.first.now.output one2 valid.second.input valid.first.output texts.second;
-    third = same Fits3 text3 chain.third.now.input chain.second.now.output one3 valid.third.input valid.second.output texts.third;
-    fourth = same Fits4 text4 chain.fourth.now.input chain.third.now.output one4 valid.fourth.input valid.third.output texts.fourth;
+  chained_by_texts start chain fits are texts = record {
+    first = same Fits1 text1 chain.first.now.input start one1 are.first.0 fits texts.first;
+    second = same Fits2 text2 chain.second.now.input chain.first.now.output one2 are.second.0 are.first.1 texts.second;
+    third = same Fits3 text3 chain.third.now.input chain.second.now.output one3 are.third.0 are.second.1 texts.third;
+    fourth = same Fits4 text4 chain.fourth.now.input chain.third.now.output one4 are.fourth.0 are.third.1 texts.fourth;
   }
 
 module _ {A1 A2 A3 A4 A5 C1 C2 C3 C4 : Type 0} (text1 : A1 → List ℕ) (text2 : A2 → List ℕ) (text3 : A3 → List ℕ) (text4 : A4 → List ℕ) where

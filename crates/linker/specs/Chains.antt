@@ -77,3 +77,7 @@ Refusal functions named Names = names_beside named ≢ names_of functions
 Refusal functions named (TooManyNodes i) = ⊥
 Refusal functions named (Missing i) = IsMissing functions named i
 Refusal functions named (Unchained i) = IsUnchained functions named i
+
+-- so it is where the names are the program's and all chains are whole
+abbrev pub WhereWhole : {A1 A2 A3 A4 A5 C1 C2 C3 C4 : Type 0} → List (code.Named A1) → List (Named (Parts A1 A2 C1) (Parts A2 A3 C2) (Parts A3 A4 C3) (Parts A4 A5 C4)) → Type 0 → Type 0
+WhereWhole functions named P = names_beside named ≡ names_of functions → AllChained functions named → P

@@ -9,29 +9,28 @@ use Rattle.linker.specs.declared.errors.LinkError.TheVariants.{NoMemory, TooMany
 use Rattle.linker.specs.Chains.{IsChain}
 
 module _ {A1 A2 A3 A4 A5 C1 C2 C3 C4 : Type 0} where
-  -- the end of a valid chain from the function
-  pub record EndsChain (Valid : Chain (Parts A1 A2 C1) (Parts A2 A3 C2) (Parts A3 A4 C3) (Parts A4 A5 C4) → Type 0) (start : A1) (chain : Chain (Parts A1 A2 C1) (Parts A2 A3 C2) (Parts A3 A4 C3) (Parts A4 A5 C4)) (end : A5) : Type 0 where
+  -- the end of a chain from the function
+  pub record EndsChain (start : A1) (chain : Chain (Parts A1 A2 C1) (Parts A2 A3 C2) (Parts A3 A4 C3) (Parts A4 A5 C4)) (end : A5) : Type 0 where
     pub chained : IsChain start chain
-    pub valid : Valid chain
     pub same : end ≡ chain.fourth.now.output
 
-  abbrev pub IsEnd : (Chain (Parts A1 A2 C1) (Parts A2 A3 C2) (Parts A3 A4 C3) (Parts A4 A5 C4) → Type 0) → A1 → Option (Chain (Parts A1 A2 C1) (Parts A2 A3 C2) (Parts A3 A4 C3) (Parts A4 A5 C4)) → A5 → Type 0
-  IsEnd Valid start None end = ⊥
-  IsEnd Valid start (Some chain) end = EndsChain Valid start chain end
+  abbrev pub IsEnd : A1 → Option (Chain (Parts A1 A2 C1) (Parts A2 A3 C2) (Parts A3 A4 C3) (Parts A4 A5 C4)) → A5 → Type 0
+  IsEnd start None end = ⊥
+  IsEnd start (Some chain) end = EndsChain start chain end
 
-  -- a function under the same name, the end of a valid chain from the first one
-  pub record IsLinked (Valid : Chain (Parts A1 A2 C1) (Parts A2 A3 C2) (Parts A3 A4 C3) (Parts A4 A5 C4) → Type 0) (f : code.Named A1) (n : Named (Parts A1 A2 C1) (Parts A2 A3 C2) (Parts A3 A4 C3) (Parts A4 A5 C4)) (made : code.Named A5) : Type 0 where
+  -- a function under the same name, the end of a chain from the first one
+  pub record IsLinked (f : code.Named A1) (n : Named (Parts A1 A2 C1) (Parts A2 A3 C2) (Parts A3 A4 C3) (Parts A4 A5 C4)) (made : code.Named A5) : Type 0 where
     pub name : made.name ≡ f.name
-    pub end : IsEnd Valid f.function n.chain made.function
+    pub end : IsEnd f.function n.chain made.function
 
   -- function by function
-  abbrev pub AreLinked : (Chain (Parts A1 A2 C1) (Parts A2 A3 C2) (Parts A3 A4 C3) (Parts A4 A5 C4) → Type 0) → List (code.Named A1) → List (Named (Parts A1 A2 C1) (Parts A2 A3 C2) (Parts A3 A4 C3) (Parts A4 A5 C4)) → List (code.Named A5) → Type 0
-  AreLinked Valid [] [] [] = Unit {0}
-  AreLinked Valid [] [] (made ∷ all_made) = ⊥
-  AreLinked Valid [] (n ∷ named) all_made = ⊥
-  AreLinked Valid (f ∷ functions) [] all_made = ⊥
-  AreLinked Valid (f ∷ functions) (n ∷ named) [] = ⊥
-  AreLinked Valid (f ∷ functions) (n ∷ named) (made ∷ all_made) = IsLinked Valid f n made × AreLinked Valid functions named all_made
+  abbrev pub AreLinked : List (code.Named A1) → List (Named (Parts A1 A2 C1) (Parts A2 A3 C2) (Parts A3 A4 C3) (Parts A4 A5 C4)) → List (code.Named A5) → Type 0
+  AreLinked [] [] [] = Unit {0}
+  AreLinked [] [] (made ∷ all_made) = ⊥
+  AreLinked [] (n ∷ named) all_made = ⊥
+  AreLinked (f ∷ functions) [] all_made = ⊥
+  AreLinked (f ∷ functions) (n ∷ named) [] = ⊥
+  AreLinked (f ∷ functions) (n ∷ named) (made ∷ all_made) = IsLinked f n made × AreLinked functions named all_made
 
   -- why a function has no end of a chain
   abbrev pub Tells : ℕ → A1 → Option (Chain (Parts A1 A2 C1) (Parts A2 A3 C2) (Parts A3 A4 C3) (Parts A4 A5 C4)) → LinkError → Type 0

@@ -1,6 +1,6 @@
 ghost use Rattle.std.specs.Prelude.{◌≡◌, IsTrue, ◌↔◌};
 ghost use Rattle.linker.specs.Chains.{IsChain};
-ghost use Rattle.linker.specs.Valid.{AreValid, IsValid};
+ghost use Rattle.linker.specs.Valid.{AreAccepted, AreFit};
 
 use lang_base::{Language, Pass};
 use offers::Offer;
@@ -50,8 +50,8 @@ pub(crate) fn validated<
     P3: Pass<In = P2::Out>,
     P4: Pass<In = P3::Out>,
 >(chain: &ChainOf<'_, P1, P2, P3, P4>)
-    ensures { AreValid (IsValid P1.In.fits P1.Out.fits P1.accepts) (IsValid P1.Out.fits P2.Out.fits P2.accepts)
-        (IsValid P2.Out.fits P3.Out.fits P3.accepts) (IsValid P3.Out.fits P4.Out.fits P4.accepts) chain.now }
+    ensures fit { AreFit P1.In.fits P1.Out.fits P2.Out.fits P3.Out.fits P4.Out.fits chain.now }
+    ensures accepted { AreAccepted P1.accepts P2.accepts P3.accepts P4.accepts chain.now }
 {
     chain.first.validated();
     chain.second.validated();

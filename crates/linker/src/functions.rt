@@ -1,9 +1,9 @@
 //! Linking the functions of a program, one after the other.
 
-ghost use Rattle.std.specs.Prelude.{◌≡◌, ◌≢◌, length, map, ℕ, IfOk, IfErr, Option};
+ghost use Rattle.std.specs.Prelude.{◌≡◌, ◌≢◌, length, map, ℕ, IfOk, IfErr, IfSome, OnOk, Option};
 ghost use Rattle.linker.specs.Chains.{Refusal};
 ghost use Rattle.linker.specs.Linked.{AreLinked, IsLinked, IsEnd, Tells};
-ghost use Rattle.linker.specs.Valid.{AreValid, IsValid};
+ghost use Rattle.linker.specs.Valid.{AreAccepted, AreFit, EachChain};
 
 use crate::chain::{ChainOf, NamedOf, is_chain, validated};
 use crate::errors::LinkError;
@@ -17,10 +17,9 @@ fn end_of_chain<P1: Pass, P2: Pass<In = P1::Out>, P3: Pass<In = P2::Out>, P4: Pa
     function: &<P1::In as Language>::Fun,
     chain: &Option<ChainOf<'_, P1, P2, P3, P4>>,
 ) -> Result<<P4::Out as Language>::Fun, LinkError>
-    ensures ok { IfOk result (λ end. IsEnd
-        (AreValid (IsValid P1.In.fits P1.Out.fits P1.accepts) (IsValid P1.Out.fits P2.Out.fits P2.accepts)
-        (IsValid P2.Out.fits P3.Out.fits P3.accepts) (IsValid P3.Out.fits P4.Out.fits P4.accepts))
-        function.now chain.now end) }
+    ensures ok { IfOk result (IsEnd function.now chain.now) }
+    ensures fit { OnOk result (IfSome chain.now (AreFit P1.In.fits P1.Out.fits P2.Out.fits P3.Out.fits P4.Out.fits)) }
+    ensures accepted { OnOk result (IfSome chain.now (AreAccepted P1.accepts P2.accepts P3.accepts P4.accepts)) }
     ensures err { IfErr result (λ e. Tells number function.now chain.now e) }
 {
     let Some(chain) = chain else {
@@ -41,10 +40,9 @@ fn link_function<P1: Pass, P2: Pass<In = P1::Out>, P3: Pass<In = P2::Out>, P4: P
     function: &lang_base::Named<<P1::In as Language>::Fun>,
     named: &NamedOf<'_, P1, P2, P3, P4>,
 ) -> Result<lang_base::Named<<P4::Out as Language>::Fun>, LinkError>
-    ensures ok { IfOk result (λ made. IsLinked
-        (AreValid (IsValid P1.In.fits P1.Out.fits P1.accepts) (IsValid P1.Out.fits P2.Out.fits P2.accepts)
-        (IsValid P2.Out.fits P3.Out.fits P3.accepts) (IsValid P3.Out.fits P4.Out.fits P4.accepts))
-        function.now named.now made) }
+    ensures ok { IfOk result (IsLinked function.now named.now) }
+    ensures fit { OnOk result (IfSome named.now.chain (AreFit P1.In.fits P1.Out.fits P2.Out.fits P3.Out.fits P4.Out.fits)) }
+    ensures accepted { OnOk result (IfSome named.now.chain (AreAccepted P1.accepts P2.accepts P3.accepts P4.accepts)) }
     ensures err { IfErr result (λ e. Tells number function.now.function named.now.chain e) }
 {
     let end = end_of_chain::<P1, P2, P3, P4>(alloc, number, &function.function, &named.chain)?;
@@ -67,10 +65,9 @@ pub(crate) fn link_functions<
     named: &[NamedOf<'_, P1, P2, P3, P4>],
 ) -> Result<Vec<lang_base::Named<<P4::Out as Language>::Fun>>, LinkError>
     requires { length functions.now ≡ length named.now }
-    ensures ok { IfOk result (λ made. AreLinked
-        (AreValid (IsValid P1.In.fits P1.Out.fits P1.accepts) (IsValid P1.Out.fits P2.Out.fits P2.accepts)
-        (IsValid P2.Out.fits P3.Out.fits P3.accepts) (IsValid P3.Out.fits P4.Out.fits P4.accepts))
-        functions.now named.now made.items) }
+    ensures ok { IfOk result (λ made. AreLinked functions.now named.now made.items) }
+    ensures fit { OnOk result (EachChain (AreFit P1.In.fits P1.Out.fits P2.Out.fits P3.Out.fits P4.Out.fits) named.now) }
+    ensures accepted { OnOk result (EachChain (AreAccepted P1.accepts P2.accepts P3.accepts P4.accepts) named.now) }
     ensures err { IfErr result (λ e. e ≢ LinkError.Names) }
     ensures first { IfErr result (λ e. Refusal functions.now named.now e) }
 {

@@ -1,8 +1,6 @@
 //! What texts say of chains, as contracts of calls that change nothing: equal texts are of equal functions.
 
-ghost use Rattle.std.specs.Prelude.{map};
-ghost use Rattle.linker.specs.Chains.{IsChain, HasChain, AllChained};
-ghost use Rattle.linker.specs.Texts.{IsTextChain, HasTextChain, AllTextChained};
+ghost use Rattle.linker.specs.Texts.{AllTextsChain, TextsChain, TextsChainBeside};
 
 use crate::chain::{ChainOf, NamedOf, validated};
 use lang_base::{Language, Pass};
@@ -12,8 +10,7 @@ pub fn text_chain<P1: Pass, P2: Pass<In = P1::Out>, P3: Pass<In = P2::Out>, P4: 
     function: &<P1::In as Language>::Fun,
     chain: &ChainOf<'_, P1, P2, P3, P4>,
 )
-    ensures { IsTextChain P1.In.spelling P1.Out.spelling P2.Out.spelling P3.Out.spelling function.now chain.now →
-        IsChain function.now chain.now }
+    ensures { TextsChain P1.In.spelling P1.Out.spelling P2.Out.spelling P3.Out.spelling function.now chain.now }
 {
     P1::In::known(function);
     validated::<P1, P2, P3, P4>(chain);
@@ -26,8 +23,7 @@ fn text_chain_beside<
     P3: Pass<In = P2::Out>,
     P4: Pass<In = P3::Out>,
 >(function: &<P1::In as Language>::Fun, chain: &Option<ChainOf<'_, P1, P2, P3, P4>>)
-    ensures { HasTextChain P1.In.spelling P1.Out.spelling P2.Out.spelling P3.Out.spelling function.now chain.now →
-        HasChain function.now chain.now }
+    ensures { TextsChainBeside P1.In.spelling P1.Out.spelling P2.Out.spelling P3.Out.spelling function.now chain.now }
 {
     if let Some(chain) = chain {
         text_chain::<P1, P2, P3, P4>(function, chain);
@@ -41,8 +37,7 @@ pub fn text_chains<
     P3: Pass<In = P2::Out>,
     P4: Pass<In = P3::Out>,
 >(functions: &[lang_base::Named<<P1::In as Language>::Fun>], named: &[NamedOf<'_, P1, P2, P3, P4>])
-    ensures { AllTextChained P1.In.spelling P1.Out.spelling P2.Out.spelling P3.Out.spelling functions.now named.now →
-        AllChained functions.now named.now }
+    ensures { AllTextsChain P1.In.spelling P1.Out.spelling P2.Out.spelling P3.Out.spelling functions.now named.now }
 {
     if functions.len() != named.len() {
         return;

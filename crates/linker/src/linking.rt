@@ -1,6 +1,6 @@
 ghost use Rattle.std.specs.Prelude.{◌≡◌, ◌≢◌, ◌↔◌, IfOk, IfErr, OnOk};
 ghost use Rattle.lang_base.specs.Keeps.{Keeps};
-ghost use Rattle.linker.specs.Chains.{linked, names_beside, names_of, AllChained, Refusal};
+ghost use Rattle.linker.specs.Chains.{linked, names_beside, names_of, AllChained, Refusal, WhereWhole};
 
 use crate::chain::NamedOf;
 use crate::errors::LinkError;
@@ -27,8 +27,7 @@ pub fn link<P1: Pass, P2: Pass<In = P1::Out>, P3: Pass<In = P2::Out>, P4: Pass<I
     ensures refused { IfErr result (λ e. Refusal program.now.functions named.now e) }
 
     // Where the names are the program's and all chains are whole, only memory can be refused.
-    ensures whole { names_beside named.now ≡ names_of program.now.functions → AllChained program.now.functions named.now →
-        IfErr result (λ e. e ≡ LinkError.NoMemory) }
+    ensures whole { WhereWhole program.now.functions named.now (IfErr result (λ e. e ≡ LinkError.NoMemory)) }
 {
     if !are_names(program.functions.as_slice(), named) {
         return Err(LinkError::Names);

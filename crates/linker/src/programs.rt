@@ -9,8 +9,8 @@ ghost use Rattle.cminor_program_ranges.specs.Names.{HaveNames};
 ghost use Rattle.lang.specs.Form.{IsProgram};
 ghost use Rattle.linear_language.specs.Function.{IsFunction};
 ghost use Rattle.linear_language.specs.Meaning as linear;
-ghost use Rattle.linker.specs.Chains.{linked, names_beside, names_of, AllChained, HasNamesOf, Refusal};
-ghost use Rattle.linker.specs.Refused.{IsRefused, HasNoTranslation};
+ghost use Rattle.linker.specs.Chains.{linked, names_beside, names_of, AllChained, HasNamesOf, Refusal, WhereWhole};
+ghost use Rattle.linker.specs.Refused.{HasNoTranslation, HasOtherNames, IsNamesOrMemory, IsRefused, WhereAllLinks};
 ghost use Rattle.rtl_language.specs.Meaning as rtl;
 
 use crate::chain::{ChainOf, NamedOf};
@@ -71,8 +71,7 @@ pub fn link_translated(
     // can be refused.
     ensures names { (result ≡ Err LinkError.Names) ↔ (names_beside named.now ≢ names_of program.now.functions) }
     ensures refused { IfErr result (λ e. Refusal program.now.functions named.now e) }
-    ensures whole { names_beside named.now ≡ names_of program.now.functions →
-        AllChained program.now.functions named.now → IfErr result (λ e. e ≡ LinkError.NoMemory) }
+    ensures whole { WhereWhole program.now.functions named.now (IfErr result (λ e. e ≡ LinkError.NoMemory)) }
 {
     crate::linking::link::<ConstProp, Cse, Alloc, Linearize>(alloc, program, named)
 }
@@ -93,16 +92,13 @@ pub fn link(
     ensures spelled { HaveNames (program_tree program.now) → IfOk result (IsProgram IsFunction) }
 
     // Tested first: the names are others, or not as many.
-    ensures names { names_beside named.now ≢ names_of (low (program_tree program.now)).functions →
-        IsErrAnd result (λ e. e ≢ LinkError.NoMemory → e ≡ LinkError.Names) }
+    ensures names { HasOtherNames (low (program_tree program.now)) named.now → IsErrAnd result IsNamesOrMemory }
     ensures few { OnOk result (All HasFewNodes (low (program_tree program.now)).functions) }
     ensures refused { IfErr result (λ e. IsRefused (low (program_tree program.now)) named.now e) }
 
     // Where the names are the program's, no function needs too many nodes and all chains are whole, only memory can be
     // refused.
-    ensures whole { names_beside named.now ≡ names_of (low (program_tree program.now)).functions →
-        All HasFewNodes (low (program_tree program.now)).functions →
-        AllChained (gen (low (program_tree program.now))).functions named.now → IfErr result (λ e. e ≡ LinkError.NoMemory) }
+    ensures whole { WhereAllLinks (low (program_tree program.now)) named.now (IfErr result (λ e. e ≡ LinkError.NoMemory)) }
 {
     keeps_composes();
     let lowered = lower(alloc, program)?;

@@ -1,7 +1,7 @@
 //! The choice between a proposal and a baseline.
 
-ghost use Rattle.std.specs.Prelude.{◌≡◌, ◌≢◌, false, Some, IsTrue, IsSome, IfOk, IfErr, IfSome};
-ghost use Rattle.offers_choice.specs.Proposals.{IsAcceptable};
+ghost use Rattle.std.specs.Prelude.{◌≡◌, ◌≢◌, IsTrue, IsSome, IfOk, IfErr, IfSome};
+ghost use Rattle.offers_choice.specs.Proposals.{IsAcceptable, IsElseBaseline, IsProposed};
 
 use crate::baselines::{Baselines, baseline_of};
 use lang_base::{Language, NoMemory, Oracle, Pass, PassError};
@@ -23,7 +23,7 @@ fn accepted_of<P: Pass>(
     proposal: Option<(<P::Out as Language>::Fun, P::Cert)>,
 ) -> Result<Option<Offer<P>>, NoMemory>
     ensures input { IfOk result (λ found. IfSome found (λ offer. offer.input ≡ input.now)) }
-    ensures is { IfOk result (λ found. IfSome found (λ offer. proposal ≡ Some (offer.output, offer.certificate))) }
+    ensures is { IfOk result (λ found. IfSome found (IsProposed proposal)) }
     ensures accepted { IfOk result (λ found. IsAcceptable P.accepts input.now proposal → IsSome found) }
 {
     let Some((output, certificate)) = proposal else {
@@ -44,11 +44,9 @@ pub fn choice_of<P: Pass, B: Baselines<P>>(
     proposal: Option<(<P::Out as Language>::Fun, P::Cert)>,
 ) -> Result<Choice<P>, PassError>
     ensures input { IfOk result (λ made. made.offer.input ≡ input.now) }
-    ensures proposal { IfOk result (λ made. IsTrue made.is_proposal →
-        proposal ≡ Some (made.offer.output, made.offer.certificate)) }
+    ensures proposal { IfOk result (λ made. IsTrue made.is_proposal → IsProposed proposal made.offer) }
     ensures accepted { IfOk result (λ made. IsAcceptable P.accepts input.now proposal → IsTrue made.is_proposal) }
-    ensures baseline { IfOk result (λ made. made.is_proposal ≡ false →
-        B.is_baseline made.offer.input made.offer.output made.offer.certificate) }
+    ensures baseline { IfOk result (λ made. IsElseBaseline B.is_baseline made.is_proposal made.offer) }
 
     // What is proposed is never refused, but replaced; so only what has no baseline is.
     ensures refused { IfErr result (λ e. e ≢ PassError.NoMemory → P.too_large input.now) }
@@ -73,8 +71,7 @@ pub fn choose<P: Pass, B: Baselines<P>, O: Oracle<P = P>>(
     words: &mut Pcg32,
 ) -> Result<Choice<P>, PassError>
     ensures input { IfOk result (λ made. made.offer.input ≡ input.now) }
-    ensures baseline { IfOk result (λ made. made.is_proposal ≡ false →
-        B.is_baseline made.offer.input made.offer.output made.offer.certificate) }
+    ensures baseline { IfOk result (λ made. IsElseBaseline B.is_baseline made.is_proposal made.offer) }
     ensures refused { IfErr result (λ e. e ≢ PassError.NoMemory → P.too_large input.now) }
 {
     let proposal = oracle.propose(alloc, input, words)?;

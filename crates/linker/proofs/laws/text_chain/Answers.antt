@@ -5,7 +5,6 @@ use Rattle.linker.proofs.laws.text_chain.Goals as goal
 pub returns : goal.returns
 returns g c =
     chained_by_texts g.P1.In.Language.fits g.P1.Out.Language.fits g.P2.Out.Language.fits g.P3.Out.Language.fits g.P4.Out.Language.fits
-    g.P1.Pass.accepts g.P2.Pass.accepts g.P3.Pass.accepts g.P4.Pass.accepts
     g.P1.In.Language.spelling g.P1.Out.Language.spelling g.P2.Out.Language.spelling g.P3.Out.Language.spelling
     g.met.P1.In.Language.one_spelling g.met.P1.Out.Language.one_spelling g.met.P2.Out.Language.one_spelling g.met.P3.Out.Language.one_spelling
-    c.args.function.now c.args.chain.now c.known.ensures c.validated.ensures
+    c.args.function.now c.args.chain.now c.known.ensures c.validated.ensures.fit
