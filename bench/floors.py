@@ -32,7 +32,7 @@ FLOORS = [
      "c_checker_bodies c_checker_declarations c_checker c_meaning_machine c_meaning c_texts"),
     ("Languages: whole programs of any, Cminor, RTL, LTL, Linear",
      "lang locations machine lang_running_cells lang_running cminor_syntax cminor_form cminor_codec cminor_language rtl_parts "
-     "rtl_language rtl_decoded rtl ltl linear_language linear_decoded linear_calls linear_groups linear_fused linear_choice linear"),
+     "rtl_language rtl_decoded rtl ltl linear_language linear_decoded linear_calls linear_groups linear_fused linear_choice linear_whole linear_going linear_leaving linear"),
     ("Texts: what is shown of a program",
      "text_words text_programs text_acts text_linear text_rtl text_ltl text_cminor"),
     ("Lowerings: C to Cminor, Cminor to RTL",
@@ -58,7 +58,7 @@ FLOORS = [
      "farm_nodes_seated farm_nodes_opened farm_nodes_rounds farm_nodes_workers farm_nodes_threads farm_nodes_source "
      "farm_nodes_compiling farm_nodes_linked farm_nodes_bundled farm_nodes_crash farm_nodes"),
     ("The program",
-     "cfarm_files cfarm_options cfarm_explaining cfarm_output cfarm_log_lines cfarm_log cfarm_fsck_lines cfarm_fsck_journals cfarm_fsck text_offers program_texts cfarm_runs cfarm_hints cfarm_meter cfarm_report cfarm_build_result cfarm_build_faults cfarm_build_linking cfarm_build_turns cfarm_build cfarm_build_folder cfarm_offered cfarm_build_files cfarm_settle_nodes cfarm_commands cfarm_emitted cfarm_emit cfarm_verify_lowering cfarm_verify_text cfarm_verify_reading cfarm_verify_comparing cfarm_verify cfarm_judge cfarm_schedules_lines "
+     "cfarm_files cfarm_options cfarm_explaining cfarm_output cfarm_log_lines cfarm_log cfarm_fsck_lines cfarm_fsck_journals cfarm_fsck text_offers program_texts cfarm_runs cfarm_hints cfarm_meter cfarm_report cfarm_build_result cfarm_build_faults cfarm_build_linking cfarm_build_turns cfarm_build cfarm_build_folder cfarm_offered cfarm_build_files cfarm_settle_nodes cfarm_commands cfarm_emitted cfarm_emit cfarm_verify_lowering cfarm_verify_lexing cfarm_verify_pieces cfarm_verify_text cfarm_verify_reading cfarm_verify_comparing cfarm_verify cfarm_judge cfarm_schedules_lines "
      "cfarm_schedules cfarm_drawing_parts cfarm_drawing cfarm_command_parts cfarm_command_line cfarm_telling cfarm_outcomes cfarm_looking cfarm_folder cfarm_program cfarm"),
     ("Tests",
      "program_rows paxos_reference worked_fakes worked_farm worked_commands worked_agreement worked_texts worked_forms worked_offers worked_chains "
