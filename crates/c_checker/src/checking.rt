@@ -16,10 +16,10 @@ use std::alloc::Global;
 /// The program of a well formed text, or the first fault in it, in the order of the text. The time is linear
 /// in the tree.
 #[tactic(auto, using(c_checker_rules::proofs::Firsts::tells_front, c_checker_rules::proofs::Firsts::tells_behind))]
-pub fn check(alloc: Global, unit: Unit) -> Result<CProgram, CheckError>
-    ensures ok { IfOk result (λ p. U.IsWellFormed (unit_tree unit)) }
-    ensures program { IfOk result (λ p. program_tree p ≡ U.program_of (unit_tree unit)) }
-    ensures err { IfErr result (λ e. Tells e (U.unit_faults (unit_tree unit))) }
+pub fn check(alloc: Global, unit: &Unit) -> Result<CProgram, CheckError>
+    ensures ok { IfOk result (λ p. U.IsWellFormed (unit_tree unit.now)) }
+    ensures program { IfOk result (λ p. program_tree p ≡ U.program_of (unit_tree unit.now)) }
+    ensures err { IfErr result (λ e. Tells e (U.unit_faults (unit_tree unit.now))) }
 {
     let bodies = bodies_of(alloc, unit.declarations())?;
     let progress = take_all(alloc, bodies, unit.declarations())?;

@@ -21,6 +21,6 @@ pub fn accept(alloc: Global, text: &[u8]) -> Result<CProgram, TextError>
 {
     let tokens = lex(alloc, text)?;
     let unit = read(alloc, tokens.as_slice())?;
-    let program = check(alloc, unit)?;
+    let program = check(alloc, &unit)?;
     Ok(program)
 }

@@ -8,7 +8,7 @@ ghost use Rattle.farm_nodes_source.specs.Refused.{IsOnlyTooLarge, IsUnprepared};
 ghost use Rattle.sha2.specs.Sha256.{sha256};
 ghost use Rattle.cfarm_verify_reading.specs.Found.{IsBegunOf, IsSourceOf, with_digest};
 
-use crate::translating::made_beside;
+use crate::translating::made_meanwhile;
 use cfarm_verify_text::accept_beside;
 use cminor_program_ranges::accepted_has_names;
 use farm_nodes_source::{Begun, Source, SourceFault};
@@ -34,12 +34,12 @@ fn made_ready<R: Threads + Sync>(rt: &R, alloc: Global, text: &[u8]) -> Result<B
     ensures refused { IfErr result (IsUnprepared text.now) }
     ensures only { (u : UnitTree) → IsAccepted text.now u → IfErr result (IsOnlyTooLarge u) }
 {
-    let program = match accept_beside(rt, alloc, text) {
-        Ok(program) => program,
+    let (program, tree) = match accept_beside(rt, alloc, text) {
+        Ok(both) => both,
         Err(fault) => return Err(SourceFault::Text(fault)),
     };
     accepted_has_names();
-    let made = match made_beside(rt, alloc, &program) {
+    let made = match made_meanwhile(rt, alloc, &program, tree) {
         Ok(made) => made,
         Err(fault) => return Err(fault),
     };

@@ -6,6 +6,8 @@ use Rattle.c_syntax.specs.Trees.{UnitTree}
 use Rattle.c_syntax.specs.Heights.{IsLow}
 use Rattle.c_syntax.specs.Declarations.{IsUnit}
 use Rattle.c_lexer.specs.Texts.{HasTokens}
+use Rattle.c_checker_rules.specs.Checked.{Contents}
+use Rattle.c_texts.specs.Accepted.{IsProgramOf}
 
 -- The tokens spell it.
 pub record IsLowUnit (tokens : List Token) (tree : UnitTree) : Type 0 where
@@ -17,3 +19,7 @@ pub record IsRead (text : List ℕ) (tree : UnitTree) : Type 0 where
   pub tokens : List Token
   pub cut : HasTokens text tokens
   pub spells : IsLowUnit tokens tree
+
+-- It is the program of this tree, whatever is handed on with it.
+abbrev pub HasProgram : {T : Type 0} → UnitTree → Contents × T → Type 0
+HasProgram tree both = IsProgramOf tree both.0

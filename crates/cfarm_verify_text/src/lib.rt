@@ -8,4 +8,4 @@ mod cuts;
 mod reading;
 mod sewing;
 
-pub use accepting::accept_beside;
+pub use accepting::{Checked, accept_beside};
