@@ -1,6 +1,6 @@
 //! The callers that wait, on the heap: a deep recursion takes memory and no stack.
 
-ghost use Rattle.std.specs.Prelude.{◌≡◌, List, [], ◌∷◌, MatchOption, OnOk};
+ghost use Rattle.std.specs.Prelude.{◌≡◌, ◌<◌, List, [], ◌∷◌, vec_len, vec_capacity, MatchOption, OnOk};
 
 use lang_base::NoMemory;
 use std::alloc::Global;
@@ -32,6 +32,15 @@ impl Model for Callers {
     ghost view = { λ callers. reverse callers.waiting.items };
 }
 
+/// Room for one caller more, away from the calls that have it.
+#[cold]
+fn make_room(waiting: &mut Vec<Waiting>) -> Result<(), NoMemory>
+    ensures kept { waiting.new.items ≡ waiting.old.items }
+    ensures room { OnOk result (vec_len waiting.new < vec_capacity waiting.new) }
+{
+    Ok(waiting.reserve(1)?)
+}
+
 impl Callers {
     /// Nobody waits.
     pub fn new(alloc: Global) -> Callers
@@ -47,7 +56,10 @@ impl Callers {
     pub(crate) fn push(&mut self, caller: Waiting) -> Result<(), NoMemory>
         ensures { OnOk result (self.new ≡ caller ∷ self.old) }
     {
-        self.waiting.push(caller)?;
+        if self.waiting.len() >= self.waiting.capacity() {
+            make_room(&mut self.waiting)?;
+        }
+        self.waiting.push_reserved(caller);
         Ok(())
     }
 
