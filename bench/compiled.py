@@ -1,7 +1,7 @@
 #!/usr/bin/env python3
 """Times C programs as `cfarm build` makes them and `cfarm exec` runs them, beside the same work in Lua, Python and by gcc.
 
-    bench/compiled.py              median of five runs of each, the kinds of run by turns
+    bench/compiled.py              the lowest of five runs of each, the kinds of run by turns: other work only adds
     bench/compiled.py --runs 1     one run of each
     bench/compiled.py --only sieve one program alone
     bench/compiled.py --nodes 7    farms of seven nodes, not three
@@ -145,16 +145,16 @@ def show(kind, seconds, by):
     print(f"    {kind:24} {seconds:8.3f} s {seconds / by:8.2f} times", flush=True)
 
 
-def show_all(name, medians, given):
+def show_all(name, lowest, given):
     """A program's lines: the builds of a way as the median over the seeds, and the worst."""
-    reference = given.lua if given.lua in medians else "python3"
-    by = medians[reference]
+    reference = given.lua if given.lua in lowest else "python3"
+    by = lowest[reference]
     print(f"{name}, by the time of {reference}{'' if reference == given.lua else ' (there is no Lua here)'}")
-    for kind, took in medians.items():
+    for kind, took in lowest.items():
         if isinstance(kind, str):
             show(kind, took, by)
     for way in WAYS:
-        seeds = sorted(medians[(way, seed)] for seed in SEEDS)
+        seeds = sorted(lowest[(way, seed)] for seed in SEEDS)
         show(f"exec, {way}: median", statistics.median(seeds), by)
         show(f"exec, {way}: worst", seeds[-1], by)
 
@@ -172,7 +172,7 @@ def measure(given):
         other = [kind for kind in kinds if printed[kind] != printed["python3"]]
         if other:
             sys.exit(f"{name}: {other} print something else than Python")
-        show_all(name, {kind: statistics.median(took) for kind, took in seconds.items()}, given)
+        show_all(name, {kind: min(took) for kind, took in seconds.items()}, given)
     return 0
 
 
