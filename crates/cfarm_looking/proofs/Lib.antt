@@ -2,4 +2,5 @@ pub mod EmitStatuses
 pub mod JudgeStatuses
 pub mod ListStatuses
 pub mod ShowStatuses
+mod Sent
 pub mod VerifyStatuses

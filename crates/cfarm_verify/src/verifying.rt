@@ -7,7 +7,7 @@ ghost use Rattle.bundle_reading.specs.Read.{offers_in};
 ghost use Rattle.bundle_reading.specs.Texts.{IsBundleOf};
 ghost use Rattle.bundle_offers.specs.Standing.{AreAlone};
 ghost use Rattle.sha2.specs.Sha256.{sha256};
-ghost use Rattle.cfarm_verify_reading.specs.Found.{IsSourceOf};
+ghost use Rattle.cfarm_verify_reading.specs.Found.{AreSpelled, IsPrepared, IsSourceOf};
 ghost use Rattle.cfarm_verify.specs.Answered.{IsAnswer, IsLineFor};
 ghost use Rattle.cfarm_verify.specs.Lines.{line_with};
 ghost use Rattle.cfarm_verify_reading.specs.Spelled.{IsSpelled};
@@ -17,8 +17,8 @@ use crate::checking::checked;
 use crate::error::VerifyError;
 use bundle_offers::{Four, OfferFault, one_bundle};
 use cfarm_output::print_whole;
-use cfarm_verify_reading::{Bundled, read_all};
-use farm_nodes_source::Source;
+use cfarm_verify_reading::{Bundled, Forms};
+use farm_nodes_source::{Source, SourceFault};
 use lang::one_program;
 use lang_base::{Program, keeps_composes};
 use linear_language::{Function, Linear};
@@ -85,20 +85,23 @@ fn put_away<R: Threads>(rt: &R, source: Source, linear: Program<Function>, fours
     );
 }
 
-/// How many functions there are, where the program is verified. The text, the program and the bundle are read side by side,
-/// and the bundle's offers checked.
+/// How many functions there are, where the program is verified, by what was read of the three.
 fn verified<R: Threads + Sync>(
     rt: &R,
     alloc: Global,
     text: &[u8],
     program: &[u8],
     bundle: &[u8],
+    source: Result<Source, SourceFault>,
+    forms: Forms,
 ) -> Result<usize, VerifyError>
+    requires prepared { IsPrepared text.now source }
+    requires forms { AreSpelled program.now bundle.now forms }
     ensures verified { IfOk result (IsVerified text.now program.now bundle.now) }
     ensures refused { IfErr result (IsTold text.now program.now bundle.now) }
     ensures only { (n : ℕ) → IsVerified text.now program.now bundle.now n → IfErr result IsWant }
 {
-    let (source, (linear, found)) = read_all(rt, alloc, text, program, bundle);
+    let (linear, found) = forms;
     let source = match source {
         Ok(source) => source,
         Err(fault) => return Err(VerifyError::Source(fault)),
@@ -192,15 +195,20 @@ fn answer_of(
 
 /// Whether the program's bytes are those of a linked program that keeps the C text's meaning, by the offers of the bundle: prints
 /// `verified F functions H`, which is flushed, H being the SHA-256 of the program's bytes. No journal, no node and no digest is
-/// trusted. The time is linear in the three, as far as the passes' checks are, and all processors share the checks.
+/// trusted. The time is linear in the three, as far as the passes' checks are, and all processors share the checks. What is found of
+/// each of the three by itself is given, so that files may be read while the text is made ready.
 pub fn verify<R: Threads + Sync, W: Write>(
     rt: &R,
     alloc: Global,
     text: &[u8],
     program: &[u8],
     bundle: &[u8],
+    source: Result<Source, SourceFault>,
+    forms: Forms,
     out: &mut W,
 ) -> Result<(), VerifyError>
+    requires prepared { IsPrepared text.now source }
+    requires forms { AreSpelled program.now bundle.now forms }
     // It says yes exactly where the bundle's offers, each accepted by its pass, chain from the text's RTL to this very program.
     ensures verified { OnOk result (HasVerified text.now program.now bundle.now (W.contents out.old) (W.contents out.new)) }
     // Where it says no, the first reason holds.
@@ -215,10 +223,12 @@ pub fn verify<R: Threads + Sync, W: Write>(
             ensures { IfOk result (λ digits. string_bytes digits ≡ encode_lower (sha256 program.entry.now)) }
         { digits_of(alloc, program) },
         || -> Result<usize, VerifyError>
+            requires prepared { IsPrepared text.now source }
+            requires forms { AreSpelled program.now bundle.now forms }
             ensures verified { IfOk result (IsVerified text.entry.now program.entry.now bundle.entry.now) }
             ensures refused { IfErr result (IsTold text.entry.now program.entry.now bundle.entry.now) }
             ensures only { (n : ℕ) → IsVerified text.entry.now program.entry.now bundle.entry.now n → IfErr result IsWant }
-        { verified(rt, alloc, text, program, bundle) },
+        { verified(rt, alloc, text, program, bundle, source, forms) },
     );
     let line = match answer_of(alloc, text, program, bundle, digits, found) {
         Ok(line) => line,

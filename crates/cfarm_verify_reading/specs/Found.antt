@@ -1,8 +1,11 @@
--- What a text is made ready to, and what is found of a bundle.
-use Rattle.std.specs.Prelude.{◌≡◌, ℕ, List, Result, Ok, Err}
+-- What a text is made ready to, and what is found of a program and a bundle.
+use Rattle.std.specs.Prelude.{◌≡◌, ◌≢◌, ℕ, List, Result, Ok, Err, IfOk, IfErr}
 use Rattle.std.specs.Arc.{arc_value}
 use Rattle.sha2.specs.Sha256.{sha256}
 use Rattle.lang_base.specs.Keeps.{Keeps}
+use Rattle.lang_base.specs.declared.errors.FormError.{FormError}
+use Rattle.lang_base.specs.declared.errors.FormError.TheVariants as form
+use Rattle.lang_base.specs.declared.program.Program.{Program}
 use Rattle.lang.specs.Form.{IsProgram}
 use Rattle.c_syntax.specs.Trees.{UnitTree}
 use Rattle.c_program.specs.Meaning.{crun}
@@ -11,11 +14,14 @@ use Rattle.c_texts.specs.Accepted.{IsAccepted, IsProgramOf}
 use Rattle.cminor_lowering.specs.Programs.{low}
 use Rattle.rtlgen_definition.specs.Gen.{gen}
 use Rattle.rtl_language.specs.Function.{IsFunction}
+use Rattle.linear_language.specs.Function.{FunctionData}
 use Rattle.rtl_language.specs.Meaning.{run}
 use Rattle.bundle_reading.specs.Read.{offers_in}
-use Rattle.bundle_reading.specs.Texts.{IsBundleOf}
+use Rattle.bundle_reading.specs.Texts.{HasNoBundle, IsBundleOf}
 use Rattle.bundle_offers.specs.Standing.{AreAlone}
+use Rattle.cfarm_verify_reading.specs.Spelled.{IsNoProgram, IsSpelled}
 use Rattle.cfarm_verify_reading.specs.declared.bundled.Bundled.{Bundled}
+use Rattle.farm_nodes_source.specs.Refused.{IsOnlyTooLarge, IsUnprepared}
 use Rattle.farm_nodes_source.specs.declared.fault.SourceFault.{SourceFault}
 use Rattle.farm_nodes_source.specs.declared.source.Begun.{Begun}
 use Rattle.farm_nodes_source.specs.declared.source.Source.{Source}
@@ -46,3 +52,16 @@ with_digest digest (Err fault) = Err fault
 pub record IsBundled (bytes : List ℕ) (b : Bundled) : Type 0 where
   pub spelled : IsBundleOf bytes b.digest (offers_in b.fours.items)
   pub alone : AreAlone b.fours.items b.alone.items
+
+-- The text was made ready, or why it was not. An accepted text is refused for a function of too many nodes alone, memory aside.
+pub record IsPrepared (text : List ℕ) (found : Result Source SourceFault) : Type 0 where
+  pub source : IfOk found (IsSourceOf text)
+  pub refused : IfErr found (IsUnprepared text)
+  pub only : (u : UnitTree) → IsAccepted text u → IfErr found (IsOnlyTooLarge u)
+
+-- What two files' bytes spell: a program of Linear, and a bundle, with what is found of its offers by themselves.
+pub record AreSpelled (program bundle : List ℕ) (found : Result (Program FunctionData) FormError × Result Bundled FormError) : Type 0 where
+  pub spelled : IfOk found.0 (IsSpelled program)
+  pub no_program : IfErr found.0 (λ fault. fault ≢ form.NoMemory → IsNoProgram program)
+  pub bundled : IfOk found.1 (IsBundled bundle)
+  pub no_bundle : IfErr found.1 (λ fault. fault ≢ form.NoMemory → HasNoBundle bundle)

@@ -8,4 +8,5 @@ mod reading;
 mod translating;
 
 pub use bundled::Bundled;
-pub use reading::{Forms, read_all};
+pub use preparing::prepared;
+pub use reading::{Forms, read_forms};

@@ -6,7 +6,7 @@ ghost use Rattle.c_syntax.specs.Trees.{UnitTree};
 ghost use Rattle.c_texts.specs.Accepted.{IsAccepted};
 ghost use Rattle.farm_nodes_source.specs.Refused.{IsOnlyTooLarge, IsUnprepared};
 ghost use Rattle.sha2.specs.Sha256.{sha256};
-ghost use Rattle.cfarm_verify_reading.specs.Found.{IsBegunOf, IsSourceOf, with_digest};
+ghost use Rattle.cfarm_verify_reading.specs.Found.{IsBegunOf, IsPrepared, with_digest};
 
 use crate::translating::made_meanwhile;
 use cfarm_verify_text::accept_beside;
@@ -66,15 +66,13 @@ fn with_digest(digest: [u8; 32], found: Result<Begun, SourceFault>) -> Result<So
     }
 }
 
-/// The same with the digest, which is found beside it.
-pub(crate) fn prepared<R: Threads + Sync>(
+/// The program of a text, made ready for the first pass, with the text's digest, which is found beside it.
+pub fn prepared<R: Threads + Sync>(
     rt: &R,
     alloc: Global,
     text: &[u8],
 ) -> Result<Source, SourceFault>
-    ensures source { IfOk result (IsSourceOf text.now) }
-    ensures refused { IfErr result (IsUnprepared text.now) }
-    ensures only { (u : UnitTree) → IsAccepted text.now u → IfErr result (IsOnlyTooLarge u) }
+    ensures { IsPrepared text.now result }
 {
     let (digest, found) = join(
         rt,

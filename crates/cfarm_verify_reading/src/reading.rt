@@ -1,15 +1,10 @@
 ghost use Rattle.std.specs.Prelude.{◌≡◌, ◌≢◌, ◌<◌, IfOk, IfErr};
-ghost use Rattle.c_syntax.specs.Trees.{UnitTree};
-ghost use Rattle.c_texts.specs.Accepted.{IsAccepted};
-ghost use Rattle.farm_nodes_source.specs.Refused.{IsOnlyTooLarge, IsUnprepared};
 ghost use Rattle.bundle_reading.specs.Texts.{HasNoBundle};
-ghost use Rattle.cfarm_verify_reading.specs.Found.{IsBundled, IsSourceOf};
+ghost use Rattle.cfarm_verify_reading.specs.Found.{AreSpelled, IsBundled};
 ghost use Rattle.cfarm_verify_reading.specs.Spelled.{IsNoProgram, IsSpelled};
 
 use crate::bundled::Bundled;
-use crate::preparing::prepared;
 use bundle_offers::{judge_alone, read_offers};
-use farm_nodes_source::{Source, SourceFault};
 use lang::{one_program, read_program};
 use lang_base::{FormError, NoMemory, Program};
 use linear_language::{Function, Linear};
@@ -60,34 +55,6 @@ pub type Forms = (
     Result<Bundled, FormError>,
 );
 
-/// The program, and what is found of the bundle, side by side.
-fn read_both<R: Threads + Sync>(
-    rt: &R,
-    alloc: Global,
-    workers: usize,
-    program: &[u8],
-    bundle: &[u8],
-) -> Forms
-    requires workers { 0 < workers }
-    ensures spelled { IfOk result.0 (IsSpelled program.now) }
-    ensures no_program { IfErr result.0 (λ fault. fault ≢ FormError.NoMemory → IsNoProgram program.now) }
-    ensures bundled { IfOk result.1 (IsBundled bundle.now) }
-    ensures no_bundle { IfErr result.1 (λ fault. fault ≢ FormError.NoMemory → HasNoBundle bundle.now) }
-{
-    join(
-        rt,
-        || -> Result<Program<Function>, FormError>
-            ensures ok { IfOk result (IsSpelled program.entry.now) }
-            ensures refused { IfErr result (λ fault. fault ≢ FormError.NoMemory → IsNoProgram program.entry.now) }
-        { read_linear(alloc, program) },
-        || -> Result<Bundled, FormError>
-            requires { 0 < workers }
-            ensures ok { IfOk result (IsBundled bundle.entry.now) }
-            ensures refused { IfErr result (λ fault. fault ≢ FormError.NoMemory → HasNoBundle bundle.entry.now) }
-        { read_bundle(rt, alloc, workers, bundle) },
-    )
-}
-
 /// One less, and no less than one.
 fn all_but_one(count: usize) -> usize
     ensures { 0 < result }
@@ -108,38 +75,21 @@ fn workers_beside<R: Threads>(rt: &R) -> usize
     }
 }
 
-/// The program of the text, made ready for the first pass, with the text's digest, and the two forms, with what is found of the bundle's offers by
-/// themselves: all that is read side by side.
-pub fn read_all<R: Threads + Sync>(
-    rt: &R,
-    alloc: Global,
-    text: &[u8],
-    program: &[u8],
-    bundle: &[u8],
-) -> (Result<Source, SourceFault>, Forms)
-    ensures source { IfOk result.0 (IsSourceOf text.now) }
-    ensures unprepared { IfErr result.0 (IsUnprepared text.now) }
-    ensures only { (u : UnitTree) → IsAccepted text.now u → IfErr result.0 (IsOnlyTooLarge u) }
-    ensures spelled { IfOk result.1.0 (IsSpelled program.now) }
-    ensures no_program { IfErr result.1.0 (λ fault. fault ≢ FormError.NoMemory → IsNoProgram program.now) }
-    ensures bundled { IfOk result.1.1 (IsBundled bundle.now) }
-    ensures no_bundle { IfErr result.1.1 (λ fault. fault ≢ FormError.NoMemory → HasNoBundle bundle.now) }
+/// The program, and what is found of the bundle, side by side.
+pub fn read_forms<R: Threads + Sync>(rt: &R, alloc: Global, program: &[u8], bundle: &[u8]) -> Forms
+    ensures { AreSpelled program.now bundle.now result }
 {
     let workers = workers_beside(rt);
-    let (forms, source) = join(
+    join(
         rt,
-        || -> Forms
+        || -> Result<Program<Function>, FormError>
+            ensures ok { IfOk result (IsSpelled program.entry.now) }
+            ensures refused { IfErr result (λ fault. fault ≢ FormError.NoMemory → IsNoProgram program.entry.now) }
+        { read_linear(alloc, program) },
+        || -> Result<Bundled, FormError>
             requires { 0 < workers }
-            ensures spelled { IfOk result.0 (IsSpelled program.entry.now) }
-            ensures no_program { IfErr result.0 (λ fault. fault ≢ FormError.NoMemory → IsNoProgram program.entry.now) }
-            ensures bundled { IfOk result.1 (IsBundled bundle.entry.now) }
-            ensures no_bundle { IfErr result.1 (λ fault. fault ≢ FormError.NoMemory → HasNoBundle bundle.entry.now) }
-        { read_both(rt, alloc, workers, program, bundle) },
-        || -> Result<Source, SourceFault>
-            ensures source { IfOk result (IsSourceOf text.entry.now) }
-            ensures refused { IfErr result (IsUnprepared text.entry.now) }
-            ensures only { (u : UnitTree) → IsAccepted text.entry.now u → IfErr result (IsOnlyTooLarge u) }
-        { prepared(rt, alloc, text) },
-    );
-    (source, forms)
+            ensures ok { IfOk result (IsBundled bundle.entry.now) }
+            ensures refused { IfErr result (λ fault. fault ≢ FormError.NoMemory → HasNoBundle bundle.entry.now) }
+        { read_bundle(rt, alloc, workers, bundle) },
+    )
 }

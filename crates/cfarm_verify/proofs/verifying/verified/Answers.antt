@@ -10,9 +10,9 @@ use Rattle.cfarm_verify.proofs.verifying.verified.Goals as goal
 pub returns-in-Err-clause-only : goal.returns-in-Err-clause-only
 returns-in-Err-clause-only g c = λ n is.
     source_wants c.args.text.now c.args.program.now c.args.bundle.now n is c.in-Err.fault
-    (subst (λ r. IfErr r (IsOnlyTooLarge is.tree)) c.in-Err.is (c.read_all-source.ensures.only is.tree is.accepted))
+    (subst (λ r. IfErr r (IsOnlyTooLarge is.tree)) c.in-Err.is (c.requires.prepared.only is.tree is.accepted))
 
 pub returns-in-Err-linear-clause-only : goal.returns-in-Err-linear-clause-only
 returns-in-Err-linear-clause-only g c = λ n is.
     program_wants c.args.text.now c.args.program.now c.args.bundle.now n is c.in-Err-linear.fault
-    (subst (λ r. IfErr r (λ fault. fault ≢ form.NoMemory → IsNoProgram c.args.program.now)) c.in-Err-linear.is c.read_all-source.ensures.no_program)
+    (subst (λ r. IfErr r (λ fault. fault ≢ form.NoMemory → IsNoProgram c.args.program.now)) c.in-Err-linear.is c.requires.forms.no_program)

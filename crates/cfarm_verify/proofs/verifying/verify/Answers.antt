@@ -2,6 +2,7 @@
 use Rattle.std.proofs.Common.{subst, ◌∙◌}
 use Rattle.std.specs.Io.KnownBytes.{Appends}
 use Rattle.cfarm_output.specs.Begun.{IsBegun}
+use Rattle.cfarm_verify.proofs.Answered.{unprinted}
 use Rattle.cfarm_verify.proofs.verifying.verify.Goals as goal
 
 pub returns-in-Err-clause-only : goal.returns-in-Err-clause-only
@@ -20,3 +21,7 @@ returns-clause-printed g c =
     let before = g.W.Write.contents c.args.out.now in
     let after = g.W.Write.contents c.print_whole.new.out in
     (answer.0, answer.1, subst (λ l. IsBegun l before after) (c.as_bytes.ensures.value ∙ answer.2) c.in-Err-print_whole.ensures.begun)
+
+pub returns-in-Err-clause-printed : goal.returns-in-Err-clause-printed
+returns-in-Err-clause-printed g c =
+    unprinted c.args.text.now c.args.program.now c.args.bundle.now (g.W.Write.contents c.args.out.now) c.in-Err.fault c.in-Err.ensures.refused

@@ -5,22 +5,14 @@ use Rattle.cfarm_verify_reading.specs.Found.{IsSourceOf}
 use Rattle.cfarm_verify_reading.proofs.Digests.{is_refused, is_source}
 use Rattle.cfarm_verify_reading.proofs.preparing.prepared.Goals as goal
 
-pub returns-clause-source : goal.returns-clause-source
-returns-clause-source g c =
+pub returns : goal.returns
+returns g c =
     let text = c.args.text.now in
     let found = c.join-found.result in
-    let is = is_source text found.0 found.1 c.join-found.ensures.first c.join-found.ensures.second.0 in
-    subst (λ r. IfOk r (IsSourceOf text)) (sym c.with_digest.ensures) is
-
-pub returns-clause-refused : goal.returns-clause-refused
-returns-clause-refused g c =
-    let text = c.args.text.now in
-    let found = c.join-found.result in
-    subst (λ r. IfErr r (IsUnprepared text)) (sym c.with_digest.ensures)
-    (is_refused (IsUnprepared text) found.0 found.1 c.join-found.ensures.second.1.0)
-
-pub returns-clause-only : goal.returns-clause-only
-returns-clause-only g c = λ u is.
-    let found = c.join-found.result in
-    subst (λ r. IfErr r (IsOnlyTooLarge u)) (sym c.with_digest.ensures)
-    (is_refused (IsOnlyTooLarge u) found.0 found.1 (c.join-found.ensures.second.1.1 u is))
+    let begun = c.join-found.ensures.second in
+    let same = sym c.with_digest.ensures in
+    record {
+      source = subst (λ r. IfOk r (IsSourceOf text)) same (is_source text found.0 found.1 c.join-found.ensures.first begun.0);
+      refused = subst (λ r. IfErr r (IsUnprepared text)) same (is_refused (IsUnprepared text) found.0 found.1 begun.1.0);
+      only = λ u is. subst (λ r. IfErr r (IsOnlyTooLarge u)) same (is_refused (IsOnlyTooLarge u) found.0 found.1 (begun.1.1 u is));
+    }
