@@ -1,6 +1,7 @@
 ghost use Rattle.std.specs.Prelude.{◌≡◌, true, false, drop, slice_index_or, slice_set, take};
 ghost use Rattle.c_program.specs.Values.{cell_of};
 ghost use Rattle.c_program.specs.State.{put_cell};
+ghost use Rattle.c_meaning_machine.specs.Scopes.{locals_of};
 
 use crate::cells::Cells;
 
@@ -19,7 +20,7 @@ impl Scope {
     #[inline(always)]
     #[tactic(auto, using(crate::proofs::Frames::get_behind))]
     pub fn local(&self, number: usize) -> Option<u32>
-        ensures { result ≡ slice_index_or (drop self.now.base self.now.locals.items) number None }
+        ensures { result ≡ slice_index_or (locals_of self.now) number None }
     {
         match self.base.checked_add(number) {
             Some(place) if place < self.locals.len() => self.locals[place],
@@ -33,8 +34,7 @@ impl Scope {
     pub fn set_local(&mut self, number: usize, value: Option<u32>)
         ensures base { self.new.base ≡ self.old.base }
         ensures below { take self.old.base self.new.locals.items ≡ take self.old.base self.old.locals.items }
-        ensures frame { drop self.old.base self.new.locals.items
-            ≡ slice_set (drop self.old.base self.old.locals.items) number value }
+        ensures frame { drop self.old.base self.new.locals.items ≡ slice_set (locals_of self.old) number value }
         ensures globals { self.new.globals.items ≡ self.old.globals.items }
     {
         if let Some(place) = self.base.checked_add(number) {

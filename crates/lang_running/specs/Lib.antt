@@ -1,3 +1,4 @@
+pub mod Lent
 pub mod Waiting
 pub mod Stops
 pub mod Steps

@@ -1,12 +1,10 @@
 //! Calls and returns: a caller waits and its callee begins, or the nearest caller goes on.
 
-ghost use Rattle.std.specs.Prelude.{◌≡◌, ℕ, ◌≤◌, ◌∷◌, List, length, slice_get, IfOk, OnOk};
-ghost use Rattle.lang_base.specs.declared.program.Named.{Named};
+ghost use Rattle.std.specs.Prelude.{◌≡◌, ◌≤◌, ◌∷◌, length, slice_get, IfOk, OnOk};
 ghost use Rattle.lang_running.specs.Functions.{HasFunction};
 ghost use Rattle.lang_running.specs.Waiting.{AreApart};
-ghost use Rattle.lang_running.specs.Steps.{comes_back};
-ghost use Rattle.lang_running.specs.Fits.{CallersStand, CallersFit};
-ghost use Rattle.lang_running.specs.Runs.{callers_of, state_of, RunFits, turned, WhereGone};
+ghost use Rattle.lang_running.specs.Fits.{CallersStand};
+ghost use Rattle.lang_running.specs.Runs.{callers_of, caller_of, RunFits, WhereGone, StepsTo, GoesBack, StaysFit};
 
 use crate::callers::Caller;
 use crate::leaving::{Callee, Leaving};
@@ -25,8 +23,7 @@ fn enter<P: Copy + Drop, T: Copy + Drop>(
     ensures place { OnOk result (run.new.place ≡ callee.place) }
     ensures base { OnOk result (run.new.base ≡ base) }
     ensures words { OnOk result (run.new.words.items ≡ run.old.words.items) }
-    ensures callers { OnOk result (run.new.callers
-        ≡ record { function = run.old.function; place = callee.back; base = run.old.base; target = callee.target } ∷ run.old.callers) }
+    ensures callers { OnOk result (run.new.callers ≡ caller_of run.old callee ∷ run.old.callers) }
 {
     run.callers.push(Caller {
         function: run.function,
@@ -46,10 +43,8 @@ fn go_back<M: Machine>(run: &mut Running<M::Place, M::Target>, value: Option<u32
     requires stand { CallersStand M.can_resume (callers_of run.old) }
     requires begun { run.old.base ≤ length run.old.words.items }
     requires apart { AreApart run.old.callers run.old.base }
-    ensures turn { (globals : List (List ℕ)) (output : List ℕ) →
-        comes_back M.resumed (callers_of run.old) value globals output ≡ turned result (state_of M.state run.new globals output) }
-    ensures fits { (functions : List (Named M.Function)) → CallersFit M.fits functions (callers_of run.old) →
-        WhereGone result (RunFits M.fits M.can_resume functions run.new) }
+    ensures turn { GoesBack M.Machine value run.old run.new result }
+    ensures fits { StaysFit M.Machine run.old run.new result }
 {
     let Some(caller) = run.callers.pop() else {
         return match value {
@@ -76,8 +71,7 @@ pub(crate) fn leave<M: Machine>(
     requires ready { M.are_ready functions.now ready.now running.now }
     requires fits { RunFits M.fits M.can_resume functions.now run.old }
     requires leaves { M.leaves running.now run.old.place }
-    ensures turn { IfOk result (λ turn. (globals : List (List ℕ)) (output : List ℕ) →
-        M.next functions.now (state_of M.state run.old globals output) ≡ turned turn (state_of M.state run.new globals output)) }
+    ensures turn { IfOk result (StepsTo M.Machine functions.now run.old run.new) }
     ensures fits { IfOk result (λ turn. WhereGone turn (RunFits M.fits M.can_resume functions.now run.new)) }
 {
     let base = run.words.len();

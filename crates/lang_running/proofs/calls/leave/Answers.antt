@@ -17,8 +17,7 @@ go_back-requires-clause-stand g c =
 
 pub go_back-requires-clause-begun : goal.go_back-requires-clause-begun
 go_back-requires-clause-begun g c =
-    let r = c.args.run.now in
-    omega (arith, c.requires.fits.begun, kept_length r.words.items c.leave.new.words.items c.in_ok-callee.ensures.kept)
+    omega (arith, c.requires.fits.begun, kept_length c.args.run.now.words.items c.leave.new.words.items c.in_ok-callee.ensures.kept)
 
 pub go_back-requires-clause-apart : goal.go_back-requires-clause-apart
 go_back-requires-clause-apart g c = c.requires.fits.apart
@@ -30,8 +29,7 @@ returns-in-Returns-clause-turn g c = λ globals output.
     ap (waiting_in r.callers) (sym (kept_below r.base r.words.items c.leave.new.words.items c.requires.fits.begun c.in_ok-callee.ensures.kept)) in
     c.in_ok-callee.ensures.step r.function c.requires.running.named globals (callers_of r) output c.requires.running.is c.requires.running.same
     ∙ ap (λ leaving. left_by g.M.Machine.state g.M.Machine.resumed r.function (within r globals).words (drop (length r.words.items) c.leave.new.words.items) leaving globals (callers_of r) output) c.in-Returns.is
-    ∙ ap (λ cs. comes_back g.M.Machine.resumed cs c.in-Returns.value globals output) same
-    ∙ c.go_back.ensures.turn globals output
+    ∙ ap (λ cs. comes_back g.M.Machine.resumed cs c.in-Returns.value globals output) same ∙ c.go_back.ensures.turn globals output
 
 pub returns-in-Returns-clause-fits : goal.returns-in-Returns-clause-fits
 returns-in-Returns-clause-fits g c =
