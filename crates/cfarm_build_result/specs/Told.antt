@@ -1,9 +1,14 @@
 -- What is reported of the functions of a program: their names, and what a node has learned in their rooms.
-use Rattle.std.specs.Prelude.{◌≡◌, ℕ, List, length, Some, slice_get}
+use Rattle.std.specs.Prelude.{◌≡◌, ℕ, List, length, map, Some, slice_get}
 use Rattle.std.specs.String.{string_bytes}
+use Rattle.c_checker_rules.specs.Checked.{Contents}
 use Rattle.rooms_hall.specs.declared.hall.Naming as naming
 use Rattle.farm_nodes_linked.specs.NumberedSeat.{NumberedSeat}
 use Rattle.cfarm_report.specs.declared.function.FunctionRooms.{FunctionRooms}
+
+-- the names of a checked program's functions
+abbrev pub function_names : Contents → List (List ℕ)
+function_names program = map (λ f. f.name) program.functions
 
 module _ {H : Type 0} {h : naming.Ghosts H} where
   pub record IsTold (name : List ℕ) (seats : NumberedSeat H h) (told : FunctionRooms) : Type 0 where

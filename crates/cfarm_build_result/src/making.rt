@@ -1,14 +1,14 @@
 //! The program's bytes, the bundle and the report.
 
-ghost use Rattle.std.specs.Prelude.{◌≡◌, ◌≤◌, is_some, length, map, IfOk, IfSome};
+ghost use Rattle.std.specs.Prelude.{◌≡◌, ◌≤◌, is_some, length, IfOk};
 ghost use Rattle.std.specs.String.{string_bytes};
 ghost use Rattle.c_checker_rules.specs.Checked.{program_tree};
 ghost use Rattle.cminor_program_ranges.specs.Names.{HaveNames};
 ghost use Rattle.lang.specs.Form.{IsProgram};
 ghost use Rattle.linear_language.specs.Function.{IsFunction};
 ghost use Rattle.farm_nodes_linked.specs.Learned.{learned_by, IsUndecided};
-ghost use Rattle.farm_nodes_bundled.specs.Bundled.{LinksLearned};
-ghost use Rattle.cfarm_build_result.specs.Made.{IsMadeOf, IsReportAt};
+ghost use Rattle.cfarm_build_result.specs.Made.{IsBundleOf, IsMadeOf, IsReportAt};
+ghost use Rattle.cfarm_build_result.specs.Told.{function_names};
 
 use crate::built::Built;
 use crate::numbers::numbers_of;
@@ -32,8 +32,7 @@ fn bundle_of<H: Naming>(
     requires few { length seats.now ≤ 64 }
     requires decided { IsUndecided (learned_by seats.now) → ⊥ }
     ensures asked { IfOk result (λ bundle. is_some bundle ≡ is_asked) }
-    ensures links { IfOk result (λ bundle.
-        IfSome bundle (λ bytes. LinksLearned bytes.items digest.now (learned_by seats.now))) }
+    ensures links { IfOk result (IsBundleOf digest.now seats.now) }
 {
     if !is_asked {
         return Ok(None);
@@ -56,7 +55,7 @@ fn reported<H: Naming>(
     requires count { length seats.now ≡ length source.now.functions }
     requires decided { IsUndecided (learned_by seats.now) → ⊥ }
     ensures { IfOk result (λ text.
-        IsReportAt (map (λ f. f.name) source.now.functions) seats.now bytes.now nodes (string_bytes text)) }
+        IsReportAt (function_names source.now) seats.now bytes.now nodes (string_bytes text)) }
 {
     let Ok(functions) = numbers_of(alloc, source, seats) else {
         return Err(NoMemory);
@@ -83,8 +82,7 @@ pub fn made_of<H: Naming>(
     requires count { length seats.now ≡ length source.now.functions }
     requires few { length seats.now ≤ 64 }
     requires decided { IsUndecided (learned_by seats.now) → ⊥ }
-    ensures made { IfOk result
-        (IsMadeOf (map (λ f. f.name) source.now.functions) digest.now program.now seats.now nodes) }
+    ensures made { IfOk result (IsMadeOf (function_names source.now) digest.now program.now seats.now nodes) }
     ensures asked { IfOk result (λ built. is_some built.bundle ≡ bundles) }
 {
     let Ok(bytes) = written(alloc, program) else {

@@ -1,11 +1,11 @@
 //! What a node has learned, by functions.
 
-ghost use Rattle.std.specs.Prelude.{◌≡◌, IsSome, is_some, count_by, length, map, IfOk};
+ghost use Rattle.std.specs.Prelude.{◌≡◌, IsSome, is_some, count_by, length, IfOk};
 ghost use Rattle.std.specs.String.{string_bytes};
 ghost use Rattle.c_checker_rules.specs.Checked.{program_tree};
 ghost use Rattle.cminor_program_ranges.specs.Names.{HaveNames};
 ghost use Rattle.farm_nodes_linked.specs.Learned.{learned_by, learned_four, IsUndecided};
-ghost use Rattle.cfarm_build_result.specs.Told.{AreTold, IsTold};
+ghost use Rattle.cfarm_build_result.specs.Told.{AreTold, IsTold, function_names};
 
 use c_checker_rules::CProgram;
 use cfarm_report::FunctionRooms;
@@ -61,7 +61,7 @@ pub(crate) fn numbers_of<H: Naming>(
     requires names { HaveNames (program_tree program.now) }
     requires count { length seats.now ≡ length program.now.functions }
     requires decided { IsUndecided (learned_by seats.now) → ⊥ }
-    ensures { IfOk result (λ told. AreTold (map (λ f. f.name) program.now.functions) seats.now told.items) }
+    ensures { IfOk result (λ told. AreTold (function_names program.now) seats.now told.items) }
 {
     let mut functions = Vec::with_capacity(alloc, seats.len())?;
     for function in 0..seats.len() {

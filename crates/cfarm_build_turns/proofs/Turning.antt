@@ -14,8 +14,7 @@ use Rattle.cfarm_build_faults.specs.Held.{fault_in, IsSoundNode}
 use Rattle.cfarm_build_faults.specs.Source.{Source}
 use Rattle.cfarm_build_faults.specs.Quorum.{Sizes}
 use Rattle.cfarm_build_faults.specs.Words.{generators}
-use Rattle.cfarm_build_faults.specs.Nodes.{AreMade}
-use Rattle.cfarm_build_faults.specs.Back.{IsJournalOn}
+use Rattle.cfarm_build_faults.specs.Back.{AreJournalsOn}
 use Rattle.cfarm_build_faults.specs.Opened.{AreOpenFromJournals}
 use Rattle.cfarm_build_faults.specs.CameBack.{CameBack}
 use Rattle.farm_nodes_passes.specs.Offers.{ConstantsOffer, ExpressionsOffer, AllocationOffer, OrderOffer}
@@ -100,14 +99,14 @@ module _ {N G D H : Type 0} {h : naming.Ghosts H} (disk : disks.Ghosts D) (progr
   sounds Q ys fit = all_weaker (λ n. SoundOf n × Q n) SoundOf (λ n both. both.0) ys fit
 
   pub have_run : (pair : pairs.Ghosts D) (q : Sizes) (seed : ℕ) (source : Source) (given : List D) (xs ys : List N)
-      → AreMade (IsJournalOn disk pair q source.digest) given (length given) (map log xs)
+      → AreJournalsOn disk pair q source.digest given (map log xs)
       → AreOpenFromJournals disk.is_honest disk.seen q (length (arc_value source.translated).functions) (map log xs) (map seats xs)
       → map words xs ≡ generators seed (length given) → AllByRecursion (λ n. halted n ≡ None) xs
       → AllZip (Turns disk program log (λ n. fours_of (seats n)) halted) xs ys → AllByRecursion SoundOf ys
       → HaveRun disk pair q seed source given (map node_of ys)
   have_run pair q seed source given xs ys journals rooms drawn going turns sound = record {
     begun = map begun_of xs;
-    journals = subst (λ l. AreMade (IsJournalOn disk pair q source.digest) given (length given) l)
+    journals = subst (λ l. AreJournalsOn disk pair q source.digest given l)
         (sym (map_twice begun_of (λ b. b.log) xs)) journals;
     rooms = subst₂ (λ l r. AreOpenFromJournals disk.is_honest disk.seen q (length (arc_value source.translated).functions) l r)
         (sym (map_twice begun_of (λ b. b.log) xs)) (sym (map_twice begun_of (λ b. b.seats) xs)) rooms;
@@ -118,13 +117,13 @@ module _ {N G D H : Type 0} {h : naming.Ghosts H} (disk : disks.Ghosts D) (progr
 
   -- the same of a farm that opened, whose nodes came back
   pub ran : (pair : pairs.Ghosts D) (Q : N → Type 0) (q : Sizes) (seed : ℕ) (source opened : Source) (given : List D) (xs ys : List N) → opened ≡ source
-      → AreMade (IsJournalOn disk pair q opened.digest) given (length given) (map log xs)
+      → AreJournalsOn disk pair q opened.digest given (map log xs)
       → AreOpenFromJournals disk.is_honest disk.seen q (length (arc_value opened.translated).functions) (map log xs) (map seats xs)
       → map words xs ≡ generators seed (length given) → All (λ n. halted n ≡ None) xs
       → AllZip (Turns disk program log (λ n. fours_of (seats n)) halted) xs ys → AllByRecursion (λ n. SoundOf n × Q n) ys
       → HaveRun disk pair q seed source given (map node_of ys)
   ran pair Q q seed source opened given xs ys same journals rooms drawn going turns fit = have_run pair q seed source given xs ys
-      (subst (λ (s : Source). AreMade (IsJournalOn disk pair q s.digest) given (length given) (map log xs)) same journals)
+      (subst (λ (s : Source). AreJournalsOn disk pair q s.digest given (map log xs)) same journals)
       (subst (λ (s : Source). AreOpenFromJournals disk.is_honest disk.seen q (length (arc_value s.translated).functions) (map log xs) (map seats xs)) same rooms)
       drawn (all_of (λ n. halted n ≡ None) xs going) turns (sounds Q ys fit)
 

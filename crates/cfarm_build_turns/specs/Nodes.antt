@@ -13,6 +13,7 @@ use Rattle.farm_nodes_offers.specs.declared.halt.Fault.{Fault}
 use Rattle.farm_nodes_passes.specs.Offers.{ConstantsOffer, ExpressionsOffer, AllocationOffer, OrderOffer}
 use Rattle.farm_nodes_linked.specs.Fours.{Four, fours_of}
 use Rattle.farm_nodes_linked.specs.NumberedSeat.{NumberedSeat}
+use Rattle.farm_nodes.specs.FarmNode.{FarmNode}
 use Rattle.cfarm_build_faults.specs.Halted.{Halted}
 use Rattle.cfarm_build_faults.specs.Held.{fault_in, IsSoundNode}
 use Rattle.cfarm_build_faults.specs.Source.{Source}
@@ -21,8 +22,7 @@ use Rattle.farm_nodes_linked.specs.Alike.{HaveCounted, HaveMissed, KeepsLearned}
 use Rattle.farm_nodes_linked.specs.Learned.{FourOffers, learned_by}
 use Rattle.cfarm_build_faults.specs.CameBack.{CameBack}
 use Rattle.cfarm_build_faults.specs.Words.{generators}
-use Rattle.cfarm_build_faults.specs.Nodes.{AreMade}
-use Rattle.cfarm_build_faults.specs.Back.{IsJournalOn}
+use Rattle.cfarm_build_faults.specs.Back.{AreJournalsOn}
 use Rattle.cfarm_build_faults.specs.Opened.{AreOpenFromJournals}
 use Rattle.cfarm_build_result.specs.Node.{Node}
 
@@ -49,7 +49,7 @@ module _ {D : Type 0} (disk : disks.Ghosts D) where
   -- They were opened on these pairs of disks, with quorums of these sizes and the generators of the seed, and have taken turns.
   pub record HaveRun (pair : pairs.Ghosts D) {H : Type 0} {h : naming.Ghosts H} (q : Sizes) (seed : ℕ) (source : Source) (given : List D) (nodes : List (Node D H h)) : Type 0 where
     pub begun : List (Begun D H h)
-    pub journals : AreMade (IsJournalOn disk pair q source.digest) given (length given) (map (λ b. b.log) begun)
+    pub journals : AreJournalsOn disk pair q source.digest given (map (λ b. b.log) begun)
     pub rooms : AreOpenFromJournals disk.is_honest disk.seen q (length (arc_value source.translated).functions)
         (map (λ b. b.log) begun) (map (λ b. b.seats) begun)
     pub words : map (λ b. b.words) begun ≡ generators seed (length given)
@@ -82,6 +82,11 @@ module _ {N G D : Type 0} (disk : disks.Ghosts D) (program : N → G) (log : N �
     (fours : N → List (Four ConstantsOffer ExpressionsOffer AllocationOffer OrderOffer)) (halted : N → Option Halted) (learned : N → List (Option FourOffers)) where
   abbrev pub Meets : N → N → Type 0
   Meets n m = (program m ≡ program n) × JournalStays disk (log n) (log m) (fours n) (fours m) (halted n) (halted m) (learned n) (learned m)
+
+-- and of two nodes of a farm as they are
+abbrev pub NodeStays : {D O H : Type 0} {h : naming.Ghosts H} → disks.Ghosts D → FarmNode D O H h → FarmNode D O H h → Type 0
+NodeStays disk n m = (m.program ≡ n.program) × JournalStays disk n.log m.log (fours_of n.seats.items) (fours_of m.seats.items)
+    n.halted m.halted (learned_by n.seats.items) (learned_by m.seats.items)
 
 -- The node of this number and the one behind it met, and all functions were counted.
 abbrev pub AreCountedAt : {N H : Type 0} {h : naming.Ghosts H} → (N → List (NumberedSeat H h)) → List N → ℕ → Type 0

@@ -5,9 +5,7 @@ ghost use Rattle.std.specs.Arc.{arc_value};
 ghost use Rattle.std.specs.List.{AllByRecursion, AllZip};
 ghost use Rattle.farm_nodes_linked.specs.Alike.{HaveCounted};
 ghost use Rattle.cfarm_build_result.specs.Neighbours.{EachTwo};
-ghost use Rattle.farm_nodes_linked.specs.Fours.{fours_of};
-ghost use Rattle.farm_nodes_linked.specs.Learned.{learned_by};
-ghost use Rattle.cfarm_build_turns.specs.Nodes.{AreMissed, HasFewFunctions, JournalStays, AreCountedAt};
+ghost use Rattle.cfarm_build_turns.specs.Nodes.{AreCountedAt, AreMissed, HasFewFunctions, NodeStays};
 
 use cfarm_build_faults::{FarmNode, meet};
 use durable_model::Disk;
@@ -27,8 +25,7 @@ fn meet_at<D: Disk, O, H: Naming>(nodes: &mut [FarmNode<D, O, H>], number: usize
     requires next { number + 1 < length nodes.old }
     requires going { AllByRecursion (λ n. n.halted ≡ None) nodes.old }
     requires few { AllByRecursion (λ n. HasFewFunctions (arc_value n.program)) nodes.old }
-    ensures stay { AllZip (λ n m. (m.program ≡ n.program) × JournalStays D.Disk n.log m.log (fours_of n.seats.items)
-        (fours_of m.seats.items) n.halted m.halted (learned_by n.seats.items) (learned_by m.seats.items)) nodes.old nodes.new }
+    ensures stay { AllZip (NodeStays D.Disk) nodes.old nodes.new }
     ensures counted { IsTrue result → AreCountedAt (λ n. n.seats.items) nodes.new number }
     ensures missed { (IsTrue result → ⊥) → AreMissed (λ n. n.seats.items) nodes.new }
 {
@@ -44,8 +41,7 @@ fn meet_at<D: Disk, O, H: Naming>(nodes: &mut [FarmNode<D, O, H>], number: usize
 pub(crate) fn meet_neighbours<D: Disk, O, H: Naming>(nodes: &mut [FarmNode<D, O, H>]) -> bool
     requires going { AllByRecursion (λ n. n.halted ≡ None) nodes.old }
     requires few { AllByRecursion (λ n. HasFewFunctions (arc_value n.program)) nodes.old }
-    ensures stay { AllZip (λ n m. (m.program ≡ n.program) × JournalStays D.Disk n.log m.log (fours_of n.seats.items)
-        (fours_of m.seats.items) n.halted m.halted (learned_by n.seats.items) (learned_by m.seats.items)) nodes.old nodes.new }
+    ensures stay { AllZip (NodeStays D.Disk) nodes.old nodes.new }
     ensures counted { IsTrue result → EachTwo (λ n m. HaveCounted n.seats.items m.seats.items) nodes.new }
     ensures missed { (IsTrue result → ⊥) → AreMissed (λ n. n.seats.items) nodes.new }
 {

@@ -4,11 +4,9 @@ ghost use Rattle.std.specs.Prelude.{◌≡◌, None, map, OnOk, IfOk, IfErr};
 ghost use Rattle.std.specs.Arc.{arc_value};
 ghost use Rattle.std.specs.List.{AllByRecursion, AllZip};
 ghost use Rattle.farm_nodes_linked.specs.Alike.{HaveCounted};
-ghost use Rattle.farm_nodes_linked.specs.Fours.{fours_of};
-ghost use Rattle.farm_nodes_linked.specs.Learned.{learned_by};
 ghost use Rattle.cfarm_build_faults.specs.Held.{fault_in};
 ghost use Rattle.cfarm_build_result.specs.Neighbours.{EachTwo};
-ghost use Rattle.cfarm_build_turns.specs.Nodes.{HasFewFunctions, Meets, lowest_failed};
+ghost use Rattle.cfarm_build_turns.specs.Nodes.{HasFewFunctions, NodeStays, lowest_failed};
 ghost use Rattle.cfarm_build_turns.specs.Unmet.{IsUnmet};
 
 use crate::failing::first_failed;
@@ -23,11 +21,10 @@ pub fn met_all<D: Disk + Drop, O: Drop, H: Naming>(
 ) -> Result<Vec<FarmNode<D, O, H>>, BuildError>
     requires few { AllByRecursion (λ n. HasFewFunctions (arc_value n.program)) nodes.items }
     ensures going { OnOk result (lowest_failed 0 (map (λ n. fault_in n.halted) nodes.items) ≡ None) }
-    ensures stay { IfOk result (λ met. AllZip (Meets D.Disk (λ n. n.program) (λ n. n.log) (λ n. fours_of n.seats.items)
-        (λ n. n.halted) (λ n. learned_by n.seats.items)) nodes.items met.items) }
+    ensures stay { IfOk result (λ met. AllZip (NodeStays D.Disk) nodes.items met.items) }
     ensures counted { IfOk result (λ met. EachTwo (λ n m. HaveCounted n.seats.items m.seats.items) met.items) }
-    ensures refused { IfErr result (IsUnmet (Meets D.Disk (λ n. n.program) (λ n. n.log) (λ n. fours_of n.seats.items)
-        (λ n. n.halted) (λ n. learned_by n.seats.items)) (λ n. n.seats.items) (λ n. fault_in n.halted) nodes.items) }
+    ensures refused { IfErr result
+        (IsUnmet (NodeStays D.Disk) (λ n. n.seats.items) (λ n. fault_in n.halted) nodes.items) }
 {
     let mut nodes = nodes;
     if let Some((node, fault)) = first_failed(&nodes) {

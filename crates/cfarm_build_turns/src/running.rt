@@ -1,11 +1,9 @@
 //! The nodes take their turns, round after round.
 
-ghost use Rattle.std.specs.Prelude.{◌≡◌, ◌<◌, length, IfOk, IfErr};
+ghost use Rattle.std.specs.Prelude.{◌<◌, length, IfOk, IfErr};
 ghost use Rattle.std.specs.List.{AllByRecursion, AllZip};
-ghost use Rattle.farm_nodes_linked.specs.Fours.{fours_of};
-ghost use Rattle.cfarm_build_faults.specs.Held.{IsSoundNode};
-ghost use Rattle.cfarm_build_faults.specs.Waiting.{IsWaiting};
-ghost use Rattle.cfarm_build_faults.specs.CameBack.{CameBack};
+ghost use Rattle.farm_nodes.specs.Asked.{MayBeAsked};
+ghost use Rattle.farm_nodes.specs.Turned.{NodeCameBack};
 ghost use Rattle.cfarm_build_turns.specs.NotRun.{IsNotRun};
 
 use crate::learning::{has_learned_all, learned_rooms};
@@ -75,14 +73,9 @@ fn one_round<
     turns: u64,
 ) -> Result<Vec<FarmNode<D, O, H>>, BuildError>
     requires some { 0 < length nodes.items }
-    requires fit { AllByRecursion (λ n. IsSoundNode D.is_honest D.seen D.may_leave n.log (fours_of n.seats.items) n.halted
-        × IsWaiting n.seats.items n.halted) nodes.items }
-    ensures fit { IfOk result (λ after. AllByRecursion (λ n.
-        IsSoundNode D.is_honest D.seen D.may_leave n.log (fours_of n.seats.items) n.halted
-        × IsWaiting n.seats.items n.halted) after.items) }
-    ensures came { IfOk result (λ after. AllZip (λ n m. (m.program ≡ n.program)
-        × CameBack D.is_honest D.seen D.may_leave D.moment D.left_since n.log m.log (fours_of n.seats.items)
-        (fours_of m.seats.items) n.halted m.halted) nodes.items after.items) }
+    requires fit { AllByRecursion (MayBeAsked D.Disk) nodes.items }
+    ensures fit { IfOk result (λ after. AllByRecursion (MayBeAsked D.Disk) after.items) }
+    ensures came { IfOk result (λ after. AllZip (NodeCameBack D.Disk) nodes.items after.items) }
     ensures refused { IfErr result IsNotRun }
 {
     let workers = nodes.len();
@@ -109,14 +102,9 @@ pub fn run_rounds<
     meter: &mut M,
 ) -> Result<Vec<FarmNode<D, O, H>>, BuildError>
     requires some { 0 < length nodes.items }
-    requires fit { AllByRecursion (λ n. IsSoundNode D.is_honest D.seen D.may_leave n.log (fours_of n.seats.items) n.halted
-        × IsWaiting n.seats.items n.halted) nodes.items }
-    ensures fit { IfOk result (λ after. AllByRecursion (λ n.
-        IsSoundNode D.is_honest D.seen D.may_leave n.log (fours_of n.seats.items) n.halted
-        × IsWaiting n.seats.items n.halted) after.items) }
-    ensures came { IfOk result (λ after. AllZip (λ n m. (m.program ≡ n.program)
-        × CameBack D.is_honest D.seen D.may_leave D.moment D.left_since n.log m.log (fours_of n.seats.items)
-        (fours_of m.seats.items) n.halted m.halted) nodes.items after.items) }
+    requires fit { AllByRecursion (MayBeAsked D.Disk) nodes.items }
+    ensures fit { IfOk result (λ after. AllByRecursion (MayBeAsked D.Disk) after.items) }
+    ensures came { IfOk result (λ after. AllZip (NodeCameBack D.Disk) nodes.items after.items) }
     ensures refused { IfErr result IsNotRun }
 {
     let mut nodes = nodes;

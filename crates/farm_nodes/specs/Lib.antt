@@ -1,12 +1,16 @@
 pub mod Numbers
 pub mod OneProgram
+pub mod OpenFarm
 pub mod Prepared
 pub mod Refused
 pub use Rattle.paxos_core_world.specs.Quorum
 pub use Rattle.farm_nodes_seated.specs.declared.fault.OpenFault
 pub use Rattle.farm_nodes_opened.specs.Back
+pub use Rattle.farm_nodes_opened.specs.FarmNode
 pub use Rattle.farm_nodes_opened.specs.Opened
+pub use Rattle.farm_nodes_threads.specs.Asked
 pub use Rattle.farm_nodes_threads.specs.CameBack
+pub use Rattle.farm_nodes_threads.specs.Nodes as Turned
 pub use Rattle.farm_nodes_opened.specs.Words
 pub use Rattle.farm_nodes_threads.specs.Held
 pub use Rattle.farm_nodes_threads.specs.Waiting

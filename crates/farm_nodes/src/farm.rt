@@ -1,17 +1,12 @@
 ghost use Rattle.std.specs.Prelude.{◌≡◌, ◌≤◌, None, All, length, map, IfOk, IfErr};
 ghost use Rattle.std.specs.Arc.{arc_value};
 ghost use Rattle.std.specs.List.{AllByRecursion};
-ghost use Rattle.farm_nodes_compiling.specs.Fours.{fours_of};
-ghost use Rattle.farm_nodes_opened.specs.Held.{IsSoundNode};
-ghost use Rattle.farm_nodes_opened.specs.Waiting.{IsWaiting};
-ghost use Rattle.farm_nodes_opened.specs.Nodes.{AreMade};
+ghost use Rattle.farm_nodes_opened.specs.FarmNodes.{AllCompile};
 ghost use Rattle.farm_nodes_opened.specs.Words.{generators};
-ghost use Rattle.farm_nodes_opened.specs.Back.{IsJournalOn};
-ghost use Rattle.farm_nodes_opened.specs.Opened.{AreOpenFromJournals};
-ghost use Rattle.farm_nodes_source.specs.declared.fault.SourceFault.{SourceFault};
-ghost use Rattle.farm_nodes_source.specs.Refused.{IsUnprepared};
+ghost use Rattle.farm_nodes_threads.specs.Asked.{MayBeAsked};
+ghost use Rattle.farm_nodes.specs.OpenFarm.{HasJournalsOn, HasOpenRooms};
 ghost use Rattle.farm_nodes.specs.Prepared.{IsSourceOf};
-ghost use Rattle.farm_nodes.specs.Refused.{AreRefused, AreRefusedOver};
+ghost use Rattle.farm_nodes.specs.Refused.{AreRefusedOver, LeavesPairs, TellsDisks};
 
 use crate::error::FarmError;
 use durable_pair::Pair;
@@ -51,30 +46,22 @@ impl<P: Pair + Drop, O: Drop, H: Naming> Farm<P, O, H> {
 
         // It compiles the program of the text. Each node has its share of the translation, its optimisers and its generator.
         ensures source { IfOk result (λ farm. IsSourceOf text.now farm.source) }
-        ensures program { IfOk result (λ farm.
-            All (λ n. arc_value n.program ≡ arc_value farm.source.translated) farm.nodes.items) }
+        ensures program { IfOk result (λ farm. AllCompile (arc_value farm.source.translated) farm.nodes.items) }
         ensures oracles { IfOk result (λ farm. map (λ n. n.oracles) farm.nodes.items ≡ oracles.items) }
         ensures words { IfOk result (λ farm.
             map (λ n. n.words) farm.nodes.items ≡ generators seed (length pairs.items)) }
 
         // Each has the journal on its pair, and may be asked; none is stopped. The rooms open from what the journals have acknowledged.
-        ensures journals { IfOk result (λ farm. AreMade (IsJournalOn P.Disk P.Pair.own quorums farm.source.digest)
-            pairs.items (length pairs.items) (map (λ n. n.log) farm.nodes.items)) }
+        ensures journals { IfOk result (HasJournalsOn P.Disk P.Pair.own quorums pairs.items) }
         ensures going { IfOk result (λ farm. All (λ n. n.halted ≡ None) farm.nodes.items) }
-        ensures fit { IfOk result (λ farm. AllByRecursion (λ n.
-            IsSoundNode P.is_honest P.seen P.may_leave n.log (fours_of n.seats.items) n.halted
-            × IsWaiting n.seats.items n.halted) farm.nodes.items) }
-        ensures rooms { IfOk result (λ farm. AreOpenFromJournals P.is_honest P.seen quorums
-            (length (arc_value farm.source.translated).functions)
-            (map (λ n. n.log) farm.nodes.items) (map (λ n. n.seats.items) farm.nodes.items)) }
+        ensures fit { IfOk result (λ farm. AllByRecursion (MayBeAsked P.Disk) farm.nodes.items) }
+        ensures rooms { IfOk result (HasOpenRooms P.Disk quorums) }
 
         // A text that is not compiled leaves the pairs as they are.
-        ensures untouched { IfErr result (λ it. (fault : SourceFault) → it.1 ≡ FarmError.Source fault →
-            IsUnprepared text.now fault × (it.0 ≡ pairs)) }
+        ensures untouched { IfErr result (LeavesPairs text.now pairs) }
 
         // What is refused of the pairs is refused over the source of the text, and all of them come back.
-        ensures refused { IfErr result (λ it. (fault : OpenFault) → it.1 ≡ FarmError.Disks fault →
-            AreRefused P.Disk P.Pair.own quorums text.now pairs.items it.0.items fault) }
+        ensures refused { IfErr result (TellsDisks P.Disk P.Pair.own quorums text.now pairs.items) }
     {
         let source = match prepare(alloc, text) {
             Ok(source) => source,
@@ -103,22 +90,16 @@ impl<P: Pair + Drop, O: Drop, H: Naming> Farm<P, O, H> {
 
         // It compiles the source. Each node has its share of the translation, its optimisers and its generator.
         ensures source { IfOk result (λ farm. farm.source ≡ source) }
-        ensures program { IfOk result (λ farm.
-            All (λ n. arc_value n.program ≡ arc_value farm.source.translated) farm.nodes.items) }
+        ensures program { IfOk result (λ farm. AllCompile (arc_value farm.source.translated) farm.nodes.items) }
         ensures oracles { IfOk result (λ farm. map (λ n. n.oracles) farm.nodes.items ≡ oracles.items) }
         ensures words { IfOk result (λ farm.
             map (λ n. n.words) farm.nodes.items ≡ generators seed (length pairs.items)) }
 
         // Each has the journal on its pair, and may be asked; none is stopped. The rooms open from what the journals have acknowledged.
-        ensures journals { IfOk result (λ farm. AreMade (IsJournalOn P.Disk P.Pair.own quorums farm.source.digest)
-            pairs.items (length pairs.items) (map (λ n. n.log) farm.nodes.items)) }
+        ensures journals { IfOk result (HasJournalsOn P.Disk P.Pair.own quorums pairs.items) }
         ensures going { IfOk result (λ farm. All (λ n. n.halted ≡ None) farm.nodes.items) }
-        ensures fit { IfOk result (λ farm. AllByRecursion (λ n.
-            IsSoundNode P.is_honest P.seen P.may_leave n.log (fours_of n.seats.items) n.halted
-            × IsWaiting n.seats.items n.halted) farm.nodes.items) }
-        ensures rooms { IfOk result (λ farm. AreOpenFromJournals P.is_honest P.seen quorums
-            (length (arc_value farm.source.translated).functions)
-            (map (λ n. n.log) farm.nodes.items) (map (λ n. n.seats.items) farm.nodes.items)) }
+        ensures fit { IfOk result (λ farm. AllByRecursion (MayBeAsked P.Disk) farm.nodes.items) }
+        ensures rooms { IfOk result (HasOpenRooms P.Disk quorums) }
 
         // What is told is the first fault of the pairs, and all of them come back.
         ensures refused { IfErr result (λ it. AreRefusedOver P.Disk P.Pair.own quorums source pairs.items it.0.items it.1) }

@@ -1,15 +1,9 @@
 //! From an accepted text to what two nodes of its farm link.
 
-ghost use Rattle.std.specs.Prelude.{◌≡◌, ◌≢◌, ℕ, List, Err, IfOk, IfErr};
-ghost use Rattle.std.specs.Arc.{arc_value};
-ghost use Rattle.c_checker_rules.specs.Checked.{program_tree};
-ghost use Rattle.cminor_lowering.specs.Programs.{low};
+ghost use Rattle.std.specs.Prelude.{◌≢◌, Err, IfErr};
 ghost use Rattle.farm_nodes_linked.specs.Alike.{HaveCounted};
-ghost use Rattle.farm_nodes_linked.specs.Chains.{names_of};
-ghost use Rattle.farm_nodes_linked.specs.Learned.{learned_by};
-ghost use Rattle.farm_nodes_linked.specs.Refused.{IsRefused};
-ghost use Rattle.farm_nodes.specs.OneProgram.{IsOneProgram};
-ghost use Rattle.farm_nodes.specs.Prepared.{IsSourceOf};
+ghost use Rattle.farm_nodes_linked.specs.Linking.{CannotLink};
+ghost use Rattle.farm_nodes.specs.OneProgram.{LinkOneProgram};
 
 use farm_nodes_linked::{LinkedError, linked};
 use farm_nodes_opened::FarmNode;
@@ -29,13 +23,11 @@ pub fn linked_by_both<D, O, H: Naming>(
     requires { HaveCounted first.now.seats.items second.now.seats.items }
 
     // Of each text that the source is of: the text is accepted, and both nodes link one program, which does what the text's program does.
-    ensures one { (text : List ℕ) → IsSourceOf text source.now →
-        IfOk result (IsOneProgram text source.now first.now.seats.items second.now.seats.items) }
+    ensures one { LinkOneProgram source.now first.now.seats.items second.now.seats.items result }
 
     // No room is undecided; whatever else the linker refuses of the first it refuses.
     ensures decided { result ≢ Err LinkedError.Undecided }
-    ensures refused { IfErr result (IsRefused (low (program_tree source.now.program))
-        (names_of (arc_value first.now.program).functions) (learned_by first.now.seats.items)) }
+    ensures refused { IfErr result (CannotLink first.now source.now.program) }
 {
     linked(first, &source.program)
 }

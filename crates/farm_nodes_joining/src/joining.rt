@@ -1,10 +1,8 @@
 ghost use Rattle.std.specs.Prelude.{◌≡◌, None, All, length, map, IfOk, IfErr};
 ghost use Rattle.std.specs.Arc.{arc_value};
-ghost use Rattle.farm_nodes_node.specs.Fours.{fours_of};
-ghost use Rattle.farm_nodes_node.specs.Held.{IsSoundNode};
 ghost use Rattle.farm_nodes_node.specs.Waiting.{IsWaiting};
-ghost use Rattle.farm_nodes_node.specs.Texts.{pass_texts};
-ghost use Rattle.farm_nodes_joining.specs.Joined.{AreHeld};
+ghost use Rattle.farm_nodes_joining.specs.FarmNodes.{AllCompile, HasSoundJournal};
+ghost use Rattle.farm_nodes_joining.specs.Joined.{AreHeldOn};
 ghost use Rattle.farm_nodes_joining.specs.Words.{generators};
 
 use crate::pieces::{Pieces, made_of, pieces_of};
@@ -85,7 +83,7 @@ where
     D: Disk + Drop,
     O: Drop,
     H: Naming,
-    requires held { AreHeld pass_texts D.is_honest D.seen D.may_leave (λ j. j.0) (λ s. fours_of s.items) journals.items seats.items }
+    requires held { AreHeldOn D.Disk journals.items seats.items }
     requires functions { All (λ s. length s.items ≡ length (arc_value program.now).functions) seats.items }
     requires oracles { length oracles.items ≡ length journals.items }
 
@@ -93,13 +91,12 @@ where
     ensures logs { IfOk result (λ nodes. map (λ n. n.log) nodes.items ≡ map (λ j. j.0) journals.items) }
     ensures seats { IfOk result (λ nodes. map (λ n. n.seats) nodes.items ≡ seats.items) }
     ensures oracles { IfOk result (λ nodes. map (λ n. n.oracles) nodes.items ≡ oracles.items) }
-    ensures program { IfOk result (λ nodes. All (λ n. arc_value n.program ≡ arc_value program.now) nodes.items) }
+    ensures program { IfOk result (λ nodes. AllCompile (arc_value program.now) nodes.items) }
     ensures words { IfOk result (λ nodes. map (λ n. n.words) nodes.items ≡ generators seed (length journals.items)) }
 
     // Each may be asked, and is not stopped.
     ensures going { IfOk result (λ nodes. All (λ n. n.halted ≡ None) nodes.items) }
-    ensures sound { IfOk result (λ nodes. All (λ n.
-        IsSoundNode D.is_honest D.seen D.may_leave n.log (fours_of n.seats.items) n.halted) nodes.items) }
+    ensures sound { IfOk result (λ nodes. All (HasSoundJournal D.Disk) nodes.items) }
     ensures waiting { IfOk result (λ nodes. All (λ n. IsWaiting n.seats.items n.halted) nodes.items) }
     ensures back { IfErr result (λ back. back ≡ journals) }
 {

@@ -31,7 +31,7 @@ use Rattle.farm_nodes_disks.specs.Journals.{header_of, AreOpened, IsOpened}
 use Rattle.farm_nodes_stored.specs.Nodes.{AreMade}
 use Rattle.farm_nodes_stored.specs.Read.{AreKept}
 use Rattle.farm_nodes_stored.specs.Checked.{AreOffers}
-use Rattle.farm_nodes_opened.specs.Back.{IsJournalOn}
+use Rattle.farm_nodes_opened.specs.Back.{AreJournalsOn, IsJournalOn}
 use Rattle.farm_nodes_opened.specs.Opened.{AreOpenFromJournals, AreOpenIn}
 use Rattle.farm_nodes_seated.specs.Seated.{AreSeated, AreSeatedIn, constants_seat, expressions_seat, allocation_seat, order_seat}
 use Rattle.farm_nodes_seated.proofs.Lists.{found_at, map_at}
@@ -50,7 +50,7 @@ module _ {D : Type 0} (disk : disks.Ghosts D) (pair : pairs.Ghosts D) (q : Sizes
       (j.0.1.items, subst (λ (l : Log D). IsOpened disk pair (header_of q digest i) d l j.0.1.items) j.2 (opened.each i j.0 d j.1 at))
 
   -- each is the journal on its disk
-  pub journals_on : AreMade (IsJournalOn disk pair q digest) given (length given) logs
+  pub journals_on : AreJournalsOn disk pair q digest given logs
   journals_on = record { count = as_many ∙ opened.size; each = on_disks }
 
   -- its records are what it has acknowledged

@@ -1,6 +1,9 @@
 pub mod Back
+pub mod OpenNodes
 pub mod Refused
 pub mod Opened
+pub use Rattle.farm_nodes_node.specs.declared.farm_node.FarmNode
+pub use Rattle.farm_nodes_joining.specs.FarmNodes
 pub use Rattle.farm_nodes_joining.specs.Held
 pub use Rattle.farm_nodes_joining.specs.Waiting
 pub use Rattle.farm_nodes_joining.specs.Words

@@ -1,5 +1,5 @@
 ghost use Rattle.std.specs.Prelude.{◌≡◌, ◌≤◌, ◌+◌, ◌++◌, length, map, option_to_list, vec_capacity};
-ghost use Rattle.std.specs.Vec.Iter.{into_iter_items};
+ghost use Rattle.farm_nodes_opened.specs.Back.{HasCapacityForAll, with_all_of};
 
 use acceptor_log::{Log, Record};
 use durable_model::Disk;
@@ -28,10 +28,8 @@ pub(crate) fn with_disks<D: Disk + Drop>(
 
 /// All pairs, of which one is refused.
 pub(crate) fn with_refused<P: Pair + Drop>(back: Vec<P>, refused: RefusedPair<P>) -> Vec<P>
-    requires { length back.items + length refused.opened.items + length (option_to_list refused.pair)
-        + length (into_iter_items refused.behind) ≤ vec_capacity back }
-    ensures { result.items ≡ ((back.items ++ map (λ j. j.0.disk) refused.opened.items)
-        ++ option_to_list refused.pair) ++ into_iter_items refused.behind }
+    requires { HasCapacityForAll back refused }
+    ensures { result.items ≡ with_all_of back.items refused }
 {
     let RefusedPair {
         opened,

@@ -1,16 +1,11 @@
-ghost use Rattle.std.specs.Prelude.{◌≡◌, ◌<◌, ◌⊎◌, ℕ, None, All, length, map, IfOk, IfErr};
+ghost use Rattle.std.specs.Prelude.{◌≡◌, ◌<◌, None, All, length, map, IfOk, IfErr};
 ghost use Rattle.std.specs.Arc.{arc_value};
-ghost use Rattle.acceptor_log_form.specs.declared.errors.LogError.{LogError};
-ghost use Rattle.farm_nodes_records.specs.Fours.{fours_of};
-ghost use Rattle.farm_nodes_functions.specs.RoomFault.{RoomFault};
-ghost use Rattle.farm_nodes_joining.specs.Held.{IsSoundNode};
+ghost use Rattle.farm_nodes_joining.specs.FarmNodes.{AllCompile, HasSoundJournal};
 ghost use Rattle.farm_nodes_joining.specs.Waiting.{IsWaiting};
-ghost use Rattle.farm_nodes_stored.specs.Nodes.{AreMade};
 ghost use Rattle.farm_nodes_joining.specs.Words.{generators};
-ghost use Rattle.farm_nodes_opened.specs.Back.{IsBack, IsJournalOn};
-ghost use Rattle.farm_nodes_opened.specs.Opened.{AreOpenFromJournals};
-ghost use Rattle.farm_nodes_seated.specs.Refused.{HasBadRecord, HasRefusedOffer, IsRoomUnopened};
-ghost use Rattle.farm_nodes_opened.specs.Refused.{IsRefusedJournal, OfJournals};
+ghost use Rattle.farm_nodes_opened.specs.Back.{AllComeBack};
+ghost use Rattle.farm_nodes_opened.specs.OpenNodes.{HaveJournalsOn, HaveOpenRooms};
+ghost use Rattle.farm_nodes_opened.specs.Refused.{TellsJournal, TellsOffer, TellsRoom};
 
 use crate::back::{with_disks, with_refused};
 use durable_pair::Pair;
@@ -53,33 +48,26 @@ where
     requires workers { 0 < workers }
 
     // Each node has the journal on its pair, its optimisers and its generator; it may be asked, and is not stopped.
-    ensures journals { IfOk result (λ nodes. AreMade (IsJournalOn P.Disk P.Pair.own quorums digest.now)
-        pairs.items (length pairs.items) (map (λ n. n.log) nodes.items)) }
+    ensures journals { IfOk result (λ nodes.
+        HaveJournalsOn P.Disk P.Pair.own quorums digest.now pairs.items nodes.items) }
     ensures oracles { IfOk result (λ nodes. map (λ n. n.oracles) nodes.items ≡ oracles.items) }
-    ensures program { IfOk result (λ nodes. All (λ n. arc_value n.program ≡ arc_value program.now) nodes.items) }
+    ensures program { IfOk result (λ nodes. AllCompile (arc_value program.now) nodes.items) }
     ensures words { IfOk result (λ nodes. map (λ n. n.words) nodes.items ≡ generators seed (length pairs.items)) }
     ensures going { IfOk result (λ nodes. All (λ n. n.halted ≡ None) nodes.items) }
-    ensures sound { IfOk result (λ nodes. All (λ n.
-        IsSoundNode P.is_honest P.seen P.may_leave n.log (fours_of n.seats.items) n.halted) nodes.items) }
+    ensures sound { IfOk result (λ nodes. All (HasSoundJournal P.Disk) nodes.items) }
     ensures waiting { IfOk result (λ nodes. All (λ n. IsWaiting n.seats.items n.halted) nodes.items) }
 
     // The rooms open from what the journals have acknowledged.
-    ensures rooms { IfOk result (λ nodes. AreOpenFromJournals P.is_honest P.seen quorums (length (arc_value program.now).functions)
-        (map (λ n. n.log) nodes.items) (map (λ n. n.seats.items) nodes.items)) }
+    ensures rooms { IfOk result (λ nodes. HaveOpenRooms P.Disk quorums (arc_value program.now) nodes.items) }
 
     // All pairs come back, and what is told is the first fault.
-    ensures back { IfErr result (λ it. AreMade (IsBack P.Disk P.Pair.own quorums digest.now)
-        pairs.items (length pairs.items) it.0.items) }
-    ensures journal { IfErr result (λ it. (node : ℕ) (fault : LogError) → it.1 ≡ OpenFault.Journal node fault →
-        IsRefusedJournal P.Disk P.Pair.own quorums digest.now pairs.items node fault
-        ⊎ ((fault ≡ LogError.BadRecord) × OfJournals P.Disk P.Pair.own quorums digest.now pairs.items
-        (λ journals. HasBadRecord (length (arc_value program.now).functions) journals node))) }
-    ensures refused { IfErr result (λ it. (node : ℕ) → it.1 ≡ OpenFault.Refused node →
-        OfJournals P.Disk P.Pair.own quorums digest.now pairs.items
-        (λ journals. HasRefusedOffer (length (arc_value program.now).functions) journals node)) }
-    ensures unopened { IfErr result (λ it. (room : ℕ) (fault : RoomFault) → it.1 ≡ OpenFault.Room room fault →
-        OfJournals P.Disk P.Pair.own quorums digest.now pairs.items
-        (λ journals. IsRoomUnopened (length (arc_value program.now).functions) journals quorums room fault)) }
+    ensures back { IfErr result (λ it. AllComeBack P.Disk P.Pair.own quorums digest.now pairs.items it.0.items) }
+    ensures journal { IfErr result
+        (TellsJournal P.Disk P.Pair.own quorums digest.now pairs.items (arc_value program.now)) }
+    ensures refused { IfErr result
+        (TellsOffer P.Disk P.Pair.own quorums digest.now pairs.items (arc_value program.now)) }
+    ensures unopened { IfErr result
+        (TellsRoom P.Disk P.Pair.own quorums digest.now pairs.items (arc_value program.now)) }
 {
     let _nodes = quorums.nodes();
     let functions = program.functions.len() as u16;

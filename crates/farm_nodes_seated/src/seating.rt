@@ -1,10 +1,8 @@
 ghost use Rattle.std.specs.Prelude.{◌≡◌, ◌<◌, ℕ, length, IfOk, IfErr};
-ghost use Rattle.acceptor_log_form.specs.declared.errors.LogError.{LogError};
-ghost use Rattle.farm_nodes_functions.specs.RoomFault.{RoomFault};
 ghost use Rattle.farm_nodes_functions.specs.Kept.{AreSettled};
 ghost use Rattle.farm_nodes_lists.specs.Rows.{rows_of};
 ghost use Rattle.farm_nodes_seated.specs.Seated.{AreKeptIn, AreSeated};
-ghost use Rattle.farm_nodes_seated.specs.Refused.{HasBadRecord, HasRefusedOffer, IsRoomUnopened, TellsOffer, TellsRecords, TellsRoom};
+ghost use Rattle.farm_nodes_seated.specs.Refused.{TellsOffer, TellsRecords, TellsRoom};
 
 use crate::fault::OpenFault;
 use acceptor_log::{Log, Record};
@@ -74,12 +72,9 @@ pub fn seats_of<D, H: Naming, R: Threads + Wait + Sync>(
     requires functions { functions < 16384 }
     requires workers { 0 < workers }
     ensures seated { IfOk result (λ seats. AreSeated quorums functions journals.now (rows_of seats.items)) }
-    ensures bad { IfErr result (λ it. (node : ℕ) (fault : LogError) → it ≡ OpenFault.Journal node fault →
-        (fault ≡ LogError.BadRecord) × HasBadRecord functions journals.now node) }
-    ensures refused { IfErr result (λ it. (node : ℕ) → it ≡ OpenFault.Refused node
-        → HasRefusedOffer functions journals.now node) }
-    ensures unopened { IfErr result (λ it. (room : ℕ) (fault : RoomFault) → it ≡ OpenFault.Room room fault
-        → IsRoomUnopened functions journals.now quorums room fault) }
+    ensures bad { IfErr result (TellsRecords functions journals.now) }
+    ensures refused { IfErr result (TellsOffer functions journals.now) }
+    ensures unopened { IfErr result (λ told. TellsRoom functions journals.now told quorums) }
 {
     match rooms_of::<Log<D>, H, R>(
         rt, alloc, hall, digest, functions, workers, journals, quorums,

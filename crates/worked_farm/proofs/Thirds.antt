@@ -7,8 +7,7 @@ use Rattle.acceptor_log_form.specs.declared.header.Header.{Header}
 use Rattle.acceptor_log.specs.declared.log.Log.{Log}
 use Rattle.paxos_core_world.specs.Quorum.{majority_sizes, Sizes}
 use Rattle.farm_nodes_disks.specs.Journals.{header_of}
-use Rattle.farm_nodes_stored.specs.Nodes.{AreMade}
-use Rattle.farm_nodes.specs.Back.{IsJournalOn}
+use Rattle.farm_nodes.specs.Back.{AreJournalsOn}
 use Rattle.worked_farm.specs.Nodes.{IsThird}
 
 third_of : {X : Type 0} (xs : List X) → length xs ≡ 3 → (x : X) × (slice_get xs 2 ≡ Some x)
@@ -18,7 +17,7 @@ third_of (a ∷ b ∷ []) h = absurd (omega (arith, h))
 third_of (a ∷ b ∷ x ∷ rest) h = (x, refl)
 
 pub third_opened : {D : Type 0} (disk : disks.Ghosts D) (pair : pairs.Ghosts D) (q : Sizes) (digest : List ℕ) (given : List D) (logs : List (Log D)) → length given ≡ 3 → q ≡ majority_sizes 3
-    → AreMade (IsJournalOn disk pair q digest) given (length given) logs → IsThird digest logs
+    → AreJournalsOn disk pair q digest given logs → IsThird digest logs
 third_opened disk pair q digest given logs three are made = λ log e.
     let it = third_of given three in
     (made.each 2 it.0 log it.1 e).1.header_is ∙ ap (λ (p : Sizes). header_of p digest 2) are

@@ -1,11 +1,12 @@
 //! A node whose disk fails, and that is restarted.
 
-ghost use Rattle.std.specs.Prelude.{◌≡◌, length, map, IfSome};
+ghost use Rattle.std.specs.Prelude.{◌≡◌, length, IfSome};
 ghost use Rattle.std.specs.List.{AllByRecursion};
 ghost use Rattle.durable_pair_memory.specs.contracts.memory.MemoryPairDisk.TheImpl as memory;
 ghost use Rattle.c_checker_rules.specs.Checked.{program_tree};
 ghost use Rattle.cminor_program_ranges.specs.Names.{HaveNames};
-ghost use Rattle.worked_farm.specs.Nodes.{IsFit, IsThird};
+ghost use Rattle.farm_nodes_node.specs.Asked.{MayBeAsked};
+ghost use Rattle.worked_farm.specs.Nodes.{HasThird};
 
 use crate::linking::{Node, all_linked, disks_of, empty_disk};
 use crate::turning::{back_over, joined, open_three, parted, turned, was_stopped};
@@ -53,8 +54,8 @@ fn lives<H: Naming + Send, R: Threads + Wait + Sync>(
     nodes: Vec<Node<H>>,
     seed: u64,
 ) -> Option<bool>
-    requires fit { AllByRecursion (λ n. IsFit memory.ghosts n.log n.seats.items n.halted) nodes.items }
-    requires third { IsThird source.now.digest (map (λ n. n.log) nodes.items) }
+    requires fit { AllByRecursion (MayBeAsked memory.ghosts) nodes.items }
+    requires third { HasThird source.now.digest nodes.items }
     requires names { HaveNames (program_tree source.now.program) }
 {
     let Some(nodes) = turned(threads, alloc, nodes) else {

@@ -1,11 +1,12 @@
 //! A node that is restarted over another's disk.
 
-ghost use Rattle.std.specs.Prelude.{◌≡◌, length, map, IfSome};
+ghost use Rattle.std.specs.Prelude.{◌≡◌, length, IfSome};
 ghost use Rattle.std.specs.List.{AllByRecursion};
 ghost use Rattle.durable_pair_memory.specs.contracts.memory.MemoryPairDisk.TheImpl as memory;
 ghost use Rattle.c_checker_rules.specs.Checked.{program_tree};
 ghost use Rattle.cminor_program_ranges.specs.Names.{HaveNames};
-ghost use Rattle.worked_farm.specs.Nodes.{IsFit, IsThird};
+ghost use Rattle.farm_nodes_node.specs.Asked.{MayBeAsked};
+ghost use Rattle.worked_farm.specs.Nodes.{HasThird};
 
 use crate::linking::{all_linked, crashed_of, disks_of};
 use crate::turning::{back_over, joined, open_three, parted, refused_over, turned};
@@ -26,9 +27,8 @@ fn whole<H: Naming + Send, R: Threads + Wait + Sync>(
     text: &[u8],
     seed: u64,
 ) -> Option<Farm<MemoryPair, Optimisers, H>>
-    ensures fit { IfSome result (λ farm.
-        AllByRecursion (λ n. IsFit memory.ghosts n.log n.seats.items n.halted) farm.nodes.items) }
-    ensures third { IfSome result (λ farm. IsThird farm.source.digest (map (λ n. n.log) farm.nodes.items)) }
+    ensures fit { IfSome result (λ farm. AllByRecursion (MayBeAsked memory.ghosts) farm.nodes.items) }
+    ensures third { IfSome result (λ farm. HasThird farm.source.digest farm.nodes.items) }
     ensures names { IfSome result (λ farm. HaveNames (program_tree farm.source.program)) }
 {
     let Some(disks) = disks_of(alloc, 3) else {

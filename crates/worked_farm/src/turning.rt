@@ -1,12 +1,11 @@
 //! Three nodes that open, take turns, stop and come back.
 
-ghost use Rattle.std.specs.Prelude.{◌≡◌, ◌<◌, ℕ, List, length, map, IfSome, IfOk};
+ghost use Rattle.std.specs.Prelude.{◌≡◌, ◌<◌, ℕ, List, length, IfSome, IfOk};
 ghost use Rattle.std.specs.List.{AllByRecursion};
 ghost use Rattle.c_checker_rules.specs.Checked.{program_tree};
 ghost use Rattle.cminor_program_ranges.specs.Names.{HaveNames};
-ghost use Rattle.paxos_core_world.specs.Quorum.{majority_sizes};
-ghost use Rattle.farm_nodes_disks.specs.Journals.{header_of};
-ghost use Rattle.worked_farm.specs.Nodes.{IsFit, IsThird};
+ghost use Rattle.farm_nodes_node.specs.Asked.{MayBeAsked};
+ghost use Rattle.worked_farm.specs.Nodes.{HasThird, IsThirdNode};
 
 use acceptor_log::LogError;
 use durable_model::Disk;
@@ -39,9 +38,8 @@ pub(crate) fn open_three<P: Pair + Drop, O: Drop, H: Naming, R: Threads + Wait +
     requires disks { length disks.items ≡ 3 }
     requires oracles { length oracles.items ≡ 3 }
     ensures names { IfOk result (λ farm. HaveNames (program_tree farm.source.program)) }
-    ensures fit { IfOk result (λ farm.
-        AllByRecursion (λ n. IsFit P.Disk n.log n.seats.items n.halted) farm.nodes.items) }
-    ensures third { IfOk result (λ farm. IsThird farm.source.digest (map (λ n. n.log) farm.nodes.items)) }
+    ensures fit { IfOk result (λ farm. AllByRecursion (MayBeAsked P.Disk) farm.nodes.items) }
+    ensures third { IfOk result (λ farm. HasThird farm.source.digest farm.nodes.items) }
 {
     let Some(quorums) = farm_nodes::Quorums::majorities(3) else {
         unreachable!();
@@ -60,11 +58,10 @@ pub(crate) fn turned<
     H: Naming + Send,
     R: Threads + Wait,
 >(threads: &R, alloc: Global, nodes: Vec<FarmNode<D, O, H>>) -> Option<Vec<FarmNode<D, O, H>>>
-    requires fit { AllByRecursion (λ n. IsFit D.Disk n.log n.seats.items n.halted) nodes.items }
-    ensures fit { IfSome result (λ after.
-        AllByRecursion (λ n. IsFit D.Disk n.log n.seats.items n.halted) after.items) }
-    ensures third { (digest : List ℕ) → IsThird digest (map (λ n. n.log) nodes.items)
-        → IfSome result (λ after. IsThird digest (map (λ n. n.log) after.items)) }
+    requires fit { AllByRecursion (MayBeAsked D.Disk) nodes.items }
+    ensures fit { IfSome result (λ after. AllByRecursion (MayBeAsked D.Disk) after.items) }
+    ensures third { (digest : List ℕ) → HasThird digest nodes.items
+        → IfSome result (λ after. HasThird digest after.items) }
 {
     match run_threads(threads, alloc, nodes, TURNS, 3, &OpenGate) {
         Ok(after) => Some(after),
@@ -76,12 +73,11 @@ pub(crate) fn turned<
 pub(crate) fn parted<D: Disk + Drop, O: Drop, H: Naming>(
     nodes: Vec<FarmNode<D, O, H>>,
 ) -> Option<(Vec<FarmNode<D, O, H>>, FarmNode<D, O, H>)>
-    requires fit { AllByRecursion (λ n. IsFit D.Disk n.log n.seats.items n.halted) nodes.items }
-    ensures first { IfSome result (λ two.
-        AllByRecursion (λ n. IsFit D.Disk n.log n.seats.items n.halted) two.0.items) }
-    ensures last { IfSome result (λ two. IsFit D.Disk two.1.log two.1.seats.items two.1.halted) }
-    ensures third { (digest : List ℕ) → IsThird digest (map (λ n. n.log) nodes.items)
-        → IfSome result (λ two. two.1.log.header ≡ header_of (majority_sizes 3) digest 2) }
+    requires fit { AllByRecursion (MayBeAsked D.Disk) nodes.items }
+    ensures first { IfSome result (λ two. AllByRecursion (MayBeAsked D.Disk) two.0.items) }
+    ensures last { IfSome result (λ two. MayBeAsked D.Disk two.1) }
+    ensures third { (digest : List ℕ) → HasThird digest nodes.items
+        → IfSome result (λ two. IsThirdNode digest two.1) }
 {
     let mut nodes = nodes;
     if nodes.len() != 3 {
@@ -98,9 +94,9 @@ pub(crate) fn joined<D: Disk + Drop, O: Drop, H: Naming>(
     nodes: Vec<FarmNode<D, O, H>>,
     node: FarmNode<D, O, H>,
 ) -> Option<Vec<FarmNode<D, O, H>>>
-    requires fit { AllByRecursion (λ n. IsFit D.Disk n.log n.seats.items n.halted) nodes.items }
-    requires last { IsFit D.Disk node.log node.seats.items node.halted }
-    ensures { IfSome result (λ all. AllByRecursion (λ n. IsFit D.Disk n.log n.seats.items n.halted) all.items) }
+    requires fit { AllByRecursion (MayBeAsked D.Disk) nodes.items }
+    requires last { MayBeAsked D.Disk node }
+    ensures { IfSome result (λ all. AllByRecursion (MayBeAsked D.Disk) all.items) }
 {
     let mut nodes = nodes;
     match nodes.push(node) {
@@ -111,8 +107,8 @@ pub(crate) fn joined<D: Disk + Drop, O: Drop, H: Naming>(
 
 /// Whether a stopped node answers 405.
 pub(crate) fn has_stopped<D: Disk, O: Oracles, H: Naming>(node: &mut FarmNode<D, O, H>) -> bool
-    requires { IsFit D.Disk node.old.log node.old.seats.items node.old.halted }
-    ensures fit { IsFit D.Disk node.new.log node.new.seats.items node.new.halted }
+    requires { MayBeAsked D.Disk node.old }
+    ensures fit { MayBeAsked D.Disk node.new }
     ensures header { node.new.log.header ≡ node.old.log.header }
 {
     if node.seats.is_empty() {
@@ -127,8 +123,8 @@ pub(crate) fn back_over<P: Pair + Drop, O: Drop, H: Naming>(
     disk: P,
 ) -> Option<FarmNode<P, O, H>>
     requires nodes { 0 < node.log.header.nodes }
-    requires fit { IsFit P.Disk node.log node.seats.items node.halted }
-    ensures { IfSome result (λ back. IsFit P.Disk back.log back.seats.items back.halted) }
+    requires fit { MayBeAsked P.Disk node }
+    ensures { IfSome result (λ back. MayBeAsked P.Disk back) }
 {
     if node.seats.len() > MOST_FUNCTIONS {
         return None;
@@ -146,8 +142,8 @@ pub(crate) fn refused_over<P: Pair + Drop, O: Oracles + Drop, H: Naming>(
     wanted: RestartFault,
 ) -> Option<FarmNode<P, O, H>>
     requires nodes { 0 < node.log.header.nodes }
-    requires fit { IsFit P.Disk node.log node.seats.items node.halted }
-    ensures fit { IfSome result (λ back. IsFit P.Disk back.log back.seats.items back.halted) }
+    requires fit { MayBeAsked P.Disk node }
+    ensures fit { IfSome result (λ back. MayBeAsked P.Disk back) }
     ensures header { IfSome result (λ back. back.log.header ≡ node.log.header) }
 {
     if node.seats.len() > MOST_FUNCTIONS {
@@ -171,8 +167,8 @@ pub(crate) fn refused_over<P: Pair + Drop, O: Oracles + Drop, H: Naming>(
 pub(crate) fn was_stopped<D: Disk, O: Oracles, H: Naming>(
     node: &mut FarmNode<D, O, H>,
 ) -> Option<bool>
-    requires { IsFit D.Disk node.old.log node.old.seats.items node.old.halted }
-    ensures fit { IsFit D.Disk node.new.log node.new.seats.items node.new.halted }
+    requires { MayBeAsked D.Disk node.old }
+    ensures fit { MayBeAsked D.Disk node.new }
     ensures header { node.new.log.header ≡ node.old.log.header }
 {
     let by_disk = match node.fault() {

@@ -2,9 +2,7 @@
 
 ghost use Rattle.std.specs.Prelude.{IfOk};
 ghost use Rattle.std.specs.List.{AllByRecursion};
-ghost use Rattle.farm_nodes_passes.specs.Fours.{fours_of};
-ghost use Rattle.farm_nodes_node.specs.Held.{IsSoundNode};
-ghost use Rattle.farm_nodes_node.specs.Waiting.{IsWaiting};
+ghost use Rattle.farm_nodes_node.specs.Asked.{MayBeAsked};
 
 use durable_pair::Pair;
 use durable_pair_memory::MemoryPair;
@@ -33,9 +31,7 @@ pub fn opened_on<P: Pair + Drop, H: Naming, R: Threads + Wait + Sync>(
     quorums: Quorums,
     disks: Vec<P>,
 ) -> Result<Farm<P, Optimisers, H>, (Vec<P>, Option<FarmError>)>
-    ensures { IfOk result (λ farm. AllByRecursion (λ n.
-        IsSoundNode P.is_honest P.seen P.may_leave n.log (fours_of n.seats.items) n.halted
-        × IsWaiting n.seats.items n.halted) farm.nodes.items) }
+    ensures { IfOk result (λ farm. AllByRecursion (MayBeAsked P.Disk) farm.nodes.items) }
 {
     let count = usize::from(quorums.nodes());
     if disks.len() != count {

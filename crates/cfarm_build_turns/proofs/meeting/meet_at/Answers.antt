@@ -6,7 +6,7 @@ use Rattle.farm_nodes_linked.specs.Learned.{learned_by}
 use Rattle.farm_nodes_linked.proofs.Kept.{first_keeps, second_keeps}
 use Rattle.cfarm_build_turns.proofs.Counting.{all_counted, at_place, not_counted}
 use Rattle.cfarm_build_result.proofs.Zips.{all_back, all_front, all_get, append, one_set, set_first, set_second}
-use Rattle.cfarm_build_turns.specs.Nodes.{Meets}
+use Rattle.cfarm_build_turns.specs.Nodes.{NodeStays}
 use Rattle.cfarm_build_turns.proofs.Turning.{meets_none}
 use Rattle.cfarm_build_turns.proofs.meeting.meet_at.Goals as goal
 
@@ -25,14 +25,14 @@ returns-clause-stay g c =
     let first_going = all_get (λ n. n.halted ≡ None) front at c.index-front-number.result (all_front (λ n. n.halted ≡ None) front back going) in_front in
     let second_going = all_get (λ n. n.halted ≡ None) back 0 c.index-back-0.result (all_back (λ n. n.halted ≡ None) front back going) in_back in
     let met = told.met first_going second_going in
-    subst (λ l. AllZip (Meets g.D.Disk (λ n. n.program) (λ n. n.log) (λ n. fours_of n.seats.items) (λ n. n.halted) (λ n. learned_by n.seats.items)) l
+    subst (λ l. AllZip (NodeStays g.D.Disk) l
     (set front at first ++ set back 0 second)) (sym parts.value)
-    (append (Meets g.D.Disk (λ n. n.program) (λ n. n.log) (λ n. fours_of n.seats.items) (λ n. n.halted) (λ n. learned_by n.seats.items)) front (set front at first) back (set back 0 second)
-    (one_set (Meets g.D.Disk (λ n. n.program) (λ n. n.log) (λ n. fours_of n.seats.items) (λ n. n.halted) (λ n. learned_by n.seats.items))
+    (append (NodeStays g.D.Disk) front (set front at first) back (set back 0 second)
+    (one_set (NodeStays g.D.Disk)
     (meets_none g.D.Disk (λ n. n.program) (λ n. n.log) (λ n. fours_of n.seats.items) (λ n. n.halted) (λ n. learned_by n.seats.items))
     front at c.index-front-number.result first in_front
     (told.first_stays.1, record { log = told.first_stays.0; halted_same = told.first_stays.4; sound = told.first_sound; learned_still = first_keeps _ _ _ _ _ met }))
-    (one_set (Meets g.D.Disk (λ n. n.program) (λ n. n.log) (λ n. fours_of n.seats.items) (λ n. n.halted) (λ n. learned_by n.seats.items))
+    (one_set (NodeStays g.D.Disk)
     (meets_none g.D.Disk (λ n. n.program) (λ n. n.log) (λ n. fours_of n.seats.items) (λ n. n.halted) (λ n. learned_by n.seats.items))
     back 0 c.index-back-0.result second in_back
     (told.second_stays.1, record { log = told.second_stays.0; halted_same = told.second_stays.4; sound = told.second_sound; learned_still = second_keeps _ _ _ _ _ met })))

@@ -5,12 +5,12 @@ use Rattle.farm_nodes_linked.specs.Fours.{fours_of}
 use Rattle.farm_nodes_linked.specs.Learned.{learned_by}
 use Rattle.cfarm_build_turns.proofs.Counting.{all_there, none_back, one_back}
 use Rattle.cfarm_build_result.proofs.Zips.{all_same, as_long, kept}
-use Rattle.cfarm_build_turns.specs.Nodes.{HasFewFunctions, Meets}
+use Rattle.cfarm_build_turns.specs.Nodes.{HasFewFunctions, NodeStays}
 use Rattle.cfarm_build_turns.proofs.Turning.{going_still, meets_none, meets_through}
 use Rattle.cfarm_build_turns.proofs.meeting.meet_neighbours.Goals as goal
 
 pub loop-next-init : goal.loop-next-init
-loop-next-init g c = all_same (Meets g.D.Disk (λ n. n.program) (λ n. n.log) (λ n. fours_of n.seats.items) (λ n. n.halted) (λ n. learned_by n.seats.items))
+loop-next-init g c = all_same (NodeStays g.D.Disk)
     (meets_none g.D.Disk (λ n. n.program) (λ n. n.log) (λ n. fours_of n.seats.items) (λ n. n.halted) (λ n. learned_by n.seats.items)) c.args.nodes.now
 
 pub loop-next-preserved : goal.loop-next-preserved
@@ -23,16 +23,16 @@ loop-done-init g c = record { stay = c.loop-next.invariant; back = none_back (λ
 pub loop-done-preserved : goal.loop-done-preserved
 loop-done-preserved g c =
     let done = c.loop-done in
-    let there = as_long (Meets g.D.Disk (λ n. n.program) (λ n. n.log) (λ n. fours_of n.seats.items) (λ n. n.halted) (λ n. learned_by n.seats.items)) c.args.nodes.now done.nodes done.invariant.stay in
+    let there = as_long (NodeStays g.D.Disk) c.args.nodes.now done.nodes done.invariant.stay in
     record {
       stay = meets_through g.D.Disk (λ n. n.program) (λ n. n.log) (λ n. fours_of n.seats.items) (λ n. n.halted) (λ n. learned_by n.seats.items) _ _ _ done.invariant.stay c.meet_at.ensures.stay;
-      back = one_back (λ n. n.seats.items) (Meets g.D.Disk (λ n. n.program) (λ n. n.log) (λ n. fours_of n.seats.items) (λ n. n.halted) (λ n. learned_by n.seats.items)) (λ n m it. it.1.learned_still) done.done _ done.nodes _ c.meet_at.ensures.stay
+      back = one_back (λ n. n.seats.items) (NodeStays g.D.Disk) (λ n m it. it.1.learned_still) done.done _ done.nodes _ c.meet_at.ensures.stay
           (omega (arith, there, c.loop-done-test.true)) (c.meet_at.ensures.counted c.if-not-meet_at.false) done.invariant.back;
     }
 
 pub meet_at-counted-requires-clause-few : goal.meet_at-counted-requires-clause-few
 meet_at-counted-requires-clause-few g c =
-    kept (Meets g.D.Disk (λ n. n.program) (λ n. n.log) (λ n. fours_of n.seats.items) (λ n. n.halted) (λ n. learned_by n.seats.items))
+    kept (NodeStays g.D.Disk)
     (λ n. HasFewFunctions (arc_value n.program)) (λ n. HasFewFunctions (arc_value n.program))
     (λ x y it few. subst (λ p. HasFewFunctions (arc_value p)) (sym it.0) few) c.args.nodes.now c.loop-next.nodes c.loop-next.invariant c.requires.few
 
@@ -41,7 +41,7 @@ meet_at-counted-requires-clause-going g c = going_still g.D.Disk (λ n. n.progra
 
 pub meet_at-requires-clause-few : goal.meet_at-requires-clause-few
 meet_at-requires-clause-few g c =
-    kept (Meets g.D.Disk (λ n. n.program) (λ n. n.log) (λ n. fours_of n.seats.items) (λ n. n.halted) (λ n. learned_by n.seats.items))
+    kept (NodeStays g.D.Disk)
     (λ n. HasFewFunctions (arc_value n.program)) (λ n. HasFewFunctions (arc_value n.program))
     (λ x y it few. subst (λ p. HasFewFunctions (arc_value p)) (sym it.0) few) c.args.nodes.now c.loop-done.nodes c.loop-done.invariant.stay c.requires.few
 
@@ -58,5 +58,5 @@ returns-clause-stay g c = c.loop-done.invariant.stay
 pub returns-clause-counted : goal.returns-clause-counted
 returns-clause-counted g c = λ yes.
     let done = c.loop-done in
-    let there = as_long (Meets g.D.Disk (λ n. n.program) (λ n. n.log) (λ n. fours_of n.seats.items) (λ n. n.halted) (λ n. learned_by n.seats.items)) c.args.nodes.now done.nodes done.invariant.stay in
+    let there = as_long (NodeStays g.D.Disk) c.args.nodes.now done.nodes done.invariant.stay in
     all_there (λ n. n.seats.items) done.done done.nodes (omega (arith, there, c.loop-done-test.false)) done.invariant.back

@@ -7,7 +7,7 @@ use Rattle.farm_nodes_linked.specs.Fours.{fours_of}
 use Rattle.farm_nodes_linked.specs.Learned.{learned_by}
 use Rattle.cfarm_build_faults.specs.Held.{fault_in}
 use Rattle.cfarm_build_result.specs.Neighbours.{EachTwo}
-use Rattle.cfarm_build_turns.specs.Nodes.{HasFewFunctions, Meets, lowest_failed}
+use Rattle.cfarm_build_turns.specs.Nodes.{HasFewFunctions, NodeStays, lowest_failed}
 use Rattle.cfarm_build_turns.proofs.Lowest.{all_going}
 use Rattle.cfarm_build_turns.proofs.Turning.{meets_there, new_there}
 use Rattle.cfarm_build_turns.proofs.met.met_all.Goals as goal
@@ -30,7 +30,7 @@ pub returns-then-not-meet_neighbours-clause-refused : goal.returns-then-not-meet
 returns-then-not-meet_neighbours-clause-refused g c = record {
   going = ap (λ l. lowest_failed 0 (map (λ n. fault_in n.halted) l)) (sym c.deref.ensures.value) ∙ sym c.in_default.ensures;
   met = c.meet_neighbours.new.nodes;
-  stay = subst (λ l. AllZip (Meets g.D.Disk (λ n. n.program) (λ n. n.log) (λ n. fours_of n.seats.items) (λ n. n.halted) (λ n. learned_by n.seats.items))
+  stay = subst (λ l. AllZip (NodeStays g.D.Disk)
       l c.meet_neighbours.new.nodes) c.deref_mut.ensures.value c.meet_neighbours.ensures.stay;
   missed = c.meet_neighbours.ensures.missed (λ yes. true≢false (sym yes ∙ c.if-not-meet_neighbours.true));
 }

@@ -1,11 +1,11 @@
 use Rattle.std.proofs.Common.{arith}
-use Rattle.worked_farm.specs.Nodes.{IsFit}
+use Rattle.farm_nodes_node.specs.Asked.{MayBeAsked}
 use Rattle.worked_farm.proofs.Thirds.{all_apart, third_last}
 use Rattle.worked_farm.proofs.turning.parted.Goals as goal
 
 pub returns-in-Some-clause-last : goal.returns-in-Some-clause-last
 returns-in-Some-clause-last g c =
-    (all_apart (λ n. IsFit g.D.Disk n.log n.seats.items n.halted) c.args.nodes.items c.pop.new.self.items c.in-Some.node
+    (all_apart (MayBeAsked g.D.Disk) c.args.nodes.items c.pop.new.self.items c.in-Some.node
     c.in-Some.ensures.items c.requires.fit).1
 
 pub returns-in-Some-clause-third : goal.returns-in-Some-clause-third
