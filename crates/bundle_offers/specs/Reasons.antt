@@ -1,5 +1,5 @@
 -- Why a pass does not accept an output: its form, or the lowest node that breaks a rule.
-use Rattle.std.specs.Prelude.{List, ℕ, Some}
+use Rattle.std.specs.Prelude.{List, ℕ, Option, Some, Result, IfOk, MatchOption}
 use Rattle.lang_base.specs.declared.fault.Fault.{Fault}
 use Rattle.rtl_language.specs.Function as rtl
 use Rattle.ltl.specs.Function as ltl
@@ -13,6 +13,11 @@ use Rattle.cse_check_rules.specs.Rules.{elimination}
 use Rattle.alloc_check_rules.specs.declared.equation.Equation as alloc
 use Rattle.alloc_check_verdict.specs.Right as allocation
 use Rattle.linearize_check.specs.Faults as order
+
+-- what is told is what is wrong with the three, and nothing is told of what is accepted alone
+abbrev pub IsReason : {I O C E : Type 0} → (I → O → C → Type 0) → (I → O → C → Fault → Type 0) → I → O → C → Result (Option Fault) E → Type 0
+IsReason accepts tells input output certificate result =
+    IfOk result (λ told. MatchOption told (accepts input output certificate) (tells input output certificate))
 
 abbrev pub WhyFirst : rtl.FunctionData → rtl.FunctionData → List (NodeRow Fact) → Fault → Type 0
 WhyFirst input output rows fault = TellsWhy propagation input output rows (Some fault)

@@ -1,7 +1,7 @@
 //! Why a pass does not accept.
 
-ghost use Rattle.std.specs.Prelude.{IfOk, MatchOption};
 ghost use Rattle.lang_base.specs.declared.fault.Fault.{Fault};
+ghost use Rattle.bundle_offers.specs.Reasons.{IsReason};
 
 use alloc_check::Alloc;
 use constprop_check::ConstProp;
@@ -22,8 +22,7 @@ pub trait Reasons<P: Pass> {
         output: &<P::Out as Language>::Fun,
         certificate: &P::Cert,
     ) -> Result<Option<Fault>, NoMemory>
-        ensures { IfOk result (λ told. MatchOption told (P.accepts input.now output.now certificate.now)
-            (tells input.now output.now certificate.now)) };
+        ensures { IsReason P.accepts tells input.now output.now certificate.now result };
 }
 
 /// The four passes' own reasons.

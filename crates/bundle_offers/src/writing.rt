@@ -103,7 +103,7 @@ pub fn written(alloc: Global, digest: &[u8], functions: Vec<Texts>) -> Result<Ve
     requires digest { length digest.now ≡ 32 }
     requires few { length functions.items ≤ 64 }
     requires blocks { AllByRecursion TextsFit functions.items }
-    ensures text { IfOk result (λ bytes. bytes.items ≡ bundle_text (record { digest = digest.now; functions = functions.items })) }
+    ensures text { IfOk result (λ b. b.items ≡ bundle_text (record { digest = digest.now; functions = functions.items })) }
     ensures form { OnOk result (IsBundle (record { digest = digest.now; functions = functions.items })) }
 {
     are_parts(digest, functions.as_slice());

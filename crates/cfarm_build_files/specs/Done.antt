@@ -7,8 +7,19 @@ use Rattle.cfarm_build.specs.Built.{Built}
 use Rattle.cfarm_files.specs.Placing.{Placed}
 use Rattle.cfarm_build_files.specs.Compiled.{HasCompiled, HasNotCompiled}
 use Rattle.cfarm_build_files.specs.Put.{IsPut, IsUnput}
+use Rattle.cfarm_build_folder.specs.Changed.{Changed}
 use Rattle.cfarm_build_folder.specs.declared.error.BuildingError.{BuildingError}
 use Rattle.cfarm_options.specs.declared.options.BuildOptions.{BuildOptions}
+
+module _ {F W : Type 0} (placed : F → Option (List Placed)) (contents : W → Option (List ℕ)) (options : BuildOptions) (built : Built)
+    (files : Changed F) (out : Changed W) where
+  -- what was built was put in its files, and its report printed
+  abbrev pub HasPut : Type 0
+  HasPut = IsPut options built (placed files.entry.now) (placed files.exit.now) (contents out.entry.now) (contents out.exit.now)
+
+  -- it could not be put, or its report not be printed, for this
+  abbrev pub HasPutNot : BuildingError → Type 0
+  HasPutNot fault = IsUnput options built (placed files.entry.now) (placed files.exit.now) (contents out.entry.now) (contents out.exit.now) fault
 
 module _ {D : Type 0} (disk : disks.Ghosts D) (pair : pairs.Ghosts D) {H : Type 0} (h : naming.Ghosts H) (may_give : List ℕ → List ℕ → D → Type 0)
     (options : BuildOptions) (text : List ℕ) (placed now_placed : Option (List Placed)) where

@@ -4,10 +4,11 @@ ghost use Rattle.std.specs.Prelude.{◌≡◌, ◌++◌, ◌∷◌, [], OnOk, If
 ghost use Rattle.std.specs.String.{string_bytes};
 ghost use Rattle.cfarm_files.specs.Locking.{CoversFolder};
 ghost use Rattle.cfarm_build_files.specs.Compiled.{quorums_of};
-ghost use Rattle.cfarm_build_files.specs.Done.{HasBuilt, IsNotBuilt};
-ghost use Rattle.cfarm_build_files.specs.Put.{IsPut, IsUnput};
+ghost use Rattle.cfarm_build_files.specs.Done.{HasPut, HasPutNot};
+ghost use Rattle.cfarm_build_files.specs.Farmed.{FarmBuilds, FarmBuildsNot};
 
 use crate::compiling::compiled;
+use crate::farm::Farm;
 use cfarm_build::{BuildError, Built, Quorums};
 use cfarm_build_folder::{BuildingError, place_both};
 use cfarm_files::Files;
@@ -42,10 +43,8 @@ fn put_built<F: Files, W: Write>(
 ) -> Result<(), BuildingError>
     requires locked { CoversFolder (F.covers lock.now) options.folder.now }
     requires made { is_some built.bundle ≡ is_some options.bundle }
-    ensures put { OnOk result (IsPut options.entry built (F.placed files.old) (F.placed files.new)
-        (W.contents out.old) (W.contents out.new)) }
-    ensures refused { IfErr result (IsUnput options.entry built (F.placed files.old) (F.placed files.new)
-        (W.contents out.old) (W.contents out.new)) }
+    ensures put { OnOk result (HasPut F.placed W.contents options.entry built files out) }
+    ensures refused { IfErr result (HasPutNot F.placed W.contents options.entry built files out) }
 {
     let Built {
         program,
@@ -83,13 +82,11 @@ pub fn build_text<H: Naming + Send, R: Threads + Wait + Sync, F: Files, M: Meter
 
     // The last file that is put holds the text of a program that keeps the meaning of the C program. Where a bundle is asked for it is put
     // before, and nothing else is: `verify` says yes of the text and these two. The report is printed.
-    ensures built { OnOk result (HasBuilt F.Disk.Disk F.Disk.Pair.own H.Naming (F.may_give files.old) options.entry text.now
-        (F.placed files.old) (F.placed files.new) (W.contents out.old) (W.contents out.new)) }
+    ensures built { OnOk result (FarmBuilds ⟦<F as Farm<H>>⟧ W.contents options.entry text.now files out) }
 
     // What is refused puts no program and prints nothing, and a refused text makes no file. Only where the program's file is refused was the
     // bundle put. The output is the last that can be refused.
-    ensures refused { IfErr result (λ fault. IsNotBuilt F.Disk.Disk F.Disk.Pair.own H.Naming (F.may_give files.old) options.entry
-        text.now (F.placed files.old) (F.placed files.new) fault (W.contents out.old) (W.contents out.new)) }
+    ensures refused { IfErr result (FarmBuildsNot ⟦<F as Farm<H>>⟧ W.contents options.entry text.now files out) }
 {
     let (built, lock) = match compiled(rt, alloc, hall, text, options, quorums, files, meter) {
         Ok(made) => made,

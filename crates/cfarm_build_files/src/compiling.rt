@@ -2,8 +2,10 @@
 
 ghost use Rattle.std.specs.Prelude.{◌≡◌, IfOk, IfErr, is_some, length};
 ghost use Rattle.cfarm_files.specs.Locking.{CoversFolder};
-ghost use Rattle.cfarm_build_files.specs.Compiled.{quorums_of, HasCompiled, HasNotCompiled};
+ghost use Rattle.cfarm_build_files.specs.Compiled.{quorums_of};
+ghost use Rattle.cfarm_build_files.specs.Farmed.{FarmCompiles, FarmCompilesNot};
 
+use crate::farm::Farm;
 use cfarm_build::{BuildError, Built, Optimising, Quorums, build_bundled, optimisers_of};
 use cfarm_build_folder::{BuildingError, locked, old_among, open_disks};
 use cfarm_files::Files;
@@ -70,12 +72,10 @@ fn compiled_by<H: Naming + Send, R: Threads + Wait + Sync, F: Files, M: Meter>(
     given: &mut Vec<NodeOffers>,
 ) -> Result<(Built, F::Lock), BuildingError>
     requires { quorums ≡ quorums_of options }
-    ensures built { IfOk result (λ r. HasCompiled F.Disk.Disk F.Disk.Pair.own H.Naming (F.may_give files.old) options.entry text.now
-        (F.placed files.old) (F.placed files.new) r.0) }
+    ensures built { IfOk result (λ r. FarmCompiles ⟦<F as Farm<H>>⟧ options.entry text.now files r.0) }
     ensures asked { IfOk result (λ r. is_some r.0.bundle ≡ is_some options.entry.bundle) }
     ensures locked { IfOk result (λ r. CoversFolder (F.covers r.1) options.entry.folder.now) }
-    ensures refused { IfErr result (HasNotCompiled F.Disk.Disk F.Disk.Pair.own H.Naming (F.may_give files.old) options.entry text.now
-        (F.placed files.old) (F.placed files.new)) }
+    ensures refused { IfErr result (FarmCompilesNot ⟦<F as Farm<H>>⟧ options.entry text.now files) }
 {
     let source = match prepare(alloc, text) {
         Ok(source) => source,
@@ -125,12 +125,10 @@ pub(crate) fn compiled<H: Naming + Send, R: Threads + Wait + Sync, F: Files, M: 
     meter: &mut M,
 ) -> Result<(Built, F::Lock), BuildingError>
     requires { quorums ≡ quorums_of options }
-    ensures built { IfOk result (λ r. HasCompiled F.Disk.Disk F.Disk.Pair.own H.Naming (F.may_give files.old) options.entry text.now
-        (F.placed files.old) (F.placed files.new) r.0) }
+    ensures built { IfOk result (λ r. FarmCompiles ⟦<F as Farm<H>>⟧ options.entry text.now files r.0) }
     ensures asked { IfOk result (λ r. is_some r.0.bundle ≡ is_some options.entry.bundle) }
     ensures locked { IfOk result (λ r. CoversFolder (F.covers r.1) options.entry.folder.now) }
-    ensures refused { IfErr result (HasNotCompiled F.Disk.Disk F.Disk.Pair.own H.Naming (F.may_give files.old) options.entry text.now
-        (F.placed files.old) (F.placed files.new)) }
+    ensures refused { IfErr result (FarmCompilesNot ⟦<F as Farm<H>>⟧ options.entry text.now files) }
 {
     let mut given = Vec::new(alloc);
     let made = compiled_by(

@@ -6,8 +6,10 @@
 mod asking;
 mod building;
 mod compiling;
+mod farm;
 
 pub use asking::quorums_of;
 pub use building::build_text;
 pub use cfarm_build::Quorums;
 pub use cfarm_build_folder::{BuildingError, of_build};
+pub use farm::Farm;

@@ -2,10 +2,10 @@
 
 ghost use Rattle.std.specs.Prelude.{◌≡◌, IfOk, IfErr, IfSome};
 ghost use Rattle.std.specs.String.{string_bytes};
-ghost use Rattle.cfarm_options.specs.Sizes.{count_of};
 ghost use Rattle.cfarm_files.specs.Locking.{CoversFolder};
 ghost use Rattle.cfarm_files.specs.Placing.{GivesNoMore, Makes};
-ghost use Rattle.cfarm_build_folder.specs.Disks.{AreGiven, HasNoDisk, IsJournal, IsRefusedAtEither};
+ghost use Rattle.cfarm_build_folder.specs.Asked.{AreDisksFor, HasNoDiskFor};
+ghost use Rattle.cfarm_build_folder.specs.Disks.{IsJournal, IsRefusedAtEither};
 ghost use Rattle.cfarm_options.specs.Paths.{journal_path, old_journal_path};
 
 use crate::error::BuildingError;
@@ -83,10 +83,8 @@ pub fn open_disks<F: Files>(
     lock: &F::Lock,
 ) -> Result<Vec<F::Disk>, BuildingError>
     requires locked { CoversFolder (F.covers lock.now) options.folder.now }
-    ensures given { IfOk result (λ disks.
-        AreGiven (F.may_give files.old) options.entry.folder.now (count_of options.entry.nodes) disks.items) }
-    ensures refused { IfErr result
-        (HasNoDisk (F.may_give files.old) options.entry.folder.now (count_of options.entry.nodes)) }
+    ensures given { IfOk result (λ disks. AreDisksFor options.entry (F.may_give files.old) disks.items) }
+    ensures refused { IfErr result (HasNoDiskFor options.entry (F.may_give files.old)) }
     ensures made { Makes (F.placed files.old) (F.placed files.new) (IsJournal options.entry.folder.now) }
     ensures others { GivesNoMore (F.may_give files.old) (F.may_give files.new) }
 {

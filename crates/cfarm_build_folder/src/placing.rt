@@ -1,12 +1,13 @@
 //! The linked program in its file, and before it the bundle in the file that is given for it.
 
-ghost use Rattle.std.specs.Prelude.{◌≡◌, OnOk, OnErr, IfErr, is_some, option_copied, option_map};
+ghost use Rattle.std.specs.Prelude.{◌≡◌, OnOk, OnErr, IfErr, is_some, option_copied};
 ghost use Rattle.std.specs.String.{string_bytes};
 ghost use Rattle.cfarm_files.specs.Locking.{CoversFolder};
 ghost use Rattle.cfarm_files.specs.Placing.{Keeps, Places};
 ghost use Rattle.cfarm_options.specs.Paths.{linked_path};
 ghost use Rattle.cfarm_build_folder.specs.Disks.{IsRefusedAt};
-ghost use Rattle.cfarm_build_folder.specs.Putting.{IsUnbundled, PlacesBoth, PlacesBundle, PutsNoProgram};
+ghost use Rattle.cfarm_build_folder.specs.Done.{HasPutBoth, HasPutBundle, HasPutNoProgram};
+ghost use Rattle.cfarm_build_folder.specs.Putting.{IsUnbundled};
 
 use crate::error::BuildingError;
 use cfarm_build_faults::BuildError;
@@ -82,8 +83,7 @@ fn place_given<F: Files>(
     bundle: &Option<Vec<u8>>,
 ) -> Result<(), BuildingError>
     requires made { is_some bundle.now ≡ is_some path }
-    ensures put { OnOk result (PlacesBundle (option_copied path.entry) (option_map (λ b. b.items) bundle.now)
-        (F.placed files.old) (F.placed files.new)) }
+    ensures put { OnOk result (HasPutBundle F.placed files (option_copied path.entry) bundle.now) }
     ensures refused { IfErr result (IsUnbundled (option_copied path.entry)) }
     ensures kept { OnErr result (Keeps (F.placed files.old) (F.placed files.new)) }
 {
@@ -107,10 +107,8 @@ pub fn place_both<F: Files>(
 ) -> Result<(), BuildingError>
     requires locked { CoversFolder (F.covers lock.now) options.folder.now }
     requires made { is_some bundle.now ≡ is_some options.bundle }
-    ensures put { OnOk result (PlacesBoth options.entry (option_map (λ b. b.items) bundle.now)
-        (F.placed files.old) (F.placed files.new) program.now) }
-    ensures refused { IfErr result (PutsNoProgram options.entry (option_map (λ b. b.items) bundle.now)
-        (F.placed files.old) (F.placed files.new)) }
+    ensures put { OnOk result (HasPutBoth F.placed files options.entry bundle.now program.now) }
+    ensures refused { IfErr result (HasPutNoProgram F.placed files options.entry bundle.now) }
 {
     match place_given(alloc, options.bundle, files, bundle) {
         Ok(()) => {}

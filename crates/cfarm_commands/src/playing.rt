@@ -1,9 +1,8 @@
 //! Three nodes of a room, each on a thread.
 
-ghost use Rattle.std.specs.Prelude.{IfOk, IfSome};
-ghost use Rattle.ltl.specs.Function as ltl;
+ghost use Rattle.std.specs.Prelude.{IfOk};
 ghost use Rattle.cfarm_settle_nodes.specs.Goes.{AreSeatsFor};
-ghost use Rattle.cfarm_settle_nodes.specs.Nodes.{AreNodes};
+ghost use Rattle.cfarm_settle_nodes.specs.Nodes.{AreNodes, AreSeatsOf};
 
 use crate::settler::{Settler, seat_of};
 use cfarm_settle_nodes::{list_of_three, open, three_of_list};
@@ -40,8 +39,7 @@ fn begin<'a>(alloc: Global, input: &'a Function) -> Result<Vec<Settler<'a>>, NoM
 
 /// Their seats, if no memory was refused to one of them.
 fn seats_of(all: Vec<Settler<'_>>) -> Option<Seats>
-    ensures { (f : ltl.FunctionData) → AreNodes (λ s. s.node.seat) (λ s. s.node.input.now) f all.entry.items
-        → IfSome result (AreSeatsFor f) }
+    ensures { AreSeatsOf (λ s. s.node.seat) (λ s. s.node.input.now) all.entry.items result }
 {
     let Some((first, second, third)) = three_of_list(all) else {
         return None;

@@ -1,3 +1,4 @@
 pub mod Asked
 pub mod Looking
 pub mod Reading
+pub mod Saying

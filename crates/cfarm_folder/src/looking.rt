@@ -2,10 +2,10 @@
 
 ghost use Rattle.std.specs.Prelude.{◌≡◌, ◌≤◌, length};
 ghost use Rattle.std.specs.Arc.{arc_value};
-ghost use Rattle.cfarm_folder.specs.Looking.{Found, Looked, OfFiles, OfLocked, build_fault, fsck_fault, unread_fault};
+ghost use Rattle.cfarm_folder.specs.Looking.{Found, OfFiles, OfLocked, build_fault, fsck_fault, unread_fault};
+ghost use Rattle.cfarm_folder.specs.Saying.{LookedOver, Tells};
 ghost use Rattle.cfarm_files.specs.Locking.{lock_path};
 ghost use Rattle.cfarm_files.specs.Placing.{Makes};
-ghost use Rattle.cfarm_telling.specs.Reading.{Says};
 ghost use Rattle.cfarm_telling.specs.Telling.{IsTold};
 
 use crate::reading::read_files;
@@ -69,8 +69,7 @@ fn tell_found<H: Naming, R: Threads + Wait + Sync, W: Write, E: ErrorLines>(
 ) -> u8
     requires size { length found.now ≡ quorums.nodes }
     requires functions { length (arc_value source.now.translated).functions ≤ 64 }
-    ensures does { Says W.contents E.contents (Found quorums source.now found.now)
-        result out.old out.new err.old err.new }
+    ensures does { Tells W.contents E.contents (Found quorums source.now found.now) result out err }
     ensures table { result ≤ 7 }
 {
     let begun = &*source.translated;
@@ -93,8 +92,7 @@ fn tell_files<H: Naming, R: Threads + Wait + Sync, F: Files, W: Write, E: ErrorL
     err: &mut E,
 ) -> u8
     requires functions { length (arc_value source.now.translated).functions ≤ 64 }
-    ensures does { Says W.contents E.contents (OfFiles (F.known files.now) folder.now quorums source.now)
-        result out.old out.new err.old err.new }
+    ensures does { Tells W.contents E.contents (OfFiles (F.known files.now) folder.now quorums source.now) result out err }
     ensures table { result ≤ 7 }
 {
     match read_files(alloc, folder, usize::from(quorums.nodes()), files) {
@@ -116,8 +114,7 @@ fn tell_locked<H: Naming, R: Threads + Wait + Sync, F: Files, W: Write, E: Error
     err: &mut E,
 ) -> u8
     requires functions { length (arc_value source.now.translated).functions ≤ 64 }
-    ensures does { Says W.contents E.contents (OfLocked (F.known files.new) folder.now quorums source.now)
-        result out.old out.new err.old err.new }
+    ensures does { Tells W.contents E.contents (OfLocked (F.known files.new) folder.now quorums source.now) result out err }
     ensures made { Makes (F.placed files.old) (F.placed files.new) (λ path. path ≡ lock_path folder.now) }
     ensures table { result ≤ 7 }
 {
@@ -145,8 +142,7 @@ pub fn look_through<H: Naming, R: Threads + Wait + Sync, F: Files, W: Write, E: 
     out: &mut Paced<W>,
     err: &mut E,
 ) -> u8
-    ensures does { Says W.contents E.contents (Looked (F.known files.new) (F.placed files.old) (F.placed files.new) folder.now quorums text.now)
-        result out.old out.new err.old err.new }
+    ensures does { Tells W.contents E.contents (LookedOver F.Files files folder.now quorums text.now) result out err }
     ensures table { result ≤ 7 }
 {
     match prepare(alloc, text) {

@@ -1,10 +1,10 @@
 //! Commands over the bytes of one file, with what each tells.
 
 ghost use Rattle.std.specs.Prelude.{◌≤◌};
-ghost use Rattle.cfarm_telling.specs.Telling.{Answer, IsExplained, IsTold};
-ghost use Rattle.cfarm_outcomes.specs.Explained.{is_explained};
-ghost use Rattle.cfarm_outcomes.specs.Outcomes.{Checked, Executed, Interpreted, Settled, checked_fault, text_fault};
-ghost use Rattle.cfarm_command_parts.specs.declared.task.Task.TheVariants.{Check};
+ghost use Rattle.cfarm_telling.specs.Reading.{Says};
+ghost use Rattle.cfarm_telling.specs.Telling.{IsExplained};
+ghost use Rattle.cfarm_outcomes.specs.Outcomes.{Executed, Interpreted, Settled, text_fault};
+ghost use Rattle.cfarm_outcomes.specs.Saying.{Checks, Explains, IsFaultTold};
 
 use cfarm_command_parts::Format;
 use cfarm_commands::settle;
@@ -47,8 +47,7 @@ fn tell_checked<E: ErrorLines>(
     fault: CommandError,
     err: &mut E,
 ) -> u8
-    ensures told { IsExplained (is_explained is_seen (Check format)) (checked_fault format path.now text.now fault) result
-        (E.contents err.old) (E.contents err.new) }
+    ensures told { IsFaultTold is_seen format path.now text.now fault result (E.contents err.old) (E.contents err.new) }
     ensures table { result ≤ 7 }
 {
     match format {
@@ -74,8 +73,7 @@ pub fn check<W: Write, E: ErrorLines>(
     out: &mut Paced<W>,
     err: &mut E,
 ) -> u8
-    ensures does { (answer : Answer) × Checked format path.now text.now answer (W.contents out.old.taker) (W.contents out.new.taker)
-        × IsExplained (is_explained is_seen (Check format)) answer result (E.contents err.old) (E.contents err.new) }
+    ensures does { Checks W.contents E.contents is_seen format path.now text.now result out err }
     ensures table { result ≤ 7 }
 {
     match check_text(alloc, text, out) {
@@ -95,8 +93,7 @@ pub fn run_text<W: Write, E: ErrorLines>(
     out: &mut Paced<W>,
     err: &mut E,
 ) -> u8
-    ensures does { (answer : Answer) × Interpreted text.now depth answer (W.contents out.old.taker) (W.contents out.new.taker)
-        × IsExplained is_seen answer result (E.contents err.old) (E.contents err.new) }
+    ensures does { Explains W.contents E.contents is_seen (Interpreted text.now depth) result out err }
     ensures table { result ≤ 7 }
 {
     match interpret(alloc, text, depth, out) {
@@ -120,8 +117,7 @@ pub fn run_bytes<W: Write, E: ErrorLines>(
     out: &mut Paced<W>,
     err: &mut E,
 ) -> u8
-    ensures does { (answer : Answer) × Executed bytes.now limit expected answer (W.contents out.old.taker) (W.contents out.new.taker)
-        × IsExplained is_seen answer result (E.contents err.old) (E.contents err.new) }
+    ensures does { Explains W.contents E.contents is_seen (Executed bytes.now limit expected) result out err }
     ensures table { result ≤ 7 }
 {
     match exec(alloc, bytes, limit, out) {
@@ -149,8 +145,7 @@ pub fn lay_out<R: Threads + Wait, W: Write, E: ErrorLines>(
     out: &mut Paced<W>,
     err: &mut E,
 ) -> u8
-    ensures does { (answer : Answer) × Settled bytes.now answer (W.contents out.old.taker) (W.contents out.new.taker)
-        × IsTold answer result (E.contents err.old) (E.contents err.new) }
+    ensures does { Says W.contents E.contents (Settled bytes.now) result out.old out.new err.old err.new }
     ensures table { result ≤ 7 }
 {
     match settle(rt, alloc, bytes, out) {

@@ -1,7 +1,7 @@
 //! `sim`: a schedule, shown as is asked for.
 
 ghost use Rattle.std.specs.Prelude.{◌≤◌};
-ghost use Rattle.cfarm_telling.specs.Telling.{Answer, IsTold};
+ghost use Rattle.cfarm_telling.specs.Reading.{Says};
 ghost use Rattle.cfarm_outcomes.specs.Outcomes.{Drawn, Lined, Simulated};
 
 use cfarm_command_parts::Showing;
@@ -19,8 +19,7 @@ fn lines<W: Write, E: ErrorLines>(
     out: &mut Paced<W>,
     err: &mut E,
 ) -> u8
-    ensures does { (answer : Answer) × Lined schedule.now answer (W.contents out.old.taker) (W.contents out.new.taker)
-        × IsTold answer result (E.contents err.old) (E.contents err.new) }
+    ensures does { Says W.contents E.contents (Lined schedule.now) result out.old out.new err.old err.new }
     ensures table { result ≤ 7 }
 {
     match simulate(alloc, schedule, out) {
@@ -36,8 +35,7 @@ fn picture<W: Write, E: ErrorLines>(
     out: &mut Paced<W>,
     err: &mut E,
 ) -> u8
-    ensures does { (answer : Answer) × Drawn schedule.now answer (W.contents out.old.taker) (W.contents out.new.taker)
-        × IsTold answer result (E.contents err.old) (E.contents err.new) }
+    ensures does { Says W.contents E.contents (Drawn schedule.now) result out.old out.new err.old err.new }
     ensures table { result ≤ 7 }
 {
     match draw(alloc, schedule, out) {
@@ -54,8 +52,7 @@ pub fn play<W: Write, E: ErrorLines>(
     out: &mut Paced<W>,
     err: &mut E,
 ) -> u8
-    ensures does { (answer : Answer) × Simulated showing schedule.now answer (W.contents out.old.taker) (W.contents out.new.taker)
-        × IsTold answer result (E.contents err.old) (E.contents err.new) }
+    ensures does { Says W.contents E.contents (Simulated showing schedule.now) result out.old out.new err.old err.new }
     ensures table { result ≤ 7 }
 {
     match showing {

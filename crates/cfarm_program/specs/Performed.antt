@@ -1,81 +1,106 @@
 -- What the program does that is asked for, with what its file is read as.
-use Rattle.std.specs.Prelude.{◌≡◌, ◌⊎◌, ℕ, List, Bool, Option, Result, Ok, Err}
-use Rattle.durable_model.specs.declared.disk.Disk as disks
-use Rattle.durable_pair.specs.declared.pair.Pair as pairs
-use Rattle.rooms_hall.specs.declared.hall.Naming as naming
-use Rattle.cfarm_output.specs.Errors.{ErrorsHeld}
-use Rattle.cfarm_files.specs.Placing.{Placed, Keeps}
+use Rattle.std.specs.Prelude.{◌≡◌, ◌⊎◌, ℕ, List, Bool, Option, Ok, Err}
+use Rattle.std.specs.declared.io.traits.Write as writing
+use Rattle.cfarm_output.specs.declared.errors.ErrorLines as lines
+use Rattle.cfarm_output.specs.declared.paced.Paced.{Paced}
+use Rattle.cfarm_files.specs.Placing.{Keeps}
 use Rattle.cfarm_files.specs.Reading.{IsKnownAs}
 use Rattle.cfarm_files.specs.declared.fault.FileFault.{FileFault}
+use Rattle.cfarm_files.specs.declared.files.Files as filing
+use Rattle.cfarm_build_files.specs.Changed.{Changed}
+use Rattle.cfarm_build_files.specs.declared.farm.Farm as farms
 use Rattle.cfarm_options.specs.Sizes.{sizes_line}
 use Rattle.cfarm_options.specs.declared.options.AskedSizes.{AskedSizes}
+use Rattle.cfarm_options.specs.declared.options.BuildOptions.{BuildOptions}
+use Rattle.cfarm_command_parts.specs.declared.task.FsckOptions.{FsckOptions}
 use Rattle.cfarm_command_parts.specs.declared.task.Task.{Task}
 use Rattle.cfarm_command_parts.specs.declared.task.Task.TheVariants.{Check, Interpret, Build, Exec, Settle, Simulate, Show, Verify, Emit, Judge, Fsck}
 use Rattle.cfarm_command_parts.specs.declared.task.Task.TheVariants as task
-use Rattle.cfarm_telling.specs.Reading.{unread}
-use Rattle.cfarm_telling.specs.Telling.{Answer, IsExplained, IsTold, told}
+use Rattle.cfarm_telling.specs.Reading.{Coming, unread}
+use Rattle.cfarm_telling.specs.Telling.{Answer, IsTold, told}
 use Rattle.cfarm_looking.specs.Showing.{Texted}
 use Rattle.cfarm_looking.specs.Listing.{Listed}
 use Rattle.cfarm_looking.specs.Verifying.{Verified}
 use Rattle.cfarm_looking.specs.Emitting.{Formed}
 use Rattle.cfarm_looking.specs.Judging.{Judged}
 use Rattle.cfarm_folder.specs.Asked.{asked_quorums}
-use Rattle.cfarm_folder.specs.Looking.{Looked}
+use Rattle.cfarm_folder.specs.Saying.{LookedOver, Tells}
 use Rattle.cfarm_program.specs.Met.{AreMet, IsUnmet}
 use Rattle.cfarm_outcomes.specs.Explained.{is_explained}
 use Rattle.cfarm_outcomes.specs.Outcomes.{Checked, Executed, Interpreted, Settled, Simulated}
-use Rattle.cfarm_program.specs.Built.{Builds}
+use Rattle.cfarm_outcomes.specs.Saying.{Explains}
+use Rattle.cfarm_program.specs.Built.{Builds, BuildsApart}
 
 -- the answer where quorums of these sizes need not meet
 abbrev pub unmet : AskedSizes → Answer
 unmet sizes = told 2 (sizes_line sizes)
 
--- What is said of a run: over these disks and rooms, with the disks that may be given for each path, what each file is known to be read as
--- before and now, and what was put before and now.
-module _ {D : Type 0} (disk : disks.Ghosts D) (pair : pairs.Ghosts D) {H : Type 0} (h : naming.Ghosts H) (may_give : List ℕ → List ℕ → D → Type 0)
-    (known now_known : List ℕ → Option (Result (List ℕ) FileFault)) (placed now_placed : Option (List Placed)) (is_seen : Bool) where
+-- `fsck` with these options over these files
+abbrev pub LookedAt : {F D L : Type 0} → filing.Ghosts F D L → Changed F → FsckOptions → (bytes : List ℕ) → Coming
+LookedAt over files options bytes = LookedOver over files options.folder.now (asked_quorums options.sizes) bytes
+
+-- it came to that, which is told
+abbrev pub Looks : {F D L W E : Type 0} → filing.Ghosts F D L → writing.Ghosts W → lines.Ghosts E → FsckOptions → (bytes : List ℕ) → ℕ →
+    Changed F → Changed (Paced W) → Changed E → Type 0
+Looks over output errors options bytes status files out err = Tells output.contents errors.contents (LookedAt over files options bytes) status out err
+
+-- What is said of a run: over this farm, with the files as they were found and as they are left.
+module _ {F H D L : Type 0} (farm : farms.Ghosts F H D L) (files : Changed F) where
+  -- no file was put
+  abbrev pub KeepsFiles : Type 0
+  KeepsFiles = Keeps (farm.files.placed files.entry.now) (farm.files.placed files.exit.now)
+
   -- a task on the bytes of its file, with what it wrote and answers; a build alone puts a file, and `fsck`
   -- makes that of its folder's lock, behind which it reads
-  abbrev pub Comes : Task → (path bytes : List ℕ) → Answer → Option (List ℕ) → Option (List ℕ) → Type 0
-  Comes (Check format) path bytes answer before after = Keeps placed now_placed × Checked format path bytes answer before after
-  Comes (Interpret depth) path bytes answer before after = Keeps placed now_placed × Interpreted bytes depth answer before after
-  Comes (Build options) path bytes answer before after = Builds disk pair h may_give placed now_placed options path bytes answer before after
-  Comes (Exec limit expected) path bytes answer before after = Keeps placed now_placed × Executed bytes limit expected answer before after
-  Comes Settle path bytes answer before after = Keeps placed now_placed × Settled bytes answer before after
-  Comes (Simulate showing) path bytes answer before after = Keeps placed now_placed × Simulated showing bytes answer before after
-  Comes Show path bytes answer before after = Keeps placed now_placed × Texted bytes answer before after
-  Comes task.List path bytes answer before after = Keeps placed now_placed × Listed bytes answer before after
+  abbrev pub Comes : Task → (path bytes : List ℕ) → Coming
+  Comes (Check format) path bytes answer before after = KeepsFiles × Checked format path bytes answer before after
+  Comes (Interpret depth) path bytes answer before after = KeepsFiles × Interpreted bytes depth answer before after
+  Comes (Build options) path bytes answer before after = Builds farm files options path bytes answer before after
+  Comes (Exec limit expected) path bytes answer before after = KeepsFiles × Executed bytes limit expected answer before after
+  Comes Settle path bytes answer before after = KeepsFiles × Settled bytes answer before after
+  Comes (Simulate showing) path bytes answer before after = KeepsFiles × Simulated showing bytes answer before after
+  Comes Show path bytes answer before after = KeepsFiles × Texted bytes answer before after
+  Comes task.List path bytes answer before after = KeepsFiles × Listed bytes answer before after
   Comes (Verify paths) path bytes answer before after =
-      Keeps placed now_placed × Verified known paths.program.now paths.bundle.now bytes answer before after
-  Comes (Emit emitted seed) path bytes answer before after = Keeps placed now_placed × Formed bytes emitted seed answer before after
+      KeepsFiles × Verified (farm.files.known files.entry.now) paths.program.now paths.bundle.now bytes answer before after
+  Comes (Emit emitted seed) path bytes answer before after = KeepsFiles × Formed bytes emitted seed answer before after
   Comes (Judge offer) path bytes answer before after =
-      Keeps placed now_placed × Judged known offer.function.now offer.path.now bytes answer before after
-  Comes (Fsck options) path bytes answer before after =
-      Looked now_known placed now_placed options.folder.now (asked_quorums options.sizes) bytes answer before after
+      KeepsFiles × Judged (farm.files.known files.entry.now) offer.function.now offer.path.now bytes answer before after
+  Comes (Fsck options) path bytes answer before after = LookedAt farm.files files options bytes answer before after
 
-  -- a task that was done: its status, and what both writers held and hold
-  abbrev pub Performs : Task → (path bytes : List ℕ) → ℕ → (before after : Option (List ℕ)) (error_before error_after : ErrorsHeld) → Type 0
-  Performs task path bytes status before after error_before error_after =
-      (answer : Answer) × Comes task path bytes answer before after × IsExplained (is_explained is_seen task) answer status error_before error_after
+-- With an output and lines for a user, who sees them or not.
+module _ {F H D L W E : Type 0} (farm : farms.Ghosts F H D L) (output : writing.Ghosts W) (errors : lines.Ghosts E) (is_seen : Bool) where
+  -- the text of the file of this path was built, or not, with nothing in the way of the bundle
+  abbrev pub BuiltApart : BuildOptions → (bytes : List ℕ) → ℕ → Changed F → Changed (Paced W) → Changed E → Type 0
+  BuiltApart options bytes status files out err = Explains output.contents errors.contents is_seen (BuildsApart farm files options bytes) status out err
 
-  -- a file that was read, or was not, and then nothing is put and nothing printed
-  abbrev pub DoesRead : Task → List ℕ → Result (List ℕ) FileFault → ℕ → (before after : Option (List ℕ)) (error_before error_after : ErrorsHeld) → Type 0
-  DoesRead task path (Ok bytes) status before after error_before error_after = Performs task path bytes status before after error_before error_after
-  DoesRead task path (Err fault) status before after error_before error_after =
-      Keeps placed now_placed × (after ≡ before) × IsTold (unread path fault) status error_before error_after
+  -- the same, or the bundle was refused
+  abbrev pub Built : BuildOptions → (path bytes : List ℕ) → ℕ → Changed F → Changed (Paced W) → Changed E → Type 0
+  Built options path bytes status files out err =
+      Explains output.contents errors.contents is_seen (Builds farm files options path bytes) status out err
 
-  -- the file is read as it is known to be, and the task done
-  abbrev pub Reads : Task → List ℕ → ℕ → (before after : Option (List ℕ)) (error_before error_after : ErrorsHeld) → Type 0
-  Reads task path status before after error_before error_after =
-      (read : Result (List ℕ) FileFault) × IsKnownAs (known path) read × DoesRead task path read status before after error_before error_after
+  -- a task that was done: its status, and what the files and both writers were and are
+  abbrev pub Does : Task → (path bytes : List ℕ) → ℕ → Changed F → Changed (Paced W) → Changed E → Type 0
+  Does task path bytes status files out err =
+      Explains output.contents errors.contents (is_explained is_seen task) (Comes farm files task path bytes) status out err
 
-  -- a task whose quorums need not meet: their sizes are told, no file is read or put, and nothing printed
-  abbrev pub Declines : Task → ℕ → (before after : Option (List ℕ)) (error_before error_after : ErrorsHeld) → Type 0
-  Declines task status before after error_before error_after =
-      (sizes : AskedSizes) × IsUnmet task sizes × Keeps placed now_placed × (after ≡ before) × IsTold (unmet sizes) status error_before error_after
+  -- nothing is put and nothing printed, and this is told
+  abbrev pub TellsAlone : Answer → ℕ → Changed F → Changed (Paced W) → Changed E → Type 0
+  TellsAlone answer status files out err =
+      KeepsFiles farm files × (output.contents out.exit.now.taker ≡ output.contents out.entry.now.taker)
+      × IsTold answer status (errors.contents err.entry.now) (errors.contents err.exit.now)
+
+  -- the file is read as it is known to be, and the task done; or it is not read, which is told
+  abbrev pub Reads : Task → (path : List ℕ) → ℕ → Changed F → Changed (Paced W) → Changed E → Type 0
+  Reads task path status files out err =
+      ((bytes : List ℕ) × IsKnownAs (farm.files.known files.entry.now path) (Ok bytes) × Does task path bytes status files out err)
+      ⊎ ((fault : FileFault) × IsKnownAs (farm.files.known files.entry.now path) (Err fault) × TellsAlone (unread path fault) status files out err)
+
+  -- a task whose quorums need not meet: their sizes are told, and no file is read
+  abbrev pub Declines : Task → ℕ → Changed F → Changed (Paced W) → Changed E → Type 0
+  Declines task status files out err = (sizes : AskedSizes) × IsUnmet task sizes × TellsAlone (unmet sizes) status files out err
 
   -- that comes first, and then the file
-  abbrev pub Does : Task → List ℕ → ℕ → (before after : Option (List ℕ)) (error_before error_after : ErrorsHeld) → Type 0
-  Does task path status before after error_before error_after =
-      Declines task status before after error_before error_after
-      ⊎ (AreMet task × Reads task path status before after error_before error_after)
+  abbrev pub RunsTask : Task → (path : List ℕ) → ℕ → Changed F → Changed (Paced W) → Changed E → Type 0
+  RunsTask task path status files out err =
+      Declines task status files out err ⊎ (AreMet task × Reads task path status files out err)

@@ -4,14 +4,11 @@ ghost use Rattle.std.specs.Prelude.{◌≡◌, ◌≤◌, false, true, IfSome, I
 ghost use Rattle.cfarm_build_files.specs.Compiled.{quorums_of};
 ghost use Rattle.cfarm_build_files.specs.Quorum.{AreQuorums};
 ghost use Rattle.cfarm_folder.specs.Asked.{asked_quorums};
-ghost use Rattle.cfarm_folder.specs.Looking.{Looked};
 ghost use Rattle.cfarm_options.specs.Names.{is_given_taken, is_taken};
 ghost use Rattle.cfarm_program.specs.Met.{AreMet};
-ghost use Rattle.cfarm_telling.specs.Telling.{Answer, IsExplained, IsTold};
-ghost use Rattle.cfarm_program.specs.Built.{Builds, BuildsApart};
-ghost use Rattle.cfarm_program.specs.Performed.{Performs};
+ghost use Rattle.cfarm_program.specs.Performed.{Built, BuiltApart, Does, Looks};
 
-use cfarm_build_files::{build_text, of_build, quorums_of};
+use cfarm_build_files::{Farm, build_text, of_build, quorums_of};
 use cfarm_command_line::{FsckOptions, Task};
 use cfarm_files::{FileFault, Files};
 use cfarm_folder::{asked_quorums, look_through};
@@ -50,9 +47,7 @@ fn build_apart<
     err: &mut E,
 ) -> u8
     requires met { AreQuorums (quorums_of options) }
-    ensures does { (answer : Answer) × BuildsApart F.Disk.Disk F.Disk.Pair.own H.Naming (F.may_give files.old) (F.placed files.old)
-        (F.placed files.new) options.entry text.now answer (W.contents out.old.taker) (W.contents out.new.taker)
-        × IsExplained is_seen answer result (E.contents err.old) (E.contents err.new) }
+    ensures does { BuiltApart ⟦<F as Farm<H>>⟧ W.Write E.ErrorLines is_seen options.entry text.now result files out err }
     ensures table { result ≤ 7 }
 {
     let Some(quorums) = quorums_of(options) else {
@@ -92,7 +87,7 @@ fn build<H: Naming + Send, R: Threads + Wait + Sync, F: Files, M: Meter, W: Writ
     alloc: Global,
     hall: &Hall<H>,
     is_seen: bool,
-    options: BuildOptions<'_>,
+    asked: BuildOptions<'_>,
     path: &str,
     text: &[u8],
     files: &mut F,
@@ -100,16 +95,14 @@ fn build<H: Naming + Send, R: Threads + Wait + Sync, F: Files, M: Meter, W: Writ
     out: &mut Paced<W>,
     err: &mut E,
 ) -> u8
-    requires met { AreQuorums (quorums_of options) }
-    ensures does { (answer : Answer) × Builds F.Disk.Disk F.Disk.Pair.own H.Naming (F.may_give files.old) (F.placed files.old)
-        (F.placed files.new) options.entry path.now text.now answer (W.contents out.old.taker) (W.contents out.new.taker)
-        × IsExplained is_seen answer result (E.contents err.old) (E.contents err.new) }
+    requires met { AreQuorums (quorums_of asked) }
+    ensures does { Built ⟦<F as Farm<H>>⟧ W.Write E.ErrorLines is_seen asked.entry path.now text.now result files out err }
     ensures table { result ≤ 7 }
 {
-    match taken_bundle(path, options) {
+    match taken_bundle(path, asked) {
         Some(bundle) => tell_unread(err, bundle, FileFault::Refused),
         None => build_apart(
-            rt, alloc, hall, is_seen, options, path, text, files, meter, out, err,
+            rt, alloc, hall, is_seen, asked, path, text, files, meter, out, err,
         ),
     }
 }
@@ -125,9 +118,7 @@ fn look<H: Naming, R: Threads + Wait + Sync, F: Files, W: Write, E: ErrorLines>(
     err: &mut E,
 ) -> u8
     requires met { AreQuorums (asked_quorums options.sizes) }
-    ensures does { (answer : Answer) × Looked (F.known files.new) (F.placed files.old) (F.placed files.new) options.entry.folder.now
-        (asked_quorums options.entry.sizes) text.now answer (W.contents out.old.taker) (W.contents out.new.taker)
-        × IsTold answer result (E.contents err.old) (E.contents err.new) }
+    ensures does { Looks F.Files W.Write E.ErrorLines options.entry text.now result files out err }
     ensures table { result ≤ 7 }
 {
     let Some(quorums) = asked_quorums(options.sizes) else {
@@ -169,8 +160,7 @@ pub(crate) fn perform<
     err: &mut E,
 ) -> u8
     requires met { AreMet task }
-    ensures does { Performs F.Disk.Disk F.Disk.Pair.own H.Naming (F.may_give files.old) (F.known files.old) (F.known files.new)
-        (F.placed files.old) (F.placed files.new) is_seen task.entry path.now bytes.now result (W.contents out.old.taker) (W.contents out.new.taker) (E.contents err.old) (E.contents err.new) }
+    ensures does { Does ⟦<F as Farm<H>>⟧ W.Write E.ErrorLines is_seen task.entry path.now bytes.now result files out err }
     ensures table { result ≤ 7 }
 {
     match task {

@@ -1,13 +1,12 @@
 //! The whole program.
 
-ghost use Rattle.std.specs.Prelude.{◌≤◌, map, string_bytes};
+ghost use Rattle.std.specs.Prelude.{◌≤◌};
 ghost use Rattle.clap.specs.Words.{kind_of};
 ghost use Rattle.cfarm_telling.specs.Telling.{IsTold};
 ghost use Rattle.cfarm_program.specs.Runs.{IsHelp, IsHelped, IsMistake, Runs, TellsMemory, TellsMistake, no_text};
-ghost use Rattle.cfarm_command_parts.specs.Words.{AreChoices};
-ghost use Rattle.cfarm_command_parts.specs.declared.choices.Choices.{Choices};
 
 use crate::running::run_task;
+use cfarm_build_files::Farm;
 use cfarm_command_line::{asked_for, offered};
 use cfarm_files::Files;
 use cfarm_meter::Meter;
@@ -74,9 +73,7 @@ pub fn run<H: Naming + Send, R: Threads + Wait + Sync, F: Files, M: Meter, W: Wr
     out: &mut Paced<W>,
     err: &mut E,
 ) -> u8
-    ensures does { (choices : Choices) × AreChoices choices × Runs F.Disk.Disk F.Disk.Pair.own H.Naming (F.may_give files.old)
-        (F.placed files.old) (F.placed files.new) is_seen choices (map string_bytes words.now) (F.known files.old)
-        (F.known files.new) result (W.contents out.old.taker) (W.contents out.new.taker) (E.contents err.old) (E.contents err.new) }
+    ensures does { Runs ⟦<F as Farm<H>>⟧ W.Write E.ErrorLines is_seen words.now result files out err }
     ensures table { result ≤ 7 }
 {
     let choices = offered();

@@ -2,10 +2,10 @@
 
 ghost use Rattle.std.specs.Prelude.{◌≤◌, IfSome, IsNone};
 ghost use Rattle.cfarm_program.specs.Met.{AreMet, IsUnmet};
-ghost use Rattle.cfarm_program.specs.Performed.{Does, Reads};
+ghost use Rattle.cfarm_program.specs.Performed.{Reads, RunsTask};
 
 use crate::performing::perform;
-use cfarm_build_files::quorums_of;
+use cfarm_build_files::{Farm, quorums_of};
 use cfarm_command_line::Task;
 use cfarm_files::Files;
 use cfarm_folder::asked_quorums;
@@ -62,9 +62,7 @@ fn read_and_perform<
     err: &mut E,
 ) -> u8
     requires met { AreMet task }
-    ensures does { Reads F.Disk.Disk F.Disk.Pair.own H.Naming (F.may_give files.old) (F.known files.old) (F.known files.new)
-        (F.placed files.old) (F.placed files.new) is_seen task.entry path.now result (W.contents out.old.taker) (W.contents out.new.taker)
-        (E.contents err.old) (E.contents err.new) }
+    ensures does { Reads ⟦<F as Farm<H>>⟧ W.Write E.ErrorLines is_seen task.entry path.now result files out err }
     ensures table { result ≤ 7 }
 {
     match files.read(path) {
@@ -96,9 +94,7 @@ pub(crate) fn run_task<
     out: &mut Paced<W>,
     err: &mut E,
 ) -> u8
-    ensures does { Does F.Disk.Disk F.Disk.Pair.own H.Naming (F.may_give files.old) (F.known files.old) (F.known files.new)
-        (F.placed files.old) (F.placed files.new) is_seen task.entry path.now result (W.contents out.old.taker) (W.contents out.new.taker)
-        (E.contents err.old) (E.contents err.new) }
+    ensures does { RunsTask ⟦<F as Farm<H>>⟧ W.Write E.ErrorLines is_seen task.entry path.now result files out err }
     ensures table { result ≤ 7 }
 {
     match unmet(task) {

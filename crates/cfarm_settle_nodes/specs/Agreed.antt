@@ -1,6 +1,8 @@
 -- What three nodes of a room have agreed on, whatever the pass is that the room's offers are of.
 use Rattle.std.specs.Prelude.{◌≡◌, ℕ, zero, suc, List, Option, Some, Result, IfOk, IfSome}
+use Rattle.std.specs.Borrow.{MutBor}
 use Rattle.std.specs.Global.{Vec}
+use denote.Triple.Both.{Both}
 use Rattle.lang_base.specs.Keeps.{Keeps}
 use Rattle.lang_base.specs.declared.language.Language as language
 use Rattle.lang_base.specs.declared.pass.Pass as pass
@@ -8,7 +10,7 @@ use Rattle.lang_base.specs.declared.program.Global.{Global}
 use Rattle.offers.specs.declared.parts.Parts.{Parts}
 use Rattle.offers.specs.OneFunction.{program_of_one}
 use Rattle.rooms.specs.SeatValue.{SeatValue, offer_of}
-use Rattle.cfarm_settle_nodes.specs.Goes.{AreThree}
+use Rattle.cfarm_settle_nodes.specs.Goes.{AllOfferFor, AreThree}
 use Rattle.cfarm_settle_nodes.specs.Learned.{IsLearnedByAll}
 
 -- the bytes that were found, if any were, are such
@@ -56,3 +58,11 @@ module _ {P A B C I O : Type 0} (from : language.Ghosts A I) (to : language.Ghos
     pub offered : offer.input ≡ input
     pub agreed : HaveAgreed node offer first second third
     pub code : IsCode offer bytes
+
+  -- Where the nodes of three seats offered for an input, the bytes that were found, if any were, are those that they have agreed on for it:
+  -- of each seat it is said as it was and as it is.
+  abbrev pub HaveFound : {E : Type 0} → (first second third : Both (MutBor (SeatValue (Parts I O C))) (MutBor (SeatValue (Parts I O C)))) →
+      Result (Option (Vec ℕ)) E → Type 0
+  HaveFound first second third result =
+      (input : I) → AllOfferFor input first.entry.now second.entry.now third.entry.now
+      → IsFoundAs (IsAgreed input first.exit.now second.exit.now third.exit.now) result

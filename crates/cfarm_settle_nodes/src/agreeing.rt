@@ -1,7 +1,7 @@
 //! The code that three nodes agree on.
 
-ghost use Rattle.cfarm_settle_nodes.specs.Agreed.{IsAgreed, IsCodeOf, IsFoundAs, IsOwnCode};
-ghost use Rattle.cfarm_settle_nodes.specs.Goes.{AllOfferFor, AreThree, SeesNoMore};
+ghost use Rattle.cfarm_settle_nodes.specs.Agreed.{HaveFound, IsCodeOf, IsFoundAs, IsOwnCode};
+ghost use Rattle.cfarm_settle_nodes.specs.Goes.{AreThree, SeesNoMore};
 
 use crate::meeting::agreed;
 use lang_base::{Language, NoMemory, Pass};
@@ -50,8 +50,7 @@ pub fn code_agreed<P: Pass>(
 ) -> Result<Option<Vec<u8>>, NoMemory>
     requires { AreThree first.old second.old third.old }
     // Of these seats that have met it is said, whose nodes offer for this input.
-    ensures agreed { (f : P.In.Fun) → AllOfferFor f first.old second.old third.old →
-        IsFoundAs (IsAgreed P.In.Language P.Out.Language P.Pass f first.new second.new third.new) result }
+    ensures agreed { HaveFound P.In.Language P.Out.Language P.Pass first second third result }
     ensures stay { SeesNoMore first.old first.new × SeesNoMore second.old second.new × SeesNoMore third.old third.new }
 {
     let Some(node) = agreed(first, second, third) else {

@@ -3,6 +3,7 @@
 ghost use Rattle.std.specs.Prelude.{◌≡◌, [], ◌∷◌, None, IfOk, IfSome};
 ghost use Rattle.paxos_core_world.specs.Quorum.{majority_sizes};
 ghost use Rattle.cfarm_settle_nodes.specs.Goes.{AllOfferFor, AreSeatsFor, AreThree};
+ghost use Rattle.cfarm_settle_nodes.specs.Nodes.{AreAll};
 
 use crate::settle_node::SettleNode;
 use lang_base::{Language, NoMemory, Oracle, Pass};
@@ -69,7 +70,7 @@ pub fn open<'a, O: Oracle + Drop>(
     input: &'a <<O::P as Pass>::In as Language>::Fun,
 ) -> Result<(SettleNode<'a, O>, SettleNode<'a, O>, SettleNode<'a, O>), NoMemory>
     ensures seats { IfOk result (λ n. AreSeatsFor input.now (n.0.seat, n.1.seat, n.2.seat)) }
-    ensures inputs { IfOk result (λ n. (n.0.input.now ≡ input.now) × (n.1.input.now ≡ input.now) × (n.2.input.now ≡ input.now)) }
+    ensures inputs { IfOk result (λ n. AreAll input.now (n.0.input.now, n.1.input.now, n.2.input.now)) }
 {
     let seats = seats::<O::P>(alloc)?;
     Ok((

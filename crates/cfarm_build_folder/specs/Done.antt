@@ -1,0 +1,25 @@
+-- What a call has put of a build, by what is known of the files as it finds them and as it leaves them.
+use Rattle.std.specs.Prelude.{ℕ, List, Option, option_map}
+use Rattle.std.specs.Global.{Vec}
+use Rattle.cfarm_files.specs.Placing.{Placed}
+use Rattle.cfarm_options.specs.declared.options.BuildOptions.{BuildOptions}
+use Rattle.cfarm_build_folder.specs.Changed.{Changed}
+use Rattle.cfarm_build_folder.specs.Putting.{PlacesBoth, PlacesBundle, PutsNoProgram}
+use Rattle.cfarm_build_folder.specs.declared.error.BuildingError.{BuildingError}
+
+-- the bytes of a bundle, where there is one
+abbrev pub bundle_bytes : Option (Vec ℕ) → Option (List ℕ)
+bundle_bytes bundle = option_map (λ b. b.items) bundle
+
+module _ {F : Type 0} (placed : F → Option (List Placed)) (files : Changed F) where
+  -- the bundle was put in the file of this path, where one is given
+  abbrev pub HasPutBundle : (path : Option (List ℕ)) → Option (Vec ℕ) → Type 0
+  HasPutBundle path bundle = PlacesBundle path (bundle_bytes bundle) (placed files.entry.now) (placed files.exit.now)
+
+  -- the bundle, where one is asked for, and then the program were put
+  abbrev pub HasPutBoth : BuildOptions → Option (Vec ℕ) → (program : List ℕ) → Type 0
+  HasPutBoth options bundle program = PlacesBoth options (bundle_bytes bundle) (placed files.entry.now) (placed files.exit.now) program
+
+  -- a file was refused, and no program put
+  abbrev pub HasPutNoProgram : BuildOptions → Option (Vec ℕ) → BuildingError → Type 0
+  HasPutNoProgram options bundle fault = PutsNoProgram options (bundle_bytes bundle) (placed files.entry.now) (placed files.exit.now) fault
