@@ -10,10 +10,11 @@
     bench/compiled.py --remove     takes that crate out again
 
 The programs: Fibonacci's number 30 by recursion, thirty sieves of 65,536, Collatz's sequences below 150,000, and two that
-print: primes, and the steps of a tower. Each is built with the seeds 1 to 12 and each way of optimising, and shown are the median
-over the seeds and the worst; beside them `cfarm interpret`, Lua 5.4 where the machine has one, Python 3, and gcc with -O0 and -O2,
-and, where `linked` is built, the baselines. What each prints is compared. A ratio is a kind's time by Lua's, or by Python's
-where there is no Lua; the time is a process's own, of user and system, its start among it.
+print: primes, and the steps of a tower. Each is built with the seeds 1 to 12 and each way of optimising, and shown are the best
+seed, the median and the worst; beside them what nodes link that are all given the offers of examples/optimisers/tidy.py,
+`cfarm interpret`, Lua 5.4 where the machine has one, Python 3, and gcc with -O0 and -O2, and, where `linked` is built, the
+baselines. What each prints is compared. A ratio is a kind's time by Lua's, or by Python's where there is no Lua; the time is a
+process's own, of user and system, its start among it.
 
 `linked` is no part of the gate, so it stands as a patch, bench/compiled.patch. Remove it before anything is committed."""
 import argparse
@@ -37,6 +38,7 @@ LIMIT = str(2**63 - 1)
 SEEDS = range(1, 13)
 WAYS = ("speed", "drawn")
 EXAMPLES = os.path.join(ROOT, "examples")
+TIDY = os.path.join(EXAMPLES, "optimisers", "tidy.py")
 
 PRINTING = """int putchar(int);
 void number(unsigned n) { if (n > 9u) number(n / 10u); putchar((int)(48u + n % 10u)); }
@@ -107,6 +109,22 @@ def built(folder, name, text, way, seed, given):
     return os.path.join(place, "linked.cfp")
 
 
+def built_outside(folder, name, text, given):
+    """The linked program of a build whose nodes are all given what the optimiser from outside offers."""
+    place = os.path.join(folder, f"{name}.tidy")
+    os.mkdir(place)
+    rtl = os.path.join(place, "rtl")
+    with open(rtl, "wb") as file:
+        subprocess.run([given.cfarm, "emit", text, "--of", "rtl"], stdin=subprocess.DEVNULL, stdout=file, check=True)
+    for node in range(given.nodes):
+        subprocess.run([sys.executable, TIDY, rtl, os.path.join(place, "offers", f"node{node}")], check=True)
+    words = ["build", text, "--dir", place, "--nodes", str(given.nodes), "--offers", os.path.join(place, "offers")]
+    done = subprocess.run([given.cfarm, *words], stdin=subprocess.DEVNULL, stdout=subprocess.DEVNULL, stderr=subprocess.PIPE, check=True)
+    if done.stderr:
+        sys.exit(f"{name}, tidy: {done.stderr.decode()}")
+    return os.path.join(place, "linked.cfp")
+
+
 def commands(folder, name, given):
     """Each kind of run of a program, and the command for it: of a build the kind is the way and the seed."""
     c, lua, python = PROGRAMS[name]
@@ -124,6 +142,7 @@ def commands(folder, name, given):
         with open(linked, "wb") as file:
             subprocess.run([given.linked, "baselines", text], stdout=file, check=True)
         found["exec, baselines"] = [given.cfarm, "exec", linked, "--limit", LIMIT]
+    found["exec, tidy"] = [given.cfarm, "exec", built_outside(folder, name, text, given), "--limit", LIMIT]
     for way in WAYS:
         for seed in SEEDS:
             linked = built(folder, name, text, way, seed, given)
@@ -146,7 +165,7 @@ def show(kind, seconds, by):
 
 
 def show_all(name, lowest, given):
-    """A program's lines: the builds of a way as the median over the seeds, and the worst."""
+    """A program's lines: the builds of a way as the best of the seeds, the median over them, and the worst."""
     reference = given.lua if given.lua in lowest else "python3"
     by = lowest[reference]
     print(f"{name}, by the time of {reference}{'' if reference == given.lua else ' (there is no Lua here)'}")
@@ -155,6 +174,7 @@ def show_all(name, lowest, given):
             show(kind, took, by)
     for way in WAYS:
         seeds = sorted(lowest[(way, seed)] for seed in SEEDS)
+        show(f"exec, {way}: best", seeds[0], by)
         show(f"exec, {way}: median", statistics.median(seeds), by)
         show(f"exec, {way}: worst", seeds[-1], by)
 

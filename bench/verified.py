@@ -9,10 +9,12 @@
 The texts: that of bench/compile.py in functions of 1,000 statements, the same in functions of 5,000, and one function alone of assignments.
 What is verified is what `emit` writes of a text, once by the baselines and once by optimisers with a seed. Seconds are wall-clock seconds of
 whole processes, the lowest of the rounds: other work only adds to them. In a round each kind of run is made once, so that all see the same
-machine. One processor is the first that this script may use, and four are the first four. Where verify on four takes more than half of what
+machine, and verify on one processor a second time, behind that on four: `pairs` is the median over the rounds of the time on four by the mean of the two
+around it, which a host that slows down for seconds moves less. One processor is the first that this script may use, and four are the first four. Where verify on four takes more than half of what
 it takes on one, or more than gcc takes on one, that is said, and the status is 1."""
 import argparse
 import os
+import statistics
 import subprocess
 import sys
 import tempfile
@@ -69,7 +71,7 @@ def main():
     }
     wrong = 0
     print(f"{given.statements} statements, {len(four)} processors, {given.rounds} rounds, the lowest in seconds")
-    print(f"{'text':20}{'offers':>12}{'one':>9}{'four':>9}{'ratio':>8}{'gcc -O0':>9}{'of gcc':>8}")
+    print(f"{'text':20}{'offers':>12}{'one':>9}{'four':>9}{'ratio':>8}{'pairs':>8}{'gcc -O0':>9}{'of gcc':>8}")
     with tempfile.TemporaryDirectory(prefix="verified.") as folder:
         for name, text in made.items():
             path = f"{folder}/text.c"
@@ -81,10 +83,12 @@ def main():
                 emit(program, path, "bundle", seed, bundle)
                 verify = [program, "verify", path, "--program", linked, "--bundle", bundle]
                 gcc = ["gcc", "-O0", "-w", "-c", path, "-o", os.devnull]
-                rounds = [(timed(verify, one), timed(verify, four), timed(gcc, one)) for _ in range(given.rounds)]
-                alone_on_one, on_four, of_gcc = (min(each) for each in zip(*rounds))
+                rounds = [(timed(verify, one), timed(verify, four), timed(verify, one), timed(gcc, one)) for _ in range(given.rounds)]
+                first, on_four, again, of_gcc = (min(each) for each in zip(*rounds))
+                alone_on_one = min(first, again)
+                pairs = statistics.median(2 * four_took / (before + behind) for before, four_took, behind, _ in rounds)
                 ratio = on_four / alone_on_one
-                print(f"{name:20}{maker:>12}{alone_on_one:9.3f}{on_four:9.3f}{ratio:8.2f}{of_gcc:9.3f}{alone_on_one / of_gcc:8.2f}", flush=True)
+                print(f"{name:20}{maker:>12}{alone_on_one:9.3f}{on_four:9.3f}{ratio:8.2f}{pairs:8.2f}{of_gcc:9.3f}{alone_on_one / of_gcc:8.2f}", flush=True)
                 if ratio > 0.5 or on_four > of_gcc:
                     wrong += 1
                     print(f"{name}, {maker}: more than half of one processor's time, or than gcc's")
