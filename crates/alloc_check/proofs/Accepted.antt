@@ -16,9 +16,9 @@ use Rattle.rtl_parts.specs.declared.arguments.Arguments.{Arguments}
 use Rattle.rtl_parts.specs.declared.arguments.Arguments.TheVariants.{One, Two}
 use Rattle.rtl_parts.specs.declared.act.Act.{Act}
 use Rattle.rtl_parts.specs.declared.act.Act.TheVariants.{Nop, Constant, Move, Operate, Load, Store, Put}
-use Rattle.rtl_language.specs.declared.instruction.Instruction.{Instruction}
-use Rattle.rtl_language.specs.declared.instruction.Instruction.TheVariants.{Do, Call, Branch, Return}
-use Rattle.rtl_language.specs.Function.{FunctionData, IsFunction}
+use Rattle.alloc_check_live.specs.Instruction.{Instruction}
+use Rattle.alloc_check_live.specs.Instruction.TheVariants.{Do, Call, Branch, Return}
+use Rattle.alloc_check_live.specs.RtlLanguageFunction.{FunctionData, IsFunction}
 use Rattle.ltl.specs.declared.block.Block.{Block}
 use Rattle.alloc_check_live.specs.Equation.{Equation}
 use Rattle.alloc_check_live.specs.Change.{Change}

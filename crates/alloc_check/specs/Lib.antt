@@ -4,4 +4,5 @@ pub mod Rows
 pub mod PassLaws
 pub use Rattle.alloc_check_verdict.specs.Allocated
 pub use Rattle.alloc_check_verdict.specs.Text
-pub use Rattle.rtl_passes.specs.Faults
+pub use Rattle.alloc_check_live.specs.Equation
+pub use Rattle.alloc_check_verdict.specs.Right

@@ -9,9 +9,9 @@ use Rattle.rtl_parts.specs.declared.arguments.Arguments.{Arguments}
 use Rattle.rtl_parts.specs.declared.arguments.Arguments.TheVariants.{One, Two}
 use Rattle.rtl_parts.specs.declared.act.Act.{Act}
 use Rattle.rtl_parts.specs.declared.act.Act.TheVariants.{Nop, Constant, Move, Operate, Load, Store, Put}
-use Rattle.rtl_language.specs.declared.instruction.Instruction.{Instruction}
-use Rattle.rtl_language.specs.declared.instruction.Instruction.TheVariants.{Do, Call, Branch, Return}
-use Rattle.rtl_language.specs.Function as rtl
+use Rattle.alloc_check_live.specs.Instruction.{Instruction}
+use Rattle.alloc_check_live.specs.Instruction.TheVariants.{Do, Call, Branch, Return}
+use Rattle.alloc_check_live.specs.RtlLanguageFunction as rtl
 use Rattle.machine.specs.declared.arguments.Arguments as machine_arguments
 use Rattle.machine.specs.declared.arguments.Arguments.TheVariants as arguments
 use Rattle.machine.specs.declared.act.Act as machine_act

@@ -7,14 +7,16 @@ ghost use Rattle.alloc_check.specs.Slots.{function_in};
 use crate::function::function_in;
 use crate::lists::own_rows;
 use alloc_check_live::live_registers;
-use alloc_check_verdict::EquationLists;
+use alloc_check_verdict::{EquationLists, feeders_of};
 use lang_base::{NoMemory, PassError};
 use lang_parts::beside;
-use rtl_passes_marks::feeders_of;
 use std::alloc::Global;
 
 /// The equations of the registers that are live, at marked nodes.
-fn live_equations(alloc: Global, input: &rtl_language::Function) -> Result<EquationLists, NoMemory>
+fn live_equations(
+    alloc: Global,
+    input: &alloc_check_live::Function,
+) -> Result<EquationLists, NoMemory>
     requires { input.now.registers ≤ baseline_limit }
     ensures live { IfOk result (λ rows. AreLiveRows input.now rows) }
     ensures accepted { IfOk result (λ rows. IsAllocated input.now (function_in input.now) rows) }
@@ -26,12 +28,11 @@ fn live_equations(alloc: Global, input: &rtl_language::Function) -> Result<Equat
     Ok(rows)
 }
 
-/// The registers in slots of their own, with the equations of those that are
-/// live at marked nodes. Refuses more than
-/// 2,048 registers.
+/// The registers in slots of their own, with the equations of those that are live at marked nodes.
+/// Refuses more than 2,048 registers.
 pub fn baseline(
     alloc: Global,
-    input: &rtl_language::Function,
+    input: &alloc_check_live::Function,
 ) -> Result<(ltl::Function, EquationLists), PassError>
     ensures output { IfOk result (λ made. made.0 ≡ function_in input.now) }
     ensures live { IfOk result (λ made. AreLiveRows input.now made.1) }

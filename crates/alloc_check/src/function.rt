@@ -5,9 +5,9 @@ ghost use Rattle.alloc_check_live.specs.Rules.{baseline_limit};
 ghost use Rattle.alloc_check.specs.Slots.{block_in, function_in};
 
 use crate::nodes::{block_in, slots_of};
+use alloc_check_live::Instruction;
 use lang_base::{NoMemory, Row};
 use ltl::Block;
-use rtl_language::Instruction;
 use std::alloc::Global;
 
 fn blocks_in(alloc: Global, nodes: &[Instruction]) -> Result<Vec<Block>, NoMemory>
@@ -24,7 +24,7 @@ fn blocks_in(alloc: Global, nodes: &[Instruction]) -> Result<Vec<Block>, NoMemor
 /// The output, for an input with few registers.
 pub(crate) fn function_in(
     alloc: Global,
-    input: &rtl_language::Function,
+    input: &alloc_check_live::Function,
 ) -> Result<ltl::Function, NoMemory>
     requires { input.now.registers ≤ baseline_limit }
     ensures { IfOk result (λ output. output ≡ function_in input.now) }

@@ -10,7 +10,8 @@ mod lists;
 mod nodes;
 mod pass;
 
-pub use alloc_check_verdict::{Equation, EquationLists, Fault, check, why};
+pub use alloc_check_verdict::{
+    Equation, EquationLists, Fault, NodeRow, check, entries_of as equations_of, why,
+};
 pub use base::baseline;
 pub use pass::Alloc;
-pub use rtl_passes_marks::{NodeRow, entries_of as equations_of};

@@ -5,10 +5,10 @@ ghost use Rattle.alloc_check.specs.Rows.{row_at, rows_from};
 ghost use Rattle.alloc_check.specs.Slots.{own};
 
 use alloc_check_live::{Equation, Numbers};
+use alloc_check_verdict::NodeRow;
 use lang_base::{NoMemory, Row};
 use locations::Location;
 use rtl_parts::Register;
-use rtl_passes_marks::NodeRow;
 use std::alloc::Global;
 
 fn own(register: Register) -> Equation

@@ -6,10 +6,10 @@ ghost use Rattle.alloc_check.specs.Slots.{slot, before_in, body_in, block_in};
 use crate::blocks::{
     act_after, act_before, act_in, arguments_before, arguments_in, fetch_one, none,
 };
+use alloc_check_live::Instruction;
 use lang_base::{NoMemory, Row};
 use locations::{Location, Move};
 use ltl::{Block, Body};
-use rtl_language::Instruction;
 use rtl_parts::Register;
 use std::alloc::Global;
 

@@ -1,9 +1,8 @@
 use crate::base::baseline;
-use alloc_check_verdict::{EquationLists, Equations, Sizes, check};
+use alloc_check_live::Rtl;
+use alloc_check_verdict::{EquationLists, Equations, Sizes, check, read_rows, write_rows};
 use lang_base::{FormError, NoMemory, Pass, PassError, Row};
 use ltl::Ltl;
-use rtl_language::Rtl;
-use rtl_passes_marks::{read_rows, write_rows};
 use std::alloc::Global;
 
 /// Pass 3: pseudo-registers lie in registers and slots.
@@ -37,7 +36,7 @@ impl Pass for Alloc {
 
     fn check(
         alloc: Global,
-        input: &rtl_language::Function,
+        input: &alloc_check_live::Function,
         output: &ltl::Function,
         equations: &EquationLists,
     ) -> Result<bool, NoMemory> {
@@ -46,7 +45,7 @@ impl Pass for Alloc {
 
     fn baseline(
         alloc: Global,
-        input: &rtl_language::Function,
+        input: &alloc_check_live::Function,
     ) -> Result<(ltl::Function, EquationLists), PassError>
         ensures accepted { IfOk result (λ made. IsAllocated input.now made.0 made.1) }
         ensures refused { IfErr result (λ e. e ≢ PassError.NoMemory → IsTooLarge input.now) }
@@ -56,7 +55,7 @@ impl Pass for Alloc {
     }
 
     fn write_cert(
-        _input: &rtl_language::Function,
+        _input: &alloc_check_live::Function,
         _output: &ltl::Function,
         equations: &EquationLists,
         out: &mut Vec<u8>,
@@ -66,7 +65,7 @@ impl Pass for Alloc {
 
     fn read_cert(
         alloc: Global,
-        input: &rtl_language::Function,
+        input: &alloc_check_live::Function,
         output: &ltl::Function,
         bytes: &[u8],
     ) -> Result<(EquationLists, usize), FormError> {

@@ -8,3 +8,11 @@ pub use Rattle.alloc_check_rules.specs.declared.equation.Equation
 pub use Rattle.alloc_check_rules.specs.Function
 pub use Rattle.alloc_check_rules.specs.Block
 pub use Rattle.alloc_check_rules.specs.Body
+pub use Rattle.alloc_check_rules.specs.Holding
+pub use Rattle.alloc_check_rules.specs.Steps
+pub use Rattle.alloc_check_rules.specs.Act
+pub use Rattle.alloc_check_rules.specs.Arguments
+pub use Rattle.alloc_check_rules.specs.RtlLanguageFunction
+pub use Rattle.alloc_check_rules.specs.Instruction
+pub use Rattle.alloc_check_rules.specs.Growth
+pub use Rattle.alloc_check_rules.specs.LtlMeaning

@@ -5,7 +5,7 @@ ghost use Rattle.alloc_check_rules.specs.Equations.{through_result, through, is_
 
 use crate::origins::is_at;
 use alloc_check_rules::{Body, Change, Demand, Equation, Register};
-use locations::Location;
+use machine::Location;
 
 fn through_result(register: Register, location: Location, equation: Equation) -> Demand
     ensures { result ≡ through_result register location equation }

@@ -7,7 +7,7 @@ ghost use Rattle.alloc_check_rules.specs.Pairs.{same_number, result_change, act_
 
 use alloc_check_rules::{Act, Arguments, Body, Change, Instruction, Register, Test};
 use ints::Op;
-use locations::{Location, Register as MachineRegister};
+use machine::{Location, Register as MachineRegister};
 
 fn same_number(names: &Arguments, locations: &machine::Arguments) -> bool
     ensures { result ≡ same_number names.now locations.now }

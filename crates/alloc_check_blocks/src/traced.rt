@@ -8,7 +8,7 @@ use crate::demands::through_body;
 use crate::origins::Origins;
 use alloc_check_rules::{Block, Body, Change, Demand, Equation};
 use lang_base::NoMemory;
-use locations::{Location, Move};
+use machine::{Location, Move};
 use std::alloc::Global;
 use std::marker::Model;
 

@@ -2,7 +2,7 @@
 use Rattle.std.proofs.Common.{◌≡◌, ℕ, List, [], Option, Some, None, Bool, true, false, cond, refl, sym, subst}
 use Rattle.std.specs.Prelude.{Contains, map}
 use Rattle.std.specs.List.{flat_map, list_any}
-use Rattle.rtl_language.specs.declared.instruction.Instruction.{Instruction}
+use Rattle.alloc_check_blocks.specs.Instruction.{Instruction}
 use Rattle.alloc_check_blocks.specs.Block.{Block}
 use Rattle.alloc_check_blocks.specs.Equation.{Equation}
 use Rattle.alloc_check_blocks.specs.Change.{Change}

@@ -3,8 +3,8 @@ use Rattle.std.proofs.Common.{◌≡◌, ℕ, zero, suc, List, [], get_or, Optio
 use Rattle.std.specs.Prelude.{map, Contains}
 use Rattle.std.specs.List.{flat_map, list_any}
 use Rattle.std.proofs.lemmas.List.Elements.{Contains-get_or, All-contains, Contains-append_left, Contains-append_right, Contains-append_cases}
-use Rattle.locations.specs.declared.location.Move.{Move}
-use Rattle.rtl_language.specs.declared.instruction.Instruction.{Instruction}
+use Rattle.machine.specs.Move.{Move}
+use Rattle.alloc_check_blocks.specs.Instruction.{Instruction}
 use Rattle.alloc_check_blocks.specs.Block.{Block}
 use Rattle.alloc_check_blocks.specs.Equation.{Equation}
 use Rattle.alloc_check_blocks.specs.Change.{Change}

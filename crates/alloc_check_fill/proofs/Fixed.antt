@@ -4,8 +4,8 @@ use Rattle.std.specs.Prelude.{Contains, slice_get}
 use Rattle.std.specs.List.{flat_map}
 use Rattle.std.proofs.lemmas.List.{get_or-drop}
 use Rattle.std.proofs.lemmas.Option.{slice_get-get_or}
-use Rattle.rtl_language.specs.declared.instruction.Instruction.{Instruction}
-use Rattle.rtl_language.specs.declared.instruction.Instruction.TheVariants.{Return}
+use Rattle.alloc_check_blocks.specs.Instruction.{Instruction}
+use Rattle.alloc_check_blocks.specs.Instruction.TheVariants.{Return}
 use Rattle.alloc_check_blocks.specs.Block.{Block}
 use Rattle.alloc_check_blocks.specs.Body.TheVariants as body
 use Rattle.alloc_check_blocks.specs.Equation.{Equation}

@@ -5,15 +5,15 @@ use Rattle.std.specs.List.{AllByRecursion, flat_map, list_any}
 use Rattle.std.proofs.lemmas.Bool.{cases_lt}
 use Rattle.std.proofs.lemmas.List.{get_or_past}
 use Rattle.std.proofs.lemmas.List.Elements.{All-nil, All-cons, All-map, All-append, All-contains, All-from_recursion}
-use Rattle.locations.specs.declared.location.Location.{Location}
-use Rattle.locations.specs.Fits.{LocationFits, MoveFits}
-use Rattle.locations.specs.Reading.{same_location}
-use Rattle.rtl_language.specs.Arguments.{Arguments}
-use Rattle.rtl_language.specs.Arguments.TheVariants.{One, Two}
-use Rattle.rtl_language.specs.Act.{Act}
-use Rattle.rtl_language.specs.Act.TheVariants.{Operate, Load, Store, Put}
-use Rattle.rtl_language.specs.declared.instruction.Instruction.{Instruction}
-use Rattle.rtl_language.specs.declared.instruction.Instruction.TheVariants.{Do, Call, Branch, Return}
+use Rattle.machine.specs.Location.{Location}
+use Rattle.machine.specs.LocationsFits.{LocationFits, MoveFits}
+use Rattle.machine.specs.LocationsReading.{same_location}
+use Rattle.alloc_check_blocks.specs.Arguments.{Arguments}
+use Rattle.alloc_check_blocks.specs.Arguments.TheVariants.{One, Two}
+use Rattle.alloc_check_blocks.specs.Act.{Act}
+use Rattle.alloc_check_blocks.specs.Act.TheVariants.{Operate, Load, Store, Put}
+use Rattle.alloc_check_blocks.specs.Instruction.{Instruction}
+use Rattle.alloc_check_blocks.specs.Instruction.TheVariants.{Do, Call, Branch, Return}
 use Rattle.machine.specs.declared.arguments.Arguments as machine_arguments
 use Rattle.machine.specs.declared.arguments.Arguments.TheVariants as arguments
 use Rattle.machine.specs.declared.act.Act as machine_act

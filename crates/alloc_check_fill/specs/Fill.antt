@@ -1,7 +1,7 @@
 -- The equations at nodes for which there is no row: what each block needs before it, found by going back from the rows.
 use Rattle.std.specs.Prelude.{ℕ, suc, ◌-◌, List, [], ◌∷◌, ◌++◌, Option, Some, None, Bool, true, false, map, slice_index_or, if◌then◌else◌}
 use Rattle.std.specs.List.{flat_map, list_any}
-use Rattle.rtl_language.specs.declared.instruction.Instruction.{Instruction}
+use Rattle.alloc_check_blocks.specs.Instruction.{Instruction}
 use Rattle.alloc_check_blocks.specs.Block.{Block}
 use Rattle.alloc_check_blocks.specs.Equation.{Equation}
 use Rattle.alloc_check_blocks.specs.Change.{Change}

@@ -1,7 +1,7 @@
 -- Whether a block breaks a rule, and what is told of it.
 use Rattle.std.specs.Prelude.{◌≡◌, List, ◌++◌, map, Option, Some, None, Bool, true, false}
 use Rattle.std.specs.List.{flat_map, list_any}
-use Rattle.rtl_language.specs.declared.instruction.Instruction.{Instruction}
+use Rattle.alloc_check_blocks.specs.Instruction.{Instruction}
 use Rattle.alloc_check_blocks.specs.Block.{Block}
 use Rattle.alloc_check_blocks.specs.Equation.{Equation}
 use Rattle.alloc_check_blocks.specs.Change.{Change}

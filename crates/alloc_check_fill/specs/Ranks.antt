@@ -1,7 +1,7 @@
 -- Where equations stand in the order of a list, by numbers.
 use Rattle.std.specs.Prelude.{ℕ, ◌+◌, ◌*◌}
-use Rattle.locations.specs.declared.location.Location.{Location}
-use Rattle.locations.specs.declared.location.Location.TheVariants.{InRegister, InSlot}
+use Rattle.machine.specs.Location.{Location}
+use Rattle.machine.specs.Location.TheVariants.{InRegister, InSlot}
 use Rattle.alloc_check_blocks.specs.Equation.{Equation}
 
 -- registers are below slots

@@ -1,8 +1,8 @@
 -- What keeps the meaning: an output of the same shape, and for each node equations of any number in any order, in range and
 -- right by the rules.
 use Rattle.std.specs.Prelude.{◌≡◌, ℕ, ◌<◌, List, length, All}
-use Rattle.locations.specs.Fits.{LocationFits}
-use Rattle.rtl_language.specs.Function as rtl
+use Rattle.machine.specs.LocationsFits.{LocationFits}
+use Rattle.alloc_check_blocks.specs.RtlLanguageFunction as rtl
 use Rattle.alloc_check_blocks.specs.Function as ltl
 use Rattle.alloc_check_blocks.specs.Equation.{Equation}
 use Rattle.alloc_check_blocks.specs.Rules.{IsRightAt}

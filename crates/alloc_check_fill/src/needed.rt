@@ -6,9 +6,8 @@ ghost use Rattle.alloc_check_fill.specs.Fill.{is_refused, needs_of};
 ghost use Rattle.alloc_check_fill.specs.Needed.{IsNeeded, IsNeededAs};
 
 use crate::uses::push_uses;
-use alloc_check_blocks::{Block, Change, Demand, Equation, TracedBlock, change_of};
+use alloc_check_blocks::{Block, Change, Demand, Equation, Instruction, TracedBlock, change_of};
 use lang_base::NoMemory;
-use rtl_language::Instruction;
 use std::alloc::Global;
 
 /// Adds the equation before the block by which this one holds behind its first moves.

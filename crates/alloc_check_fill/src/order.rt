@@ -5,7 +5,7 @@ ghost use Rattle.alloc_check_fill.specs.Ranks.{location_rank, rank as rank_of};
 ghost use Rattle.alloc_check_fill.specs.Sets.{SameSet};
 
 use alloc_check_blocks::{Equation, is_at};
-use locations::Location;
+use machine::Location;
 
 fn location_rank(location: &Location) -> u64
     ensures location_rank { result ≡ location_rank location.now }

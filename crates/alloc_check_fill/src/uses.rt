@@ -5,10 +5,9 @@ ghost use Rattle.alloc_check_blocks.specs.Equations.{back_equation};
 ghost use Rattle.alloc_check_blocks.specs.Pairs.{in_register, equations_of, arguments_used, act_uses, uses};
 
 use crate::needed::push_before;
-use alloc_check_blocks::{Body, Equation, TracedBlock};
+use alloc_check_blocks::{Act, Arguments, Body, Equation, Instruction, Register, TracedBlock};
 use lang_base::NoMemory;
-use locations::{Location, Register as MachineRegister};
-use rtl_language::{Act, Arguments, Instruction, Register};
+use machine::{Location, Register as MachineRegister};
 
 fn in_register(name: Register, machine_register: MachineRegister) -> Equation
     ensures { result ≡ in_register name machine_register }

@@ -6,4 +6,7 @@ mod law;
 
 pub use alloc_check_fill::Equation;
 pub use law::{filled_are_right, marked_suffice};
-pub use rtl_passes_marks::{Entries, NodeRow, Said, are_rows, feeders_of, is_fed, take};
+pub use rtl_passes_marks::{
+    Entries, Fault, Function, Instruction, NodeRow, Said, are_rows, empty_lists, entries_of,
+    feeders_of, is_fed, read_rows, take, write_rows,
+};

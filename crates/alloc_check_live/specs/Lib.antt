@@ -8,3 +8,7 @@ pub use Rattle.alloc_check_rules.specs.Rules
 pub use Rattle.alloc_check_rules.specs.declared.change.Change
 pub use Rattle.alloc_check_rules.specs.declared.demand.Demand
 pub use Rattle.alloc_check_rules.specs.declared.equation.Equation
+pub use Rattle.alloc_check_rules.specs.ListForm
+pub use Rattle.alloc_check_rules.specs.RtlLanguageFunction
+pub use Rattle.alloc_check_rules.specs.Meaning
+pub use Rattle.alloc_check_rules.specs.Instruction

@@ -5,8 +5,8 @@ ghost use Rattle.alloc_check_rules.specs.Pairs.{successors_of};
 ghost use Rattle.alloc_check_live.specs.Liveness.{named, used_by_act, used_by, defined_by_act, defined_by};
 ghost use Rattle.alloc_check_live.specs.Walks.{defines};
 
+use alloc_check_rules::Instruction;
 use lang_base::NoMemory;
-use rtl_language::Instruction;
 use rtl_parts::{Act, Arguments, Register};
 
 fn push_named(out: &mut Vec<Register>, arguments: &Arguments) -> Result<(), NoMemory>

@@ -3,16 +3,16 @@ use Rattle.std.specs.Prelude.{◌≡◌, ℕ, List, length, Option, Some, None, 
 use Rattle.std.specs.declared.cmp.Ordering.TheVariants.{Less}
 use Rattle.std.specs.Ordering.{nat_cmp}
 use Rattle.std.specs.Cmp.Lexicographic.{slice_cmp}
-use Rattle.locations.specs.declared.location.Location.{Location}
-use Rattle.locations.specs.declared.location.Move.{Move}
-use Rattle.locations.specs.Fits.{LocationFits, MovesFit, ParametersFit}
-use Rattle.locations.specs.Spelling.{location_text}
-use Rattle.rtl_parts.specs.Spelling.{register_text}
-use Rattle.rtl_parts.specs.declared.act.Act.{Act}
-use Rattle.rtl_parts.specs.declared.test.Test.{Test}
-use Rattle.rtl_parts.specs.Data as rtl_data
-use Rattle.rtl_parts.specs.Acts as rtl_acts
-use Rattle.rtl_parts.specs.Fits as rtl_fits
+use Rattle.ltl.specs.Location.{Location}
+use Rattle.ltl.specs.Move.{Move}
+use Rattle.ltl.specs.LocationsFits.{LocationFits, MovesFit, ParametersFit}
+use Rattle.ltl.specs.LocationsSpelling.{location_text}
+use Rattle.rtl_passes.specs.RtlPartsSpelling.{register_text}
+use Rattle.rtl_passes.specs.Act.{Act}
+use Rattle.rtl_passes.specs.Test.{Test}
+use Rattle.rtl_passes.specs.Data as rtl_data
+use Rattle.rtl_passes.specs.Acts as rtl_acts
+use Rattle.rtl_passes.specs.Fits as rtl_fits
 use Rattle.rtl_passes.specs.Frames as rtl_frames
 use Rattle.ltl.specs.Act as machine_act
 use Rattle.ltl.specs.Test as machine_test

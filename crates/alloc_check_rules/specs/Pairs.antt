@@ -3,13 +3,13 @@ use Rattle.std.specs.Prelude.{ℕ, ◌==◌, List, [], ◌∷◌, length, Option
 use Rattle.std.specs.Option.{option_map}
 use Rattle.ints.specs.Codes.{code_of}
 use Rattle.ints.specs.Conditions.{cond_code_of}
-use Rattle.locations.specs.declared.location.Location.{Location}
-use Rattle.locations.specs.declared.location.Location.TheVariants.{InRegister}
-use Rattle.rtl_parts.specs.declared.arguments.Arguments.{Arguments}
-use Rattle.rtl_parts.specs.declared.arguments.Arguments.TheVariants.{One, Two}
-use Rattle.rtl_parts.specs.declared.act.Act.{Act}
-use Rattle.rtl_parts.specs.declared.act.Act.TheVariants.{Nop, Constant, Move, Operate, Load, Store, Put}
-use Rattle.rtl_parts.specs.declared.test.Test.{Test}
+use Rattle.ltl.specs.Location.{Location}
+use Rattle.ltl.specs.Location.TheVariants.{InRegister}
+use Rattle.rtl_passes.specs.Arguments.{Arguments}
+use Rattle.rtl_passes.specs.Arguments.TheVariants.{One, Two}
+use Rattle.rtl_passes.specs.Act.{Act}
+use Rattle.rtl_passes.specs.Act.TheVariants.{Nop, Constant, Move, Operate, Load, Store, Put}
+use Rattle.rtl_passes.specs.Test.{Test}
 use Rattle.rtl_passes.specs.Instruction.{Instruction}
 use Rattle.rtl_passes.specs.Instruction.TheVariants.{Do, Call, Branch, Return}
 use Rattle.ltl.specs.Arguments as machine_arguments

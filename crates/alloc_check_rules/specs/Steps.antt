@@ -1,7 +1,7 @@
 -- How an instruction and its body change what they work on, beside each other.
 use Rattle.std.specs.Prelude.{◌≡◌, ℕ, Option, Some, slice_set}
-use Rattle.locations.specs.declared.location.Location.{Location}
-use Rattle.rtl_parts.specs.Data as rtl_data
+use Rattle.ltl.specs.Location.{Location}
+use Rattle.rtl_passes.specs.Data as rtl_data
 use Rattle.ltl.specs.Data.{Data, put_at}
 use Rattle.ltl.specs.Frames.{after_call}
 use Rattle.alloc_check_rules.specs.declared.change.Change.{Change}

@@ -17,5 +17,4 @@ pub use law::{
     tests_agree,
 };
 pub use ltl::{Block, Body};
-pub use rtl_parts::{Act, Arguments, Register, Test};
-pub use rtl_passes::Instruction;
+pub use rtl_passes::{Act, Arguments, Function, Instruction, Register, Rtl, Test};

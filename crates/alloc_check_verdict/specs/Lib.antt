@@ -1,6 +1,9 @@
 pub mod Right
 pub mod Walk
-pub use Rattle.alloc_check_rules.specs.Rules
 pub use Rattle.alloc_check_laws.specs.Allocated
-pub use Rattle.rtl_passes.specs.Faults
 pub use Rattle.alloc_check_laws.specs.Text
+pub use Rattle.alloc_check_laws.specs.Marks
+pub use Rattle.alloc_check_laws.specs.Ranked
+pub use Rattle.alloc_check_laws.specs.RowForm
+pub use Rattle.alloc_check_laws.specs.Rows
+pub use Rattle.alloc_check_laws.specs.NodeRow

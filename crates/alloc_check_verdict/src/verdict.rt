@@ -6,16 +6,15 @@ ghost use Rattle.alloc_check_verdict.specs.Right.{TellsWhy};
 
 use crate::rows::{EquationLists, has_form};
 use crate::walk::lowest_wrong;
+use alloc_check_laws::{Fault, feeders_of};
 use lang_base::NoMemory;
-use rtl_passes::Fault;
-use rtl_passes_marks::feeders_of;
 use std::alloc::Global;
 
 /// What is wrong with the output and the rows, if anything is. `Shape`: the entries, or the numbers of parameters or of
 /// nodes, differ, or the rows are not for marked nodes alone, by rising nodes, each with equations in order.
 pub fn why(
     alloc: Global,
-    input: &rtl_language::Function,
+    input: &alloc_check_laws::Function,
     output: &ltl::Function,
     equations: &EquationLists,
 ) -> Result<Option<Fault>, NoMemory>
@@ -33,7 +32,7 @@ pub fn why(
 /// Whether the output and the rows keep the rules.
 pub fn check(
     alloc: Global,
-    input: &rtl_language::Function,
+    input: &alloc_check_laws::Function,
     output: &ltl::Function,
     equations: &EquationLists,
 ) -> Result<bool, NoMemory>

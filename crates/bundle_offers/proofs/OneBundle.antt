@@ -10,9 +10,9 @@ use Rattle.linear_language.specs.Function as linear
 use Rattle.rtl_passes_facts.specs.Certificates as facts
 use Rattle.constprop_check_rules.specs.Rules.{propagation}
 use Rattle.cse_check_rules.specs.Rules.{elimination}
-use Rattle.alloc_check_verdict.specs.Text as allocation
+use Rattle.bundle_reading.specs.Text as allocation
 use Rattle.linearize_check.specs.OrderForm as order
-use Rattle.chains.specs.declared.offering.Offers.{Offers}
+use Rattle.bundle_reading.specs.Offers.{Offers}
 use Rattle.bundle_form.proofs.Forms.{bundle_form}
 use Rattle.bundle_reading.specs.Texts.{HasOneBundle, OffersFit, bundle_with, first_text, fourth_text, second_text, texts_of, third_text}
 

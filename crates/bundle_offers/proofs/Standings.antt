@@ -6,10 +6,10 @@ use Rattle.std.proofs.lemmas.List.Elements.{All-nil, All-cons}
 use Rattle.lang_base.specs.declared.fault.Fault.{Fault}
 use Rattle.lang_base.specs.declared.program.Named.{Named}
 use Rattle.rtl_language.specs.Function.{FunctionData}
-use Rattle.chains.specs.declared.offering.Offers.{Offers}
-use Rattle.chains.specs.Baselines.{AreAccepted}
-use Rattle.linker.specs.Chains.{names_of}
-use Rattle.chains.specs.Offered.{AllGoOn, GoOnFrom, ends_of}
+use Rattle.bundle_reading.specs.Offers.{Offers}
+use Rattle.bundle_reading.specs.Baselines.{AreAccepted}
+use Rattle.bundle_reading.specs.Chains.{names_of}
+use Rattle.bundle_reading.specs.Offered.{AllGoOn, GoOnFrom, ends_of}
 use Rattle.bundle_reading.specs.declared.four.Four.{Four}
 use Rattle.bundle_offers.specs.declared.fault.PassNumber.{PassNumber}
 use Rattle.bundle_offers.specs.declared.fault.OfferFault.{OfferFault}

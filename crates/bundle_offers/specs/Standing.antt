@@ -8,7 +8,7 @@ use Rattle.constprop_check_rules.specs.Rules.{IsPropagated}
 use Rattle.cse_check_rules.specs.Rules.{IsEliminated}
 use Rattle.alloc_check_filled.specs.Allocated.{IsAllocated}
 use Rattle.linearize_check_proof.specs.Rules.{IsLaidOut}
-use Rattle.chains.specs.declared.offering.Offers.{Offers}
+use Rattle.bundle_reading.specs.Offers.{Offers}
 use Rattle.offers.specs.declared.parts.Parts.{Parts}
 use Rattle.bundle_reading.specs.declared.four.Four.{Four}
 use Rattle.bundle_offers.specs.declared.fault.PassNumber.{PassNumber}
@@ -44,8 +44,6 @@ FailsItsCheck at accepts tells parts = FailsCheck at (accepts parts.input parts.
 abbrev pub FailsItsStep : {I O C : Type 0} → PassNumber → (I → O → C → Type 0) → (I → O → C → Fault → Type 0) → I → Parts I O C → OfferFault → Type 0
 FailsItsStep at accepts tells before parts =
     FailsStep at (parts.input ≡ before) (accepts parts.input parts.output parts.certificate) (tells parts.input parts.output parts.certificate)
-
--- ---- the offers of a function, pass by pass
 
 abbrev pub FirstChained : FunctionData → Offers → Type 0
 FirstChained f o = o.constants.input ≡ f
@@ -144,8 +142,6 @@ first_of (Err fault) second third fourth = Err fault
 first_of (Ok done) (Err fault) third fourth = Err fault
 first_of (Ok done) (Ok done') (Err fault) fourth = Err fault
 first_of (Ok done) (Ok done') (Ok done'') fourth = fourth
-
--- ---- the offers of all functions
 
 -- function by function, and no more offers than functions
 abbrev pub AllStand : List (Named FunctionData) → List Offers → Type 0

@@ -8,8 +8,7 @@ ghost use Rattle.bundle_offers.specs.declared.fault.PassNumber.{PassNumber};
 
 use crate::fault::{OfferFault, PassNumber};
 use crate::reasons::{PassReasons, Reasons};
-use alloc_check::Alloc;
-use bundle_reading::Four;
+use bundle_reading::{Alloc, Four};
 use constprop_check::ConstProp;
 use cse_check::Cse;
 use lang_base::{Language, Named, NoMemory, Pass};
@@ -144,8 +143,7 @@ fn judge_back<R: Threads + Sync>(
     )
 }
 
-/// Whether the four offers of a function stand, or the first that does not: each pass in a thread of its own, since a bundle holds
-/// what each begins with.
+/// Whether the four offers of a function stand, or the first that does not: each pass in a thread of its own.
 fn judge<R: Threads + Sync>(
     rt: &R,
     alloc: Global,
@@ -242,8 +240,7 @@ fn judge_each<R: Threads + Sync>(
 }
 
 /// Whether the four offers of each function stand by themselves, whatever function the first of them goes on from, in order: so many
-/// threads share them, and where there are fewer functions, each pass has a thread of its own. No text is needed for it. A thread that
-/// cannot be made costs no answer.
+/// threads share them, or each pass has its own, where there are fewer functions. A thread that cannot be made costs no answer.
 pub fn judge_alone<R: Threads + Sync>(
     rt: &R,
     alloc: Global,

@@ -1,10 +1,9 @@
 ghost use Rattle.std.specs.Prelude.{◌≡◌, IfOk};
 ghost use Rattle.std.specs.List.{AllByRecursion};
 ghost use Rattle.bundle_reading.specs.Read.{offers_in, offers_of};
-ghost use Rattle.chains.specs.Baselines.{AreAccepted};
+ghost use Rattle.bundle_reading.specs.Baselines.{AreAccepted};
 
-use bundle_reading::Four;
-use chains::Offers;
+use bundle_reading::{Four, Offers};
 use lang_base::NoMemory;
 use offers::Offer;
 use std::alloc::Global;

@@ -2,7 +2,7 @@
 
 ghost use Rattle.bundle_reading.specs.Texts.{HasOneBundle};
 
-use alloc_check::Alloc;
+use bundle_reading::Alloc;
 use constprop_check::ConstProp;
 use cse_check::Cse;
 use linearize_check::Linearize;

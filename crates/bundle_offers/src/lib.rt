@@ -9,8 +9,9 @@ mod laws;
 mod reasons;
 mod writing;
 
-pub use bundle_reading::{Bundle, Four, Texts, read_offers};
-pub use chains::Offers;
+pub use bundle_reading::{
+    Bundle, Four, Maker, Offers, Texts, all_offers, link_offers, read_offers,
+};
 pub use fault::{OfferFault, PassNumber};
 pub use judging::{first_fault, judge_all, judge_alone, stands};
 pub use knowing::known_all;

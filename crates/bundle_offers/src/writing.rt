@@ -3,19 +3,18 @@
 ghost use Rattle.std.specs.Prelude.{◌≡◌, ◌≤◌, length, IfOk, OnOk};
 ghost use Rattle.std.specs.List.{AllByRecursion};
 ghost use Rattle.offers.specs.Text.{text_of, PartsFit};
-ghost use Rattle.chains.specs.Baselines.{AreAccepted};
+ghost use Rattle.bundle_reading.specs.Baselines.{AreAccepted};
 ghost use Rattle.bundle_form.specs.Form.{bundle_text, AreBytes, BlockFits, IsBundle, IsShort, TextsFit};
 ghost use Rattle.bundle_offers.specs.Lent.{lent_offers};
 ghost use Rattle.bundle_reading.specs.Texts.{texts_of, OffersFit};
 
-use alloc_check::Alloc;
 use bundle_form::{Bundle, Texts, write};
+use bundle_reading::{Alloc, Chain};
 use constprop_check::ConstProp;
 use cse_check::Cse;
 use lang_base::{NoMemory, Pass, Row};
 use lang_parts::are_bytes;
 use linearize_check::Linearize;
-use linker::Chain;
 use offers::Offer;
 use std::alloc::Global;
 

@@ -14,7 +14,7 @@ use Rattle.constprop_check_rules.specs.Rules.{propagation}
 use Rattle.constprop_check.specs.FactForm.{fact_text}
 use Rattle.cse_check_rules.specs.Rules.{elimination}
 use Rattle.cse_check_rules.specs.Order.{equation_text}
-use Rattle.alloc_check_verdict.specs.Text as allocation
+use Rattle.chains.specs.Text as allocation
 use Rattle.linearize_check.specs.OrderForm as order
 use Rattle.chains.specs.declared.offering.Offers.{Offers}
 use Rattle.chains.specs.Lent.{OfConstants, OfExpressions, OfAllocation, OfOrder}

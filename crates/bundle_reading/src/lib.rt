@@ -6,5 +6,6 @@ mod four;
 mod reading;
 
 pub use bundle_form::{Bundle, Texts};
+pub use chains::{Alloc, Chain, EquationLists, Maker, Offers, all_offers, link_offers, why};
 pub use four::Four;
 pub use reading::read_offers;

@@ -5,8 +5,8 @@ ghost use Rattle.bundle_reading.specs.Texts.{FirstFits, FourthFits, HasNoBundle,
 ghost use Rattle.bundle_reading.specs.Read.{AreFound, AreRead, IsFound, IsFoundAt, IsPartsText, IsText, both_of, four_found, offers_in};
 
 use crate::four::Four;
-use alloc_check::Alloc;
 use bundle_form::{Bundle, Texts, read};
+use chains::Alloc;
 use constprop_check::ConstProp;
 use cse_check::Cse;
 use lang_base::{FormError, Pass, Row};

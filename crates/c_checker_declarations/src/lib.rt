@@ -10,6 +10,7 @@ mod names;
 mod parameters;
 mod signatures;
 
+pub use c_checker_bodies::Here;
 pub use declaring::declare_function;
 pub use functions::{check_function, check_prototype};
 pub use global::check_global;

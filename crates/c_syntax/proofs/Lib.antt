@@ -1,0 +1,2 @@
+pub use Rattle.lang_base.proofs.Beginnings
+pub use Rattle.lang_base.proofs.Parts

@@ -7,9 +7,9 @@ use Rattle.cfarm_build_linking.specs.Source.{Source}
 use Rattle.cfarm_build_linking.specs.Quorum.{Sizes}
 use Rattle.cfarm_build_linking.specs.BuildError.{BuildError}
 use Rattle.cfarm_build_linking.specs.Built.{IsBuiltBy}
-use Rattle.cfarm_build_result.specs.Node.{Node}
+use Rattle.cfarm_build_turns.specs.Node.{Node}
 use Rattle.cfarm_build_linking.specs.Refused.{IsRefusedBy}
-use Rattle.cfarm_build_result.specs.declared.built.Built.{Built}
+use Rattle.cfarm_build_turns.specs.Built.{Built}
 use Rattle.cfarm_build.specs.Built.{IsBuilt}
 use Rattle.cfarm_build_turns.specs.Nodes.{HaveMet, HaveRun, failed_of}
 use Rattle.cfarm_build.specs.Refused.{IsUnbuilt}

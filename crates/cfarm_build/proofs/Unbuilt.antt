@@ -7,7 +7,7 @@ use Rattle.cfarm_build_linking.specs.Source.{Source}
 use Rattle.cfarm_build_linking.specs.Quorum.{Sizes}
 use Rattle.cfarm_build_linking.specs.BuildError.{BuildError}
 use Rattle.cfarm_build_linking.specs.BuildError.TheVariants.{NoMemory, NoThread, Source as TextFault, Disks, Failed, Undecided, Unlinked, Names}
-use Rattle.cfarm_build_result.specs.Node.{Node}
+use Rattle.cfarm_build_turns.specs.Node.{Node}
 use Rattle.cfarm_build_linking.specs.Refused.{IsRefusedBy}
 use Rattle.cfarm_build_turns.specs.Nodes.{AreMissed, HaveMet, HaveRun, failed_of}
 use Rattle.cfarm_build_turns.specs.NotRun.{IsNotRun}

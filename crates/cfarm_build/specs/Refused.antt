@@ -9,7 +9,7 @@ use Rattle.farm_nodes_offers.specs.declared.halt.Fault.{Fault}
 use Rattle.cfarm_build_linking.specs.FarmRefused.{AreRefusedOver}
 use Rattle.cfarm_build_linking.specs.BuildError.{BuildError}
 use Rattle.cfarm_build_linking.specs.BuildError.TheVariants.{NoMemory, NoThread, Source as TextFault, Disks, Failed, Undecided, Unlinked, Names}
-use Rattle.cfarm_build_result.specs.Node.{Node}
+use Rattle.cfarm_build_turns.specs.Node.{Node}
 use Rattle.cfarm_build_linking.specs.Refused.{IsRefusedBy}
 use Rattle.cfarm_build_turns.specs.Nodes.{AfterMeeting, AreMissed, HaveRun, failed_of}
 

@@ -14,3 +14,6 @@ pub use Rattle.farm_nodes.specs.Halted
 pub use Rattle.farm_nodes.specs.Nodes
 pub use Rattle.farm_nodes.specs.Quorum
 pub use Rattle.farm_nodes.specs.Source
+pub use Rattle.farm_nodes.specs.Asked
+pub use Rattle.farm_nodes.specs.FarmNode
+pub use Rattle.farm_nodes.specs.Turned

@@ -10,7 +10,7 @@ use Rattle.farm_nodes.specs.RoomFault.{RoomFault}
 use Rattle.farm_nodes.specs.RoomFault.TheVariants as R
 use Rattle.farm_nodes.specs.OpenFault.{OpenFault}
 use Rattle.farm_nodes.specs.OpenFault.TheVariants as O
-use Rattle.linker.specs.Numbers.{number_of_link_error}
+use Rattle.farm_nodes.specs.LinkerNumbers.{number_of_link_error}
 use Rattle.cfarm_build_faults.specs.Names.{fault_name, journal_name, link_name}
 use Rattle.cfarm_build_faults.specs.declared.error.BuildError.{BuildError}
 use Rattle.cfarm_build_faults.specs.declared.error.BuildError.TheVariants.{NoMemory, NoThread, Source, Disks, Failed, Undecided, Unlinked, Names}

@@ -9,6 +9,6 @@ mod telling;
 pub use acceptor_log_form::LogError;
 pub use error::BuildError;
 pub use farm_nodes::{
-    Farm, FarmNode, OpenFault, Optimising, Quorums, RunError, Source, SourceFault, meet,
-    optimisers_of, run_threads,
+    Farm, FarmNode, OpenFault, Optimisers, Optimising, Quorums, RunError, Source, SourceFault,
+    meet, optimisers_of, run_threads,
 };

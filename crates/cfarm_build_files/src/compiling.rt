@@ -7,12 +7,11 @@ ghost use Rattle.cfarm_build_files.specs.Farmed.{FarmCompiles, FarmCompilesNot};
 
 use crate::farm::Farm;
 use cfarm_build::{BuildError, Built, Optimising, Quorums, build_bundled, optimisers_of};
-use cfarm_build_folder::{BuildingError, locked, old_among, open_disks};
+use cfarm_build_folder::{BuildingError, Optimisers, locked, old_among, open_disks};
 use cfarm_files::Files;
 use cfarm_meter::Meter;
 use cfarm_offered::{NodeOffers, Outside, outside_of, read_given, tell_ignored};
 use cfarm_options::{BuildOptions, Optimise};
-use farm_nodes_compiling::Optimisers;
 use farm_nodes_source::prepare;
 use lang_base::{Named, NoMemory};
 use rooms_hall::{Hall, Naming};

@@ -5,9 +5,8 @@ ghost use Rattle.std.specs.Prelude.{◌≡◌, [], false, string_bytes};
 use crate::error::BuildingError;
 use cfarm_build_faults::{BuildError, LogError, OpenFault, SourceFault};
 use cfarm_files::Files;
-use cfarm_hints::{difference_of, explained};
+use cfarm_hints::{TextError, difference_of, explained};
 use cfarm_options::BuildOptions;
-use cfarm_runs::TextError;
 use std::alloc::{AllocError, Global};
 
 /// What is shown where a farm has not agreed.

@@ -16,11 +16,9 @@ pub use Rattle.cfarm_build_faults.specs.Held
 pub use Rattle.cfarm_build_faults.specs.Waiting
 pub use Rattle.cfarm_build_faults.specs.Halted
 pub use Rattle.cfarm_build_faults.specs.Nodes
-pub use Rattle.farm_nodes_linked.specs.Fours
-pub use Rattle.farm_nodes_linked.specs.NumberedSeat
+pub use Rattle.cfarm_build_result.specs.Fours
+pub use Rattle.cfarm_build_result.specs.NumberedSeat
 pub use Rattle.cfarm_build_faults.specs.Source
 pub use Rattle.cfarm_build_faults.specs.Quorum
-pub use Rattle.farm_nodes_linked.specs.Alike
-pub use Rattle.farm_nodes_linked.specs.Held as Holding
-pub use Rattle.farm_nodes_linked.specs.Learned
-pub use Rattle.farm_nodes_linked.specs.Lists
+pub use Rattle.cfarm_build_result.specs.Alike
+pub use Rattle.cfarm_build_result.specs.Learned

@@ -11,15 +11,15 @@ use Rattle.acceptor_log.specs.declared.log.Log.{Log}
 use Rattle.rooms_hall.specs.declared.hall.Naming as naming
 use Rattle.farm_nodes_offers.specs.declared.halt.Fault.{Fault}
 use Rattle.farm_nodes_passes.specs.Offers.{ConstantsOffer, ExpressionsOffer, AllocationOffer, OrderOffer}
-use Rattle.farm_nodes_linked.specs.Fours.{Four, fours_of}
-use Rattle.farm_nodes_linked.specs.NumberedSeat.{NumberedSeat}
-use Rattle.farm_nodes.specs.FarmNode.{FarmNode}
+use Rattle.cfarm_build_result.specs.Fours.{Four, fours_of}
+use Rattle.cfarm_build_result.specs.NumberedSeat.{NumberedSeat}
+use Rattle.cfarm_build_faults.specs.FarmNode.{FarmNode}
 use Rattle.cfarm_build_faults.specs.Halted.{Halted}
 use Rattle.cfarm_build_faults.specs.Held.{fault_in, IsSoundNode}
 use Rattle.cfarm_build_faults.specs.Source.{Source}
 use Rattle.cfarm_build_faults.specs.Quorum.{Sizes}
-use Rattle.farm_nodes_linked.specs.Alike.{HaveCounted, HaveMissed, KeepsLearned}
-use Rattle.farm_nodes_linked.specs.Learned.{FourOffers, learned_by}
+use Rattle.cfarm_build_result.specs.Alike.{HaveCounted, HaveMissed, KeepsLearned}
+use Rattle.cfarm_build_result.specs.Learned.{FourOffers, learned_by}
 use Rattle.cfarm_build_faults.specs.CameBack.{CameBack}
 use Rattle.cfarm_build_faults.specs.Words.{generators}
 use Rattle.cfarm_build_faults.specs.Back.{AreJournalsOn}

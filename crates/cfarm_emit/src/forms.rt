@@ -2,7 +2,7 @@
 
 ghost use Rattle.std.specs.Prelude.{◌≡◌, ◌≤◌, length, IfOk};
 ghost use Rattle.c_checker_rules.specs.Checked.{program_tree};
-ghost use Rattle.bundle_reading.specs.Texts.{IsBundleOf};
+ghost use Rattle.bundle_offers.specs.Texts.{IsBundleOf};
 ghost use Rattle.cfarm_emit.specs.Made.{IsBundledOf, IsCminorOf, IsLinearOf, IsLinked, IsLtlOf, IsMadeFrom, IsReady, IsRtlOf};
 
 use crate::offering::{all_texts, made_offers};

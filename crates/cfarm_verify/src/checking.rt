@@ -7,15 +7,14 @@ ghost use Rattle.c_lexer_parts.specs.Lexemes.{IsName};
 ghost use Rattle.linear_language.specs.Meaning as linear;
 ghost use Rattle.rtl_language.specs.Meaning as rtl;
 ghost use Rattle.linker.specs.Chains.{names_of};
-ghost use Rattle.bundle_reading.specs.Read.{offers_in};
-ghost use Rattle.bundle_offers.specs.Standing.{AllStand, AreAlone};
+ghost use Rattle.cfarm_verify_comparing.specs.Read.{offers_in};
+ghost use Rattle.cfarm_verify_comparing.specs.Standing.{AllStand, AreAlone};
 ghost use Rattle.cfarm_verify.specs.Checked.{AreChecked, IsFaulty, IsNamedFault, IsUnchecked};
 
 use crate::error::VerifyError;
 use crate::linking::links_to;
 use crate::naming::name_of;
-use bundle_offers::{Four, OfferFault, first_fault, judge_all};
-use cfarm_verify_comparing::same_names;
+use cfarm_verify_comparing::{Four, OfferFault, first_fault, judge_all, same_names};
 use lang_base::{Named, NoMemory, Program};
 use linear_language::Function;
 use std::alloc::Global;

@@ -3,8 +3,8 @@
 ghost use Rattle.std.specs.Prelude.{◌≡◌};
 
 use crate::error::VerifyError;
-use bundle_offers::OfferFault;
 use cfarm_output::FormLine;
+use cfarm_verify_comparing::OfferFault;
 use lang_base::{Fault, FormError};
 use std::fmt;
 

@@ -1,3 +1,4 @@
 pub mod Between
 pub mod Compared
 pub mod Ends
+pub use Rattle.bundle_offers.proofs.Standings

@@ -5,5 +5,6 @@
 mod comparing;
 mod keeping;
 
+pub use bundle_offers::{Four, OfferFault, first_fault, judge_all, one_bundle};
 pub use comparing::{first_other, same_globals, same_names};
 pub use keeping::linked_keeps;

@@ -1,5 +1,5 @@
 ghost use Rattle.std.specs.Prelude.{◌≡◌, ◌≢◌, ◌<◌, IfOk, IfErr};
-ghost use Rattle.bundle_reading.specs.Texts.{HasNoBundle};
+ghost use Rattle.bundle_offers.specs.Texts.{HasNoBundle};
 ghost use Rattle.cfarm_verify_reading.specs.Found.{AreSpelled, IsBundled};
 ghost use Rattle.cfarm_verify_reading.specs.Spelled.{IsNoProgram, IsSpelled};
 

@@ -2,7 +2,7 @@
 -- of its own; and the nodes that are reached, the entry first and the others rising.
 use Rattle.constprop_check.specs.Baseline as constants
 use Rattle.cse_check.specs.Baseline as expressions
-use Rattle.alloc_check.specs.Baseline as allocation
+use Rattle.linker.specs.Baseline as allocation
 use Rattle.linearize_check.specs.Baseline as order
 use Rattle.constprop_check_rules.specs.Rules.{IsPropagated}
 use Rattle.cse_check_rules.specs.Rules.{IsEliminated}

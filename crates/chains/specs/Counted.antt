@@ -2,7 +2,7 @@
 use Rattle.std.specs.Prelude.{◌≡◌, ℕ, ◌+◌, ◌<◌, ◌^◌, Bool, true, false, List, [], ◌∷◌}
 use Rattle.constprop_check.specs.Baseline as constants
 use Rattle.cse_check.specs.Baseline as expressions
-use Rattle.alloc_check.specs.Baseline as allocation
+use Rattle.linker.specs.Baseline as allocation
 use Rattle.linearize_check.specs.Baseline as order
 use Rattle.chains.specs.declared.offering.Offers.{Offers}
 

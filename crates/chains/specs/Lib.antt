@@ -7,3 +7,6 @@ pub mod Refused
 pub use Rattle.rtlgen_definition.specs.Gen
 pub use Rattle.cminor_lowering.specs.Programs
 pub use Rattle.lang_base.specs.Keeps
+pub use Rattle.linker.specs.Chains
+pub use Rattle.linker.specs.Text
+pub use Rattle.linker.specs.Right

@@ -1,10 +1,10 @@
 //! What each pass makes with no choice, exactly.
 
-use alloc_check::Alloc;
 use constprop_check::{ConstProp, FactLists};
 use cse_check::Cse;
 use lang_base::{Pass, PassError};
 use linearize_check::{Linearize, Order};
+use linker::Alloc;
 use offers_choice::Baselines;
 use std::alloc::Global;
 
@@ -38,14 +38,14 @@ impl Baselines<Cse> for ExactBaselines {
 }
 
 impl Baselines<Alloc> for ExactBaselines {
-    ghost use Rattle.alloc_check.specs.Baseline.{IsBaseline};
+    ghost use Rattle.linker.specs.Baseline.{IsBaseline};
 
     ghost is_baseline = { IsBaseline };
 
     fn made(
         alloc: Global,
         input: &rtl_language::Function,
-    ) -> Result<(ltl::Function, alloc_check::EquationLists), PassError> {
+    ) -> Result<(ltl::Function, linker::EquationLists), PassError> {
         Alloc::baseline(alloc, input)
     }
 }

@@ -4,8 +4,8 @@ ghost use Rattle.c_program.specs.Meaning.{crun};
 ghost use Rattle.c_checker_rules.specs.Checked.{program_tree};
 ghost use Rattle.cminor_lowering.specs.Programs.{low};
 ghost use Rattle.rtlgen_definition.specs.Gen.{gen};
-ghost use Rattle.rtlgen.specs.Refused.{HasFewNodes};
-ghost use Rattle.cminor_program_ranges.specs.Names.{HaveNames};
+ghost use Rattle.linker.specs.RtlgenRefused.{HasFewNodes};
+ghost use Rattle.linker.specs.Names.{HaveNames};
 ghost use Rattle.lang.specs.Form.{IsProgram};
 ghost use Rattle.linear_language.specs.Function.{IsFunction};
 ghost use Rattle.linear_language.specs.Meaning as linear;
@@ -22,10 +22,9 @@ use crate::errors::CompileError;
 use crate::makers::{Maker, offers_of};
 use crate::offering::Offers;
 use c_checker_rules::CProgram;
-use cminor_program_ranges::same_head_fits;
 use lang_base::{Named, NoMemory, Program, keeps_composes};
 use linear_language::{Function, Linear};
-use linker::{LinkError, link_translated, translated};
+use linker::{LinkError, link_translated, same_head_fits, translated};
 use std::alloc::Global;
 
 /// The offers of each function that the maker makes, in order: their passes accept them, and they chain from the functions on.

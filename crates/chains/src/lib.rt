@@ -12,5 +12,6 @@ mod offering;
 pub use baselines::ExactBaselines;
 pub use compiling::{all_offers, compile, link_offers};
 pub use errors::CompileError;
+pub use linker::{Alloc, Chain, EquationLists, why};
 pub use makers::Maker;
 pub use offering::Offers;

@@ -9,16 +9,15 @@ ghost use Rattle.offers_choice.specs.Proposals.{IsElseBaseline};
 
 use crate::baselines::ExactBaselines;
 use crate::offering::Offers;
-use alloc_check::Alloc;
 use constprop_check::ConstProp;
 use cse_check::Cse;
 use lang_base::{Language, Oracle, Pass, PassError};
 use linearize_check::Linearize;
+use linker::Alloc;
 use offers::Offer;
 use offers_choice::{Baselines, Choice, baseline_of, choose};
-use oracle_alloc::AllocOracle;
 use oracle_const::ConstOracle;
-use oracle_cse::CseOracle;
+use oracle_cse::{AllocOracle, CseOracle};
 use oracle_order::OrderOracle;
 use rand_pcg::Pcg32;
 use rtl_language::Function;

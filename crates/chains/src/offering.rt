@@ -2,11 +2,10 @@
 
 ghost use Rattle.chains.specs.Lent.{IsLent};
 
-use alloc_check::Alloc;
 use constprop_check::ConstProp;
 use cse_check::Cse;
 use linearize_check::Linearize;
-use linker::Chain;
+use linker::{Alloc, Chain};
 use offers::Offer;
 
 /// The four offers of a function, one for each pass. Whether each goes on from the one before it, the

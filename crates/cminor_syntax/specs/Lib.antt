@@ -6,4 +6,5 @@ pub mod Evaluation
 pub mod Meaning
 pub mod Growth
 pub mod Fits
-pub use Rattle.lang_base.specs.Behaviour
+pub use Rattle.machine.specs.Acts
+pub use Rattle.machine.specs.Frames

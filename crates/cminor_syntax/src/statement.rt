@@ -1,5 +1,5 @@
 use crate::expression::Expression;
-use lang_base::Row;
+use machine::Row;
 
 /// A statement. Variables, globals and functions go by their numbers.
 #[derive(Drop)]

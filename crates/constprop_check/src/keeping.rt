@@ -8,8 +8,7 @@ ghost use Rattle.constprop_check_rules.specs.Rules.{rank};
 ghost use Rattle.constprop_check.specs.Behind.{keeps, others};
 
 use crate::behind::Written;
-use constprop_check_rules::Fact;
-use rtl_parts::Register;
+use constprop_check_rules::{Fact, Register};
 
 /// Finds the first fact that speaks of no lower register.
 fn first_from(facts: &[Fact], least: Register) -> usize

@@ -1,7 +1,7 @@
 -- What an instruction does to equations.
 use Rattle.std.specs.Prelude.{◌≡◌, ℕ, Bool, false, ◌||◌, Option, None, not}
-use Rattle.rtl_parts.specs.declared.act.Act.{Act}
-use Rattle.rtl_parts.specs.declared.act.Act.TheVariants.{Nop, Constant, Move, Operate, Load, Store, Put}
+use Rattle.rtl_passes_facts.specs.Act.{Act}
+use Rattle.rtl_passes_facts.specs.Act.TheVariants.{Nop, Constant, Move, Operate, Load, Store, Put}
 use Rattle.rtl_passes_facts.specs.Instruction.{Instruction}
 use Rattle.rtl_passes_facts.specs.Instruction.TheVariants.{Do, Call, Branch, Return}
 use Rattle.cse_check_rules.specs.Known.{written_by}

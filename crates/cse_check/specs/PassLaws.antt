@@ -18,8 +18,8 @@ use Rattle.cse_check_rules.specs.Ranked.{RiseFrom}
 use Rattle.rtl_passes_facts.specs.Certificates.{CertFits}
 use Rattle.rtl_passes_facts.specs.Laws.{accepted_fits, one_certificate}
 use Rattle.cse_check_rules.specs.declared.equation.Equation.{Equation}
-use Rattle.rtl_parts.specs.declared.act.Act.{Act}
-use Rattle.rtl_parts.specs.declared.act.Act.TheVariants.{Nop, Constant, Move, Operate, Load, Store, Put}
+use Rattle.rtl_passes_facts.specs.Act.{Act}
+use Rattle.rtl_passes_facts.specs.Act.TheVariants.{Nop, Constant, Move, Operate, Load, Store, Put}
 use Rattle.cse_check_rules.specs.Known.{written_by}
 use Rattle.cse_check_rules.specs.declared.equation.RightSide.{RightSide}
 use Rattle.cse_check_rules.specs.Equations.{equation_by, kills, overwrites, act_disturbs, disturbs, successors_of}

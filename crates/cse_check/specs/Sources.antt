@@ -1,7 +1,7 @@
 -- Moves that equations allow, by the register that is moved from.
 use Rattle.std.specs.Prelude.{◌≡◌, ℕ, List, Option, Some, None, Contains}
-use Rattle.rtl_parts.specs.declared.act.Act.{Act}
-use Rattle.rtl_parts.specs.declared.act.Act.TheVariants.{Move}
+use Rattle.rtl_passes_facts.specs.Act.{Act}
+use Rattle.rtl_passes_facts.specs.Act.TheVariants.{Move}
 use Rattle.rtl_passes_facts.specs.Instruction.{Instruction}
 use Rattle.rtl_passes_facts.specs.Instruction.TheVariants.{Do}
 use Rattle.cse_check_rules.specs.declared.equation.Equation.{Equation}

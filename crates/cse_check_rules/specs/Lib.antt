@@ -4,8 +4,8 @@ pub mod Ranges
 pub mod Reading
 pub mod Rules
 pub use Rattle.constprop_check_rules.specs.Known
-pub use Rattle.rtl_passes_filled.specs.Edges
-pub use Rattle.rtl_passes_filled.specs.Ranked
-pub use Rattle.rtl_passes_filled.specs.RowForm
-pub use Rattle.rtl_passes_filled.specs.Rows
-pub use Rattle.rtl_passes_filled.specs.NodeRow
+pub use Rattle.constprop_check_rules.specs.Edges
+pub use Rattle.constprop_check_rules.specs.Ranked
+pub use Rattle.constprop_check_rules.specs.RowForm
+pub use Rattle.constprop_check_rules.specs.Rows
+pub use Rattle.constprop_check_rules.specs.NodeRow

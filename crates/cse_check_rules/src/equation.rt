@@ -1,5 +1,5 @@
+use constprop_check_rules::{Arguments, Register};
 use ints::Op;
-use rtl_parts::{Arguments, Register};
 
 /// What stands on the right of an equation.
 #[derive(Clone, Copy, PartialEq, Eq)]

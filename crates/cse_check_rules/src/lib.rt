@@ -13,12 +13,11 @@ mod sharing;
 mod survival;
 mod writing;
 
-pub use constprop_check_rules::written;
+pub use constprop_check_rules::{NodeRow, entries_of, written};
 pub use equation::{Equation, RightSide};
 pub use law::eliminated_keeps;
 pub use order::rank;
 pub use reading::read_equation;
-pub use rtl_passes_filled::{NodeRow, entries_of};
 pub use same::is_same;
 pub use sharing::share;
 pub use survival::{is_load, is_load_from, is_overwritten, kills, made};

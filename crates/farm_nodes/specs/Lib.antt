@@ -4,7 +4,7 @@ pub mod OpenFarm
 pub mod Prepared
 pub mod Refused
 pub use Rattle.paxos_core_world.specs.Quorum
-pub use Rattle.farm_nodes_seated.specs.declared.fault.OpenFault
+pub use Rattle.farm_nodes_opened.specs.OpenFault
 pub use Rattle.farm_nodes_opened.specs.Back
 pub use Rattle.farm_nodes_opened.specs.FarmNode
 pub use Rattle.farm_nodes_opened.specs.Opened
@@ -20,3 +20,5 @@ pub use Rattle.farm_nodes_opened.specs.Nodes
 pub use Rattle.farm_nodes_source.specs.Told
 pub use Rattle.farm_nodes_source.specs.declared.fault.SourceFault
 pub use Rattle.farm_nodes_source.specs.declared.source.Source
+pub use Rattle.farm_nodes_linked.specs.Numbers as LinkerNumbers
+pub use Rattle.farm_nodes_linked.specs.LinkError

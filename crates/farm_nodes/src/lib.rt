@@ -11,7 +11,7 @@ mod nodes;
 pub use error::FarmError;
 pub use farm::Farm;
 pub use farm_nodes_compiling::{Optimisers, Optimising, Oracles, optimisers_of};
-pub use farm_nodes_linked::{LinkedError, linked, one_program};
+pub use farm_nodes_linked::{LinkError, LinkedError, has_learned_all, linked, one_program};
 pub use farm_nodes_node_meeting::{are_strangers, meet};
 pub use farm_nodes_opened::{FarmNode, Halted, OpenFault, RoomFault, Turn};
 pub use farm_nodes_returning::{RestartFault, own_disk, restart};

@@ -2,7 +2,7 @@
 
 ghost use Rattle.std.specs.Prelude.{◌≡◌, ◌≤◌, length, IfOk, IsSome};
 ghost use Rattle.farm_nodes_linked.specs.Learned.{learned_by, learned_four, IsUndecided};
-ghost use Rattle.bundle_reading.specs.Texts.{IsBundleOf};
+ghost use Rattle.bundle_offers.specs.Texts.{IsBundleOf};
 ghost use Rattle.farm_nodes_bundled.specs.Bundled.{offers_in, AreTextsAt, AreTextsOf, LinksLearned};
 
 use bundle_offers::{Texts, texts_of, written};

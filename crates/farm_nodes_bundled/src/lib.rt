@@ -4,3 +4,7 @@
 mod bundling;
 
 pub use bundling::bundled;
+pub use farm_nodes_linked::{
+    FarmNode, LinkError, LinkedError, NumberedSeat, Oracles, has_learned_all, is_undecided,
+    linked_translated,
+};

@@ -7,3 +7,5 @@ pub use Rattle.farm_nodes_passes.specs.Offers
 pub use Rattle.farm_nodes_passes.specs.NumberedSeat
 pub use Rattle.farm_nodes_passes.specs.declared.passes.Passes
 pub use Rattle.farm_nodes_passes.specs.declared.which.Which
+pub use Rattle.farm_nodes_passes.specs.FarmNodesOffersPending
+pub use Rattle.farm_nodes_passes.specs.Told

@@ -13,10 +13,9 @@ ghost use Rattle.farm_nodes_leading.specs.Leading.{may_start, is_passed, LeadsBy
 
 use acceptor_log::Log;
 use durable_model::Disk;
-use farm_nodes_acting::{Stop, act};
+use farm_nodes_acting::{Stop, WordSeat, act};
 use rand_core::utils::NextWord;
 use rand_pcg::Pcg32;
-use rooms_seat::WordSeat;
 use rooms_state::act::Act;
 
 /// Proposes, and starts a ballot where the node may and the next word of its generator is 0 modulo 4. Answers whether it

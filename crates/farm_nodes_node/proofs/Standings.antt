@@ -10,7 +10,7 @@ use Rattle.acceptor_log_form.specs.Lists.{Begins, Between}
 use Rattle.acceptor_log_form.specs.Order.{AreInOrder}
 use Rattle.acceptor_log.specs.declared.log.Log.{Log}
 use Rattle.acceptor_log.specs.Acknowledged.{acknowledged}
-use Rattle.farm_nodes_acting.specs.SeatState.{SeatState}
+use Rattle.farm_nodes_turn.specs.SeatState.{SeatState}
 use Rattle.farm_nodes_turn.specs.JournalAdvances.{JournalAdvances, AreOf}
 use Rattle.farm_nodes_turn.specs.Numbers.{function_of, pass_of}
 use Rattle.farm_nodes_node.specs.declared.halted.Halted.{Halted}
@@ -23,7 +23,7 @@ use Rattle.farm_nodes_turn.specs.Turned.{OthersStay, StaysIn}
 use Rattle.farm_nodes_node.specs.Stood.{TurnsBy}
 use Rattle.farm_nodes_turn.proofs.Owned.{own_stays}
 use Rattle.farm_nodes_turn.proofs.Places.{same_room, words_other}
-use Rattle.farm_nodes_order.proofs.Told.{offer_stays}
+use Rattle.farm_nodes_turn.proofs.Told.{offer_stays}
 
 apart : (m n : ℕ) → eqb m n ≡ false → m ≢ n
 apart m n e same = let bad : true ≡ false = sym (eq-eqb m n same) ∙ e in absurd (cc)

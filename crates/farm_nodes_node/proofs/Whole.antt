@@ -7,9 +7,9 @@ use Rattle.acceptor_log_form.specs.Leaves.{proposed_in}
 use Rattle.acceptor_log_form.specs.Order.{AreInOrder}
 use Rattle.acceptor_log.specs.declared.log.Log.{Log}
 use Rattle.acceptor_log.specs.Acknowledged.{acknowledged}
-use Rattle.farm_nodes_order.specs.Ordered.{AreOrdered, IsOfOneNode, IsUnproposed}
-use Rattle.rooms_crash.specs.OfRun.{IsOfRun}
-use Rattle.farm_nodes_acting.specs.SeatState.{SeatState}
+use Rattle.farm_nodes_turn.specs.Ordered.{AreOrdered, IsOfOneNode, IsUnproposed}
+use Rattle.farm_nodes_turn.specs.OfRun.{IsOfRun}
+use Rattle.farm_nodes_turn.specs.SeatState.{SeatState}
 use Rattle.farm_nodes_turn.specs.JournalAdvances.{JournalAdvances, AreOf}
 use Rattle.farm_nodes_turn.specs.Served.{IsServed}
 use Rattle.farm_nodes_turn.specs.Fault.{Fault}

@@ -9,11 +9,11 @@ use Rattle.acceptor_log_form.specs.Lists.{Between}
 use Rattle.acceptor_log.specs.declared.log.Log.{Log}
 use Rattle.acceptor_log.specs.Acknowledged.{acknowledged}
 use Rattle.acceptor_log.specs.Acknowledged as journal
-use Rattle.rooms_crash.specs.OfRun.{IsOfRun}
+use Rattle.farm_nodes_turn.specs.OfRun.{IsOfRun}
 use Rattle.farm_nodes_turn.specs.JournalAdvances.{AreOf}
 use Rattle.farm_nodes_turn.specs.Fault.{Fault}
 use Rattle.farm_nodes_node.specs.declared.halted.Halted.{Halted}
-use Rattle.farm_nodes_order.specs.Ordered.{IsUnproposed}
+use Rattle.farm_nodes_turn.specs.Ordered.{IsUnproposed}
 use Rattle.farm_nodes_turn.specs.Fours.{Four, words_of}
 use Rattle.farm_nodes_turn.specs.Offers.{ConstantsOffer, ExpressionsOffer, AllocationOffer, OrderOffer}
 use Rattle.farm_nodes_turn.specs.Texts.{Texts, pass_texts}

@@ -15,3 +15,4 @@ pub use Rattle.farm_nodes_turn.specs.Pending
 pub use Rattle.farm_nodes_turn.specs.Texts
 pub use Rattle.farm_nodes_turn.specs.NumberedSeat
 pub use Rattle.farm_nodes_turn.specs.Played
+pub use Rattle.farm_nodes_turn.specs.Fault

@@ -17,7 +17,7 @@ use Rattle.farm_nodes_seat_meeting.specs.Numbers.{function_of, pass_of}
 use Rattle.farm_nodes_seat_meeting.specs.Fours.{Four, words_of}
 use Rattle.farm_nodes_seat_meeting.specs.Leaves.{Leave}
 use Rattle.farm_nodes_node.specs.Texts.{Texts, IsOwnTextIn}
-use Rattle.farm_nodes_offers.specs.Told.{IsOwnText}
+use Rattle.farm_nodes_seat_meeting.specs.Told.{IsOwnText}
 use Rattle.farm_nodes_seat_meeting.specs.Which.{Which}
 use Rattle.farm_nodes_seat_meeting.specs.Which.TheVariants.{Constants, Expressions, Allocation, Order}
 use Rattle.farm_nodes_node.proofs.Places.{found, mapped, map_at, map_length}

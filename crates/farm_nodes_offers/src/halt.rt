@@ -2,8 +2,7 @@ ghost use Rattle.std.specs.Prelude.{◌≡◌, Some, None};
 ghost use Rattle.farm_nodes_acting.specs.declared.stop.Pending.TheVariants as waiting;
 ghost use Rattle.farm_nodes_offers.specs.Halted.{fault_by_journal, number_of};
 
-use acceptor_log::{LogError, Record};
-use farm_nodes_acting::{Pending, Stop};
+use farm_nodes_acting::{LogError, Pending, Record, Stop};
 
 /// Why a node halted. `number` is what a user is shown.
 #[derive(Clone, Copy, Debug, PartialEq, Eq)]

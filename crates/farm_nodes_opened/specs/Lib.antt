@@ -2,10 +2,11 @@ pub mod Back
 pub mod OpenNodes
 pub mod Refused
 pub mod Opened
-pub use Rattle.farm_nodes_node.specs.declared.farm_node.FarmNode
+pub use Rattle.farm_nodes_joining.specs.FarmNode
 pub use Rattle.farm_nodes_joining.specs.FarmNodes
 pub use Rattle.farm_nodes_joining.specs.Held
 pub use Rattle.farm_nodes_joining.specs.Waiting
 pub use Rattle.farm_nodes_joining.specs.Words
-pub use Rattle.farm_nodes_stored.specs.Nodes
-pub use Rattle.farm_nodes_functions.specs.RoomFault
+pub use Rattle.farm_nodes_seated.specs.Nodes
+pub use Rattle.farm_nodes_seated.specs.RoomFault
+pub use Rattle.farm_nodes_seated.specs.declared.fault.OpenFault

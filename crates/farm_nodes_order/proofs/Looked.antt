@@ -1,6 +1,6 @@
 -- A look at a word leaves of the seat's node all but its notes.
 use Rattle.std.proofs.Common.{ℕ, ap, ◌∙◌}
-use Rattle.rooms_met.proofs.Looked.{proposed_hearing}
+use Rattle.rooms_seat.proofs.Looked.{proposed_hearing}
 use Rattle.rooms_seat.specs.AcceptorWord.{AcceptorWord}
 use Rattle.rooms_seat.specs.ProposerWord.{ProposerWord}
 use Rattle.rooms_seat.specs.Did.{LookedAtProposer, LookedAtAcceptor}

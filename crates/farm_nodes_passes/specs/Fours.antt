@@ -1,6 +1,6 @@
 -- The values of a node's seats in the four rooms of a function.
 use Rattle.std.specs.Prelude.{List, map}
-use Rattle.rooms_state.specs.SeatState.{SeatState}
+use Rattle.farm_nodes_offers.specs.SeatState.{SeatState}
 use Rattle.farm_nodes_offers.specs.SeatValue.{SeatValue}
 use Rattle.rooms_hall.specs.Claimed.{Claimed}
 use Rattle.rooms_hall.specs.declared.hall.Naming as naming

@@ -12,9 +12,9 @@ use Rattle.rooms_numbered.specs.Fact.{Fact}
 use Rattle.rooms_numbered.specs.ConstPropPass.TheImpl as constants
 use Rattle.rooms_numbered.specs.Equation as expressions_held
 use Rattle.rooms_numbered.specs.CsePass.TheImpl as expressions
-use Rattle.alloc_check_rules.specs.declared.equation.Equation as places_held
+use Rattle.rooms_numbered.specs.AllocCheckEquation as places_held
 use Rattle.rooms_numbered.specs.AllocPass.TheImpl as allocation
-use Rattle.linearize_check.specs.contracts.pass.LinearizePass.TheImpl as order
+use Rattle.rooms_numbered.specs.LinearizePass.TheImpl as order
 use Rattle.farm_nodes_offers.specs.Pending.{IsOfferText}
 
 abbrev pub ConstantsOffer : Type 0

@@ -1,7 +1,8 @@
 use lang_base::{NoMemory, Oracle};
-use linearize_check::{Linearize, Order};
 use rand_pcg::Pcg32;
-use rooms_numbered::{Alloc, ConstProp, Cse, EquationLists, FactLists, PlaceLists};
+use rooms_numbered::{
+    Alloc, ConstProp, Cse, EquationLists, FactLists, Linearize, Order, PlaceLists,
+};
 use std::alloc::Global;
 
 /// A node's optimisers, one call for each pass. Nothing is promised of what they propose: an output and a certificate for the

@@ -11,9 +11,9 @@ use Rattle.acceptor_log.specs.Acknowledged.{acknowledged}
 use Rattle.offers.specs.declared.parts.Parts.{Parts}
 use Rattle.rooms_cells.specs.Seen.{SightOf, Read, nothing_seen, value_at, names_of}
 use Rattle.rooms_state.specs.SeatState.{SeatState}
-use Rattle.rooms.specs.SeatValue.{SeatValue, IsOneRoom, offer_of}
-use Rattle.rooms_crash.specs.OfRun.{GoesOn}
-use Rattle.rooms_crash.proofs.Keeping.{goes_offering, goes_through, goes_to}
+use Rattle.farm_nodes_offers.specs.SeatValue.{SeatValue, IsOneRoom, offer_of}
+use Rattle.farm_nodes_offers.specs.OfRun.{GoesOn}
+use Rattle.farm_nodes_offers.proofs.Keeping.{goes_offering, goes_through, goes_to}
 use Rattle.farm_nodes_leading.specs.Cause.{HasCause}
 use Rattle.farm_nodes_leading.specs.Pending.{Pending}
 use Rattle.farm_nodes_leading.specs.Pending.TheVariants.{Act, Offer}

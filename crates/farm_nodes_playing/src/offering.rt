@@ -7,10 +7,9 @@ ghost use Rattle.farm_nodes_playing.specs.Played.{HeldOffer, IsMadeOn};
 use crate::choosing::choose;
 use acceptor_log::Log;
 use durable_model::Disk;
-use farm_nodes_offers::{Halt, make_offer};
+use farm_nodes_offers::{Halt, Seat, make_offer};
 use lang_base::{Language, Oracle, Pass};
 use rand_pcg::Pcg32;
-use rooms::Seat;
 use std::alloc::Global;
 
 /// Makes the node's offer where it has made none in the room and knows the input. Answers whether it did.

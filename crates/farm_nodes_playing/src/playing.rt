@@ -3,7 +3,7 @@ ghost use Rattle.rand_pcg.specs.Pcg.{pcg32};
 ghost use Rattle.acceptor_log.specs.Acknowledged.{IsSound};
 ghost use Rattle.rooms_state.specs.declared.act.Act.TheVariants as asked;
 ghost use Rattle.rooms_state.specs.Would.{would};
-ghost use Rattle.rooms.specs.SeatValue.{IsOneRoom};
+ghost use Rattle.farm_nodes_offers.specs.SeatValue.{IsOneRoom};
 ghost use Rattle.farm_nodes_leading.specs.Served.{IsServed};
 ghost use Rattle.farm_nodes_leading.specs.Quiet.{IsQuiet};
 ghost use Rattle.farm_nodes_leading.specs.Leading.{LeadsByLot};
@@ -15,10 +15,9 @@ use crate::progress::Progress;
 use acceptor_log::Log;
 use durable_model::Disk;
 use farm_nodes_leading::take_part;
-use farm_nodes_offers::Halt;
+use farm_nodes_offers::{Halt, Seat};
 use lang_base::{Language, Oracle, Pass};
 use rand_pcg::Pcg32;
-use rooms::Seat;
 use std::alloc::Global;
 
 /// One turn in a room whose input is this, if the node knows it: it offers, hears every node, its own number too, leads,

@@ -10,3 +10,5 @@ pub use Rattle.farm_nodes_passes.specs.Fours
 pub use Rattle.farm_nodes_passes.specs.Leaves
 pub use Rattle.farm_nodes_passes.specs.Numbers
 pub use Rattle.farm_nodes_passes.specs.NumberedSeat
+pub use Rattle.farm_nodes_passes.specs.AllocPass
+pub use Rattle.farm_nodes_passes.specs.FarmNodesOffersPending

@@ -18,11 +18,11 @@ use Rattle.farm_nodes_restart_records.specs.Texts.{Texts, texts_by}
 use Rattle.farm_nodes_restart_records.specs.Numbers.{function_of, pass_of}
 use Rattle.farm_nodes_restart_records.specs.Which.{Which}
 use Rattle.farm_nodes_restart_records.specs.Which.TheVariants.{Constants, Expressions, Allocation, Order}
-use Rattle.farm_nodes_restart_seat.specs.declared.fault.RestartFault.{RestartFault}
-use Rattle.farm_nodes_restart_seat.specs.declared.fault.RestartFault.TheVariants.{NoMemory, Journal, OtherRecords, CellRefused}
-use Rattle.farm_nodes_restart_seat.specs.Taken.{HasForgotten, IsTakeFault, Took}
+use Rattle.farm_nodes_restart_records.specs.RestartFault.{RestartFault}
+use Rattle.farm_nodes_restart_records.specs.RestartFault.TheVariants.{NoMemory, Journal, OtherRecords, CellRefused}
+use Rattle.farm_nodes_restart_records.specs.Taken.{HasForgotten, IsTakeFault, Took}
 use Rattle.farm_nodes_restart_records.specs.Found.{AreOther, LeaveWith}
-use Rattle.farm_nodes_restart_seat.specs.Places.{AllChanged, ChangedAt}
+use Rattle.farm_nodes_restart_records.specs.Places.{AllChanged, ChangedAt}
 
 -- each of a function's seats has forgotten all but what its node keeps, and is of the room that it was of
 pub record HaveForgotten {X1 X2 X3 X4 : Type 0} (old new : Four X1 X2 X3 X4) : Type 0 where

@@ -5,6 +5,5 @@
 mod fours;
 mod returning;
 
-pub use farm_nodes_restart_records::own_journal;
-pub use farm_nodes_restart_seat::RestartFault;
+pub use farm_nodes_restart_records::{NumberedSeat, RestartFault, own_journal};
 pub use returning::come_back;

@@ -2,7 +2,7 @@
 
 ghost use Rattle.std.specs.Prelude.{◌≡◌, ◌<◌, ◌+◌, ◌↔◌, [], ◌∷◌, length, IsTrue, IfOk};
 ghost use Rattle.farm_nodes_acting.specs.Noted.{pending_of};
-ghost use Rattle.farm_nodes_offers.specs.Pending.{IsAsked};
+ghost use Rattle.farm_nodes_restart_seat.specs.Pending.{IsAsked};
 ghost use Rattle.farm_nodes_passes.specs.Fours.{four_of, words_of};
 ghost use Rattle.farm_nodes_passes.specs.Texts.{pass_texts, IsOwnTextIn};
 ghost use Rattle.farm_nodes_restart_records.specs.Found.{AreKeptAt};

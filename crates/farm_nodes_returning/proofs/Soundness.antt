@@ -19,7 +19,7 @@ use Rattle.farm_nodes_node.specs.Texts.{Texts}
 use Rattle.farm_nodes_node.specs.declared.halted.Halted.{Halted}
 use Rattle.farm_nodes_node.specs.Held.{pending_in, AreOfRuns, AreSeatsOf, AreUnproposed, IsSoundBy}
 use Rattle.farm_nodes_restart.specs.Returned.{AreAtRest}
-use Rattle.farm_nodes_restart_seat.proofs.Places.{there_is}
+use Rattle.farm_nodes_restart.proofs.Places.{there_is}
 use Rattle.farm_nodes_returning.specs.Stopped.{left_by, room_in}
 use Rattle.farm_nodes_returning.proofs.Own.{pending_left}
 

@@ -7,8 +7,8 @@ use Rattle.farm_nodes_acting.specs.declared.stop.Pending.{Pending}
 use Rattle.farm_nodes_node.specs.Fours.{Four}
 use Rattle.farm_nodes_node.specs.Texts.{Texts}
 use Rattle.farm_nodes_restart.specs.Returned.{HasReason}
-use Rattle.farm_nodes_restart_seat.specs.declared.fault.RestartFault.{RestartFault}
-use Rattle.farm_nodes_restart_seat.specs.declared.fault.RestartFault.TheVariants.{NoMemory, Journal}
+use Rattle.farm_nodes_restart.specs.RestartFault.{RestartFault}
+use Rattle.farm_nodes_restart.specs.RestartFault.TheVariants.{NoMemory, Journal}
 
 -- why nothing of the new disk is read: memory was refused, or the device failed; or the old journal counts, and then the new disk
 -- has none

@@ -8,8 +8,8 @@ use Rattle.rooms_hall.specs.declared.hall.Naming as naming
 use Rattle.farm_nodes_acting.specs.declared.stop.Pending.{Pending}
 use Rattle.farm_nodes_node.specs.Fours.{fours_of}
 use Rattle.farm_nodes_node.specs.Texts.{pass_texts}
-use Rattle.farm_nodes_restart_records.specs.NumberedSeat.{NumberedSeat}
-use Rattle.farm_nodes_restart_seat.specs.declared.fault.RestartFault.{RestartFault}
+use Rattle.farm_nodes_restart.specs.NumberedSeat.{NumberedSeat}
+use Rattle.farm_nodes_restart.specs.RestartFault.{RestartFault}
 use Rattle.farm_nodes_pairs.specs.OnPairs.{MayShow}
 use Rattle.farm_nodes_returning.specs.Cause.{HasCauseOn}
 

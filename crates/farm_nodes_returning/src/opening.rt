@@ -6,7 +6,7 @@ ghost use Rattle.durable_pair.specs.Images.{IsSpent};
 ghost use Rattle.acceptor_log_form.specs.Text.{StandsFor};
 ghost use Rattle.acceptor_log.specs.Acknowledged.{acknowledged, IsSound};
 ghost use Rattle.farm_nodes_node.specs.Fours.{fours_of};
-ghost use Rattle.farm_nodes_restart_records.specs.Pending.{HavePending};
+ghost use Rattle.farm_nodes_restart.specs.Pending.{HavePending};
 ghost use Rattle.farm_nodes_restart.specs.Back.{CameBackBy, CountsFailures, HasInOrder};
 ghost use Rattle.farm_nodes_restart.specs.Back.{disk_given, fault_given};
 ghost use Rattle.farm_nodes_restart.specs.Returned.{AreAtRest};
@@ -18,8 +18,7 @@ use acceptor_log::{Header, Log, LogError};
 use durable_pair::Pair;
 use farm_nodes_acting::Pending;
 use farm_nodes_pairs::{OldDisk, old_disk};
-use farm_nodes_restart::{RestartFault, come_back};
-use farm_nodes_restart_records::NumberedSeat;
+use farm_nodes_restart::{NumberedSeat, RestartFault, come_back};
 use rooms_hall::Naming;
 use std::alloc::Global;
 

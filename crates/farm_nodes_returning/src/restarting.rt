@@ -11,8 +11,7 @@ use crate::opening::come_back_on;
 use crate::stopping::{told, unfinished};
 use acceptor_log::at_rest;
 use durable_pair::Pair;
-use farm_nodes_node::{FarmNode, Halted};
-use farm_nodes_offers::Halt;
+use farm_nodes_node::{FarmNode, Halt, Halted};
 use farm_nodes_restart::RestartFault;
 use rooms_hall::Naming;
 

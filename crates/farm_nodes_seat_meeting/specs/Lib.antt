@@ -11,3 +11,4 @@ pub use Rattle.farm_nodes_passes.specs.Fours
 pub use Rattle.farm_nodes_passes.specs.Leaves
 pub use Rattle.farm_nodes_passes.specs.Numbers
 pub use Rattle.farm_nodes_passes.specs.declared.which.Which
+pub use Rattle.farm_nodes_passes.specs.Told

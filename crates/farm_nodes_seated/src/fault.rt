@@ -3,7 +3,7 @@ ghost use Rattle.farm_nodes_seated.specs.Faults.{fault_of_journal, fault_of_reco
 
 use acceptor_log::LogError;
 use farm_nodes_functions::RoomFault;
-use farm_nodes_records::RecordFault;
+use farm_nodes_stored::RecordFault;
 
 /// Why a farm's nodes do not come from their disks.
 #[derive(Clone, Copy, Debug, PartialEq, Eq)]

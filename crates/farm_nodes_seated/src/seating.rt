@@ -6,12 +6,10 @@ ghost use Rattle.farm_nodes_seated.specs.Refused.{TellsOffer, TellsRecords, Tell
 
 use crate::fault::OpenFault;
 use acceptor_log::{Log, Record};
-use alloc_check::Alloc;
 use constprop_check::ConstProp;
 use cse_check::Cse;
-use farm_nodes_functions::open_functions;
-use farm_nodes_records::{NumberedSeat, known_is_kept};
-use farm_nodes_stored::stored_nodes;
+use farm_nodes_functions::{Alloc, open_functions};
+use farm_nodes_stored::{NumberedSeat, known_is_kept, stored_nodes};
 use linearize_check::Linearize;
 use paxos_core::{Kept, Quorums};
 use rooms_hall::{Hall, Naming};

@@ -1,3 +1,4 @@
 pub mod Refused
 pub mod Told
 pub mod Ready
+pub use Rattle.c_texts.specs.Accepted

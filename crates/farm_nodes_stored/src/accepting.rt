@@ -4,10 +4,9 @@ ghost use Rattle.farm_nodes_records.specs.Known.{AreKnown, IsAccepted, HasUnacce
 ghost use Rattle.farm_nodes_stored.specs.Checked.{AreAccepted, AreAsMany, AreKnownOf, HasRefused};
 
 use crate::one::StoredOf;
-use alloc_check::Alloc;
 use constprop_check::ConstProp;
 use cse_check::Cse;
-use farm_nodes_records::{Passes, RecordFault, Stored, known_offers};
+use farm_nodes_records::{Alloc, Passes, RecordFault, Stored, known_offers};
 use lang_base::{NoMemory, Pass};
 use linearize_check::Linearize;
 use offers::{Offer, PartsOf};

@@ -5,10 +5,9 @@ ghost use Rattle.farm_nodes_stored.specs.Checked.{AreAccepted, AreAsMany, AreChe
 use crate::accepting::check_node;
 use crate::one::StoredOf;
 use crate::reading::BadNode;
-use alloc_check::Alloc;
 use constprop_check::ConstProp;
 use cse_check::Cse;
-use farm_nodes_records::{Passes, RecordFault};
+use farm_nodes_records::{Alloc, Passes, RecordFault};
 use lang_base::NoMemory;
 use linearize_check::Linearize;
 use offers::Offer;

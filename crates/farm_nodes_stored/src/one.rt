@@ -4,10 +4,9 @@ ghost use Rattle.farm_nodes_stored.specs.Read.{AreBad, AreKept, AreStored, HasNo
 
 use crate::kept::kept_of_node;
 use acceptor_log_form::{Header, Record};
-use alloc_check::Alloc;
 use constprop_check::ConstProp;
 use cse_check::Cse;
-use farm_nodes_records::{Passes, RecordFault, Stored, Which, stored_offers};
+use farm_nodes_records::{Alloc, Passes, RecordFault, Stored, Which, stored_offers};
 use linearize_check::Linearize;
 use offers::PartsOf;
 use paxos_core::Kept;

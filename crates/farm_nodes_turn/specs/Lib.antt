@@ -15,5 +15,8 @@ pub use Rattle.farm_nodes_passes.specs.Offers
 pub use Rattle.farm_nodes_passes.specs.Halted
 pub use Rattle.farm_nodes_passes.specs.Fault
 pub use Rattle.farm_nodes_passes.specs.Halt
-pub use Rattle.farm_nodes_acting.specs.JournalAdvances
-pub use Rattle.farm_nodes_acting.specs.Served
+pub use Rattle.farm_nodes_passes.specs.JournalAdvances
+pub use Rattle.farm_nodes_passes.specs.Served
+pub use Rattle.farm_nodes_passes.specs.SeatState
+pub use Rattle.farm_nodes_passes.specs.Ordered
+pub use Rattle.farm_nodes_passes.specs.OfRun

@@ -1,7 +1,7 @@
 ghost use Rattle.std.specs.Prelude.{◌≡◌, ◌≢◌, ◌<◌, ℕ, length, slice_get, IfOk, IfErr, OnOk};
 ghost use Rattle.rand_pcg.specs.Pcg.{pcg32};
 ghost use Rattle.acceptor_log.specs.Acknowledged.{IsSound};
-ghost use Rattle.farm_nodes_acting.specs.Served.{IsServed};
+ghost use Rattle.farm_nodes_passes.specs.Served.{IsServed};
 ghost use Rattle.farm_nodes_passes.specs.Numbers.{function_of, pass_of};
 ghost use Rattle.farm_nodes_passes.specs.Pending.{HavePending};
 ghost use Rattle.farm_nodes_turn.specs.InRoom.{ForRoom, HaltsAmong, LogsTurnAmong, StandsInRoom};

@@ -33,7 +33,8 @@ pub use form::{Form, read_front, write_whole};
 pub use graph::{read_ends, read_node};
 pub use keeping::{beside, both};
 pub use lang_base::{
-    FormError, NoMemory, Row, push_byte, push_u16, read_byte, read_count, read_u16, read_u16_below,
+    Fault, FormError, Language, NoMemory, Row, push_byte, push_u16, push_u32, read_byte,
+    read_count, read_u16, read_u16_below, read_u32,
 };
 pub use many::{Byte, Half, ReadOne, Word, WriteOne, push_each, read_so_many};
 pub use names::is_taken;

@@ -14,3 +14,4 @@ mod writing;
 pub use function::Function;
 pub use instruction::Instruction;
 pub use language::Linear;
+pub use machine::Location;

@@ -10,8 +10,10 @@ use crate::function::Function;
 use crate::instruction::Instruction;
 use crate::labels::{no_labels, note};
 use lang_base::{FormError, Row, read_byte, read_u16, read_u32};
-use lang_parts::{ReadOne, are_bytes, read_so_many};
-use machine::{Location, read_act, read_call, read_frame, read_move, read_test, read_value};
+use machine::{
+    Location, ReadOne, are_bytes, read_act, read_call, read_frame, read_move, read_so_many,
+    read_test, read_value,
+};
 use std::alloc::Global;
 
 #[tactic(auto, unfolding(crate::specs::Reading::calling))]

@@ -3,4 +3,4 @@ pub mod Running
 pub mod Calls
 pub mod Returns
 pub use Rattle.linear_going.specs.Standing
-pub use Rattle.linear_whole.specs.Whole
+pub use Rattle.linear_going.specs.Whole

@@ -4,7 +4,7 @@ use Rattle.std.specs.Prelude.{slice_get, slice_index}
 use Rattle.std.proofs.lemmas.List.{length-append, drop_more, drop-drop, drop_at, nil_from_length}
 use Rattle.linearize_check_layout.specs.Block.{Block}
 use Rattle.linear_language.specs.declared.instruction.Instruction.{Instruction}
-use Rattle.linearize_check_proof.specs.Layout.{stretch, order_code}
+use Rattle.linearize_check_layout.specs.Layout.{stretch, order_code}
 use Rattle.linearize_check.specs.Faults.{first_stretch, place_at, BeginsWith, StandsAt}
 use Rattle.linearize_check_layout.proofs.Stretches.{stretch-append}
 

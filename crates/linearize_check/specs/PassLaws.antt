@@ -9,7 +9,7 @@ use Rattle.linearize_check_layout.specs.Function as ltl
 use Rattle.linearize_check_layout.specs.Meaning as blocks
 use Rattle.linear_language.specs.Function as linear
 use Rattle.linear_language.specs.Meaning as code
-use Rattle.linearize_check_proof.specs.Rules.{IsLaidOut}
+use Rattle.linearize_check_layout.specs.Rules.{IsLaidOut}
 use Rattle.linearize_check.specs.OrderForm.{CertFits, cert_text, order_form}
 use Rattle.linearize_check_proof.proofs.Sound.{sound}
 

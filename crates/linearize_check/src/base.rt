@@ -1,6 +1,6 @@
 ghost use Rattle.std.specs.Prelude.{◌≡◌, IfOk};
 ghost use Rattle.linearize_check_layout.specs.Reach.{IsRising};
-ghost use Rattle.linearize_check_proof.specs.Rules.{IsLaidOut};
+ghost use Rattle.linearize_check_layout.specs.Rules.{IsLaidOut};
 
 use crate::order::Order;
 use lang_base::NoMemory;

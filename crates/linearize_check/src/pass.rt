@@ -12,7 +12,7 @@ pub struct Linearize;
 
 impl Pass for Linearize {
     ghost use Rattle.std.specs.Prelude.{◌≡◌, ◌≢◌, ◌≤◌, ℕ, List, ◌++◌, length, take, IsTrue, ◌↔◌, OnOk, OnErr, IfOk, IfErr};
-    ghost use Rattle.linearize_check_proof.specs.Rules.{IsLaidOut};
+    ghost use Rattle.linearize_check_layout.specs.Rules.{IsLaidOut};
     ghost use Rattle.linearize_check.specs.OrderForm.{CertFits, cert_text};
     ghost use Rattle.linearize_check.specs.Baseline.{IsBaseline};
     ghost use Rattle.linearize_check.specs.PassLaws.{laid_out_fits, one_order, sound_law, never};

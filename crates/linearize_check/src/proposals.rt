@@ -1,8 +1,8 @@
 //! Orders that anybody proposes, and the functions that are laid out by them.
 
 ghost use Rattle.std.specs.Prelude.{◌≡◌, ◌↔◌, ◌<◌, All, length, Some, slice_get, IsTrue, IfOk, IsSome, IfSome};
-ghost use Rattle.linearize_check_proof.specs.Rules.{IsLaidOut};
-ghost use Rattle.linearize_check_proof.specs.Orders.{ListsNodes, IsOrder};
+ghost use Rattle.linearize_check_layout.specs.Rules.{IsLaidOut};
+ghost use Rattle.linearize_check_layout.specs.Orders.{ListsNodes, IsOrder};
 
 use crate::faults::lowest_disordered;
 use crate::order::Order;

@@ -1,7 +1,7 @@
 //! Whether an output is laid out by an order, and where it is not.
 
 ghost use Rattle.std.specs.Prelude.{◌≡◌, ◌↔◌, IsTrue, IfOk};
-ghost use Rattle.linearize_check_proof.specs.Rules.{HasFrame, IsLaidOut};
+ghost use Rattle.linearize_check_layout.specs.Rules.{HasFrame, IsLaidOut};
 ghost use Rattle.linearize_check.specs.Faults.{TellsFault};
 
 use crate::faults::{lesser, lowest_disordered};
@@ -9,7 +9,7 @@ use crate::order::Order;
 use crate::proposals::lists_nodes;
 use crate::walk::walk_along;
 use lang_base::{Fault, NoMemory};
-use machine::Location;
+use linear_language::Location;
 use std::alloc::Global;
 
 /// What is wrong with the output and the order, if anything is. `Shape`: the order does not begin with the entry, is

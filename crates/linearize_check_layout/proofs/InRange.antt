@@ -4,8 +4,8 @@ use Rattle.std.proofs.Common.{◌≡◌, ◌≢◌, ℕ, zero, suc, ◌+◌, ◌
 use Rattle.std.specs.Prelude.{slice_get}
 use Rattle.std.specs.List.{AllByRecursion}
 use Rattle.locations.specs.declared.location.Move.{Move}
-use Rattle.machine.specs.declared.act.Act.{Act}
-use Rattle.machine.specs.Fits.{MoveFits, AreDistinct}
+use Rattle.ltl.specs.Act.{Act}
+use Rattle.ltl.specs.Fits.{MoveFits, AreDistinct}
 use Rattle.ltl.specs.declared.block.Block.{Block}
 use Rattle.ltl.specs.declared.block.Body.{Body}
 use Rattle.ltl.specs.declared.block.Body.TheVariants as body

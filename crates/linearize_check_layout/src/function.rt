@@ -1,7 +1,7 @@
 //! A whole function, laid out.
 
 ghost use Rattle.std.specs.Prelude.{◌≡◌, ◌<◌, ◌^◌, length, IfOk};
-ghost use Rattle.machine.specs.Fits.{AreDistinct};
+ghost use Rattle.ltl.specs.Fits.{AreDistinct};
 ghost use Rattle.linearize_check_proof.specs.Rules.{laid_out};
 
 use crate::layout::lay_out;

@@ -7,8 +7,7 @@ ghost use Rattle.linearize_check_proof.specs.Layout.{copies, act_code, is_next, 
 use lang_base::{NoMemory, Row};
 use linearize_check_proof::Instruction;
 use locations::Location;
-use ltl::{Block, Body};
-use machine::{Act, Move};
+use ltl::{Act, Block, Body, Move};
 use std::alloc::Global;
 
 /// The code of the listed nodes' blocks, in order. A number that is no node's has no code.

@@ -10,8 +10,11 @@ pub use Rattle.machine.specs.Acts
 pub use Rattle.machine.specs.Frames
 pub use Rattle.machine.specs.Calls
 pub use Rattle.machine.specs.Fits
-pub use Rattle.lang_base.specs.Behaviour
-pub use Rattle.lang_base.specs.Machine
 pub use Rattle.machine.specs.declared.act.Act
 pub use Rattle.machine.specs.declared.arguments.Arguments
 pub use Rattle.machine.specs.declared.test.Test
+pub use Rattle.machine.specs.LocationsFits
+pub use Rattle.machine.specs.LocationsReading
+pub use Rattle.machine.specs.LocationsSpelling
+pub use Rattle.machine.specs.Location
+pub use Rattle.machine.specs.Move

@@ -1,5 +1,4 @@
-use lang_base::Row;
-use machine::{Act, Location, Move, Register, Test};
+use machine::{Act, Location, Move, Register, Row, Test};
 
 /// A node of the graph: moves, and then what it does and where it goes on.
 #[derive(PartialEq, Eq, Drop)]

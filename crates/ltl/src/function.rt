@@ -1,6 +1,5 @@
 use crate::block::Block;
-use lang_base::Row;
-use machine::Location;
+use machine::{Location, Row};
 use std::marker::Model;
 
 /// A function: where its parameters lie, how many slots it has, the node where it begins, and its

@@ -1,7 +1,7 @@
 //! Writers of the parts of a function: each appends the text.
 
 ghost use Rattle.std.specs.Prelude.{◌≤◌, ◌∷◌, length};
-ghost use Rattle.lang_base.specs.Texts.{Appends};
+ghost use Rattle.machine.specs.Texts.{Appends};
 ghost use Rattle.machine.specs.Fits.{move_limit, argument_limit};
 ghost use Rattle.ltl.specs.declared.block.Body.TheVariants.{Branch};
 ghost use Rattle.ltl.specs.Function.{HasShortLists, after_of, arguments_of};
@@ -9,10 +9,9 @@ ghost use Rattle.ltl.specs.Spelling.{any_code, any_body, going_text, body_text, 
 
 use crate::block::{Block, Body};
 use crate::function::Function;
-use lang_base::{NoMemory, push_byte, push_u16};
-use lang_parts::{WriteOne, push_each};
 use machine::{
-    Act, Move, Test, push_act, push_call, push_frame, push_moves, push_test, push_value,
+    Act, Move, NoMemory, Test, WriteOne, push_act, push_byte, push_call, push_each, push_frame,
+    push_moves, push_test, push_u16, push_value,
 };
 
 /// The successor, and the moves behind the instruction.

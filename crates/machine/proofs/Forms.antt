@@ -2,7 +2,7 @@
 use Rattle.std.proofs.Common.{◌≡◌, ℕ, ◌<◌, ◌^◌, List, ◌++◌, Option, Ok, inl, inr, refl, sym, subst, arith}
 use Rattle.std.specs.Prelude.{◌⊎◌}
 use Rattle.std.specs.Int.{w16, w32, to_be_bytes}
-use Rattle.lang_base.specs.Reading.{byte, number, decoded, both, unknown}
+use Rattle.locations.specs.LangBaseReading.{byte, number, decoded, both, unknown}
 use Rattle.lang_base.proofs.Forms.{IsForm}
 use Rattle.lang_base.proofs.Parts.{byte_form, number32_form, made_takes, made_again, made_form, decoded_form, both_form}
 use Rattle.lang_base.proofs.Lists.{HasCode, TakesBehind, unknown_takes, follow_form}

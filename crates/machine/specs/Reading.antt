@@ -1,7 +1,7 @@
 -- How the parts that LTL and Linear share are read.
 use Rattle.std.specs.Prelude.{ℕ, [], ◌∷◌, ◌==◌, if◌then◌else◌}
 use Rattle.std.specs.Int.{w32}
-use Rattle.lang_base.specs.Reading.{Reading, byte, number, made, decoded, both, Table, follow, unknown}
+use Rattle.locations.specs.LangBaseReading.{Reading, byte, number, made, decoded, both, Table, follow, unknown}
 use Rattle.ints.specs.Codes.{op_of_code, argument_count_of}
 use Rattle.ints.specs.Conditions.{cond_of_code, cond_argument_count_of}
 use Rattle.locations.specs.Reading.{register, value}

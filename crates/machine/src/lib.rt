@@ -15,10 +15,14 @@ pub use act::Act;
 pub use arguments::Arguments;
 pub use callees::callees_begin;
 pub use callers::callers_go_on;
+pub use ints::{Cond, Op};
 pub use locations::{
-    Half, Location, Move, REGISTER_COUNT, ReadOne, Register, push_call, push_each, push_frame,
-    push_move, push_moves, push_value, read_call, read_frame, read_global, read_move, read_moves,
-    read_so_many, read_value,
+    CopyOne, Fault, Form, FormError, Half, Language, Location, Move, NoMemory, REGISTER_COUNT,
+    ReadOne, Register, Row, WriteOne, are_bytes, copy_each, push_byte, push_call, push_each,
+    push_frame, push_move, push_moves, push_u16, push_u32, push_value, read_byte, read_call,
+    read_count, read_ends, read_frame, read_front, read_function_number, read_global, read_move,
+    read_moves, read_node, read_so_many, read_u16, read_u16_below, read_u32, read_value,
+    write_whole,
 };
 pub use reading::{read_act, read_test};
 pub use test::Test;

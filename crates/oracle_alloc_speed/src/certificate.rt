@@ -1,9 +1,8 @@
 //! The certificate: at each marked node, that each live register's word lies where its web does.
 
-use alloc_check::{Equation, EquationLists, NodeRow};
 use lang_base::{NoMemory, Row};
 use oracle_alloc_blocks::Assignment;
-use oracle_webs::{Places, Webs};
+use oracle_webs::{Equation, EquationLists, NodeRow, Places, Webs};
 use std::alloc::Global;
 
 fn equations_at(

@@ -13,5 +13,5 @@ mod placing;
 mod propose;
 mod slots;
 
-pub use alloc_check::EquationLists;
+pub use oracle_webs::EquationLists;
 pub use propose::AllocSpeed;

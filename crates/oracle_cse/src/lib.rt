@@ -8,4 +8,5 @@ mod numbering;
 mod propose;
 mod worthwhile;
 
+pub use oracle_alloc::{AllocOracle, EquationLists};
 pub use propose::{CseOracle, CseSpeed};

@@ -7,3 +7,5 @@ pub use Rattle.paxos_core_late_offers.proofs.BelongsLemmas
 pub use Rattle.paxos_core_late_offers.proofs.WorldLemmas
 pub use Rattle.paxos_core_late_offers.proofs.Reopens
 pub use Rattle.paxos_core_late_offers.proofs.Theorem
+pub use Rattle.paxos_core_late_offers.proofs.BallotLemmas
+pub use Rattle.paxos_core_late_offers.proofs.WouldLemmas

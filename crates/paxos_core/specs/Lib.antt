@@ -27,3 +27,5 @@ pub use Rattle.paxos_core_late_offers.specs.Belongs
 pub use Rattle.paxos_core_late_offers.specs.Message
 pub use Rattle.paxos_core_late_offers.specs.Notes
 pub use Rattle.paxos_core_late_offers.specs.Proposer
+pub use Rattle.paxos_core_late_offers.specs.PaxosCoreLawStep
+pub use Rattle.paxos_core_late_offers.specs.Invariant

@@ -3,3 +3,5 @@
 #![tactic(auto)]
 
 pub mod law;
+
+pub use paxos_core_world::{ballot, kept, msg, quorum, vote};

@@ -6,4 +6,6 @@ pub use Rattle.paxos_core_law.proofs.TakesLemmas
 pub use Rattle.paxos_core_law.proofs.WorldLemmas
 pub use Rattle.paxos_core_law.proofs.Reopens
 pub use Rattle.paxos_core_law.proofs.Theorem
-pub use Rattle.paxos_core_world.proofs.Quorums
+pub use Rattle.paxos_core_law.proofs.PaxosCoreWorldQuorums as Quorums
+pub use Rattle.paxos_core_law.proofs.BallotLemmas
+pub use Rattle.paxos_core_law.proofs.WouldLemmas

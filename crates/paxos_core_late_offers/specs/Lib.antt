@@ -14,12 +14,14 @@ pub use Rattle.paxos_core_law.specs.Would
 pub use Rattle.paxos_core_law.specs.declared.step.Act
 pub use Rattle.paxos_core_law.specs.Agreement
 pub use Rattle.paxos_core_law.specs.OneCode
-pub use Rattle.paxos_core_world.specs.KeptPart
-pub use Rattle.paxos_core_world.specs.Quorum
-pub use Rattle.paxos_core_world.specs.Run
-pub use Rattle.paxos_core_world.specs.Settled
-pub use Rattle.paxos_core_world.specs.Step
-pub use Rattle.paxos_core_world.specs.World
-pub use Rattle.paxos_core_world.specs.declared.msg.Msg
-pub use Rattle.paxos_core_world.specs.declared.vote.Vote
-pub use Rattle.paxos_core_world.specs.Ballot
+pub use Rattle.paxos_core_law.specs.KeptPart
+pub use Rattle.paxos_core_law.specs.Quorum
+pub use Rattle.paxos_core_law.specs.Run
+pub use Rattle.paxos_core_law.specs.Settled
+pub use Rattle.paxos_core_law.specs.PaxosCoreWorldStep as Step
+pub use Rattle.paxos_core_law.specs.World
+pub use Rattle.paxos_core_law.specs.Msg
+pub use Rattle.paxos_core_law.specs.Vote
+pub use Rattle.paxos_core_law.specs.Ballot
+pub use Rattle.paxos_core_law.specs.declared.step.Step as PaxosCoreLawStep
+pub use Rattle.paxos_core_law.specs.Invariant

@@ -4,6 +4,5 @@
 
 mod theorem;
 
-pub use paxos_core_law::{promises, settled, step};
-pub use paxos_core_world::{ballot, kept, msg, quorum, vote};
+pub use paxos_core_law::{ballot, kept, msg, promises, quorum, settled, step, vote};
 pub use theorem::late_offers;

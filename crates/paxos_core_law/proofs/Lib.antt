@@ -7,3 +7,4 @@ pub mod TakesLemmas
 pub mod WouldLemmas
 pub use Rattle.paxos_core_model.proofs.Reopens
 pub use Rattle.paxos_core_model.proofs.Theorem
+pub use Rattle.paxos_core_model.proofs.PaxosCoreWorldQuorums

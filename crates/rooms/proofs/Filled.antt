@@ -2,9 +2,9 @@
 use Rattle.std.proofs.Common.{◌≡◌, ℕ, zero, suc, ◌<◌, ◌⊎◌, false, true, List, [], ◌∷◌, length, set, get_or-set_same, get_or-set_other, Option, Some, None, IsSome, is_some, refl, sym, ap, ◌∙◌, subst, inl, inr}
 use native.Mathlib.Decide.{ℕ_discrete}
 use Rattle.std.proofs.lemmas.List.{length-map}
-use Rattle.paxos_core_law.specs.Would.{kept_by}
-use Rattle.paxos_core_law.specs.declared.step.Step.{Step}
-use Rattle.paxos_core_law.specs.declared.step.Step.TheVariants as step
+use Rattle.rooms_seat.specs.PaxosCoreLawWould.{kept_by}
+use Rattle.rooms_seat.specs.PaxosCoreLawStep.{Step}
+use Rattle.rooms_seat.specs.PaxosCoreLawStep.TheVariants as step
 use Rattle.paxos_core_world.specs.KeptPart.{KeptPart, nothing_kept}
 use Rattle.paxos_core_world.specs.Quorum.{Sizes}
 use Rattle.paxos_core_world.specs.World.{nodes_of}

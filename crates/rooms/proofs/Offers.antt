@@ -1,6 +1,6 @@
 -- What an offer that the cell takes makes of a seat.
 use Rattle.std.proofs.Common.{◌≡◌, ℕ, ◌<◌, false, List, length, get_or-set_same, get_or-set_other, Some, None, sym, ap, ◌∙◌, subst}
-use Rattle.paxos_core_law.specs.NodeState.{offered}
+use Rattle.rooms_seat.specs.NodeState.{offered}
 use Rattle.rooms_cells.specs.declared.sight.Put.{Put}
 use Rattle.rooms_cells.specs.declared.sight.Put.TheVariants as put
 use Rattle.rooms_cells.specs.Seen.{SightOf, IsPut, IsPutAt, nothing_seen, sight_at, value_at}

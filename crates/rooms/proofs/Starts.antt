@@ -1,8 +1,8 @@
 -- What a start answers is what was told.
 use Rattle.std.proofs.Common.{◌≡◌, ℕ, ◌<◌, ◌≤◌, ◌↔◌, Bool, true, false, cond, leb, Some, None, Ok, Err, IfOk, IsErr, Result, option_map, refl, sym, ap, ◌∙◌, arith}
 use Rattle.std.proofs.lemmas.Bool.{le-leb, leb-true}
-use Rattle.paxos_core_law.specs.Proposer.{next_ballot}
-use Rattle.paxos_core_law.specs.declared.step.Step.TheVariants as step
+use Rattle.rooms_seat.specs.Proposer.{next_ballot}
+use Rattle.rooms_seat.specs.PaxosCoreLawStep.TheVariants as step
 use Rattle.rooms_seat.specs.Act.TheVariants as act
 use Rattle.rooms_seat.specs.SeatState.{SeatState}
 use Rattle.rooms_seat.specs.Would.{would}

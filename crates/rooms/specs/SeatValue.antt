@@ -1,6 +1,6 @@
 -- A seat of a room: its words, and what it has seen of the cells.
 use Rattle.std.specs.Prelude.{◌≡◌, ◌≢◌, ℕ, false, true, List, Option, Some, None, IsSome}
-use Rattle.paxos_core_law.specs.NodeState.{offered}
+use Rattle.rooms_seat.specs.NodeState.{offered}
 use Rattle.rooms_cells.specs.declared.sight.Put.{Put}
 use Rattle.rooms_cells.specs.declared.sight.Put.TheVariants as put
 use Rattle.rooms_cells.specs.Seen.{SightOf, names_of, value_at}

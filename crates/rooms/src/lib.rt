@@ -14,5 +14,5 @@ pub use meeting::meet;
 pub use room::{Room, seats_of};
 pub use rooms_cells::Put;
 pub use rooms_seat::act::Act;
-pub use rooms_seat::{Meeting, Quorums};
+pub use rooms_seat::{FourDealers, Meeting, Quorums, WordSeat, open_four};
 pub use seat::Seat;

@@ -1,7 +1,7 @@
 ghost use Rattle.std.specs.Prelude.{◌≡◌, ℕ, ◌<◌, ◌↔◌, true, Some, None, IsErr, IfOk, IfSome, MatchOption};
 ghost use Rattle.std.specs.Option.{option_map};
 ghost use Rattle.std.specs.Arc.{arc_value};
-ghost use Rattle.paxos_core_law.specs.declared.step.Step.TheVariants as step;
+ghost use Rattle.rooms_seat.specs.PaxosCoreLawStep.TheVariants as step;
 ghost use Rattle.paxos_core_world.specs.Quorum.{AreQuorums};
 ghost use Rattle.paxos_core_world.specs.World.{Has};
 ghost use Rattle.paxos_core_world.specs.declared.vote.Vote.{Vote};

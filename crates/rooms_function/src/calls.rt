@@ -5,9 +5,9 @@ ghost use Rattle.std.specs.Prelude.{◌≡◌, ℕ, ◌<◌, ◌≤◌, ◌↔�
 ghost use Rattle.std.specs.Option.{option_map};
 ghost use Rattle.paxos_core_law.specs.declared.step.Step.TheVariants as step;
 ghost use Rattle.paxos_core_world.specs.declared.vote.Vote.{Vote};
-ghost use Rattle.rooms_state.specs.Did.{Forgotten, LookedAtAcceptor, LookedAtProposer};
-ghost use Rattle.rooms_state.specs.Would.{would, Acted, IsAmong};
-ghost use Rattle.rooms_state.specs.declared.act.Act.TheVariants as act;
+ghost use Rattle.rooms.specs.Did.{Forgotten, LookedAtAcceptor, LookedAtProposer};
+ghost use Rattle.rooms.specs.Would.{would, Acted, IsAmong};
+ghost use Rattle.rooms.specs.Act.TheVariants as act;
 ghost use Rattle.rooms_function.specs.Pass.{words_in, HasLearned, IsOnlyIn};
 
 use crate::seat::FunctionSeat;

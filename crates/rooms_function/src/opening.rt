@@ -12,8 +12,7 @@ use cse_check::Cse;
 use linearize_check::Linearize;
 use offers::Offer;
 use paxos_core::{Kept, Quorums, settled};
-use rooms::{RoomError, Seat, seats_of};
-use rooms_seat::{FourDealers, open_four};
+use rooms::{FourDealers, RoomError, Seat, open_four, seats_of};
 use std::alloc::{AllocError, Global};
 use std::vec::IntoIter;
 

@@ -19,10 +19,10 @@ use Rattle.rooms_state.specs.Steps.{Advances}
 use Rattle.rooms_state.specs.Views.{world_after, BeginsWith, IsLegal}
 use Rattle.rooms_state.proofs.HearLemmas.{me_hearing}
 use Rattle.rooms_state.proofs.RunLemmas.{world_after-append, begins_through, legal_reached, run_behind}
-use Rattle.rooms_steps.specs.NotBelow.{AcceptorNotBelow, ProposerNotBelow}
-use Rattle.rooms_steps.specs.Sight.{AcceptorSeen, ProposerSeen}
-use Rattle.rooms_steps.specs.WordsOf.{proposed_by}
-use Rattle.rooms_steps.proofs.Stays.{acceptor_seen_later, proposer_seen_later}
+use Rattle.rooms_rights.specs.NotBelow.{AcceptorNotBelow, ProposerNotBelow}
+use Rattle.rooms_rights.specs.Sight.{AcceptorSeen, ProposerSeen}
+use Rattle.rooms_rights.specs.WordsOf.{proposed_by}
+use Rattle.rooms_rights.proofs.Stays.{acceptor_seen_later, proposer_seen_later}
 use Rattle.paxos_core_world.specs.Run.{reached}
 use Rattle.rooms_state.specs.Did.{LookedAtAcceptor, LookedAtProposer}
 use Rattle.rooms_met.specs.Met.{HasSeenNoLess, LookedAtAll, LookedAtBoth, LookedAtFirst, LookedOn}

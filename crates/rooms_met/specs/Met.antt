@@ -12,7 +12,7 @@ use Rattle.rooms_rights.specs.AcceptorWord.{AcceptorWord}
 use Rattle.rooms_rights.specs.ProposerWord.{ProposerWord}
 use Rattle.rooms_state.specs.Deal.{informed}
 use Rattle.rooms_state.specs.Did.{LookedAtAcceptor, LookedAtProposer}
-use Rattle.rooms_steps.specs.NotBelow.{AcceptorNotBelow, ProposerNotBelow}
+use Rattle.rooms_rights.specs.NotBelow.{AcceptorNotBelow, ProposerNotBelow}
 use Rattle.rooms_state.specs.SeatState.{SeatState, seen_world, acceptor_of, proposer_of, vote_of}
 
 -- the run that the seat has seen is one of the protocol; its node belongs to the last world, but that its offer may not stand

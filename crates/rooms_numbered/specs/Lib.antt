@@ -7,3 +7,5 @@ pub use Rattle.rooms_function.specs.CsePass
 pub use Rattle.rooms_function.specs.ConstPropPass
 pub use Rattle.rooms_function.specs.Fact
 pub use Rattle.rooms_function.specs.Equation
+pub use Rattle.rooms_function.specs.LinearizePass
+pub use Rattle.rooms_function.specs.AllocCheckEquation

@@ -8,6 +8,6 @@ mod seat;
 
 pub use meeting::meet;
 pub use rooms_function::{
-    Alloc, ConstProp, Cse, EquationLists, FactLists, FunctionSeat, PlaceLists,
+    Alloc, ConstProp, Cse, EquationLists, FactLists, FunctionSeat, Linearize, Order, PlaceLists,
 };
 pub use seat::NumberedSeat;

@@ -25,3 +25,9 @@ pub use Rattle.paxos_core.specs.KeptPart
 pub use Rattle.paxos_core.specs.Quorum
 pub use Rattle.paxos_core.specs.Settled
 pub use Rattle.paxos_core.specs.World
+pub use Rattle.paxos_core.specs.PaxosCoreLawStep
+pub use Rattle.paxos_core.specs.Invariant
+pub use Rattle.paxos_core.specs.Run
+pub use Rattle.paxos_core.specs.Step
+pub use Rattle.paxos_core.specs.Msg
+pub use Rattle.paxos_core.specs.Vote

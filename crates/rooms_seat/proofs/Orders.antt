@@ -8,13 +8,13 @@ use Rattle.paxos_core_world.specs.Settled.{is_given}
 use Rattle.paxos_core_world.specs.World.{Has}
 use Rattle.paxos_core_world.specs.declared.msg.Msg.TheVariants.{Propose, Accepted}
 use Rattle.paxos_core_world.specs.declared.vote.Vote.{Vote}
-use Rattle.paxos_core_law.specs.NodeState.{NodeState}
-use Rattle.paxos_core_law.specs.Proposer.{next_proposal, propose_message}
-use Rattle.paxos_core_law.specs.Would.{next_vote}
-use Rattle.rooms_steps.specs.LateOffer.{taken_late_by_propose}
-use Rattle.rooms_steps.proofs.LateLemmas.{offers_may_be_late}
-use Rattle.rooms_steps.proofs.OfferLemmas.{proposal_offered}
-use Rattle.rooms_steps.proofs.RunLemmas.{reached_more, kept_of}
+use Rattle.rooms_state.specs.NodeState.{NodeState}
+use Rattle.rooms_state.specs.Proposer.{next_proposal, propose_message}
+use Rattle.rooms_state.specs.PaxosCoreLawWould.{next_vote}
+use Rattle.rooms_state.specs.LateOffer.{taken_late_by_propose}
+use Rattle.rooms_state.proofs.LateLemmas.{offers_may_be_late}
+use Rattle.rooms_state.proofs.OfferLemmas.{proposal_offered}
+use Rattle.rooms_state.proofs.RunLemmas.{reached_more, kept_of}
 use Rattle.rooms_state.proofs.HearLemmas.{invariant_of}
 use Rattle.rooms_state.proofs.RunLemmas.{legal_reached}
 use Rattle.rooms_state.proofs.Moves.{nodes_are, number_below}

@@ -8,3 +8,7 @@ pub use Rattle.rooms_met.specs.RoomAt
 pub use Rattle.rooms_met.specs.Opening
 pub use Rattle.rooms_met.specs.AcceptorWord
 pub use Rattle.rooms_met.specs.ProposerWord
+pub use Rattle.rooms_state.specs.NodeState
+pub use Rattle.rooms_state.specs.Proposer
+pub use Rattle.rooms_state.specs.PaxosCoreLawWould
+pub use Rattle.rooms_state.specs.PaxosCoreLawStep

@@ -13,14 +13,14 @@ use Rattle.paxos_core_world.specs.World.{World, Has}
 use Rattle.paxos_core_world.specs.declared.msg.Msg.{Msg}
 use Rattle.paxos_core_world.specs.declared.msg.Msg.TheVariants.{Prepare, Propose}
 use Rattle.paxos_core_world.specs.declared.vote.Vote.{Vote}
-use Rattle.paxos_core_law.specs.Acceptor.{is_vote, promises, accepts, after_prepare, after_propose}
-use Rattle.paxos_core_law.specs.Message.{after_message}
-use Rattle.paxos_core_law.specs.NodeState.{NodeState, offered}
-use Rattle.paxos_core_law.specs.Proposer.{next_ballot, started, next_proposal, propose_message, after_answer, after_proposal}
-use Rattle.paxos_core_law.specs.Reached.{IsReached}
-use Rattle.paxos_core_law.specs.Would.{after_act, next_promise, next_vote}
-use Rattle.paxos_core_law.specs.declared.step.Act.{Act}
-use Rattle.paxos_core_law.specs.declared.step.Act.TheVariants as act
+use Rattle.rooms_steps.specs.Acceptor.{is_vote, promises, accepts, after_prepare, after_propose}
+use Rattle.rooms_steps.specs.Message.{after_message}
+use Rattle.rooms_steps.specs.NodeState.{NodeState, offered}
+use Rattle.rooms_steps.specs.Proposer.{next_ballot, started, next_proposal, propose_message, after_answer, after_proposal}
+use Rattle.rooms_steps.specs.Reached.{IsReached}
+use Rattle.rooms_steps.specs.Would.{after_act, next_promise, next_vote}
+use Rattle.rooms_steps.specs.Act.{Act}
+use Rattle.rooms_steps.specs.Act.TheVariants as act
 use Rattle.rooms_steps.specs.LateOffer.{taken_late_by_propose}
 use Rattle.rooms_steps.proofs.LateLemmas.{offers_may_be_late}
 use Rattle.rooms_steps.specs.Words.{proposed_in, IsProposerWord, IsAcceptorWord}

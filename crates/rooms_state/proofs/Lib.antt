@@ -5,4 +5,6 @@ pub mod Told
 pub use Rattle.rooms_steps.proofs.HearLemmas
 pub use Rattle.rooms_steps.proofs.Looks
 pub use Rattle.rooms_steps.proofs.RunLemmas
-pub use Rattle.paxos_core_law.proofs.Theorem
+pub use Rattle.rooms_steps.proofs.Theorem
+pub use Rattle.rooms_steps.proofs.LateLemmas
+pub use Rattle.rooms_steps.proofs.OfferLemmas

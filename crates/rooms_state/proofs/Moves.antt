@@ -8,10 +8,10 @@ use Rattle.paxos_core_world.specs.Run.{IsRun, reached}
 use Rattle.paxos_core_world.specs.Step.{Label}
 use Rattle.paxos_core_world.specs.World.{World}
 use Rattle.paxos_core_world.specs.declared.vote.Vote.{Vote}
-use Rattle.paxos_core_law.specs.Learner.{after_promise, notes_promise, notes_vote}
-use Rattle.paxos_core_law.specs.NodeState.{NodeState, offered, restarted}
-use Rattle.paxos_core_law.specs.Reached.{IsReached}
-use Rattle.paxos_core_law.specs.Taken.{taken_by_restart}
+use Rattle.rooms_steps.specs.Learner.{after_promise, notes_promise, notes_vote}
+use Rattle.rooms_steps.specs.NodeState.{NodeState, offered, restarted}
+use Rattle.rooms_steps.specs.Reached.{IsReached}
+use Rattle.rooms_steps.specs.Taken.{taken_by_restart}
 use Rattle.rooms_steps.specs.LateOffer.{BelongsWithLateOffer}
 use Rattle.rooms_steps.specs.Words.{started_in, proposed_in, promised_in, accepted_in}
 use Rattle.rooms_steps.specs.AcceptorWord.{AcceptorWord}

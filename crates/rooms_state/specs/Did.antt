@@ -1,8 +1,8 @@
 -- What a call of a seat does: one word step, and with it at most one step of the protocol and an offer.
 use Rattle.std.specs.Prelude.{◌≡◌, ◌≢◌, ℕ, [], Option, Some, slice_set}
-use Rattle.paxos_core_law.specs.NodeState.{restarted}
-use Rattle.paxos_core_law.specs.Would.{after_act}
-use Rattle.paxos_core_law.specs.declared.step.Act.{Act}
+use Rattle.rooms_steps.specs.NodeState.{restarted}
+use Rattle.rooms_steps.specs.Would.{after_act}
+use Rattle.rooms_steps.specs.Act.{Act}
 use Rattle.rooms_steps.specs.AcceptorWord.{AcceptorWord}
 use Rattle.rooms_steps.specs.ProposerWord.{ProposerWord}
 use Rattle.rooms_steps.specs.Heard.{after_hearing, taken_by_hearing}

@@ -13,3 +13,8 @@ pub use Rattle.rooms_steps.specs.Event
 pub use Rattle.rooms_steps.specs.ProposerWord
 pub use Rattle.rooms_steps.specs.Opening
 pub use Rattle.rooms_steps.specs.View
+pub use Rattle.rooms_steps.specs.LateOffer
+pub use Rattle.rooms_steps.specs.NodeState
+pub use Rattle.rooms_steps.specs.Proposer
+pub use Rattle.rooms_steps.specs.Would as PaxosCoreLawWould
+pub use Rattle.rooms_steps.specs.PaxosCoreLawStep

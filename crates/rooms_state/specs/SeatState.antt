@@ -5,8 +5,8 @@ use Rattle.paxos_core_world.specs.Quorum.{AreQuorums, Sizes}
 use Rattle.paxos_core_world.specs.Settled.{Settled, is_given}
 use Rattle.paxos_core_world.specs.World.{World, nodes_of}
 use Rattle.paxos_core_world.specs.declared.vote.Vote.{Vote}
-use Rattle.paxos_core_law.specs.NodeState.{NodeState, node_with}
-use Rattle.paxos_core_law.specs.Would.{next_promise, next_vote}
+use Rattle.rooms_steps.specs.NodeState.{NodeState, node_with}
+use Rattle.rooms_steps.specs.Would.{next_promise, next_vote}
 use Rattle.rooms_steps.specs.AcceptorWord.{AcceptorWord}
 use Rattle.rooms_steps.specs.ProposerWord.{ProposerWord}
 use Rattle.rooms_steps.specs.Deal.{dealt}

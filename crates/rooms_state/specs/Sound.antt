@@ -1,7 +1,7 @@
 -- What holds of every seat.
 use Rattle.std.specs.Prelude.{◌≡◌, ℕ, ◌<◌, ◌≤◌, ◌⊎◌, length}
 use Rattle.paxos_core_world.specs.Ballot.{Owns}
-use Rattle.paxos_core_law.specs.NodeState.{offered}
+use Rattle.rooms_steps.specs.NodeState.{offered}
 use Rattle.rooms_steps.specs.LateOffer.{BelongsWithLateOffer}
 use Rattle.rooms_steps.specs.Words.{proposed_in}
 use Rattle.rooms_steps.specs.Sight.{ProposerSeen, AcceptorSeen}

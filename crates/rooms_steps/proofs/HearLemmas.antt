@@ -1,12 +1,12 @@
 -- What a node makes of an acceptor's word are steps of the protocol: the promise and the vote that it shows were sent.
 use Rattle.std.proofs.Common.{◌≡◌, ℕ, ◌<◌, Bool, true, false, cond, ◌&&◌, Option, Some, None, refl, sym, ap, ◌∙◌, subst, inl, inr, arith}
 use Rattle.std.proofs.lemmas.Bool.{and_parts, ltb-true, eqb-true}
-use Rattle.paxos_core_world.specs.KeptPart.{vote}
-use Rattle.paxos_core_world.specs.Quorum.{Sizes}
-use Rattle.paxos_core_world.specs.World.{World, Has}
-use Rattle.paxos_core_world.specs.declared.msg.Msg.TheVariants.{Promise, Accepted}
-use Rattle.paxos_core_world.specs.declared.vote.Vote.{Vote}
-use Rattle.paxos_core_invariant.specs.Invariant.{Invariant}
+use Rattle.rooms_rule.specs.KeptPart.{vote}
+use Rattle.rooms_rule.specs.Quorum.{Sizes}
+use Rattle.rooms_rule.specs.World.{World, Has}
+use Rattle.rooms_rule.specs.Msg.TheVariants.{Promise, Accepted}
+use Rattle.rooms_rule.specs.Vote.{Vote}
+use Rattle.rooms_rule.specs.Invariant.{Invariant}
 use Rattle.rooms_rule.proofs.Theorem.{holds}
 use Rattle.rooms_rule.specs.Acceptor.{is_vote}
 use Rattle.rooms_rule.specs.Learner.{is_report, is_under_way, notes_promise, after_promise, notes_vote}

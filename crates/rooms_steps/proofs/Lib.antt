@@ -8,3 +8,8 @@ pub use Rattle.rooms_rule.proofs.Deal
 pub use Rattle.rooms_rule.proofs.RunLemmas
 pub use Rattle.rooms_rule.proofs.WordLemmas
 pub use Rattle.rooms_rule.proofs.LateLemmas
+pub use Rattle.rooms_rule.proofs.BallotLemmas
+pub use Rattle.rooms_rule.proofs.Theorem
+pub use Rattle.rooms_rule.proofs.WouldLemmas
+pub use Rattle.rooms_rule.proofs.LearnsLemmas
+pub use Rattle.rooms_rule.proofs.WorldLemmas

@@ -4,10 +4,10 @@ use Rattle.std.proofs.lemmas.List.{set-get_or}
 use mathlib.Core.Option.{none, some}
 use lib.ListN.{get_elem?}
 use Rattle.atomic_table.specs.Table.{State, Me, step, Allows}
-use Rattle.paxos_core_world.specs.Run.{reached}
-use Rattle.paxos_core_world.specs.Step.{Label, Learns}
-use Rattle.paxos_core_world.specs.World.{World}
-use Rattle.paxos_core_world.specs.declared.vote.Vote.{Vote}
+use Rattle.rooms_rule.specs.Run.{reached}
+use Rattle.rooms_rule.specs.Step.{Label, Learns}
+use Rattle.rooms_rule.specs.World.{World}
+use Rattle.rooms_rule.specs.Vote.{Vote}
 use Rattle.rooms_rule.specs.Learner.{after_promise}
 use Rattle.rooms_rule.specs.NodeState.{NodeState, restarted}
 use Rattle.rooms_rule.specs.Taken.{learns_from, taken_by_restart}

@@ -1,9 +1,9 @@
 -- A node held as if it had made its offer does what the node does.
 use Rattle.std.proofs.Common.{◌≡◌, ℕ, Bool, true, false, cond, Option, Some, None, refl, sym, ap, ◌∙◌}
-use Rattle.paxos_core_world.specs.KeptPart.{vote}
-use Rattle.paxos_core_world.specs.declared.msg.Msg.{Msg}
-use Rattle.paxos_core_world.specs.declared.msg.Msg.TheVariants.{Prepare, Promise, Propose, Accepted}
-use Rattle.paxos_core_world.specs.declared.vote.Vote.{Vote}
+use Rattle.rooms_rule.specs.KeptPart.{vote}
+use Rattle.rooms_rule.specs.Msg.{Msg}
+use Rattle.rooms_rule.specs.Msg.TheVariants.{Prepare, Promise, Propose, Accepted}
+use Rattle.rooms_rule.specs.Vote.{Vote}
 use Rattle.rooms_rule.specs.Acceptor.{promises, accepts}
 use Rattle.rooms_rule.specs.Learner.{notes_promise, notes_vote}
 use Rattle.rooms_rule.specs.Message.{after_message}

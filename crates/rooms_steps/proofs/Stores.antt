@@ -3,14 +3,14 @@ use Rattle.std.proofs.Common.{◌≡◌, ℕ, ◌<◌, ◌≤◌, Bool, true, fa
 use Rattle.std.proofs.lemmas.Bool.{le-leb, eqb-true, eq-eqb, cond-true}
 use mathlib.Core.Option.{none}
 use Rattle.atomic_table.specs.Table.{Me, step, Allows}
-use Rattle.paxos_core_world.specs.KeptPart.{KeptPart, with_promise, with_vote}
-use Rattle.paxos_core_world.specs.Quorum.{Sizes}
-use Rattle.paxos_core_world.specs.Run.{reached}
-use Rattle.paxos_core_world.specs.Step.{Label, Offers, Starts, Promises, Proposes, Accepts}
-use Rattle.paxos_core_world.specs.World.{World, Has}
-use Rattle.paxos_core_world.specs.declared.msg.Msg.{Msg}
-use Rattle.paxos_core_world.specs.declared.msg.Msg.TheVariants.{Prepare, Promise, Propose, Accepted}
-use Rattle.paxos_core_world.specs.declared.vote.Vote.{Vote}
+use Rattle.rooms_rule.specs.KeptPart.{KeptPart, with_promise, with_vote}
+use Rattle.rooms_rule.specs.Quorum.{Sizes}
+use Rattle.rooms_rule.specs.Run.{reached}
+use Rattle.rooms_rule.specs.Step.{Label, Offers, Starts, Promises, Proposes, Accepts}
+use Rattle.rooms_rule.specs.World.{World, Has}
+use Rattle.rooms_rule.specs.Msg.{Msg}
+use Rattle.rooms_rule.specs.Msg.TheVariants.{Prepare, Promise, Propose, Accepted}
+use Rattle.rooms_rule.specs.Vote.{Vote}
 use Rattle.rooms_rule.specs.Acceptor.{promises, accepts, after_prepare, after_propose}
 use Rattle.rooms_rule.specs.Belongs.{Belongs}
 use Rattle.rooms_rule.specs.Message.{reply, after_message}

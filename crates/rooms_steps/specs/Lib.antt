@@ -14,3 +14,14 @@ pub use Rattle.rooms_rule.specs.declared.proposer.ProposerWord
 pub use Rattle.rooms_rule.specs.declared.view.Opening
 pub use Rattle.rooms_rule.specs.declared.view.View
 pub use Rattle.rooms_rule.specs.LateOffer
+pub use Rattle.rooms_rule.specs.Acceptor
+pub use Rattle.rooms_rule.specs.Learner
+pub use Rattle.rooms_rule.specs.Message
+pub use Rattle.rooms_rule.specs.NodeState
+pub use Rattle.rooms_rule.specs.Notes
+pub use Rattle.rooms_rule.specs.Proposer
+pub use Rattle.rooms_rule.specs.Reached
+pub use Rattle.rooms_rule.specs.Taken
+pub use Rattle.rooms_rule.specs.Would
+pub use Rattle.rooms_rule.specs.Act
+pub use Rattle.rooms_rule.specs.PaxosCoreLawStep

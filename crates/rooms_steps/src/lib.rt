@@ -2,4 +2,6 @@
 //! seats saw of the words. Lemmas alone, on which the calls of a seat stand.
 #![tactic(auto)]
 
-pub use rooms_rule::{acceptor, proposer, rule, view};
+pub use rooms_rule::{
+    CoreError, Kept, Msg, Node, Quorums, Step, Vote, acceptor, proposer, rule, settled, view,
+};

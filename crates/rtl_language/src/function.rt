@@ -1,6 +1,5 @@
 use crate::instruction::Instruction;
-use lang_base::Row;
-use rtl_parts::Register;
+use rtl_parts::{Register, Row};
 use std::marker::Model;
 
 /// A function: the registers of its parameters, how many registers it has, the node where it begins,

@@ -1,5 +1,4 @@
-use lang_base::Row;
-use rtl_parts::{Act, Register, Test};
+use rtl_parts::{Act, Register, Row, Test};
 
 /// A node of the graph: what it does, and where it goes on. Successors are node numbers.
 #[derive(PartialEq, Eq, Drop)]

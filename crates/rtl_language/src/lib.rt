@@ -13,6 +13,9 @@ mod writing;
 pub use copying::copy_instruction;
 pub use function::Function;
 pub use instruction::Instruction;
-pub use lang_parts::{ReadOne, WriteOne, push_each, read_so_many};
 pub use language::Rtl;
-pub use rtl_parts::{Act, Arguments, Register, Test};
+pub use rtl_parts::{
+    Act, Arguments, Fault, FormError, NoMemory, ReadOne, Register, Row, Test, WriteOne,
+    push_arguments, push_each, push_u16, read_arguments, read_register, read_so_many, read_u16,
+    read_u16_below,
+};

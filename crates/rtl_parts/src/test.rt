@@ -1,5 +1,5 @@
 use crate::arguments::Arguments;
-use ints::Cond;
+use machine::Cond;
 
 /// What a branch asks.
 #[derive(Clone, Copy, PartialEq, Eq)]

@@ -13,3 +13,8 @@ pub use Rattle.rtl_language.specs.Fits
 pub use Rattle.rtl_language.specs.Act
 pub use Rattle.rtl_language.specs.Arguments
 pub use Rattle.rtl_language.specs.Test
+pub use Rattle.rtl_language.specs.RtlPartsSpelling
+pub use Rattle.rtl_language.specs.LangBaseReading
+pub use Rattle.rtl_language.specs.Texts
+pub use Rattle.rtl_language.specs.RtlPartsReading
+pub use Rattle.rtl_language.specs.ArgumentsPartialEq

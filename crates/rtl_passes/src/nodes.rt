@@ -1,8 +1,7 @@
 ghost use Rattle.std.specs.Prelude.{◌≡◌, All, length, IfOk};
 ghost use Rattle.rtl_language.specs.Function.{InstructionFits};
 
-use lang_base::{NoMemory, Row};
-use rtl_language::{Function, Instruction};
+use rtl_language::{Function, Instruction, NoMemory, Row};
 use std::alloc::Global;
 
 /// The function with these instructions, which are in range and as many as its own.

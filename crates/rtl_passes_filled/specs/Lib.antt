@@ -18,3 +18,12 @@ pub use Rattle.rtl_passes_marks.specs.Test
 pub use Rattle.rtl_passes_marks.specs.Edges
 pub use Rattle.rtl_passes_marks.specs.RowForm
 pub use Rattle.rtl_passes_marks.specs.Rows
+pub use Rattle.rtl_passes_marks.specs.Faults
+pub use Rattle.rtl_passes_marks.specs.Handing
+pub use Rattle.rtl_passes_marks.specs.ListForm
+pub use Rattle.rtl_passes_marks.specs.Marks
+pub use Rattle.rtl_passes_marks.specs.Shape
+pub use Rattle.rtl_passes_marks.specs.Short
+pub use Rattle.rtl_passes_marks.specs.RtlPartsReading
+pub use Rattle.rtl_passes_marks.specs.RtlPartsSpelling
+pub use Rattle.rtl_passes_marks.specs.ArgumentsPartialEq

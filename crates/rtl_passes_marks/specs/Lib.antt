@@ -21,3 +21,7 @@ pub use Rattle.rtl_passes.specs.Fits
 pub use Rattle.rtl_passes.specs.Act
 pub use Rattle.rtl_passes.specs.Arguments
 pub use Rattle.rtl_passes.specs.Test
+pub use Rattle.rtl_passes.specs.RtlPartsReading
+pub use Rattle.rtl_passes.specs.RtlPartsSpelling
+pub use Rattle.rtl_passes.specs.ArgumentsPartialEq
+pub use Rattle.rtl_passes.specs.Frames

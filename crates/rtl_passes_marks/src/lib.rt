@@ -20,8 +20,8 @@ pub use marks::{Came, feeders_of};
 pub use reading::read_rows;
 pub use row::{NodeRow, entries_of};
 pub use rtl_passes::{
-    Act, Arguments, Function, Instruction, Register, Rtl, Test, empty_lists, has_same_shape,
-    is_same,
+    Act, Arguments, Fault, Function, Instruction, Register, Rtl, Test, empty_lists, has_same_shape,
+    is_same, push_arguments, read_arguments, read_register,
 };
 pub use said::Said;
 pub use writing::write_rows;

@@ -2,5 +2,4 @@ pub mod Numbers
 pub mod Made
 pub mod Refused
 pub mod InRange
-pub use Rattle.rtlgen_definition.specs.Gen
 pub use Rattle.lang_base.specs.Keeps

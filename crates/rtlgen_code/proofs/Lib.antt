@@ -4,3 +4,5 @@ pub mod Rests
 pub mod StatementArms
 pub mod Lasts
 pub mod Rows
+pub use Rattle.rtlgen_definition.proofs.Expressions
+pub use Rattle.rtlgen_definition.proofs.Functions

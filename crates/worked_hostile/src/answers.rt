@@ -3,12 +3,11 @@
 use acceptor_log::LogError;
 use cfarm_build::BuildError;
 use durable_pair_memory::MemoryPair;
-use farm_nodes::{FarmError, Hall, Naming, OpenFault, Quorums};
 use program_rows::owned;
 use std::alloc::Global;
 use std::sync::Wait;
 use std::thread::Threads;
-use worked_whole::opened_on;
+use worked_whole::{FarmError, Hall, Naming, OpenFault, Quorums, opened_on};
 
 /// The status and the line of a build that is refused.
 pub(crate) fn line_of(alloc: Global, fault: &BuildError) -> Option<String> {

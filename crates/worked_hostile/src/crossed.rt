@@ -6,12 +6,13 @@ use cfarm_build::{Quorums, build};
 use cfarm_meter::Meter;
 use durable_model::Disk;
 use durable_pair_memory::MemoryPair;
-use farm_nodes::{Hall, Naming, Optimising, optimisers_of, prepare};
 use program_rows::owned;
 use std::alloc::Global;
 use std::sync::Wait;
 use std::thread::Threads;
-use worked_whole::{TURNS, empty_disk, whole_disks};
+use worked_whole::{
+    Hall, Naming, Optimising, TURNS, empty_disk, optimisers_of, prepare, whole_disks,
+};
 
 /// The same record in the room of the same pass of the other function, of the first two: they have the rooms 0 to 3, and 4 to 7.
 fn moved(entry: Record) -> Record {

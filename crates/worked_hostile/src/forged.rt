@@ -3,12 +3,11 @@
 use crate::answers::opening_told;
 use acceptor_log::{Header, header_bytes};
 use durable_pair_memory::MemoryPair;
-use farm_nodes::{Hall, Naming, Quorums, prepare};
 use program_rows::bytes_of;
 use std::alloc::Global;
 use std::sync::Wait;
 use std::thread::Threads;
-use worked_whole::disk_of;
+use worked_whole::{Hall, Naming, Quorums, disk_of, prepare};
 
 /// Adds a record to a journal: its gate, its length, and its bytes.
 fn add(journal: &mut Vec<u8>, body: &[u8]) -> Option<()> {

@@ -2,14 +2,13 @@
 
 use crate::answers::is_failure;
 use durable_pair_memory::MemoryPair;
-use farm_nodes::{Farm, Hall, Naming, Quorums, prepare};
 use program_rows::owned;
 use std::alloc::Global;
 use std::sync::Wait;
 use std::thread::Threads;
 use worked_whole::{
-    BYTES, CALLS, Node, all_linked, bytes_of_all, crashed, crashed_of, opened_on, ran_on, stays,
-    whole,
+    BYTES, CALLS, Farm, Hall, Naming, Node, Quorums, all_linked, bytes_of_all, crashed, crashed_of,
+    opened_on, prepare, ran_on, stays, whole,
 };
 
 /// More calls of a pair than an opening makes.

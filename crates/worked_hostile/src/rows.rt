@@ -1,7 +1,7 @@
 //! What a row asks for.
 
-use farm_nodes::Quorums;
 use std::alloc::Global;
+use worked_whole::Quorums;
 
 /// What a farm suffers.
 #[derive(Clone, Copy, Debug, PartialEq, Eq)]

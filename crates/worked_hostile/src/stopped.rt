@@ -3,13 +3,15 @@
 use crate::answers::is_failure;
 use acceptor_log::LogError;
 use durable_pair_memory::MemoryPair;
-use farm_nodes::{FarmError, Hall, Naming, OpenFault, Quorums};
 use farm_nodes_offers::Fault;
 use program_rows::owned;
 use std::alloc::Global;
 use std::sync::Wait;
 use std::thread::Threads;
-use worked_whole::{Node, all_linked, codes_of, crashed, crashed_of, disks_of, ran_on, stays};
+use worked_whole::{
+    FarmError, Hall, Naming, Node, OpenFault, Quorums, all_linked, codes_of, crashed, crashed_of,
+    disks_of, ran_on, stays,
+};
 
 /// So many moments are tried at most.
 const MOST: usize = 400;

@@ -1,11 +1,10 @@
 //! Journals of another farm.
 
 use crate::answers::opening_told;
-use farm_nodes::{Hall, Naming, Quorums};
 use std::alloc::Global;
 use std::sync::Wait;
 use std::thread::Threads;
-use worked_whole::{empty_disk, whole_disks};
+use worked_whole::{Hall, Naming, Quorums, empty_disk, whole_disks};
 
 /// The journals of the first two nodes are exchanged.
 pub(crate) fn exchanged_told<H: Naming + Send, R: Threads + Wait + Sync>(

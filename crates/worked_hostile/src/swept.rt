@@ -5,13 +5,14 @@ ghost use Rattle.std.specs.Prelude.{◌<◌, length};
 use crate::answers::line_of_farm;
 use acceptor_log::LogError;
 use durable_pair_memory::MemoryPair;
-use farm_nodes::{FarmError, Hall, Naming, OpenFault, Quorums};
 use farm_nodes_function_rooms::RoomFault;
 use program_rows::owned;
 use std::alloc::Global;
 use std::sync::Wait;
 use std::thread::Threads;
-use worked_whole::{bytes_of_all, disk_of, opened_on, whole_disks};
+use worked_whole::{
+    FarmError, Hall, Naming, OpenFault, Quorums, bytes_of_all, disk_of, opened_on, whole_disks,
+};
 
 /// What is done to a journal at a place.
 #[derive(Clone, Copy)]

@@ -2,12 +2,13 @@
 
 use crate::answers::is_failure;
 use durable_pair_memory::MemoryPair;
-use farm_nodes::{Hall, Naming, Quorums};
 use program_rows::owned;
 use std::alloc::Global;
 use std::sync::Wait;
 use std::thread::Threads;
-use worked_whole::{Node, all_linked, crashed_of, opened_on, ran_on, stays, whole};
+use worked_whole::{
+    Hall, Naming, Node, Quorums, all_linked, crashed_of, opened_on, ran_on, stays, whole,
+};
 
 /// More calls of a disk than an opening makes.
 const MOST: usize = 100;

@@ -3,8 +3,8 @@ use Rattle.std.specs.Prelude.{◌↔◌, All, Contains, IsTrue}
 use Rattle.std.proofs.lemmas.Bool.{iff_false}
 use Rattle.std.proofs.lemmas.List.{get_or_default}
 use Rattle.std.proofs.lemmas.Option.{slice_get_within}
-use Rattle.alloc_check_rules.specs.Pairs.{successors_of}
-use Rattle.alloc_check_rules.specs.Rules.{equations_at}
+use Rattle.alloc_check_lists.specs.Pairs.{successors_of}
+use Rattle.alloc_check_lists.specs.Rules.{equations_at}
 use Rattle.alloc_check_lists.specs.Fill.{needed}
 use Rattle.alloc_check_lists.specs.Sets.{SameSet}
 use Rattle.alloc_check_lists.proofs.Blocks.{same_through}

@@ -1,8 +1,8 @@
 use Rattle.std.proofs.Common.{◌≡◌, Bool, true, false, List, refl, sym, ◌∙◌}
-use Rattle.rtl_language.specs.declared.instruction.Instruction.{Instruction}
+use Rattle.alloc_check_laws.specs.Instruction.{Instruction}
 use Rattle.ltl.specs.declared.block.Block.{Block}
-use Rattle.alloc_check_rules.specs.declared.equation.Equation.{Equation}
-use Rattle.alloc_check_rules.specs.Pairs.{change_of}
+use Rattle.alloc_check_lists.specs.Equation.{Equation}
+use Rattle.alloc_check_lists.specs.Pairs.{change_of}
 use Rattle.alloc_check_lists.specs.Fill.{needed}
 use Rattle.alloc_check_lists.specs.Needed.{Keeps, IsNeeded}
 use Rattle.alloc_check_lists.proofs.Blocks.{broken_none}

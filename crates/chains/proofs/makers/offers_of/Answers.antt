@@ -2,7 +2,7 @@
 use Rattle.std.proofs.Common.{◌≡◌, None, ap, sym, subst, ◌∙◌}
 use Rattle.constprop_check.specs.Baseline as constants
 use Rattle.cse_check.specs.Baseline as expressions
-use Rattle.alloc_check.specs.Baseline as allocation
+use Rattle.linker.specs.Baseline as allocation
 use Rattle.chains.specs.declared.offering.Offers.{Offers}
 use Rattle.chains.specs.Baselines.{AreBaselines}
 use Rattle.chains.specs.Counted.{Marks, AreMarked}

@@ -1,7 +1,7 @@
 use Rattle.std.proofs.Common.{sym, subst}
-use Rattle.rooms_seat.specs.Act.{Act}
-use Rattle.rooms_seat.specs.Would.{Acted}
-use Rattle.rooms_seat.proofs.Told.{acted_start, acted_promise, acted_propose, acted_accept}
+use Rattle.farm_nodes_order.specs.Act.{Act}
+use Rattle.farm_nodes_order.specs.Would.{Acted}
+use Rattle.farm_nodes_order.proofs.RoomsStateTold.{acted_start, acted_promise, acted_propose, acted_accept}
 use Rattle.farm_nodes_acting.proofs.acting.take.Goals as goal
 
 pub returns-in-Start : goal.returns-in-Start

@@ -4,7 +4,7 @@ use Rattle.acceptor_log_form.specs.Order.{AreInOrder}
 use Rattle.acceptor_log_form.specs.Text.{StandsFor}
 use Rattle.farm_nodes_restart_records.specs.Offers.{IsConstants, IsExpressions, IsAllocation, IsOrder}
 use Rattle.farm_nodes_restart_records.specs.Fours.{fours_of}
-use Rattle.farm_nodes_restart_seat.specs.declared.fault.RestartFault.{RestartFault}
+use Rattle.farm_nodes_restart_records.specs.RestartFault.{RestartFault}
 use Rattle.farm_nodes_restart_records.specs.Texts.{pass_texts}
 use Rattle.farm_nodes_restart.specs.Returned.{HasReason, HoldsBack}
 use Rattle.farm_nodes_restart.proofs.Afterwards.{returned_over}

@@ -1,7 +1,7 @@
 use Rattle.std.proofs.Common.{◌*◌, length, refl, sym, subst, inr}
 use Rattle.farm_nodes_restart_records.specs.Fours.{fours_of}
 use Rattle.farm_nodes_restart_records.specs.Offers.{IsConstants, IsExpressions, IsAllocation, IsOrder}
-use Rattle.farm_nodes_restart_seat.specs.declared.fault.RestartFault.{RestartFault}
+use Rattle.farm_nodes_restart_records.specs.RestartFault.{RestartFault}
 use Rattle.farm_nodes_restart_records.specs.declared.finding.Found.TheVariants as found
 use Rattle.farm_nodes_restart_records.specs.Texts.{pass_texts}
 use Rattle.farm_nodes_restart.specs.Returned.{HoldsBack}

@@ -1,5 +1,5 @@
 use Rattle.std.proofs.Common.{ap, option_map}
-use Rattle.paxos_core_law.specs.declared.step.Step.TheVariants as step
+use Rattle.rooms_seat.specs.PaxosCoreLawStep.TheVariants as step
 use Rattle.rooms_seat.proofs.Told.{acted_promise}
 use Rattle.rooms.proofs.seat.Seat.promise.Goals as goal
 
