@@ -8,7 +8,7 @@
     bench/floors.py --write     writes crates.txt, which has the floors below and for each crate exactly what its files
                                 name, and crates/README.md, the index
     bench/floors.py --clauses   prints each clause over 120 characters
-    bench/floors.py --stamps    prints how many files a kit reads that remembers no stamps
+    bench/floors.py --stamps    prints how many files a kit reads that remembers no stamps; 45 million at most
 
 A crate names another where its code (`name::`), its definitions, its proofs (`Rattle.name.`) or its edits do."""
 import os
@@ -18,7 +18,7 @@ import sys
 
 ROOT = os.path.dirname(os.path.dirname(os.path.realpath(__file__)))
 KIT = f"{os.path.dirname(subprocess.run(['rt', 'doc'], stdout=subprocess.PIPE, text=True, check=True).stdout.strip())}/rlibs"
-LINES, FUNCTIONS, CLAUSE = 1500, 100, 120
+LINES, FUNCTIONS, CLAUSE, STAMPED = 1500, 100, 120, 45_000_000
 TOLD = ("specs", "proofs", "src", "must-fail", "planted")
 FUNCTION = r"^\s*(?:pub(?:\(\w+\))? )?(?:const )?fn "
 
@@ -61,7 +61,7 @@ FLOORS = [
      "cfarm_files cfarm_options cfarm_explaining cfarm_output cfarm_log_lines cfarm_log cfarm_fsck_lines cfarm_fsck_journals cfarm_fsck text_offers program_texts cfarm_runs cfarm_hints cfarm_meter cfarm_report cfarm_build_result cfarm_build_faults cfarm_build_linking cfarm_build_turns cfarm_build cfarm_build_folder cfarm_offered cfarm_build_files cfarm_settle_nodes cfarm_commands cfarm_emitted cfarm_emit cfarm_verify_lowering cfarm_verify_lexing cfarm_verify_pieces cfarm_verify_text cfarm_verify_reading cfarm_verify_comparing cfarm_verify cfarm_judge cfarm_schedules_lines "
      "cfarm_schedules cfarm_drawing_parts cfarm_drawing cfarm_command_parts cfarm_command_line cfarm_telling cfarm_outcomes cfarm_looking cfarm_folder cfarm_program cfarm"),
     ("Tests",
-     "program_rows paxos_reference worked_fakes worked_farm worked_commands worked_agreement worked_texts worked_forms worked_offers worked_chains "
+     "program_rows paxos_reference worked_fakes worked_farm worked_agreement worked_texts worked_forms worked_offers worked_chains "
      "worked_journals worked_whole worked_hostile worked_rows worked_disk worked_rooms"),
 ]
 ORDER = [crate for _, crates in FLOORS for crate in crates.split()]
@@ -293,6 +293,8 @@ def faults():
     with open(INDEX, encoding="utf-8") as it:
         if it.read() != index():
             yield "crates/README.md: not the index of the crates: bench/floors.py --write"
+    if stamped(below) > STAMPED:
+        yield f"crates.txt: {stamped(below):,} files are read for stamps"
     for crate in ORDER:
         listed = plan.get(crate, ([], []))[1]
         for it in set(listed) - set(below[crate]):

@@ -1,16 +1,18 @@
-//! Asks for every row of the data files, and tells how many of each file are answered as they say, and which are not: the crates
-//! [`worked_commands`], [`worked_agreement`], [`worked_texts`], [`worked_forms`], [`worked_offers`], [`worked_farm`], [`worked_chains`],
-//! [`worked_journals`] and [`worked_hostile`] ask for theirs.
+//! Asks for every row of the data files, and tells how many of each file are answered as they say, and which are not: [`commands`] asks
+//! for those of command lines, and the crates [`worked_agreement`], [`worked_texts`], [`worked_forms`], [`worked_offers`],
+//! [`worked_farm`], [`worked_chains`], [`worked_journals`] and [`worked_hostile`] for theirs.
 //!
 //! All are one program, since a program is linked with all that it stands on, by two compilers.
 #![tactic(auto)]
+
+mod commands;
 
 use std::io;
 use std::sync::Wait;
 use std::thread::Threads;
 
 fn main(rt: HostRuntime) -> io::Result<()> {
-    worked_commands::tell(&rt, &rt)?;
+    commands::tell(&rt, &rt)?;
     worked_agreement::tell(&rt, &rt)?;
     worked_texts::tell(&rt)?;
     worked_forms::tell(&rt)?;

@@ -25,7 +25,6 @@
 //! not its old one; there is no memory for those in `scarce`. They fail at the first call in `broken`, and after the fourteenth in `worn`. In a folder
 //! whose name is `%` and hex digits each old one holds these bytes; behind `&` stand those of each new one; a number and `=` in front mean the disks of
 //! that node alone. No file can be put in `full`, and for one in `tight` there is no memory.
-#![tactic(auto)]
 
 mod bundled;
 mod failing;

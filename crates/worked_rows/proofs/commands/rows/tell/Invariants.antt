@@ -1,4 +1,4 @@
-use Rattle.worked_commands.proofs.rows.tell.Given as goal
+use Rattle.worked_rows.proofs.commands.rows.tell.Given as goal
 
 -- the hall that was opened
 abbrev pub ghosts-tell_in : goal.ghosts-tell_in

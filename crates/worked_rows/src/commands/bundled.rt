@@ -1,6 +1,6 @@
 //! Builds that write a bundle, and what `verify` says of it.
 
-use crate::runs::{Here, Ran, run_over, told, words_of};
+use crate::commands::runs::{Here, Ran, run_over, told, words_of};
 use cfarm_files::Files;
 use rooms_hall::Naming;
 use sha2::{Digest, Sha256};

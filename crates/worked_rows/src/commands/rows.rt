@@ -2,10 +2,10 @@
 
 ghost use Rattle.std.specs.Prelude.{◌≡◌};
 
-use crate::bundled::bundled;
-use crate::failing::failing;
-use crate::machine_files::{answer_here, answer_proved, answer_twice, bytes_here};
-use crate::runs::{Here, answer, linked, words_of};
+use crate::commands::bundled::bundled;
+use crate::commands::failing::failing;
+use crate::commands::machine_files::{answer_here, answer_proved, answer_twice, bytes_here};
+use crate::commands::runs::{Here, answer, linked, words_of};
 use program_rows::{agrees, parts_of_row};
 use rooms_hall::{Naming, Opened};
 use std::alloc::Global;

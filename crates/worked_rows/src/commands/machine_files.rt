@@ -1,7 +1,7 @@
 //! Runs over the files of the machine.
 
-use crate::bundled::verified;
-use crate::runs::{Here, Ran, executed, run_over, told, words_of};
+use crate::commands::bundled::verified;
+use crate::commands::runs::{Here, Ran, executed, run_over, told, words_of};
 use cfarm_files::HostFiles;
 use rooms_hall::Naming;
 use std::fs;

@@ -1,6 +1,6 @@
 //! Writers that fail at each byte.
 
-use crate::runs::{Here, Ran, run_over};
+use crate::commands::runs::{Here, Ran, run_over};
 use rooms_hall::Naming;
 use std::sync::Wait;
 use std::thread::Threads;
