@@ -16,7 +16,7 @@ ghost use Rattle.cfarm_verify.specs.Told.{HasVerified, IsTold, IsVerified, IsWan
 use crate::checking::checked;
 use crate::error::VerifyError;
 use cfarm_output::print_whole;
-use cfarm_verify_comparing::{Four, OfferFault, one_bundle};
+use cfarm_verify_comparing::{Four, OfferFault, one_bundle, put_fours_away};
 use cfarm_verify_reading::{Bundled, Forms};
 use farm_nodes_source::{Source, SourceFault};
 use lang::one_program;
@@ -77,10 +77,16 @@ fn put_programs_away<R: Threads>(rt: &R, source: Source, linear: Program<Functio
 }
 
 /// Gives back the memory of all that was read, side by side.
-fn put_away<R: Threads>(rt: &R, source: Source, linear: Program<Function>, fours: Vec<Four>) {
+fn put_away<R: Threads + Sync>(
+    rt: &R,
+    alloc: Global,
+    source: Source,
+    linear: Program<Function>,
+    fours: Vec<Four>,
+) {
     join(
         rt,
-        || -> () { drop(fours) },
+        || -> () { put_fours_away(rt, alloc, fours) },
         || -> () { put_programs_away(rt, source, linear) },
     );
 }
@@ -130,7 +136,7 @@ fn verified<R: Threads + Sync>(
                 fours.as_slice(),
                 alone.as_slice(),
             );
-            put_away(rt, source, linear, fours);
+            put_away(rt, alloc, source, linear, fours);
             answer
         }
         Err(fault) => Err(VerifyError::Bundle(fault)),
