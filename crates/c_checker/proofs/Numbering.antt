@@ -1,5 +1,5 @@
 -- Functions with bodies, as a loop numbers them.
-use Rattle.std.proofs.Common.{◌≡◌, ℕ, suc, ◌+◌, ◌≤◌, ◌<◌, List, [], ◌∷◌, length, drop, map, sym, ap, ◌∙◌, arith}
+use Rattle.std.proofs.Common.{◌≡◌, ℕ, ◌+◌, ◌≤◌, ◌<◌, List, [], ◌∷◌, length, drop, map, sym, ap, ◌∙◌}
 use Rattle.std.proofs.Math.ListN.{get_or, drop_of_length-le}
 use Rattle.c_checker_scopes.specs.Bound.{Bound}
 use Rattle.c_syntax.specs.declared.declaration.Declaration.{Declaration}

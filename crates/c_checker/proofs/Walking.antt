@@ -9,6 +9,7 @@ use Rattle.c_syntax.specs.Trees as T
 use Rattle.c_syntax.specs.Heights.{IsLow}
 use Rattle.c_syntax.specs.Views.{declaration_tree}
 use Rattle.c_program.specs.declared.function.GlobalVariable.{GlobalVariable}
+use Rattle.c_program.specs.declared.function.Function.{Function}
 use Rattle.c_program.specs.Trees as P
 use Rattle.c_program.specs.Views.{function_tree}
 use Rattle.c_checker_rules.specs.declared.errors.CheckError.{CheckError}
@@ -81,13 +82,13 @@ module _ (bodies : List (Bound ℕ)) (all : List Declaration) where
     all_functions = sym (so_far.functions ∙ ap (λ l. defined ++ functions_from bodies file (map declaration_tree l)) (drop_of_length-le all past) ∙ append-nil defined)
 
 -- What is known of the declarations before those that are left: the bodies stay, and the cells of all globals are within their limit.
-pub record IsTaken (bodies : List (Bound ℕ)) (all : List Declaration) (p : Progress) (rest : List Declaration) : Type 0 where
+pub record IsTaken (bodies : List (Bound ℕ)) (all : List Declaration) (p : Progress Function) (rest : List Declaration) : Type 0 where
   pub kept : p.functions.bodies ≡ bodies
   pub small : p.cells ≤ 65536
   pub walk : IsUnderWay bodies all (file_of p) p.globals.items (map function_tree p.defined.items) rest
 
-module _ (bodies : List (Bound ℕ)) (all : List Declaration) (old : Progress) (i : ℕ) (d : Declaration) (within : i < length all) (item : d ≡ get_or all i d) (so_far : IsTaken bodies all old (drop i all)) where
-  pub taken_on : (new : Progress) → declaration_faults old.functions.bodies (file_of old) (declaration_tree d) ≡ [] → file_of new ≡ behind (file_of old) (declaration_tree d) →
+module _ (bodies : List (Bound ℕ)) (all : List Declaration) (old : Progress Function) (i : ℕ) (d : Declaration) (within : i < length all) (item : d ≡ get_or all i d) (so_far : IsTaken bodies all old (drop i all)) where
+  pub taken_on : (new : Progress Function) → declaration_faults old.functions.bodies (file_of old) (declaration_tree d) ≡ [] → file_of new ≡ behind (file_of old) (declaration_tree d) →
       new.functions.bodies ≡ old.functions.bodies → new.globals.items ≡ old.globals.items ++ globals_in (file_of old) (declaration_tree d) →
       map function_tree new.defined.items ≡ map function_tree old.defined.items ++ functions_in old.functions.bodies (file_of old) (declaration_tree d) →
       new.cells ≤ 65536 → IsTaken bodies all new (drop (i + 1) all)

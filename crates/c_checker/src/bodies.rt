@@ -20,10 +20,7 @@ fn add_body(bodies: &mut Scopes<usize>, number: usize, name: &Identifier) -> Res
 }
 
 /// The functions with bodies, each with its number in the order of the text.
-pub(crate) fn bodies_of(
-    alloc: Global,
-    declarations: &[Declaration],
-) -> Result<Scopes<usize>, NoMemory>
+pub fn bodies_of(alloc: Global, declarations: &[Declaration]) -> Result<Scopes<usize>, NoMemory>
     ensures { IfOk result (λ b. b ≡ U.bodies_from 0 [] (map declaration_tree declarations.now)) }
 {
     let mut bodies = Scopes::new(alloc);

@@ -13,13 +13,14 @@ use c_checker_declarations::{
     prototype_signature, signature_of,
 };
 use c_checker_rules::{CheckError, Signature};
-use c_syntax::{Declaration, Function, Global as GlobalTree, Identifier, Prototype};
+use c_program::Function;
+use c_syntax::{Declaration, Global as GlobalTree, Identifier, Prototype};
 use std::alloc::Global;
 
 /// A global.
-fn take_global(
+pub fn take_global<F: Drop>(
     alloc: Global,
-    progress: &mut Progress,
+    progress: &mut Progress<F>,
     global: &GlobalTree,
 ) -> Result<(), CheckError>
     requires { progress.old.cells ≤ 65536 }
@@ -27,7 +28,7 @@ fn take_global(
     ensures file { OnOk result (file_of progress.new ≡ file_behind progress.old (T.Global (global_tree global.now))) }
     ensures bodies { OnOk result (progress.new.functions.bodies ≡ progress.old.functions.bodies) }
     ensures globals { OnOk result (GlobalsGrow progress.old progress.new (T.Global (global_tree global.now))) }
-    ensures functions { OnOk result (FunctionsGrow progress.old progress.new (T.Global (global_tree global.now))) }
+    ensures defined { OnOk result (progress.new.defined ≡ progress.old.defined) }
     ensures cells { OnOk result (progress.new.cells ≤ 65536) }
     ensures err { IfErr result (λ e. Tells e (faults_at progress.old (T.Global (global_tree global.now)))) }
 {
@@ -40,8 +41,8 @@ fn take_global(
 }
 
 /// The name of a function with this number, or of a prototype.
-fn declare(
-    progress: &mut Progress,
+pub fn declare<F: Drop>(
+    progress: &mut Progress<F>,
     name: &Identifier,
     signature: Signature,
     number: Option<usize>,
@@ -74,8 +75,8 @@ fn declare(
 #[tactic(auto, using(c_checker_rules::proofs::Firsts::tells_front, c_checker_rules::proofs::Firsts::tells_behind))]
 fn take_function(
     alloc: Global,
-    progress: &mut Progress,
-    function: &Function,
+    progress: &mut Progress<Function>,
+    function: &c_syntax::Function,
 ) -> Result<(), CheckError>
     requires low { IsLow (T.Function (function_tree function.now)) }
     requires cells { progress.old.cells ≤ 65536 }
@@ -98,17 +99,17 @@ fn take_function(
 
 /// A prototype.
 #[tactic(auto, using(c_checker_rules::proofs::Firsts::tells_front, c_checker_rules::proofs::Firsts::tells_behind))]
-fn take_prototype(
+pub fn take_prototype<F: Drop>(
     alloc: Global,
-    progress: &mut Progress,
+    progress: &mut Progress<F>,
     prototype: &Prototype,
 ) -> Result<(), CheckError>
     requires { progress.old.cells ≤ 65536 }
     ensures ok { OnOk result (faults_at progress.old (T.Prototype' prototype.now) ≡ []) }
     ensures file { OnOk result (file_of progress.new ≡ file_behind progress.old (T.Prototype' prototype.now)) }
     ensures bodies { OnOk result (progress.new.functions.bodies ≡ progress.old.functions.bodies) }
-    ensures globals { OnOk result (GlobalsGrow progress.old progress.new (T.Prototype' prototype.now)) }
-    ensures functions { OnOk result (FunctionsGrow progress.old progress.new (T.Prototype' prototype.now)) }
+    ensures globals { OnOk result (progress.new.globals ≡ progress.old.globals) }
+    ensures defined { OnOk result (progress.new.defined ≡ progress.old.defined) }
     ensures cells { OnOk result (progress.new.cells ≤ 65536) }
     ensures err { IfErr result (λ e. Tells e (faults_at progress.old (T.Prototype' prototype.now))) }
 {
@@ -122,7 +123,7 @@ fn take_prototype(
 /// The next declaration.
 pub(crate) fn take(
     alloc: Global,
-    progress: &mut Progress,
+    progress: &mut Progress<Function>,
     declaration: &Declaration,
 ) -> Result<(), CheckError>
     requires low { IsLow (declaration_tree declaration.now) }

@@ -8,5 +8,9 @@ mod declaration;
 mod progress;
 mod unit;
 
+pub use bodies::bodies_of;
 pub use c_checker_rules::{CProgram, CheckError};
 pub use checking::check;
+pub use declaration::{declare, take_global, take_prototype};
+pub use progress::Progress;
+pub use unit::beginning;

@@ -1,15 +1,15 @@
 use c_checker_declarations::Here;
 use c_checker_terms::Functions;
-use c_program::{Function, GlobalVariable};
+use c_program::GlobalVariable;
 
 /// What is known of a text behind some of its declarations: its names, its functions' signatures and bodies,
-/// and the globals and functions with bodies so far.
+/// the globals so far, and what was made of the functions with bodies so far.
 #[derive(Drop)]
-pub(crate) struct Progress {
-    pub(crate) here: Here,
-    pub(crate) functions: Functions,
-    pub(crate) globals: Vec<GlobalVariable>,
-    pub(crate) defined: Vec<Function>,
+pub struct Progress<F> {
+    pub here: Here,
+    pub functions: Functions,
+    pub globals: Vec<GlobalVariable>,
+    pub defined: Vec<F>,
     /// The cells of all globals so far.
-    pub(crate) cells: usize,
+    pub cells: usize,
 }

@@ -15,11 +15,12 @@ use c_checker_declarations::Here;
 use c_checker_rules::CheckError;
 use c_checker_scopes::Scopes;
 use c_checker_terms::Functions;
+use c_program::Function;
 use c_syntax::Declaration;
 use std::alloc::Global;
 
 /// What is known before the first declaration, with the functions that have bodies.
-fn beginning(alloc: Global, bodies: Scopes<usize>) -> Progress
+pub fn beginning<F: Drop>(alloc: Global, bodies: Scopes<usize>) -> Progress<F>
     ensures file { file_of result ≡ U.empty_file }
     ensures bodies { result.functions.bodies ≡ bodies }
     ensures globals { result.globals.items ≡ [] }
@@ -46,7 +47,7 @@ pub(crate) fn take_all(
     alloc: Global,
     bodies: Scopes<usize>,
     declarations: &[Declaration],
-) -> Result<Progress, CheckError>
+) -> Result<Progress<Function>, CheckError>
     requires { AllByRecursion IsLow (map declaration_tree declarations.now) }
     ensures ok { IfOk result (λ p. faults_in bodies declarations.now ≡ []) }
     ensures globals { IfOk result (λ p. p.globals.items ≡ globals_of declarations.now) }

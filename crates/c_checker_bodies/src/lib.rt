@@ -10,4 +10,5 @@ mod parts;
 mod statements;
 
 pub use here::Here;
-pub use statements::check_statements;
+pub use locals::declare_local;
+pub use statements::{check_statements, leave};

@@ -28,7 +28,7 @@ fn check_local(depth: u32, here: &Here, name: &Identifier) -> Result<(), CheckEr
 }
 
 /// Declares a local, which takes the next number.
-pub(crate) fn declare_local(
+pub fn declare_local(
     depth: u32,
     here: &mut Here,
     kind: IntegerType,

@@ -47,7 +47,7 @@ fn looping(context: Context) -> Context
 }
 
 /// At the end of a scope the names behind the mark are forgotten, and the locals keep their numbers.
-fn leave(here: &mut Here, mark: usize)
+pub fn leave(here: &mut Here, mark: usize)
     requires { mark ≤ length here.old.scope }
     ensures { here.new ≡ record { scope = drop (length here.old.scope - mark) here.old.scope; locals = here.old.locals } }
 {

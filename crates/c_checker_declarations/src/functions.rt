@@ -1,6 +1,6 @@
 //! Functions with bodies, and prototypes (C99 6.7.5.3 and 6.9.1).
 
-ghost use Rattle.std.specs.Prelude.{◌≡◌, ◌≤◌, ◌+◌, ◌-◌, [], length, drop, OnOk, IfOk, IfErr};
+ghost use Rattle.std.specs.Prelude.{◌≡◌, ◌≤◌, ◌+◌, [], length, OnOk, IfOk, IfErr};
 ghost use Rattle.c_syntax.specs.Heights.{statements_height};
 ghost use Rattle.c_syntax.specs.Views.{statements_tree, function_tree};
 ghost use Rattle.c_program.specs.Views as V;
@@ -10,12 +10,12 @@ ghost use Rattle.c_checker_declarations.specs.Parameters.{from_none};
 ghost use Rattle.c_checker_declarations.specs.Sources.{body_actions, behind_body, function_for};
 
 use crate::parameters::{check_open_parameters, check_parameters};
-use c_checker_bodies::{Here, check_statements};
+use c_checker_bodies::{Here, check_statements, leave};
 use c_checker_rules::{CheckError, Context};
 use c_checker_terms::{Functions, is_main};
 use c_program::{Action, Ending, Function};
 use c_syntax::{Identifier, Prototype, ReturnType};
-use lang_base::Row;
+use lang_base::{NoMemory, Row};
 use std::alloc::Global;
 
 /// What the end of a body means in a function with this name.
@@ -30,14 +30,6 @@ fn ending_of(name: &Identifier, gives: ReturnType) -> Ending
         ReturnType::Void => Ending::Returns,
         ReturnType::Value(_kind) => Ending::GoesWrong,
     }
-}
-
-/// Behind a function its names are forgotten.
-fn leave(here: &mut Here, mark: usize)
-    requires { mark ≤ length here.old.scope }
-    ensures { here.new ≡ record { scope = drop (length here.old.scope - mark) here.old.scope; locals = here.old.locals } }
-{
-    here.scope.shorten_to(mark);
 }
 
 /// The parameters and the body of a function, which begins with no locals. Its names stay declared.
@@ -64,6 +56,28 @@ fn check_body(
     check_statements(alloc, functions, context, here, function.body.as_slice())
 }
 
+/// The function under a text's function's name, with so many locals and this body.
+pub fn function_with(
+    alloc: Global,
+    function: &c_syntax::Function,
+    locals: usize,
+    body: Vec<Action>,
+) -> Result<Function, NoMemory>
+    ensures name { IfOk result (λ g. g.name ≡ function.now.name.name) }
+    ensures parameters { IfOk result (λ g. g.parameters ≡ length function.now.parameters) }
+    ensures locals { IfOk result (λ g. g.locals ≡ locals) }
+    ensures ending { IfOk result (λ g. g.ending ≡ F.ending_of function.now.name.name function.now.result) }
+    ensures body { IfOk result (λ g. g.body ≡ body.items) }
+{
+    Ok(Function {
+        name: function.name.name.copied(alloc)?,
+        parameters: function.parameters.len(),
+        locals,
+        ending: ending_of(&function.name, function.result),
+        body: Row::from_vec(body),
+    })
+}
+
 /// The function that a text's function stands for, or the first fault in its parameters and body. Where it is
 /// well formed, the names are those from before. The function itself is declared before.
 #[tactic(auto, using(crate::proofs::Entering::function_longer, crate::proofs::Entering::function_shortened))]
@@ -82,13 +96,7 @@ pub fn check_function(
     let mark = here.scope.len();
     let body = check_body(alloc, functions, here, function)?;
     leave(here, mark);
-    Ok(Function {
-        name: function.name.name.copied(alloc)?,
-        parameters: function.parameters.len(),
-        locals: here.locals,
-        ending: ending_of(&function.name, function.result),
-        body: Row::from_vec(body),
-    })
+    Ok(function_with(alloc, function, here.locals, body)?)
 }
 
 /// Whether a prototype's parameters are well formed; the first fault in them. Where they are, the names are

@@ -12,7 +12,7 @@ mod signatures;
 
 pub use c_checker_bodies::Here;
 pub use declaring::declare_function;
-pub use functions::{check_function, check_prototype};
+pub use functions::{check_function, check_prototype, function_with};
 pub use global::check_global;
 pub use names::check_name;
 pub use parameters::{check_open_parameters, check_parameters};

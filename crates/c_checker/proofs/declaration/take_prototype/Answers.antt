@@ -6,7 +6,7 @@ use Rattle.c_checker_rules.proofs.Firsts.{tells_front, tells_behind}
 use Rattle.c_checker.proofs.declaration.take_prototype.Goals as goal
 
 pub returns-in_err-declare-clause-err : goal.returns-in_err-declare-clause-err
-returns-in_err-declare-clause-err c =
+returns-in_err-declare-clause-err g c =
     let p = err_from_is_err_and c.from_residual-in_err-declare.result c.from_residual-in_err-declare.ensures.1 in
     let e = c.in_err-declare.field-0.0 in
     let same : c.in_ok-signature.signature ≡ F.signature_of c.args.prototype.now.result c.args.prototype.now.parameters = search rules in
@@ -14,7 +14,7 @@ returns-in_err-declare-clause-err c =
     rw (p.1, p.2) (tells_front e _ _ named)
 
 pub returns-in_err-check_prototype-clause-err : goal.returns-in_err-check_prototype-clause-err
-returns-in_err-check_prototype-clause-err c =
+returns-in_err-check_prototype-clause-err g c =
     let p = err_from_is_err_and c.from_residual-in_err-check_prototype.result c.from_residual-in_err-check_prototype.ensures.1 in
     let e = c.in_err-check_prototype.field-0.0 in
     let same : c.in_ok-signature.signature ≡ F.signature_of c.args.prototype.now.result c.args.prototype.now.parameters = search rules in
