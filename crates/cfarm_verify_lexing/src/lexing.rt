@@ -7,6 +7,7 @@ use c_lexer::lex;
 use c_syntax::Token;
 use std::alloc::Global;
 use std::thread::{Threads, join};
+use thread_memory::make_room;
 
 /// The tokens of a part, if it has some by itself.
 type Lexed = Option<Vec<Token>>;
@@ -61,6 +62,7 @@ fn moved(tokens: Vec<Token>, by: usize) -> Lexed
 fn lex_part(alloc: Global, at: usize, part: &[u8]) -> Lexed
     ensures { IfSome result (λ tokens. AreLexed at part.now tokens.items) }
 {
+    make_room(alloc);
     match lex(alloc, part) {
         Ok(tokens) => match moved(tokens, at) {
             Some(all) => Some(all),
