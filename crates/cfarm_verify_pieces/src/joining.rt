@@ -96,12 +96,22 @@ pub fn read_piece(alloc: Global, within: bool, tokens: &[Token]) -> Option<Piece
     read_outside(alloc, tokens)
 }
 
+/// Makes room for so many, where there is none, and for what may come behind them, so that a long list is copied once.
+fn make_room<T: Drop>(all: &mut Vec<T>, more: usize)
+    ensures { all.new.items ≡ all.old.items }
+{
+    if all.capacity().saturating_sub(all.len()) < more {
+        let _made = all.reserve(more.saturating_mul(4));
+    }
+}
+
 /// All of them, one behind the other.
 pub fn appended<T: Drop>(front: Vec<T>, back: Vec<T>) -> Option<Vec<T>>
     ensures { IfSome result (λ all. all.items ≡ front.items ++ back.items) }
 {
     let mut all = front;
     let mut more = back;
+    make_room(&mut all, more.len());
     match all.append(&mut more) {
         Ok(()) => Some(all),
         Err(_) => None,

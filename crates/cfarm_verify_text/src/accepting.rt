@@ -14,6 +14,7 @@ use crate::reading::read_beside;
 use c_checker::{CProgram, CheckError, check};
 use c_syntax::Unit;
 use c_texts::TextError;
+use cfarm_verify_checking::check_shared;
 use cfarm_verify_lexing::Quarters;
 use std::alloc::Global;
 use std::thread::{Threads, join};
@@ -21,8 +22,20 @@ use std::thread::{Threads, join};
 /// A checked program, with the tree that it was made of.
 pub type Checked = (CProgram, Unit);
 
-/// The program of a tree, or its first fault. The tokens' memory is given back beside.
-fn check_beside<R: Threads>(
+/// The program of a tree, or its first fault: several threads share its statements, and where they find no program, it is checked as a whole.
+fn check_tree<R: Threads + Sync>(rt: &R, alloc: Global, unit: &Unit) -> Result<CProgram, CheckError>
+    ensures ok { IfOk result (λ p. U.IsWellFormed (unit_tree unit.now)) }
+    ensures program { IfOk result (λ p. program_tree p ≡ U.program_of (unit_tree unit.now)) }
+    ensures err { IfErr result (λ e. Tells e (U.unit_faults (unit_tree unit.now))) }
+{
+    match check_shared(rt, alloc, unit) {
+        Some(program) => Ok(program),
+        None => check(alloc, unit),
+    }
+}
+
+/// The same. The tokens' memory is given back beside.
+fn check_beside<R: Threads + Sync>(
     rt: &R,
     alloc: Global,
     tokens: Quarters,
@@ -39,7 +52,7 @@ fn check_beside<R: Threads>(
             ensures ok { IfOk result (λ p. U.IsWellFormed (unit_tree unit.entry.now)) }
             ensures program { IfOk result (λ p. program_tree p ≡ U.program_of (unit_tree unit.entry.now)) }
             ensures err { IfErr result (λ e. Tells e (U.unit_faults (unit_tree unit.entry.now))) }
-        { check(alloc, unit) },
+        { check_tree(rt, alloc, unit) },
     );
     checked
 }

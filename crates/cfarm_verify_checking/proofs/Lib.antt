@@ -1,0 +1,4 @@
+pub mod Together
+pub mod Whole
+mod Sent
+mod Shared

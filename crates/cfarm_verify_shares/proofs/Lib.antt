@@ -1,0 +1,4 @@
+pub mod Turns
+pub mod Parts
+pub mod Between
+pub mod Walks

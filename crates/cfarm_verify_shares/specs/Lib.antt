@@ -1,0 +1,3 @@
+pub mod Passed
+pub mod Stretches
+pub mod Walked
