@@ -24,7 +24,7 @@ FUNCTION = r"^\s*(?:pub(?:\(\w+\))? )?(?:const )?fn "
 
 # Each floor: its name, and its crates, lowest first.
 FLOORS = [
-    ("Base: machine words, languages, passes, programs", "ints lang_base lang_parts"),
+    ("Base: machine words, languages, passes, programs, memory", "ints lang_base lang_parts thread_memory"),
     ("C: tokens and trees, the reader, the checker, the meaning",
      "c_syntax c_lexer_parts c_lexer c_reader_tokens c_reader_expression_laws "
      "c_reader_expressions c_reader_productions c_reader_statement_laws c_reader_statements "
@@ -58,7 +58,7 @@ FLOORS = [
      "farm_nodes_seated farm_nodes_opened farm_nodes_rounds farm_nodes_workers farm_nodes_threads farm_nodes_source "
      "farm_nodes_compiling farm_nodes_linked farm_nodes_bundled farm_nodes_crash farm_nodes"),
     ("The program",
-     "cfarm_files cfarm_options cfarm_explaining cfarm_output cfarm_log_lines cfarm_log cfarm_fsck_lines cfarm_fsck_journals cfarm_fsck text_offers program_texts cfarm_runs cfarm_hints cfarm_meter cfarm_report cfarm_build_result cfarm_build_faults cfarm_build_linking cfarm_build_turns cfarm_build cfarm_build_folder cfarm_offered cfarm_build_files cfarm_settle_nodes cfarm_commands cfarm_emitted cfarm_emit cfarm_verify_lowering cfarm_verify_lexing cfarm_verify_pieces cfarm_verify_text cfarm_verify_reading cfarm_verify_comparing cfarm_verify cfarm_judge cfarm_schedules_lines "
+     "cfarm_files cfarm_options cfarm_explaining cfarm_output cfarm_log_lines cfarm_log cfarm_fsck_lines cfarm_fsck_journals cfarm_fsck text_offers program_texts cfarm_runs cfarm_hints cfarm_meter cfarm_report cfarm_build_result cfarm_build_faults cfarm_build_linking cfarm_build_turns cfarm_build cfarm_build_folder cfarm_offered cfarm_build_files cfarm_settle_nodes cfarm_commands cfarm_emitted cfarm_emit cfarm_verify_lowering cfarm_verify_lexing cfarm_verify_pieces cfarm_verify_shares cfarm_verify_checking cfarm_verify_text cfarm_verify_reading cfarm_verify_comparing cfarm_verify cfarm_judge cfarm_schedules_lines "
      "cfarm_schedules cfarm_drawing_parts cfarm_drawing cfarm_command_parts cfarm_command_line cfarm_telling cfarm_outcomes cfarm_looking cfarm_folder cfarm_program cfarm"),
     ("Tests",
      "program_rows paxos_reference worked_fakes worked_farm worked_agreement worked_texts worked_forms worked_offers worked_chains "

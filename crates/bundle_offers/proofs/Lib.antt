@@ -1,4 +1,2 @@
-pub mod Blocks
 pub mod Compared
-pub mod OneBundle
 pub mod Standings

@@ -1,11 +1,17 @@
 -- Offers that stand, function by function, and the first that does not.
 use Rattle.std.proofs.Common.{◌≡◌, ℕ, zero, suc, ◌<◌, List, [], ◌∷◌, length, take, get_or, All, Some, Result, Ok, Err, refl, sym, ap, ◌∙◌, subst, arith}
-use Rattle.std.specs.Prelude.{slice_get, OnOk, IfErr}
+use Rattle.std.specs.Prelude.{slice_get, OnOk, IfOk, IfErr}
 use Rattle.std.specs.List.{AllByRecursion}
 use Rattle.std.proofs.lemmas.List.Elements.{All-nil, All-cons}
 use Rattle.lang_base.specs.declared.fault.Fault.{Fault}
 use Rattle.lang_base.specs.declared.program.Named.{Named}
+use Rattle.lang_base.specs.declared.errors.FormError.{FormError}
 use Rattle.rtl_language.specs.Function.{FunctionData}
+use Rattle.constprop_check_rules.specs.Rules.{IsPropagated}
+use Rattle.cse_check_rules.specs.Rules.{IsEliminated}
+use Rattle.alloc_check_filled.specs.Allocated.{IsAllocated}
+use Rattle.linearize_check_proof.specs.Rules.{IsLaidOut}
+use Rattle.offers.specs.declared.parts.Parts.{Parts}
 use Rattle.bundle_reading.specs.Offers.{Offers}
 use Rattle.bundle_reading.specs.Baselines.{AreAccepted}
 use Rattle.bundle_reading.specs.Chains.{names_of}
@@ -15,9 +21,11 @@ use Rattle.bundle_offers.specs.declared.fault.PassNumber.{PassNumber}
 use Rattle.bundle_offers.specs.declared.fault.OfferFault.{OfferFault}
 use Rattle.bundle_offers.specs.declared.fault.OfferFault.TheVariants.{NoMemory, Unchained, Refused}
 use Rattle.bundle_offers.specs.declared.fault.PassNumber.TheVariants.{First, Second, Third, Fourth}
-use Rattle.bundle_reading.specs.Read.{offers_of, offers_in}
+use Rattle.bundle_reading.specs.Read.{AreGathered, offers_of, offers_in}
 use Rattle.bundle_reading.proofs.Places.{got}
-use Rattle.bundle_offers.specs.Standing.{AcceptedAt, AllStand, ChainedAt, Fails, FailsCheck, FailsStep, IsAlone, IsAloneAt, IsFirstFault, IsJudgedAt, IsJudgedPass, Judged, Stand, StandBefore, WhyAt, first_of}
+use Rattle.bundle_offers.specs.Reasons.{WhyFirst, WhySecond, WhyThird, WhyFourth}
+use Rattle.bundle_offers.specs.Found.{IsAnswered, IsToldAlone}
+use Rattle.bundle_offers.specs.Standing.{AcceptedAt, AllStand, AreAlone, ChainedAt, Fails, FailsCheck, FailsItsCheck, FailsStep, IsAccepted, IsAlone, IsFirstFault, IsJudgedAt, IsStep, Judged, Stand, StandBefore, WhyAt, first_of}
 
 -- an offer that chains and is not accepted does not stand
 pub fails_step : (at : PassNumber) (Chained Accepted : Type 0) (Why : Fault → Type 0) (fault : OfferFault) → Chained → FailsCheck at Accepted Why fault → FailsStep at Chained Accepted Why fault
@@ -35,7 +43,8 @@ fails_at f o at (Refused pass fault) before told =
 
 -- of four answers the first fault is that of the offers
 pub judged_of : (f : FunctionData) (o : Offers) (first second third fourth : Result (Unit {0}) OfferFault)
-    → IsJudgedPass f o First first → IsJudgedPass f o Second second → IsJudgedPass f o Third third → IsJudgedPass f o Fourth fourth
+    → IsStep First IsPropagated WhyFirst f o.constants first → IsStep Second IsEliminated WhySecond o.constants.output o.expressions second
+    → IsStep Third IsAllocated WhyThird o.expressions.output o.allocation third → IsStep Fourth IsLaidOut WhyFourth o.allocation.output o.order fourth
     → Judged f o (first_of first second third fourth)
 judged_of f o (Err fault) second third fourth one two three four = fails_at f o First fault tt one
 judged_of f o (Ok done) (Err fault) third fourth one two three four = fails_at f o Second fault one two
@@ -43,11 +52,28 @@ judged_of f o (Ok done) (Ok done') (Err fault) fourth one two three four = fails
 judged_of f o (Ok done) (Ok done') (Ok done'') (Err fault) one two three four = fails_at f o Fourth fault (one, two, three) four
 judged_of f o (Ok done) (Ok done') (Ok done'') (Ok last) one two three four = record { first = one; second = two; third = three; fourth = four }
 
--- what is found of an offer is what is answered of it
-pub judged_pass : (f : FunctionData) (o : Offers) (at : PassNumber) (told : Result (Unit {0}) OfferFault) → OnOk told (ChainedAt f o at) → OnOk told (AcceptedAt o at)
-    → IfErr told (FailsStep at (ChainedAt f o at) (AcceptedAt o at) (WhyAt o at)) → IsJudgedPass f o at told
-judged_pass f o at (Ok done) chained accepted refused = (chained, accepted)
-judged_pass f o at (Err fault) chained accepted refused = refused
+module _ {I O C : Type 0} (at : PassNumber) (accepts : I → O → C → Type 0) (tells : I → O → C → Fault → Type 0) where
+  -- what a pass answers of an offer that goes on from this is what is answered of the offer
+  pub step_of : (before : I) (parts : Parts I O C) (told : Result (Unit {0}) OfferFault) → parts.input ≡ before → IsAccepted at accepts tells parts told → IsStep at accepts tells before parts told
+  step_of before parts (Ok done) chained is = (chained, is)
+  step_of before parts (Err fault) chained is =
+      fails_step at (parts.input ≡ before) (accepts parts.input parts.output parts.certificate) (tells parts.input parts.output parts.certificate) fault chained is
+
+  -- of parts that were found, where their text spells some
+  pub accepted_of : (parts : Parts I O C) (told : Result (Unit {0}) OfferFault) → OnOk told (accepts parts.input parts.output parts.certificate)
+      → IfErr told (FailsItsCheck at accepts tells parts) → IsAccepted at accepts tells parts told
+  accepted_of parts (Ok done) accepted refused = accepted
+  accepted_of parts (Err fault) accepted refused = refused
+
+  pub accepted_if : (found : Result (Parts I O C) FormError) (told : Result (Unit {0}) OfferFault) (parts : Parts I O C)
+      → IsAnswered at accepts tells (found, told) → found ≡ Ok parts → IsAccepted at accepts tells parts told
+  accepted_if found told parts is e = subst (λ r. IfOk r (λ p. IsAccepted at accepts tells p told)) e is
+
+-- the answers to all offers by themselves
+pub all_alone : (found : List (Result (Four × Result (Unit {0}) OfferFault) FormError)) (fours : List Four) (told : List (Result (Unit {0}) OfferFault))
+    → ((i : ℕ) (one : Result (Four × Result (Unit {0}) OfferFault) FormError) → slice_get found i ≡ Some one → IsToldAlone one)
+    → AreGathered found fours told → AreAlone fours told
+all_alone found fours told each are = record { count = are.count; each = λ i t e four e'. each i (Ok (four, t)) (are.each i four t e' e) }
 
 -- the answer to the function of a number, by what stands there
 pub judged_at : (fs : List (Named FunctionData)) (fours : List Four) (n : ℕ) (f : Named FunctionData) (four : Four) (told : Result (Unit {0}) OfferFault)
@@ -62,13 +88,6 @@ pub placed : (fours : List Four) (n : ℕ) (four : Four) → four ≡ get_or fou
 placed [] n four is below = absurd (omega (arith, below))
 placed (x ∷ fours) zero four is below = ap (λ y. Some y) (sym is)
 placed (x ∷ fours) (suc n) four is below = placed fours n four is (omega (arith, below))
-
--- the answer to the offers of a number by themselves
-pub alone_at : (fours : List Four) (n : ℕ) (four : Four) (told : Result (Unit {0}) OfferFault)
-    → four ≡ get_or fours n four → IsAlone four told → IsAloneAt fours n told
-alone_at fours n four told at is other e =
-    let same : four ≡ other = at ∙ (got fours n other four e).1 in
-    subst (λ x. IsAlone x told) same is
 
 -- the answer to offers by themselves is one to the function that the first goes on from, and to another there is a fault
 pub judged_from : (f : FunctionData) (four : Four) (told : Result (Unit {0}) OfferFault) → four.constants.input ≡ f → IsAlone four told

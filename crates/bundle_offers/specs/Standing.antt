@@ -124,17 +124,15 @@ abbrev pub Judged : FunctionData → Offers → Result (Unit {0}) OfferFault →
 Judged f o (Ok done) = Stand f o
 Judged f o (Err fault) = Fails f o fault
 
--- what is answered of the offer of one pass
-abbrev pub IsJudgedPass : FunctionData → Offers → PassNumber → Result (Unit {0}) OfferFault → Type 0
-IsJudgedPass f o at (Ok done) = ChainedAt f o at × AcceptedAt o at
-IsJudgedPass f o at (Err fault) = FailsStep at (ChainedAt f o at) (AcceptedAt o at) (WhyAt o at) fault
+-- what a pass answers of the parts of an offer
+abbrev pub IsAccepted : {I O C : Type 0} → PassNumber → (I → O → C → Type 0) → (I → O → C → Fault → Type 0) → Parts I O C → Result (Unit {0}) OfferFault → Type 0
+IsAccepted at accepts tells parts (Ok done) = accepts parts.input parts.output parts.certificate
+IsAccepted at accepts tells parts (Err fault) = FailsItsCheck at accepts tells parts fault
 
--- what is answered of the offers of the first two passes, and of the last two
-abbrev pub AreJudgedFirst : FunctionData → Offers → Result (Unit {0}) OfferFault × Result (Unit {0}) OfferFault → Type 0
-AreJudgedFirst f o told = IsJudgedPass f o First told.0 × IsJudgedPass f o Second told.1
-
-abbrev pub AreJudgedLast : FunctionData → Offers → Result (Unit {0}) OfferFault × Result (Unit {0}) OfferFault → Type 0
-AreJudgedLast f o told = IsJudgedPass f o Third told.0 × IsJudgedPass f o Fourth told.1
+-- what is answered of those that have to go on from this
+abbrev pub IsStep : {I O C : Type 0} → PassNumber → (I → O → C → Type 0) → (I → O → C → Fault → Type 0) → I → Parts I O C → Result (Unit {0}) OfferFault → Type 0
+IsStep at accepts tells before parts (Ok done) = (parts.input ≡ before) × accepts parts.input parts.output parts.certificate
+IsStep at accepts tells before parts (Err fault) = FailsItsStep at accepts tells before parts fault
 
 -- the first fault of four answers
 abbrev pub first_of : Result (Unit {0}) OfferFault → Result (Unit {0}) OfferFault → Result (Unit {0}) OfferFault → Result (Unit {0}) OfferFault → Result (Unit {0}) OfferFault

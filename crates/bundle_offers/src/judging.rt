@@ -1,25 +1,23 @@
 //! Whether offers stand: each goes on from the one before it, and its pass accepts it.
 
-ghost use Rattle.std.specs.Prelude.{◌≡◌, ◌<◌, ℕ, length, slice_get, slice_index_or, Some, IfOk, IfErr, OnOk, OnErr, MatchOption};
+ghost use Rattle.std.specs.Prelude.{◌≡◌, ◌<◌, length, slice_get, Some, IfOk, IfErr, OnOk};
 ghost use Rattle.lang_base.specs.declared.fault.Fault.{Fault};
 ghost use Rattle.bundle_reading.specs.Read.{offers_in, offers_of};
-ghost use Rattle.bundle_offers.specs.Standing.{AllStand, AreAlone, AreJudged, AreJudgedFirst, AreJudgedLast, FailsItsCheck, FailsItsStep, IsAlone, IsAloneAt, IsFirstFault, IsJudgedAt, IsJudgedPass, Judged, first_of};
+ghost use Rattle.bundle_offers.specs.Standing.{AllStand, AreAlone, AreJudged, FailsItsCheck, FailsItsStep, IsAccepted, IsAlone, IsFirstFault, IsJudgedAt, IsStep, Judged, first_of};
 ghost use Rattle.bundle_offers.specs.declared.fault.PassNumber.{PassNumber};
 
 use crate::fault::{OfferFault, PassNumber};
-use crate::reasons::{PassReasons, Reasons};
-use bundle_reading::{Alloc, Four};
+use crate::reasons::Reasons;
+use bundle_reading::Four;
 use constprop_check::ConstProp;
-use cse_check::Cse;
 use lang_base::{Language, Named, NoMemory, Pass};
-use linearize_check::Linearize;
 use offers::PartsOf;
 use rtl_language::Function;
 use std::alloc::Global;
-use std::thread::{Threads, for_each_mut, join, map_indices};
+use std::thread::{Threads, map_indices};
 
 /// Whether the pass accepts an offer, or why not.
-fn accepted<P: Pass, S: Reasons<P>>(
+pub(crate) fn accepted<P: Pass, S: Reasons<P>>(
     alloc: Global,
     at: PassNumber,
     parts: &PartsOf<P>,
@@ -56,36 +54,8 @@ pub fn stands<P: Pass, S: Reasons<P>>(
     }
 }
 
-/// Whether the offer of one pass stands: `function` is what the first goes on from, and each other one from the output before it.
-fn judge_pass(
-    alloc: Global,
-    function: &Function,
-    four: &Four,
-    at: PassNumber,
-) -> Result<(), OfferFault>
-    ensures { IsJudgedPass function.now (offers_of four.now) at result }
-{
-    match at {
-        PassNumber::First => {
-            stands::<ConstProp, PassReasons>(alloc, PassNumber::First, function, &four.constants)
-        }
-        PassNumber::Second => {
-            let before = &four.constants.output;
-            stands::<Cse, PassReasons>(alloc, PassNumber::Second, before, &four.expressions)
-        }
-        PassNumber::Third => {
-            let before = &four.expressions.output;
-            stands::<Alloc, PassReasons>(alloc, PassNumber::Third, before, &four.allocation)
-        }
-        PassNumber::Fourth => {
-            let before = &four.allocation.output;
-            stands::<Linearize, PassReasons>(alloc, PassNumber::Fourth, before, &four.order)
-        }
-    }
-}
-
 /// The first fault of four answers, in the order of the passes.
-fn in_order(
+pub(crate) fn in_order(
     first: Result<(), OfferFault>,
     second: Result<(), OfferFault>,
     third: Result<(), OfferFault>,
@@ -99,160 +69,6 @@ fn in_order(
         (Ok(()), Ok(()), Err(fault)) => Err(fault),
         (Ok(()), Ok(()), Ok(())) => fourth,
     }
-}
-
-/// The same of the first two passes, side by side.
-fn judge_front<R: Threads + Sync>(
-    rt: &R,
-    alloc: Global,
-    function: &Function,
-    four: &Four,
-) -> (Result<(), OfferFault>, Result<(), OfferFault>)
-    ensures first { IsJudgedPass function.now (offers_of four.now) PassNumber.First result.0 }
-    ensures second { IsJudgedPass function.now (offers_of four.now) PassNumber.Second result.1 }
-{
-    join(
-        rt,
-        || -> Result<(), OfferFault>
-            ensures { IsJudgedPass function.entry.now (offers_of four.entry.now) PassNumber.First result }
-        { judge_pass(alloc, function, four, PassNumber::First) },
-        || -> Result<(), OfferFault>
-            ensures { IsJudgedPass function.entry.now (offers_of four.entry.now) PassNumber.Second result }
-        { judge_pass(alloc, function, four, PassNumber::Second) },
-    )
-}
-
-/// The same of the last two.
-fn judge_back<R: Threads + Sync>(
-    rt: &R,
-    alloc: Global,
-    function: &Function,
-    four: &Four,
-) -> (Result<(), OfferFault>, Result<(), OfferFault>)
-    ensures third { IsJudgedPass function.now (offers_of four.now) PassNumber.Third result.0 }
-    ensures fourth { IsJudgedPass function.now (offers_of four.now) PassNumber.Fourth result.1 }
-{
-    join(
-        rt,
-        || -> Result<(), OfferFault>
-            ensures { IsJudgedPass function.entry.now (offers_of four.entry.now) PassNumber.Third result }
-        { judge_pass(alloc, function, four, PassNumber::Third) },
-        || -> Result<(), OfferFault>
-            ensures { IsJudgedPass function.entry.now (offers_of four.entry.now) PassNumber.Fourth result }
-        { judge_pass(alloc, function, four, PassNumber::Fourth) },
-    )
-}
-
-/// Whether the four offers of a function stand, or the first that does not: each pass in a thread of its own.
-fn judge<R: Threads + Sync>(
-    rt: &R,
-    alloc: Global,
-    function: &Function,
-    four: &Four,
-) -> Result<(), OfferFault>
-    ensures { Judged function.now (offers_of four.now) result }
-{
-    let (front, back) = join(
-        rt,
-        || -> (Result<(), OfferFault>, Result<(), OfferFault>)
-            ensures { AreJudgedFirst function.entry.now (offers_of four.entry.now) result }
-        { judge_front(rt, alloc, function, four) },
-        || -> (Result<(), OfferFault>, Result<(), OfferFault>)
-            ensures { AreJudgedLast function.entry.now (offers_of four.entry.now) result }
-        { judge_back(rt, alloc, function, four) },
-    );
-    in_order(front.0, front.1, back.0, back.1)
-}
-
-/// The same, one pass behind the other.
-fn judge_in_turn(alloc: Global, function: &Function, four: &Four) -> Result<(), OfferFault>
-    ensures { Judged function.now (offers_of four.now) result }
-{
-    let first = judge_pass(alloc, function, four, PassNumber::First);
-    let second = judge_pass(alloc, function, four, PassNumber::Second);
-    let third = judge_pass(alloc, function, four, PassNumber::Third);
-    let fourth = judge_pass(alloc, function, four, PassNumber::Fourth);
-    in_order(first, second, third, fourth)
-}
-
-/// The same of a function's offers by themselves, where the first of them goes on from its own input: the passes side by side, or in turn.
-fn judge_itself<R: Threads + Sync>(
-    rt: &R,
-    alloc: Global,
-    beside: bool,
-    four: &Four,
-) -> Result<(), OfferFault>
-    ensures { IsAlone four.now result }
-{
-    if beside {
-        return judge(rt, alloc, &four.constants.input, four);
-    }
-    judge_in_turn(alloc, &four.constants.input, four)
-}
-
-/// The same of those of this number.
-fn judge_alone_at<R: Threads + Sync>(
-    rt: &R,
-    alloc: Global,
-    beside: bool,
-    fours: &[Four],
-    number: usize,
-) -> Result<(), OfferFault>
-    ensures { IsAloneAt fours.now number result }
-{
-    if number >= fours.len() {
-        return Err(OfferFault::NoMemory);
-    }
-    judge_itself(rt, alloc, beside, &fours[number])
-}
-
-/// Places for so many answers.
-fn places(alloc: Global, count: usize) -> Result<Vec<Result<(), OfferFault>>, NoMemory>
-    ensures { IfOk result (λ alone. length alone.items ≡ count) }
-{
-    let mut alone = Vec::with_capacity(alloc, count)?;
-    for _ in 0..count {
-        alone.push(Err(OfferFault::NoMemory))?;
-    }
-    Ok(alone)
-}
-
-/// The same of all, each at its place: so many threads share them.
-fn judge_each<R: Threads + Sync>(
-    rt: &R,
-    alloc: Global,
-    workers: usize,
-    fours: &[Four],
-    alone: &mut [Result<(), OfferFault>],
-)
-    requires { 0 < workers }
-    ensures { (i : ℕ) (d : _) → i < length alone.old → IsAloneAt fours.now i (slice_index_or alone.new i d) }
-{
-    let beside = fours.len() < workers;
-    for_each_mut(
-        rt,
-        alone,
-        workers,
-        &|number: usize, told: &mut Result<(), OfferFault>|
-            ensures { IsAloneAt fours.entry.now number told.exit.now }
-        { *told = judge_alone_at(rt, alloc, beside, fours, number) },
-    );
-}
-
-/// Whether the four offers of each function stand by themselves, whatever function the first of them goes on from, in order: so many
-/// threads share them, or each pass has its own, where there are fewer functions. A thread that cannot be made costs no answer.
-pub fn judge_alone<R: Threads + Sync>(
-    rt: &R,
-    alloc: Global,
-    workers: usize,
-    fours: &[Four],
-) -> Result<Vec<Result<(), OfferFault>>, NoMemory>
-    requires { 0 < workers }
-    ensures { IfOk result (λ alone. AreAlone fours.now alone.items) }
-{
-    let mut alone = places(alloc, fours.len())?;
-    judge_each(rt, alloc, workers, fours, &mut alone);
-    Ok(alone)
 }
 
 fn told_at(judged: &[Result<(), OfferFault>], number: usize) -> Result<(), OfferFault>
@@ -275,6 +91,21 @@ fn goes_on<P: Pass>(
         return Err(OfferFault::Unchained(at));
     }
     Ok(())
+}
+
+/// What is answered of an offer that has to go on from this function, by what its pass answers: the chain first.
+pub(crate) fn chained<P: Pass, S: Reasons<P>>(
+    at: PassNumber,
+    before: &<P::In as Language>::Fun,
+    parts: &PartsOf<P>,
+    told: Result<(), OfferFault>,
+) -> Result<(), OfferFault>
+    ensures { IsAccepted at P.accepts S.tells parts.now told → IsStep at P.accepts S.tells before.now parts.now result }
+{
+    match goes_on::<P>(at, before, parts) {
+        Ok(()) => told,
+        Err(fault) => Err(fault),
+    }
 }
 
 /// Whether the four offers of a function stand, by what is answered of them by themselves.

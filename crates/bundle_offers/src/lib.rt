@@ -1,20 +1,19 @@
-//! The offers of a bundle: what its texts spell, whether the offers stand, and the texts that are written of offers. Nobody is
-//! trusted: an offer is worth something once its pass has accepted it here, and where it goes on from the one before it.
+//! The offers of a bundle: what its texts spell, and whether the offers stand. Nobody is trusted: an offer is worth something once its
+//! pass has accepted it here, and where it goes on from the one before it.
 #![tactic(auto)]
 
 mod fault;
+mod judged_bundle;
 mod judging;
-mod knowing;
-mod laws;
+mod reading;
 mod reasons;
-mod writing;
 
 pub use bundle_reading::{
-    Bundle, Four, Maker, Offers, Texts, all_offers, link_offers, read_offers,
+    Bundle, Four, Maker, Offers, Texts, all_offers, known_all, link_offers, one_bundle, texts_of,
+    written,
 };
 pub use fault::{OfferFault, PassNumber};
-pub use judging::{first_fault, judge_all, judge_alone, stands};
-pub use knowing::known_all;
-pub use laws::one_bundle;
+pub use judged_bundle::JudgedBundle;
+pub use judging::{first_fault, judge_all, stands};
+pub use reading::read_judged;
 pub use reasons::{PassReasons, Reasons};
-pub use writing::{texts_of, written};

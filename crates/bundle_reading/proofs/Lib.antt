@@ -1,2 +1,5 @@
+pub mod Blocks
+pub mod OneBundle
+pub mod Paired
 pub mod Places
 pub mod Readings

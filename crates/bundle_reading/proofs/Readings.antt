@@ -6,10 +6,14 @@ use Rattle.lang_base.specs.declared.errors.FormError.{FormError}
 use Rattle.lang_base.specs.declared.errors.FormError.TheVariants.{NoMemory}
 use Rattle.chains.specs.declared.offering.Offers.{Offers}
 use Rattle.chains.specs.Lent.{OfConstants, OfExpressions, OfAllocation, OfOrder}
+use Rattle.lang_base.proofs.Forms.{one_text}
+use Rattle.bundle_form.specs.declared.bundle.Bundle.{Bundle}
 use Rattle.bundle_form.specs.declared.bundle.Texts.{Texts}
+use Rattle.bundle_form.specs.Form.{IsBundle, bundle_text}
+use Rattle.bundle_form.proofs.Forms.{bundle_form}
 use Rattle.bundle_reading.specs.declared.four.Four.{Four}
-use Rattle.bundle_reading.specs.Texts.{FirstFits, FourthFits, HasNoOffers, HaveNoOffers, OffersFit, SecondFits, ThirdFits, first_text, fourth_text, second_text, texts_of, third_text}
-use Rattle.bundle_reading.specs.Read.{both_of, four_found, offers_in, IsFound, IsFoundAt, IsRead, IsText, AreFound, AreRead}
+use Rattle.bundle_reading.specs.Texts.{FirstFits, FourthFits, HasNoBundle, HasNoOffers, HaveNoOffers, IsBundleOf, OffersFit, SecondFits, ThirdFits, bundle_with, first_text, fourth_text, second_text, texts_of, third_text}
+use Rattle.bundle_reading.specs.Read.{both_of, four_found, four_in, offers_in, IsFound, IsFoundAt, IsRead, IsText, AreFound, AreRead}
 
 -- what is found of all four texts
 pub four_read : (t : Texts) (one : Result OfConstants FormError) (two : Result OfExpressions FormError) (three : Result OfAllocation FormError) (four : Result OfOrder FormError)
@@ -24,9 +28,24 @@ four_read t (Ok one) (Ok two) (Err fault) four first second none fourth = λ mem
 four_read t (Ok one) (Err fault) three four first none third fourth = λ memory o fits e. none memory o.expressions fits.expressions (ap (λ u. u.expressions) e)
 four_read t (Err fault) two three four none second third fourth = λ memory o fits e. none memory o.constants fits.constants (ap (λ u. u.constants) e)
 
+-- of four that were found each was
+ok_is : (found : Result Four FormError) (x y : Four) → found ≡ Ok x → found ≡ Ok y → x ≡ y
+ok_is found x y e e' = cc
+
+pub each_found : (one : Result OfConstants FormError) (two : Result OfExpressions FormError) (three : Result OfAllocation FormError) (four : Result OfOrder FormError) (parts : Four)
+    → four_found (both_of one two) (both_of three four) ≡ Ok parts → (one ≡ Ok parts.constants) × (two ≡ Ok parts.expressions) × (three ≡ Ok parts.allocation) × (four ≡ Ok parts.order)
+each_found (Ok one) (Ok two) (Ok three) (Ok four) parts e =
+    let all : Four = record { constants = one; expressions = two; allocation = three; order = four } in
+    let is = ok_is (Ok all) all parts refl e in
+    (λ i. Ok ((is i).constants), λ i. Ok ((is i).expressions), λ i. Ok ((is i).allocation), λ i. Ok ((is i).order))
+each_found (Ok one) (Ok two) (Ok three) (Err fault) parts e = absurd cc
+each_found (Ok one) (Ok two) (Err fault) four parts e = absurd cc
+each_found (Ok one) (Err fault) three four parts e = absurd cc
+each_found (Err fault) two three four parts e = absurd cc
+
 -- what is found at each place is found of all
-pub all_found : (ts : List Texts) (found : List (Result Four FormError)) → length found ≡ length ts
-    → ((i : ℕ) (one : Result Four FormError) → slice_get found i ≡ Some one → IsFoundAt ts i one) → AreFound ts found
+pub all_found : {T : Type 0} (ts : List Texts) (found : List (Result (Four × T) FormError)) → length found ≡ length ts
+    → ((i : ℕ) (one : Result (Four × T) FormError) → slice_get found i ≡ Some one → IsFoundAt ts i (four_in one)) → AreFound ts (map four_in found)
 all_found [] [] many each = tt
 all_found [] (f ∷ found) many each = absurd (omega (arith, many))
 all_found (t ∷ ts) [] many each = absurd (omega (arith, many))
@@ -98,3 +117,16 @@ fits_read [] [] are = tt
 fits_read [] (y ∷ fours) are = absurd are
 fits_read (x ∷ ts) [] are = absurd are
 fits_read (x ∷ ts) (y ∷ fours) are = (are.0.fits, fits_read ts fours are.1)
+
+-- ---- the bundle that they stand in
+
+pub bundle_read : (bytes : List ℕ) (found : Bundle) (fours : List Four) → IsBundle found → bytes ≡ bundle_text found → AreRead found.functions fours → IsBundleOf bytes found.digest (offers_in fours)
+bundle_read bytes found fours form spelled are =
+    let texts = texts_read found.functions fours are in
+    let same : found ≡ bundle_with found.digest (offers_in fours) = λ i. record { digest = found.digest; functions = texts i } in
+    record { form = subst IsBundle same form; fit = fits_read found.functions fours are; text = spelled ∙ ap bundle_text same }
+
+pub none_bundled : (bytes : List ℕ) (found : Bundle) → IsBundle found → bytes ≡ bundle_text found → HaveNoOffers found.functions → HasNoBundle bytes
+none_bundled bytes found form spelled none digest offers is =
+    let same = (one_text bundle_form found (bundle_with digest offers) [] [] form is.form (ap (λ l. l ++ []) (sym spelled ∙ is.text))).0 in
+    none offers is.fit (ap (λ b. b.functions) same)

@@ -1,3 +1,4 @@
+pub mod LentOffers
 pub mod Read
 pub mod Texts
 pub use Rattle.bundle_form.specs.Form

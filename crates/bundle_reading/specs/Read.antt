@@ -1,5 +1,5 @@
 -- What was read of each function: the parts of its four offers.
-use Rattle.std.specs.Prelude.{◌≡◌, ◌≢◌, ℕ, List, [], ◌∷◌, Result, Ok, Err, Some, map, slice_get}
+use Rattle.std.specs.Prelude.{◌≡◌, ◌≢◌, ℕ, List, [], ◌∷◌, Result, Ok, Err, Some, length, map, slice_get}
 use Rattle.lang_base.specs.declared.language.Language as language
 use Rattle.lang_base.specs.declared.pass.Pass as pass
 use Rattle.lang_base.specs.declared.errors.FormError.{FormError}
@@ -68,3 +68,15 @@ AreFound [] [] = Unit {0}
 AreFound [] (f ∷ found) = ⊥
 AreFound (t ∷ ts) [] = ⊥
 AreFound (t ∷ ts) (f ∷ found) = IsFound t f × AreFound ts found
+
+-- ---- what is found of functions, beside what is answered of it
+
+-- what is found of one
+abbrev pub four_in : {T : Type 0} → Result (Four × T) FormError → Result Four FormError
+four_in (Ok both) = Ok both.0
+four_in (Err fault) = Err fault
+
+-- all was found: these are the parts, and the answer to each
+pub record AreGathered {T : Type 0} (found : List (Result (Four × T) FormError)) (fours : List Four) (told : List T) : Type 0 where
+  pub count : length told ≡ length fours
+  pub each : (i : ℕ) (four : Four) (answer : T) → slice_get fours i ≡ Some four → slice_get told i ≡ Some answer → slice_get found i ≡ Some (Ok (four, answer))

@@ -17,12 +17,11 @@ use crate::checking::checked;
 use crate::error::VerifyError;
 use cfarm_output::print_whole;
 use cfarm_verify_comparing::{Four, OfferFault, one_bundle, put_fours_away};
-use cfarm_verify_reading::{Bundled, Forms};
+use cfarm_verify_reading::{Forms, JudgedBundle};
 use farm_nodes_source::{Source, SourceFault};
 use lang::one_program;
 use lang_base::{Program, keeps_composes};
 use linear_language::{Function, Linear};
-use sha2::{Digest, Sha256};
 use std::alloc::{AllocError, Global};
 use std::io::Write;
 use std::thread::{Threads, join};
@@ -107,7 +106,11 @@ fn verified<R: Threads + Sync>(
     ensures refused { IfErr result (IsTold text.now program.now bundle.now) }
     ensures only { (n : ℕ) → IsVerified text.now program.now bundle.now n → IfErr result IsWant }
 {
-    let (linear, found) = forms;
+    let Forms {
+        program: linear,
+        bundle: found,
+        ..
+    } = forms;
     let source = match source {
         Ok(source) => source,
         Err(fault) => return Err(VerifyError::Source(fault)),
@@ -118,7 +121,7 @@ fn verified<R: Threads + Sync>(
     };
     match found {
         Ok(
-            Bundled {
+            JudgedBundle {
                 digest,
                 fours,
                 alone,
@@ -141,13 +144,6 @@ fn verified<R: Threads + Sync>(
         }
         Err(fault) => Err(VerifyError::Bundle(fault)),
     }
-}
-
-/// The SHA-256 of the program's bytes, in digits.
-fn digits_of(alloc: Global, program: &[u8]) -> Result<String, AllocError>
-    ensures { IfOk result (λ digits. string_bytes digits ≡ encode_lower (sha256 program.now)) }
-{
-    hex::encode(alloc, Sha256::digest(program).as_slice())
 }
 
 /// The answer, with the end of the line.
@@ -223,19 +219,8 @@ pub fn verify<R: Threads + Sync, W: Write>(
     // A program that is verified by the bundle is refused only where memory is, or where the answer cannot be written.
     ensures only { (n : ℕ) → IsVerified text.now program.now bundle.now n → IfErr result IsWant }
 {
-    let (digits, found) = join(
-        rt,
-        || -> Result<String, AllocError>
-            ensures { IfOk result (λ digits. string_bytes digits ≡ encode_lower (sha256 program.entry.now)) }
-        { digits_of(alloc, program) },
-        || -> Result<usize, VerifyError>
-            requires prepared { IsPrepared text.now source }
-            requires forms { AreSpelled program.now bundle.now forms }
-            ensures verified { IfOk result (IsVerified text.entry.now program.entry.now bundle.entry.now) }
-            ensures refused { IfErr result (IsTold text.entry.now program.entry.now bundle.entry.now) }
-            ensures only { (n : ℕ) → IsVerified text.entry.now program.entry.now bundle.entry.now n → IfErr result IsWant }
-        { verified(rt, alloc, text, program, bundle, source, forms) },
-    );
+    let digits = hex::encode(alloc, forms.hash.as_slice());
+    let found = verified(rt, alloc, text, program, bundle, source, forms);
     let line = match answer_of(alloc, text, program, bundle, digits, found) {
         Ok(line) => line,
         Err(fault) => return Err(fault),

@@ -3,9 +3,7 @@ use Rattle.std.specs.Prelude.{◌≡◌, ◌≢◌, ℕ, List, Result, Ok, Err, 
 use Rattle.std.specs.Arc.{arc_value}
 use Rattle.sha2.specs.Sha256.{sha256}
 use Rattle.lang_base.specs.Keeps.{Keeps}
-use Rattle.lang_base.specs.declared.errors.FormError.{FormError}
 use Rattle.lang_base.specs.declared.errors.FormError.TheVariants as form
-use Rattle.lang_base.specs.declared.program.Program.{Program}
 use Rattle.lang.specs.Form.{IsProgram}
 use Rattle.c_syntax.specs.Trees.{UnitTree}
 use Rattle.c_program.specs.Meaning.{crun}
@@ -14,13 +12,13 @@ use Rattle.c_texts.specs.Accepted.{IsAccepted, IsProgramOf}
 use Rattle.cminor_lowering.specs.Programs.{low}
 use Rattle.rtlgen_definition.specs.Gen.{gen}
 use Rattle.rtl_language.specs.Function.{IsFunction}
-use Rattle.linear_language.specs.Function.{FunctionData}
 use Rattle.rtl_language.specs.Meaning.{run}
 use Rattle.bundle_offers.specs.Read.{offers_in}
 use Rattle.bundle_offers.specs.Texts.{HasNoBundle, IsBundleOf}
 use Rattle.bundle_offers.specs.Standing.{AreAlone}
+use Rattle.bundle_offers.specs.declared.judged_bundle.JudgedBundle.{JudgedBundle}
 use Rattle.cfarm_verify_reading.specs.Spelled.{IsNoProgram, IsSpelled}
-use Rattle.cfarm_verify_reading.specs.declared.bundled.Bundled.{Bundled}
+use Rattle.cfarm_verify_reading.specs.declared.forms.Forms.{Forms}
 use Rattle.farm_nodes_source.specs.Refused.{IsOnlyTooLarge, IsUnprepared}
 use Rattle.farm_nodes_source.specs.declared.fault.SourceFault.{SourceFault}
 use Rattle.farm_nodes_source.specs.declared.source.Begun.{Begun}
@@ -49,7 +47,7 @@ with_digest digest (Ok b) = Ok (record { program = b.program; translated = b.tra
 with_digest digest (Err fault) = Err fault
 
 -- The bytes are those of a bundle of this digest and these offers, and this is answered of the offers by themselves.
-pub record IsBundled (bytes : List ℕ) (b : Bundled) : Type 0 where
+pub record IsBundled (bytes : List ℕ) (b : JudgedBundle) : Type 0 where
   pub spelled : IsBundleOf bytes b.digest (offers_in b.fours.items)
   pub alone : AreAlone b.fours.items b.alone.items
 
@@ -59,9 +57,10 @@ pub record IsPrepared (text : List ℕ) (found : Result Source SourceFault) : Ty
   pub refused : IfErr found (IsUnprepared text)
   pub only : (u : UnitTree) → IsAccepted text u → IfErr found (IsOnlyTooLarge u)
 
--- What two files' bytes spell: a program of Linear, and a bundle, with what is found of its offers by themselves.
-pub record AreSpelled (program bundle : List ℕ) (found : Result (Program FunctionData) FormError × Result Bundled FormError) : Type 0 where
-  pub spelled : IfOk found.0 (IsSpelled program)
-  pub no_program : IfErr found.0 (λ fault. fault ≢ form.NoMemory → IsNoProgram program)
-  pub bundled : IfOk found.1 (IsBundled bundle)
-  pub no_bundle : IfErr found.1 (λ fault. fault ≢ form.NoMemory → HasNoBundle bundle)
+-- What two files' bytes spell: a program of Linear, with the bytes' SHA-256, and a bundle, with what is found of its offers by themselves.
+pub record AreSpelled (program bundle : List ℕ) (found : Forms) : Type 0 where
+  pub spelled : IfOk found.program (IsSpelled program)
+  pub no_program : IfErr found.program (λ fault. fault ≢ form.NoMemory → IsNoProgram program)
+  pub hash : found.hash ≡ sha256 program
+  pub bundled : IfOk found.bundle (IsBundled bundle)
+  pub no_bundle : IfErr found.bundle (λ fault. fault ≢ form.NoMemory → HasNoBundle bundle)

@@ -2,11 +2,12 @@
 //! bundle, with whether its offers stand.
 #![tactic(auto)]
 
-mod bundled;
+mod forms;
 mod preparing;
 mod reading;
 mod translating;
 
-pub use bundled::Bundled;
+pub use bundle_offers::JudgedBundle;
+pub use forms::Forms;
 pub use preparing::prepared;
-pub use reading::{Forms, read_forms};
+pub use reading::read_forms;

@@ -1,15 +1,20 @@
 ghost use Rattle.std.specs.Prelude.{◌≡◌, ◌≢◌, ◌<◌, IfOk, IfErr};
-ghost use Rattle.bundle_offers.specs.Texts.{HasNoBundle};
-ghost use Rattle.cfarm_verify_reading.specs.Found.{AreSpelled, IsBundled};
+ghost use Rattle.bundle_offers.specs.Read.{offers_in};
+ghost use Rattle.bundle_offers.specs.Standing.{AreAlone};
+ghost use Rattle.bundle_offers.specs.Texts.{HasNoBundle, IsBundleOf};
+ghost use Rattle.sha2.specs.Sha256.{sha256};
+ghost use Rattle.cfarm_verify_reading.specs.Found.{AreSpelled};
 ghost use Rattle.cfarm_verify_reading.specs.Spelled.{IsNoProgram, IsSpelled};
 
-use crate::bundled::Bundled;
-use bundle_offers::{judge_alone, read_offers};
+use crate::forms::Forms;
+use bundle_offers::{JudgedBundle, read_judged};
 use lang::{one_program, read_program};
-use lang_base::{FormError, NoMemory, Program};
+use lang_base::{FormError, Program};
 use linear_language::{Function, Linear};
+use sha2::{Digest, Sha256};
 use std::alloc::Global;
 use std::thread::{Threads, available_parallelism, join};
+use thread_memory::make_room;
 
 /// The program of Linear that all of the bytes spell.
 fn read_linear(alloc: Global, bytes: &[u8]) -> Result<Program<Function>, FormError>
@@ -17,6 +22,7 @@ fn read_linear(alloc: Global, bytes: &[u8]) -> Result<Program<Function>, FormErr
     ensures refused { IfErr result (λ fault. fault ≢ FormError.NoMemory → IsNoProgram bytes.now) }
 {
     one_program::<Linear>();
+    make_room(alloc);
     let (program, length) = read_program::<Linear>(alloc, bytes)?;
     if length < bytes.len() {
         return Err(FormError::NotCanonical);
@@ -24,72 +30,43 @@ fn read_linear(alloc: Global, bytes: &[u8]) -> Result<Program<Function>, FormErr
     Ok(program)
 }
 
-/// What the bundle's bytes spell, and whether each function's offers stand by themselves.
-fn read_bundle<R: Threads + Sync>(
-    rt: &R,
-    alloc: Global,
-    workers: usize,
-    bytes: &[u8],
-) -> Result<Bundled, FormError>
-    requires { 0 < workers }
-    ensures bundled { IfOk result (IsBundled bytes.now) }
-    ensures refused { IfErr result (λ fault. fault ≢ FormError.NoMemory → HasNoBundle bytes.now) }
-{
-    let (digest, fours) = match read_offers(rt, alloc, workers, bytes) {
-        Ok(found) => found,
-        Err(fault) => return Err(fault),
-    };
-    match judge_alone(rt, alloc, workers, fours.as_slice()) {
-        Ok(alone) => Ok(Bundled {
-            digest,
-            fours,
-            alone,
-        }),
-        Err(NoMemory) => Err(FormError::NoMemory),
-    }
-}
-
-/// A program, and what is found of a bundle.
-pub type Forms = (
-    Result<Program<Function>, FormError>,
-    Result<Bundled, FormError>,
-);
-
-/// One less, and no less than one.
-fn all_but_one(count: usize) -> usize
-    ensures { 0 < result }
-{
-    if count < 2 {
-        return 1;
-    }
-    count - 1
-}
-
-/// How many threads share the bundle's offers: one processor is left to the text, which takes as long as they do.
+/// How many threads share the bundle's offers: two for each processor, so that all processors are at work until the last offers are
+/// judged, though functions differ in length.
 fn workers_beside<R: Threads>(rt: &R) -> usize
     ensures { 0 < result }
 {
     match available_parallelism(rt) {
-        Ok(processors) => all_but_one(processors.get()),
+        Ok(processors) => processors.get().saturating_mul(2).max(1),
         Err(_) => 1,
     }
 }
 
-/// The program, and what is found of the bundle, side by side.
+/// A program, with the SHA-256 of its bytes.
+type Hashed = (Result<Program<Function>, FormError>, [u8; 32]);
+
+/// The program and the bytes' SHA-256, and what is found of the bundle, side by side.
 pub fn read_forms<R: Threads + Sync>(rt: &R, alloc: Global, program: &[u8], bundle: &[u8]) -> Forms
     ensures { AreSpelled program.now bundle.now result }
 {
     let workers = workers_beside(rt);
-    join(
+    let (hashed, bundle) = join(
         rt,
-        || -> Result<Program<Function>, FormError>
-            ensures ok { IfOk result (IsSpelled program.entry.now) }
-            ensures refused { IfErr result (λ fault. fault ≢ FormError.NoMemory → IsNoProgram program.entry.now) }
-        { read_linear(alloc, program) },
-        || -> Result<Bundled, FormError>
+        || -> Hashed
+            ensures ok { IfOk result.0 (IsSpelled program.entry.now) }
+            ensures refused { IfErr result.0 (λ fault. fault ≢ FormError.NoMemory → IsNoProgram program.entry.now) }
+            ensures hash { result.1 ≡ sha256 program.entry.now }
+        { (read_linear(alloc, program), Sha256::digest(program)) },
+        || -> Result<JudgedBundle, FormError>
             requires { 0 < workers }
-            ensures ok { IfOk result (IsBundled bundle.entry.now) }
+            ensures spelled { IfOk result (λ b. IsBundleOf bundle.entry.now b.digest (offers_in b.fours.items)) }
+            ensures alone { IfOk result (λ b. AreAlone b.fours.items b.alone.items) }
             ensures refused { IfErr result (λ fault. fault ≢ FormError.NoMemory → HasNoBundle bundle.entry.now) }
-        { read_bundle(rt, alloc, workers, bundle) },
-    )
+        { read_judged(rt, alloc, workers, bundle) },
+    );
+    let (program, hash) = hashed;
+    Forms {
+        program,
+        hash,
+        bundle,
+    }
 }

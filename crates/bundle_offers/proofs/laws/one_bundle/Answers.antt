@@ -1,5 +1,0 @@
-use Rattle.bundle_offers.proofs.OneBundle.{has_one_bundle}
-use Rattle.bundle_offers.proofs.laws.one_bundle.Goals as goal
-
-pub returns : goal.returns
-returns c = has_one_bundle c.one_text.ensures c.one_text-2.ensures c.one_text-3.ensures c.one_text-4.ensures
